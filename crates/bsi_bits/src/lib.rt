@@ -3,7 +3,9 @@
 
 mod bits;
 pub mod lanes;
+mod ones;
 mod packing;
 
 pub use bits::Bits;
+pub use ones::Ones;
 pub use std::alloc::AllocError as NoMemory;
