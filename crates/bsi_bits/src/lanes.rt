@@ -86,11 +86,9 @@ fn combine<O: Operation>(a: &mut [u64], b: &[u64])
 {
     let whole = a.len() / LANES;
     'fours: for k in 0..whole {
-        let words = O::words(
-            u64x4::from_slice(&a[LANES * k..]),
-            u64x4::from_slice(&b[LANES * k..]),
-        );
-        words.copy_to_slice(&mut a[LANES * k..]);
+        let other = u64x4::from_slice(&b[LANES * k..]);
+        let combined = O::words(u64x4::from_slice(&a[LANES * k..]), other);
+        combined.copy_to_slice(&mut a[LANES * k..]);
     }
     'rest: for i in LANES * whole..a.len() {
         a[i] = O::word(a[i], b[i]);
@@ -115,10 +113,8 @@ fn count_combined<O: Operation>(a: &[u64], b: &[u64]) -> u64
     let whole = a.len() / LANES;
     let mut ones = 0u64;
     'fours: for k in 0..whole {
-        let words = O::words(
-            u64x4::from_slice(&a[LANES * k..]),
-            u64x4::from_slice(&b[LANES * k..]),
-        );
+        let second = u64x4::from_slice(&b[LANES * k..]);
+        let words = O::words(u64x4::from_slice(&a[LANES * k..]), second);
         ones += ones_in(words);
     }
     'rest: for i in LANES * whole..a.len() {
@@ -165,8 +161,8 @@ pub fn not(a: &mut [u64])
 {
     let whole = a.len() / LANES;
     'fours: for k in 0..whole {
-        let words = !u64x4::from_slice(&a[LANES * k..]);
-        words.copy_to_slice(&mut a[LANES * k..]);
+        let turned = !u64x4::from_slice(&a[LANES * k..]);
+        turned.copy_to_slice(&mut a[LANES * k..]);
     }
     'rest: for i in LANES * whole..a.len() {
         a[i] = !a[i];
