@@ -316,8 +316,9 @@ def fault_in_lines(script, lines):
     return None
 
 
-def fault_in_run(script, ran):
-    """Returns what is wrong with a run of the script in which memory may have been refused, or None."""
+def fault_in_run(script, ran, refused):
+    """Returns what is wrong with a run of the script in which so many growths were refused, or None. Each want of
+    memory that is told stands for a growth that was refused."""
     found = records(script)
     lines = ran.out.split(b"\n")
     if lines.pop():
@@ -329,6 +330,9 @@ def fault_in_run(script, ran):
     allowed = [(1, OUT_OF_MEMORY)] + [usual] * is_whole
     if (ran.status, ran.err) not in allowed:
         return f"{len(lines)} lines for {len(found)} records, then status {ran.status} and {ran.err!r}"
+    told = lines.count(NO_MEMORY) + (ran.err == OUT_OF_MEMORY)
+    if told > refused:
+        return f"{told} times no memory, and {refused} growths refused"
     return fault_in_lines(script, lines)
 
 
