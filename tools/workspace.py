@@ -1,5 +1,6 @@
 """What the tools share: where things lie, a run with bytes, the kit's command, and the count of checks."""
 
+import contextlib
 import hashlib
 import os
 import shutil
@@ -20,18 +21,30 @@ NO_KIT = (
 Ran = namedtuple("Ran", "status out err")
 
 
-def run(words, given=b"", variables=None, folder=None, seconds=60):
-    """Runs a command on the bytes given, and returns how it ended."""
-    how = {"stdin": subprocess.PIPE, "stdout": subprocess.PIPE, "stderr": subprocess.PIPE}
+def opened(files, path, how):
+    """Opens the file for as long as the stack of files stands, or gives a pipe where no path is named."""
+    if path is None:
+        return subprocess.PIPE
+    file = os.open(path, how)
+    files.callback(os.close, file)
+    return file
+
+
+def run(words, given=b"", variables=None, folder=None, seconds=60, source=None, sink=None):
+    """Runs a command on the bytes given, and returns how it ended. Standard input is the file source where one is
+    named, and standard output the file sink."""
     environment = dict(os.environ, **(variables or {}))
-    with subprocess.Popen(words, cwd=folder, env=environment, **how) as started:
+    with contextlib.ExitStack() as files:
+        how = {"stdin": opened(files, source, os.O_RDONLY), "stdout": opened(files, sink, os.O_WRONLY)}
+        how["stderr"] = subprocess.PIPE
+        started = files.enter_context(subprocess.Popen(words, cwd=folder, env=environment, **how))
         try:
-            out, err = started.communicate(given, timeout=seconds)
+            out, err = started.communicate(None if source else given, timeout=seconds)
         except subprocess.TimeoutExpired:
             started.kill()
             out, err = started.communicate()
-            return Ran(None, out, err)
-    return Ran(started.returncode, out, err)
+            return Ran(None, out or b"", err)
+        return Ran(started.returncode, out or b"", err)
 
 
 def ending(status):
