@@ -7,6 +7,7 @@ machine as it then stands.
 
 import sys
 from collections import namedtuple
+from functools import lru_cache
 
 NO_MEMORY = b"no memory"
 BAD = b"bad"
@@ -90,8 +91,9 @@ class Reader:
         return self.found
 
 
+@lru_cache(maxsize=64)
 def records(data):
-    """Returns the records of the bytes, each a list of fields."""
+    """Returns the records of the bytes, each a list of fields. They are kept, as one script is judged many times."""
     reader = Reader()
     data = without_mark(data)
     for at in range(len(data)):
