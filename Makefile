@@ -21,5 +21,8 @@ install: build
 	install -m 755 $(PROGRAM) "$(BIN)/bsi"
 	install -m 644 man/bsi.1 "$(MAN)/bsi.1"
 
+bench: build
+	@bench/run
+
 clean:
 	rm -rf crates/*/out
