@@ -52,10 +52,18 @@ fn count_and_not(a: &[u64], b: &[u64]) -> u64 {
     a.iter().zip(b).map(|(a, b)| (a & !b).count_ones() as u64).sum()
 }
 
-/// The plainest pass over words, to tell how fast this machine reads.
+/// The plainest pass over words, to tell how fast this machine reads from one place.
 #[inline(never)]
 fn read(a: &[u64]) -> u64 {
     a.iter().fold(0, |sum, a| sum ^ a)
+}
+
+/// The same over the four quarters side by side, to tell how fast it reads from four places.
+#[inline(never)]
+fn read_four(a: &[u64]) -> u64 {
+    let (low, high) = a.split_at(a.len() / 2);
+    let ((a, b), (c, d)) = (low.split_at(low.len() / 2), high.split_at(high.len() / 2));
+    (0..a.len()).fold(0, |sum, at| sum ^ a[at] ^ b[at] ^ c[at] ^ d[at])
 }
 
 #[derive(Clone, Copy)]
@@ -69,6 +77,7 @@ enum Kernel {
     CountAnd,
     CountAndNot,
     Read,
+    ReadFour,
 }
 
 impl Kernel {
@@ -83,6 +92,7 @@ impl Kernel {
             Kernel::CountAnd => "count_and",
             Kernel::CountAndNot => "count_and_not",
             Kernel::Read => "read",
+            Kernel::ReadFour => "read_four",
         }
     }
 
@@ -97,6 +107,7 @@ impl Kernel {
             Kernel::CountAnd => return count_and(a, b),
             Kernel::CountAndNot => return count_and_not(a, b),
             Kernel::Read => return read(a),
+            Kernel::ReadFour => return read_four(a),
         }
         0
     }
@@ -146,6 +157,7 @@ fn main() {
         Kernel::CountAnd,
         Kernel::CountAndNot,
         Kernel::Read,
+        Kernel::ReadFour,
     ];
     for (bytes, turns) in [(1usize << 10, 20_000), (1 << 18, 100), (1 << 26, 2)] {
         for kernel in kernels {
