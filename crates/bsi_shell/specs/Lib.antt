@@ -1,0 +1,3 @@
+pub mod Column
+pub mod Number
+pub mod Shown
