@@ -1,3 +1,5 @@
+pub mod Answers
 pub mod Column
 pub mod Number
+pub mod Records
 pub mod Shown

@@ -25,6 +25,19 @@ pub enum Op {
     AtMost,
 }
 
+/// What a running record asks for.
+#[derive(Clone, Copy, Debug, PartialEq, Eq)]
+pub enum Event {
+    /// A row of this feeder is to wait.
+    Submit(u32, Row),
+    /// The row of this feeder that waits longest is to be indexed.
+    Load(u32),
+    /// This feeder ends.
+    Close(u32),
+    /// How many indexed rows compare so with the number.
+    Count(Op, u64),
+}
+
 /// Why a row is not accepted, in the order of checking.
 #[derive(Clone, Copy, Debug, PartialEq, Eq)]
 pub enum SubmitRefused {
