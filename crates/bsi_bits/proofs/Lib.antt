@@ -1,0 +1,9 @@
+pub mod Counting
+pub mod CountingPairs
+pub mod Filling
+pub mod Logic
+pub mod Reading
+pub mod Pairs
+pub mod Places
+pub mod Pushing
+pub mod Summing

@@ -1,0 +1,6 @@
+use Rattle.std.proofs.Common.{sym}
+use Rattle.bsi_bits.proofs.Reading.{length-bits_of}
+use Rattle.bsi_bits.proofs.bits.Bits.len.Goals as goal
+
+pub returns-clause-len : goal.returns-clause-len
+returns-clause-len c = rw (← c.self.view_is) (sym (length-bits_of c.self.inside.len c.self.inside.words.items))

@@ -1,0 +1,2 @@
+pub mod BitList
+pub mod Packed

@@ -1,0 +1,22 @@
+-- A list of bits kept in words of 64.
+use Rattle.std.specs.Prelude.{◌≡◌, ℕ, ◌+◌, ◌*◌, ◌/◌, ◌%◌, ◌^◌, ◌≤◌, ◌==◌, ◌&&◌, ◌||◌, Bool, false, List, length, map, nat_lt, slice_index}
+use Rattle.std.specs.Int.{bit_at}
+use Rattle.std.specs.List.{range_with_len}
+
+-- the bit at place i of the words: binary digit i % 64 of word i / 64, and off past the last word
+abbrev pub bit_of : List ℕ → ℕ → Bool
+bit_of words i = bit_at (slice_index words (i / 64)) (i % 64) == 1
+
+-- the first n bits of the words
+unfoldable pub bits_of : ℕ → List ℕ → List Bool
+bits_of n words = map (bit_of words) (range_with_len 0 n)
+
+-- the words are as few as hold n bits, and the places past the last bit are off
+pub record IsPacked (n : ℕ) (words : List ℕ) : Type 0 where
+  pub within : n ≤ 2 ^ 32
+  pub few : length words ≡ (n + 63) / 64
+  pub clear : (i : ℕ) → n ≤ i → bit_of words i ≡ false
+
+-- one more bit fits behind n bits in this many words, of which a vector of this capacity keeps `words`
+abbrev pub has_room : ℕ → ℕ → ℕ → Bool
+has_room n words capacity = nat_lt n 0x1_0000_0000 && (nat_lt n (64 * words) || nat_lt words capacity)

@@ -1,0 +1,148 @@
+//! The packed vector of bits.
+
+ghost use Rattle.std.specs.Prelude.{◌≡◌, ◌↔◌, ℕ, ◌+◌, ◌*◌, ◌/◌, ◌%◌, ◌^◌, ◌≤◌, ◌<◌, ◌&&◌, ◌||◌, not, Some, [], ◌∷◌, ◌++◌, length, map, count_by, slice_get, slice_index_or, false, replicate, IsTrue, IfOk, OnOk, OnErr};
+ghost use Rattle.std.specs.Simd.Lanes.{zip2};
+ghost use Rattle.bsi_bits.specs.Packed.{bit_of, bits_of, IsPacked};
+
+use crate::NoMemory;
+use crate::packing::{push_bit, trim};
+use std::alloc::Global;
+use std::marker::Model;
+
+mod logic;
+
+/// The most bits that a vector holds.
+const MAX_LEN: u64 = 1 << 32;
+
+/// A vector of at most 2^32 bits, 64 to a word.
+#[derive(Drop)]
+pub struct Bits {
+    words: Vec<u64>,
+    len: u64,
+}
+
+// Clauses see the list of bits and whether there is room for one more.
+impl Model for Bits {
+    ghost use Rattle.std.specs.Prelude.{vec_len, vec_capacity};
+    ghost use Rattle.bsi_bits.specs.BitList.{BitList};
+    ghost use Rattle.bsi_bits.specs.Packed.{bits_of, has_room, IsPacked};
+
+    ghost Value = { BitList };
+
+    ghost view = { λ b. record { bits = bits_of b.len b.words.items; room = has_room b.len (vec_len b.words) (vec_capacity b.words) } };
+
+    ghost invariant = { λ b. IsPacked b.len b.words.items };
+}
+
+impl Bits {
+    /// The empty vector. It takes no memory until it grows.
+    pub fn new(alloc: Global) -> Bits
+        ensures { result.bits ≡ [] }
+    {
+        Bits {
+            words: Vec::new(alloc),
+            len: 0,
+        }
+    }
+
+    /// A vector of `n` bits, each of them `bit`.
+    pub fn filled(alloc: Global, n: u64, bit: bool) -> Result<Bits, NoMemory>
+        requires { n ≤ 2 ^ 32 }
+        ensures { IfOk result (λ b. b.bits ≡ replicate n bit) }
+    {
+        let word = if bit { u64::MAX } else { 0 };
+        let words = vec![in alloc; word; n.div_ceil(64) as usize]?;
+        Ok(Bits::from_words(words, n))
+    }
+
+    /// A vector of the first `n` bits of `words`, which are as few as hold them. Places past the last bit are cleared.
+    pub fn from_words(mut words: Vec<u64>, n: u64) -> Bits
+        requires within { n ≤ 2 ^ 32 }
+        requires few { length words.items ≡ (n + 63) / 64 }
+        ensures { result.bits ≡ bits_of n words.items }
+    {
+        trim(&mut words, n);
+        Bits { words, len: n }
+    }
+
+    /// Gives up the vector for its words, as `words` shows them.
+    pub fn into_words(self) -> Vec<u64>
+        ensures few { length result.items ≡ (length self.bits + 63) / 64 }
+        ensures places { (i : ℕ) → bit_of result.items i ≡ slice_index_or self.bits i false }
+    {
+        let Bits { words, len: _ } = self;
+        words
+    }
+
+    /// A vector of the same bits.
+    pub fn copy(&self) -> Result<Bits, NoMemory>
+        ensures { IfOk result (λ b. b.bits ≡ self.now.bits) }
+    {
+        Ok(Bits {
+            words: self.words.clone()?,
+            len: self.len,
+        })
+    }
+
+    /// The number of bits.
+    pub fn len(&self) -> u64
+        ensures len { result ≡ length self.now.bits }
+        ensures within { result ≤ 2 ^ 32 }
+    {
+        self.len
+    }
+
+    /// Whether there is no bit.
+    pub fn is_empty(&self) -> bool
+        ensures { IsTrue result ↔ (self.now.bits ≡ []) }
+    {
+        self.len == 0
+    }
+
+    /// The bit at place `i`.
+    pub fn get(&self, i: u64) -> bool
+        requires { i < length self.now.bits }
+        ensures { slice_get self.now.bits i ≡ Some result }
+    {
+        self.words[(i / 64) as usize] >> (i % 64) & 1 == 1
+    }
+
+    /// The words: bit `i` is binary place `i % 64` of word `i / 64`. They are as few as hold the bits, and the places past
+    /// the last bit are 0.
+    pub fn words(&self) -> &[u64]
+        ensures few { length result.now ≡ (length self.now.bits + 63) / 64 }
+        ensures places { (i : ℕ) → bit_of result.now i ≡ slice_index_or self.now.bits i false }
+    {
+        &self.words
+    }
+
+    /// Whether one more bit can be appended with no memory. At 2^32 bits there is no room.
+    pub fn has_room(&self) -> bool
+        ensures { result ≡ self.now.room }
+    {
+        self.len < MAX_LEN
+            && (self.len < 64 * self.words.len() as u64 || self.words.len() < self.words.capacity())
+    }
+
+    /// Makes room for one more bit. The bits stay, whatever the result.
+    pub fn reserve_one(&mut self) -> Result<(), NoMemory>
+        requires { length self.old.bits < 2 ^ 32 }
+        ensures bits { self.new.bits ≡ self.old.bits }
+        ensures ok { OnOk result (IsTrue self.new.room) }
+        ensures err { OnErr result (self.new ≡ self.old) }
+    {
+        if self.len < 64 * self.words.len() as u64 {
+            return Ok(());
+        }
+        self.words.reserve(1)
+    }
+
+    /// Appends a bit, in room that is there. A caller asks `has_room`, or calls `reserve_one` before.
+    pub fn push_reserved(&mut self, bit: bool)
+        requires { IsTrue self.old.room }
+        ensures { self.new.bits ≡ self.old.bits ++ bit ∷ [] }
+    {
+        push_bit(&mut self.words, self.len, bit);
+        self.len += 1;
+    }
+}

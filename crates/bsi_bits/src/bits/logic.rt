@@ -1,0 +1,102 @@
+//! Boolean operations in place, and population counts.
+//!
+//! Each call passes over its words once and takes no memory, and no call in place changes the room for one more bit.
+
+ghost use Rattle.std.specs.Prelude.{◌≡◌, ℕ, ◌^◌, ◌<◌, ◌&&◌, ◌||◌, not, Bool, length, map, count_by, slice_index};
+ghost use Rattle.std.specs.Simd.Lanes.{zip2};
+ghost use Rattle.bsi_bits.specs.BitList.{differ, without};
+
+use crate::bits::Bits;
+use crate::lanes;
+use crate::packing::trim;
+
+impl Bits {
+    /// Keeps the bits that are set in `other` too.
+    pub fn and_with(&mut self, other: &Bits)
+        requires { length self.old.bits ≡ length other.now.bits }
+        ensures bits { self.new.bits ≡ zip2 ◌&&◌ self.old.bits other.now.bits }
+        ensures room { self.new.room ≡ self.old.room }
+    {
+        lanes::and(&mut self.words, &other.words);
+    }
+
+    /// Sets the bits that are set in `other`.
+    pub fn or_with(&mut self, other: &Bits)
+        requires { length self.old.bits ≡ length other.now.bits }
+        ensures bits { self.new.bits ≡ zip2 ◌||◌ self.old.bits other.now.bits }
+        ensures room { self.new.room ≡ self.old.room }
+    {
+        lanes::or(&mut self.words, &other.words);
+    }
+
+    /// Turns the bits that are set in `other`.
+    pub fn xor_with(&mut self, other: &Bits)
+        requires { length self.old.bits ≡ length other.now.bits }
+        ensures bits { self.new.bits ≡ zip2 differ self.old.bits other.now.bits }
+        ensures room { self.new.room ≡ self.old.room }
+    {
+        lanes::xor(&mut self.words, &other.words);
+    }
+
+    /// Clears the bits that are set in `other`: `self AND NOT other`.
+    pub fn and_not_with(&mut self, other: &Bits)
+        requires { length self.old.bits ≡ length other.now.bits }
+        ensures bits { self.new.bits ≡ zip2 without self.old.bits other.now.bits }
+        ensures room { self.new.room ≡ self.old.room }
+    {
+        know_fits(&other.words);
+        lanes::and_not(&mut self.words, &other.words);
+    }
+
+    /// Takes over the bits of `other`.
+    pub fn copy_from(&mut self, other: &Bits)
+        requires { length self.old.bits ≡ length other.now.bits }
+        ensures bits { self.new.bits ≡ other.now.bits }
+        ensures room { self.new.room ≡ self.old.room }
+    {
+        self.words.copy_from_slice(&other.words);
+    }
+
+    /// Turns each bit.
+    pub fn flip(&mut self)
+        ensures bits { self.new.bits ≡ map not self.old.bits }
+        ensures room { self.new.room ≡ self.old.room }
+    {
+        know_fits(&self.words);
+        lanes::not(&mut self.words);
+        trim(&mut self.words, self.len);
+    }
+
+    /// How many bits are set.
+    pub fn count(&self) -> u64
+        ensures { result ≡ count_by (λ b. b) self.now.bits }
+    {
+        know_fits(&self.words);
+        lanes::count(&self.words)
+    }
+
+    /// How many bits are set here and in `other`.
+    pub fn count_and(&self, other: &Bits) -> u64
+        requires { length self.now.bits ≡ length other.now.bits }
+        ensures { result ≡ count_by (λ b. b) (zip2 ◌&&◌ self.now.bits other.now.bits) }
+    {
+        know_fits(&self.words);
+        know_fits(&other.words);
+        lanes::count_and(&self.words, &other.words)
+    }
+
+    /// How many bits are set here and not in `other`.
+    pub fn count_and_not(&self, other: &Bits) -> u64
+        requires { length self.now.bits ≡ length other.now.bits }
+        ensures { result ≡ count_by (λ b. b) (zip2 without self.now.bits other.now.bits) }
+    {
+        know_fits(&self.words);
+        know_fits(&other.words);
+        lanes::count_and_not(&self.words, &other.words)
+    }
+}
+
+// Says of words behind a shared reference what their type does.
+fn know_fits(words: &[u64])
+    ensures { (k : ℕ) → slice_index words.now k < 2 ^ 64 }
+{}

@@ -1,0 +1,208 @@
+//! Kernels over slices of words: Boolean operations in place and population counts, four words at a time.
+//!
+//! A kernel of two slices takes slices of one length. None takes memory, and each passes over its words once.
+
+ghost use Rattle.std.specs.Prelude.{◌≡◌, ℕ, ◌+◌, ◌*◌, ◌^◌, ◌≤◌, ◌<◌, length, map, sum_by, bit_and, bit_or, bit_xor, count_ones};
+ghost use Rattle.std.specs.Int.{bit_not, w64};
+ghost use Rattle.std.specs.Simd.Lanes.{zip2};
+
+use std::simd::u64x4;
+
+/// The words that a kernel takes at a time.
+const LANES: usize = 4;
+
+/// A Boolean operation on two words, bit by bit: on single words, and on four side by side.
+trait Operation {
+    /// The word that it makes of two.
+    ghost word_of: { ℕ → ℕ → ℕ };
+
+    fn words(a: u64x4, b: u64x4) -> u64x4
+        ensures { result ≡ zip2 word_of a b };
+
+    fn word(a: u64, b: u64) -> u64
+        ensures { result ≡ word_of a b };
+}
+
+struct AndWords;
+
+impl Operation for AndWords {
+    ghost word_of = { bit_and };
+
+    fn words(a: u64x4, b: u64x4) -> u64x4 {
+        a & b
+    }
+
+    fn word(a: u64, b: u64) -> u64 {
+        a & b
+    }
+}
+
+struct OrWords;
+
+impl Operation for OrWords {
+    ghost word_of = { bit_or };
+
+    fn words(a: u64x4, b: u64x4) -> u64x4 {
+        a | b
+    }
+
+    fn word(a: u64, b: u64) -> u64 {
+        a | b
+    }
+}
+
+struct XorWords;
+
+impl Operation for XorWords {
+    ghost word_of = { bit_xor };
+
+    fn words(a: u64x4, b: u64x4) -> u64x4 {
+        a ^ b
+    }
+
+    fn word(a: u64, b: u64) -> u64 {
+        a ^ b
+    }
+}
+
+struct AndNotWords;
+
+impl Operation for AndNotWords {
+    ghost word_of = { λ x y. bit_and x (bit_not w64 y) };
+
+    fn words(a: u64x4, b: u64x4) -> u64x4 {
+        a & !b
+    }
+
+    fn word(a: u64, b: u64) -> u64 {
+        a & !b
+    }
+}
+
+/// Writes the operation's word for each pair of words into `a`.
+fn combine<O: Operation>(a: &mut [u64], b: &[u64])
+    requires { length a.old ≡ length b.now }
+    ensures { a.new ≡ zip2 O.word_of a.old b.now }
+{
+    let whole = a.len() / LANES;
+    'fours: for k in 0..whole {
+        let words = O::words(
+            u64x4::from_slice(&a[LANES * k..]),
+            u64x4::from_slice(&b[LANES * k..]),
+        );
+        words.copy_to_slice(&mut a[LANES * k..]);
+    }
+    'rest: for i in LANES * whole..a.len() {
+        a[i] = O::word(a[i], b[i]);
+    }
+}
+
+/// The ones in four words.
+fn ones_in(words: u64x4) -> u64
+    ensures ones { result ≡ sum_by count_ones words }
+    ensures few { result ≤ 256 }
+{
+    let [a, b, c, d] = words.to_array();
+    (a.count_ones() + b.count_ones() + c.count_ones() + d.count_ones()) as u64
+}
+
+/// The ones in the operation's words for each pair of words.
+fn count_combined<O: Operation>(a: &[u64], b: &[u64]) -> u64
+    requires same { length a.now ≡ length b.now }
+    requires few { length a.now < 2 ^ 58 }
+    ensures { result ≡ sum_by count_ones (zip2 O.word_of a.now b.now) }
+{
+    let whole = a.len() / LANES;
+    let mut ones = 0u64;
+    'fours: for k in 0..whole {
+        let words = O::words(
+            u64x4::from_slice(&a[LANES * k..]),
+            u64x4::from_slice(&b[LANES * k..]),
+        );
+        ones += ones_in(words);
+    }
+    'rest: for i in LANES * whole..a.len() {
+        ones += O::word(a[i], b[i]).count_ones() as u64;
+    }
+    ones
+}
+
+/// Keeps in `a` the bits that are set in `b` too.
+pub fn and(a: &mut [u64], b: &[u64])
+    requires { length a.old ≡ length b.now }
+    ensures { a.new ≡ zip2 bit_and a.old b.now }
+{
+    combine::<AndWords>(a, b)
+}
+
+/// Sets in `a` the bits that are set in `b`.
+pub fn or(a: &mut [u64], b: &[u64])
+    requires { length a.old ≡ length b.now }
+    ensures { a.new ≡ zip2 bit_or a.old b.now }
+{
+    combine::<OrWords>(a, b)
+}
+
+/// Turns in `a` the bits that are set in `b`.
+pub fn xor(a: &mut [u64], b: &[u64])
+    requires { length a.old ≡ length b.now }
+    ensures { a.new ≡ zip2 bit_xor a.old b.now }
+{
+    combine::<XorWords>(a, b)
+}
+
+/// Clears in `a` the bits that are set in `b`: `a AND NOT b`.
+pub fn and_not(a: &mut [u64], b: &[u64])
+    requires { length a.old ≡ length b.now }
+    ensures { a.new ≡ zip2 (λ x y. bit_and x (bit_not w64 y)) a.old b.now }
+{
+    combine::<AndNotWords>(a, b)
+}
+
+/// Turns each bit of `a`.
+pub fn not(a: &mut [u64])
+    ensures { a.new ≡ map (bit_not w64) a.old }
+{
+    let whole = a.len() / LANES;
+    'fours: for k in 0..whole {
+        let words = !u64x4::from_slice(&a[LANES * k..]);
+        words.copy_to_slice(&mut a[LANES * k..]);
+    }
+    'rest: for i in LANES * whole..a.len() {
+        a[i] = !a[i];
+    }
+}
+
+/// The number of ones in `a`, which has fewer than 2^58 words, so that the number fits.
+pub fn count(a: &[u64]) -> u64
+    requires { length a.now < 2 ^ 58 }
+    ensures { result ≡ sum_by count_ones a.now }
+{
+    let whole = a.len() / LANES;
+    let mut ones = 0u64;
+    'fours: for k in 0..whole {
+        ones += ones_in(u64x4::from_slice(&a[LANES * k..]));
+    }
+    'rest: for i in LANES * whole..a.len() {
+        ones += a[i].count_ones() as u64;
+    }
+    ones
+}
+
+/// The number of bits that are set in `a` and in `b`, of fewer than 2^58 words each.
+pub fn count_and(a: &[u64], b: &[u64]) -> u64
+    requires same { length a.now ≡ length b.now }
+    requires few { length a.now < 2 ^ 58 }
+    ensures { result ≡ sum_by count_ones (zip2 bit_and a.now b.now) }
+{
+    count_combined::<AndWords>(a, b)
+}
+
+/// The number of bits that are set in `a` and not in `b`, of fewer than 2^58 words each.
+pub fn count_and_not(a: &[u64], b: &[u64]) -> u64
+    requires same { length a.now ≡ length b.now }
+    requires few { length a.now < 2 ^ 58 }
+    ensures { result ≡ sum_by count_ones (zip2 (λ x y. bit_and x (bit_not w64 y)) a.now b.now) }
+{
+    count_combined::<AndNotWords>(a, b)
+}

@@ -1,0 +1,37 @@
+//! Writes of single bits in words that are kept packed.
+
+ghost use Rattle.std.specs.Prelude.{◌≡◌, ℕ, ◌+◌, ◌*◌, ◌/◌, ◌%◌, ◌^◌, ◌≤◌, ◌<◌, [], ◌∷◌, ◌++◌, length, vec_len, vec_capacity};
+ghost use Rattle.bsi_bits.specs.Packed.{bits_of, IsPacked};
+
+/// Clears the places past the first `n` bits.
+pub fn trim(words: &mut Vec<u64>, n: u64)
+    requires within { n ≤ 2 ^ 32 }
+    requires few { length words.old.items ≡ (n + 63) / 64 }
+    ensures packed { IsPacked n words.new.items }
+    ensures bits { bits_of n words.new.items ≡ bits_of n words.old.items }
+    ensures len { vec_len words.new ≡ vec_len words.old }
+    ensures capacity { vec_capacity words.new ≡ vec_capacity words.old }
+{
+    let kept = n % 64;
+    if kept != 0 {
+        let last = (n / 64) as usize;
+        words[last] &= (1 << kept) - 1;
+    }
+}
+
+/// Appends a bit to `n` packed bits.
+pub fn push_bit(words: &mut Vec<u64>, n: u64, bit: bool)
+    requires below { n < 2 ^ 32 }
+    requires packed { IsPacked n words.old.items }
+    requires room { n % 64 ≡ 0 → vec_len words.old < vec_capacity words.old }
+    ensures packed { IsPacked (n + 1) words.new.items }
+    ensures bits { bits_of (n + 1) words.new.items ≡ bits_of n words.old.items ++ bit ∷ [] }
+{
+    let place = n % 64;
+    if place == 0 {
+        words.push_reserved(bit as u64);
+    } else {
+        let last = (n / 64) as usize;
+        words[last] |= (bit as u64) << place;
+    }
+}
