@@ -3,3 +3,4 @@ pub mod Column
 pub mod Number
 pub mod Records
 pub mod Shown
+pub mod Slices

@@ -1,7 +1,8 @@
--- The events that records ask for, by the lists of their fields.
-use Rattle.std.specs.Prelude.{ℕ, Bool, min, if◌then◌else◌, List, [], ◌∷◌, Option, Some, None, is_some, option_map, option_and_then, codes}
+-- The events that records ask for, by the lists of their fields. Places count from 0.
+use Rattle.std.specs.Prelude.{ℕ, Bool, ◌==◌, min, if◌then◌else◌, List, length, drop, Option, Some, None, is_some, option_map, option_and_then, codes}
 use Rattle.std.specs.List.{list_all}
 use Rattle.std.specs.Str.{bytes_eq}
+use Rattle.csv.specs.Records.{field_at}
 use Rattle.bsi_shell.specs.Number.{number_of}
 use Rattle.bsi_shell.specs.declared.machine.Event.{Event}
 use Rattle.bsi_shell.specs.declared.machine.Event.TheVariants.{Submit, Load, Close, Count}
@@ -14,53 +15,68 @@ use Rattle.bsi_shell.specs.declared.machine.Row.TheVariants.{Single, OtherLength
 abbrev pub feeder_of : List ℕ → Option ℕ
 feeder_of text = option_map (λ n. min n 4294967295) (number_of text)
 
--- a value: null, or a number
+-- a value: no byte is null, else it is a number
 abbrev pub value_of : List ℕ → Option (Option ℕ)
-value_of [] = Some None
-value_of (byte ∷ bytes) = option_map (λ n. Some n) (number_of (byte ∷ bytes))
+value_of text = if length text == 0 then Some None else option_map (λ n. Some n) (number_of text)
 
 -- each text is a value
 abbrev pub values_are_readable : List (List ℕ) → Bool
 values_are_readable texts = list_all (λ text. is_some (value_of text)) texts
 
--- the row of these texts
-abbrev pub row_of : List (List ℕ) → Option Row
-row_of [] = Some OtherLength
-row_of (text ∷ []) = option_map Single (value_of text)
-row_of (first ∷ second ∷ texts) = if values_are_readable (first ∷ second ∷ texts) then Some OtherLength else None
-
 -- how a sign compares
 abbrev pub op_of : List ℕ → Option Op
 op_of text = if bytes_eq text (codes "=") then Some Equal else (if bytes_eq text (codes "<=") then Some AtMost else None)
 
--- the fields behind `submit`: a feeder, and the values of a row
+-- what a record has at a place
+abbrev pub number_at : List (List ℕ) → ℕ → Option ℕ
+number_at fields place = option_and_then number_of (field_at fields place)
+
+abbrev pub value_at : List (List ℕ) → ℕ → Option (Option ℕ)
+value_at fields place = option_and_then value_of (field_at fields place)
+
+abbrev pub op_at : List (List ℕ) → ℕ → Option Op
+op_at fields place = option_and_then op_of (field_at fields place)
+
+-- the feeder of a record
+abbrev pub feeder_at : List (List ℕ) → Option ℕ
+feeder_at fields = option_and_then feeder_of (field_at fields 1)
+
+-- the row of a submission: all fields behind the feeder are values, and one of them fits a column
+abbrev pub row_of : List (List ℕ) → Option Row
+row_of fields =
+    if length fields == 3 then option_map Single (value_at fields 2)
+    else (if values_are_readable (drop 2 fields) then Some OtherLength else None)
+
+-- `submit,FEEDER,VALUE..`
 abbrev pub submit_of : List (List ℕ) → Option Event
-submit_of [] = None
-submit_of (feeder ∷ texts) = option_and_then (λ f. option_map (λ row. Submit f row) (row_of texts)) (feeder_of feeder)
+submit_of fields = option_and_then (λ feeder. option_map (λ row. Submit feeder row) (row_of fields)) (feeder_at fields)
 
--- behind `load` and behind `close`: a feeder
+-- `load,FEEDER`
 abbrev pub load_of : List (List ℕ) → Option Event
-load_of [] = None
-load_of (feeder ∷ []) = option_map Load (feeder_of feeder)
-load_of (feeder ∷ more ∷ texts) = None
+load_of fields = if length fields == 2 then option_map Load (feeder_at fields) else None
 
+-- `close,FEEDER`
 abbrev pub close_of : List (List ℕ) → Option Event
-close_of [] = None
-close_of (feeder ∷ []) = option_map Close (feeder_of feeder)
-close_of (feeder ∷ more ∷ texts) = None
+close_of fields = if length fields == 2 then option_map Close (feeder_at fields) else None
 
--- behind `count`: the column's name, a sign and a number
+-- what is counted, where the name is that of the column
+abbrev pub asked_count : List ℕ → List (List ℕ) → List ℕ → Option Event
+asked_count column fields name =
+    if bytes_eq name column then option_and_then (λ op. option_map (λ n. Count op n) (number_at fields 3)) (op_at fields 2) else None
+
+-- `count,NAME,SIGN,NUMBER`
 abbrev pub count_of : List ℕ → List (List ℕ) → Option Event
-count_of column (name ∷ sign ∷ number ∷ []) =
-    if bytes_eq name column then option_and_then (λ op. option_map (λ n. Count op n) (number_of number)) (op_of sign) else None
-count_of column texts = None
+count_of column fields = if length fields == 4 then option_and_then (asked_count column fields) (field_at fields 1) else None
+
+-- the event of a record that begins with this word
+abbrev pub word_event : List ℕ → List ℕ → List (List ℕ) → Option Event
+word_event word column fields =
+    if bytes_eq word (codes "submit") then submit_of fields
+    else (if bytes_eq word (codes "load") then load_of fields
+    else (if bytes_eq word (codes "close") then close_of fields
+    else (if bytes_eq word (codes "count") then count_of column fields
+    else None)))
 
 -- the event of a record, where the column has this name
 abbrev pub event_of : List ℕ → List (List ℕ) → Option Event
-event_of column [] = None
-event_of column (word ∷ texts) =
-    if bytes_eq word (codes "submit") then submit_of texts
-    else (if bytes_eq word (codes "load") then load_of texts
-    else (if bytes_eq word (codes "close") then close_of texts
-    else (if bytes_eq word (codes "count") then count_of column texts
-    else None)))
+event_of column fields = option_and_then (λ word. word_event word column fields) (field_at fields 0)

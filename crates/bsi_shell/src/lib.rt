@@ -13,3 +13,6 @@ mod words;
 
 pub use script::{ScriptFault, run_script};
 pub use words::run_words;
+
+#[cfg(test)]
+mod tests;
