@@ -1,0 +1,30 @@
+//! The program: hands its words and the standard streams to the shell, and ends with the status that it answers.
+#![tactic(auto)]
+
+use bsi_shell::{ScriptFault, run_words};
+use std::env;
+use std::io;
+use std::process::ExitCode;
+use std::rt::Env;
+
+fn main(rt: HostRuntime) -> ExitCode {
+    let (mut output, mut faults) = (rt.stdout(), rt.stderr());
+    let status = match read_words(&rt) {
+        Ok(words) => run_words(&rt, words, rt.stdin(), &mut output, &mut faults),
+        Err(_) => {
+            let fault = ScriptFault::NoMemory;
+            let _ = eprintln!(rt; "{fault}");
+            1
+        }
+    };
+    ExitCode::from(status)
+}
+
+/// Reads the words behind the program's name. A word that is no text makes the words no command, as no word at all.
+fn read_words<R: Env + AllocGlobal>(rt: &R) -> io::Result<Vec<String>> {
+    match env::args(rt) {
+        Ok(words) => Ok(words.skip(1).collect(rt.alloc())?),
+        Err(error) if error.kind() == io::ErrorKind::InvalidData => Ok(Vec::new(rt.alloc())),
+        Err(error) => Err(error),
+    }
+}

@@ -1,0 +1,7 @@
+mod Adding
+mod Comparing
+mod Digits
+mod Fields
+mod Queue
+mod Slicing
+mod Writing

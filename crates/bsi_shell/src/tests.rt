@@ -1,0 +1,355 @@
+use crate::{ScriptFault, run_script, run_words};
+use std::alloc::{AllocError, Global};
+use std::io;
+use std::io::{Read, Write};
+use std::test::Fail;
+
+const USAGE: &str = "usage: bsi script | bsi files --schema FILE --asks FILE CSV..\n";
+
+// Gives its text a byte at a time, and then an error.
+#[derive(Drop)]
+struct BrokenReader<'a> {
+    text: &'a [u8],
+}
+
+impl<'a> Read for BrokenReader<'a> {
+    fn read(&mut self, buf: &mut [u8]) -> io::Result<usize> {
+        match (self.text.split_first(), buf.first_mut()) {
+            (Some((byte, rest)), Some(place)) => {
+                *place = *byte;
+                self.text = rest;
+                Ok(1)
+            }
+            _ => Err(io::Error::from(io::ErrorKind::BrokenPipe)),
+        }
+    }
+}
+
+// Takes a byte a call until it has `room` no more; then it fails, or takes nothing.
+#[derive(Drop)]
+struct NarrowWriter {
+    taken: Vec<u8>,
+    room: usize,
+    fails: bool,
+}
+
+impl Write for NarrowWriter {
+    fn write(&mut self, buf: &[u8]) -> io::Result<usize> {
+        match buf.first() {
+            Some(byte) if self.taken.len() < self.room => {
+                self.taken.push(*byte)?;
+                Ok(1)
+            }
+            _ if self.fails => Err(io::Error::from(io::ErrorKind::BrokenPipe)),
+            _ => Ok(0),
+        }
+    }
+
+    fn flush(&mut self) -> io::Result<()> {
+        if self.fails {
+            return Err(io::Error::from(io::ErrorKind::BrokenPipe));
+        }
+        Ok(())
+    }
+}
+
+// The lines of a script; a run that found no memory is done again.
+fn lines_of(alloc: Global, text: &[u8]) -> Result<Vec<u8>, AllocError> {
+    let mut lines = Vec::with_capacity(alloc, 4096)?;
+    for _ in 0..2 {
+        lines.clear();
+        let run = run_script(alloc, text, &mut lines);
+        if run.is_ok()
+            && !lines
+                .as_slice()
+                .windows(6)
+                .any(|part| part == b"memory".as_slice())
+        {
+            break;
+        }
+    }
+    Ok(lines)
+}
+
+// The words of a command line.
+fn words_of(alloc: Global, words: &[&str]) -> Result<Vec<String>, AllocError> {
+    let mut list = Vec::new(alloc);
+    for word in words {
+        list.push(String::from_str(alloc, word)?)?;
+    }
+    Ok(list)
+}
+
+#[test]
+fn scripts_are_answered_line_by_line(rt: HostRuntime) -> Result<(), Fail> {
+    for (script, want) in [
+        ("", ""),
+        ("begin", "bad\n"),
+        (
+            "submit,0,5\nload,0\nclose,0\ncount,qty,=,5\n",
+            "bad\nbad\nbad\nbad\n",
+        ),
+        (
+            "column,qty,slices,3\nbegin\nfeeder,2\nbegin\nbegin\n",
+            "ok\nbad\nok\nok\nbad\n",
+        ),
+        (
+            "feeder,2\ncolumn,qty,slices,3\nlimit,1\nbegin\nsubmit,0,1\nsubmit,0,2\nload,0\nload,0\n\
+             close,0\nload,0\nsubmit,0,3\ncount,qty,<=,7",
+            "ok\nok\nok\nok\naccepted\naccepted\nloaded 0\nindex full\nok\nindex full\nclosed\ncount 1\n",
+        ),
+        (
+            "\"column\",\"qty\",slices,\"3\"\r\nfeeder,4\r\n\r\nbegin\r\nsubmit,0,5\r\n\"load\",\"0\"\r\n",
+            "ok\nok\nok\naccepted\nloaded 0\n",
+        ),
+    ] {
+        let lines = lines_of(rt.alloc(), script.as_bytes())?;
+        assert_eq!(rt; lines.as_slice(), want.as_bytes(), "at {script:?}");
+    }
+    Ok(())
+}
+
+#[test]
+fn a_record_that_asks_for_nothing_is_bad(rt: HostRuntime) -> Result<(), Fail> {
+    for record in [
+        "column,x,slices,64",
+        "column,x,slices,0",
+        "column,x,slices",
+        "column,x,slices,3,4",
+        "column,x,range,3 3",
+        "column,all,slices,3",
+        "column,Qty,slices,3",
+        "column,,slices,3",
+        "column,x,slices,+3",
+        "feeder",
+        "feeder,0",
+        "feeder,65537",
+        "feeder,4294967298",
+        "feeder,1,1",
+        "limit,0",
+        "limit,4294967297",
+        "limit",
+        "limit, 5",
+        "begin",
+        "submit,0,1",
+        "COLUMN,x,slices,3",
+        "other",
+    ] {
+        let mut script = String::from_str(rt.alloc(), record)?;
+        script.push_str("\ncolumn,qty,slices,3\ncolumn,b,slices,3\nfeeder,1\nfeeder,1\nbegin\n")?;
+        let lines = lines_of(rt.alloc(), script.as_bytes())?;
+        assert_eq!(rt;
+            lines.as_slice(),
+            b"bad\nok\nbad\nok\nbad\nok\n".as_slice(),
+            "at {record:?}"
+        );
+    }
+    for record in [
+        "column,b,slices,3",
+        "feeder,1",
+        "limit,3",
+        "begin",
+        "submit",
+        "submit,x,1",
+        "submit,0, 5",
+        "submit,0,+5",
+        "submit,0,-5",
+        "submit,0,5,x",
+        "submit,0,18446744073709551616",
+        "load",
+        "load,x",
+        "load,0,0",
+        "close",
+        "close,0,",
+        "count",
+        "count,qty,<",
+        "count,price,=,5",
+        "count,qty,<>,5",
+        "count,qty,=,5,",
+        "count,qty,=,",
+        "COUNT,qty,=,5",
+        "count,\u{e9}",
+        "count,qty,<,18446744073709551616",
+        "count,qty,=,000000000000000000005",
+    ] {
+        let mut script = String::from_str(
+            rt.alloc(),
+            "column,qty,slices,3\nfeeder,1\nbegin\nsubmit,0,5\nload,0\n",
+        )?;
+        script.push_str(record)?;
+        script.push_str("\ncount,qty,=,00000000000000000005\n")?;
+        let lines = lines_of(rt.alloc(), script.as_bytes())?;
+        assert_eq!(rt;
+            lines.as_slice(),
+            b"ok\nok\nok\naccepted\nloaded 0\nbad\ncount 1\n".as_slice(),
+            "at {record:?}"
+        );
+    }
+    Ok(())
+}
+
+#[test]
+fn each_refusal_comes_in_its_order(rt: HostRuntime) -> Result<(), Fail> {
+    let script =
+        "column,qty,slices,3\nfeeder,1\nbegin\nsubmit,1,9\nsubmit,4294967296,1\nsubmit,0\nsubmit,0,1,2\n\
+        submit,0,8\nsubmit,0,\nsubmit,0,9\nsubmit,0,1\nload,1\nload,4294967296\nclose,7\nload,0\nload,0\nclose,0\n\
+        submit,0,9\nsubmit,1,9\nload,0\ncount,qty,<=,18446744073709551615\ncount,qty,=,0\n";
+    let want =
+        "ok\nok\nok\nno feeder\nno feeder\nmisfit\nmisfit\nmisfit\naccepted\nmisfit\nfull\nno feeder\nno feeder\n\
+        no feeder\nloaded 0\nempty\nok\nclosed\nno feeder\nended\ncount 0\ncount 0\n";
+    let lines = lines_of(rt.alloc(), script.as_bytes())?;
+    assert_eq!(rt; lines.as_slice(), want.as_bytes());
+    Ok(())
+}
+
+#[test]
+fn comparisons_hold_at_every_constant(rt: HostRuntime) -> Result<(), Fail> {
+    let mut script = String::from_str(rt.alloc(), "column,qty,slices,2\nfeeder,1\nbegin\n")?;
+    for row in ["3", "", "0", "2", "0", "", "1"] {
+        script.push_str("submit,0,")?;
+        script.push_str(row)?;
+        script.push_str("\nload,0\n")?;
+    }
+    for (constant, equal, at_most) in [
+        ("0", 2, 2),
+        ("1", 1, 3),
+        ("2", 1, 4),
+        ("3", 1, 5),
+        ("4", 0, 5),
+        ("7", 0, 5),
+        ("18446744073709551615", 0, 5),
+    ] {
+        let asked = format!(in rt.alloc();
+            "{script}count,qty,=,{constant}\ncount,qty,<=,{constant}\n"
+        )?;
+        let want = format!(in rt.alloc(); "\ncount {equal}\ncount {at_most}\n")?;
+        let lines = lines_of(rt.alloc(), asked.as_bytes())?;
+        assert!(rt;
+            lines.as_slice().ends_with(want.as_bytes()),
+            "at {constant}"
+        );
+    }
+    Ok(())
+}
+
+#[test]
+fn words_that_are_no_command_get_the_usage_line(rt: HostRuntime) -> Result<(), Fail> {
+    for words in [
+        [].as_slice(),
+        ["--help"].as_slice(),
+        ["-h"].as_slice(),
+        ["help"].as_slice(),
+        ["files"].as_slice(),
+        ["files", "--schema", "a", "--asks", "b", "c"].as_slice(),
+        ["other"].as_slice(),
+        ["script", "x"].as_slice(),
+        ["script", "--help"].as_slice(),
+        ["Script"].as_slice(),
+    ] {
+        let list = words_of(rt.alloc(), words)?;
+        let mut output = Vec::new(rt.alloc());
+        let mut faults = Vec::with_capacity(rt.alloc(), 128)?;
+        let status = run_words(&rt, list, b"begin\n".as_slice(), &mut output, &mut faults);
+        if status == 1 && faults.as_slice() == b"bsi: no memory\n".as_slice() {
+            continue;
+        }
+        assert_eq!(rt; status, 2, "at {words:?}");
+        assert_eq!(rt; faults.as_slice(), USAGE.as_bytes(), "at {words:?}");
+        assert_eq!(rt; output.len(), 0);
+    }
+    Ok(())
+}
+
+#[test]
+fn the_script_word_runs_the_script(rt: HostRuntime) -> Result<(), Fail> {
+    let list = words_of(rt.alloc(), ["script"].as_slice())?;
+    let mut output = Vec::with_capacity(rt.alloc(), 128)?;
+    let mut faults = Vec::with_capacity(rt.alloc(), 128)?;
+    let status = run_words(&rt, list, b"begin\n".as_slice(), &mut output, &mut faults);
+    if status == 1 && faults.as_slice() == b"bsi: no memory\n".as_slice() {
+        return Ok(());
+    }
+    assert_eq!(rt; status, 0);
+    assert_eq!(rt; output.as_slice(), b"bad\n".as_slice());
+    assert_eq!(rt; faults.len(), 0);
+    Ok(())
+}
+
+#[test]
+fn each_fault_has_its_text_and_status_one(rt: HostRuntime) -> Result<(), Fail> {
+    let text = b"begin\nbegin\nload,0".as_slice();
+    for (reads, room, fails, wrote, want) in [
+        (true, 99, false, "bad\nbad\n", "bsi: read failed\n"),
+        (false, 6, true, "bad\nba", "bsi: write failed\n"),
+        (false, 6, false, "bad\nba", "bsi: write failed\n"),
+        (false, 99, true, "bad\nbad\nbad\n", "bsi: write failed\n"),
+    ] {
+        let list = words_of(rt.alloc(), ["script"].as_slice())?;
+        let taken = Vec::with_capacity(rt.alloc(), 128)?;
+        let mut output = NarrowWriter { taken, room, fails };
+        let mut faults = Vec::with_capacity(rt.alloc(), 128)?;
+        let status = if reads {
+            run_words(&rt, list, BrokenReader { text }, &mut output, &mut faults)
+        } else {
+            run_words(&rt, list, text, &mut output, &mut faults)
+        };
+        assert_eq!(rt; status, 1);
+        if faults.as_slice() == b"bsi: no memory\n".as_slice() {
+            assert!(rt; wrote.as_bytes().starts_with(output.taken.as_slice()));
+            continue;
+        }
+        assert_eq!(rt; faults.as_slice(), want.as_bytes());
+        assert_eq!(rt; output.taken.as_slice(), wrote.as_bytes(), "at {want}");
+    }
+    Ok(())
+}
+
+// Gives so many records of one field.
+#[derive(Drop)]
+struct Records {
+    left: u64,
+}
+
+impl Read for Records {
+    fn read(&mut self, buf: &mut [u8]) -> io::Result<usize> {
+        match buf {
+            [field, end, ..] if self.left > 0 => {
+                self.left -= 1;
+                *field = b'x';
+                *end = b'\n';
+                Ok(2)
+            }
+            _ => Ok(0),
+        }
+    }
+}
+
+// Counts the lines that are written.
+#[derive(Drop)]
+struct Lines {
+    count: u64,
+}
+
+impl Write for Lines {
+    fn write(&mut self, buf: &[u8]) -> io::Result<usize> {
+        self.count = self.count.saturating_add(u64::from(buf.ends_with(b"\n")));
+        Ok(buf.len())
+    }
+
+    fn flush(&mut self) -> io::Result<()> {
+        Ok(())
+    }
+}
+
+#[test]
+fn a_script_has_a_million_records(rt: HostRuntime) {
+    for (records, want) in [(1_000_000, Ok(())), (1_000_001, Err(ScriptFault::TooLong))] {
+        let mut lines = Lines { count: 0 };
+        let run = run_script(rt.alloc(), Records { left: records }, &mut lines);
+        if run == Err(ScriptFault::NoMemory) {
+            return;
+        }
+        assert_eq!(rt; run, want);
+        assert_eq!(rt; lines.count, 1_000_000);
+    }
+}
