@@ -1,0 +1,6 @@
+mod Products
+pub mod CallerLemmas
+mod DigitLists
+mod Comparing
+mod Refusals
+mod KeptWeights
