@@ -67,6 +67,13 @@ high_digit {bs} valid v i h =
     sym (div-add-mod' (v / weight bs i) (slice_index bs i)) ∙
     ap (λ n. n * slice_index bs i + digit_of bs v i) (high_more bs v i h)
 
+-- the same of numbers that are known to be these parts
+pub high_parts : {bs : List ℕ} → IsBaseList bs → (v i here above base : ℕ) → i < length bs → here ≡ v / weight bs i →
+    above ≡ v / weight bs (i + 1) → base ≡ slice_index bs i → here ≡ above * base + digit_of bs v i
+high_parts {bs} valid v i here above base h here_is above_is base_is =
+    here_is ∙ high_digit valid v i h ∙ ap (λ n. n * slice_index bs i + digit_of bs v i) (sym above_is) ∙
+    ap (λ n. above * n + digit_of bs v i) (sym base_is)
+
 -- below all components stands the value, and above them nothing
 pub low_all : (bs : List ℕ) (v : ℕ) → v < size_of bs → v % weight bs (length bs) ≡ v
 low_all bs v small = ap (λ w. v % w) (weight_all bs) ∙ mod-eq_of_lt small

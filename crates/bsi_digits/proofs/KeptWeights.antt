@@ -17,7 +17,6 @@ pub kept_more : (bs ws : List ℕ) (i x : ℕ) → i + 1 < length ws → ((j : �
 kept_more bs ws i x room kept new k within = kept_by bs ws i x k room kept new within (cases_eq k (i + 1))
 
 -- a weight times its base is the next
-pub next_weight : (bs ws : List ℕ) (i x y : ℕ) → i < length bs → get_or ws i 0 ≡ weight bs i → x ≡ get_or ws i 0 → y ≡ get_or bs i 0 →
-    x * y ≡ weight bs (i + 1)
-next_weight bs ws i x y within kept first second =
-    ap (λ n. n * y) (first ∙ kept) ∙ ap (λ n. weight bs i * n) second ∙ sym (product-take_more bs i within)
+pub next_weight : (bs : List ℕ) (i w x y : ℕ) → i < length bs → w ≡ weight bs i → x ≡ w → y ≡ get_or bs i 0 → x * y ≡ weight bs (i + 1)
+next_weight bs i w x y within last first second =
+    ap (λ n. n * y) (first ∙ last) ∙ ap (λ n. weight bs i * n) second ∙ sym (product-take_more bs i within)

@@ -4,3 +4,4 @@ mod DigitLists
 mod Comparing
 mod Refusals
 mod KeptWeights
+mod Reciprocals

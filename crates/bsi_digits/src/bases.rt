@@ -1,10 +1,11 @@
 //! A list of bases, which turns a number into its digits.
-ghost use Rattle.std.specs.Prelude.{◌≡◌, ℕ, ◌^◌, ◌<◌, ◌≤◌, ◌↔◌, length, slice_index, slice_get, position, sum, reverse, replicate, EachIndex, IsNone, IfNone, IfOk, IfErr, IfSome, IsErrOf};
+ghost use Rattle.std.specs.Prelude.{◌≡◌, ℕ, ◌^◌, ◌<◌, ◌≤◌, ◌↔◌, length, slice_index, position, sum, reverse, replicate, EachIndex, IsNone, IfNone, IfOk, IfErr, IfSome, IsErrOf};
 ghost use Rattle.std.specs.Result.{result_err};
 ghost use Rattle.bsi_digits.specs.Digits.{product, size_of, weight, digit_of, IsBase, IsBaseList};
 ghost use Rattle.bsi_digits.specs.Refusal.{refusal, is_bad_base, IsRefusal};
 ghost use Rattle.bsi_digits.specs.Weights.{HoldsWeights};
 
+use crate::divisor::Divisor;
 use crate::{BasesError, NoMemory};
 use std::alloc::Global;
 use std::marker::Model;
@@ -24,7 +25,7 @@ const LARGEST_SIZE: u64 = 1 << 63;
 #[derive(Debug, Drop)]
 pub struct Bases {
     bases: Vec<u32>,
-    weights: [u64; 64],
+    weights: [Divisor; 64],
 }
 
 impl Model for Bases {
@@ -97,7 +98,7 @@ impl Bases {
         ensures within { result ≤ 2 ^ 63 }
         ensures valid { IsBaseList self.now }
     {
-        self.weights[self.bases.len()]
+        self.divisor(self.bases.len()).value()
     }
 
     /// Returns the number of components, 1 to 63.
@@ -112,21 +113,22 @@ impl Bases {
     /// Returns the base of component `i`, from 2 to 1,024.
     pub fn base(&self, i: u32) -> u32
         requires { i < length self.now }
-        ensures base { slice_get self.now i ≡ Some result }
+        ensures base { result ≡ slice_index self.now i }
         ensures within { (2 ≤ result) × (result ≤ 1024) }
     {
         self.bases[i as usize]
     }
 
-    /// Returns the digit of component `i` of `v`.
+    /// Returns the digit of component `i` of `v`. Costs no division.
     pub fn digit(&self, v: u64, i: u32) -> u32
         requires within { i < length self.now }
         requires below { v < size_of self.now }
         ensures digit { result ≡ digit_of self.now v i }
         ensures below { result < slice_index self.now i }
     {
-        let above = v / self.weights[i as usize];
-        (above % u64::from(self.bases[i as usize])) as u32
+        let from_here = self.divisor(i as usize).quotient(v);
+        let above = self.divisor(i as usize + 1).quotient(v);
+        (from_here - above * u64::from(self.base(i))) as u32
     }
 
     /// Returns the weight of a digit of component `i`: the product of the bases below it.
@@ -135,7 +137,17 @@ impl Bases {
         ensures weight { result ≡ weight self.now i }
         ensures within { (1 ≤ result) × (result ≤ size_of self.now) }
     {
-        self.weights[i as usize]
+        self.divisor(i as usize).value()
+    }
+
+    /// Returns the weight of the component at `place`, or the size behind the last.
+    fn divisor(&self, place: usize) -> &Divisor
+        requires { place ≤ length self.now }
+        ensures weight { result.now ≡ weight self.now place }
+        ensures valid { IsBaseList self.now }
+    {
+        let weights = &self.weights[..];
+        &weights[place]
     }
 }
 
@@ -160,19 +172,22 @@ fn width(bases: &[u32]) -> u64
 
 /// Returns the weight of each component and, behind the last, the product of all bases, which are least significant
 /// first; `None` where the product is over the largest size.
-fn weights(bases: &[u32]) -> Option<[u64; 64]>
+fn weights(bases: &[u32]) -> Option<[Divisor; 64]>
     requires few { length bases.now ≤ 63 }
     requires each { EachIndex bases.now (λ i. 1 ≤ slice_index bases.now i) }
     ensures none { IsNone result ↔ (2 ^ 63 < product bases.now) }
     ensures some { IfSome result (HoldsWeights bases.now) }
 {
-    let mut weights = [1; 64];
+    let mut kept = [Divisor::new(1); 64];
+    let weights = &mut kept[..];
+    let mut weight = 1u64;
     for i in 0..bases.len() {
-        let next = u128::from(weights[i]) * u128::from(bases[i]);
+        let next = u128::from(weight) * u128::from(bases[i]);
         if next > u128::from(LARGEST_SIZE) {
             return None;
         }
-        weights[i + 1] = next as u64;
+        weight = next as u64;
+        weights[i + 1] = Divisor::new(weight);
     }
-    Some(weights)
+    Some(kept)
 }

@@ -3,6 +3,7 @@
 
 mod bases;
 mod bases_error;
+mod divisor;
 pub mod laws;
 #[cfg(test)]
 mod tests;

@@ -1,6 +1,5 @@
 //! Worked lists of bases. Each test tolerates one refused growth, and then makes the same call again.
 use super::*;
-
 use std::alloc::Global;
 use std::test::Fail;
 
@@ -31,7 +30,10 @@ fn bases_refused(rt: HostRuntime) -> Result<(), Fail> {
         (&many, Err(BasesError::TooMany)),
         (&[3, 1], Err(BasesError::BaseOutOfRange(1))),
         (&[1024, 1024, 1024, 1024, 2], Err(BasesError::TooWide)),
-        (&[512, 512, 512, 512, 512, 512, 512, 2], Err(BasesError::ProductTooLarge)),
+        (
+            &[512, 512, 512, 512, 512, 512, 512, 2],
+            Err(BasesError::ProductTooLarge),
+        ),
         (&[5, 3], Ok(15)),
     ];
     for (bases, want) in rows {
@@ -70,12 +72,21 @@ fn the_first_refusal_that_applies_is_answered(rt: HostRuntime) -> Result<(), Fai
     let wide_and_large = [1024; 7];
     let rows: [(&[u32], Result<u64, BasesError>); 8] = [
         (&ones, Err(BasesError::TooMany)),
-        (&[1024, 1025, 1024, 1024, 1024, 0], Err(BasesError::BaseOutOfRange(1))),
+        (
+            &[1024, 1025, 1024, 1024, 1024, 0],
+            Err(BasesError::BaseOutOfRange(1)),
+        ),
         (&[4294967295], Err(BasesError::BaseOutOfRange(0))),
         (&wide_and_large, Err(BasesError::TooWide)),
         (&[1024, 1024, 1024, 1024], Ok(1099511627776)),
-        (&[512, 512, 512, 512, 512, 512, 512], Ok(9223372036854775808)),
-        (&[1024, 512, 512, 512, 512, 512, 512], Err(BasesError::ProductTooLarge)),
+        (
+            &[512, 512, 512, 512, 512, 512, 512],
+            Ok(9223372036854775808),
+        ),
+        (
+            &[1024, 512, 512, 512, 512, 512, 512],
+            Err(BasesError::ProductTooLarge),
+        ),
         (&[2], Ok(2)),
     ];
     for (bases, want) in rows {
@@ -89,7 +100,11 @@ fn seconds_of_a_day_are_hours_minutes_and_seconds(rt: HostRuntime) -> Result<(),
     let clock = Bases::new(list(rt.alloc(), &[24, 60, 60])?).expect(&rt, "in range");
     assert_eq!(rt; clock.size(), 86400);
     assert_eq!(rt; clock.len(), 3);
-    for (seconds, hour, minute, second) in [(0, 0, 0, 0), (45296, 12, 34, 56), (86399, 23, 59, 59)] {
+    for (seconds, hour, minute, second) in [
+        (0, 0, 0, 0),
+        (45296, 12, 34, 56),
+        (86399, 23, 59, 59),
+    ] {
         assert!(rt; seconds < clock.size());
         assert_eq!(rt; clock.digit(seconds, 2), hour, "hour of {seconds}");
         assert_eq!(rt; clock.digit(seconds, 1), minute, "minute of {seconds}");

@@ -5,6 +5,8 @@ use Rattle.bsi_digits.proofs.bases.weights.Given as goal
 abbrev pub invariant-loop-i : goal.invariant-loop-i
 invariant-loop-i l = record {
   kept : (k : ℕ) → k ≤ l.i → slice_index l.weights k ≡ weight l.bases k;
-  small : weight l.bases l.i ≤ 2 ^ 63;
+  last : l.weight ≡ weight l.bases l.i;
+  some : 1 ≤ l.weight;
+  small : l.weight ≤ 2 ^ 63;
   long : length l.weights ≡ 64;
 }

@@ -1,13 +1,34 @@
-use Rattle.std.proofs.Common.{◌≡◌, ℕ, ◌≤◌, List, length, slice_index, arith, ap}
-use Rattle.bsi_digits.specs.Digits.{weight}
-use Rattle.bsi_digits.proofs.CallerLemmas.{weight_pos}
+use Rattle.std.proofs.Common.{◌≡◌, ◌+◌, ◌*◌, ◌/◌, ◌<◌, slice_index, ap, ◌∙◌, arith}
+use Rattle.bsi_digits.specs.Digits.{digit_of}
+use Rattle.bsi_digits.proofs.CallerLemmas.{high_parts, digit_below}
 use Rattle.bsi_digits.proofs.bases.Bases.digit.Goals as goal
+use Rattle.bsi_digits.proofs.bases.Bases.digit.Goals.{After-from}
 
--- the weight that is kept is at least 1
-pub nonzero_div-above : goal.nonzero_div-above
-nonzero_div-above c =
-    let same : length c.self.inside.bases.items ≡ length c.args.self.now = ap (λ (xs : List ℕ). length xs) c.self.view_is in
-    let kept : slice_index c.self.inside.weights c.args.i ≡ weight c.self.inside.bases.items c.args.i =
-    c.self.invariant.1.kept c.args.i (omega arith) in
-    let positive : 1 ≤ weight c.self.inside.bases.items c.args.i = weight_pos c.self.invariant.0 c.args.i in
-    omega arith
+-- the part from the component on is that above it, times the base, and the digit
+parts : (c : After-from) → c.quotient-from_here.result ≡ c.quotient-above.result * c.from.result + digit_of c.args.self.now c.args.v c.args.i
+parts c =
+    high_parts c.divisor.ensures.valid c.args.v c.args.i c.quotient-from_here.result c.quotient-above.result c.from.result
+    c.requires.within (c.quotient-from_here.ensures ∙ ap (λ w. c.args.v / w) c.divisor.ensures.weight)
+    (c.quotient-above.ensures ∙ ap (λ w. c.args.v / w) c.divisor-2.ensures.weight) (c.from.ensures ∙ c.base.ensures.base)
+
+below : (c : After-from) → digit_of c.args.self.now c.args.v c.args.i < slice_index c.args.self.now c.args.i
+below c = digit_below c.divisor.ensures.valid c.args.v c.args.i c.requires.within
+
+pub overflow_mul-result : goal.overflow_mul-result
+overflow_mul-result c = omega (arith, parts (goal.at.overflow_mul-result c).After-from)
+
+pub overflow_sub-result : goal.overflow_sub-result
+overflow_sub-result c = omega (arith, parts (goal.at.overflow_sub-result c).After-from)
+
+pub overflow_cast-result : goal.overflow_cast-result
+overflow_cast-result c =
+    let at = (goal.at.overflow_cast-result c).After-from in
+    omega (arith, parts at, below at)
+
+pub returns-clause-digit : goal.returns-clause-digit
+returns-clause-digit c = omega (arith, parts (goal.at.returns-clause-digit c).After-from)
+
+pub returns-clause-below : goal.returns-clause-below
+returns-clause-below c =
+    let at = (goal.at.returns-clause-below c).After-from in
+    omega (arith, parts at, below at)
