@@ -8,7 +8,7 @@ use Rattle.std.proofs.lemmas.Bool.Decides.{nat_tests}
 use Rattle.std.proofs.lemmas.List.{reverse-append, length-reverse}
 use Rattle.std.proofs.lemmas.Nat.{div_below, mod_below, div-add-mod'}
 use Rattle.bsi_digits.specs.Digits.{product, digits_of}
-use Rattle.bsi_digits.proofs.CallerLemmas.{apart, length-digits_of}
+use Rattle.bsi_digits.proofs.Parts.{apart, length-digits_of}
 use Rattle.bsi_digits.proofs.DigitLists.{digits_of-cons}
 
 then-assoc : (a b c : Ordering) → ordering_then a (ordering_then b c) ≡ ordering_then (ordering_then a b) c
@@ -32,7 +32,7 @@ slice_cmp-append (a ∷ xs) (b ∷ ys) x y same =
     then-assoc (nat_cmp a b) (slice_cmp nat_cmp xs ys) (nat_cmp x y)
 
 -- numbers of two parts
-two_cmp : (w x y q p : ℕ) → x < w → y < w → nat_cmp (q * w + x) (p * w + y) ≡ ordering_then (nat_cmp q p) (nat_cmp x y)
+pub two_cmp : (w x y q p : ℕ) → x < w → y < w → nat_cmp (q * w + x) (p * w + y) ≡ ordering_then (nat_cmp q p) (nat_cmp x y)
 two_cmp w x y q p small other =
     let below : q < p → q * w + w ≤ p * w = apart w q p in
     let above : p < q → p * w + w ≤ q * w = apart w p q in

@@ -5,7 +5,7 @@ use Rattle.std.proofs.Math.Nat.{mod-add-div, div-div-eq-div-mul}
 use Rattle.std.proofs.lemmas.Nat.{div_below, div-mul-add, mod-mul-add}
 use Rattle.std.proofs.lemmas.List.Sums.{sum_by-cons}
 use Rattle.bsi_digits.specs.Digits.{product, components, digit_of, digits_of, weighted_sum, size_of, IsDigits, IsBaseList}
-use Rattle.bsi_digits.proofs.CallerLemmas.{length-digits_of, get_or-digits_of, digit_below}
+use Rattle.bsi_digits.proofs.Parts.{length-digits_of, get_or-digits_of, digit_below}
 
 -- a list made of each number from a + 1 on is one made of each from a on, by the number after it
 map-range_shifted : (f g : ℕ → ℕ) (a n : ℕ) → ((i : ℕ) → f (suc i) ≡ g i) → map f (range_with_len (a + 1) n) ≡ map g (range_with_len a n)

@@ -1,5 +1,6 @@
-mod Products
 pub mod CallerLemmas
+mod Products
+mod Parts
 mod DigitLists
 mod Comparing
 mod Refusals

@@ -40,23 +40,30 @@ each_from_position bs none i h =
     let past : length bs ≤ position_or_len is_bad_base bs = past_all (position_or_len is_bad_base bs) (length bs) none in
     good_base (get_or bs i 0) (fails_before_first is_bad_base bs i 0 (omega arith))
 
-pub refusal_is_none : (bs : List ℕ) → 0 < length bs → length bs ≤ 63 → position is_bad_base bs ≡ None → sum bs ≤ 4096 → product bs ≤ 2 ^ 63 →
-    refusal bs ≡ None
-refusal_is_none bs some few good narrow small =
-    let one : nat_eq (length bs) 0 ≡ false = grind (arith, nat_tests) in
-    let two : nat_lt 63 (length bs) ≡ false = grind (arith, nat_tests) in
-    let four : nat_lt 4096 (sum bs) ≡ false = grind (arith, nat_tests) in
-    let five : nat_lt (2 ^ 63) (product bs) ≡ false = grind (arith, nat_tests) in
-    rw (one, two, good, four, five) refl
+-- bases that pass each test but that of the product
+pub record IsPastSum (bs : List ℕ) : Type 0 where
+  pub some : 0 < length bs
+  pub few : length bs ≤ 63
+  pub good : position is_bad_base bs ≡ None
+  pub narrow : sum bs ≤ 4096
 
-pub refusal_is_large : (bs : List ℕ) → 0 < length bs → length bs ≤ 63 → position is_bad_base bs ≡ None → sum bs ≤ 4096 → 2 ^ 63 < product bs →
-    refusal bs ≡ Some ProductTooLarge
-refusal_is_large bs some few good narrow large =
+past_sum : (bs : List ℕ) → IsPastSum bs → refusal bs ≡ (if nat_lt (2 ^ 63) (product bs) then Some ProductTooLarge else None)
+past_sum bs past =
     let one : nat_eq (length bs) 0 ≡ false = grind (arith, nat_tests) in
     let two : nat_lt 63 (length bs) ≡ false = grind (arith, nat_tests) in
+    let good : position is_bad_base bs ≡ None = past.good in
     let four : nat_lt 4096 (sum bs) ≡ false = grind (arith, nat_tests) in
+    rw (one, two, good, four) refl
+
+pub refusal_is_none : (bs : List ℕ) → IsPastSum bs → product bs ≤ 2 ^ 63 → refusal bs ≡ None
+refusal_is_none bs past small =
+    let five : nat_lt (2 ^ 63) (product bs) ≡ false = grind (arith, nat_tests) in
+    past_sum bs past ∙ rw five refl
+
+pub refusal_is_large : (bs : List ℕ) → IsPastSum bs → 2 ^ 63 < product bs → refusal bs ≡ Some ProductTooLarge
+refusal_is_large bs past large =
     let five : nat_lt (2 ^ 63) (product bs) ≡ true = grind (arith, nat_tests) in
-    rw (one, two, good, four, five) refl
+    past_sum bs past ∙ rw five refl
 
 -- and the other way round
 position_from_each : (bs : List ℕ) → ((i : ℕ) → i < length bs → IsBase (get_or bs i 0)) → position is_bad_base bs ≡ None
@@ -89,7 +96,13 @@ base_list_reversed bs valid =
 
 refusal_from_base_list_as_written : (bs : List ℕ) → IsBaseList bs → refusal bs ≡ None
 refusal_from_base_list_as_written bs valid =
-    refusal_is_none bs valid.some valid.few (position_from_each bs valid.each) valid.narrow valid.small
+    let past : IsPastSum bs = record {
+      some = valid.some;
+      few = valid.few;
+      good = position_from_each bs valid.each;
+      narrow = valid.narrow;
+    } in
+    refusal_is_none bs past valid.small
 
 pub refusal-from_base_list : (bs : List ℕ) → IsBaseList (reverse bs) → refusal bs ≡ None
 refusal-from_base_list bs valid =
@@ -147,5 +160,10 @@ each_two w i h =
 pub refusal-twos : (w : ℕ) → 0 < w → w ≤ 63 → refusal (replicate w 2) ≡ None
 refusal-twos w some few =
     let long : length (replicate {A = ℕ} w 2) ≡ w = length-replicate w 2 in
-    refusal_is_none (replicate w 2) (omega arith) (omega arith) (position_from_each (replicate w 2) (each_two w))
-    (omega (arith, sum_by-replicate (λ (x : ℕ). x) w 2)) (rw (product-replicate w) (pow-le-pow_right (omega arith) few))
+    let past : IsPastSum (replicate w 2) = record {
+      some = omega arith;
+      few = omega arith;
+      good = position_from_each (replicate w 2) (each_two w);
+      narrow = omega (arith, sum_by-replicate (λ (x : ℕ). x) w 2);
+    } in
+    refusal_is_none (replicate w 2) past (rw (product-replicate w) (pow-le-pow_right (omega arith) few))

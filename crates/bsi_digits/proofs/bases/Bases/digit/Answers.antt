@@ -1,6 +1,6 @@
 use Rattle.std.proofs.Common.{◌≡◌, ◌+◌, ◌*◌, ◌/◌, ◌<◌, slice_index, ap, ◌∙◌, arith}
 use Rattle.bsi_digits.specs.Digits.{digit_of}
-use Rattle.bsi_digits.proofs.CallerLemmas.{high_parts, digit_below}
+use Rattle.bsi_digits.proofs.Parts.{high_parts, digit_below}
 use Rattle.bsi_digits.proofs.bases.Bases.digit.Goals as goal
 use Rattle.bsi_digits.proofs.bases.Bases.digit.Goals.{After-from}
 

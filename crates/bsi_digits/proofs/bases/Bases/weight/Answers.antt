@@ -1,6 +1,6 @@
 use Rattle.std.proofs.Common.{◌≡◌, ◌≤◌, ◌∙◌, arith}
 use Rattle.bsi_digits.specs.Digits.{weight, size_of}
-use Rattle.bsi_digits.proofs.CallerLemmas.{weight_pos, weight_le_size}
+use Rattle.bsi_digits.proofs.Parts.{weight_pos, weight_le_size}
 use Rattle.bsi_digits.proofs.bases.Bases.weight.Goals as goal
 
 -- a weight is a product of bases, and the size is the product of all
