@@ -4,5 +4,6 @@ mod Parts
 mod DigitLists
 mod Comparing
 mod Refusals
+mod Twos
 mod KeptWeights
 mod Reciprocals

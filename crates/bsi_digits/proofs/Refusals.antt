@@ -1,19 +1,16 @@
 -- Which lists of bases are refused.
-use Rattle.std.proofs.Common.{◌≡◌, ℕ, ◌-◌, ◌^◌, ◌<◌, ◌≤◌, Bool, true, false, cond, nat_lt, nat_eq, List, length, get_or, reverse, replicate, sum, Option, Some, None, position, refl, sym, ◌∙◌, subst, arith, ◌⊎◌, inl, inr, if◌then◌else◌}
+use Rattle.std.proofs.Common.{◌≡◌, ℕ, ◌-◌, ◌^◌, ◌<◌, ◌≤◌, Bool, true, false, cond, nat_lt, nat_eq, List, length, get_or, reverse, sum, Option, Some, None, position, refl, sym, ◌∙◌, subst, arith, ◌⊎◌, inl, inr, if◌then◌else◌}
 use Rattle.std.specs.List.{position_or_len}
 use Rattle.std.proofs.lemmas.Bool.{cases_lt}
 use Rattle.std.proofs.lemmas.Bool.Decides.{nat_tests}
-use Rattle.std.proofs.lemmas.Grind.{same_number_lists}
-use Rattle.std.proofs.lemmas.List.{get_or-reverse, length-reverse, reverse-reverse, length-replicate, get_or-replicate}
-use Rattle.std.proofs.lemmas.List.Folds.{sum_by-replicate}
+use Rattle.std.proofs.lemmas.List.{get_or-reverse, length-reverse, reverse-reverse}
 use Rattle.std.proofs.lemmas.List.Sums.{fails_before_first, position_or_len_is}
 use Rattle.std.proofs.lemmas.List.Sorted.{IsPermutation-reverse, sum_by-IsPermutation}
-use Rattle.std.proofs.Math.Nat.{pow-le-pow_right}
 use Rattle.bsi_digits.specs.declared.bases_error.BasesError.{BasesError}
 use Rattle.bsi_digits.specs.declared.bases_error.BasesError.TheVariants.{Empty, TooMany, TooWide, ProductTooLarge}
 use Rattle.bsi_digits.specs.Digits.{product, IsBase, IsBaseList}
 use Rattle.bsi_digits.specs.Refusal.{refusal, refusal_by_place, is_bad_base}
-use Rattle.bsi_digits.proofs.Products.{product-reverse, product-replicate}
+use Rattle.bsi_digits.proofs.Products.{product-reverse}
 
 good_base : (b : ℕ) → is_bad_base b ≡ false → IsBase b
 good_base b good = (grind (arith, nat_tests), grind (arith, nat_tests))
@@ -94,7 +91,7 @@ base_list_reversed bs valid =
       small = omega (arith, valid.small);
     }
 
-refusal_from_base_list_as_written : (bs : List ℕ) → IsBaseList bs → refusal bs ≡ None
+pub refusal_from_base_list_as_written : (bs : List ℕ) → IsBaseList bs → refusal bs ≡ None
 refusal_from_base_list_as_written bs valid =
     let past : IsPastSum bs = record {
       some = valid.some;
@@ -140,30 +137,3 @@ base_list_as_written bs none =
 
 pub IsBaseList-from_refusal : (bs : List ℕ) → refusal bs ≡ None → IsBaseList (reverse bs)
 IsBaseList-from_refusal bs none = base_list_reversed bs (base_list_as_written bs none)
-
--- bases of 2
-pub reverse-replicate : (n x : ℕ) → reverse (replicate n x) ≡ replicate n x
-reverse-replicate n x =
-    let long : length (reverse (replicate n x)) ≡ n = length-reverse (replicate n x) ∙ length-replicate n x in
-    let all = λ (i : ℕ) (h : i < length (reverse (replicate n x))).
-    get_or-reverse (replicate n x) i 0 (omega (arith, length-replicate n x)) ∙
-    get_or-replicate n (length (replicate n x) - 1 - i) x 0 (omega (arith, length-replicate n x)) ∙
-    sym (get_or-replicate n i x 0 (omega arith)) in
-    same_number_lists (reverse (replicate n x)) (replicate n x) (length-reverse (replicate n x)) all
-
-each_two : (w i : ℕ) → i < length (replicate {A = ℕ} w 2) → IsBase (get_or (replicate w 2) i 0)
-each_two w i h =
-    let long : length (replicate {A = ℕ} w 2) ≡ w = length-replicate w 2 in
-    let two : get_or (replicate {A = ℕ} w 2) i 0 ≡ 2 = get_or-replicate w i 2 0 (omega arith) in
-    (omega arith, omega arith)
-
-pub refusal-twos : (w : ℕ) → 0 < w → w ≤ 63 → refusal (replicate w 2) ≡ None
-refusal-twos w some few =
-    let long : length (replicate {A = ℕ} w 2) ≡ w = length-replicate w 2 in
-    let past : IsPastSum (replicate w 2) = record {
-      some = omega arith;
-      few = omega arith;
-      good = position_from_each (replicate w 2) (each_two w);
-      narrow = omega (arith, sum_by-replicate (λ (x : ℕ). x) w 2);
-    } in
-    refusal_is_none (replicate w 2) past (rw (product-replicate w) (pow-le-pow_right (omega arith) few))

@@ -23,6 +23,6 @@ refusal bs =
     else refusal_by_place (position is_bad_base bs) bs
 
 -- the refusal that applies or, where none does, want of memory
-abbrev pub IsRefusal : Option BasesError → BasesError → Type 0
-IsRefusal (Some first) e = e ≡ first
-IsRefusal None e = e ≡ NoMemory
+abbrev pub IsRefusalOrNoMemory : Option BasesError → BasesError → Type 0
+IsRefusalOrNoMemory (Some first) e = e ≡ first
+IsRefusalOrNoMemory None e = e ≡ NoMemory

@@ -2,7 +2,7 @@
 ghost use Rattle.std.specs.Prelude.{◌≡◌, ℕ, ◌^◌, ◌<◌, ◌≤◌, ◌↔◌, length, slice_index, position, sum, reverse, replicate, EachIndex, IsNone, IfNone, IfOk, IfErr, IfSome, IsErrOf};
 ghost use Rattle.std.specs.Result.{result_err};
 ghost use Rattle.bsi_digits.specs.Digits.{product, size_of, weight, digit_of, IsBase, IsBaseList};
-ghost use Rattle.bsi_digits.specs.Refusal.{refusal, is_bad_base, IsRefusal};
+ghost use Rattle.bsi_digits.specs.Refusal.{refusal, is_bad_base, IsRefusalOrNoMemory};
 ghost use Rattle.bsi_digits.specs.Weights.{HoldsWeights};
 
 use crate::divisor::Divisor;
@@ -69,7 +69,7 @@ impl Bases {
     pub fn twos(alloc: Global, w: u32) -> Result<Bases, BasesError>
         ensures empty { IsErrOf result BasesError.Empty ↔ (w ≡ 0) }
         ensures too_many { IsErrOf result BasesError.TooMany ↔ (63 < w) }
-        ensures refused { IfErr result (λ e. IsRefusal (refusal (replicate w 2)) e) }
+        ensures refused { IfErr result (λ e. IsRefusalOrNoMemory (refusal (replicate w 2)) e) }
         ensures ok { IfOk result (λ b. b ≡ replicate w 2) }
     {
         if w == 0 {

@@ -1,6 +1,6 @@
 use Rattle.std.proofs.Common.{◌≡◌, ℕ, List, reverse, replicate, IfOk, None, ap, subst, ◌∙◌, arith, rules}
 use Rattle.bsi_digits.specs.Refusal.{refusal}
-use Rattle.bsi_digits.proofs.Refusals.{refusal-twos, reverse-replicate}
+use Rattle.bsi_digits.proofs.Twos.{refusal-twos, reverse-replicate}
 use Rattle.bsi_digits.proofs.bases.Bases.twos.Goals as goal
 
 -- these many bases of 2 are in range, so only memory can be wanting
