@@ -7,7 +7,8 @@ ghost use Rattle.bsi_digits.specs.Refusal.{refusal};
 
 /// A value below the size has exactly one list of digits.
 pub fn digits_are_unique()
-    ensures exist { (bs : List ℕ) (v : ℕ) → IsBaseList bs → v < size_of bs → IsDigits bs v (digits_of bs v) }
+    ensures exist { (bs : List ℕ) (v : ℕ) → IsBaseList bs → v < size_of bs →
+        IsDigits bs v (digits_of bs v) }
     ensures unique { (bs ds : List ℕ) (v : ℕ) → IsDigits bs v ds → ds ≡ digits_of bs v }
 {}
 
