@@ -260,3 +260,78 @@ fn a_refused_growth_changes_nothing(rt: HostRuntime) -> Result<(), Fail> {
     assert_eq!(rt; count_and_not(&all, &same), Some(86));
     Ok(())
 }
+
+// Five words: four side by side, and one behind them.
+const A: [u64; 5] = [0b1100, 0, u64::MAX, 0xf0f0, 7];
+
+const B: [u64; 5] = [0b1010, 1, 1 << 63, 0xff00, u64::MAX];
+
+const C: [u64; 5] = [0b0110, 2, 3, 0x00ff, 1];
+
+#[derive(Clone, Copy, Debug)]
+enum Kernel {
+    And,
+    Or,
+    Xor,
+    AndNot,
+    OrNot,
+    Not,
+    AndOr,
+    AndAndNot,
+}
+
+impl Kernel {
+    fn run(self) -> [u64; 5] {
+        let mut a = A;
+        match self {
+            Kernel::And => lanes::and(&mut a, &B),
+            Kernel::Or => lanes::or(&mut a, &B),
+            Kernel::Xor => lanes::xor(&mut a, &B),
+            Kernel::AndNot => lanes::and_not(&mut a, &B),
+            Kernel::OrNot => lanes::or_not(&mut a, &B),
+            Kernel::Not => lanes::not(&mut a),
+            Kernel::AndOr => lanes::and_or(&mut a, &B, &C),
+            Kernel::AndAndNot => lanes::and_and_not(&mut a, &B, &C),
+        }
+        a
+    }
+
+    fn of_words(self, a: u64, b: u64, c: u64) -> u64 {
+        match self {
+            Kernel::And => a & b,
+            Kernel::Or => a | b,
+            Kernel::Xor => a ^ b,
+            Kernel::AndNot => a & !b,
+            Kernel::OrNot => a | !b,
+            Kernel::Not => !a,
+            Kernel::AndOr => a & b | c,
+            Kernel::AndAndNot => a & b & !c,
+        }
+    }
+}
+
+#[test]
+fn kernels_on_five_words(rt: HostRuntime) {
+    for kernel in [
+        Kernel::And,
+        Kernel::Or,
+        Kernel::Xor,
+        Kernel::AndNot,
+        Kernel::OrNot,
+        Kernel::Not,
+        Kernel::AndOr,
+        Kernel::AndAndNot,
+    ] {
+        let made = kernel.run();
+        for i in 0..5 {
+            assert_eq!(rt;
+                made[i],
+                kernel.of_words(A[i], B[i], C[i]),
+                "{kernel:?} at {i}"
+            );
+        }
+    }
+    assert_eq!(rt; lanes::count(&A), 77);
+    assert_eq!(rt; lanes::count_and(&A, &B), 9);
+    assert_eq!(rt; lanes::count_and_not(&A, &B), 68);
+}

@@ -1,5 +1,5 @@
 use Rattle.std.proofs.Common.{◌*◌, ◌+◌, arith}
-use Rattle.bsi_bits.proofs.Filling.{filled_block, filled_all}
+use Rattle.bsi_bits.proofs.Filling.{filled_block, filled_pairs}
 use Rattle.bsi_bits.proofs.lanes.combine.Goals as goal
 
 pub fours-preserved : goal.fours-preserved
@@ -8,4 +8,4 @@ fours-preserved g c =
 
 -- no word is left
 pub returns : goal.returns
-returns g c = filled_all g.O.Operation.word_of c.rest.i c.args.a.now c.args.b.now c.rest.a c.requires c.rest.invariant (omega arith)
+returns g c = filled_pairs g.O.Operation.word_of c.rest.i c.args.a.now c.args.b.now c.rest.a c.requires c.rest.invariant (omega arith)
