@@ -4,4 +4,4 @@ mod Digits
 mod Fields
 mod Queue
 mod Slicing
-mod Writing
+mod Writes

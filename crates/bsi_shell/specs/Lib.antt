@@ -4,3 +4,4 @@ pub mod Number
 pub mod Records
 pub mod Shown
 pub mod Slices
+pub mod Writing

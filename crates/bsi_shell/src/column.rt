@@ -209,7 +209,7 @@ fn mark_above(slices: &[Bits], n: u64, above: &mut Bits)
     requires clear { above.old.bits ≡ replicate (length above.old.bits) false }
     ensures { above.new.bits ≡ map (is_above slices.now n (length slices.now)) (range_with_len 0 (length above.old.bits)) }
 {
-    'slices: for place in 0..slices.len() {
+    'places: for place in 0..slices.len() {
         if test_place(n, place) {
             above.and_with(&slices[place]);
         } else {

@@ -1,6 +1,7 @@
 //! A script: records from a reader, and one line for each to a writer.
 ghost use Rattle.std.specs.Prelude.{◌≡◌, take, ℕ, OnOk, OnErr, IfErr};
 ghost use Rattle.std.specs.Io.KnownBytes.{Appends};
+ghost use Rattle.bsi_shell.specs.Writing.{OnlyAppends};
 
 use crate::answers::write_answer;
 use crate::session::Session;
@@ -34,7 +35,9 @@ pub fn run_script<R: Read + Drop, W: Write>(
     alloc: Global,
     reader: R,
     writer: &mut W,
-) -> Result<(), ScriptFault> {
+) -> Result<(), ScriptFault>
+    ensures { OnlyAppends (W.contents writer.old) (W.contents writer.new) }
+{
     let mut input = ReaderBuilder::new()
         .has_headers(false)
         .flexible(true)
@@ -52,7 +55,9 @@ fn serve<R: Read + Drop, W: Write>(
     record: &mut ByteRecord,
     line: &mut Vec<u8>,
     writer: &mut W,
-) -> Result<(), ScriptFault> {
+) -> Result<(), ScriptFault>
+    ensures { OnlyAppends (W.contents writer.old) (W.contents writer.new) }
+{
     'records: for _ in 0..MAX_RECORDS {
         if !read_next(input, record)? {
             return Ok(());

@@ -72,9 +72,9 @@ fn lines_of(alloc: Global, text: &[u8]) -> Result<Vec<u8>, AllocError> {
 }
 
 // The words of a command line.
-fn words_of(alloc: Global, words: &[&str]) -> Result<Vec<String>, AllocError> {
+fn words_of(alloc: Global, line: &str) -> Result<Vec<String>, AllocError> {
     let mut list = Vec::new(alloc);
-    for word in words {
+    for word in line.split_whitespace() {
         list.push(String::from_str(alloc, word)?)?;
     }
     Ok(list)
@@ -234,27 +234,29 @@ fn comparisons_hold_at_every_constant(rt: HostRuntime) -> Result<(), Fail> {
 
 #[test]
 fn words_that_are_no_command_get_the_usage_line(rt: HostRuntime) -> Result<(), Fail> {
-    for words in [
-        [].as_slice(),
-        ["--help"].as_slice(),
-        ["-h"].as_slice(),
-        ["help"].as_slice(),
-        ["files"].as_slice(),
-        ["files", "--schema", "a", "--asks", "b", "c"].as_slice(),
-        ["other"].as_slice(),
-        ["script", "x"].as_slice(),
-        ["script", "--help"].as_slice(),
-        ["Script"].as_slice(),
+    for line in [
+        "",
+        "--help",
+        "-h",
+        "help",
+        "--version",
+        "files",
+        "files --schema a --asks b c",
+        "other",
+        "Script",
+        "script x",
+        "script --help",
+        "script script",
     ] {
-        let list = words_of(rt.alloc(), words)?;
+        let list = words_of(rt.alloc(), line)?;
         let mut output = Vec::new(rt.alloc());
         let mut faults = Vec::with_capacity(rt.alloc(), 128)?;
         let status = run_words(&rt, list, b"begin\n".as_slice(), &mut output, &mut faults);
         if status == 1 && faults.as_slice() == b"bsi: no memory\n".as_slice() {
             continue;
         }
-        assert_eq!(rt; status, 2, "at {words:?}");
-        assert_eq!(rt; faults.as_slice(), USAGE.as_bytes(), "at {words:?}");
+        assert_eq!(rt; status, 2, "at {line:?}");
+        assert_eq!(rt; faults.as_slice(), USAGE.as_bytes(), "at {line:?}");
         assert_eq!(rt; output.len(), 0);
     }
     Ok(())
@@ -262,7 +264,7 @@ fn words_that_are_no_command_get_the_usage_line(rt: HostRuntime) -> Result<(), F
 
 #[test]
 fn the_script_word_runs_the_script(rt: HostRuntime) -> Result<(), Fail> {
-    let list = words_of(rt.alloc(), ["script"].as_slice())?;
+    let list = words_of(rt.alloc(), "script")?;
     let mut output = Vec::with_capacity(rt.alloc(), 128)?;
     let mut faults = Vec::with_capacity(rt.alloc(), 128)?;
     let status = run_words(&rt, list, b"begin\n".as_slice(), &mut output, &mut faults);
@@ -284,7 +286,7 @@ fn each_fault_has_its_text_and_status_one(rt: HostRuntime) -> Result<(), Fail> {
         (false, 6, false, "bad\nba", "bsi: write failed\n"),
         (false, 99, true, "bad\nbad\nbad\n", "bsi: write failed\n"),
     ] {
-        let list = words_of(rt.alloc(), ["script"].as_slice())?;
+        let list = words_of(rt.alloc(), "script")?;
         let taken = Vec::with_capacity(rt.alloc(), 128)?;
         let mut output = NarrowWriter { taken, room, fails };
         let mut faults = Vec::with_capacity(rt.alloc(), 128)?;

@@ -30,7 +30,11 @@ pub fn run_words<R: AllocGlobal, I: Read + Drop, O: Write, F: Write>(
     output: &mut O,
     faults: &mut F,
 ) -> u8
-    ensures { result ≤ 2 }
+    ensures status { result ≤ 2 }
+
+    // A run with no fault says nothing, and words that are no command run nothing.
+    ensures quiet { result ≡ 0 → F.contents faults.new ≡ F.contents faults.old }
+    ensures wrong { result ≡ 2 → O.contents output.new ≡ O.contents output.old }
 {
     match read_words(rt.alloc(), &words) {
         Request::Script => match run_to_end(rt.alloc(), input, output) {

@@ -1,5 +1,5 @@
 use Rattle.std.proofs.Common.{arith}
-use Rattle.bsi_shell.proofs.Writing.{written_more}
+use Rattle.bsi_shell.proofs.Writes.{written_more}
 use Rattle.bsi_shell.proofs.script.write_bytes.Goals as goal
 
 pub bytes-preserved : goal.bytes-preserved

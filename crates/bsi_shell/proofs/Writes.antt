@@ -1,9 +1,10 @@
 -- Bytes that go to a writer part by part.
-use Rattle.std.proofs.Common.{◌≡◌, ℕ, ◌+◌, ◌-◌, List, length, take, drop, Option, arith, length-drop}
+use Rattle.std.proofs.Common.{◌≡◌, ℕ, ◌+◌, ◌-◌, List, ◌++◌, length, take, drop, Option, arith, length-drop}
 use Rattle.std.proofs.Math.Seq.{take-add}
 use Rattle.std.proofs.lemmas.List.{take_all}
 use Rattle.std.specs.Io.KnownBytes.{Appends}
 use Rattle.csv.proofs.WriteFacts.{appends-more}
+use Rattle.bsi_shell.specs.Writing.{OnlyAppends}
 
 -- some more bytes, behind the first ones
 pub written_more : (first middle last : Option (List ℕ)) (bytes : List ℕ) (at more : ℕ)
@@ -13,3 +14,7 @@ written_more first middle last bytes at more before next =
     let rest : take (length bytes - at) (drop at bytes) ≡ drop at bytes = take_all _ _ (omega (arith, length-drop at bytes)) in
     let part : Appends middle last (take more (drop at bytes)) = rw rest at next in
     rw (take-add at more bytes) (appends-more first middle last (take at bytes) (take more (drop at bytes)) before part)
+
+-- bytes behind those that were put before
+pub appends_after : (first middle last : Option (List ℕ)) (more : List ℕ) → OnlyAppends first middle → Appends middle last more → OnlyAppends first last
+appends_after first middle last more before next = (before.0 ++ more, appends-more first middle last before.0 more before.1 next)
