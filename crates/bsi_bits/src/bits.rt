@@ -86,10 +86,11 @@ impl Bits {
         })
     }
 
-    /// The number of bits.
+    /// The number of bits, at most 2^32. At that length there is no room for one more.
     pub fn len(&self) -> u64
         ensures len { result ≡ length self.now.bits }
         ensures within { result ≤ 2 ^ 32 }
+        ensures full { IsTrue self.now.room → length self.now.bits < 2 ^ 32 }
     {
         self.len
     }
