@@ -1,2 +1,3 @@
 pub mod Component
 pub mod Rows
+pub mod Totals
