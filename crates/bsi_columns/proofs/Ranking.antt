@@ -10,6 +10,7 @@ use Rattle.std.proofs.lemmas.Bool.{cases_Bool}
 use Rattle.std.proofs.lemmas.Bool.Decides.{nat_tests}
 use Rattle.std.proofs.lemmas.List.Sums.{sum_by-cons, get_or-le-sum_by}
 use Rattle.std.proofs.lemmas.List.Elements.{All-from_get_or}
+use Rattle.bsi_columns.specs.Component.{count_where}
 use Rattle.bsi_columns.specs.Rows.{number_or_zero}
 use Rattle.bsi_columns.specs.Totals.{numbers_at, IsLeast, IsGreatest, IsLowerMedian}
 
@@ -153,13 +154,9 @@ narrowed_same p q same (f ∷ found) [] = refl
 narrowed_same p q same (f ∷ found) (e ∷ entries) =
     ap₂ ◌∷◌ (ap (λ b. f && (is_some e && b)) (same (number_or_zero e))) (narrowed_same p q same found entries)
 
--- how many rows of a list have a digit that passes
-abbrev pub number_where : (ℕ → Bool) → List Bool → List ℕ → ℕ
-number_where p chosen digits = count_by (λ b. b) (zip2 (λ f v. f && p v) chosen digits)
-
 -- a test that one of two tests passes, and never both
 pub where_split : (p q r : ℕ → Bool) → ((n : ℕ) → cond (r n) 1 0 ≡ cond (p n) 1 0 + cond (q n) 1 0) → (chosen : List Bool) (digits : List ℕ)
-    → number_where r chosen digits ≡ number_where p chosen digits + number_where q chosen digits
+    → count_where r chosen digits ≡ count_where p chosen digits + count_where q chosen digits
 where_split p q r split [] digits = refl
 where_split p q r split (f ∷ chosen) [] = refl
 where_split p q r split (false ∷ chosen) (v ∷ digits) =
@@ -182,7 +179,7 @@ where_split p q r split (true ∷ chosen) (v ∷ digits) =
       count_cons (λ b. b) (r v) (zip2 (λ f v. f && r v) chosen digits),
     )
 
-pub where_same : (p q : ℕ → Bool) → ((n : ℕ) → p n ≡ q n) → (chosen : List Bool) (digits : List ℕ) → number_where p chosen digits ≡ number_where q chosen digits
+pub where_same : (p q : ℕ → Bool) → ((n : ℕ) → p n ≡ q n) → (chosen : List Bool) (digits : List ℕ) → count_where p chosen digits ≡ count_where q chosen digits
 where_same p q same [] digits = refl
 where_same p q same (f ∷ chosen) [] = refl
 where_same p q same (f ∷ chosen) (v ∷ digits) =
@@ -192,16 +189,16 @@ where_same p q same (f ∷ chosen) (v ∷ digits) =
 
 -- the rows with a digit below d, and those with d, are those with a digit of at most d
 pub where_at_most : (d : ℕ) (chosen : List Bool) (digits : List ℕ)
-    → number_where (λ v. nat_le v d) chosen digits ≡ number_where (λ v. nat_lt v d) chosen digits + number_where (λ v. nat_eq v d) chosen digits
+    → count_where (λ v. nat_le v d) chosen digits ≡ count_where (λ v. nat_lt v d) chosen digits + count_where (λ v. nat_eq v d) chosen digits
 where_at_most d = where_split (λ v. nat_lt v d) (λ v. nat_eq v d) (λ v. nat_le v d) (λ v. below_or_same v d)
 
 below_next : (v d : ℕ) → nat_lt v (d + 1) ≡ nat_le v d
 below_next v d = grind (arith, nat_tests)
 
-pub where_below_next : (d : ℕ) (chosen : List Bool) (digits : List ℕ) → number_where (λ v. nat_lt v (d + 1)) chosen digits ≡ number_where (λ v. nat_le v d) chosen digits
+pub where_below_next : (d : ℕ) (chosen : List Bool) (digits : List ℕ) → count_where (λ v. nat_lt v (d + 1)) chosen digits ≡ count_where (λ v. nat_le v d) chosen digits
 where_below_next d = where_same (λ v. nat_lt v (d + 1)) (λ v. nat_le v d) (λ v. below_next v d)
 
-pub where_below_zero : (chosen : List Bool) (digits : List ℕ) → number_where (λ v. nat_lt v 0) chosen digits ≡ 0
+pub where_below_zero : (chosen : List Bool) (digits : List ℕ) → count_where (λ v. nat_lt v 0) chosen digits ≡ 0
 where_below_zero [] digits = refl
 where_below_zero (f ∷ chosen) [] = refl
 where_below_zero (f ∷ chosen) (v ∷ digits) =
@@ -210,7 +207,7 @@ where_below_zero (f ∷ chosen) (v ∷ digits) =
 
 -- where each digit is at most d, all rows are counted
 pub where_all : (d : ℕ) (chosen : List Bool) (digits : List ℕ) → length chosen ≡ length digits → ((k : ℕ) → k < length digits → get_or digits k 0 ≤ d)
-    → number_where (λ v. nat_le v d) chosen digits ≡ count_by (λ b. b) chosen
+    → count_where (λ v. nat_le v d) chosen digits ≡ count_by (λ b. b) chosen
 where_all d [] digits same each = refl
 where_all d (f ∷ chosen) [] same each = absurd (omega arith)
 where_all d (f ∷ chosen) (v ∷ digits) same each =
@@ -253,17 +250,17 @@ module _ (weight base : ℕ) (found : List Bool) (entries : List (Option ℕ)) (
   above n = div-div-eq-div-mul n weight base
 
   -- how many of the rows that are left have a digit that passes
-  pub number_where_digit : (t : ℕ → Bool) → number_where t chosen (map (λ e. digit (number_or_zero e)) entries)
+  pub count_where_digit : (t : ℕ → Bool) → count_where t chosen (map (λ e. digit (number_or_zero e)) entries)
       ≡ count_by (λ n. nat_eq (n / (weight * base)) number && t (digit n)) (numbers_at found entries)
-  number_where_digit t =
-      ap (λ rows. number_where t rows (map (λ e. digit (number_or_zero e)) entries)) state.chosen_is
+  count_where_digit t =
+      ap (λ rows. count_where t rows (map (λ e. digit (number_or_zero e)) entries)) state.chosen_is
       ∙ ap (count_by (λ b. b)) (narrowed_more (λ n. nat_eq (n / (weight * base)) number) t (λ n. nat_eq (n / (weight * base)) number && t (digit n)) digit (λ n. refl) found entries)
       ∙ narrowed_count (λ n. nat_eq (n / (weight * base)) number && t (digit n)) found entries
 
   -- the rows whose digit is that of the rank
   pub narrowed_step : (d rank' : ℕ) (chosen' : List Bool) → d < base
       → chosen' ≡ zip2 (λ f v. f && nat_eq v d) chosen (map (λ e. digit (number_or_zero e)) entries)
-      → rank ≡ number_where (λ v. nat_lt v d) chosen (map (λ e. digit (number_or_zero e)) entries) + rank'
+      → rank ≡ count_where (λ v. nat_lt v d) chosen (map (λ e. digit (number_or_zero e)) entries) + rank'
       → rank' < count_by (λ b. b) chosen'
       → IsNarrowed weight found entries k (number * base + d) rank' chosen'
   narrowed_step d rank' chosen' below chosen_is rank_is there =
@@ -278,7 +275,7 @@ module _ (weight base : ℕ) (found : List Bool) (entries : List (Option ℕ)) (
         chosen_is = chosen_is
             ∙ ap (λ rows. zip2 (λ f v. f && nat_eq v d) rows (map (λ e. digit (number_or_zero e)) entries)) state.chosen_is
             ∙ narrowed_more (λ n. nat_eq (n / (weight * base)) number) (λ v. nat_eq v d) (λ n. nat_eq (n / weight) (number * base + d)) digit one found entries;
-        rank_is = omega (arith, state.rank_is, rank_is, number_where_digit (λ v. nat_lt v d), split);
+        rank_is = omega (arith, state.rank_is, rank_is, count_where_digit (λ v. nat_lt v d), split);
         there = there;
       }
 

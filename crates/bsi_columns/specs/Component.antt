@@ -1,6 +1,11 @@
 -- The digits of a component, and how they decide a comparison.
-use Rattle.std.specs.Prelude.{ℕ, Bool, ◌&&◌, ◌||◌, nat_lt, nat_eq}
+use Rattle.std.specs.Prelude.{ℕ, Bool, List, ◌&&◌, ◌||◌, count_by, nat_lt, nat_eq}
+use Rattle.std.specs.Simd.Lanes.{zip2}
 
 -- a number is at most a constant, by its digit and the constant's, where `low` says so of the digits below
 abbrev pub at_most_from : Bool → ℕ → ℕ → Bool
 at_most_from low digit constant = nat_lt digit constant || nat_eq digit constant && low
+
+-- how many rows of a found set have a digit that passes
+abbrev pub count_where : (ℕ → Bool) → List Bool → List ℕ → ℕ
+count_where p found digits = count_by (λ b. b) (zip2 (λ f digit. f && p digit) found digits)

@@ -4,7 +4,7 @@ ghost use Rattle.std.specs.Prelude.{◌≡◌, ℕ, ◌+◌, ◌*◌, ◌/◌, �
 ghost use Rattle.std.specs.List.{items_where_true};
 ghost use Rattle.std.specs.Bool.{OnTrue, OnFalse};
 ghost use Rattle.bsi_bits.specs.Packed.{bit_of};
-ghost use Rattle.bsi_columns.specs.Component.{at_most_from};
+ghost use Rattle.bsi_columns.specs.Component.{at_most_from, count_where};
 
 use crate::NoMemory;
 use bsi_bits::Bits;
@@ -72,6 +72,19 @@ pub trait Encoding: Drop {
     fn digit_sum(&self, found: &Bits) -> u128
         requires { length (digits self.now) ≡ length found.now.bits }
         ensures { result ≡ sum (items_where_true found.now.bits (digits self.now)) };
+
+    /// How many rows of a found set have a digit of at most `d`. What `scratch`, a vector of as many bits, is left with is
+    /// left open.
+    fn count_le(&self, d: u32, found: &Bits, scratch: &mut Bits) -> u64
+        requires below { d < base_of self.now }
+        requires same { length (digits self.now) ≡ length found.now.bits }
+        requires scratch { length (digits self.now) ≡ length scratch.old.bits }
+        ensures count { result ≡ count_where (λ v. nat_le v d) found.now.bits (digits self.now) }
+        ensures scratch { length scratch.new.bits ≡ length scratch.old.bits }
+    {
+        self.le_into(d, scratch);
+        found.count_and(scratch)
+    }
 
     /// A second component of the same digits.
     fn copy(&self) -> Result<Self, NoMemory>

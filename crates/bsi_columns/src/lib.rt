@@ -2,6 +2,7 @@
 //! slices, and every comparison over them.
 #![tactic(auto)]
 
+mod choosing;
 mod column;
 mod encoding;
 
