@@ -1,2 +1,4 @@
 pub mod Component
+pub mod Decomposed
 pub mod Rows
+pub mod Tests

@@ -3,8 +3,10 @@
 #![tactic(auto)]
 
 mod column;
+mod decomposed;
 mod encoding;
 
 pub use column::{Column, Op};
+pub use decomposed::Decomposed;
 pub use encoding::Encoding;
 pub use std::alloc::AllocError as NoMemory;

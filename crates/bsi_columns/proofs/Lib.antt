@@ -1,0 +1,3 @@
+pub mod EntriesFrom
+pub mod ComponentLists
+pub mod Answering
