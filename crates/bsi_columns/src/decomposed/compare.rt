@@ -106,10 +106,7 @@ impl<E: Encoding> Decomposed<E> {
     {
         let mut part = found.copy()?;
         self.narrow_vectors(test, &mut part, &mut found);
-        if !test.wanted {
-            found.flip();
-        }
-        found.and_with(&self.present);
+        cut(&mut found, test.wanted, &self.present);
         Ok(found)
     }
 
@@ -120,9 +117,10 @@ impl<E: Encoding> Decomposed<E> {
         requires same { length self.now.entries ≡ length found.old.bits }
         ensures { found.new.bits ≡ map (λ e. holds test.relation (number_or_zero e) test.constant) self.now.entries }
     {
+        let places = self.bases.len();
         let lowest = self.bases.digit(test.constant, 0);
         first_into(&self.components[0], test.relation, lowest, found);
-        for i in 1..self.bases.len() {
+        for i in 1..places {
             let digit = self.bases.digit(test.constant, i);
             narrow_into(&self.components[i as usize], test.relation, digit, part, found);
         }
@@ -163,4 +161,15 @@ fn narrow_into<E: Encoding>(component: &E, relation: Relation, digit: u32, part:
             }
         }
     }
+}
+
+/// Keeps the rows that are not nulls of those that pass a test or, as wanted, of those that fail it.
+fn cut(found: &mut Bits, wanted: bool, present: &Bits)
+    requires { length found.old.bits ≡ length present.now.bits }
+    ensures { found.new.bits ≡ zip2 (λ answer there. as_wanted wanted answer && there) found.old.bits present.now.bits }
+{
+    if !wanted {
+        found.flip();
+    }
+    found.and_with(present);
 }

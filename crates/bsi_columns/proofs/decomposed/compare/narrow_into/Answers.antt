@@ -1,4 +1,4 @@
-use Rattle.std.proofs.Common.{◌≡◌, length, map, ap, sym, ◌∙◌, arith}
+use Rattle.std.proofs.Common.{◌≡◌, length, map, ap, ap₂, sym, ◌∙◌, arith}
 use Rattle.std.specs.Prelude.{◌&&◌, ◌||◌}
 use Rattle.std.specs.Simd.Lanes.{zip2}
 use Rattle.std.proofs.lemmas.List.{length-map}
@@ -23,7 +23,11 @@ returns-in-Equal-clause-found g c =
     (c.and_with.ensures.bits ∙ ap (zip2 ◌&&◌ found) c.eq_into.ensures.bits ∙ narrowed_equal found (g.E.Encoding.digits c.args.component.now) c.args.digit)
 
 pub returns-then-digit-gt0-clause-found : goal.returns-then-digit-gt0-clause-found
-returns-then-digit-gt0-clause-found g c = ?
+returns-then-digit-gt0-clause-found g c =
+    let found = c.args.found.now.bits in
+    let ds = g.E.Encoding.digits c.args.component.now in
+    let both = ap₂ (zip2 ◌||◌) (c.and_with-in-AtMost.ensures.bits ∙ ap (zip2 ◌&&◌ found) c.le_into.ensures.bits) c.le_into-then-digit-gt0.ensures.bits in
+    rw c.in-AtMost.is (c.or_with.ensures.bits ∙ both ∙ narrowed_by_two found ds c.args.digit c.if-digit-gt0.true)
 
 pub returns-else-digit-gt0-clause-found : goal.returns-else-digit-gt0-clause-found
 returns-else-digit-gt0-clause-found g c =
