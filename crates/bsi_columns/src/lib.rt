@@ -2,9 +2,13 @@
 //! slices, and every comparison over them.
 #![tactic(auto)]
 
+mod bitmaps;
+mod blocks;
 mod column;
 mod encoding;
+mod range;
 
 pub use column::{Column, Op};
 pub use encoding::Encoding;
+pub use range::RangeComponent;
 pub use std::alloc::AllocError as NoMemory;
