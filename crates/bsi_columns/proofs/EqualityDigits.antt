@@ -19,7 +19,7 @@ past_digit v e below = grind (arith, nat_tests)
 same_digit : (v : ℕ) → (v == v) ≡ true
 same_digit v = grind (arith, nat_tests)
 
-first_digit_most : (base : ℕ) → first_digit base ≤ 1
+pub first_digit_most : (base : ℕ) → first_digit base ≤ 1
 first_digit_most base = grind (arith, nat_tests)
 
 -- the digits of an equality encoded component

@@ -5,3 +5,4 @@ pub mod DigitMaps
 pub mod EqualityDigits
 pub mod RangeDigits
 pub mod RangeReads
+pub mod EqualityReads

@@ -1,5 +1,5 @@
 -- Equality encoding: a bitmap for each digit says which rows have it.
-use Rattle.std.specs.Prelude.{◌≡◌, ℕ, ◌+◌, ◌<◌, ◌≤◌, ◌==◌, List, length, slice_index, if◌then◌else◌}
+use Rattle.std.specs.Prelude.{◌≡◌, ℕ, ◌+◌, ◌<◌, ◌≤◌, ◌==◌, ◌&&◌, Bool, nat_le, nat_lt, List, length, slice_index, if◌then◌else◌}
 use Rattle.bsi_bits.specs.BitList.{BitList}
 use Rattle.bsi_columns.specs.Bitmaps.{IsEncoded, digits_by, first_set}
 
@@ -18,3 +18,7 @@ pub record IsEquality (base : ℕ) (bitmaps : List BitList) (digits : List ℕ) 
   pub most : base ≤ 1024
   pub below : (k : ℕ) → slice_index digits k < base
   pub encoded : IsEncoded (λ j v. v == first_digit base + j) bitmaps digits
+
+-- the digit is from `from` on and below `to`
+abbrev pub is_among : ℕ → ℕ → ℕ → Bool
+is_among from to digit = nat_le from digit && nat_lt digit to

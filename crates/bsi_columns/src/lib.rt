@@ -6,9 +6,11 @@ mod bitmaps;
 mod blocks;
 mod column;
 mod encoding;
+mod equality;
 mod range;
 
 pub use column::{Column, Op};
 pub use encoding::Encoding;
+pub use equality::EqualityComponent;
 pub use range::RangeComponent;
 pub use std::alloc::AllocError as NoMemory;
