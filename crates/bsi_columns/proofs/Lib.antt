@@ -1,3 +1,11 @@
 pub mod EntriesFrom
 pub mod ComponentLists
 pub mod Answering
+pub mod BitmapDigits
+pub mod BitmapGrowth
+pub mod BlockBits
+pub mod DigitMaps
+pub mod EqualityDigits
+pub mod RangeDigits
+pub mod RangeReads
+pub mod EqualityReads

@@ -83,10 +83,8 @@ pub trait Encoding: Drop {
         requires below { d < base_of self.now }
         requires within { at + length block.old ≤ (length (digits self.now) + 63) / 64 }
         ensures kept { OnFalse result (block.new ≡ block.old) }
-        ensures bits {
-            OnTrue result ((p : ℕ) → p < 64 * length block.old → 64 * at + p < length (digits self.now) →
-                bit_of block.new p ≡ (bit_of block.old p && (slice_index (digits self.now) (64 * at + p) == d)))
-        }
+        ensures bits { OnTrue result ((p : ℕ) → p < 64 * length block.old → 64 * at + p < length (digits self.now) →
+            bit_of block.new p ≡ (bit_of block.old p && (slice_index (digits self.now) (64 * at + p) == d))) }
     {
         false
     }
@@ -99,10 +97,8 @@ pub trait Encoding: Drop {
         requires below { d < base_of self.now }
         requires within { at + length block.old ≤ (length (digits self.now) + 63) / 64 }
         ensures kept { OnFalse result (block.new ≡ block.old) }
-        ensures bits {
-            OnTrue result ((p : ℕ) → p < 64 * length block.old → 64 * at + p < length (digits self.now) →
-                bit_of block.new p ≡ at_most_from (bit_of block.old p) (slice_index (digits self.now) (64 * at + p)) d)
-        }
+        ensures bits { OnTrue result ((p : ℕ) → p < 64 * length block.old → 64 * at + p < length (digits self.now) →
+            bit_of block.new p ≡ at_most_from (bit_of block.old p) (slice_index (digits self.now) (64 * at + p)) d) }
     {
         false
     }

@@ -2,11 +2,17 @@
 //! slices, and every comparison over them.
 #![tactic(auto)]
 
+mod bitmaps;
+mod blocks;
 mod column;
 mod decomposed;
 mod encoding;
+mod equality;
+mod range;
 
 pub use column::{Column, Op};
 pub use decomposed::Decomposed;
 pub use encoding::Encoding;
+pub use equality::EqualityComponent;
+pub use range::RangeComponent;
 pub use std::alloc::AllocError as NoMemory;
