@@ -1,2 +1,4 @@
 pub mod Component
 pub mod Rows
+pub mod SliceTests
+pub mod Slices

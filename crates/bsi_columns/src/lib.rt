@@ -4,7 +4,9 @@
 
 mod column;
 mod encoding;
+mod slices;
 
 pub use column::{Column, Op};
 pub use encoding::Encoding;
+pub use slices::Slices;
 pub use std::alloc::AllocError as NoMemory;

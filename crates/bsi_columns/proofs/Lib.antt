@@ -1,0 +1,5 @@
+pub mod Blocks
+mod SliceBlocks
+mod SliceEntries
+mod SliceNumbers
+mod SliceSelections
