@@ -4,4 +4,6 @@ pub mod Decomposed
 pub mod Equality
 pub mod Range
 pub mod Rows
+pub mod SliceTests
+pub mod Slices
 pub mod Tests
