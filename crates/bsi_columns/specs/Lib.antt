@@ -1,3 +1,10 @@
+pub mod Bitmaps
 pub mod Component
+pub mod Decomposed
+pub mod Equality
+pub mod Range
 pub mod Rows
+pub mod SliceTests
+pub mod Slices
+pub mod Tests
 pub mod Totals

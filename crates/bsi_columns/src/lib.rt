@@ -2,10 +2,20 @@
 //! slices, and every comparison over them.
 #![tactic(auto)]
 
+mod bitmaps;
+mod blocks;
 mod choosing;
 mod column;
+mod decomposed;
 mod encoding;
+mod equality;
+mod range;
+mod slices;
 
 pub use column::{Column, Op};
+pub use decomposed::Decomposed;
 pub use encoding::Encoding;
+pub use equality::EqualityComponent;
+pub use range::RangeComponent;
+pub use slices::Slices;
 pub use std::alloc::AllocError as NoMemory;

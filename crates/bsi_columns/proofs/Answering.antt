@@ -1,0 +1,192 @@
+-- What a test says of entries, from what it says of their numbers.
+use Rattle.std.proofs.Common.{◌≡◌, ℕ, zero, suc, ◌+◌, ◌-◌, ◌*◌, ◌%◌, ◌<◌, ◌≤◌, ◌≢◌, Bool, true, false, List, [], ◌∷◌, length, get_or, map, replicate, refl, sym, ap, ap₂, ◌∙◌, arith}
+use Rattle.std.specs.Result.{IfOk}
+use Rattle.std.specs.Prelude.{Result, Option, Some, None, not, is_some, is_none, ◌&&◌, ◌||◌, ◌==◌, nat_eq, nat_lt, nat_le}
+use Rattle.std.specs.Simd.Lanes.{zip2}
+use Rattle.std.specs.Prelude.{All}
+use Rattle.std.proofs.lemmas.Bool.Decides.{nat_tests}
+use Rattle.std.proofs.lemmas.List.Elements.{All-head, All-tail}
+use Rattle.std.proofs.lemmas.Result.{IfOk-weaker}
+use Rattle.std.proofs.lemmas.Simd.{zip2_of_maps}
+use Rattle.bsi_digits.specs.Digits.{size_of, weight, digit_of, IsBaseList}
+use Rattle.bsi_digits.proofs.CallerLemmas.{low_le, low_eq, low_all}
+use Rattle.bsi_bits.proofs.Pairs.{zip2-map_right}
+use Rattle.bsi_columns.specs.declared.decomposed.compare.Relation.{Relation}
+use Rattle.bsi_columns.specs.declared.decomposed.compare.Relation.TheVariants.{Equal, AtMost}
+use Rattle.bsi_columns.specs.Component.{at_most_from}
+use Rattle.bsi_columns.specs.Rows.{number_or_zero}
+use Rattle.bsi_columns.specs.Tests.{holds, holds_from, as_wanted, answers}
+
+-- a row that is not not a null
+pub nulls_are : (es : List (Option ℕ)) → map not (map is_some es) ≡ map is_none es
+nulls_are [] = refl
+nulls_are (None ∷ es) = ap (λ xs. not (is_some {T = ℕ} None) ∷ xs) (nulls_are es)
+nulls_are (Some x ∷ es) = ap (λ xs. not (is_some (Some x)) ∷ xs) (nulls_are es)
+
+-- no row is selected
+pub none_selected : (test : ℕ → Bool) (wanted : Bool) (es : List (Option ℕ)) → ((x : ℕ) → as_wanted wanted (test x) ≡ false)
+    → replicate (length es) false ≡ map (answers test wanted) es
+none_selected test wanted [] never = refl
+none_selected test wanted (None ∷ es) never = ap (λ xs. false ∷ xs) (none_selected test wanted es never)
+none_selected test wanted (Some x ∷ es) never = ap₂ (λ b xs. b ∷ xs) (sym (never x)) (none_selected test wanted es never)
+
+-- every row that is not a null
+pub all_selected : (test : ℕ → Bool) (wanted : Bool) (es : List (Option ℕ)) → ((x : ℕ) → as_wanted wanted (test x) ≡ true)
+    → map is_some es ≡ map (answers test wanted) es
+all_selected test wanted [] always = refl
+all_selected test wanted (None ∷ es) always = ap (λ xs. false ∷ xs) (all_selected test wanted es always)
+all_selected test wanted (Some x ∷ es) always = ap₂ (λ b xs. b ∷ xs) (sym (always x)) (all_selected test wanted es always)
+
+-- pairs by two functions that agree
+pub zip2_alike : {X Y Z : Type 0} (f g : X → Y → Z) → ((x : X) (y : Y) → f x y ≡ g x y) → (xs : List X) (ys : List Y) → zip2 f xs ys ≡ zip2 g xs ys
+zip2_alike f g same [] ys = refl
+zip2_alike f g same (x ∷ xs) [] = refl
+zip2_alike f g same (x ∷ xs) (y ∷ ys) = ap₂ (λ z zs. z ∷ zs) (same x y) (zip2_alike f g same xs ys)
+
+-- pairs of pairs with the second list
+pub zip2_twice : {X Y Z V : Type 0} (f : X → Y → Z) (h : Z → Y → V) (xs : List X) (ys : List Y) → zip2 h (zip2 f xs ys) ys ≡ zip2 (λ x y. h (f x y) y) xs ys
+zip2_twice f h [] ys = refl
+zip2_twice f h (x ∷ xs) [] = refl
+zip2_twice f h (x ∷ xs) (y ∷ ys) = ap (λ zs. h (f x y) y ∷ zs) (zip2_twice f h xs ys)
+
+both_calls : (low : Bool) (v d : ℕ) → 0 < d → ((low && nat_le v d) || nat_le v (d - 1)) ≡ at_most_from low v d
+both_calls low v d some = grind (arith, nat_tests)
+
+one_call : (low : Bool) (v d : ℕ) → d ≤ 0 → (low && nat_le v d) ≡ at_most_from low v d
+one_call low v d none = grind (arith, nat_tests)
+
+module _ (found : List Bool) (ds : List ℕ) (d : ℕ) where
+  -- a digit more of `=`
+  pub narrowed_equal : zip2 ◌&&◌ found (map (λ v. v == d) ds) ≡ zip2 (λ low v. holds_from Equal low v d) found ds
+  narrowed_equal = zip2-map_right ◌&&◌ (λ (v : ℕ). v == d) found ds
+
+  -- a digit more of `<=`, by one call or by two
+  pub narrowed_by_one : d ≤ 0 → zip2 ◌&&◌ found (map (λ v. nat_le v d) ds) ≡ zip2 (λ low v. holds_from AtMost low v d) found ds
+  narrowed_by_one none =
+      zip2-map_right ◌&&◌ (λ (v : ℕ). nat_le v d) found ds
+      ∙ zip2_alike (λ (low : Bool) (v : ℕ). low && nat_le v d) (λ low v. at_most_from low v d) (λ low v. one_call low v d none) found ds
+
+  pub narrowed_by_two : 0 < d → zip2 ◌||◌ (zip2 ◌&&◌ found (map (λ v. nat_le v d) ds)) (map (λ v. nat_le v (d - 1)) ds)
+      ≡ zip2 (λ low v. holds_from AtMost low v d) found ds
+  narrowed_by_two some =
+      let low_or = λ (b : Bool) (v : ℕ). b || nat_le v (d - 1) in
+      let low_and = λ (low : Bool) (v : ℕ). low && nat_le v d in
+      zip2-map_right ◌||◌ (λ (v : ℕ). nat_le v (d - 1)) (zip2 ◌&&◌ found (map (λ v. nat_le v d) ds)) ds
+      ∙ ap (λ xs. zip2 low_or xs ds) (zip2-map_right ◌&&◌ (λ (v : ℕ). nat_le v d) found ds)
+      ∙ zip2_twice low_and low_or found ds
+      ∙ zip2_alike (λ low v. low_or (low_and low v) v) (λ low v. at_most_from low v d) (λ low v. both_calls low v d some) found ds
+
+-- the digit of a place decides, and then what stands below it
+both_turned : (a b : Bool) → (a && b) ≡ (b && a)
+both_turned a b = grind (arith, nat_tests)
+
+pub holds_more : {bs : List ℕ} → IsBaseList bs → (relation : Relation) (u v i : ℕ) → i < length bs →
+    holds relation (u % weight bs (i + 1)) (v % weight bs (i + 1))
+    ≡ holds_from relation (holds relation (u % weight bs i) (v % weight bs i)) (digit_of bs u i) (digit_of bs v i)
+holds_more {bs} valid Equal u v i h =
+    low_eq valid u v i h ∙ both_turned (digit_of bs u i == digit_of bs v i) (u % weight bs i == v % weight bs i)
+holds_more {bs} valid AtMost u v i h = low_le valid u v i h
+
+-- functions that agree on the items of a list
+pub map_alike : {X Y : Type 0} (f g : X → Y) (P : X → Type 0) → ((x : X) → P x → f x ≡ g x) → (xs : List X) → All P xs → map f xs ≡ map g xs
+map_alike f g P same [] all = refl
+map_alike f g P same (x ∷ xs) all = ap₂ (λ y ys. y ∷ ys) (same x (All-head P x xs all)) (map_alike f g P same xs (All-tail P x xs all))
+
+pub map_map : {X Y Z : Type 0} (f : Y → Z) (g : X → Y) (xs : List X) → map f (map g xs) ≡ map (λ x. f (g x)) xs
+map_map f g [] = refl
+map_map f g (x ∷ xs) = ap (λ ys. f (g x) ∷ ys) (map_map f g xs)
+
+pub zip2-map_left : {X Y Z V : Type 0} (f : X → Y → Z) (g : V → X) (vs : List V) (ys : List Y) → zip2 f (map g vs) ys ≡ zip2 (λ v y. f (g v) y) vs ys
+zip2-map_left f g [] ys = refl
+zip2-map_left f g (v ∷ vs) [] = refl
+zip2-map_left f g (v ∷ vs) (y ∷ ys) = ap (λ zs. f (g v) y ∷ zs) (zip2-map_left f g vs ys)
+
+same_answer : (test other : ℕ → Bool) (wanted too : Bool) (n : ℕ) → ((x : ℕ) → x < n → as_wanted wanted (test x) ≡ as_wanted too (other x))
+    → (e : Option ℕ) → number_or_zero e < n → answers test wanted e ≡ answers other too e
+same_answer test other wanted too n same None below = refl
+same_answer test other wanted too n same (Some x) below = same x below
+
+-- tests that agree below the size, each as wanted, select the same rows
+pub same_answers : (test other : ℕ → Bool) (wanted too : Bool) (n : ℕ) → ((x : ℕ) → x < n → as_wanted wanted (test x) ≡ as_wanted too (other x))
+    → (es : List (Option ℕ)) → All (λ e. number_or_zero e < n) es → map (answers test wanted) es ≡ map (answers other too) es
+same_answers test other wanted too n same es all =
+    map_alike (answers test wanted) (answers other too) (λ e. number_or_zero e < n) (same_answer test other wanted too n same) es all
+
+and_false : (b : Bool) → (b && false) ≡ false
+and_false b = grind (arith, nat_tests)
+
+and_true : (b : Bool) → (b && true) ≡ b
+and_true b = grind (arith, nat_tests)
+
+-- the answer of an entry, by its number and whether it is one
+cut_answer : (test : ℕ → Bool) (wanted : Bool) (e : Option ℕ) → (as_wanted wanted (test (number_or_zero e)) && is_some e) ≡ answers test wanted e
+cut_answer test wanted None = and_false (as_wanted wanted (test 0))
+cut_answer test wanted (Some x) = and_true (as_wanted wanted (test x))
+
+-- so where it was written for each row, and cut with the not-null bitmap
+pub cut_answers : (test : ℕ → Bool) (wanted : Bool) (es : List (Option ℕ)) (found present : List Bool)
+    → found ≡ map (λ e. test (number_or_zero e)) es → present ≡ map is_some es
+    → zip2 (λ answer there. as_wanted wanted answer && there) found present ≡ map (answers test wanted) es
+cut_answers test wanted es found present found_is present_is =
+    zip2_of_maps (λ (answer : Bool) (there : Bool). as_wanted wanted answer && there) (λ (e : Option ℕ). test (number_or_zero e)) is_some es found_is present_is
+    ∙ map_alike (λ (e : Option ℕ). as_wanted wanted (test (number_or_zero e)) && is_some e) (answers test wanted) (λ e. Unit {0}) (λ e u. cut_answer test wanted e) es (λ k d h. tt)
+
+pub past_equal : (wanted : Bool) (x n size : ℕ) → size ≤ n → x < size → as_wanted (not wanted) true ≡ as_wanted wanted (nat_eq x n)
+past_equal wanted x n size past below = grind (arith, nat_tests)
+
+pub past_at_most : (wanted : Bool) (x n size : ℕ) → size ≤ n → x < size → as_wanted wanted true ≡ as_wanted wanted (nat_le x n)
+past_at_most wanted x n size past below = grind (arith, nat_tests)
+
+pub never_below : (wanted : Bool) (x n : ℕ) → n ≡ 0 → as_wanted (not wanted) true ≡ as_wanted wanted (nat_lt x n)
+never_below wanted x n none = grind (arith, nat_tests)
+
+pub at_most_less : (wanted : Bool) (x n : ℕ) → n ≢ 0 → as_wanted wanted (nat_le x (n - 1)) ≡ as_wanted wanted (nat_lt x n)
+at_most_less wanted x n some = grind (arith, nat_tests)
+
+pub IfOk-same_bits : {X E : Type 0} (r : Result X E) (bits : X → List Bool) (xs ys : List Bool) → xs ≡ ys → IfOk r (λ b. bits b ≡ xs) → IfOk r (λ b. bits b ≡ ys)
+IfOk-same_bits r bits xs ys same ok = IfOk-weaker r (λ b. bits b ≡ xs) (λ b. bits b ≡ ys) (λ b h. h ∙ same) ok
+
+-- the parts of two numbers below the first component are nothing, so their lowest digits decide
+nothing_below : (relation : Relation) → holds relation 0 0 ≡ true
+nothing_below Equal = refl
+nothing_below AtMost = refl
+
+lt_or_eq : (d e : ℕ) → at_most_from true d e ≡ nat_le d e
+lt_or_eq d e = grind (arith, nat_tests)
+
+first_from : (relation : Relation) (d e : ℕ) → holds_from relation true d e ≡ holds relation d e
+first_from Equal d e = refl
+first_from AtMost d e = lt_or_eq d e
+
+pub holds_first : {bs : List ℕ} → IsBaseList bs → (relation : Relation) (u v : ℕ) →
+    holds relation (digit_of bs u 0) (digit_of bs v 0) ≡ holds relation (u % weight bs 1) (v % weight bs 1)
+holds_first {bs} valid relation u v =
+    let none : (n : ℕ) → n % 1 ≡ 0 = λ n. omega arith in
+    sym (holds_more valid relation u v 0 valid.some
+    ∙ ap (λ low. holds_from relation low (digit_of bs u 0) (digit_of bs v 0)) (ap₂ (holds relation) (none u) (none v) ∙ nothing_below relation)
+    ∙ first_from relation (digit_of bs u 0) (digit_of bs v 0))
+
+module _ {bs : List ℕ} (valid : IsBaseList bs) (relation : Relation) (n : ℕ) (es : List (Option ℕ)) where
+  -- what the digits below component i say of each row
+  abbrev pub low_answers : ℕ → List Bool
+  low_answers i = map (λ e. holds relation (number_or_zero e % weight bs i) (n % weight bs i)) es
+
+  pub low_answers_first : (d : ℕ) (found : List Bool) (ds : List ℕ) → d ≡ digit_of bs n 0 → ds ≡ map (λ e. digit_of bs (number_or_zero e) 0) es
+      → found ≡ map (λ v. holds relation v d) ds → found ≡ low_answers 1
+  low_answers_first d found ds d_is ds_is found_is =
+      found_is ∙ ap₂ (λ (c : ℕ) (xs : List ℕ). map (λ v. holds relation v c) xs) d_is ds_is
+      ∙ map_map (λ (v : ℕ). holds relation v (digit_of bs n 0)) (λ (e : Option ℕ). digit_of bs (number_or_zero e) 0) es
+      ∙ map_alike _ _ (λ e. Unit {0}) (λ e u. holds_first valid relation (number_or_zero e) n) es (λ k d h. tt)
+
+  pub low_answers_more : (i d : ℕ) (found after : List Bool) (ds : List ℕ) → i < length bs → d ≡ digit_of bs n i → ds ≡ map (λ e. digit_of bs (number_or_zero e) i) es
+      → found ≡ low_answers i → after ≡ zip2 (λ low v. holds_from relation low v d) found ds → after ≡ low_answers (i + 1)
+  low_answers_more i d found after ds within d_is ds_is found_is after_is =
+      after_is ∙ ap (λ (c : ℕ). zip2 (λ low v. holds_from relation low v c) found ds) d_is
+      ∙ zip2_of_maps (λ low v. holds_from relation low v (digit_of bs n i)) (λ (e : Option ℕ). holds relation (number_or_zero e % weight bs i) (n % weight bs i))
+        (λ (e : Option ℕ). digit_of bs (number_or_zero e) i) es found_is ds_is
+      ∙ map_alike _ _ (λ e. Unit {0}) (λ e u. sym (holds_more valid relation (number_or_zero e) n i within)) es (λ k d h. tt)
+
+  pub low_answers_all : n < size_of bs → All (λ e. number_or_zero e < size_of bs) es → low_answers (length bs) ≡ map (λ e. holds relation (number_or_zero e) n) es
+  low_answers_all small below =
+      map_alike _ _ (λ e. number_or_zero e < size_of bs)
+      (λ e h. ap₂ (holds relation) (low_all bs (number_or_zero e) h) (low_all bs n small)) es below

@@ -1,0 +1,88 @@
+-- The entries that a not-null bitmap and digits stand for, once the digits are known to be those of entries.
+use Rattle.std.proofs.Common.{◌≡◌, ℕ, ◌+◌, ◌<◌, ◌≤◌, Bool, true, false, List, [], ◌∷◌, ◌++◌, length, get_or, map, replicate, refl, sym, ap, ap₂, ◌∙◌, subst, arith}
+use Rattle.std.specs.Prelude.{Option, Some, None, is_some, cond}
+use Rattle.std.specs.List.{range_with_len}
+use Rattle.std.proofs.lemmas.List.{length-map, get_or-map, map-append, length-replicate, get_or-replicate}
+use Rattle.std.proofs.lemmas.List.Elements.{All-nil, All-push}
+use Rattle.std.proofs.lemmas.List.FromFn.{fill_by_all}
+use Rattle.bsi_digits.specs.Digits.{size_of, digit_of, digits_of, components, weighted_sum, IsBaseList}
+use Rattle.bsi_digits.proofs.CallerLemmas.{weighted_sum-digits_of, length-digits_of, get_or-digits_of}
+use Rattle.bsi_columns.specs.Rows.{number_or_zero}
+use Rattle.bsi_columns.specs.Decomposed.{digits_at, entry_at, entries_of, Decomposes}
+
+-- an entry, from whether it is a number and from the number
+entry_of_number : (e : Option ℕ) → cond (is_some e) (Some (number_or_zero e)) None ≡ e
+entry_of_number None = refl
+entry_of_number (Some x) = refl
+
+module _ (bs : List ℕ) (present : List Bool) (ds : List (List ℕ)) (entries : List (Option ℕ)) (kept : Decomposes bs present ds entries) where
+  pub rows_of : length present ≡ length entries
+  rows_of = ap length kept.present_is ∙ length-map entries is_some
+
+  -- the digits of a row are those of its entry's number
+  digits_at_row : (r : ℕ) → r < length entries → digits_at ds r ≡ digits_of bs (number_or_zero (get_or entries r None))
+  digits_at_row r within =
+      let number : ℕ = number_or_zero (get_or entries r None) in
+      let long : length (digits_at ds r) ≡ length bs = length-map ds (λ (d : List ℕ). get_or d r 0) ∙ kept.count in
+      same_digits_by (digits_at ds r) bs number long (λ i below.
+      get_or-map (λ (d : List ℕ). get_or d r 0) ds i [] 0 (omega (arith, kept.count))
+      ∙ ap (λ d. get_or d r 0) (kept.digits_are i below)
+      ∙ get_or-map (λ (e : Option ℕ). digit_of bs (number_or_zero e) i) entries r None 0 within)
+    where
+      same_digits_by : (xs bs : List ℕ) (v : ℕ) → length xs ≡ length bs → ((i : ℕ) → i < length bs → get_or xs i 0 ≡ digit_of bs v i) → xs ≡ digits_of bs v
+      same_digits_by xs bs v long each = fill_by_all (digit_of bs v) xs (length bs) 0 long each
+
+  -- so the entries are those
+  pub entries_from : entries_of bs present ds ≡ entries
+  unfolding entries_of
+  entries_from = sym (fill_by_all (entry_at bs present ds) entries (length present) None (sym rows_of) (λ r below.
+      let within : r < length entries = omega (arith, rows_of) in
+      let e : Option ℕ = get_or entries r None in
+      let is_there : get_or present r false ≡ is_some e = ap (λ bits. get_or bits r false) kept.present_is ∙ get_or-map is_some entries r None false within in
+      let number : weighted_sum bs (digits_at ds r) (components bs) ≡ number_or_zero e =
+          ap (λ xs. weighted_sum bs xs (components bs)) (digits_at_row r within) ∙ weighted_sum-digits_of bs (number_or_zero e) (kept.below r None within) in
+      sym (ap₂ (λ b n. cond b (Some n) None) is_there number ∙ entry_of_number e)))
+
+  pub kept_itself : Decomposes bs present ds (entries_of bs present ds)
+  kept_itself = subst (λ es. Decomposes bs present ds es) (sym entries_from) kept
+
+-- a column of no entries
+pub no_entries : (bs : List ℕ) (present : List Bool) (ds : List (List ℕ)) → present ≡ [] → ds ≡ replicate (length bs) [] → Decomposes bs present ds []
+no_entries bs present ds none empty = record {
+  count = ap length empty ∙ length-replicate (length bs) [];
+  present_is = none;
+  digits_are = λ i below. ap (λ xs. get_or xs i []) empty ∙ get_or-replicate (length bs) i [] [] below;
+  below = All-nil (λ (e : Option ℕ). number_or_zero e < size_of bs);
+}
+
+module _ (bs : List ℕ) (present : List Bool) (ds more : List (List ℕ)) (entries : List (Option ℕ)) (e : Option ℕ) where
+  -- an entry more, once each component has its digit of the number
+  pub pushed_entry : Decomposes bs present ds entries → length more ≡ length bs
+      → ((i : ℕ) → i < length bs → get_or more i [] ≡ get_or ds i [] ++ digit_of bs (number_or_zero e) i ∷ [])
+      → number_or_zero e < size_of bs → Decomposes bs (present ++ is_some e ∷ []) more (entries ++ e ∷ [])
+  pushed_entry kept long each small = record {
+    count = long;
+    present_is = ap (λ ps. ps ++ is_some e ∷ []) kept.present_is ∙ sym (map-append is_some entries (e ∷ []));
+    digits_are = λ i below.
+        each i below ∙ ap (λ xs. xs ++ digit_of bs (number_or_zero e) i ∷ []) (kept.digits_are i below)
+        ∙ sym (map-append (λ (x : Option ℕ). digit_of bs (number_or_zero x) i) entries (e ∷ []));
+    below = All-push (λ (x : Option ℕ). number_or_zero x < size_of bs) entries e kept.below small;
+  }
+
+-- each component has as many digits as there are entries
+pub component_rows : {E : Type 0} (digits : E → List ℕ) (cs : List E) (bs : List ℕ) (present : List Bool) (entries : List (Option ℕ)) →
+    Decomposes bs present (map digits cs) entries → (k : ℕ) (d : E) → k < length cs → length (digits (get_or cs k d)) ≡ length entries
+component_rows digits cs bs present entries kept k d within =
+    ap length (sym (get_or-map digits cs k d [] within) ∙ kept.digits_are k (omega (arith, kept.count, length-map cs digits)))
+    ∙ length-map entries (λ (e : Option ℕ). digit_of bs (number_or_zero e) k)
+
+-- the same of what a column has after an entry was appended
+pub appended_entry : (bs : List ℕ) (present : List Bool) (ds : List (List ℕ)) (entries : List (Option ℕ)) (e : Option ℕ)
+    (bit : Bool) (n : ℕ) (bits : List Bool) (more : List (List ℕ)) → Decomposes bs present ds entries
+    → bit ≡ is_some e → n ≡ number_or_zero e → bits ≡ present ++ bit ∷ [] → length more ≡ length bs
+    → ((i : ℕ) → i < length bs → get_or more i [] ≡ get_or ds i [] ++ digit_of bs n i ∷ [])
+    → number_or_zero e < size_of bs → Decomposes bs bits more (entries ++ e ∷ [])
+appended_entry bs present ds entries e bit n bits more kept bit_is n_is bits_is long each small =
+    let appended : bits ≡ present ++ is_some e ∷ [] = bits_is ∙ ap (λ b. present ++ b ∷ []) bit_is in
+    subst (λ ps. Decomposes bs ps more (entries ++ e ∷ [])) (sym appended)
+    (pushed_entry bs present ds more entries e kept long (λ i below. each i below ∙ ap (λ m. get_or ds i [] ++ digit_of bs m i ∷ []) n_is) small)

@@ -1,0 +1,85 @@
+use Rattle.std.proofs.Common.{◌≡◌, ◌<◌, ◌+◌, ℕ, Bool, List, [], length, map, ap, sym, ◌∙◌, arith}
+use Rattle.std.proofs.lemmas.List.{length-map}
+use Rattle.bsi_digits.specs.Digits.{size_of, digit_of}
+use Rattle.bsi_columns.specs.Rows.{number_or_zero}
+use Rattle.bsi_columns.specs.Decomposed.{entries_of}
+use Rattle.bsi_columns.proofs.ComponentLists.{read_map}
+use Rattle.bsi_columns.proofs.Answering.{low_answers, low_answers_first, low_answers_more, low_answers_all}
+use Rattle.bsi_columns.proofs.decomposed.Decomposed.narrow_vectors.Goals as goal
+
+pub loop-i-init : goal.loop-i-init
+loop-i-init g c =
+    let inside = c.self.inside in
+    let items = inside.components.items in
+    let bs = inside.bases in
+    let kept = c.self.invariant.0 in
+    let entries = entries_of bs inside.present.bits (map g.E.Encoding.digits items) in
+    let few : 0 < length items = omega (arith, kept.count, length-map items g.E.Encoding.digits) in
+    let digits : g.E.Encoding.digits c.index.result.now ≡ map (λ e. digit_of bs (number_or_zero e) 0) entries =
+        sym (read_map g.E.Encoding.digits items 0 c.index.result.now [] few c.index.ensures) ∙ kept.digits_are 0 (omega arith) in
+    let same : length entries ≡ length c.args.part.now.bits = rw (← c.self.view_is) at c.requires.same_part in
+    rw (← c.self.view_is) (record {
+      found = low_answers_first c.len-places.ensures.valid c.args.test.relation c.args.test.constant entries
+          c.digit-lowest.result c.first_into.new.found.bits (g.E.Encoding.digits c.index.result.now) c.digit-lowest.ensures.digit digits c.first_into.ensures;
+      part = sym same;
+    })
+
+pub narrow_into-requires-clause-same_part : goal.narrow_into-requires-clause-same_part
+narrow_into-requires-clause-same_part g c =
+    let inside = c.self.inside in
+    let items = inside.components.items in
+    let bs = inside.bases in
+    let kept = c.self.invariant.0 in
+    let entries = entries_of bs inside.present.bits (map g.E.Encoding.digits items) in
+    let within : c.loop-i.i < length items = omega (arith, kept.count, length-map items g.E.Encoding.digits) in
+    let digits : g.E.Encoding.digits c.index-in-loop-i.result.now ≡ map (λ e. digit_of bs (number_or_zero e) c.loop-i.i) entries =
+        sym (read_map g.E.Encoding.digits items c.loop-i.i c.index-in-loop-i.result.now [] within c.index-in-loop-i.ensures) ∙ kept.digits_are c.loop-i.i (omega arith) in
+    let same : length c.loop-i.part.bits ≡ length entries = rw (← c.self.view_is) at c.loop-i.invariant.part in
+    ap length digits ∙ length-map entries (λ e. digit_of bs (number_or_zero e) c.loop-i.i) ∙ sym same
+
+pub narrow_into-requires-clause-same : goal.narrow_into-requires-clause-same
+narrow_into-requires-clause-same g c =
+    let inside = c.self.inside in
+    let items = inside.components.items in
+    let bs = inside.bases in
+    let kept = c.self.invariant.0 in
+    let entries = entries_of bs inside.present.bits (map g.E.Encoding.digits items) in
+    let valid = c.len-places.ensures.valid in
+    let within : c.loop-i.i < length items = omega (arith, kept.count, length-map items g.E.Encoding.digits) in
+    let digits : g.E.Encoding.digits c.index-in-loop-i.result.now ≡ map (λ e. digit_of bs (number_or_zero e) c.loop-i.i) entries =
+        sym (read_map g.E.Encoding.digits items c.loop-i.i c.index-in-loop-i.result.now [] within c.index-in-loop-i.ensures) ∙ kept.digits_are c.loop-i.i (omega arith) in
+    let found : c.loop-i.found.bits ≡ low_answers valid c.args.test.relation c.args.test.constant entries c.loop-i.i = rw (← c.self.view_is) at c.loop-i.invariant.found in
+    ap length digits ∙ length-map entries (λ e. digit_of bs (number_or_zero e) c.loop-i.i) ∙ sym (ap length found ∙ length-map entries _)
+
+pub loop-i-preserved : goal.loop-i-preserved
+loop-i-preserved g c =
+    let inside = c.self.inside in
+    let items = inside.components.items in
+    let bs = inside.bases in
+    let kept = c.self.invariant.0 in
+    let entries = entries_of bs inside.present.bits (map g.E.Encoding.digits items) in
+    let valid = c.len-places.ensures.valid in
+    let within : c.loop-i.i < length items = omega (arith, kept.count, length-map items g.E.Encoding.digits) in
+    let digits : g.E.Encoding.digits c.index-in-loop-i.result.now ≡ map (λ e. digit_of bs (number_or_zero e) c.loop-i.i) entries =
+        sym (read_map g.E.Encoding.digits items c.loop-i.i c.index-in-loop-i.result.now [] within c.index-in-loop-i.ensures) ∙ kept.digits_are c.loop-i.i (omega arith) in
+    let found : c.loop-i.found.bits ≡ low_answers valid c.args.test.relation c.args.test.constant entries c.loop-i.i = rw (← c.self.view_is) at c.loop-i.invariant.found in
+    let same : length c.loop-i.part.bits ≡ length entries = rw (← c.self.view_is) at c.loop-i.invariant.part in
+    rw (← c.self.view_is) (record {
+      found = low_answers_more valid c.args.test.relation c.args.test.constant entries c.loop-i.i c.digit-digit.result c.loop-i.found.bits c.narrow_into.new.found.bits
+          (g.E.Encoding.digits c.index-in-loop-i.result.now) (omega arith) c.digit-digit.ensures.digit digits found c.narrow_into.ensures.found;
+      part = c.narrow_into.ensures.part ∙ same;
+    })
+
+pub returns : goal.returns
+returns g c =
+    let inside = c.self.inside in
+    let bs = inside.bases in
+    let kept = c.self.invariant.0 in
+    let entries = entries_of bs inside.present.bits (map g.E.Encoding.digits inside.components.items) in
+    let valid = c.len-places.ensures.valid in
+    let found : c.loop-i.found.bits ≡ low_answers valid c.args.test.relation c.args.test.constant entries c.loop-i.i = rw (← c.self.view_is) at c.loop-i.invariant.found in
+    let small : c.args.test.constant < size_of bs = rw (← c.self.view_is) at c.requires.below in
+    let all : c.loop-i.i ≡ length bs = omega arith in
+    rw (← c.self.view_is)
+    (found ∙ ap (low_answers valid c.args.test.relation c.args.test.constant entries) all
+    ∙ low_answers_all valid c.args.test.relation c.args.test.constant entries small kept.below)

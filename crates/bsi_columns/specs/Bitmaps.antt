@@ -1,0 +1,35 @@
+-- The bitmaps of a component, and the digits that they hold.
+use Rattle.std.specs.Prelude.{◌≡◌, ℕ, ◌+◌, ◌<◌, Bool, false, List, [], ◌∷◌, length, map, slice_index_or, if◌then◌else◌}
+use Rattle.std.specs.List.{range_with_len, list_all}
+use Rattle.bsi_bits.specs.BitList.{BitList}
+
+-- what a contract sees of a component: its base, its digits, and whether one more can be appended with no memory
+pub record Component : Type 0 where
+  pub base : ℕ
+  pub digits : List ℕ
+  pub room : Bool
+
+-- the bits of bitmap j
+abbrev pub bitmap : List BitList → ℕ → List Bool
+bitmap bitmaps j = (slice_index_or bitmaps j (record { bits = []; room = false })).bits
+
+-- each bitmap has room for one more bit
+abbrev pub has_room_in : List BitList → Bool
+has_room_in bitmaps = list_all (λ b. b.room) bitmaps
+
+-- the bits of row k, a bitmap each
+abbrev pub row : List BitList → ℕ → List Bool
+row bitmaps k = map (λ b. slice_index_or b.bits k false) bitmaps
+
+-- the place of the first bit that is set, where places count from `at`, and `none` where no bit is
+abbrev pub first_set : ℕ → ℕ → List Bool → ℕ
+first_set none at [] = none
+first_set none at (bit ∷ bits) = if bit then at else first_set none (at + 1) bits
+
+-- the digit of each row, by its bits
+unfoldable pub digits_by : (List Bool → ℕ) → List BitList → List ℕ
+digits_by digit bitmaps = map (λ k. digit (row bitmaps k)) (range_with_len 0 (length (bitmap bitmaps 0)))
+
+-- bitmap j says of each digit whether it holds there
+pub record IsEncoded (holds : ℕ → ℕ → Bool) (bitmaps : List BitList) (digits : List ℕ) : Type 0 where
+  pub each : (j : ℕ) → j < length bitmaps → bitmap bitmaps j ≡ map (holds j) digits

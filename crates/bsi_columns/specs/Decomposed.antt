@@ -1,0 +1,33 @@
+-- A column of numbers that keeps the digits of each number under its bases.
+use Rattle.std.specs.Prelude.{◌≡◌, ℕ, ◌<◌, Bool, false, List, [], Option, Some, None, length, map, is_some, slice_index, slice_index_or, All, if◌then◌else◌}
+use Rattle.std.specs.List.{range_with_len}
+use Rattle.bsi_digits.specs.Digits.{size_of, digit_of, components, weighted_sum}
+use Rattle.bsi_columns.specs.Rows.{number_or_zero}
+
+-- what a contract sees of a decomposed column: its bases, least significant first, its entries, and whether one more can
+-- be appended with no memory
+pub record Decomposition : Type 0 where
+  pub bases : List ℕ
+  pub entries : List (Option ℕ)
+  pub room : Bool
+
+-- the digits of row r, of which each component has one
+abbrev pub digits_at : List (List ℕ) → ℕ → List ℕ
+digits_at ds r = map (λ d. slice_index d r) ds
+
+-- the entry of row r: a null, or the number that its digits weigh
+abbrev pub entry_at : List ℕ → List Bool → List (List ℕ) → ℕ → Option ℕ
+entry_at bs present ds r =
+    if slice_index_or present r false then Some (weighted_sum bs (digits_at ds r) (components bs)) else None
+
+-- the entries that a not-null bitmap and the components' digits stand for
+unfoldable pub entries_of : List ℕ → List Bool → List (List ℕ) → List (Option ℕ)
+entries_of bs present ds = map (entry_at bs present ds) (range_with_len 0 (length present))
+
+-- the not-null bitmap and the digits of each component are those of the entries, whose numbers are below the size; a
+-- null's digits are 0
+pub record Decomposes (bs : List ℕ) (present : List Bool) (ds : List (List ℕ)) (entries : List (Option ℕ)) : Type 0 where
+  pub count : length ds ≡ length bs
+  pub present_is : present ≡ map is_some entries
+  pub digits_are : (i : ℕ) → i < length bs → slice_index_or ds i [] ≡ map (λ e. digit_of bs (number_or_zero e) i) entries
+  pub below : All (λ e. number_or_zero e < size_of bs) entries

@@ -1,0 +1,51 @@
+-- A column as slices: bit r of slice k is binary place k of the number of row r.
+use Rattle.std.specs.Prelude.{◌≡◌, ℕ, ◌+◌, ◌*◌, ◌^◌, ◌<◌, ◌≤◌, Bool, false, if◌then◌else◌, List, [], ◌∷◌, length, map, Option, Some, None, slice_index_or}
+use Rattle.std.specs.List.{range_with_len, list_all}
+use Rattle.bsi_bits.specs.BitList.{BitList}
+
+-- what a contract sees of a column of slices: how many there are, its rows, and whether one more can be appended with no memory
+pub record SliceRows : Type 0 where
+  pub width : ℕ
+  pub entries : List (Option ℕ)
+  pub room : Bool
+
+-- what a list of slices has past its end
+abbrev pub empty_slice : BitList
+empty_slice = record { bits = []; room = false }
+
+-- the bits of slice k
+abbrev pub slice_at : List BitList → ℕ → List Bool
+slice_at slices k = (slice_index_or slices k empty_slice).bits
+
+-- slice k has room for one more bit
+abbrev pub has_room_at : List BitList → ℕ → Bool
+has_room_at slices k = (slice_index_or slices k empty_slice).room
+
+-- each slice has
+abbrev pub have_room : List BitList → Bool
+have_room slices = list_all (λ s. s.room) slices
+
+-- a bit as a number
+abbrev pub place_value : Bool → ℕ
+place_value bit = if bit then 1 else 0
+
+-- the number of row r, the slice of the least place first
+unfoldable pub number : List BitList → ℕ → ℕ
+number [] r = 0
+number (slice ∷ slices) r = place_value (slice_index_or slice.bits r false) + 2 * number slices r
+
+-- the entry of row r: null where it is not present
+abbrev pub entry_at : List Bool → List BitList → ℕ → Option ℕ
+entry_at present slices r = if slice_index_or present r false then Some (number slices r) else None
+
+-- the entries of a column
+unfoldable pub entries_in : List Bool → List BitList → List (Option ℕ)
+entries_in present slices = map (entry_at present slices) (range_with_len 0 (length present))
+
+-- there are 1 to 63 slices, each with a bit for each row, which is off where the row is null
+pub record IsSliced (present : List Bool) (slices : List BitList) : Type 0 where
+  pub some : 1 ≤ length slices
+  pub few : length slices ≤ 63
+  pub small : length present ≤ 2 ^ 32
+  pub even : (k : ℕ) → k < length slices → length (slice_at slices k) ≡ length present
+  pub clear : (r : ℕ) → r < length present → slice_index_or present r false ≡ false → number slices r ≡ 0

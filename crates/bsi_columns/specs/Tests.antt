@@ -1,0 +1,23 @@
+-- The two tests that the digits of a number decide, from the least significant up.
+use Rattle.std.specs.Prelude.{ℕ, Bool, false, ◌&&◌, not, Option, Some, None, nat_eq, nat_le, if◌then◌else◌}
+use Rattle.bsi_columns.specs.declared.decomposed.compare.Relation.{Relation}
+use Rattle.bsi_columns.specs.declared.decomposed.compare.Relation.TheVariants.{Equal, AtMost}
+use Rattle.bsi_columns.specs.Component.{at_most_from}
+
+abbrev pub holds : Relation → ℕ → ℕ → Bool
+holds Equal x n = nat_eq x n
+holds AtMost x n = nat_le x n
+
+-- the test of a number by its digit and the constant's, where `low` is that of the digits below
+abbrev pub holds_from : Relation → Bool → ℕ → ℕ → Bool
+holds_from Equal low digit constant = low && nat_eq digit constant
+holds_from AtMost low digit constant = at_most_from low digit constant
+
+-- the answer, or its complement where the rows that fail the test are wanted
+abbrev pub as_wanted : Bool → Bool → Bool
+as_wanted wanted answer = if wanted then answer else not answer
+
+-- the entry is a number, and passes the test or, as wanted, fails it
+abbrev pub answers : (ℕ → Bool) → Bool → Option ℕ → Bool
+answers test wanted None = false
+answers test wanted (Some x) = as_wanted wanted (test x)

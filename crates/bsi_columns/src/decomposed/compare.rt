@@ -1,0 +1,175 @@
+//! The evaluator of comparisons with a constant, digit by digit: Chan and Ioannidis' RangeEval-Opt.
+//!
+//! Each comes down to `=` or `<=`: `A < v` is `A <= v - 1`, and `A > v` and `A >= v` are complements. A constant that
+//! leaves nothing to ask is decided before any digit is read. What is found is cut with the not-null bitmap, so that a
+//! complement selects no null.
+
+ghost use Rattle.std.specs.Prelude.{◌≡◌, ℕ, ◌+◌, ◌*◌, ◌/◌, ◌≤◌, ◌<◌, ◌&&◌, Bool, List, None, true, false, length, map, is_some, slice_index, slice_index_or, nat_eq, nat_lt, nat_le, IfOk};
+ghost use Rattle.std.specs.Bool.{OnTrue};
+ghost use Rattle.std.specs.Simd.Lanes.{zip2};
+ghost use Rattle.bsi_bits.specs.Packed.{bit_of};
+ghost use Rattle.bsi_digits.specs.Digits.{size_of};
+ghost use Rattle.bsi_columns.specs.Rows.{number_or_zero};
+ghost use Rattle.bsi_columns.specs.Tests.{holds, holds_from, as_wanted, answers};
+
+use crate::decomposed::Decomposed;
+use crate::{Encoding, NoMemory};
+use bsi_bits::{Bits, lanes};
+
+/// The words of a block, which stays in the first cache while each component narrows it.
+const BLOCK: usize = 256;
+
+/// A comparison that the digits decide.
+#[derive(Clone, Copy)]
+pub enum Relation {
+    /// `=`
+    Equal,
+    /// `<=`
+    AtMost,
+}
+
+/// A comparison with a constant, and whether the numbers are wanted that pass it or those that fail it.
+#[derive(Clone, Copy)]
+pub struct Test {
+    pub relation: Relation,
+    pub constant: u64,
+    pub wanted: bool,
+}
+
+impl<E: Encoding> Decomposed<E> {
+    /// The rows whose number is `constant`, or is not.
+    pub fn equal(&self, constant: u64, wanted: bool) -> Result<Bits, NoMemory>
+        ensures { IfOk result (λ b. b.bits ≡ map (answers (λ x. nat_eq x constant) wanted) self.now.entries) }
+    {
+        if constant >= self.bases.size() {
+            self.decided(!wanted)
+        } else {
+            self.select(Test {
+                relation: Relation::Equal,
+                constant,
+                wanted,
+            })
+        }
+    }
+
+    /// The rows whose number is at most `constant`, or is not.
+    pub fn at_most(&self, constant: u64, wanted: bool) -> Result<Bits, NoMemory>
+        ensures { IfOk result (λ b. b.bits ≡ map (answers (λ x. nat_le x constant) wanted) self.now.entries) }
+    {
+        if constant >= self.bases.size() {
+            self.decided(wanted)
+        } else {
+            self.select(Test {
+                relation: Relation::AtMost,
+                constant,
+                wanted,
+            })
+        }
+    }
+
+    /// The rows whose number is below `constant`, or is not.
+    pub fn below(&self, constant: u64, wanted: bool) -> Result<Bits, NoMemory>
+        ensures { IfOk result (λ b. b.bits ≡ map (answers (λ x. nat_lt x constant) wanted) self.now.entries) }
+    {
+        if constant == 0 {
+            self.decided(!wanted)
+        } else {
+            self.at_most(constant - 1, wanted)
+        }
+    }
+
+    /// Every row that is not a null, or none.
+    fn decided(&self, every: bool) -> Result<Bits, NoMemory>
+        ensures { IfOk result (λ b. b.bits ≡ map (answers (λ x. true) every) self.now.entries) }
+    {
+        if every {
+            self.present.copy()
+        } else {
+            Bits::filled(*self.components.allocator(), self.present.len(), false)
+        }
+    }
+
+    /// The rows whose number passes a test with a constant that is below the size.
+    fn select(&self, test: Test) -> Result<Bits, NoMemory>
+        requires { test.constant < size_of self.now.bases }
+        ensures { IfOk result (λ b. b.bits ≡ map (answers (λ x. holds test.relation x test.constant) test.wanted) self.now.entries) }
+    {
+        let found = self.present.copy()?;
+        self.select_vectors(test, found)
+    }
+
+    /// The same by whole vectors, in the memory of `found` and one vector more.
+    fn select_vectors(&self, test: Test, mut found: Bits) -> Result<Bits, NoMemory>
+        requires below { test.constant < size_of self.now.bases }
+        requires same { length self.now.entries ≡ length found.bits }
+        ensures { IfOk result (λ b. b.bits ≡ map (answers (λ x. holds test.relation x test.constant) test.wanted) self.now.entries) }
+    {
+        let mut part = found.copy()?;
+        self.narrow_vectors(test, &mut part, &mut found);
+        cut(&mut found, test.wanted, &self.present);
+        Ok(found)
+    }
+
+    /// Writes for each row whether the number that its digits weigh passes the test, wanted or not.
+    fn narrow_vectors(&self, test: Test, part: &mut Bits, found: &mut Bits)
+        requires below { test.constant < size_of self.now.bases }
+        requires same_part { length self.now.entries ≡ length part.old.bits }
+        requires same { length self.now.entries ≡ length found.old.bits }
+        ensures { found.new.bits ≡ map (λ e. holds test.relation (number_or_zero e) test.constant) self.now.entries }
+    {
+        let places = self.bases.len();
+        let lowest = self.bases.digit(test.constant, 0);
+        first_into(&self.components[0], test.relation, lowest, found);
+        for i in 1..places {
+            let digit = self.bases.digit(test.constant, i);
+            narrow_into(&self.components[i as usize], test.relation, digit, part, found);
+        }
+    }
+}
+
+/// Writes for each row whether its lowest digit passes the test with the constant's.
+fn first_into<E: Encoding>(component: &E, relation: Relation, digit: u32, found: &mut Bits)
+    requires below { digit < E.base_of component.now }
+    requires same { length (E.digits component.now) ≡ length found.old.bits }
+    ensures { found.new.bits ≡ map (λ v. holds relation v digit) (E.digits component.now) }
+{
+    match relation {
+        Relation::Equal => component.eq_into(digit, found),
+        Relation::AtMost => component.le_into(digit, found),
+    }
+}
+
+/// Takes one digit more into the test: one call of the component for `=`, and one or two for `<=`.
+fn narrow_into<E: Encoding>(component: &E, relation: Relation, digit: u32, part: &mut Bits, found: &mut Bits)
+    requires below { digit < E.base_of component.now }
+    requires same_part { length (E.digits component.now) ≡ length part.old.bits }
+    requires same { length (E.digits component.now) ≡ length found.old.bits }
+    ensures found { found.new.bits ≡ zip2 (λ low v. holds_from relation low v digit) found.old.bits (E.digits component.now) }
+    ensures part { length part.new.bits ≡ length part.old.bits }
+{
+    match relation {
+        Relation::Equal => {
+            component.eq_into(digit, part);
+            found.and_with(part);
+        }
+        Relation::AtMost => {
+            component.le_into(digit, part);
+            found.and_with(part);
+            if digit > 0 {
+                component.le_into(digit - 1, part);
+                found.or_with(part);
+            }
+        }
+    }
+}
+
+/// Keeps the rows that are not nulls of those that pass a test or, as wanted, of those that fail it.
+fn cut(found: &mut Bits, wanted: bool, present: &Bits)
+    requires { length found.old.bits ≡ length present.now.bits }
+    ensures { found.new.bits ≡ zip2 (λ answer there. as_wanted wanted answer && there) found.old.bits present.now.bits }
+{
+    if !wanted {
+        found.flip();
+    }
+    found.and_with(present);
+}
