@@ -2,10 +2,9 @@
 #![tactic(auto)]
 
 use bsi_shell::{ScriptFault, run_words};
-use std::env;
-use std::io;
 use std::process::ExitCode;
 use std::rt::Env;
+use std::{env, io};
 
 fn main(rt: HostRuntime) -> ExitCode {
     let (mut output, mut faults) = (rt.stdout(), rt.stderr());

@@ -3,6 +3,7 @@ pub mod CountingPairs
 pub mod Filling
 pub mod Logic
 pub mod Reading
+pub mod Skipping
 pub mod Pairs
 pub mod Places
 pub mod Pushing

@@ -25,8 +25,3 @@ pub zip2-map_right : {X Y Z V : Type 0} (f : X → Y → Z) (g : V → Y) (xs : 
 zip2-map_right f g [] vs = refl
 zip2-map_right f g (x ∷ xs) [] = refl
 zip2-map_right f g (x ∷ xs) (v ∷ vs) = ap (λ zs. f x (g v) ∷ zs) (zip2-map_right f g xs vs)
-
--- pairs of a list with itself
-pub zip2_same : {X Z : Type 0} (f : X → Z) (xs : List X) → zip2 (λ x _. f x) xs xs ≡ map f xs
-zip2_same f [] = refl
-zip2_same f (x ∷ xs) = ap (λ zs. f x ∷ zs) (zip2_same f xs)

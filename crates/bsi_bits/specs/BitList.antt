@@ -1,5 +1,6 @@
 -- What a contract sees of a 'Bits'.
-use Rattle.std.specs.Prelude.{Bool, List, not, ◌&&◌, if◌then◌else◌}
+use Rattle.std.specs.Prelude.{ℕ, Bool, false, List, length, filter, slice_index_or, not, ◌&&◌, if◌then◌else◌}
+use Rattle.std.specs.List.{range_with_len}
 
 -- the bits from place 0 up, and whether one more can be appended with no memory
 pub record BitList : Type 0 where
@@ -13,3 +14,7 @@ differ a b = if a then not b else b
 -- the first of two bits is set, and the second is not
 abbrev pub without : Bool → Bool → Bool
 without a b = a && not b
+
+-- the places of the bits that are set, rising
+abbrev pub set_places : List Bool → List ℕ
+set_places bits = filter (λ i. slice_index_or bits i false) (range_with_len 0 (length bits))

@@ -1,5 +1,5 @@
 -- A list of bits kept in words of 64.
-use Rattle.std.specs.Prelude.{◌≡◌, ℕ, ◌+◌, ◌*◌, ◌/◌, ◌%◌, ◌^◌, ◌≤◌, ◌==◌, ◌&&◌, ◌||◌, Bool, false, List, length, map, nat_lt, slice_index}
+use Rattle.std.specs.Prelude.{◌≡◌, ℕ, ◌+◌, ◌-◌, ◌*◌, ◌/◌, ◌%◌, ◌^◌, ◌≤◌, ◌==◌, ◌&&◌, ◌||◌, Bool, false, List, length, map, filter, nat_lt, slice_index}
 use Rattle.std.specs.Int.{bit_at}
 use Rattle.std.specs.List.{range_with_len}
 
@@ -20,3 +20,7 @@ pub record IsPacked (n : ℕ) (words : List ℕ) : Type 0 where
 -- one more bit fits behind n bits in this many words, of which a vector of this capacity keeps `words`
 abbrev pub has_room : ℕ → ℕ → ℕ → Bool
 has_room n words capacity = nat_lt n 0x1_0000_0000 && (nat_lt n (64 * words) || nat_lt words capacity)
+
+-- the places from `at` up to the n-th that are set in the words, rising
+unfoldable pub places_from : ℕ → ℕ → List ℕ → List ℕ
+places_from at n words = filter (bit_of words) (range_with_len at (n - at))

@@ -2,9 +2,11 @@
 
 ghost use Rattle.std.specs.Prelude.{◌≡◌, ◌↔◌, ℕ, ◌+◌, ◌*◌, ◌/◌, ◌%◌, ◌^◌, ◌≤◌, ◌<◌, ◌&&◌, ◌||◌, not, Some, [], ◌∷◌, ◌++◌, length, map, count_by, slice_get, slice_index_or, false, replicate, IsTrue, IfOk, OnOk, OnErr};
 ghost use Rattle.std.specs.Simd.Lanes.{zip2};
+ghost use Rattle.bsi_bits.specs.BitList.{set_places};
 ghost use Rattle.bsi_bits.specs.Packed.{bit_of, bits_of, IsPacked};
 
 use crate::NoMemory;
+use crate::ones::Ones;
 use crate::packing::{push_bit, trim};
 use std::alloc::Global;
 use std::marker::Model;
@@ -84,10 +86,11 @@ impl Bits {
         })
     }
 
-    /// The number of bits.
+    /// The number of bits, at most 2^32. At that length there is no room for one more.
     pub fn len(&self) -> u64
         ensures len { result ≡ length self.now.bits }
         ensures within { result ≤ 2 ^ 32 }
+        ensures full { IsTrue self.now.room → length self.now.bits < 2 ^ 32 }
     {
         self.len
     }
@@ -114,6 +117,13 @@ impl Bits {
         ensures places { (i : ℕ) → bit_of result.now i ≡ slice_index_or self.now.bits i false }
     {
         &self.words
+    }
+
+    /// The places of the bits that are set, rising.
+    pub fn ones(&self) -> Ones<'_>
+        ensures { result ≡ set_places self.now.bits }
+    {
+        Ones::new(&self.words, self.len)
     }
 
     /// Whether one more bit can be appended with no memory. At 2^32 bits there is no room.

@@ -79,6 +79,20 @@ impl Operation for AndNotWords {
     }
 }
 
+struct OrNotWords;
+
+impl Operation for OrNotWords {
+    ghost word_of = { λ x y. bit_or x (bit_not w64 y) };
+
+    fn words(a: u64x4, b: u64x4) -> u64x4 {
+        a | !b
+    }
+
+    fn word(a: u64, b: u64) -> u64 {
+        a | !b
+    }
+}
+
 /// Writes the operation's word for each pair of words into `a`.
 fn combine<O: Operation>(a: &mut [u64], b: &[u64])
     requires { length a.old ≡ length b.now }
@@ -86,14 +100,33 @@ fn combine<O: Operation>(a: &mut [u64], b: &[u64])
 {
     let whole = a.len() / LANES;
     'fours: for k in 0..whole {
-        let words = O::words(
-            u64x4::from_slice(&a[LANES * k..]),
-            u64x4::from_slice(&b[LANES * k..]),
-        );
-        words.copy_to_slice(&mut a[LANES * k..]);
+        let other = u64x4::from_slice(&b[LANES * k..]);
+        let combined = O::words(u64x4::from_slice(&a[LANES * k..]), other);
+        combined.copy_to_slice(&mut a[LANES * k..]);
     }
     'rest: for i in LANES * whole..a.len() {
         a[i] = O::word(a[i], b[i]);
+    }
+}
+
+/// Writes into `a` the second operation's word for the first one's word and a word of `c`, in one pass.
+fn combine_twice<O: Operation, P: Operation>(a: &mut [u64], b: &[u64], c: &[u64])
+    requires first { length a.old ≡ length b.now }
+    requires second { length a.old ≡ length c.now }
+    ensures { a.new ≡ zip2 P.word_of (zip2 O.word_of a.old b.now) c.now }
+{
+    let whole = a.len() / LANES;
+    'fours: for k in 0..whole {
+        let (other, last) = (
+            u64x4::from_slice(&b[LANES * k..]),
+            u64x4::from_slice(&c[LANES * k..]),
+        );
+        let first = O::words(u64x4::from_slice(&a[LANES * k..]), other);
+        let second = P::words(first, last);
+        second.copy_to_slice(&mut a[LANES * k..]);
+    }
+    'rest: for i in LANES * whole..a.len() {
+        a[i] = P::word(O::word(a[i], b[i]), c[i]);
     }
 }
 
@@ -115,10 +148,8 @@ fn count_combined<O: Operation>(a: &[u64], b: &[u64]) -> u64
     let whole = a.len() / LANES;
     let mut ones = 0u64;
     'fours: for k in 0..whole {
-        let words = O::words(
-            u64x4::from_slice(&a[LANES * k..]),
-            u64x4::from_slice(&b[LANES * k..]),
-        );
+        let second = u64x4::from_slice(&b[LANES * k..]);
+        let words = O::words(u64x4::from_slice(&a[LANES * k..]), second);
         ones += ones_in(words);
     }
     'rest: for i in LANES * whole..a.len() {
@@ -159,31 +190,59 @@ pub fn and_not(a: &mut [u64], b: &[u64])
     combine::<AndNotWords>(a, b)
 }
 
+/// Sets in `a` the bits that are not set in `b`: `a OR NOT b`.
+pub fn or_not(a: &mut [u64], b: &[u64])
+    requires { length a.old ≡ length b.now }
+    ensures { a.new ≡ zip2 (λ x y. bit_or x (bit_not w64 y)) a.old b.now }
+{
+    combine::<OrNotWords>(a, b)
+}
+
+/// Keeps in `a` the bits that are set in `b` too, and sets those of `c`, in one pass: `a AND b OR c`.
+pub fn and_or(a: &mut [u64], b: &[u64], c: &[u64])
+    requires first { length a.old ≡ length b.now }
+    requires second { length a.old ≡ length c.now }
+    ensures { a.new ≡ zip2 bit_or (zip2 bit_and a.old b.now) c.now }
+{
+    combine_twice::<AndWords, OrWords>(a, b, c)
+}
+
+/// Keeps in `a` the bits that are set in `b` too and not in `c`, in one pass: `a AND b AND NOT c`.
+pub fn and_and_not(a: &mut [u64], b: &[u64], c: &[u64])
+    requires first { length a.old ≡ length b.now }
+    requires second { length a.old ≡ length c.now }
+    ensures { a.new ≡ zip2 (λ x y. bit_and x (bit_not w64 y)) (zip2 bit_and a.old b.now) c.now }
+{
+    combine_twice::<AndWords, AndNotWords>(a, b, c)
+}
+
 /// Turns each bit of `a`.
 pub fn not(a: &mut [u64])
     ensures { a.new ≡ map (bit_not w64) a.old }
 {
     let whole = a.len() / LANES;
     'fours: for k in 0..whole {
-        let words = !u64x4::from_slice(&a[LANES * k..]);
-        words.copy_to_slice(&mut a[LANES * k..]);
+        let turned = !u64x4::from_slice(&a[LANES * k..]);
+        turned.copy_to_slice(&mut a[LANES * k..]);
     }
     'rest: for i in LANES * whole..a.len() {
         a[i] = !a[i];
     }
 }
 
-/// The number of ones in `a`, which has fewer than 2^58 words, so that the number fits.
+/// The number of ones in `a`, which has fewer than 2^58 words, so that the number fits. The four quarters are read side by
+/// side, since one reader alone does not ask for all that memory can give.
 pub fn count(a: &[u64]) -> u64
     requires { length a.now < 2 ^ 58 }
     ensures { result ≡ sum_by count_ones a.now }
 {
-    let whole = a.len() / LANES;
+    let quarter = a.len() / LANES;
     let mut ones = 0u64;
-    'fours: for k in 0..whole {
-        ones += ones_in(u64x4::from_slice(&a[LANES * k..]));
+    'fours: for k in 0..quarter {
+        let words = [a[k], a[quarter + k], a[2 * quarter + k], a[3 * quarter + k]];
+        ones += ones_in(u64x4::from_array(words));
     }
-    'rest: for i in LANES * whole..a.len() {
+    'rest: for i in LANES * quarter..a.len() {
         ones += a[i].count_ones() as u64;
     }
     ones

@@ -3,7 +3,11 @@
 
 mod bits;
 pub mod lanes;
+mod ones;
 mod packing;
+#[cfg(test)]
+mod tests;
 
 pub use bits::Bits;
+pub use ones::Ones;
 pub use std::alloc::AllocError as NoMemory;

@@ -1,6 +1,6 @@
 //! Writes of single bits in words that are kept packed.
 
-ghost use Rattle.std.specs.Prelude.{◌≡◌, ℕ, ◌+◌, ◌*◌, ◌/◌, ◌%◌, ◌^◌, ◌≤◌, ◌<◌, [], ◌∷◌, ◌++◌, length, vec_len, vec_capacity};
+ghost use Rattle.std.specs.Prelude.{◌≡◌, ℕ, ◌+◌, ◌*◌, ◌/◌, ◌%◌, ◌^◌, ◌≤◌, ◌<◌, [], ◌∷◌, ◌++◌, length, slice_index, vec_len, vec_capacity};
 ghost use Rattle.bsi_bits.specs.Packed.{bits_of, IsPacked};
 
 /// Clears the places past the first `n` bits.
@@ -35,3 +35,8 @@ pub fn push_bit(words: &mut Vec<u64>, n: u64, bit: bool)
         words[last] |= (bit as u64) << place;
     }
 }
+
+/// Says of words behind a shared reference what their type does.
+pub fn know_fits(words: &[u64])
+    ensures { (k : ℕ) → slice_index words.now k < 2 ^ 64 }
+{}

@@ -2,13 +2,13 @@
 //!
 //! Each call passes over its words once and takes no memory, and no call in place changes the room for one more bit.
 
-ghost use Rattle.std.specs.Prelude.{◌≡◌, ℕ, ◌^◌, ◌<◌, ◌&&◌, ◌||◌, not, Bool, length, map, count_by, slice_index};
+ghost use Rattle.std.specs.Prelude.{◌≡◌, ◌&&◌, ◌||◌, not, length, map, count_by};
 ghost use Rattle.std.specs.Simd.Lanes.{zip2};
 ghost use Rattle.bsi_bits.specs.BitList.{differ, without};
 
 use crate::bits::Bits;
 use crate::lanes;
-use crate::packing::trim;
+use crate::packing::{know_fits, trim};
 
 impl Bits {
     /// Keeps the bits that are set in `other` too.
@@ -95,8 +95,3 @@ impl Bits {
         lanes::count_and_not(&self.words, &other.words)
     }
 }
-
-// Says of words behind a shared reference what their type does.
-fn know_fits(words: &[u64])
-    ensures { (k : ℕ) → slice_index words.now k < 2 ^ 64 }
-{}

@@ -1,22 +1,27 @@
-use Rattle.std.proofs.Common.{◌≡◌, ◌+◌, ◌*◌, length, get_or, take, arith, ap, refl, ◌∙◌}
-use Rattle.std.specs.Prelude.{sum_by, count_ones, ◌/◌}
+use Rattle.std.proofs.Common.{◌≡◌, ◌*◌, ◌≤◌, length, get_or, arith, ap, refl, ◌∙◌}
+use Rattle.std.specs.Prelude.{count_ones, ◌/◌}
 use Rattle.std.proofs.lemmas.Nat.{ones-le}
-use Rattle.bsi_bits.proofs.Summing.{summed_block, summed_word, summed_all}
+use Rattle.bsi_bits.proofs.Summing.{quarters, quarters_more, quarters_all, summed_word, summed_all}
 use Rattle.bsi_bits.proofs.lanes.count.Goals as goal
 
--- four words more
+-- one word more of each quarter
 pub fours-preserved : goal.fours-preserved
-fours-preserved c = record {
-  counted = summed_block count_ones c.args.a.now (4 * c.fours.k) c.fours.ones c.fours.invariant.counted 4 (4 * (c.fours.k + 1)) c.ones_in-ones.result (omega arith) c.ones_in-ones.ensures.ones;
-  few = omega arith;
-}
+fours-preserved c =
+    let quarter = length c.args.a.now / 4 in
+    let within : 4 * quarter ≤ length c.args.a.now = omega arith in
+    record {
+      counted = omega (arith, c.fours.invariant.counted, c.ones_in-ones.ensures.ones, quarters_more count_ones c.args.a.now quarter within c.fours.k c.fours-test.true);
+      few = omega arith;
+    }
 
--- the words of all fours
+-- the whole quarters
 pub rest-init : goal.rest-init
 rest-init c =
-    let same : 4 * c.fours.k ≡ 4 * (length c.args.a.now / 4) = omega arith in
+    let quarter = length c.args.a.now / 4 in
+    let within : 4 * quarter ≤ length c.args.a.now = omega arith in
+    let same : c.fours.k ≡ quarter = omega arith in
     record {
-      counted = c.fours.invariant.counted ∙ ap (λ i. sum_by count_ones (take i c.args.a.now)) same;
+      counted = c.fours.invariant.counted ∙ ap (quarters count_ones c.args.a.now quarter) same ∙ quarters_all count_ones c.args.a.now quarter within;
       few = omega arith;
     }
 

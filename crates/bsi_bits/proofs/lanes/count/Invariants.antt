@@ -1,10 +1,11 @@
 use Rattle.std.proofs.Common.{◌≡◌, ◌*◌, ◌≤◌, take}
 use Rattle.std.specs.Prelude.{sum_by, count_ones}
+use Rattle.bsi_bits.proofs.Summing.{quarters}
 use Rattle.bsi_bits.proofs.lanes.count.Given as goal
 
 abbrev pub invariant-fours : goal.invariant-fours
 invariant-fours l = record {
-  counted : l.ones ≡ sum_by count_ones (take (4 * l.k) l.a);
+  counted : l.ones ≡ quarters count_ones l.a l.quarter l.k;
   few : l.ones ≤ 256 * l.k;
 }
 

@@ -1,7 +1,6 @@
-use Rattle.std.proofs.Common.{◌*◌, ◌+◌, arith, refl, ◌∙◌}
+use Rattle.std.proofs.Common.{◌*◌, ◌+◌, arith}
 use Rattle.std.specs.Int.{bit_not, w64}
-use Rattle.bsi_bits.proofs.Pairs.{zip2_same}
-use Rattle.bsi_bits.proofs.Filling.{filled_mapped, filled_all}
+use Rattle.bsi_bits.proofs.Filling.{filled_mapped, filled_map}
 use Rattle.bsi_bits.proofs.lanes.not.Goals as goal
 
 pub fours-preserved : goal.fours-preserved
@@ -9,6 +8,4 @@ fours-preserved c = filled_mapped (bit_not w64) (4 * c.fours.k) c.args.a.now c.f
 
 -- no word is left
 pub returns : goal.returns
-returns c =
-    filled_all (λ x _. bit_not w64 x) c.rest.i c.args.a.now c.args.a.now c.rest.a refl c.rest.invariant (omega arith)
-    ∙ zip2_same (bit_not w64) c.args.a.now
+returns c = filled_map (bit_not w64) c.rest.i c.args.a.now c.rest.a c.rest.invariant (omega arith)

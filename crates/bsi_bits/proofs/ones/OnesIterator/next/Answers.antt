@@ -1,0 +1,34 @@
+use Rattle.std.proofs.Common.{◌∙◌, ◌/◌, ap, sym, refl, length, arith, slice_index_or}
+use Rattle.std.proofs.lemmas.Grind.{common_steps}
+use Rattle.bsi_bits.proofs.Skipping.{places_done, word_skipped, next_place}
+use Rattle.bsi_bits.proofs.ones.OnesIterator.next.Goals as goal
+
+-- the lowest bit that is left in the word is the next place
+pub returns-then-left-ne0-clause-steps : goal.returns-then-left-ne0-clause-steps
+returns-then-left-ne0-clause-steps c =
+    let ones = c.words.self-inside in
+    sym c.self.view_is ∙ sym c.words.invariant.left
+    ∙ next_place ones.len ones.words.now c.words.invariant.packed ones.at (slice_index_or ones.words.now (ones.at / 64) 0) c.words-test.true refl (c.know_fits.ensures (ones.at / 64)) c.if-left-ne0.true
+
+pub returns-then-left-ne0-clause-goes : goal.returns-then-left-ne0-clause-goes
+returns-then-left-ne0-clause-goes c =
+    let ones = c.words.self-inside in
+    let step = sym c.self.view_is ∙ sym c.words.invariant.left
+    ∙ next_place ones.len ones.words.now c.words.invariant.packed ones.at (slice_index_or ones.words.now (ones.at / 64) 0) c.words-test.true refl (c.know_fits.ensures (ones.at / 64)) c.if-left-ne0.true in
+    let fewer = ap length step in
+    grind (arith, common_steps, fewer)
+
+-- nothing is left in the word
+pub words-preserved : goal.words-preserved
+words-preserved c =
+    let ones = c.words.self-inside in
+    record {
+      packed = c.words.invariant.packed;
+      left = sym (word_skipped ones.len ones.words.now c.words.invariant.packed ones.at (slice_index_or ones.words.now (ones.at / 64) 0) c.words-test.true refl (c.know_fits.ensures (ones.at / 64)) c.if-left-ne0.false)
+          ∙ c.words.invariant.left;
+    }
+
+pub returns-clause-steps : goal.returns-clause-steps
+returns-clause-steps c =
+    let none = places_done c.words.self-inside.len c.words.self-inside.words.now c.words.self-inside.at c.words-test.false in
+    (sym c.self.view_is ∙ sym c.words.invariant.left ∙ none, none)

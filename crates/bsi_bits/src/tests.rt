@@ -1,0 +1,337 @@
+//! Bits against plain loops over single bits. Each test tolerates one refused growth, and then makes the same call again.
+ghost use Rattle.std.specs.Prelude.{◌≤◌, ◌^◌};
+
+use super::*;
+use std::alloc::Global;
+use std::test::Fail;
+
+/// The lengths about the edges of a word and of four.
+const LENGTHS: [u64; 9] = [0, 1, 63, 64, 65, 255, 256, 257, 320];
+
+fn filled(alloc: Global, n: u64, bit: bool) -> Result<Bits, NoMemory>
+    requires { n ≤ 2 ^ 32 }
+{
+    match Bits::filled(alloc, n, bit) {
+        Err(_) => Bits::filled(alloc, n, bit),
+        made => made,
+    }
+}
+
+fn copied(bits: &Bits) -> Result<Bits, NoMemory> {
+    match bits.copy() {
+        Err(_) => bits.copy(),
+        made => made,
+    }
+}
+
+// Appends a bit. A refused growth changes nothing, and the same call is made again.
+fn push(bits: &mut Bits, bit: bool) -> Result<bool, NoMemory> {
+    if bits.len() == 1 << 32 {
+        return Ok(false);
+    }
+    let before = (bits.len(), bits.count(), bits.has_room());
+    let mut stayed = true;
+    if bits.reserve_one().is_err() {
+        stayed = (bits.len(), bits.count(), bits.has_room()) == before && !bits.has_room();
+        bits.reserve_one()?;
+    }
+    if bits.has_room() {
+        bits.push_reserved(bit);
+    }
+    Ok(stayed)
+}
+
+// The places below `n` that are divisible by `step`.
+fn multiples(alloc: Global, n: u64, step: u64) -> Result<Bits, NoMemory> {
+    let mut bits = Bits::new(alloc);
+    for i in 0..n {
+        let _stayed = push(&mut bits, step != 0 && i % step == 0)?;
+    }
+    Ok(bits)
+}
+
+fn get(bits: &Bits, i: u64) -> bool {
+    i < bits.len() && bits.get(i)
+}
+
+#[derive(Clone, Copy, Debug)]
+enum Step {
+    And,
+    Or,
+    Xor,
+    AndNot,
+    Copy,
+}
+
+const STEPS: [Step; 5] = [Step::And, Step::Or, Step::Xor, Step::AndNot, Step::Copy];
+
+impl Step {
+    fn of_bits(self, a: bool, b: bool) -> bool {
+        match self {
+            Step::And => a && b,
+            Step::Or => a || b,
+            Step::Xor => a != b,
+            Step::AndNot => a && !b,
+            Step::Copy => b,
+        }
+    }
+
+    // Answers whether the vectors are of one length, so that the step was done.
+    fn apply(self, a: &mut Bits, b: &Bits) -> bool {
+        if a.len() != b.len() {
+            return false;
+        }
+        match self {
+            Step::And => a.and_with(b),
+            Step::Or => a.or_with(b),
+            Step::Xor => a.xor_with(b),
+            Step::AndNot => a.and_not_with(b),
+            Step::Copy => a.copy_from(b),
+        }
+        true
+    }
+
+    // How many pairs of bits it makes a one of, one by one.
+    fn count(self, a: &Bits, b: &Bits) -> u64 {
+        let mut ones = 0u64;
+        for i in 0..a.len() {
+            if self.of_bits(get(a, i), get(b, i)) {
+                ones = ones.saturating_add(1);
+            }
+        }
+        ones
+    }
+}
+
+fn count_and(a: &Bits, b: &Bits) -> Option<u64> {
+    if a.len() == b.len() {
+        Some(a.count_and(b))
+    } else {
+        None
+    }
+}
+
+fn count_and_not(a: &Bits, b: &Bits) -> Option<u64> {
+    if a.len() == b.len() {
+        Some(a.count_and_not(b))
+    } else {
+        None
+    }
+}
+
+// Whether the iterator gives the places that are set, rising, and no other.
+fn ones_are_the_places_set(bits: &Bits) -> bool {
+    let mut next = 0;
+    for place in bits.ones() {
+        for i in next..place {
+            if get(bits, i) {
+                return false;
+            }
+        }
+        if place < next || !get(bits, place) {
+            return false;
+        }
+        next = place.saturating_add(1);
+    }
+    (next..bits.len()).all(|i| !get(bits, i))
+}
+
+#[test]
+fn bits_and_columns(rt: HostRuntime) -> Result<(), Fail> {
+    let mut bits = filled(rt.alloc(), 65, true)?;
+    assert_eq!(rt; bits.count(), 65);
+    let mut turned = copied(&bits)?;
+    turned.flip();
+    assert_eq!(rt; turned.count(), 0);
+    assert_eq!(rt; count_and(&bits, &turned), Some(0));
+    assert!(rt; push(&mut bits, true)?);
+    assert_eq!(rt;
+        (bits.len(), bits.count(), bits.is_empty()),
+        (66, 66, false)
+    );
+    Ok(())
+}
+
+#[test]
+fn lane_counts(rt: HostRuntime) -> Result<(), Fail> {
+    for (n, threes, sixes, odd_threes) in [
+        (0, 0, 0, 0),
+        (255, 85, 43, 42),
+        (256, 86, 43, 43),
+        (257, 86, 43, 43),
+        (320, 107, 54, 53),
+    ] {
+        let a = multiples(rt.alloc(), n, 3)?;
+        let b = multiples(rt.alloc(), n, 2)?;
+        assert_eq!(rt; a.count(), threes, "at {n}");
+        assert_eq!(rt; count_and(&a, &b), Some(sixes), "at {n}");
+        assert_eq!(rt; count_and_not(&a, &b), Some(odd_threes), "at {n}");
+    }
+    Ok(())
+}
+
+#[test]
+fn word_and_lane_edges(rt: HostRuntime) -> Result<(), Fail> {
+    for n in LENGTHS {
+        let mut bits = multiples(rt.alloc(), n, 1)?;
+        assert_eq!(rt; (bits.len(), bits.count()), (n, n));
+        bits.flip();
+        assert_eq!(rt; bits.count(), 0, "at {n}");
+        bits.flip();
+        assert_eq!(rt; bits.count(), n, "at {n}");
+        assert_eq!(rt; filled(rt.alloc(), n, true)?.count(), n);
+        assert_eq!(rt; filled(rt.alloc(), n, false)?.count(), 0);
+    }
+    Ok(())
+}
+
+#[test]
+fn stored_bits(rt: HostRuntime) -> Result<(), Fail> {
+    let bits = filled(rt.alloc(), 65, true)?;
+    assert_eq!(rt; bits.words(), [18446744073709551615, 1].as_slice());
+    let words = bits.into_words();
+    assert_eq!(rt; words.as_slice(), [18446744073709551615, 1].as_slice());
+    let short = match [u64::MAX, u64::MAX].to_vec(rt.alloc()) {
+        Err(_) => [u64::MAX, u64::MAX].to_vec(rt.alloc())?,
+        Ok(words) => words,
+    };
+    assert_eq!(rt; short.len(), 2);
+    let cut = Bits::from_words(short, 66);
+    assert_eq!(rt; cut.words(), [18446744073709551615, 3].as_slice());
+    assert!(rt; Bits::new(rt.alloc()).words().is_empty());
+    Ok(())
+}
+
+#[test]
+fn calls_in_place_do_to_each_bit_what_they_say(rt: HostRuntime) -> Result<(), Fail> {
+    for n in LENGTHS {
+        let a = multiples(rt.alloc(), n, 3)?;
+        let b = multiples(rt.alloc(), n, 2)?;
+        for step in STEPS {
+            let mut c = copied(&a)?;
+            let room = c.has_room();
+            assert!(rt; step.apply(&mut c, &b), "{step:?} at {n}");
+            assert_eq!(rt; (c.len(), c.has_room()), (n, room), "{step:?} at {n}");
+            assert_eq!(rt; c.count(), step.count(&a, &b), "{step:?} at {n}");
+            for i in 0..n {
+                assert_eq!(rt;
+                    get(&c, i),
+                    step.of_bits(get(&a, i), get(&b, i)),
+                    "{step:?} at {i} of {n}"
+                );
+            }
+        }
+        let mut turned = copied(&a)?;
+        turned.flip();
+        for i in 0..n {
+            assert_eq!(rt; get(&turned, i), !get(&a, i), "at {i} of {n}");
+        }
+        assert!(rt;
+            ones_are_the_places_set(&a) && ones_are_the_places_set(&turned),
+            "at {n}"
+        );
+    }
+    Ok(())
+}
+
+#[test]
+fn a_refused_growth_changes_nothing(rt: HostRuntime) -> Result<(), Fail> {
+    let mut bits = Bits::new(rt.alloc());
+    assert!(rt; !bits.has_room() && bits.is_empty());
+    for i in 0..130 {
+        assert!(rt; push(&mut bits, i % 3 == 0)?, "at {i}");
+    }
+    assert_eq!(rt; (bits.len(), bits.count()), (130, 44));
+    let all = match Bits::filled(rt.alloc(), 130, true) {
+        Err(_) => {
+            assert_eq!(rt; (bits.len(), bits.count()), (130, 44));
+            Bits::filled(rt.alloc(), 130, true)?
+        }
+        Ok(all) => all,
+    };
+    let same = match bits.copy() {
+        Err(_) => {
+            assert_eq!(rt; (bits.len(), bits.count()), (130, 44));
+            bits.copy()?
+        }
+        Ok(same) => same,
+    };
+    assert_eq!(rt; count_and(&same, &bits), Some(44));
+    assert_eq!(rt; count_and_not(&all, &same), Some(86));
+    Ok(())
+}
+
+// Five words: four side by side, and one behind them.
+const A: [u64; 5] = [0b1100, 0, u64::MAX, 0xf0f0, 7];
+
+const B: [u64; 5] = [0b1010, 1, 1 << 63, 0xff00, u64::MAX];
+
+const C: [u64; 5] = [0b0110, 2, 3, 0x00ff, 1];
+
+#[derive(Clone, Copy, Debug)]
+enum Kernel {
+    And,
+    Or,
+    Xor,
+    AndNot,
+    OrNot,
+    Not,
+    AndOr,
+    AndAndNot,
+}
+
+impl Kernel {
+    fn run(self) -> [u64; 5] {
+        let mut a = A;
+        match self {
+            Kernel::And => lanes::and(&mut a, &B),
+            Kernel::Or => lanes::or(&mut a, &B),
+            Kernel::Xor => lanes::xor(&mut a, &B),
+            Kernel::AndNot => lanes::and_not(&mut a, &B),
+            Kernel::OrNot => lanes::or_not(&mut a, &B),
+            Kernel::Not => lanes::not(&mut a),
+            Kernel::AndOr => lanes::and_or(&mut a, &B, &C),
+            Kernel::AndAndNot => lanes::and_and_not(&mut a, &B, &C),
+        }
+        a
+    }
+
+    fn of_words(self, a: u64, b: u64, c: u64) -> u64 {
+        match self {
+            Kernel::And => a & b,
+            Kernel::Or => a | b,
+            Kernel::Xor => a ^ b,
+            Kernel::AndNot => a & !b,
+            Kernel::OrNot => a | !b,
+            Kernel::Not => !a,
+            Kernel::AndOr => a & b | c,
+            Kernel::AndAndNot => a & b & !c,
+        }
+    }
+}
+
+#[test]
+fn kernels_on_five_words(rt: HostRuntime) {
+    for kernel in [
+        Kernel::And,
+        Kernel::Or,
+        Kernel::Xor,
+        Kernel::AndNot,
+        Kernel::OrNot,
+        Kernel::Not,
+        Kernel::AndOr,
+        Kernel::AndAndNot,
+    ] {
+        let made = kernel.run();
+        for i in 0..5 {
+            assert_eq!(rt;
+                made[i],
+                kernel.of_words(A[i], B[i], C[i]),
+                "{kernel:?} at {i}"
+            );
+        }
+    }
+    assert_eq!(rt; lanes::count(&A), 77);
+    assert_eq!(rt; lanes::count_and(&A, &B), 9);
+    assert_eq!(rt; lanes::count_and_not(&A, &B), 68);
+}

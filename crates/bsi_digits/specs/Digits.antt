@@ -1,0 +1,47 @@
+-- The digits of a value under bases. Bases and digits stand least significant first: component 0 is the first.
+use Rattle.std.specs.Prelude.{◌≡◌, ℕ, ◌*◌, ◌/◌, ◌%◌, ◌^◌, ◌<◌, ◌≤◌, List, [], ◌∷◌, length, take, map, sum, sum_by, slice_index, EachIndex}
+use Rattle.std.specs.List.{range_with_len}
+
+abbrev pub product : List ℕ → ℕ
+product [] = 1
+product (b ∷ bs) = b * product bs
+
+-- how many values the bases tell apart
+abbrev pub size_of : List ℕ → ℕ
+size_of bs = product bs
+
+-- the weight of a digit of component i: the product of the bases below it
+abbrev pub weight : List ℕ → ℕ → ℕ
+weight bs i = product (take i bs)
+
+-- the numbers of the components
+abbrev pub components : List ℕ → List ℕ
+components bs = range_with_len 0 (length bs)
+
+-- each of these components' digits times its weight, added up in this order
+abbrev pub weighted_sum : List ℕ → List ℕ → List ℕ → ℕ
+weighted_sum bs ds order = sum_by (λ i. slice_index ds i * weight bs i) order
+
+-- one digit for each base, below it, and together they weigh v
+pub record IsDigits (bs : List ℕ) (v : ℕ) (ds : List ℕ) : Type 0 where
+  pub count : length ds ≡ length bs
+  pub below : (i : ℕ) → i < length bs → slice_index ds i < slice_index bs i
+  pub total : weighted_sum bs ds (components bs) ≡ v
+
+-- the digit of component i
+abbrev pub digit_of : List ℕ → ℕ → ℕ → ℕ
+digit_of bs v i = v / weight bs i % slice_index bs i
+
+abbrev pub digits_of : List ℕ → ℕ → List ℕ
+digits_of bs v = map (digit_of bs v) (components bs)
+
+abbrev pub IsBase : ℕ → Type 0
+IsBase b = (2 ≤ b) × (b ≤ 1024)
+
+-- the lists of bases that are accepted
+pub record IsBaseList (bs : List ℕ) : Type 0 where
+  pub some : 0 < length bs
+  pub few : length bs ≤ 63
+  pub each : EachIndex bs (λ i. IsBase (slice_index bs i))
+  pub narrow : sum bs ≤ 4096
+  pub small : size_of bs ≤ 2 ^ 63

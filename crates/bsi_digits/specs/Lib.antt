@@ -1,0 +1,4 @@
+pub mod Digits
+pub mod Refusal
+pub mod Weights
+pub mod Divisor

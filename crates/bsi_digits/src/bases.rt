@@ -1,0 +1,193 @@
+//! A list of bases, which turns a number into its digits.
+ghost use Rattle.std.specs.Prelude.{◌≡◌, ℕ, ◌^◌, ◌<◌, ◌≤◌, ◌↔◌, length, slice_index, position, sum, reverse, replicate, EachIndex, IsNone, IfNone, IfOk, IfErr, IfSome, IsErrOf};
+ghost use Rattle.std.specs.Result.{result_err};
+ghost use Rattle.bsi_digits.specs.Digits.{product, size_of, weight, digit_of, IsBase, IsBaseList};
+ghost use Rattle.bsi_digits.specs.Refusal.{refusal, is_bad_base, IsRefusalOrNoMemory};
+ghost use Rattle.bsi_digits.specs.Weights.{HoldsWeights};
+
+use crate::divisor::Divisor;
+use crate::{BasesError, NoMemory};
+use std::alloc::Global;
+use std::marker::Model;
+
+const MOST_BASES: usize = 63;
+
+const LEAST_BASE: u32 = 2;
+
+const GREATEST_BASE: u32 = 1024;
+
+const WIDEST: u64 = 4096;
+
+const LARGEST_SIZE: u64 = 1 << 63;
+
+/// A list of 1 to 63 bases. A contract sees the bases least significant first, as the components are numbered:
+/// component 0 is the least significant, and is the last base of the list as written.
+#[derive(Debug, Drop)]
+pub struct Bases {
+    bases: Vec<u32>,
+    weights: [Divisor; 64],
+}
+
+impl Model for Bases {
+    ghost use Rattle.std.specs.Prelude.{ℕ, List};
+    ghost use Rattle.bsi_digits.specs.Digits.{IsBaseList};
+    ghost use Rattle.bsi_digits.specs.Weights.{HoldsWeights};
+
+    ghost Value = { List ℕ };
+
+    ghost view = { λ b. b.bases.items };
+
+    ghost invariant = { λ b. IsBaseList b.bases.items × HoldsWeights b.bases.items b.weights };
+}
+
+impl Bases {
+    /// Takes a list of bases, written most significant first. Takes no memory; a list that is refused is dropped.
+    pub fn new(mut bases: Vec<u32>) -> Result<Bases, BasesError>
+        ensures refused { result_err result ≡ refusal bases.items }
+        ensures ok { IfOk result (λ b. b ≡ reverse bases.items) }
+    {
+        if bases.is_empty() {
+            return Err(BasesError::Empty);
+        }
+        if bases.len() > MOST_BASES {
+            return Err(BasesError::TooMany);
+        }
+        if let Some(place) = bad_place(&bases) {
+            return Err(BasesError::BaseOutOfRange(place as u32));
+        }
+        if width(&bases) > WIDEST {
+            return Err(BasesError::TooWide);
+        }
+        bases.reverse();
+        match weights(&bases) {
+            None => Err(BasesError::ProductTooLarge),
+            Some(weights) => Ok(Bases { bases, weights }),
+        }
+    }
+
+    /// Makes `w` bases of 2, under which the digits of a number are its binary digits.
+    pub fn twos(alloc: Global, w: u32) -> Result<Bases, BasesError>
+        ensures empty { IsErrOf result BasesError.Empty ↔ (w ≡ 0) }
+        ensures too_many { IsErrOf result BasesError.TooMany ↔ (63 < w) }
+        ensures refused { IfErr result (λ e. IsRefusalOrNoMemory (refusal (replicate w 2)) e) }
+        ensures ok { IfOk result (λ b. b ≡ replicate w 2) }
+    {
+        if w == 0 {
+            return Err(BasesError::Empty);
+        }
+        if w > MOST_BASES as u32 {
+            return Err(BasesError::TooMany);
+        }
+        Bases::new(vec![in alloc; 2; w as usize]?)
+    }
+
+    /// Makes a second list of the same bases.
+    pub fn copy(&self) -> Result<Bases, NoMemory>
+        ensures { IfOk result (λ b. b ≡ self.now) }
+    {
+        let bases = self.bases.clone()?;
+        Ok(Bases {
+            bases,
+            weights: self.weights,
+        })
+    }
+
+    /// Returns how many values the bases tell apart: the product of all of them.
+    pub fn size(&self) -> u64
+        ensures size { result ≡ size_of self.now }
+        ensures within { result ≤ 2 ^ 63 }
+        ensures valid { IsBaseList self.now }
+    {
+        self.divisor(self.bases.len()).value()
+    }
+
+    /// Returns the number of components, 1 to 63.
+    pub fn len(&self) -> u32
+        ensures len { result ≡ length self.now }
+        ensures within { (1 ≤ result) × (result ≤ 63) }
+        ensures valid { IsBaseList self.now }
+    {
+        self.bases.len() as u32
+    }
+
+    /// Returns the base of component `i`, from 2 to 1,024.
+    pub fn base(&self, i: u32) -> u32
+        requires { i < length self.now }
+        ensures base { result ≡ slice_index self.now i }
+        ensures within { (2 ≤ result) × (result ≤ 1024) }
+    {
+        self.bases[i as usize]
+    }
+
+    /// Returns the digit of component `i` of `v`. Costs no division.
+    pub fn digit(&self, v: u64, i: u32) -> u32
+        requires within { i < length self.now }
+        requires below { v < size_of self.now }
+        ensures digit { result ≡ digit_of self.now v i }
+        ensures below { result < slice_index self.now i }
+    {
+        let from_here = self.divisor(i as usize).quotient(v);
+        let above = self.divisor(i as usize + 1).quotient(v);
+        (from_here - above * u64::from(self.base(i))) as u32
+    }
+
+    /// Returns the weight of a digit of component `i`: the product of the bases below it.
+    pub fn weight(&self, i: u32) -> u64
+        requires { i < length self.now }
+        ensures weight { result ≡ weight self.now i }
+        ensures within { (1 ≤ result) × (result ≤ size_of self.now) }
+    {
+        self.divisor(i as usize).value()
+    }
+
+    /// Returns the weight of the component at `place`, or the size behind the last.
+    fn divisor(&self, place: usize) -> &Divisor
+        requires { place ≤ length self.now }
+        ensures weight { result.now ≡ weight self.now place }
+        ensures valid { IsBaseList self.now }
+    {
+        let weights = &self.weights[..];
+        &weights[place]
+    }
+}
+
+/// Returns the first place of a base that is out of range.
+fn bad_place(bases: &[u32]) -> Option<usize>
+    ensures place { result ≡ position is_bad_base bases.now }
+    ensures within { IfSome result (λ place. place < length bases.now) }
+    ensures none { IfNone result (EachIndex bases.now (λ i. IsBase (slice_index bases.now i))) }
+{
+    bases
+        .iter()
+        .position(|base| *base < LEAST_BASE || *base > GREATEST_BASE)
+}
+
+/// Returns the sum of the bases.
+fn width(bases: &[u32]) -> u64
+    requires { length bases.now ≤ 63 }
+    ensures { result ≡ sum bases.now }
+{
+    bases.iter().map(|base| u64::from(*base)).sum()
+}
+
+/// Returns the weight of each component and, behind the last, the product of all bases, which are least significant
+/// first; `None` where the product is over the largest size.
+fn weights(bases: &[u32]) -> Option<[Divisor; 64]>
+    requires few { length bases.now ≤ 63 }
+    requires each { EachIndex bases.now (λ i. 1 ≤ slice_index bases.now i) }
+    ensures none { IsNone result ↔ (2 ^ 63 < product bases.now) }
+    ensures some { IfSome result (HoldsWeights bases.now) }
+{
+    let mut kept = [Divisor::new(1); 64];
+    let weights = &mut kept[..];
+    let mut weight = 1u64;
+    for i in 0..bases.len() {
+        let next = u128::from(weight) * u128::from(bases[i]);
+        if next > u128::from(LARGEST_SIZE) {
+            return None;
+        }
+        weight = next as u64;
+        weights[i + 1] = Divisor::new(weight);
+    }
+    Some(kept)
+}

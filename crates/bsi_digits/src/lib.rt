@@ -1,0 +1,13 @@
+//! Digits of a number under a list of bases.
+#![tactic(auto)]
+
+mod bases;
+mod bases_error;
+mod divisor;
+pub mod laws;
+#[cfg(test)]
+mod tests;
+
+pub use bases::Bases;
+pub use bases_error::BasesError;
+pub use std::alloc::AllocError as NoMemory;
