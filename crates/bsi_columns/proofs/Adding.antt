@@ -1,11 +1,18 @@
 -- The sum of the numbers of a found set, by the sums of their digits.
-use Rattle.std.proofs.Common.{◌≡◌, ℕ, ◌+◌, ◌*◌, ◌≤◌, Bool, true, false, cond, List, [], ◌∷◌, Option, Some, None, length, map, ap, ap₂, sym, ◌∙◌, refl, arith}
-use Rattle.std.specs.Prelude.{count_by, sum, sum_by, ◌&&◌}
+use Rattle.std.proofs.Common.{◌≡◌, ℕ, ◌+◌, ◌*◌, ◌/◌, ◌%◌, ◌^◌, ◌<◌, ◌≤◌, suc, Bool, true, false, cond, List, [], ◌∷◌, Option, Some, None, All, length, get_or, map, ap, ap₂, sym, ◌∙◌, refl, arith, mod-eq_of_lt}
+use Rattle.std.specs.Prelude.{count_by, sum, sum_by, ◌&&◌, ◌==◌}
+use Rattle.std.specs.Int.{bit_at}
 use Rattle.std.specs.List.{items_where_true}
 use Rattle.std.specs.Simd.Lanes.{zip2}
+use Rattle.std.proofs.Math.Nat.{zero-div, zero-mod}
+use Rattle.std.proofs.lemmas.Nat.{mod_below, mul-le}
+use Rattle.std.proofs.lemmas.Nat.Bits.{bit_at-zero}
 use Rattle.std.proofs.lemmas.List.Sums.{sum_by-cons}
+use Rattle.bsi_digits.specs.Digits.{weight, digit_of, IsBaseList}
+use Rattle.bsi_digits.proofs.CallerLemmas.{low_more, weight_pos}
 use Rattle.bsi_columns.specs.Rows.{number_or_zero}
 use Rattle.bsi_columns.specs.Totals.{numbers_at}
+use Rattle.bsi_columns.proofs.SliceNumbers.{places_more}
 
 -- the digits at the found rows, those of nulls being 0, add up as the digits of the numbers do
 pub sum_found : (g : ℕ → ℕ) → g 0 ≡ 0 → (found : List Bool) (entries : List (Option ℕ))
@@ -58,3 +65,67 @@ length-numbers_at (true ∷ found) (Some n ∷ entries) = let rest = length-numb
 pub sum_bound : (f : ℕ → ℕ) (top : ℕ) → ((n : ℕ) → f n ≤ top) → (xs : List ℕ) → sum_by f xs ≤ length xs * top
 sum_bound f top each [] = omega arith
 sum_bound f top each (x ∷ xs) = let rest = sum_bound f top each xs in omega (arith, rest, each x, sum_by-cons f x xs)
+
+-- numbers below the size are their own remainders
+pub sum_whole : (size : ℕ) (found : List Bool) (entries : List (Option ℕ)) → All (λ e. number_or_zero e < size) entries
+    → sum_by (λ n. n % size) (numbers_at found entries) ≡ sum (numbers_at found entries)
+sum_whole size [] entries below = refl
+sum_whole size (f ∷ found) [] below = refl
+sum_whole size (false ∷ found) (e ∷ entries) below = sum_whole size found entries (λ i d within. below (suc i) d (omega arith))
+sum_whole size (true ∷ found) (None ∷ entries) below = sum_whole size found entries (λ i d within. below (suc i) d (omega arith))
+sum_whole size (true ∷ found) (Some n ∷ entries) below =
+    let numbers = numbers_at found entries in
+    sum_by-cons (λ x. x % size) n numbers
+    ∙ ap₂ ◌+◌ (mod-eq_of_lt (below 0 (Some n) (omega arith))) (sum_whole size found entries (λ i d within. below (suc i) d (omega arith)))
+    ∙ sym (sum_by-cons (λ x. x) n numbers)
+
+-- remainders of at most 2^32 numbers by at most 2^63 add up to less than 2^95
+pub sum_small : (w : ℕ) (found : List Bool) (entries : List (Option ℕ)) → 1 ≤ w → w ≤ 2 ^ 63 → length entries ≤ 2 ^ 32
+    → sum_by (λ n. n % w) (numbers_at found entries) ≤ 2 ^ 95
+sum_small w found entries some small few =
+    let numbers = numbers_at found entries in
+    let each : (n : ℕ) → n % w ≤ 2 ^ 63 = λ n. omega (arith, mod_below n w some) in
+    let many = length-numbers_at found entries in
+    let product = mul-le (length numbers) (2 ^ 63) (2 ^ 32) (2 ^ 63) (omega arith) (omega arith) in
+    omega (arith, sum_bound (λ n. n % w) (2 ^ 63) each numbers, product)
+
+none_below_one : (numbers : List ℕ) → 0 ≡ sum_by (λ n. n % 1) numbers
+none_below_one [] = refl
+none_below_one (x ∷ xs) =
+    let none : x % 1 ≡ 0 = omega arith in
+    omega (arith, none_below_one xs, sum_by-cons (λ n. n % 1) x xs, none)
+
+-- at first no digit is added
+pub sum_none : (bs : List ℕ) (numbers : List ℕ) → 0 ≡ sum_by (λ n. n % weight bs 0) numbers
+sum_none bs numbers = none_below_one numbers
+
+zero_digit_of : (bs : List ℕ) → IsBaseList bs → (i : ℕ) → i < length bs → digit_of bs 0 i ≡ 0
+zero_digit_of bs valid i within =
+    let high : 0 / weight bs i ≡ 0 = zero-div (weight bs i) in
+    ap (λ q. q % get_or bs i 0) high ∙ zero-mod (get_or bs i 0)
+
+-- one component more
+pub sum_digits : (bs : List ℕ) → IsBaseList bs → (i : ℕ) → i < length bs → (found : List Bool) (entries : List (Option ℕ)) (digits : List ℕ) (total digit_sum w : ℕ)
+    → total ≡ sum_by (λ n. n % weight bs i) (numbers_at found entries)
+    → digits ≡ map (λ e. digit_of bs (number_or_zero e) i) entries → digit_sum ≡ sum (items_where_true found digits) → w ≡ weight bs i
+    → total + digit_sum * w ≡ sum_by (λ n. n % weight bs (i + 1)) (numbers_at found entries)
+sum_digits bs valid i within found entries digits total digit_sum w total_is digits_is digit_sum_is w_is =
+    let numbers = numbers_at found entries in
+    let zero_digit : digit_of bs 0 i ≡ 0 = zero_digit_of bs valid i within in
+    let summed = digit_sum_is ∙ ap (λ ds. sum (items_where_true found ds)) digits_is ∙ sum_found (λ n. digit_of bs n i) zero_digit found entries in
+    let parts = sum_parts (λ n. n % weight bs (i + 1)) (λ n. digit_of bs n i) (λ n. n % weight bs i) (weight bs i) (λ n. low_more valid n i within) numbers in
+    let product = ap₂ ◌*◌ summed w_is in
+    omega (arith, total_is, product, parts)
+
+-- one slice more
+pub sum_slice : (i : ℕ) (found : List Bool) (entries : List (Option ℕ)) (bits : List Bool) (total count w : ℕ)
+    → total ≡ sum_by (λ n. n % 2 ^ i) (numbers_at found entries)
+    → bits ≡ map (λ e. bit_at (number_or_zero e) i == 1) entries → count ≡ count_by (λ b. b) (zip2 ◌&&◌ found bits) → w ≡ 2 ^ i
+    → total + count * w ≡ sum_by (λ n. n % 2 ^ (i + 1)) (numbers_at found entries)
+sum_slice i found entries bits total count w total_is bits_is count_is w_is =
+    let numbers = numbers_at found entries in
+    let off : (bit_at 0 i == 1) ≡ false = ap (λ b. b == 1) (bit_at-zero i) in
+    let counted = count_is ∙ ap (λ bs. count_by (λ b. b) (zip2 ◌&&◌ found bs)) bits_is ∙ count_found (λ n. bit_at n i == 1) off found entries in
+    let parts = sum_parts (λ n. n % 2 ^ (i + 1)) (λ n. cond (bit_at n i == 1) 1 0) (λ n. n % 2 ^ i) (2 ^ i) (λ n. places_more n i ∙ omega arith) numbers in
+    let product = ap₂ ◌*◌ counted w_is in
+    omega (arith, total_is, product, parts)

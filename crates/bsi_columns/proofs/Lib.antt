@@ -11,6 +11,7 @@ pub mod EqualityReads
 pub mod RangeDigits
 pub mod RangeReads
 pub mod Ranking
+pub mod Rungs
 pub mod SliceBlocks
 pub mod SliceEntries
 pub mod SliceNumbers

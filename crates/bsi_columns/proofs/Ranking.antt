@@ -8,11 +8,12 @@ use Rattle.std.proofs.lemmas.Nat.{div-add-mod', mod_below}
 use Rattle.bsi_digits.proofs.CallerLemmas.{two_eq, two_lt}
 use Rattle.std.proofs.lemmas.Bool.{cases_Bool}
 use Rattle.std.proofs.lemmas.Bool.Decides.{nat_tests}
+use Rattle.std.proofs.lemmas.List.{nil_from_length}
 use Rattle.std.proofs.lemmas.List.Sums.{sum_by-cons, get_or-le-sum_by}
 use Rattle.std.proofs.lemmas.List.Elements.{All-from_get_or}
 use Rattle.bsi_columns.specs.Component.{count_where}
 use Rattle.bsi_columns.specs.Rows.{number_or_zero}
-use Rattle.bsi_columns.specs.Totals.{numbers_at, IsLeast, IsGreatest, IsLowerMedian}
+use Rattle.bsi_columns.specs.Totals.{numbers_at, IsRanked, IsLeast, IsGreatest, IsLowerMedian}
 
 -- ---- counts of numbers that pass a test
 
@@ -67,10 +68,6 @@ none_from_count p xs none = All-from_get_or (λ n. p n ≡ false) xs 0 (λ i wit
     ])
 
 -- ---- the number of rank k: at most k numbers are below it, and more than k are at most it
-
-pub record IsRanked (numbers : List ℕ) (k m : ℕ) : Type 0 where
-  pub low : count_by (λ n. nat_lt n m) numbers ≤ k
-  pub high : k < count_by (λ n. nat_le n m) numbers
 
 below_or_same : (n m : ℕ) → cond (nat_le n m) 1 0 ≡ cond (nat_lt n m) 1 0 + cond (nat_eq n m) 1 0
 below_or_same n m = grind (arith, nat_tests)
@@ -292,6 +289,15 @@ start_narrowed p (f ∷ found) (e ∷ entries) all =
 equal_test : (n : ℕ) → n ≡ 0 → nat_eq n 0 ≡ true
 equal_test n zero_is = grind (arith, nat_tests)
 
+-- the found rows that have a number are as many as the numbers
+pub count_numbers : (found : List Bool) (entries : List (Option ℕ)) → count_by (λ b. b) (zip2 ◌&&◌ found (map is_some entries)) ≡ length (numbers_at found entries)
+count_numbers found entries =
+    ap (count_by (λ b. b)) (start_narrowed (λ n. true) found entries (λ i d within. refl))
+    ∙ narrowed_count (λ n. true) found entries ∙ count_all (numbers_at found entries)
+
+pub no_numbers : (numbers : List ℕ) → length numbers ≡ 0 → numbers ≡ []
+no_numbers numbers none = nil_from_length numbers none
+
 module _ (found : List Bool) (entries : List (Option ℕ)) (k : ℕ) where
   -- at first all found rows with a number are left
   pub narrowed_start : (size : ℕ) (chosen : List Bool) → All (λ e. number_or_zero e / size ≡ 0) entries
@@ -299,8 +305,7 @@ module _ (found : List Bool) (entries : List (Option ℕ)) (k : ℕ) where
       → IsNarrowed size found entries k 0 k chosen
   narrowed_start size chosen below chosen_is there =
       let numbers = numbers_at found entries in
-      let all = start_narrowed (λ n. true) found entries (λ i d within. refl) in
-      let counted = ap (count_by (λ b. b)) (chosen_is ∙ all) ∙ narrowed_count (λ n. true) found entries ∙ count_all numbers in
+      let counted = ap (count_by (λ b. b)) chosen_is ∙ count_numbers found entries in
       record {
         chosen_is = chosen_is ∙ start_narrowed (λ n. nat_eq (n / size) 0) found entries (λ i d within. equal_test (number_or_zero (get_or entries i d) / size) (below i d within));
         rank_is = let none = count_none (λ n. nat_lt (n / size) 0) (λ n. not_below_zero (n / size)) numbers in omega (arith, none);
@@ -320,3 +325,25 @@ module _ (found : List Bool) (entries : List (Option ℕ)) (k : ℕ) where
         low = omega (arith, state.rank_is, below);
         high = omega (arith, state.rank_is, state.there, below, same, left, split);
       }
+
+either_way : (f b : Bool) → cond f 1 0 ≡ cond (f && b) 1 0 + cond (f && not b) 1 0
+either_way false b = refl
+either_way true false = refl
+either_way true true = refl
+
+-- the rows that are set are those that are set in a slice too and those that are not
+pub count_by_slice : (chosen slice : List Bool) → length slice ≡ length chosen
+    → count_by (λ b. b) chosen ≡ count_by (λ b. b) (zip2 ◌&&◌ chosen slice) + count_by (λ b. b) (zip2 (λ f b. f && not b) chosen slice)
+count_by_slice [] slice same = refl
+count_by_slice (f ∷ chosen) [] same = absurd (omega arith)
+count_by_slice (f ∷ chosen) (b ∷ slice) same =
+    let rest = count_by_slice chosen slice (omega arith) in
+    let one : cond f 1 0 ≡ cond (f && b) 1 0 + cond (f && not b) 1 0 = either_way f b in
+    omega (
+      arith,
+      rest,
+      one,
+      count_cons (λ b. b) f chosen,
+      count_cons (λ b. b) (f && b) (zip2 ◌&&◌ chosen slice),
+      count_cons (λ b. b) (f && not b) (zip2 (λ f b. f && not b) chosen slice),
+    )

@@ -1,7 +1,8 @@
 //! What a column is to a table: a list of optional numbers below its size.
 
-ghost use Rattle.std.specs.Prelude.{◌≡◌, ℕ, ◌^◌, ◌≤◌, ◌<◌, Bool, List, Option, [], ◌∷◌, ◌++◌, All, length, map, is_some, is_none, IsTrue, IfOk, OnOk};
+ghost use Rattle.std.specs.Prelude.{◌≡◌, ℕ, ◌^◌, ◌≤◌, ◌<◌, Bool, List, Option, [], ◌∷◌, ◌++◌, All, length, map, is_some, is_none, sum, IsTrue, IfOk, OnOk};
 ghost use Rattle.bsi_columns.specs.Rows.{number_or_zero, selects};
+ghost use Rattle.bsi_columns.specs.Totals.{numbers_at, IsRanked, IsLeastOf, IsGreatestOf, IsMedianOf};
 
 use crate::NoMemory;
 use bsi_bits::Bits;
@@ -73,6 +74,54 @@ pub trait Column: Drop {
         requires { length (entries self.now) ≡ length out.old.bits }
         ensures bits { out.new.bits ≡ map is_none (entries self.now) }
         ensures room { out.new.room ≡ out.old.room };
+
+    /// The sum of the numbers at the rows of a found set, below 2^95. A null counts for nothing.
+    fn sum(&self, found: &Bits) -> u128
+        requires { length (entries self.now) ≡ length found.now.bits }
+        ensures sum { result ≡ sum (numbers_at found.now.bits (entries self.now)) }
+        ensures within { result ≤ 2 ^ 95 };
+
+    /// The number of rank `k`, from 0, among those at the rows of a found set: the one at place `k` if they stood in order.
+    fn ranked(&self, found: &Bits, k: u64) -> Result<u64, NoMemory>
+        requires same { length (entries self.now) ≡ length found.now.bits }
+        requires there { k < length (numbers_at found.now.bits (entries self.now)) }
+        ensures { IfOk result (IsRanked (numbers_at found.now.bits (entries self.now)) k) };
+
+    /// The least number at the rows of a found set, none where there is none.
+    fn least(&self, found: &Bits) -> Result<Option<u64>, NoMemory>
+        requires { length (entries self.now) ≡ length found.now.bits }
+        ensures { IfOk result (λ o. IsLeastOf (numbers_at found.now.bits (entries self.now)) o) }
+    {
+        let numbers = found.count_and(self.present());
+        if numbers == 0 {
+            return Ok(None);
+        }
+        Ok(Some(self.ranked(found, 0)?))
+    }
+
+    /// The greatest number at the rows of a found set, none where there is none.
+    fn greatest(&self, found: &Bits) -> Result<Option<u64>, NoMemory>
+        requires { length (entries self.now) ≡ length found.now.bits }
+        ensures { IfOk result (λ o. IsGreatestOf (numbers_at found.now.bits (entries self.now)) o) }
+    {
+        let numbers = found.count_and(self.present());
+        if numbers == 0 {
+            return Ok(None);
+        }
+        Ok(Some(self.ranked(found, numbers - 1)?))
+    }
+
+    /// The lower median of the numbers at the rows of a found set, none where there is none.
+    fn median(&self, found: &Bits) -> Result<Option<u64>, NoMemory>
+        requires { length (entries self.now) ≡ length found.now.bits }
+        ensures { IfOk result (λ o. IsMedianOf (numbers_at found.now.bits (entries self.now)) o) }
+    {
+        let numbers = found.count_and(self.present());
+        if numbers == 0 {
+            return Ok(None);
+        }
+        Ok(Some(self.ranked(found, (numbers - 1) / 2)?))
+    }
 
     /// The not-null bitmap.
     fn present(&self) -> &Bits

@@ -12,6 +12,7 @@ use std::alloc::Global;
 use std::marker::Model;
 
 mod compare;
+mod totals;
 
 /// A column of numbers below the product of its bases, which keeps a component for each base.
 #[derive(Drop)]
@@ -56,9 +57,10 @@ impl<E: Encoding> Decomposed<E> {
         })
     }
 
-    /// The bases, of which component `i` has the one at place `i`.
+    /// The bases, of which component `i` has the one at place `i`. Each number is below their product.
     pub fn bases(&self) -> &Bases
-        ensures { result.now ≡ self.now.bases }
+        ensures bases { result.now ≡ self.now.bases }
+        ensures below { All (λ e. number_or_zero e < size_of self.now.bases) self.now.entries }
     {
         &self.bases
     }
@@ -113,6 +115,14 @@ impl<E: Encoding> Column for Decomposed<E> {
             Op::Gt => self.at_most(constant, false),
             Op::Ge => self.below(constant, false),
         }
+    }
+
+    fn sum(&self, found: &Bits) -> u128 {
+        self.sum_found(found)
+    }
+
+    fn ranked(&self, found: &Bits, k: u64) -> Result<u64, NoMemory> {
+        self.number_of_rank(found, k)
     }
 
     fn nulls_into(&self, out: &mut Bits) {

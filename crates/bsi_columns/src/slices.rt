@@ -1,6 +1,6 @@
 //! A column as bit slices: one bit vector for each binary place of its numbers, as O'Neil and Quass described in 1997.
 
-ghost use Rattle.std.specs.Prelude.{◌≡◌, ℕ, ◌++◌, ◌∷◌, [], ◌<◌, ◌≤◌, ◌^◌, ◌==◌, ◌&&◌, length, map, IfOk, IsTrue, OnOk};
+ghost use Rattle.std.specs.Prelude.{◌≡◌, ℕ, ◌++◌, ◌∷◌, [], All, ◌<◌, ◌≤◌, ◌^◌, ◌==◌, ◌&&◌, length, map, IfOk, IsTrue, OnOk};
 ghost use Rattle.std.specs.Int.{bit_at};
 ghost use Rattle.bsi_columns.specs.Rows.{number_or_zero, selects};
 ghost use Rattle.bsi_columns.specs.Slices.{entries_in, has_room_at, have_room, slice_at, IsSliced};
@@ -13,6 +13,7 @@ use std::alloc::Global;
 use std::marker::Model;
 
 mod compare;
+mod totals;
 
 /// A column of optional numbers below two to the power of its width. Slice `i` is binary place `i` of the numbers, and
 /// clear where a row is null.
@@ -48,10 +49,11 @@ impl Slices {
         })
     }
 
-    /// The number of slices, from 1 to 63.
+    /// The number of slices, from 1 to 63. Each number is below two to its power.
     pub fn width(&self) -> u32
         ensures width { result ≡ self.now.width }
         ensures within { (1 ≤ result) × (result ≤ 63) }
+        ensures below { All (λ e. number_or_zero e < 2 ^ self.now.width) self.now.entries }
     {
         self.slices.len() as u32
     }
@@ -94,6 +96,14 @@ impl Column for Slices {
 
     fn compare(&self, op: Op, constant: u64) -> Result<Bits, NoMemory> {
         select(&self.slices, &self.present, op, constant)
+    }
+
+    fn sum(&self, found: &Bits) -> u128 {
+        self.sum_found(found)
+    }
+
+    fn ranked(&self, found: &Bits, k: u64) -> Result<u64, NoMemory> {
+        self.number_of_rank(found, k)
     }
 
     fn nulls_into(&self, out: &mut Bits) {

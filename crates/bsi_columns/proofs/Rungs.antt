@@ -1,0 +1,68 @@
+-- One component on the way to the number of a rank.
+use Rattle.std.proofs.Common.{◌≡◌, ℕ, ◌+◌, ◌*◌, ◌/◌, ◌%◌, ◌<◌, ◌≤◌, Bool, List, Option, None, All, length, get_or, map, inl, inr, ap, sym, subst, ◌∙◌, arith}
+use Rattle.std.specs.Prelude.{count_by, is_some, nat_eq, nat_lt, ◌&&◌}
+use Rattle.std.specs.Simd.Lanes.{zip2}
+use Rattle.std.proofs.lemmas.Nat.{mod_below, mul-le}
+use Rattle.std.proofs.lemmas.Bool.{cases_lt}
+use Rattle.std.proofs.lemmas.List.{length-map, get_or-map, get_or_past}
+use Rattle.bsi_digits.specs.Digits.{weight, size_of, digit_of, IsBaseList}
+use Rattle.bsi_digits.proofs.CallerLemmas.{high_all, weight_all, weight_more, weight_pos}
+use Rattle.bsi_columns.specs.Component.{count_where}
+use Rattle.bsi_columns.specs.Rows.{number_or_zero}
+use Rattle.bsi_columns.specs.Totals.{numbers_at}
+use Rattle.bsi_columns.proofs.Ranking.{IsNarrowed, narrowed_start, narrowed_step}
+
+-- with more digits the number still leaves room for those that are left
+pub next_small : (number w b d s : ℕ) → d < b → number * (w * b) + w * b ≤ s → (number * b + d) * w + w ≤ s
+next_small number w b d s below small = omega (arith, mul-le (d + 1) w b w (omega arith) (omega arith))
+
+-- and fits where the size does
+pub fits_size : (number w s : ℕ) → 1 ≤ w → number * w + w ≤ s → number < s
+fits_size number w s some small = omega (arith, mul-le number 1 number w (omega arith) some)
+
+-- the rows that are left among those of a found set, above component i of a column under these bases
+pub record IsRung (bs : List ℕ) (found : List Bool) (entries : List (Option ℕ)) (k i number rank : ℕ) (chosen : List Bool) : Type 0 where
+  pub within : i ≤ length bs
+  pub narrowed : IsNarrowed (weight bs i) found entries k number rank chosen
+  pub small : number * weight bs i + weight bs i ≤ size_of bs
+
+module _ (bs : List ℕ) (valid : IsBaseList bs) (found : List Bool) (entries : List (Option ℕ)) (k : ℕ) where
+  pub rung_start : (chosen : List Bool) → All (λ e. number_or_zero e < size_of bs) entries → chosen ≡ zip2 ◌&&◌ found (map is_some entries)
+      → k < length (numbers_at found entries) → IsRung bs found entries k (length bs) 0 k chosen
+  rung_start chosen below chosen_is there = record {
+    within = omega arith;
+    narrowed = narrowed_start found entries k (weight bs (length bs)) chosen (λ i d within. high_all bs (number_or_zero (get_or entries i d)) (below i d within)) chosen_is there;
+    small = omega (arith, weight_all bs);
+  }
+
+  module _ (i : ℕ) (within : i < length bs) where
+    -- each digit is below its base, and so is what stands past the end
+    pub digits_below : (digits : List ℕ) → digits ≡ map (λ e. digit_of bs (number_or_zero e) i) entries → (r : ℕ) → get_or digits r 0 < get_or bs i 0
+    digits_below digits is r =
+        let base = valid.each i within in
+        let some : 0 < get_or bs i 0 = omega (arith, base) in
+        elim (cases_lt r (length digits)) [
+          | inl inside ↦
+            let in_entries : r < length entries = omega (arith, ap length is, length-map entries (λ e. digit_of bs (number_or_zero e) i)) in
+            let read = ap (λ ds. get_or ds r 0) is ∙ get_or-map (λ e. digit_of bs (number_or_zero e) i) entries r None 0 in_entries in
+            let below = mod_below (number_or_zero (get_or entries r None) / weight bs i) (get_or bs i 0) some in
+            omega (arith, read, below)
+          | inr past ↦ omega (arith, get_or_past digits r 0 past)
+        ]
+
+    pub rung_step : (number rank d rank' : ℕ) (chosen chosen' : List Bool) (digits : List ℕ) → IsRung bs found entries k (i + 1) number rank chosen
+        → digits ≡ map (λ e. digit_of bs (number_or_zero e) i) entries → d < get_or bs i 0
+        → chosen' ≡ zip2 (λ f v. f && nat_eq v d) chosen digits → rank ≡ count_where (λ v. nat_lt v d) chosen digits + rank' → rank' < count_by (λ b. b) chosen'
+        → IsRung bs found entries k i (number * get_or bs i 0 + d) rank' chosen'
+    rung_step number rank d rank' chosen chosen' digits rung is below chosen_is rank_is there =
+        let base = get_or bs i 0 in
+        let more = weight_more bs i within in
+        let AtWeight : ℕ → Type 0 = λ w. IsNarrowed w found entries k number rank chosen in
+        let state = subst AtWeight more rung.narrowed in
+        record {
+          within = omega arith;
+          narrowed = narrowed_step (weight bs i) base found entries k number rank chosen (omega (arith, weight_pos valid i)) state d rank' chosen' below
+            (chosen_is ∙ ap (zip2 (λ f v. f && nat_eq v d) chosen) is) (rank_is ∙ ap (λ ds. count_where (λ v. nat_lt v d) chosen ds + rank') is) there;
+          small = next_small number (weight bs i) base d (size_of bs) below (
+            let Small : ℕ → Type 0 = λ w. number * w + w ≤ size_of bs in subst Small more rung.small);
+        }

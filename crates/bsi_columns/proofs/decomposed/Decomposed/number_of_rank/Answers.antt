@@ -1,0 +1,99 @@
+use Rattle.std.proofs.Common.{◌≡◌, ℕ, ◌+◌, ◌-◌, ◌*◌, ◌<◌, ◌≤◌, ◌^◌, All, List, length, get_or, map, ap, ap₂, sym, subst, ◌∙◌, arith}
+use Rattle.std.specs.Prelude.{is_some, nat_eq, ◌&&◌}
+use Rattle.std.specs.Simd.Lanes.{zip2}
+use Rattle.std.proofs.lemmas.Simd.{length-zip2}
+use Rattle.std.proofs.lemmas.List.{length-map}
+use Rattle.bsi_digits.specs.Digits.{weight, size_of, digit_of}
+use Rattle.bsi_digits.proofs.CallerLemmas.{weight_pos}
+use Rattle.bsi_columns.specs.Rows.{number_or_zero}
+use Rattle.bsi_columns.proofs.Ranking.{narrowed_end}
+use Rattle.bsi_columns.proofs.Rungs.{IsRung, rung_start, rung_step, digits_below, fits_size}
+use Rattle.bsi_columns.proofs.decomposed.Decomposed.number_of_rank.Given as given
+use Rattle.bsi_columns.proofs.decomposed.Decomposed.number_of_rank.Goals as goal
+use Rattle.bsi_columns.proofs.decomposed.Decomposed.number_of_rank.Goals.{After-from}
+
+pub components-init : goal.components-init
+components-init g c =
+    let bs = c.bases-bases.result.now in
+    let entries = c.args.self.now.entries in
+    let found = c.args.found.now.bits in
+    let IsBelow : List ℕ → Type 0 = λ bs. All (λ e. number_or_zero e < size_of bs) entries in
+    let below = subst IsBelow (sym c.bases-bases.ensures.bases) c.bases-bases.ensures.below in
+    let chosen : c.and_with.new.self.bits ≡ zip2 ◌&&◌ found (map is_some entries) = c.and_with.ensures.bits ∙ ap₂ (zip2 ◌&&◌) c.in_ok-chosen.ensures c.present.ensures in
+    let start = rung_start bs c.len-i.ensures.valid found entries c.args.k c.and_with.new.self.bits below chosen c.requires.there in
+    let AtHeight : ℕ → Type 0 = λ i. IsRung bs found entries c.args.k i 0 c.args.k c.and_with.new.self.bits in
+    record {
+      rung = subst AtHeight (sym c.len-i.ensures.len) start;
+      chosen_even = ap length chosen ∙ length-zip2 ◌&&◌ found (map is_some entries) (sym (length-map entries is_some ∙ c.requires.same)) ;
+      scratch_even = ap length c.in_ok-scratch.ensures;
+    }
+
+pub choose-choice-requires-clause-below : goal.choose-choice-requires-clause-below
+choose-choice-requires-clause-below g c =
+    let bs = c.bases-bases.result.now in
+    let entries = c.args.self.now.entries in
+    let j = c.components.i - 1 in
+    let same = sym c.bases-bases.ensures.bases in
+    let within : j < length bs = omega (arith, c.components.invariant.rung.within, c.components-test.true) in
+    let digits = c.component.ensures.digits ∙ ap (λ bs. map (λ e. digit_of bs (number_or_zero e) j) entries) same in
+    let base = c.component.ensures.base ∙ ap (λ bs. get_or bs j 0) same in
+    λ r. omega (arith, base, digits_below bs c.len-i.ensures.valid c.args.found.now.bits entries c.args.k j within (g.E.Encoding.digits c.component.result.now) digits r)
+
+-- one component down
+next : (g : given.Over) (c : goal.After-from g)
+    → IsRung c.bases-bases.result.now c.args.found.now.bits c.args.self.now.entries c.args.k (c.components.i - 1)
+      (c.components.number * c.from.result + c.choose-choice.result.digit) c.choose-choice.result.rank c.choose-choice.new.chosen.bits
+next g c =
+    let bs = c.bases-bases.result.now in
+    let entries = c.args.self.now.entries in
+    let found = c.args.found.now.bits in
+    let j = c.components.i - 1 in
+    let same = sym c.bases-bases.ensures.bases in
+    let within : j < length bs = omega (arith, c.components.invariant.rung.within, c.components-test.true) in
+    let digits = c.component.ensures.digits ∙ ap (λ bs. map (λ e. digit_of bs (number_or_zero e) j) entries) same in
+    let base = c.component.ensures.base ∙ ap (λ bs. get_or bs j 0) same in
+    let above : c.components.i ≡ j + 1 = omega (arith, c.components-test.true) in
+    let AtHeight : ℕ → Type 0 = λ i. IsRung bs found entries c.args.k i c.components.number c.components.rank c.components.chosen.bits in
+    let AtNumber : ℕ → Type 0 = λ b. IsRung bs found entries c.args.k j (c.components.number * b + c.choose-choice.result.digit) c.choose-choice.result.rank c.choose-choice.new.chosen.bits in
+    subst AtNumber (sym (c.from.ensures ∙ c.base.ensures.base)) (
+      rung_step bs c.len-i.ensures.valid found entries c.args.k j within c.components.number c.components.rank c.choose-choice.result.digit c.choose-choice.result.rank
+        c.components.chosen.bits c.choose-choice.new.chosen.bits (g.E.Encoding.digits c.component.result.now) (subst AtHeight above c.components.invariant.rung) digits
+        (omega (arith, base, c.choose-choice.ensures.digit)) c.choose-choice.ensures.chosen c.choose-choice.ensures.rank c.choose-choice.ensures.there)
+
+small : (g : given.Over) (c : goal.After-from g) → c.components.number * c.from.result + c.choose-choice.result.digit < 2 ^ 63
+small g c =
+    let bs = c.bases-bases.result.now in
+    let valid = c.len-i.ensures.valid in
+    let rung = next g c in
+    let below = fits_size (c.components.number * c.from.result + c.choose-choice.result.digit) (weight bs (c.components.i - 1)) (size_of bs) (weight_pos valid (c.components.i - 1)) rung.small in
+    omega (arith, below, valid.small)
+
+pub overflow_mul-number : goal.overflow_mul-number
+overflow_mul-number g c = omega (arith, small g c)
+
+pub overflow_add-number : goal.overflow_add-number
+overflow_add-number g c = omega (arith, small g (goal.at.overflow_add-number g c).After-from, c.from-in-components.ensures)
+
+pub components-preserved : goal.components-preserved
+components-preserved g c =
+    let at = (goal.at.components-preserved g c).After-from in
+    let bs = c.bases-bases.result.now in
+    let long = ap length (c.component.ensures.digits) ∙ length-map c.args.self.now.entries (λ e. digit_of c.args.self.now.bases (number_or_zero e) (c.components.i - 1)) ∙ c.requires.same in
+    let even = ap length c.choose-choice.ensures.chosen
+      ∙ length-zip2 (λ f v. f && nat_eq v c.choose-choice.result.digit) c.components.chosen.bits (g.E.Encoding.digits c.component.result.now) (c.components.invariant.chosen_even ∙ sym long)
+      ∙ c.components.invariant.chosen_even in
+    let AtNumber : ℕ → Type 0 = λ d. IsRung c.bases-bases.result.now c.args.found.now.bits c.args.self.now.entries c.args.k (c.components.i - 1)
+      (c.components.number * c.from.result + d) c.choose-choice.result.rank c.choose-choice.new.chosen.bits in
+    record {
+      rung = subst AtNumber (sym c.from-in-components.ensures) (next g at);
+      chosen_even = even;
+      scratch_even = c.choose-choice.ensures.scratch ∙ c.components.invariant.scratch_even;
+    }
+
+-- no component is left
+pub returns : goal.returns
+returns g c =
+    let none : c.components.i ≡ 0 = omega (arith, c.components-test.false) in
+    let AtHeight : ℕ → Type 0 = λ i. IsRung c.bases-bases.result.now c.args.found.now.bits c.args.self.now.entries c.args.k i c.components.number c.components.rank c.components.chosen.bits in
+    let rung = subst AtHeight none c.components.invariant.rung in
+    narrowed_end c.args.found.now.bits c.args.self.now.entries c.args.k c.components.number c.components.rank c.components.chosen.bits rung.narrowed

@@ -1,0 +1,51 @@
+//! The totals of a found set: the sum by the sums of the digits, and the number of a rank by narrowing the found set from the
+//! most significant component down.
+
+ghost use Rattle.std.specs.Prelude.{◌≡◌, ℕ, ◌^◌, ◌≤◌, ◌<◌, length, sum, IfOk};
+ghost use Rattle.bsi_columns.specs.Totals.{numbers_at, IsRanked};
+
+use crate::choosing::choose;
+use crate::decomposed::Decomposed;
+use crate::{Column, Encoding, NoMemory};
+use bsi_bits::Bits;
+
+impl<E: Encoding> Decomposed<E> {
+    /// The sum of the numbers at the rows of a found set: each component's sum of digits, times its weight.
+    pub fn sum_found(&self, found: &Bits) -> u128
+        requires { length self.now.entries ≡ length found.now.bits }
+        ensures sum { result ≡ sum (numbers_at found.now.bits self.now.entries) }
+        ensures within { result ≤ 2 ^ 95 }
+    {
+        let rows = found.len();
+        if rows == 0 {
+            return 0;
+        }
+        let bases = self.bases();
+        let mut total = 0;
+        'components: for i in 0..bases.len() {
+            total += self.component(i).digit_sum(found) * u128::from(bases.weight(i));
+        }
+        total
+    }
+
+    /// The number of rank `k` at the rows of a found set.
+    pub fn number_of_rank(&self, found: &Bits, k: u64) -> Result<u64, NoMemory>
+        requires same { length self.now.entries ≡ length found.now.bits }
+        requires there { k < length (numbers_at found.now.bits self.now.entries) }
+        ensures { IfOk result (IsRanked (numbers_at found.now.bits self.now.entries) k) }
+    {
+        let mut chosen = found.copy()?;
+        chosen.and_with(self.present());
+        let mut scratch = found.copy()?;
+        let bases = self.bases();
+        let (mut number, mut rank) = (0, k);
+        let mut i = bases.len();
+        'components: while i > 0 {
+            i -= 1;
+            let choice = choose(self.component(i), rank, &mut scratch, &mut chosen);
+            number = number * u64::from(bases.base(i)) + u64::from(choice.digit);
+            rank = choice.rank;
+        }
+        Ok(number)
+    }
+}
