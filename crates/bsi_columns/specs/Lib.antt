@@ -1,3 +1,4 @@
+pub mod Blocks
 pub mod Component
 pub mod Rows
 pub mod SliceTests
