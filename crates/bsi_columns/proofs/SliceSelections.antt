@@ -43,11 +43,11 @@ module _ (present : List Bool) (slices : List BitList) (op : Op) (n size : ℕ) 
 
   pub selected_tested : (test : Test) → choice ≡ Tested test
       → (bits : List Bool) (old new : List ℕ) (count : ℕ) → count ≡ length present → length old ≡ (length present + 63) / 64 → ((r : ℕ) → bit_of old r ≡ get_or present r false)
-      → (read : List BitList) → read ≡ slices → IsKept (λ r. passes test (number read r)) 0 (length old) old new → bits ≡ bits_of count new
+      → IsKept (λ r. passes test (number slices r)) 0 (length old) old new → bits ≡ bits_of count new
       → bits ≡ map (selects op n) (entries_in present slices)
-  selected_tested test is bits old new count long few places read read_is kept are =
+  selected_tested test is bits old new count long few places kept are =
       selected bits (ap length are ∙ length-bits_of count new ∙ long)
       (λ r below. ap (λ b. get_or b r false) are ∙ get_or-bits_of count new r false (omega arith)
       ∙ kept.inside r (omega arith) (omega arith)
-      ∙ (λ j. places r j && passes test (number (read_is j) r))
+      ∙ (λ j. places r j && passes test (number slices r))
       ∙ sym (ap (λ s. get_or present r false && chosen s (number slices r)) is))

@@ -95,7 +95,13 @@ impl Column for Slices {
     }
 
     fn compare(&self, op: Op, constant: u64) -> Result<Bits, NoMemory> {
-        select(&self.slices, &self.present, op, constant)
+        select(
+            *self.slices.allocator(),
+            &self.slices,
+            &self.present,
+            op,
+            constant,
+        )
     }
 
     fn nulls_into(&self, out: &mut Bits) {
@@ -108,7 +114,7 @@ impl Column for Slices {
     }
 
     fn copy(&self) -> Result<Slices, NoMemory> {
-        let slices = copy_all(&self.slices)?;
+        let slices = copy_all(*self.slices.allocator(), &self.slices)?;
         Ok(Slices {
             slices,
             present: self.present.copy()?,
@@ -191,11 +197,11 @@ fn push_places(slices: &mut [Bits], number: u64)
 }
 
 /// A second list of the same slices.
-fn copy_all(slices: &Vec<Bits>) -> Result<Vec<Bits>, NoMemory>
-    ensures long { IfOk result (λ copied. length copied.items ≡ length slices.now.items) }
-    ensures bits { IfOk result (λ copied. (k : ℕ) → k < length slices.now.items → slice_at copied.items k ≡ slice_at slices.now.items k) }
+fn copy_all(alloc: Global, slices: &[Bits]) -> Result<Vec<Bits>, NoMemory>
+    ensures long { IfOk result (λ copied. length copied.items ≡ length slices.now) }
+    ensures bits { IfOk result (λ copied. (k : ℕ) → k < length slices.now → slice_at copied.items k ≡ slice_at slices.now k) }
 {
-    let mut copied = Vec::with_capacity(*slices.allocator(), slices.len())?;
+    let mut copied = Vec::with_capacity(alloc, slices.len())?;
     'slices: for place in 0..slices.len() {
         copied.push(slices[place].copy()?)?;
     }

@@ -14,6 +14,7 @@ use super::know_len;
 use crate::NoMemory;
 use crate::column::Op;
 use bsi_bits::Bits;
+use std::alloc::Global;
 use std::simd::Simd;
 
 /// The words of a block, which is kept in half of a processor's 16 registers of two words.
@@ -50,12 +51,18 @@ pub struct Test {
 }
 
 /// For each row whether it is a number that compares so with `constant`. No slice is read where the answer is known.
-pub fn select(slices: &Vec<Bits>, present: &Bits, op: Op, constant: u64) -> Result<Bits, NoMemory>
-    requires { IsSliced present.now.bits slices.now.items }
-    ensures { IfOk result (λ b. b.bits ≡ map (selects op constant) (entries_in present.now.bits slices.now.items)) }
+pub fn select(
+    alloc: Global,
+    slices: &[Bits],
+    present: &Bits,
+    op: Op,
+    constant: u64,
+) -> Result<Bits, NoMemory>
+    requires { IsSliced present.now.bits slices.now }
+    ensures { IfOk result (λ b. b.bits ≡ map (selects op constant) (entries_in present.now.bits slices.now)) }
 {
     match decide(op, constant, 1 << slices.len()) {
-        Selection::Nothing => Bits::filled(*slices.allocator(), present.len(), false),
+        Selection::Nothing => Bits::filled(alloc, present.len(), false),
         Selection::Everything => present.copy(),
         Selection::Tested(test) => {
             let mut words = present.copy()?.into_words();
