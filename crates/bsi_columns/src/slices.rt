@@ -2,7 +2,7 @@
 
 ghost use Rattle.std.specs.Prelude.{◌≡◌, ℕ, ◌++◌, ◌∷◌, [], ◌<◌, ◌≤◌, ◌^◌, ◌==◌, ◌&&◌, length, map, IfOk, IsTrue, OnOk};
 ghost use Rattle.std.specs.Int.{bit_at};
-ghost use Rattle.bsi_columns.specs.Rows.{number_or_zero, selects};
+ghost use Rattle.bsi_columns.specs.Rows.{number_or_zero};
 ghost use Rattle.bsi_columns.specs.Slices.{entries_in, has_room_at, have_room, slice_at, IsSliced};
 
 use crate::NoMemory;

@@ -1,14 +1,14 @@
 //! Comparisons of the numbers in slices with a constant, block by block and from the least significant slice up.
 
-ghost use Rattle.std.specs.Prelude.{◌≡◌, ℕ, ◌+◌, ◌*◌, ◌-◌, ◌/◌, ◌%◌, ◌<◌, ◌≤◌, ◌^◌, ◌==◌, ◌&&◌, ◌||◌, not, if◌then◌else◌, length, map, replicate, nat_lt, slice_index, slice_index_or, false, IfOk, bit_and, bit_or};
-ghost use Rattle.std.specs.Int.{bit_at, bit_not, w64};
+ghost use Rattle.std.specs.Prelude.{◌≡◌, ℕ, ◌+◌, ◌*◌, ◌-◌, ◌/◌, ◌<◌, ◌≤◌, ◌^◌, ◌==◌, if◌then◌else◌, length, map, nat_lt, slice_index, slice_index_or, false, IfOk, bit_and, bit_or};
+ghost use Rattle.std.specs.Int.{bit_not, w64};
 ghost use Rattle.std.specs.Simd.Lanes.{zip2};
 ghost use Rattle.bsi_bits.specs.Packed.{bit_of};
+ghost use Rattle.bsi_columns.specs.Blocks.{IsKept};
 ghost use Rattle.bsi_columns.specs.Rows.{compares, selects};
+ghost use Rattle.bsi_columns.specs.SliceTests.{chosen, passes, relates, IsBelowSize};
 ghost use Rattle.bsi_columns.specs.Slices.{entries_in, number, slice_at, IsSliced};
 ghost use Rattle.bsi_columns.specs.declared.slices.compare.Selection.TheVariants.{Tested};
-ghost use Rattle.bsi_columns.specs.Blocks.{IsKept};
-ghost use Rattle.bsi_columns.specs.SliceTests.{chosen, passes, relates, IsBelowSize};
 
 use super::know_len;
 use crate::NoMemory;
@@ -22,7 +22,7 @@ const BLOCK: usize = 16;
 
 /// How a number is to stand to a constant.
 #[derive(Clone, Copy)]
-pub enum Relation {
+enum Relation {
     /// Above the constant.
     Above,
     /// Equal to the constant.
@@ -31,7 +31,7 @@ pub enum Relation {
 
 /// The numbers that a comparison selects of those below a size.
 #[derive(Clone, Copy)]
-pub enum Selection {
+enum Selection {
     /// None of them.
     Nothing,
     /// Each of them.
@@ -42,7 +42,7 @@ pub enum Selection {
 
 /// A test of numbers.
 #[derive(Clone, Copy)]
-pub struct Test {
+struct Test {
     /// How a number is to stand to the constant.
     relation: Relation,
     constant: u64,
