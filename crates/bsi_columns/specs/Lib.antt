@@ -1,4 +1,5 @@
 pub mod Bitmaps
+pub mod Blocks
 pub mod Component
 pub mod Decomposed
 pub mod Equality

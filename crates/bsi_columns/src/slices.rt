@@ -2,7 +2,7 @@
 
 ghost use Rattle.std.specs.Prelude.{◌≡◌, ℕ, ◌++◌, ◌∷◌, [], All, ◌<◌, ◌≤◌, ◌^◌, ◌==◌, ◌&&◌, length, map, IfOk, IsTrue, OnOk};
 ghost use Rattle.std.specs.Int.{bit_at};
-ghost use Rattle.bsi_columns.specs.Rows.{number_or_zero, selects};
+ghost use Rattle.bsi_columns.specs.Rows.{number_or_zero};
 ghost use Rattle.bsi_columns.specs.Slices.{entries_in, has_room_at, have_room, slice_at, IsSliced};
 
 use crate::NoMemory;
@@ -14,6 +14,8 @@ use std::marker::Model;
 
 mod compare;
 mod totals;
+#[cfg(test)]
+mod tests;
 
 /// A column of optional numbers below two to the power of its width. Slice `i` is binary place `i` of the numbers, and
 /// clear where a row is null.
@@ -95,7 +97,13 @@ impl Column for Slices {
     }
 
     fn compare(&self, op: Op, constant: u64) -> Result<Bits, NoMemory> {
-        select(&self.slices, &self.present, op, constant)
+        select(
+            *self.slices.allocator(),
+            &self.slices,
+            &self.present,
+            op,
+            constant,
+        )
     }
 
     fn sum(&self, found: &Bits) -> u128 {
@@ -116,7 +124,7 @@ impl Column for Slices {
     }
 
     fn copy(&self) -> Result<Slices, NoMemory> {
-        let slices = copy_all(&self.slices)?;
+        let slices = copy_all(*self.slices.allocator(), &self.slices)?;
         Ok(Slices {
             slices,
             present: self.present.copy()?,
@@ -199,11 +207,11 @@ fn push_places(slices: &mut [Bits], number: u64)
 }
 
 /// A second list of the same slices.
-fn copy_all(slices: &Vec<Bits>) -> Result<Vec<Bits>, NoMemory>
-    ensures long { IfOk result (λ copied. length copied.items ≡ length slices.now.items) }
-    ensures bits { IfOk result (λ copied. (k : ℕ) → k < length slices.now.items → slice_at copied.items k ≡ slice_at slices.now.items k) }
+fn copy_all(alloc: Global, slices: &[Bits]) -> Result<Vec<Bits>, NoMemory>
+    ensures long { IfOk result (λ copied. length copied.items ≡ length slices.now) }
+    ensures bits { IfOk result (λ copied. (k : ℕ) → k < length slices.now → slice_at copied.items k ≡ slice_at slices.now k) }
 {
-    let mut copied = Vec::with_capacity(*slices.allocator(), slices.len())?;
+    let mut copied = Vec::with_capacity(alloc, slices.len())?;
     'slices: for place in 0..slices.len() {
         copied.push(slices[place].copy()?)?;
     }

@@ -6,5 +6,5 @@ use Rattle.bsi_columns.proofs.slices.copy_all.Given as goal
 abbrev pub invariant-slices : goal.invariant-slices
 invariant-slices l = record {
   long : length l.copied.items ≡ l.place;
-  same : (k : ℕ) → k < l.place → slice_at l.copied.items k ≡ slice_at l.slices.items k;
+  same : (k : ℕ) → k < l.place → slice_at l.copied.items k ≡ slice_at l.slices k;
 }

@@ -1,15 +1,20 @@
-use Rattle.std.proofs.Common.{ap, ◌∙◌, ◌^◌}
+use Rattle.std.proofs.Common.{◌^◌, length, ap, ◌∙◌, arith}
+use Rattle.bsi_columns.specs.Slices.{slice_at}
 use Rattle.bsi_columns.proofs.SliceEntries.{entries_same, sliced_same}
 use Rattle.bsi_columns.proofs.slices.SlicesColumn.copy.Goals as goal
 
 pub invariant_of-result : goal.invariant_of-result
 invariant_of-result c =
+    let read = c.deref.ensures.value in
     sliced_same c.self.inside.present.bits c.in_ok-copy.field-0.bits c.self.inside.slices.items c.in_ok-slices.slices.items
-    c.in_ok-copy.ensures c.in_ok-slices.ensures.long c.in_ok-slices.ensures.bits c.self.invariant
+    c.in_ok-copy.ensures (c.in_ok-slices.ensures.long ∙ ap length read)
+    (λ k within. c.in_ok-slices.ensures.bits k (omega (arith, ap length read)) ∙ ap (λ s. slice_at s k) read) c.self.invariant
 
 pub returns : goal.returns
-returns c = (
-  entries_same c.self.inside.present.bits c.in_ok-copy.field-0.bits c.self.inside.slices.items c.in_ok-slices.slices.items
-      c.in_ok-copy.ensures c.in_ok-slices.ensures.long c.in_ok-slices.ensures.bits ∙ ap (λ e. e.entries) c.self.view_is,
-  ap (λ w. 2 ^ w) c.in_ok-slices.ensures.long ∙ ap (λ e. 2 ^ e.width) c.self.view_is,
-)
+returns c =
+    let read = c.deref.ensures.value in (
+      entries_same c.self.inside.present.bits c.in_ok-copy.field-0.bits c.self.inside.slices.items c.in_ok-slices.slices.items
+          c.in_ok-copy.ensures (c.in_ok-slices.ensures.long ∙ ap length read)
+          (λ k within. c.in_ok-slices.ensures.bits k (omega (arith, ap length read)) ∙ ap (λ s. slice_at s k) read) ∙ ap (λ e. e.entries) c.self.view_is,
+      ap (λ w. 2 ^ w) (c.in_ok-slices.ensures.long ∙ ap length read) ∙ ap (λ e. 2 ^ e.width) c.self.view_is,
+    )
