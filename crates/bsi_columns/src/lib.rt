@@ -8,6 +8,8 @@ mod column;
 mod encoding;
 mod equality;
 mod range;
+#[cfg(test)]
+mod tests;
 
 pub use column::{Column, Op};
 pub use encoding::Encoding;
