@@ -1,8 +1,10 @@
 //! The equality encoded component: a bitmap for each digit says which rows have it.
 
 ghost use Rattle.std.specs.Prelude.{◌≡◌, ◌≢◌, ℕ, ◌+◌, ◌*◌, ◌/◌, ◌<◌, ◌≤◌, ◌==◌, ◌&&◌, ◌||◌, not, [], ◌∷◌, ◌++◌, length, map, nat_le, nat_lt, slice_index, IsTrue};
+ghost use Rattle.std.specs.Bool.{OnTrue, OnFalse};
 ghost use Rattle.bsi_bits.specs.Packed.{bit_of};
 ghost use Rattle.bsi_columns.specs.Bitmaps.{bitmap, has_room_in};
+ghost use Rattle.bsi_columns.specs.Component.{at_most_from};
 ghost use Rattle.bsi_columns.specs.Equality.{first_digit, is_among};
 
 use crate::NoMemory;
@@ -182,7 +184,14 @@ impl Encoding for EqualityComponent {
         })
     }
 
-    fn eq_block(&self, d: u32, at: usize, block: &mut [u64]) -> bool {
+    fn eq_block(&self, d: u32, at: usize, block: &mut [u64]) -> bool
+        requires below { d < self.now.base }
+        requires within { at + length block.old ≤ (length self.now.digits + 63) / 64 }
+        ensures done { IsTrue result }
+        ensures kept { OnFalse result (block.new ≡ block.old) }
+        ensures bits { OnTrue result ((p : ℕ) → p < 64 * length block.old → 64 * at + p < length self.now.digits →
+            bit_of block.new p ≡ (bit_of block.old p && (slice_index self.now.digits (64 * at + p) == d))) }
+    {
         if d == 0 && self.base() == 2 {
             drop_in(self.bitmap(1), at, block);
         } else {
@@ -192,7 +201,14 @@ impl Encoding for EqualityComponent {
     }
 
     // It reads the bitmaps up to the digit, or those from it on, whichever are fewer.
-    fn le_block(&self, d: u32, at: usize, block: &mut [u64]) -> bool {
+    fn le_block(&self, d: u32, at: usize, block: &mut [u64]) -> bool
+        requires below { d < self.now.base }
+        requires within { at + length block.old ≤ (length self.now.digits + 63) / 64 }
+        ensures done { IsTrue result }
+        ensures kept { OnFalse result (block.new ≡ block.old) }
+        ensures bits { OnTrue result ((p : ℕ) → p < 64 * length block.old → 64 * at + p < length self.now.digits →
+            bit_of block.new p ≡ at_most_from (bit_of block.old p) (slice_index self.now.digits (64 * at + p)) d) }
+    {
         let base = self.base();
         if base == 2 {
             if d == 0 {
