@@ -1,9 +1,8 @@
 -- Bits made of a list of digits, digit by digit.
-use Rattle.std.proofs.Common.{◌≡◌, ℕ, zero, suc, ◌+◌, ◌*◌, ◌<◌, ◌≤◌, Bool, true, false, cond, List, [], ◌∷◌, length, get_or, map, ap, ap₂, sym, ◌∙◌, refl, arith}
+use Rattle.std.proofs.Common.{◌≡◌, ℕ, zero, suc, ◌+◌, ◌*◌, ◌≤◌, Bool, true, false, cond, List, [], ◌∷◌, get_or, map, ap, ap₂, sym, ◌∙◌, refl, arith}
 use Rattle.std.specs.Prelude.{sum_by, count_by}
 use Rattle.std.specs.List.{items_where_true}
 use Rattle.std.specs.Simd.Lanes.{zip2}
-use Rattle.std.proofs.lemmas.List.{get_or-map}
 use Rattle.std.proofs.lemmas.List.Sums.{sum_by-cons}
 
 -- pairs of two tests of the digits are one test
@@ -26,10 +25,6 @@ same_tests f g top agree (d ∷ ds) most =
 pub map_same : (f g : ℕ → Bool) → ((v : ℕ) → f v ≡ g v) → (ds : List ℕ) → map f ds ≡ map g ds
 map_same f g agree [] = refl
 map_same f g agree (d ∷ ds) = ap₂ (λ bit bits. bit ∷ bits) (agree d) (map_same f g agree ds)
-
--- the bit of a row that there is
-pub test_at : (f : ℕ → Bool) (ds : List ℕ) (bits : List Bool) → bits ≡ map f ds → (k : ℕ) → k < length ds → get_or bits k false ≡ f (get_or ds k 0)
-test_at f ds bits are k within = ap (λ bs. get_or bs k false) are ∙ get_or-map f ds k 0 false within
 
 -- a sum over found rows of two parts, of which one is a weight of the rows that a test counts
 module _ (test : Bool → ℕ → Bool) (weight : ℕ) (f g : ℕ → ℕ) (off : (v : ℕ) → test false v ≡ false) (parts : (v : ℕ) → g v ≡ cond (test true v) weight 0 + f v) where

@@ -14,9 +14,6 @@ top_test d v some most = grind (arith, nat_tests)
 between_test : (d v : ℕ) → 0 < d → without (nat_le v d) (nat_le v (d - 1)) ≡ (v == d)
 between_test d v some = grind (arith, nat_tests)
 
-least_test : (d v : ℕ) → d ≡ 0 → nat_le v d ≡ (v == d)
-least_test d v zero_digit = grind (arith, nat_tests)
-
 -- the greatest digit: the last bitmap turned
 pub top_eq : (d : ℕ) (ds : List ℕ) → 0 < d → ((k : ℕ) → get_or ds k 0 ≤ d) → map not (map (λ v. nat_le v (d - 1)) ds) ≡ map (λ v. v == d) ds
 top_eq d ds some most =

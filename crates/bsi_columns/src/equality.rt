@@ -1,8 +1,10 @@
 //! The equality encoded component: a bitmap for each digit says which rows have it.
 
 ghost use Rattle.std.specs.Prelude.{◌≡◌, ◌≢◌, ℕ, ◌+◌, ◌*◌, ◌/◌, ◌<◌, ◌≤◌, ◌==◌, ◌&&◌, ◌||◌, not, [], ◌∷◌, ◌++◌, length, map, nat_le, nat_lt, slice_index, IsTrue};
+ghost use Rattle.std.specs.Bool.{OnTrue, OnFalse};
 ghost use Rattle.bsi_bits.specs.Packed.{bit_of};
 ghost use Rattle.bsi_columns.specs.Bitmaps.{bitmap, has_room_in};
+ghost use Rattle.bsi_columns.specs.Component.{at_most_from};
 ghost use Rattle.bsi_columns.specs.Equality.{first_digit, is_among};
 
 use crate::NoMemory;
@@ -62,15 +64,6 @@ impl EqualityComponent {
         &self.bitmaps[(j - first_stored(self.base)) as usize]
     }
 
-    /// What each digit is below: the base.
-    fn limit(&self) -> u32
-        ensures base { result ≡ self.now.base }
-        ensures within { (2 ≤ result) × (result ≤ 1024) }
-        ensures below { (k : ℕ) → slice_index self.now.digits k < result }
-    {
-        self.base
-    }
-
     /// Writes for each row whether its digit is from `from` on and below `to`.
     fn among_into(&self, from: u32, to: u32, out: &mut Bits)
         requires within { (from < to) × (to ≤ self.now.base) }
@@ -126,7 +119,11 @@ impl Encoding for EqualityComponent {
         Ok(EqualityComponent { base, bitmaps })
     }
 
-    fn base(&self) -> u32 {
+    fn base(&self) -> u32
+        ensures base { result ≡ self.now.base }
+        ensures within { (2 ≤ result) × (result ≤ 1024) }
+        ensures below { (k : ℕ) → slice_index self.now.digits k < result }
+    {
         self.base
     }
 
@@ -148,7 +145,7 @@ impl Encoding for EqualityComponent {
     }
 
     fn eq_into(&self, d: u32, out: &mut Bits) {
-        if d == 0 && self.limit() == 2 {
+        if d == 0 && self.base() == 2 {
             out.copy_from(self.bitmap(1));
             out.flip();
         } else {
@@ -158,7 +155,7 @@ impl Encoding for EqualityComponent {
 
     // It reads the bitmaps up to the digit, or those past it, whichever are fewer.
     fn le_into(&self, d: u32, out: &mut Bits) {
-        let base = self.limit();
+        let base = self.base();
         if base > 2 && 2 * (d + 1) <= base {
             self.among_into(0, d + 1, out);
         } else if d + 1 < base {
@@ -173,7 +170,7 @@ impl Encoding for EqualityComponent {
 
     fn digit_sum(&self, found: &Bits) -> u128 {
         let mut sum = 0u128;
-        'digits: for j in 1..self.limit() {
+        'digits: for j in 1..self.base() {
             sum += j as u128 * found.count_and(self.bitmap(j)) as u128;
         }
         sum
@@ -187,8 +184,15 @@ impl Encoding for EqualityComponent {
         })
     }
 
-    fn eq_block(&self, d: u32, at: usize, block: &mut [u64]) -> bool {
-        if d == 0 && self.limit() == 2 {
+    fn eq_block(&self, d: u32, at: usize, block: &mut [u64]) -> bool
+        requires below { d < self.now.base }
+        requires within { at + length block.old ≤ (length self.now.digits + 63) / 64 }
+        ensures done { IsTrue result }
+        ensures kept { OnFalse result (block.new ≡ block.old) }
+        ensures bits { OnTrue result ((p : ℕ) → p < 64 * length block.old → 64 * at + p < length self.now.digits →
+            bit_of block.new p ≡ (bit_of block.old p && (slice_index self.now.digits (64 * at + p) == d))) }
+    {
+        if d == 0 && self.base() == 2 {
             drop_in(self.bitmap(1), at, block);
         } else {
             keep_in(self.bitmap(d), at, block);
@@ -197,8 +201,15 @@ impl Encoding for EqualityComponent {
     }
 
     // It reads the bitmaps up to the digit, or those from it on, whichever are fewer.
-    fn le_block(&self, d: u32, at: usize, block: &mut [u64]) -> bool {
-        let base = self.limit();
+    fn le_block(&self, d: u32, at: usize, block: &mut [u64]) -> bool
+        requires below { d < self.now.base }
+        requires within { at + length block.old ≤ (length self.now.digits + 63) / 64 }
+        ensures done { IsTrue result }
+        ensures kept { OnFalse result (block.new ≡ block.old) }
+        ensures bits { OnTrue result ((p : ℕ) → p < 64 * length block.old → 64 * at + p < length self.now.digits →
+            bit_of block.new p ≡ at_most_from (bit_of block.old p) (slice_index self.now.digits (64 * at + p)) d) }
+    {
+        let base = self.base();
         if base == 2 {
             if d == 0 {
                 drop_in(self.bitmap(1), at, block);
