@@ -2,7 +2,6 @@ pub mod Answering
 pub mod BitmapDigits
 pub mod BitmapGrowth
 pub mod BlockBits
-pub mod Blocks
 pub mod ComponentLists
 pub mod DigitMaps
 pub mod EntriesFrom
@@ -14,3 +13,4 @@ pub mod SliceBlocks
 pub mod SliceEntries
 pub mod SliceNumbers
 pub mod SliceSelections
+pub mod WordBlocks

@@ -12,7 +12,7 @@ use Rattle.bsi_bits.specs.BitList.{BitList}
 use Rattle.bsi_bits.specs.Packed.{bit_of}
 use Rattle.bsi_columns.specs.Slices.{slice_at, number}
 use Rattle.bsi_columns.specs.SliceTests.{turned}
-use Rattle.bsi_columns.proofs.Blocks.{bit_of-chunk, and_bit, or_bit, not_bit}
+use Rattle.bsi_columns.proofs.WordBlocks.{bit_of-chunk, and_bit, or_bit, not_bit}
 use Rattle.bsi_columns.proofs.SliceNumbers.{above_more, equal_more}
 
 -- a block of words below 2^64 is of such words

@@ -1,7 +1,7 @@
 use Rattle.std.proofs.Common.{◌+◌, ◌*◌, ◌≤◌, false, length, sym, ◌∙◌, arith}
 use Rattle.std.proofs.lemmas.List.{length-replicate}
 use Rattle.bsi_bits.proofs.Reading.{none_set}
-use Rattle.bsi_columns.proofs.Blocks.{replicate_bit}
+use Rattle.bsi_columns.proofs.WordBlocks.{replicate_bit}
 use Rattle.bsi_columns.proofs.SliceNumbers.{above_none, above_all}
 use Rattle.bsi_columns.proofs.SliceBlocks.{above_step, above_long}
 use Rattle.bsi_columns.proofs.slices.compare.above_block.Goals as goal

@@ -1,7 +1,7 @@
 use Rattle.std.proofs.Common.{◌+◌, ◌*◌, ◌-◌, ◌≤◌, ◌^◌, true, length, sym, ◌∙◌, arith}
 use Rattle.std.proofs.lemmas.List.{length-replicate}
 use Rattle.bsi_bits.proofs.Reading.{all_set}
-use Rattle.bsi_columns.proofs.Blocks.{replicate_bit}
+use Rattle.bsi_columns.proofs.WordBlocks.{replicate_bit}
 use Rattle.bsi_columns.proofs.SliceNumbers.{equal_none, equal_all}
 use Rattle.bsi_columns.proofs.SliceBlocks.{equal_step, equal_long}
 use Rattle.bsi_columns.proofs.slices.compare.equal_block.Goals as goal

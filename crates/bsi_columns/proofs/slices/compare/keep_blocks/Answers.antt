@@ -4,7 +4,7 @@ use Rattle.std.proofs.lemmas.Simd.{length-chunk}
 use Rattle.bsi_bits.specs.Packed.{bit_of}
 use Rattle.bsi_columns.specs.Slices.{number}
 use Rattle.bsi_columns.specs.SliceTests.{relates, turned}
-use Rattle.bsi_columns.proofs.Blocks.{bit_of-chunk, block_room, kept_more}
+use Rattle.bsi_columns.proofs.WordBlocks.{bit_of-chunk, block_room, kept_more}
 use Rattle.bsi_columns.proofs.SliceBlocks.{cut_bit, cut_long}
 use Rattle.bsi_columns.proofs.slices.compare.keep_blocks.Goals as goal
 
