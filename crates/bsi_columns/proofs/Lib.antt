@@ -1,6 +1,7 @@
 pub mod Answering
 pub mod BitmapDigits
 pub mod BitmapGrowth
+pub mod BlockAnswers
 pub mod BlockBits
 pub mod ComponentLists
 pub mod DigitMaps
