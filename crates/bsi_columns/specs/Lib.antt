@@ -1,3 +1,4 @@
+pub mod AnyRows
 pub mod Bitmaps
 pub mod Component
 pub mod Decomposed

@@ -2,6 +2,7 @@
 //! slices, and every comparison over them.
 #![tactic(auto)]
 
+mod any;
 mod bitmaps;
 mod blocks;
 mod column;
@@ -11,6 +12,7 @@ mod equality;
 mod range;
 mod slices;
 
+pub use any::AnyColumn;
 pub use column::{Column, Op};
 pub use decomposed::Decomposed;
 pub use encoding::Encoding;
