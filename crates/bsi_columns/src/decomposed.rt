@@ -12,6 +12,8 @@ use std::alloc::Global;
 use std::marker::Model;
 
 mod compare;
+#[cfg(test)]
+mod tests;
 
 /// A column of numbers below the product of its bases, which keeps a component for each base.
 #[derive(Drop)]

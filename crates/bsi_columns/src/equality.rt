@@ -62,15 +62,6 @@ impl EqualityComponent {
         &self.bitmaps[(j - first_stored(self.base)) as usize]
     }
 
-    /// What each digit is below: the base.
-    fn limit(&self) -> u32
-        ensures base { result ≡ self.now.base }
-        ensures within { (2 ≤ result) × (result ≤ 1024) }
-        ensures below { (k : ℕ) → slice_index self.now.digits k < result }
-    {
-        self.base
-    }
-
     /// Writes for each row whether its digit is from `from` on and below `to`.
     fn among_into(&self, from: u32, to: u32, out: &mut Bits)
         requires within { (from < to) × (to ≤ self.now.base) }
@@ -126,7 +117,11 @@ impl Encoding for EqualityComponent {
         Ok(EqualityComponent { base, bitmaps })
     }
 
-    fn base(&self) -> u32 {
+    fn base(&self) -> u32
+        ensures base { result ≡ self.now.base }
+        ensures within { (2 ≤ result) × (result ≤ 1024) }
+        ensures below { (k : ℕ) → slice_index self.now.digits k < result }
+    {
         self.base
     }
 
@@ -148,7 +143,7 @@ impl Encoding for EqualityComponent {
     }
 
     fn eq_into(&self, d: u32, out: &mut Bits) {
-        if d == 0 && self.limit() == 2 {
+        if d == 0 && self.base() == 2 {
             out.copy_from(self.bitmap(1));
             out.flip();
         } else {
@@ -158,7 +153,7 @@ impl Encoding for EqualityComponent {
 
     // It reads the bitmaps up to the digit, or those past it, whichever are fewer.
     fn le_into(&self, d: u32, out: &mut Bits) {
-        let base = self.limit();
+        let base = self.base();
         if base > 2 && 2 * (d + 1) <= base {
             self.among_into(0, d + 1, out);
         } else if d + 1 < base {
@@ -173,7 +168,7 @@ impl Encoding for EqualityComponent {
 
     fn digit_sum(&self, found: &Bits) -> u128 {
         let mut sum = 0u128;
-        'digits: for j in 1..self.limit() {
+        'digits: for j in 1..self.base() {
             sum += j as u128 * found.count_and(self.bitmap(j)) as u128;
         }
         sum
@@ -188,7 +183,7 @@ impl Encoding for EqualityComponent {
     }
 
     fn eq_block(&self, d: u32, at: usize, block: &mut [u64]) -> bool {
-        if d == 0 && self.limit() == 2 {
+        if d == 0 && self.base() == 2 {
             drop_in(self.bitmap(1), at, block);
         } else {
             keep_in(self.bitmap(d), at, block);
@@ -198,7 +193,7 @@ impl Encoding for EqualityComponent {
 
     // It reads the bitmaps up to the digit, or those from it on, whichever are fewer.
     fn le_block(&self, d: u32, at: usize, block: &mut [u64]) -> bool {
-        let base = self.limit();
+        let base = self.base();
         if base == 2 {
             if d == 0 {
                 drop_in(self.bitmap(1), at, block);

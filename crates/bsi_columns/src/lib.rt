@@ -11,6 +11,8 @@ mod encoding;
 mod equality;
 mod range;
 mod slices;
+#[cfg(test)]
+mod tests;
 
 pub use any::AnyColumn;
 pub use column::{Column, Op};

@@ -27,7 +27,7 @@ pub returns : goal.returns
 returns c =
     let found = c.args.found.now.bits in
     let ds = c.args.self.now.digits in
-    let base = c.limit-j-end.result in
+    let base = c.base-j-end.result in
     let last : c.digits.j ≡ base = omega arith in
     c.digits.invariant.summed ∙ ap (λ j. sum_by (λ v. cond (nat_lt v j) v 0) (items_where_true found ds)) last
-    ∙ lower_sum_all base found ds (omega arith) (λ k. let below = c.limit-j-end.ensures.below k in omega arith)
+    ∙ lower_sum_all base found ds (omega arith) (λ k. let below = c.base-j-end.ensures.below k in omega arith)

@@ -3,9 +3,9 @@ use Rattle.std.specs.Prelude.{◌==◌}
 use Rattle.bsi_columns.proofs.EqualityReads.{zero_eq}
 use Rattle.bsi_columns.proofs.equality.EqualityComponentEncoding.eq_into.Goals as goal
 
-pub returns-then-limit-eq2-clause-bits : goal.returns-then-limit-eq2-clause-bits
-returns-then-limit-eq2-clause-bits c =
+pub returns-then-base-eq2-clause-bits : goal.returns-then-base-eq2-clause-bits
+returns-then-base-eq2-clause-bits c =
     let ds = c.args.self.now.digits in
     c.flip.ensures.bits ∙ ap (map not) (c.copy_from.ensures.bits ∙ c.bitmap.ensures)
-    ∙ zero_eq ds (λ k. let below = c.limit.ensures.below k in omega arith)
+    ∙ zero_eq ds (λ k. let below = c.base.ensures.below k in omega arith)
     ∙ ap (λ d. map {A = ℕ} (λ v. v == d) ds) (sym c.if-d-eq0.true)
