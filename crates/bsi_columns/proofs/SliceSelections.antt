@@ -8,11 +8,12 @@ use Rattle.bsi_bits.specs.Packed.{bit_of, bits_of}
 use Rattle.bsi_bits.proofs.Reading.{length-bits_of, get_or-bits_of}
 use Rattle.bsi_columns.specs.Rows.{compares, selects}
 use Rattle.bsi_columns.specs.declared.column.Op.{Op}
-use Rattle.bsi_columns.specs.declared.slices.compare.Relation.{Relation}
+use Rattle.bsi_columns.specs.declared.slices.compare.Test.{Test}
 use Rattle.bsi_columns.specs.declared.slices.compare.Selection.{Selection}
 use Rattle.bsi_columns.specs.declared.slices.compare.Selection.TheVariants.{Nothing, Everything, Tested}
 use Rattle.bsi_columns.specs.Slices.{number, entries_in}
-use Rattle.bsi_columns.specs.SliceTests.{chosen, relates, turned, IsKept}
+use Rattle.bsi_columns.specs.Blocks.{IsKept}
+use Rattle.bsi_columns.specs.SliceTests.{chosen, passes}
 use Rattle.bsi_columns.proofs.SliceEntries.{by_entries}
 use Rattle.bsi_columns.proofs.SliceNumbers.{number_below}
 
@@ -40,13 +41,13 @@ module _ (present : List Bool) (slices : List BitList) (op : Op) (n size : ℕ) 
       selected bits (ap length all)
       (λ r below. ap (λ b. get_or b r false) all ∙ sym (ap (λ s. get_or present r false && chosen s (number slices r)) is ∙ and-true (get_or present r false)))
 
-  pub selected_tested : (relation : Relation) (constant : ℕ) (negated : Bool) → choice ≡ Tested relation constant negated
+  pub selected_tested : (test : Test) → choice ≡ Tested test
       → (bits : List Bool) (old new : List ℕ) (count : ℕ) → count ≡ length present → length old ≡ (length present + 63) / 64 → ((r : ℕ) → bit_of old r ≡ get_or present r false)
-      → (read : List BitList) → read ≡ slices → IsKept (λ r. turned negated (relates relation constant (number read r))) 0 (length old) old new → bits ≡ bits_of count new
+      → (read : List BitList) → read ≡ slices → IsKept (λ r. passes test (number read r)) 0 (length old) old new → bits ≡ bits_of count new
       → bits ≡ map (selects op n) (entries_in present slices)
-  selected_tested relation constant negated is bits old new count long few places read read_is kept are =
+  selected_tested test is bits old new count long few places read read_is kept are =
       selected bits (ap length are ∙ length-bits_of count new ∙ long)
       (λ r below. ap (λ b. get_or b r false) are ∙ get_or-bits_of count new r false (omega arith)
       ∙ kept.inside r (omega arith) (omega arith)
-      ∙ (λ j. places r j && turned negated (relates relation constant (number (read_is j) r)))
+      ∙ (λ j. places r j && passes test (number (read_is j) r))
       ∙ sym (ap (λ s. get_or present r false && chosen s (number slices r)) is))

@@ -11,7 +11,7 @@ use Rattle.std.proofs.lemmas.Nat.Bits.{bit_at_not, bit_at-lt}
 use Rattle.std.proofs.lemmas.Simd.{get_or-zip2, get_or-chunk, get_or-put_chunk_below, get_or-put_chunk_at, get_or-put_chunk_above}
 use Rattle.bsi_bits.specs.Packed.{bit_of}
 use Rattle.bsi_bits.proofs.Logic.{IsBitwise, and_bitwise, or_bitwise}
-use Rattle.bsi_columns.specs.SliceTests.{IsKept}
+use Rattle.bsi_columns.specs.Blocks.{IsKept}
 
 -- block k of n words is within as many as hold it
 pub block_room : (n k len : ℕ) → 1 ≤ n → k < len / n → n * (k + 1) ≤ len

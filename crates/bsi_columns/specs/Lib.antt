@@ -1,5 +1,6 @@
 pub mod AnyRows
 pub mod Bitmaps
+pub mod Blocks
 pub mod Component
 pub mod Decomposed
 pub mod Equality

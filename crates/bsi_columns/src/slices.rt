@@ -13,6 +13,8 @@ use std::alloc::Global;
 use std::marker::Model;
 
 mod compare;
+#[cfg(test)]
+mod tests;
 
 /// A column of optional numbers below two to the power of its width. Slice `i` is binary place `i` of the numbers, and
 /// clear where a row is null.

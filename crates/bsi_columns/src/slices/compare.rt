@@ -6,7 +6,9 @@ ghost use Rattle.std.specs.Simd.Lanes.{zip2};
 ghost use Rattle.bsi_bits.specs.Packed.{bit_of};
 ghost use Rattle.bsi_columns.specs.Rows.{compares, selects};
 ghost use Rattle.bsi_columns.specs.Slices.{entries_in, number, slice_at, IsSliced};
-ghost use Rattle.bsi_columns.specs.SliceTests.{chosen, relates, turned, IsBelowSize, IsKept};
+ghost use Rattle.bsi_columns.specs.declared.slices.compare.Selection.TheVariants.{Tested};
+ghost use Rattle.bsi_columns.specs.Blocks.{IsKept};
+ghost use Rattle.bsi_columns.specs.SliceTests.{chosen, passes, relates, IsBelowSize};
 
 use super::know_len;
 use crate::NoMemory;
@@ -33,8 +35,18 @@ pub enum Selection {
     Nothing,
     /// Each of them.
     Everything,
-    /// Those in a relation to a constant below the size or, if the test is negated, the others.
-    Tested(Relation, u64, bool),
+    /// Those that pass a test, whose constant is below the size.
+    Tested(Test),
+}
+
+/// A test of numbers.
+#[derive(Clone, Copy)]
+pub struct Test {
+    /// How a number is to stand to the constant.
+    relation: Relation,
+    constant: u64,
+    /// Whether the numbers that do not stand so are to pass, in place of those that do.
+    negated: bool,
 }
 
 /// For each row whether it is a number that compares so with `constant`. No slice is read where the answer is known.
@@ -45,9 +57,9 @@ pub fn select(slices: &Vec<Bits>, present: &Bits, op: Op, constant: u64) -> Resu
     match decide(op, constant, 1 << slices.len()) {
         Selection::Nothing => Bits::filled(*slices.allocator(), present.len(), false),
         Selection::Everything => present.copy(),
-        Selection::Tested(relation, tested, negated) => {
+        Selection::Tested(test) => {
             let mut words = present.copy()?.into_words();
-            keep(slices, relation, tested, negated, &mut words);
+            keep(slices, test, &mut words);
             Ok(Bits::from_words(words, present.len()))
         }
     }
@@ -65,51 +77,55 @@ fn decide(op: Op, constant: u64, size: u64) -> Selection
         };
     }
     match op {
-        Op::Eq => Selection::Tested(Relation::Equal, constant, false),
-        Op::Ne => Selection::Tested(Relation::Equal, constant, true),
-        Op::Gt => Selection::Tested(Relation::Above, constant, false),
-        Op::Le => Selection::Tested(Relation::Above, constant, true),
+        Op::Eq => tested(Relation::Equal, constant, false),
+        Op::Ne => tested(Relation::Equal, constant, true),
+        Op::Gt => tested(Relation::Above, constant, false),
+        Op::Le => tested(Relation::Above, constant, true),
         Op::Lt if constant == 0 => Selection::Nothing,
         Op::Ge if constant == 0 => Selection::Everything,
-        Op::Lt => Selection::Tested(Relation::Above, constant - 1, true),
-        Op::Ge => Selection::Tested(Relation::Above, constant - 1, false),
+        Op::Lt => tested(Relation::Above, constant - 1, true),
+        Op::Ge => tested(Relation::Above, constant - 1, false),
     }
 }
 
+/// The numbers in a relation to a constant or, where the test is negated, the others.
+fn tested(relation: Relation, constant: u64, negated: bool) -> Selection
+    ensures { result ≡ Tested (record { relation = relation; constant = constant; negated = negated }) }
+{
+    Selection::Tested(Test {
+        relation,
+        constant,
+        negated,
+    })
+}
+
 /// Keeps in `words` the rows whose numbers pass the test: blocks first, and single words behind them.
-fn keep(slices: &[Bits], relation: Relation, constant: u64, negated: bool, words: &mut [u64])
+fn keep(slices: &[Bits], test: Test, words: &mut [u64])
     requires few { length slices.now ≤ 63 }
-    requires below { constant < 2 ^ length slices.now }
+    requires below { test.constant < 2 ^ length slices.now }
     requires long { (i : ℕ) → i < length slices.now → (length (slice_at slices.now i) + 63) / 64 ≡ length words.old }
-    ensures { IsKept (λ r. turned negated (relates relation constant (number slices.now r))) 0 (length words.old) words.old words.new }
+    ensures { IsKept (λ r. passes test (number slices.now r)) 0 (length words.old) words.old words.new }
 {
     let whole = words.len() / BLOCK * BLOCK;
-    keep_blocks::<BLOCK>(slices, relation, constant, negated, 0, words);
-    keep_blocks::<1>(slices, relation, constant, negated, whole, words);
+    keep_blocks::<BLOCK>(slices, test, 0, words);
+    keep_blocks::<1>(slices, test, whole, words);
 }
 
 /// The same from a word on, as far as blocks of `N` words go.
-fn keep_blocks<const N: usize>(
-    slices: &[Bits],
-    relation: Relation,
-    constant: u64,
-    negated: bool,
-    from: usize,
-    words: &mut [u64],
-)
+fn keep_blocks<const N: usize>(slices: &[Bits], test: Test, from: usize, words: &mut [u64])
     requires blocks { (1 ≤ N) × (N ≤ 64) }
     requires few { length slices.now ≤ 63 }
-    requires below { constant < 2 ^ length slices.now }
+    requires below { test.constant < 2 ^ length slices.now }
     requires within { from ≤ length words.old }
     requires long { (i : ℕ) → i < length slices.now → (length (slice_at slices.now i) + 63) / 64 ≡ length words.old }
-    ensures { IsKept (λ r. turned negated (relates relation constant (number slices.now r))) from (from + N * ((length words.old - from) / N)) words.old words.new }
+    ensures { IsKept (λ r. passes test (number slices.now r)) from (from + N * ((length words.old - from) / N)) words.old words.new }
 {
     let blocks = (words.len() - from) / N;
     'block: for k in 0..blocks {
         let at = from + N * k;
-        let found = related_block::<N>(slices, relation, constant, at);
+        let found = related_block::<N>(slices, test.relation, test.constant, at);
         let kept = Simd::<u64, N>::from_slice(&words[at..]);
-        cut(kept, found, negated).copy_to_slice(&mut words[at..]);
+        cut(kept, found, test.negated).copy_to_slice(&mut words[at..]);
     }
 }
 

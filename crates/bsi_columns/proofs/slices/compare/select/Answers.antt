@@ -36,7 +36,7 @@ returns-in_ok-copy-in-Tested c =
     let stored : take c.into_words-words.result.len (c.keep.new.words ++ drop (length c.keep.new.words) c.into_words-words.result.items) ≡ c.keep.new.words =
     written c.into_words-words.result.len c.keep.new.words c.into_words-words.result.items (omega arith) (omega arith) in
     selected_tested c.args.present.now.bits c.args.slices.now.items c.args.op c.args.constant (1 * 2 ^ c.len.result % 2 ^ 64) size_is c.decide.result c.decide.ensures.chosen
-    c.in-Tested.relation c.in-Tested.tested c.in-Tested.negated c.in-Tested.is
+    c.in-Tested.test c.in-Tested.is
     c.from_words.result.bits c.deref_mut.result.now c.keep.new.words c.len-in-Tested.result c.len-in-Tested.ensures.len
     (ap length old_is ∙ c.into_words-words.ensures.few ∙ ap (λ b. (length b + 63) / 64) copied)
     (λ r. ap (λ ws. bit_of ws r) old_is ∙ c.into_words-words.ensures.places r ∙ ap (λ b. get_or b r false) copied)
