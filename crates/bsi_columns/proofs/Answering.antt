@@ -1,5 +1,5 @@
 -- What a test says of entries, from what it says of their numbers.
-use Rattle.std.proofs.Common.{◌≡◌, ℕ, zero, suc, ◌+◌, ◌-◌, ◌*◌, ◌%◌, ◌<◌, ◌≤◌, ◌≢◌, Bool, true, false, List, [], ◌∷◌, length, get_or, map, replicate, refl, sym, ap, ap₂, ◌∙◌, arith}
+use Rattle.std.proofs.Common.{◌≡◌, ℕ, ◌+◌, ◌-◌, ◌%◌, ◌<◌, ◌≤◌, ◌≢◌, Bool, true, false, List, [], ◌∷◌, length, map, replicate, refl, sym, ap, ap₂, ◌∙◌, arith}
 use Rattle.std.specs.Result.{IfOk}
 use Rattle.std.specs.Prelude.{Result, Option, Some, None, not, is_some, is_none, ◌&&◌, ◌||◌, ◌==◌, nat_eq, nat_lt, nat_le}
 use Rattle.std.specs.Simd.Lanes.{zip2}
@@ -119,7 +119,7 @@ and_true : (b : Bool) → (b && true) ≡ b
 and_true b = grind (arith, nat_tests)
 
 -- the answer of an entry, by its number and whether it is one
-cut_answer : (test : ℕ → Bool) (wanted : Bool) (e : Option ℕ) → (as_wanted wanted (test (number_or_zero e)) && is_some e) ≡ answers test wanted e
+pub cut_answer : (test : ℕ → Bool) (wanted : Bool) (e : Option ℕ) → (as_wanted wanted (test (number_or_zero e)) && is_some e) ≡ answers test wanted e
 cut_answer test wanted None = and_false (as_wanted wanted (test 0))
 cut_answer test wanted (Some x) = and_true (as_wanted wanted (test x))
 
@@ -147,7 +147,7 @@ pub IfOk-same_bits : {X E : Type 0} (r : Result X E) (bits : X → List Bool) (x
 IfOk-same_bits r bits xs ys same ok = IfOk-weaker r (λ b. bits b ≡ xs) (λ b. bits b ≡ ys) (λ b h. h ∙ same) ok
 
 -- the parts of two numbers below the first component are nothing, so their lowest digits decide
-nothing_below : (relation : Relation) → holds relation 0 0 ≡ true
+pub nothing_below : (relation : Relation) → holds relation 0 0 ≡ true
 nothing_below Equal = refl
 nothing_below AtMost = refl
 
@@ -183,7 +183,7 @@ module _ {bs : List ℕ} (valid : IsBaseList bs) (relation : Relation) (n : ℕ)
   low_answers_more i d found after ds within d_is ds_is found_is after_is =
       after_is ∙ ap (λ (c : ℕ). zip2 (λ low v. holds_from relation low v c) found ds) d_is
       ∙ zip2_of_maps (λ low v. holds_from relation low v (digit_of bs n i)) (λ (e : Option ℕ). holds relation (number_or_zero e % weight bs i) (n % weight bs i))
-        (λ (e : Option ℕ). digit_of bs (number_or_zero e) i) es found_is ds_is
+      (λ (e : Option ℕ). digit_of bs (number_or_zero e) i) es found_is ds_is
       ∙ map_alike _ _ (λ e. Unit {0}) (λ e u. sym (holds_more valid relation (number_or_zero e) n i within)) es (λ k d h. tt)
 
   pub low_answers_all : n < size_of bs → All (λ e. number_or_zero e < size_of bs) es → low_answers (length bs) ≡ map (λ e. holds relation (number_or_zero e) n) es

@@ -1,12 +1,11 @@
 -- The entries that a not-null bitmap and digits stand for, once the digits are known to be those of entries.
-use Rattle.std.proofs.Common.{◌≡◌, ℕ, ◌+◌, ◌<◌, ◌≤◌, Bool, true, false, List, [], ◌∷◌, ◌++◌, length, get_or, map, replicate, refl, sym, ap, ap₂, ◌∙◌, subst, arith}
+use Rattle.std.proofs.Common.{◌≡◌, ℕ, ◌<◌, Bool, false, List, [], ◌∷◌, ◌++◌, length, get_or, map, replicate, refl, sym, ap, ap₂, ◌∙◌, subst, arith}
 use Rattle.std.specs.Prelude.{Option, Some, None, is_some, cond}
-use Rattle.std.specs.List.{range_with_len}
 use Rattle.std.proofs.lemmas.List.{length-map, get_or-map, map-append, length-replicate, get_or-replicate}
 use Rattle.std.proofs.lemmas.List.Elements.{All-nil, All-push}
 use Rattle.std.proofs.lemmas.List.FromFn.{fill_by_all}
-use Rattle.bsi_digits.specs.Digits.{size_of, digit_of, digits_of, components, weighted_sum, IsBaseList}
-use Rattle.bsi_digits.proofs.CallerLemmas.{weighted_sum-digits_of, length-digits_of, get_or-digits_of}
+use Rattle.bsi_digits.specs.Digits.{size_of, digit_of, digits_of, components, weighted_sum}
+use Rattle.bsi_digits.proofs.CallerLemmas.{weighted_sum-digits_of}
 use Rattle.bsi_columns.specs.Rows.{number_or_zero}
 use Rattle.bsi_columns.specs.Decomposed.{digits_at, entry_at, entries_of, Decomposes}
 
@@ -40,7 +39,7 @@ module _ (bs : List ℕ) (present : List Bool) (ds : List (List ℕ)) (entries :
       let e : Option ℕ = get_or entries r None in
       let is_there : get_or present r false ≡ is_some e = ap (λ bits. get_or bits r false) kept.present_is ∙ get_or-map is_some entries r None false within in
       let number : weighted_sum bs (digits_at ds r) (components bs) ≡ number_or_zero e =
-          ap (λ xs. weighted_sum bs xs (components bs)) (digits_at_row r within) ∙ weighted_sum-digits_of bs (number_or_zero e) (kept.below r None within) in
+      ap (λ xs. weighted_sum bs xs (components bs)) (digits_at_row r within) ∙ weighted_sum-digits_of bs (number_or_zero e) (kept.below r None within) in
       sym (ap₂ (λ b n. cond b (Some n) None) is_there number ∙ entry_of_number e)))
 
   pub kept_itself : Decomposes bs present ds (entries_of bs present ds)

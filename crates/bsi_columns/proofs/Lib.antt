@@ -2,6 +2,7 @@ pub mod Adding
 pub mod Answering
 pub mod BitmapDigits
 pub mod BitmapGrowth
+pub mod BlockAnswers
 pub mod BlockBits
 pub mod ComponentLists
 pub mod DigitMaps

@@ -1,3 +1,4 @@
+pub mod AnyRows
 pub mod Bitmaps
 pub mod Blocks
 pub mod Component

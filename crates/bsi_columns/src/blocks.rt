@@ -45,7 +45,7 @@ pub(crate) fn add_in(bitmap: &Bits, at: usize, block: &mut [u64])
 }
 
 /// Turns each row of the block.
-fn turn(block: &mut [u64])
+pub(crate) fn turn(block: &mut [u64])
     ensures len { length block.new ≡ length block.old }
     ensures bits { (p : ℕ) → p < 64 * length block.old → bit_of block.new p ≡ not (bit_of block.old p) }
 {

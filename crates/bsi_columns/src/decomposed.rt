@@ -12,7 +12,8 @@ use std::alloc::Global;
 use std::marker::Model;
 
 mod compare;
-mod totals;
+#[cfg(test)]
+mod tests;
 
 /// A column of numbers below the product of its bases, which keeps a component for each base.
 #[derive(Drop)]
@@ -30,18 +31,14 @@ impl<E: Encoding> Model for Decomposed<E> {
 
     ghost Value = { Decomposition };
 
-    ghost view = {
-        λ c. record {
-            bases = c.bases;
-            entries = entries_of c.bases c.present.bits (map E.digits c.components.items);
-            room = c.present.room && list_all E.room c.components.items
-        }
-    };
+    ghost view = { λ c. record {
+      bases = c.bases;
+      entries = entries_of c.bases c.present.bits (map E.digits c.components.items);
+      room = c.present.room && list_all E.room c.components.items;
+    } };
 
-    ghost invariant = {
-        λ c. Decomposes c.bases c.present.bits (map E.digits c.components.items) (entries_of c.bases c.present.bits (map E.digits c.components.items))
-            × (map E.base_of c.components.items ≡ c.bases)
-    };
+    ghost invariant = { λ c. Decomposes c.bases c.present.bits (map E.digits c.components.items) (entries_of c.bases c.present.bits (map E.digits c.components.items))
+        × (map E.base_of c.components.items ≡ c.bases) };
 }
 
 impl<E: Encoding> Decomposed<E> {
@@ -180,10 +177,8 @@ fn push_digits<E: Encoding>(components: &mut Vec<E>, bases: &Bases, number: u64)
     requires bases { map E.base_of components.old.items ≡ bases.now }
     requires room { IsTrue (list_all E.room components.old.items) }
     requires below { number < size_of bases.now }
-    ensures digits {
-        (i : ℕ) → i < length bases.now → slice_index_or (map E.digits components.new.items) i []
-            ≡ slice_index_or (map E.digits components.old.items) i [] ++ digit_of bases.now number i ∷ []
-    }
+    ensures digits { (i : ℕ) → i < length bases.now → slice_index_or (map E.digits components.new.items) i []
+        ≡ slice_index_or (map E.digits components.old.items) i [] ++ digit_of bases.now number i ∷ [] }
     ensures bases { map E.base_of components.new.items ≡ bases.now }
 {
     for i in 0..bases.len() {

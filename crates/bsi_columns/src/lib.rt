@@ -2,6 +2,7 @@
 //! slices, and every comparison over them.
 #![tactic(auto)]
 
+mod any;
 mod bitmaps;
 mod blocks;
 mod choosing;
@@ -14,6 +15,7 @@ mod slices;
 #[cfg(test)]
 mod tests;
 
+pub use any::AnyColumn;
 pub use column::{Column, Op};
 pub use decomposed::Decomposed;
 pub use encoding::Encoding;

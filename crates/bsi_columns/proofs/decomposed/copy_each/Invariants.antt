@@ -4,5 +4,5 @@ use Rattle.bsi_columns.proofs.decomposed.copy_each.Given as goal
 abbrev pub invariant-loop-component : goal.invariant-loop-component
 invariant-loop-component g l = record {
   digits : map g.E.Encoding.digits l.copies.items ≡ map g.E.Encoding.digits (take l.component-index l.components.items);
-  bases : map g.E.Encoding.base_of l.copies.items ≡ map g.E.Encoding.base_of (take l.component-index l.components.items)
+  bases : map g.E.Encoding.base_of l.copies.items ≡ map g.E.Encoding.base_of (take l.component-index l.components.items);
 }

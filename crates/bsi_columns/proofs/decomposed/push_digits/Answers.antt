@@ -1,4 +1,4 @@
-use Rattle.std.proofs.Common.{◌≡◌, ◌<◌, ◌≤◌, ℕ, [], ◌∷◌, ◌++◌, true, length, map, ap, sym, ◌∙◌, refl, arith}
+use Rattle.std.proofs.Common.{◌≡◌, ◌<◌, [], ◌∷◌, ◌++◌, true, length, ap, sym, ◌∙◌, refl, arith}
 use Rattle.bsi_digits.specs.Digits.{digit_of}
 use Rattle.bsi_columns.proofs.ComponentLists.{read_map, map_kept, room_at, digits_more, rest_after, room_after, length-map_is}
 use Rattle.bsi_columns.proofs.decomposed.push_digits.Goals as goal

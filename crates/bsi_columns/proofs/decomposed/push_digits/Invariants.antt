@@ -9,5 +9,5 @@ invariant-loop-i g l = record {
       ≡ get_or (map g.E.Encoding.digits l.fn.components.items) k [] ++ digit_of l.bases l.number k ∷ [];
   rest : (k : ℕ) → l.i ≤ k → get_or (map g.E.Encoding.digits l.components.items) k []
       ≡ get_or (map g.E.Encoding.digits l.fn.components.items) k [];
-  room : (k : ℕ) → l.i ≤ k → get_or (map g.E.Encoding.room l.components.items) k true ≡ true
+  room : (k : ℕ) → l.i ≤ k → get_or (map g.E.Encoding.room l.components.items) k true ≡ true;
 }

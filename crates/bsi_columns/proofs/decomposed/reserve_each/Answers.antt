@@ -1,4 +1,4 @@
-use Rattle.std.proofs.Common.{◌≡◌, ◌<◌, ◌^◌, ℕ, List, [], length, get_or, map, ap, sym, ◌∙◌, arith}
+use Rattle.std.proofs.Common.{◌≡◌, ◌<◌, ◌^◌, ℕ, List, [], length, get_or, ap, sym, ◌∙◌, arith}
 use Rattle.std.proofs.lemmas.List.{get_or-map}
 use Rattle.bsi_columns.proofs.ComponentLists.{read_map, map_kept, room_more, all_have_room, length-same_map}
 use Rattle.bsi_columns.proofs.decomposed.reserve_each.Goals as goal
@@ -12,9 +12,9 @@ reserve_one-requires g c =
     let count : length now ≡ length old = length-same_map digits now old c.loop-i.invariant.digits in
     let few : length (digits (get_or old at c.index_mut.result.now)) < 2 ^ 32 = c.requires at c.index_mut.result.now (omega arith) in
     let same : digits c.index_mut.result.now ≡ digits (get_or old at c.index_mut.result.now) =
-        sym (read_map digits now at c.index_mut.result.now [] (omega arith) c.index_mut.ensures.value)
-        ∙ ap (λ (ds : List (List ℕ)). get_or ds at []) c.loop-i.invariant.digits
-        ∙ get_or-map digits old at c.index_mut.result.now [] (omega arith) in
+    sym (read_map digits now at c.index_mut.result.now [] (omega arith) c.index_mut.ensures.value)
+    ∙ ap (λ (ds : List (List ℕ)). get_or ds at []) c.loop-i.invariant.digits
+    ∙ get_or-map digits old at c.index_mut.result.now [] (omega arith) in
     rw same few
 
 pub returns-in_err-reserve_one-clause-digits : goal.returns-in_err-reserve_one-clause-digits

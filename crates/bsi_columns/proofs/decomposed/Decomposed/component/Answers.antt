@@ -1,4 +1,4 @@
-use Rattle.std.proofs.Common.{[], sym, ap, ◌∙◌, arith}
+use Rattle.std.proofs.Common.{[], sym, ◌∙◌, arith}
 use Rattle.std.proofs.lemmas.List.{length-map}
 use Rattle.bsi_columns.proofs.ComponentLists.{read_map}
 use Rattle.bsi_columns.proofs.decomposed.Decomposed.component.Goals as goal

@@ -1,4 +1,4 @@
-use Rattle.std.proofs.Common.{◌≡◌, ◌<◌, ◌+◌, ℕ, Bool, List, [], length, map, ap, sym, ◌∙◌, arith}
+use Rattle.std.proofs.Common.{◌≡◌, ◌<◌, [], length, map, ap, sym, ◌∙◌, arith}
 use Rattle.std.proofs.lemmas.List.{length-map}
 use Rattle.bsi_digits.specs.Digits.{size_of, digit_of}
 use Rattle.bsi_columns.specs.Rows.{number_or_zero}
@@ -16,7 +16,7 @@ loop-i-init g c =
     let entries = entries_of bs inside.present.bits (map g.E.Encoding.digits items) in
     let few : 0 < length items = omega (arith, kept.count, length-map items g.E.Encoding.digits) in
     let digits : g.E.Encoding.digits c.index.result.now ≡ map (λ e. digit_of bs (number_or_zero e) 0) entries =
-        sym (read_map g.E.Encoding.digits items 0 c.index.result.now [] few c.index.ensures) ∙ kept.digits_are 0 (omega arith) in
+    sym (read_map g.E.Encoding.digits items 0 c.index.result.now [] few c.index.ensures) ∙ kept.digits_are 0 (omega arith) in
     let same : length entries ≡ length c.args.part.now.bits = rw (← c.self.view_is) at c.requires.same_part in
     rw (← c.self.view_is) (record {
       found = low_answers_first c.len-places.ensures.valid c.args.test.relation c.args.test.constant entries
@@ -33,7 +33,7 @@ narrow_into-requires-clause-same_part g c =
     let entries = entries_of bs inside.present.bits (map g.E.Encoding.digits items) in
     let within : c.loop-i.i < length items = omega (arith, kept.count, length-map items g.E.Encoding.digits) in
     let digits : g.E.Encoding.digits c.index-in-loop-i.result.now ≡ map (λ e. digit_of bs (number_or_zero e) c.loop-i.i) entries =
-        sym (read_map g.E.Encoding.digits items c.loop-i.i c.index-in-loop-i.result.now [] within c.index-in-loop-i.ensures) ∙ kept.digits_are c.loop-i.i (omega arith) in
+    sym (read_map g.E.Encoding.digits items c.loop-i.i c.index-in-loop-i.result.now [] within c.index-in-loop-i.ensures) ∙ kept.digits_are c.loop-i.i (omega arith) in
     let same : length c.loop-i.part.bits ≡ length entries = rw (← c.self.view_is) at c.loop-i.invariant.part in
     ap length digits ∙ length-map entries (λ e. digit_of bs (number_or_zero e) c.loop-i.i) ∙ sym same
 
@@ -47,7 +47,7 @@ narrow_into-requires-clause-same g c =
     let valid = c.len-places.ensures.valid in
     let within : c.loop-i.i < length items = omega (arith, kept.count, length-map items g.E.Encoding.digits) in
     let digits : g.E.Encoding.digits c.index-in-loop-i.result.now ≡ map (λ e. digit_of bs (number_or_zero e) c.loop-i.i) entries =
-        sym (read_map g.E.Encoding.digits items c.loop-i.i c.index-in-loop-i.result.now [] within c.index-in-loop-i.ensures) ∙ kept.digits_are c.loop-i.i (omega arith) in
+    sym (read_map g.E.Encoding.digits items c.loop-i.i c.index-in-loop-i.result.now [] within c.index-in-loop-i.ensures) ∙ kept.digits_are c.loop-i.i (omega arith) in
     let found : c.loop-i.found.bits ≡ low_answers valid c.args.test.relation c.args.test.constant entries c.loop-i.i = rw (← c.self.view_is) at c.loop-i.invariant.found in
     ap length digits ∙ length-map entries (λ e. digit_of bs (number_or_zero e) c.loop-i.i) ∙ sym (ap length found ∙ length-map entries _)
 
@@ -61,7 +61,7 @@ loop-i-preserved g c =
     let valid = c.len-places.ensures.valid in
     let within : c.loop-i.i < length items = omega (arith, kept.count, length-map items g.E.Encoding.digits) in
     let digits : g.E.Encoding.digits c.index-in-loop-i.result.now ≡ map (λ e. digit_of bs (number_or_zero e) c.loop-i.i) entries =
-        sym (read_map g.E.Encoding.digits items c.loop-i.i c.index-in-loop-i.result.now [] within c.index-in-loop-i.ensures) ∙ kept.digits_are c.loop-i.i (omega arith) in
+    sym (read_map g.E.Encoding.digits items c.loop-i.i c.index-in-loop-i.result.now [] within c.index-in-loop-i.ensures) ∙ kept.digits_are c.loop-i.i (omega arith) in
     let found : c.loop-i.found.bits ≡ low_answers valid c.args.test.relation c.args.test.constant entries c.loop-i.i = rw (← c.self.view_is) at c.loop-i.invariant.found in
     let same : length c.loop-i.part.bits ≡ length entries = rw (← c.self.view_is) at c.loop-i.invariant.part in
     rw (← c.self.view_is) (record {

@@ -1,8 +1,6 @@
-use Rattle.std.proofs.Common.{◌≡◌, ℕ, map, ◌∙◌, ap, ap₂}
-use Rattle.std.specs.Prelude.{◌&&◌}
-use Rattle.std.specs.Simd.Lanes.{zip2}
+use Rattle.std.proofs.Common.{◌≡◌, ℕ, map, ◌∙◌}
 use Rattle.bsi_columns.specs.Rows.{number_or_zero}
-use Rattle.bsi_columns.specs.Tests.{holds, as_wanted}
+use Rattle.bsi_columns.specs.Tests.{holds}
 use Rattle.bsi_columns.specs.Decomposed.{entries_of}
 use Rattle.bsi_columns.proofs.Answering.{cut_answers}
 use Rattle.bsi_columns.proofs.decomposed.Decomposed.select_vectors.Goals as goal

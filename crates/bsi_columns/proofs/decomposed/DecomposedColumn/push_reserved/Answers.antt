@@ -1,4 +1,4 @@
-use Rattle.std.proofs.Common.{◌≡◌, ◌<◌, ◌∷◌, ◌++◌, [], length, map, ap, ◌∙◌}
+use Rattle.std.proofs.Common.{◌≡◌, ◌<◌, ◌∷◌, ◌++◌, [], length, map, ◌∙◌}
 use Rattle.std.proofs.lemmas.List.{length-map}
 use Rattle.bsi_digits.specs.Digits.{size_of}
 use Rattle.bsi_columns.specs.Rows.{number_or_zero}
@@ -19,8 +19,8 @@ invariant_of-self g c =
     let small : number_or_zero c.args.entry < size_of bs = rw (← c.self.view_is) at c.requires.below in
     let long : length more ≡ length bs = length-map items g.E.Encoding.digits ∙ length-map_is g.E.Encoding.base_of items bs c.push_digits.ensures.bases in
     let kept : Decomposes bs bits more (entries ++ c.args.entry ∷ []) =
-        appended_entry bs present ds entries c.args.entry c.is_some.result c.unwrap_or.result bits more c.self.invariant.0
-        c.is_some.ensures c.unwrap_or.ensures c.push_reserved.ensures long c.push_digits.ensures.digits small in
+    appended_entry bs present ds entries c.args.entry c.is_some.result c.unwrap_or.result bits more c.self.invariant.0
+    c.is_some.ensures c.unwrap_or.ensures c.push_reserved.ensures long c.push_digits.ensures.digits small in
     (kept_itself bs bits more (entries ++ c.args.entry ∷ []) kept, c.push_digits.ensures.bases)
 
 pub returns-clause-entries : goal.returns-clause-entries
@@ -35,6 +35,6 @@ returns-clause-entries g c =
     let small : number_or_zero c.args.entry < size_of bs = rw (← c.self.view_is) at c.requires.below in
     let long : length more ≡ length bs = length-map items g.E.Encoding.digits ∙ length-map_is g.E.Encoding.base_of items bs c.push_digits.ensures.bases in
     let kept : Decomposes bs bits more (entries ++ c.args.entry ∷ []) =
-        appended_entry bs present ds entries c.args.entry c.is_some.result c.unwrap_or.result bits more c.self.invariant.0
-        c.is_some.ensures c.unwrap_or.ensures c.push_reserved.ensures long c.push_digits.ensures.digits small in
+    appended_entry bs present ds entries c.args.entry c.is_some.result c.unwrap_or.result bits more c.self.invariant.0
+    c.is_some.ensures c.unwrap_or.ensures c.push_reserved.ensures long c.push_digits.ensures.digits small in
     rw (← c.self.view_is) (entries_from bs bits more (entries ++ c.args.entry ∷ []) kept)

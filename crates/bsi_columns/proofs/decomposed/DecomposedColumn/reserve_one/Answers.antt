@@ -1,4 +1,4 @@
-use Rattle.std.proofs.Common.{map, arith}
+use Rattle.std.proofs.Common.{map}
 use Rattle.bsi_columns.specs.Decomposed.{entries_of}
 use Rattle.bsi_columns.proofs.EntriesFrom.{component_rows}
 use Rattle.bsi_columns.proofs.decomposed.DecomposedColumn.reserve_one.Goals as goal

@@ -1,7 +1,6 @@
-use Rattle.std.proofs.Common.{false, true, ap, sym, ◌∙◌}
+use Rattle.std.proofs.Common.{ap, ◌∙◌}
 use Rattle.std.specs.Prelude.{not, ◌&&◌}
 use Rattle.std.specs.Simd.Lanes.{zip2}
-use Rattle.bsi_columns.specs.Tests.{as_wanted}
 use Rattle.bsi_columns.proofs.Answering.{zip2-map_left}
 use Rattle.bsi_columns.proofs.decomposed.compare.cut.Goals as goal
 use Rattle.bsi_columns.proofs.decomposed.compare.cut.Goals.{then-not-wanted, else-not-wanted}

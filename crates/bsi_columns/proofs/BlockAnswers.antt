@@ -1,0 +1,86 @@
+-- What the bits of a block of words say of the rows that it stands for.
+use Rattle.std.proofs.Common.{◌≡◌, ℕ, ◌+◌, ◌-◌, ◌*◌, ◌/◌, ◌%◌, ◌<◌, Bool, true, false, List, ◌++◌, length, get_or, map, refl, sym, ap, ap₂, ◌∙◌, inl, inr, arith}
+use Rattle.std.specs.Prelude.{Option, None, not, is_some, ◌&&◌, ◌==◌, All}
+use Rattle.std.specs.Int.{bit_at}
+use Rattle.std.proofs.lemmas.List.{length-map, get_or-map, get_or_append_left, get_or-append_right, length-append}
+use Rattle.std.proofs.lemmas.Bool.{cases_lt}
+use Rattle.bsi_bits.specs.Packed.{bit_of}
+use Rattle.bsi_digits.specs.Digits.{size_of, weight, digit_of, IsBaseList}
+use Rattle.bsi_digits.proofs.CallerLemmas.{low_all}
+use Rattle.bsi_columns.specs.declared.decomposed.compare.Relation.{Relation}
+use Rattle.bsi_columns.specs.Rows.{number_or_zero}
+use Rattle.bsi_columns.specs.Tests.{holds, holds_from, as_wanted, answers}
+use Rattle.bsi_columns.proofs.Answering.{holds_more, nothing_below, cut_answer}
+
+-- each bit says whether the digits below component i pass the test
+pub record IsNarrowed (bs : List ℕ) (relation : Relation) (n : ℕ) (es : List (Option ℕ)) (at i : ℕ) (block : List ℕ) : Type 0 where
+  pub bits : (p : ℕ) → p < 64 * length block → 64 * at + p < length es
+      → bit_of block p ≡ holds relation (number_or_zero (get_or es (64 * at + p) None) % weight bs i) (n % weight bs i)
+
+module _ {bs : List ℕ} (valid : IsBaseList bs) (relation : Relation) (n : ℕ) (es : List (Option ℕ)) (at : ℕ) where
+  pub narrowed_start : (block : List ℕ) → ((p : ℕ) → p < 64 * length block → bit_of block p ≡ true) → IsNarrowed bs relation n es at 0 block
+  narrowed_start block ones =
+      let none : (x : ℕ) → 0 ≡ x % 1 = λ x. omega arith in
+      record {
+        bits = λ p below row.
+            ones p below ∙ sym (nothing_below relation) ∙ ap₂ (holds relation) (none (number_or_zero (get_or es (64 * at + p) None))) (none n);
+      }
+
+  pub narrowed_more : (i d : ℕ) (block after ds : List ℕ) → i < length bs → d ≡ digit_of bs n i → ds ≡ map (λ e. digit_of bs (number_or_zero e) i) es
+      → length after ≡ length block → IsNarrowed bs relation n es at i block
+      → ((p : ℕ) → p < 64 * length block → 64 * at + p < length ds → bit_of after p ≡ holds_from relation (bit_of block p) (get_or ds (64 * at + p) 0) d)
+      → IsNarrowed bs relation n es at (i + 1) after
+  narrowed_more i d block after ds within d_is ds_is same before step = record {
+    bits = λ p below row.
+        let rows : length ds ≡ length es = ap length ds_is ∙ length-map es (λ (e : Option ℕ). digit_of bs (number_or_zero e) i) in
+        let in_block : p < 64 * length block = omega (arith, same) in
+        let number : ℕ = number_or_zero (get_or es (64 * at + p) None) in
+        let digit : get_or ds (64 * at + p) 0 ≡ digit_of bs number i =
+        ap (λ xs. get_or xs (64 * at + p) 0) ds_is ∙ get_or-map (λ (e : Option ℕ). digit_of bs (number_or_zero e) i) es (64 * at + p) None 0 row in
+        step p in_block (omega (arith, rows))
+        ∙ ap (λ low. holds_from relation low (get_or ds (64 * at + p) 0) d) (before.bits p in_block row)
+        ∙ ap₂ (holds_from relation (holds relation (number % weight bs i) (n % weight bs i))) digit d_is
+        ∙ sym (holds_more valid relation number n i within);
+  }
+
+  pub narrowed_all : (block : List ℕ) → n < size_of bs → All (λ e. number_or_zero e < size_of bs) es → IsNarrowed bs relation n es at (length bs) block
+      → (p : ℕ) → p < 64 * length block → 64 * at + p < length es → bit_of block p ≡ holds relation (number_or_zero (get_or es (64 * at + p) None)) n
+  narrowed_all block small all narrowed p below row =
+      narrowed.bits p below row ∙ ap₂ (holds relation) (low_all bs (number_or_zero (get_or es (64 * at + p) None)) (all (64 * at + p) None row)) (low_all bs n small)
+
+-- the words that begin a list, and those appended to it
+module _ (P : ℕ → Bool) (n at : ℕ) (words block : List ℕ) (long : length words ≡ at) where
+  pub appended_bits : ((p : ℕ) → p < 64 * length words → p < n → bit_of words p ≡ P p)
+      → ((q : ℕ) → q < 64 * length block → 64 * at + q < n → bit_of block q ≡ P (64 * at + q))
+      → (p : ℕ) → p < 64 * length (words ++ block) → p < n → bit_of (words ++ block) p ≡ P p
+  appended_bits before here p below row = elim (cases_lt p (64 * length words)) [
+    | inl first ↦ ap (λ w. bit_at w (p % 64) == 1) (get_or_append_left words block 0 (p / 64) (omega arith)) ∙ before p first row
+    | inr from ↦
+        let q : ℕ = p - 64 * at in
+        let place : 64 * at + q ≡ p = omega arith in
+        let in_block : q < 64 * length block = omega (arith, length-append words block) in
+        let word : p / 64 ≡ length words + q / 64 = omega arith in
+        let bit : p % 64 ≡ q % 64 = omega arith in
+        let back : length words + q / 64 - length words ≡ q / 64 = omega arith in
+        ap₂ (λ j r. bit_at (get_or (words ++ block) j 0) r == 1) word bit
+        ∙ ap (λ w. bit_at w (q % 64) == 1) (get_or-append_right words block (length words) (length words + q / 64) 0 refl (omega arith) ∙ ap (λ j. get_or block j 0) back)
+        ∙ here q in_block (omega arith) ∙ ap P place
+  ]
+
+-- a row of a block, cut with the not-null bitmap
+pub row_answer : (test : ℕ → Bool) (wanted : Bool) (es : List (Option ℕ)) (r : ℕ) (found there : Bool) → r < length es
+    → found ≡ as_wanted wanted (test (number_or_zero (get_or es r None))) → there ≡ get_or (map is_some es) r false
+    → (found && there) ≡ get_or (map (answers test wanted) es) r false
+row_answer test wanted es r found there row found_is there_is =
+    ap₂ ◌&&◌ found_is (there_is ∙ get_or-map is_some es r None false row)
+    ∙ cut_answer test wanted (get_or es r None)
+    ∙ sym (get_or-map (answers test wanted) es r None false row)
+
+-- an answer that is turned where the rows that fail are wanted
+pub answer_turned : (wanted bit found : Bool) → not wanted ≡ true → bit ≡ not found → bit ≡ as_wanted wanted found
+answer_turned true bit found failing turned = cc
+answer_turned false bit found failing turned = turned
+
+pub answer_kept : (wanted bit found : Bool) → not wanted ≡ false → bit ≡ found → bit ≡ as_wanted wanted found
+answer_kept true bit found passing kept = kept
+answer_kept false bit found passing kept = cc

@@ -1,0 +1,22 @@
+-- What a contract sees of a column of any form.
+use Rattle.std.specs.Prelude.{ℕ, ◌^◌, Bool, List, Option}
+use Rattle.bsi_digits.specs.Digits.{size_of}
+use Rattle.bsi_columns.specs.declared.any.AnyColumn.{AnyColumn}
+use Rattle.bsi_columns.specs.declared.any.AnyColumn.TheVariants.{Slices, Equality, Range}
+
+-- what each number is below
+abbrev pub any_size : AnyColumn → ℕ
+any_size (Slices c) = 2 ^ c.width
+any_size (Equality c) = size_of c.bases
+any_size (Range c) = size_of c.bases
+
+abbrev pub any_entries : AnyColumn → List (Option ℕ)
+any_entries (Slices c) = c.entries
+any_entries (Equality c) = c.entries
+any_entries (Range c) = c.entries
+
+-- whether one more entry can be appended with no memory
+abbrev pub any_room : AnyColumn → Bool
+any_room (Slices c) = c.room
+any_room (Equality c) = c.room
+any_room (Range c) = c.room

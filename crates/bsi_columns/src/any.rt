@@ -1,0 +1,97 @@
+//! A column of whichever form, chosen when the program runs.
+
+use crate::{Column, Decomposed, EqualityComponent, NoMemory, Op, RangeComponent, Slices};
+use bsi_bits::Bits;
+
+/// A column kept in one of the forms. Each call is that of the form.
+#[derive(Drop)]
+pub enum AnyColumn {
+    /// A bit slice for each binary place.
+    Slices(Slices),
+    /// A bitmap for each digit of each component.
+    Equality(Decomposed<EqualityComponent>),
+    /// A bitmap for the digits up to each one, of each component.
+    Range(Decomposed<RangeComponent>),
+}
+
+impl Column for AnyColumn {
+    ghost use Rattle.bsi_columns.specs.AnyRows.{any_size, any_entries, any_room};
+
+    ghost size_of = { any_size };
+
+    ghost entries = { any_entries };
+
+    ghost room = { any_room };
+
+    fn size(&self) -> u64 {
+        match self {
+            AnyColumn::Slices(column) => column.size(),
+            AnyColumn::Equality(column) => column.size(),
+            AnyColumn::Range(column) => column.size(),
+        }
+    }
+
+    fn len(&self) -> u64 {
+        match self {
+            AnyColumn::Slices(column) => column.len(),
+            AnyColumn::Equality(column) => column.len(),
+            AnyColumn::Range(column) => column.len(),
+        }
+    }
+
+    fn has_room(&self) -> bool {
+        match self {
+            AnyColumn::Slices(column) => column.has_room(),
+            AnyColumn::Equality(column) => column.has_room(),
+            AnyColumn::Range(column) => column.has_room(),
+        }
+    }
+
+    fn reserve_one(&mut self) -> Result<(), NoMemory> {
+        match self {
+            AnyColumn::Slices(column) => column.reserve_one(),
+            AnyColumn::Equality(column) => column.reserve_one(),
+            AnyColumn::Range(column) => column.reserve_one(),
+        }
+    }
+
+    fn push_reserved(&mut self, entry: Option<u64>) {
+        match self {
+            AnyColumn::Slices(column) => column.push_reserved(entry),
+            AnyColumn::Equality(column) => column.push_reserved(entry),
+            AnyColumn::Range(column) => column.push_reserved(entry),
+        }
+    }
+
+    fn compare(&self, op: Op, constant: u64) -> Result<Bits, NoMemory> {
+        match self {
+            AnyColumn::Slices(column) => column.compare(op, constant),
+            AnyColumn::Equality(column) => column.compare(op, constant),
+            AnyColumn::Range(column) => column.compare(op, constant),
+        }
+    }
+
+    fn nulls_into(&self, out: &mut Bits) {
+        match self {
+            AnyColumn::Slices(column) => column.nulls_into(out),
+            AnyColumn::Equality(column) => column.nulls_into(out),
+            AnyColumn::Range(column) => column.nulls_into(out),
+        }
+    }
+
+    fn present(&self) -> &Bits {
+        match self {
+            AnyColumn::Slices(column) => column.present(),
+            AnyColumn::Equality(column) => column.present(),
+            AnyColumn::Range(column) => column.present(),
+        }
+    }
+
+    fn copy(&self) -> Result<Self, NoMemory> {
+        Ok(match self {
+            AnyColumn::Slices(column) => AnyColumn::Slices(column.copy()?),
+            AnyColumn::Equality(column) => AnyColumn::Equality(column.copy()?),
+            AnyColumn::Range(column) => AnyColumn::Range(column.copy()?),
+        })
+    }
+}
