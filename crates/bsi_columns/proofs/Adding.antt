@@ -9,7 +9,7 @@ use Rattle.std.proofs.lemmas.Nat.{mod_below, mul-le}
 use Rattle.std.proofs.lemmas.Nat.Bits.{bit_at-zero}
 use Rattle.std.proofs.lemmas.List.Sums.{sum_by-cons}
 use Rattle.bsi_digits.specs.Digits.{weight, digit_of, IsBaseList}
-use Rattle.bsi_digits.proofs.CallerLemmas.{low_more, weight_pos}
+use Rattle.bsi_digits.proofs.CallerLemmas.{low_more}
 use Rattle.bsi_columns.specs.Rows.{number_or_zero}
 use Rattle.bsi_columns.specs.Totals.{numbers_at}
 use Rattle.bsi_columns.proofs.SliceNumbers.{places_more}
@@ -89,7 +89,8 @@ sum_small w found entries some small few =
     let product = mul-le (length numbers) (2 ^ 63) (2 ^ 32) (2 ^ 63) (omega arith) (omega arith) in
     omega (arith, sum_bound (λ n. n % w) (2 ^ 63) each numbers, product)
 
-none_below_one : (numbers : List ℕ) → 0 ≡ sum_by (λ n. n % 1) numbers
+-- nothing is left of a number under 1
+pub none_below_one : (numbers : List ℕ) → 0 ≡ sum_by (λ n. n % 1) numbers
 none_below_one [] = refl
 none_below_one (x ∷ xs) =
     let none : x % 1 ≡ 0 = omega arith in

@@ -71,6 +71,22 @@ impl Column for AnyColumn {
         }
     }
 
+    fn sum(&self, found: &Bits) -> u128 {
+        match self {
+            AnyColumn::Slices(column) => column.sum(found),
+            AnyColumn::Equality(column) => column.sum(found),
+            AnyColumn::Range(column) => column.sum(found),
+        }
+    }
+
+    fn ranked(&self, found: &Bits, k: u64) -> Result<u64, NoMemory> {
+        match self {
+            AnyColumn::Slices(column) => column.ranked(found, k),
+            AnyColumn::Equality(column) => column.ranked(found, k),
+            AnyColumn::Range(column) => column.ranked(found, k),
+        }
+    }
+
     fn nulls_into(&self, out: &mut Bits) {
         match self {
             AnyColumn::Slices(column) => column.nulls_into(out),

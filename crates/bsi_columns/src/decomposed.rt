@@ -14,6 +14,7 @@ use std::marker::Model;
 mod compare;
 #[cfg(test)]
 mod tests;
+mod totals;
 
 /// A column of numbers below the product of its bases, which keeps a component for each base.
 #[derive(Drop)]

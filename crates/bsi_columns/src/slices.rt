@@ -13,9 +13,9 @@ use std::alloc::Global;
 use std::marker::Model;
 
 mod compare;
-mod totals;
 #[cfg(test)]
 mod tests;
+mod totals;
 
 /// A column of optional numbers below two to the power of its width. Slice `i` is binary place `i` of the numbers, and
 /// clear where a row is null.

@@ -5,8 +5,8 @@ ghost use Rattle.std.specs.Prelude.{◌≡◌, ℕ, ◌+◌, ◌^◌, ◌≤◌,
 ghost use Rattle.std.specs.Simd.Lanes.{zip2};
 ghost use Rattle.bsi_columns.specs.Totals.{numbers_at, IsRanked};
 
-use crate::{Column, NoMemory};
 use crate::slices::Slices;
+use crate::{Column, NoMemory};
 use bsi_bits::Bits;
 
 impl Slices {
@@ -41,7 +41,7 @@ impl Slices {
         'slices: while i > 0 {
             i -= 1;
             let choice = choose(self.slice(i), rank, &mut chosen);
-            number = 2 * number + u64::from(choice.is_set);
+            number = number * 2 + u64::from(choice.is_set);
             rank = choice.rank;
         }
         Ok(number)

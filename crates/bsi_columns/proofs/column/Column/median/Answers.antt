@@ -1,5 +1,5 @@
-use Rattle.std.proofs.Common.{◌≡◌, ap, sym, refl, ◌∙◌, length, map, arith}
-use Rattle.std.specs.Prelude.{count_by, is_some, ◌&&◌, ◌-◌, ◌/◌, ◌<◌}
+use Rattle.std.proofs.Common.{ap, sym, ◌∙◌, arith}
+use Rattle.std.specs.Prelude.{count_by, ◌&&◌, ◌-◌, ◌/◌, ◌<◌}
 use Rattle.std.specs.Simd.Lanes.{zip2}
 use Rattle.bsi_columns.specs.Totals.{numbers_at}
 use Rattle.bsi_columns.proofs.Ranking.{count_numbers, no_numbers, median_ranked}

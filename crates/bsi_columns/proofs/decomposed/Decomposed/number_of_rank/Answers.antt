@@ -1,4 +1,4 @@
-use Rattle.std.proofs.Common.{◌≡◌, ℕ, ◌+◌, ◌-◌, ◌*◌, ◌<◌, ◌≤◌, ◌^◌, All, List, length, get_or, map, ap, ap₂, sym, subst, ◌∙◌, arith}
+use Rattle.std.proofs.Common.{◌≡◌, ℕ, ◌+◌, ◌-◌, ◌*◌, ◌<◌, ◌^◌, All, List, length, get_or, map, ap, ap₂, sym, subst, ◌∙◌, arith}
 use Rattle.std.specs.Prelude.{is_some, nat_eq, ◌&&◌}
 use Rattle.std.specs.Simd.Lanes.{zip2}
 use Rattle.std.proofs.lemmas.Simd.{length-zip2}
@@ -24,7 +24,7 @@ components-init g c =
     let AtHeight : ℕ → Type 0 = λ i. IsRung bs found entries c.args.k i 0 c.args.k c.and_with.new.self.bits in
     record {
       rung = subst AtHeight (sym c.len-i.ensures.len) start;
-      chosen_even = ap length chosen ∙ length-zip2 ◌&&◌ found (map is_some entries) (sym (length-map entries is_some ∙ c.requires.same)) ;
+      chosen_even = ap length chosen ∙ length-zip2 ◌&&◌ found (map is_some entries) (sym (length-map entries is_some ∙ c.requires.same));
       scratch_even = ap length c.in_ok-scratch.ensures;
     }
 
@@ -42,7 +42,7 @@ choose-choice-requires-clause-below g c =
 -- one component down
 next : (g : given.Over) (c : goal.After-from g)
     → IsRung c.bases-bases.result.now c.args.found.now.bits c.args.self.now.entries c.args.k (c.components.i - 1)
-      (c.components.number * c.from.result + c.choose-choice.result.digit) c.choose-choice.result.rank c.choose-choice.new.chosen.bits
+    (c.components.number * c.from.result + c.choose-choice.result.digit) c.choose-choice.result.rank c.choose-choice.new.chosen.bits
 next g c =
     let bs = c.bases-bases.result.now in
     let entries = c.args.self.now.entries in
@@ -56,9 +56,9 @@ next g c =
     let AtHeight : ℕ → Type 0 = λ i. IsRung bs found entries c.args.k i c.components.number c.components.rank c.components.chosen.bits in
     let AtNumber : ℕ → Type 0 = λ b. IsRung bs found entries c.args.k j (c.components.number * b + c.choose-choice.result.digit) c.choose-choice.result.rank c.choose-choice.new.chosen.bits in
     subst AtNumber (sym (c.from.ensures ∙ c.base.ensures.base)) (
-      rung_step bs c.len-i.ensures.valid found entries c.args.k j within c.components.number c.components.rank c.choose-choice.result.digit c.choose-choice.result.rank
-        c.components.chosen.bits c.choose-choice.new.chosen.bits (g.E.Encoding.digits c.component.result.now) (subst AtHeight above c.components.invariant.rung) digits
-        (omega (arith, base, c.choose-choice.ensures.digit)) c.choose-choice.ensures.chosen c.choose-choice.ensures.rank c.choose-choice.ensures.there)
+    rung_step bs c.len-i.ensures.valid found entries c.args.k j within c.components.number c.components.rank c.choose-choice.result.digit c.choose-choice.result.rank
+    c.components.chosen.bits c.choose-choice.new.chosen.bits (g.E.Encoding.digits c.component.result.now) (subst AtHeight above c.components.invariant.rung) digits
+    (omega (arith, base, c.choose-choice.ensures.digit)) c.choose-choice.ensures.chosen c.choose-choice.ensures.rank c.choose-choice.ensures.there)
 
 small : (g : given.Over) (c : goal.After-from g) → c.components.number * c.from.result + c.choose-choice.result.digit < 2 ^ 63
 small g c =
@@ -80,10 +80,10 @@ components-preserved g c =
     let bs = c.bases-bases.result.now in
     let long = ap length (c.component.ensures.digits) ∙ length-map c.args.self.now.entries (λ e. digit_of c.args.self.now.bases (number_or_zero e) (c.components.i - 1)) ∙ c.requires.same in
     let even = ap length c.choose-choice.ensures.chosen
-      ∙ length-zip2 (λ f v. f && nat_eq v c.choose-choice.result.digit) c.components.chosen.bits (g.E.Encoding.digits c.component.result.now) (c.components.invariant.chosen_even ∙ sym long)
-      ∙ c.components.invariant.chosen_even in
+    ∙ length-zip2 (λ f v. f && nat_eq v c.choose-choice.result.digit) c.components.chosen.bits (g.E.Encoding.digits c.component.result.now) (c.components.invariant.chosen_even ∙ sym long)
+    ∙ c.components.invariant.chosen_even in
     let AtNumber : ℕ → Type 0 = λ d. IsRung c.bases-bases.result.now c.args.found.now.bits c.args.self.now.entries c.args.k (c.components.i - 1)
-      (c.components.number * c.from.result + d) c.choose-choice.result.rank c.choose-choice.new.chosen.bits in
+    (c.components.number * c.from.result + d) c.choose-choice.result.rank c.choose-choice.new.chosen.bits in
     record {
       rung = subst AtNumber (sym c.from-in-components.ensures) (next g at);
       chosen_even = even;

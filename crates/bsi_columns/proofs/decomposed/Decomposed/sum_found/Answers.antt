@@ -14,13 +14,13 @@ components-init g c = sum_none c.bases-bases.result.now (numbers_at c.args.found
 -- the total with one component more
 more : (g : given.Over) (c : goal.After-from g)
     → c.components.total + c.digit_sum.result * c.from.result
-      ≡ sum_by (λ n. n % weight c.bases-bases.result.now (c.components.i + 1)) (numbers_at c.args.found.now.bits c.args.self.now.entries)
+    ≡ sum_by (λ n. n % weight c.bases-bases.result.now (c.components.i + 1)) (numbers_at c.args.found.now.bits c.args.self.now.entries)
 more g c =
     let bs = c.bases-bases.result.now in
     let digits = c.component.ensures.digits ∙ ap (λ bs. map (λ e. digit_of bs (number_or_zero e) c.components.i) c.args.self.now.entries) (sym c.bases-bases.ensures.bases) in
     sum_digits bs c.len-i-end.ensures.valid c.components.i (omega arith) c.args.found.now.bits c.args.self.now.entries
-      (g.E.Encoding.digits c.component.result.now) c.components.total c.digit_sum.result c.from.result
-      c.components.invariant digits c.digit_sum.ensures (c.from.ensures ∙ c.weight.ensures.weight)
+    (g.E.Encoding.digits c.component.result.now) c.components.total c.digit_sum.result c.from.result
+    c.components.invariant digits c.digit_sum.ensures (c.from.ensures ∙ c.weight.ensures.weight)
 
 bound : (g : given.Over) (c : goal.After-from g) → c.components.total + c.digit_sum.result * c.from.result ≤ 2 ^ 95
 bound g c =
