@@ -2,6 +2,8 @@
 #![tactic(auto)]
 
 mod plain;
+#[cfg(test)]
+mod tests;
 mod whole;
 
 pub use plain::PlainColumn;
