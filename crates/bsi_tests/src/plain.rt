@@ -1,7 +1,8 @@
 //! A column as a plain list of its entries, whose calls are what their contracts say.
 
-ghost use Rattle.std.specs.Prelude.{◌≡◌, ℕ, ◌*◌, ◌^◌, ◌≤◌, ◌<◌, [], ◌∷◌, ◌++◌, map, length, IfOk, OnOk};
-ghost use Rattle.bsi_columns.specs.Rows.{selects};
+ghost use Rattle.std.specs.Prelude.{◌≡◌, ℕ, ◌*◌, ◌^◌, ◌≤◌, ◌<◌, [], ◌∷◌, ◌++◌, All, None, false, if◌then◌else◌, map, length, slice_index_or, sum, IfOk, OnOk};
+ghost use Rattle.bsi_columns.specs.Rows.{number_or_zero, selects};
+ghost use Rattle.bsi_columns.specs.Totals.{numbers_at};
 
 use crate::NoMemory;
 use bsi_bits::Bits;
@@ -24,9 +25,7 @@ impl Model for PlainColumn {
 
     ghost Value = { PlainRows };
 
-    ghost view = {
-        λ c. record { size = c.size; entries = c.entries.items; room = c.present.room && nat_lt (vec_len c.entries) (vec_capacity c.entries) }
-    };
+    ghost view = { λ c. record { size = c.size; entries = c.entries.items; room = c.present.room && nat_lt (vec_len c.entries) (vec_capacity c.entries) } };
 
     ghost invariant = { λ c. IsPlain c.size c.entries.items c.present.bits };
 }
@@ -87,6 +86,19 @@ impl Column for PlainColumn {
         out.flip();
     }
 
+    fn sum(&self, found: &Bits) -> u128 {
+        let _rows = found.len();
+        sum_each(&self.entries, found)
+    }
+
+    fn ranked(&self, found: &Bits, k: u64) -> Result<u64, NoMemory> {
+        let _rows = found.len();
+        let mut numbers = Vec::new(*self.entries.allocator());
+        gather(&self.entries, found, &mut numbers)?;
+        numbers.sort_unstable();
+        Ok(numbers[k as usize])
+    }
+
     fn present(&self) -> &Bits {
         &self.present
     }
@@ -101,7 +113,12 @@ impl Column for PlainColumn {
 }
 
 /// Appends to no bits, for each entry, whether it is a number that compares so with the constant.
-fn select_each(entries: &[Option<u64>], op: Op, constant: u64, found: &mut Bits) -> Result<(), NoMemory>
+fn select_each(
+    entries: &[Option<u64>],
+    op: Op,
+    constant: u64,
+    found: &mut Bits,
+) -> Result<(), NoMemory>
     requires few { length entries.now ≤ 2 ^ 32 }
     requires empty { found.old.bits ≡ [] }
     ensures { OnOk result (found.new.bits ≡ map (selects op constant) entries.now) }
@@ -128,4 +145,46 @@ fn selected(op: Op, constant: u64, entry: Option<u64>) -> bool
             Op::Ge => x >= constant,
         },
     }
+}
+
+/// The sum of the numbers at the found rows.
+fn sum_each(entries: &[Option<u64>], found: &Bits) -> u128
+    requires same { length entries.now ≡ length found.now.bits }
+    requires few { length entries.now ≤ 2 ^ 32 }
+    requires below { All (λ e. number_or_zero e < 2 ^ 63) entries.now }
+    ensures sum { result ≡ sum (numbers_at found.now.bits entries.now) }
+    ensures within { result ≤ 2 ^ 95 }
+{
+    let mut total = 0;
+    let mut row = 0;
+    for entry in entries {
+        total += u128::from(number_at(found, row, *entry).unwrap_or(0));
+        row += 1;
+    }
+    total
+}
+
+/// Appends to no numbers those at the found rows, in order of the rows.
+fn gather(entries: &[Option<u64>], found: &Bits, numbers: &mut Vec<u64>) -> Result<(), NoMemory>
+    requires same { length entries.now ≡ length found.now.bits }
+    requires few { length entries.now ≤ 2 ^ 32 }
+    requires empty { numbers.old.items ≡ [] }
+    ensures { OnOk result (numbers.new.items ≡ numbers_at found.now.bits entries.now) }
+{
+    let mut row = 0;
+    for entry in entries {
+        if let Some(number) = number_at(found, row, *entry) {
+            numbers.push(number)?;
+        }
+        row += 1;
+    }
+    Ok(())
+}
+
+/// The number of a row, where the row is found and has one.
+fn number_at(found: &Bits, row: u64, entry: Option<u64>) -> Option<u64>
+    requires { row < length found.now.bits }
+    ensures { result ≡ (if slice_index_or found.now.bits row false then entry else None) }
+{
+    if found.get(row) { entry } else { None }
 }

@@ -2,7 +2,9 @@
 
 use super::*;
 use bsi_bits::Bits;
-use bsi_columns::{AnyColumn, Column, Decomposed, Encoding, EqualityComponent, Op, RangeComponent, Slices};
+use bsi_columns::{
+    AnyColumn, Column, Decomposed, Encoding, EqualityComponent, Op, RangeComponent, Slices,
+};
 use bsi_digits::Bases;
 use std::alloc::Global;
 use std::process::Abort;
@@ -79,10 +81,18 @@ fn same(a: &Bits, b: &Bits) -> bool {
 }
 
 /// Whether both columns select the same rows by every operator.
-fn select_alike<A: Column, B: Column>(rt: &impl Abort, column: &A, plain: &B, constant: u64) -> Result<(), NoMemory> {
+fn select_alike<A: Column, B: Column>(
+    rt: &impl Abort,
+    column: &A,
+    plain: &B,
+    constant: u64,
+) -> Result<(), NoMemory> {
     for op in OPERATORS {
         let found = compared(column, op, constant)?;
-        assert!(rt; same(&found, &compared(plain, op, constant)?), "{op:?} {constant}");
+        assert!(rt;
+            same(&found, &compared(plain, op, constant)?),
+            "{op:?} {constant}"
+        );
     }
     Ok(())
 }
@@ -121,14 +131,24 @@ fn plain(rt: &impl Abort, alloc: Global, size: u64, rows: u64) -> Result<PlainCo
     Ok(column)
 }
 
-fn decomposed<E: Encoding>(rt: &impl Abort, alloc: Global, list: &[u32], rows: u64) -> Result<Decomposed<E>, NoMemory> {
+fn decomposed<E: Encoding>(
+    rt: &impl Abort,
+    alloc: Global,
+    list: &[u32],
+    rows: u64,
+) -> Result<Decomposed<E>, NoMemory> {
     let mut column = empty::<E>(alloc, list)?;
     fill(rt, &mut column, rows)?;
     Ok(column)
 }
 
 /// Both encodings, by blocks and by whole vectors, and one as a column of any form, beside a plain column.
-fn decomposed_alike(rt: &impl Abort, alloc: Global, list: &[u32], rows: u64) -> Result<(), NoMemory> {
+fn decomposed_alike(
+    rt: &impl Abort,
+    alloc: Global,
+    list: &[u32],
+    rows: u64,
+) -> Result<(), NoMemory> {
     let range = decomposed::<RangeComponent>(rt, alloc, list, rows)?;
     let equality = decomposed::<EqualityComponent>(rt, alloc, list, rows)?;
     let whole = decomposed::<WholeVectors<RangeComponent>>(rt, alloc, list, rows)?;
@@ -178,7 +198,13 @@ fn no_rows(alloc: Global, width: u32) -> Result<Slices, NoMemory> {
     }
 }
 
-fn slices_alike(rt: &impl Abort, alloc: Global, list: &[u32], width: u32, rows: u64) -> Result<(), NoMemory> {
+fn slices_alike(
+    rt: &impl Abort,
+    alloc: Global,
+    list: &[u32],
+    width: u32,
+    rows: u64,
+) -> Result<(), NoMemory> {
     let mut slices = no_rows(alloc, width)?;
     fill(rt, &mut slices, rows)?;
     let plain = plain(rt, alloc, slices.size(), rows)?;
