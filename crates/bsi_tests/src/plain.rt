@@ -24,9 +24,7 @@ impl Model for PlainColumn {
 
     ghost Value = { PlainRows };
 
-    ghost view = {
-        λ c. record { size = c.size; entries = c.entries.items; room = c.present.room && nat_lt (vec_len c.entries) (vec_capacity c.entries) }
-    };
+    ghost view = { λ c. record { size = c.size; entries = c.entries.items; room = c.present.room && nat_lt (vec_len c.entries) (vec_capacity c.entries) } };
 
     ghost invariant = { λ c. IsPlain c.size c.entries.items c.present.bits };
 }
@@ -101,7 +99,12 @@ impl Column for PlainColumn {
 }
 
 /// Appends to no bits, for each entry, whether it is a number that compares so with the constant.
-fn select_each(entries: &[Option<u64>], op: Op, constant: u64, found: &mut Bits) -> Result<(), NoMemory>
+fn select_each(
+    entries: &[Option<u64>],
+    op: Op,
+    constant: u64,
+    found: &mut Bits,
+) -> Result<(), NoMemory>
     requires few { length entries.now ≤ 2 ^ 32 }
     requires empty { found.old.bits ≡ [] }
     ensures { OnOk result (found.new.bits ≡ map (selects op constant) entries.now) }

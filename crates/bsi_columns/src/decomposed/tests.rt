@@ -57,7 +57,11 @@ fn push<C: Column>(column: &mut C, entry: Option<u64>) -> Result<bool, NoMemory>
     Ok(stayed)
 }
 
-fn filled<E: Encoding>(alloc: Global, list: &[u32], entries: &[Option<u64>]) -> Result<Decomposed<E>, NoMemory> {
+fn filled<E: Encoding>(
+    alloc: Global,
+    list: &[u32],
+    entries: &[Option<u64>],
+) -> Result<Decomposed<E>, NoMemory> {
     let mut column = empty::<E>(alloc, list)?;
     for entry in entries {
         let _stayed = push(&mut column, *entry)?;
@@ -135,15 +139,25 @@ const COUNTED: [(Op, u64, u64); 14] = [
 
 fn counts_well<C: Column>(rt: &impl Abort, column: &C) -> Result<(), NoMemory> {
     for (op, constant, wanted) in COUNTED {
-        assert_eq!(rt; compared(column, op, constant)?.count(), wanted, "{op:?} {constant}");
+        assert_eq!(rt;
+            compared(column, op, constant)?.count(),
+            wanted,
+            "{op:?} {constant}"
+        );
     }
     Ok(())
 }
 
 #[test]
 fn greatest_digits_and_constants_past_the_ends(rt: HostRuntime) -> Result<(), Fail> {
-    counts_well(&rt, &filled::<RangeComponent>(rt.alloc(), &[3, 3], &GREATEST)?)?;
-    counts_well(&rt, &filled::<EqualityComponent>(rt.alloc(), &[3, 3], &GREATEST)?)?;
+    counts_well(
+        &rt,
+        &filled::<RangeComponent>(rt.alloc(), &[3, 3], &GREATEST)?,
+    )?;
+    counts_well(
+        &rt,
+        &filled::<EqualityComponent>(rt.alloc(), &[3, 3], &GREATEST)?,
+    )?;
     Ok(())
 }
 
@@ -156,14 +170,21 @@ fn eq<E: Encoding>(component: &E, d: u32, out: &mut Bits) -> bool {
 }
 
 // Whether the component of place `i` has this base and these digits.
-fn holds<E: Encoding>(column: &Decomposed<E>, i: u32, base: u32, digits: &[u32], out: &mut Bits) -> bool {
+fn holds<E: Encoding>(
+    column: &Decomposed<E>,
+    i: u32,
+    base: u32,
+    digits: &[u32],
+    out: &mut Bits,
+) -> bool {
     if i >= column.bases().len() {
         return false;
     }
     let component = column.component(i);
     component.base() == base
         && component.len() == digits.len() as u64
-        && digits.iter().enumerate().all(|(row, digit)| eq(component, *digit, out) && get(out, row as u64))
+        && digits.iter().enumerate().all(|(row, digit)| eq(component, *digit, out)
+            && get(out, row as u64))
 }
 
 fn copied_bits(bits: &Bits) -> Result<Bits, NoMemory> {
@@ -190,6 +211,9 @@ fn stored_bits(rt: HostRuntime) -> Result<(), Fail> {
     let column = filled::<RangeComponent>(rt.alloc(), &[5, 3], &entries)?;
     assert_eq!(rt; column.size(), 15);
     stores_well(&rt, &column)?;
-    stores_well(&rt, &filled::<EqualityComponent>(rt.alloc(), &[5, 3], &entries)?)?;
+    stores_well(
+        &rt,
+        &filled::<EqualityComponent>(rt.alloc(), &[5, 3], &entries)?,
+    )?;
     Ok(())
 }
