@@ -1,9 +1,8 @@
-use Rattle.std.proofs.Common.{◌≡◌, ◌<◌, ◌∷◌, ◌++◌, [], ℕ, map, ap, ap₂, sym, ◌∙◌}
-use Rattle.std.specs.Prelude.{Option, All, is_some}
+use Rattle.std.proofs.Common.{◌<◌, ◌∷◌, ◌++◌, [], ℕ, ap₂, sym, ◌∙◌}
+use Rattle.std.specs.Prelude.{Option, is_some}
 use Rattle.std.proofs.lemmas.List.{map-append}
 use Rattle.std.proofs.lemmas.List.Elements.{All-push}
 use Rattle.bsi_columns.specs.Rows.{number_or_zero}
-use Rattle.bsi_tests.specs.Plain.{IsPlain}
 use Rattle.bsi_tests.proofs.plain.PlainColumnColumn.push_reserved.Goals as goal
 
 pub invariant_of-self : goal.invariant_of-self
