@@ -97,23 +97,26 @@ fn select_alike<A: Column, B: Column>(
     Ok(())
 }
 
+// The numbers about the least and the greatest digit of this weight.
+fn near(weight: u64, base: u32) -> [u64; 6] {
+    let greatest = weight.wrapping_mul(u64::from(base).wrapping_sub(1));
+    [
+        weight.wrapping_sub(1),
+        weight,
+        weight.wrapping_add(1),
+        greatest.wrapping_sub(1),
+        greatest,
+        greatest.wrapping_add(1),
+    ]
+}
+
 // The constants about each digit's edge, and past the ends.
 fn constants(alloc: Global, list: &[u32]) -> Result<Vec<u64>, NoMemory> {
     let bases = bases(alloc, list)?;
     let mut constants = Vec::new(alloc);
     constants.extend_from_slice(&[0, 1, bases.size(), u64::MAX])?;
     for i in 0..bases.len() {
-        let weight = bases.weight(i);
-        let greatest = weight.wrapping_mul(u64::from(bases.base(i)).wrapping_sub(1));
-        let near = [
-            weight.wrapping_sub(1),
-            weight,
-            weight.wrapping_add(1),
-            greatest.wrapping_sub(1),
-            greatest,
-            greatest.wrapping_add(1),
-        ];
-        constants.extend_from_slice(&near)?;
+        constants.extend_from_slice(&near(bases.weight(i), bases.base(i)))?;
     }
     Ok(constants)
 }
@@ -142,25 +145,48 @@ fn decomposed<E: Encoding>(
     Ok(column)
 }
 
-/// Both encodings, by blocks and by whole vectors, and one as a column of any form, beside a plain column.
+// The column beside a plain one of the same entries.
+fn alike<C: Column>(
+    rt: &impl Abort,
+    alloc: Global,
+    column: &C,
+    list: &[u32],
+    rows: u64,
+) -> Result<(), NoMemory> {
+    let plain = plain(rt, alloc, column.size(), rows)?;
+    let constants = constants_of(alloc, list)?;
+    for constant in constants.as_slice() {
+        select_alike(rt, column, &plain, *constant)?;
+    }
+    Ok(())
+}
+
+fn encoded_alike<E: Encoding>(
+    rt: &impl Abort,
+    alloc: Global,
+    list: &[u32],
+    rows: u64,
+) -> Result<(), NoMemory> {
+    let column = decomposed::<E>(rt, alloc, list, rows)?;
+    alike(rt, alloc, &column, list, rows)
+}
+
+fn any_alike(rt: &impl Abort, alloc: Global, list: &[u32], rows: u64) -> Result<(), NoMemory> {
+    let column = AnyColumn::Equality(decomposed::<EqualityComponent>(rt, alloc, list, rows)?);
+    alike(rt, alloc, &column, list, rows)
+}
+
+// Both encodings, by blocks and by whole vectors, and one as a column of any form.
 fn decomposed_alike(
     rt: &impl Abort,
     alloc: Global,
     list: &[u32],
     rows: u64,
 ) -> Result<(), NoMemory> {
-    let range = decomposed::<RangeComponent>(rt, alloc, list, rows)?;
-    let equality = decomposed::<EqualityComponent>(rt, alloc, list, rows)?;
-    let whole = decomposed::<WholeVectors<RangeComponent>>(rt, alloc, list, rows)?;
-    let any = AnyColumn::Equality(decomposed::<EqualityComponent>(rt, alloc, list, rows)?);
-    let plain = plain(rt, alloc, range.size(), rows)?;
-    for constant in constants_of(alloc, list)? {
-        select_alike(rt, &range, &plain, constant)?;
-        select_alike(rt, &equality, &plain, constant)?;
-        select_alike(rt, &whole, &plain, constant)?;
-        select_alike(rt, &any, &plain, constant)?;
-    }
-    Ok(())
+    encoded_alike::<RangeComponent>(rt, alloc, list, rows)?;
+    encoded_alike::<EqualityComponent>(rt, alloc, list, rows)?;
+    encoded_alike::<WholeVectors<RangeComponent>>(rt, alloc, list, rows)?;
+    any_alike(rt, alloc, list, rows)
 }
 
 #[test]
@@ -207,11 +233,7 @@ fn slices_alike(
 ) -> Result<(), NoMemory> {
     let mut slices = no_rows(alloc, width)?;
     fill(rt, &mut slices, rows)?;
-    let plain = plain(rt, alloc, slices.size(), rows)?;
-    for constant in constants_of(alloc, list)? {
-        select_alike(rt, &slices, &plain, constant)?;
-    }
-    Ok(())
+    alike(rt, alloc, &slices, list, rows)
 }
 
 #[test]
