@@ -1,6 +1,6 @@
 //! The packed vector of bits.
 
-ghost use Rattle.std.specs.Prelude.{◌≡◌, ◌↔◌, ℕ, ◌+◌, ◌*◌, ◌/◌, ◌%◌, ◌^◌, ◌≤◌, ◌<◌, ◌&&◌, ◌||◌, not, Some, [], ◌∷◌, ◌++◌, length, map, count_by, slice_get, slice_index_or, false, replicate, IsTrue, IfOk, OnOk, OnErr};
+ghost use Rattle.std.specs.Prelude.{◌≡◌, ◌↔◌, ℕ, ◌+◌, ◌*◌, ◌/◌, ◌%◌, ◌^◌, ◌≤◌, ◌<◌, ◌&&◌, ◌||◌, not, Some, [], ◌∷◌, ◌++◌, length, map, count_by, slice_get, slice_index_or, false, replicate, IsTrue, IsOk, IfOk, OnOk, OnErr};
 ghost use Rattle.std.specs.Simd.Lanes.{zip2};
 ghost use Rattle.bsi_bits.specs.BitList.{set_places};
 ghost use Rattle.bsi_bits.specs.Packed.{bit_of, bits_of, IsPacked};
@@ -134,14 +134,15 @@ impl Bits {
             && (self.len < 64 * self.words.len() as u64 || self.words.len() < self.words.capacity())
     }
 
-    /// Makes room for one more bit. The bits stay, whatever the result.
+    /// Makes room for one more bit. The bits stay, whatever the result. It takes memory only where there is no room.
     pub fn reserve_one(&mut self) -> Result<(), NoMemory>
         requires { length self.old.bits < 2 ^ 32 }
         ensures bits { self.new.bits ≡ self.old.bits }
         ensures ok { OnOk result (IsTrue self.new.room) }
         ensures err { OnErr result (self.new ≡ self.old) }
+        ensures succeeds { IsTrue self.old.room → IsOk result }
     {
-        if self.len < 64 * self.words.len() as u64 {
+        if self.has_room() {
             return Ok(());
         }
         self.words.reserve(1)
