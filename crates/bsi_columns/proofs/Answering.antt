@@ -137,6 +137,9 @@ past_equal wanted x n size past below = grind (arith, nat_tests)
 pub past_at_most : (wanted : Bool) (x n size : ℕ) → size ≤ n → x < size → as_wanted wanted true ≡ as_wanted wanted (nat_le x n)
 past_at_most wanted x n size past below = grind (arith, nat_tests)
 
+pub past_below : (wanted : Bool) (x n size : ℕ) → size ≤ n → x < size → as_wanted wanted true ≡ as_wanted wanted (nat_lt x n)
+past_below wanted x n size past below = grind (arith, nat_tests)
+
 pub never_below : (wanted : Bool) (x n : ℕ) → n ≡ 0 → as_wanted (not wanted) true ≡ as_wanted wanted (nat_lt x n)
 never_below wanted x n none = grind (arith, nat_tests)
 

@@ -39,7 +39,7 @@ pub struct Test {
 
 impl<E: Encoding> Decomposed<E> {
     /// The rows whose number is `constant`, or is not.
-    pub fn equal(&self, constant: u64, wanted: bool) -> Result<Bits, NoMemory>
+    pub(crate) fn equal(&self, constant: u64, wanted: bool) -> Result<Bits, NoMemory>
         ensures { IfOk result (λ b. b.bits ≡ map (answers (λ x. nat_eq x constant) wanted) self.now.entries) }
     {
         if constant >= self.bases.size() {
@@ -54,7 +54,7 @@ impl<E: Encoding> Decomposed<E> {
     }
 
     /// The rows whose number is at most `constant`, or is not.
-    pub fn at_most(&self, constant: u64, wanted: bool) -> Result<Bits, NoMemory>
+    pub(crate) fn at_most(&self, constant: u64, wanted: bool) -> Result<Bits, NoMemory>
         ensures { IfOk result (λ b. b.bits ≡ map (answers (λ x. nat_le x constant) wanted) self.now.entries) }
     {
         if constant >= self.bases.size() {
@@ -69,11 +69,13 @@ impl<E: Encoding> Decomposed<E> {
     }
 
     /// The rows whose number is below `constant`, or is not.
-    pub fn below(&self, constant: u64, wanted: bool) -> Result<Bits, NoMemory>
+    pub(crate) fn below(&self, constant: u64, wanted: bool) -> Result<Bits, NoMemory>
         ensures { IfOk result (λ b. b.bits ≡ map (answers (λ x. nat_lt x constant) wanted) self.now.entries) }
     {
         if constant == 0 {
             self.decided(!wanted)
+        } else if constant >= self.bases.size() {
+            self.decided(wanted)
         } else {
             self.at_most(constant - 1, wanted)
         }

@@ -11,7 +11,7 @@ use bsi_bits::Bits;
 
 impl<E: Encoding> Decomposed<E> {
     /// The sum of the numbers at the rows of a found set: each component's sum of digits, times its weight.
-    pub fn sum_found(&self, found: &Bits) -> u128
+    pub(crate) fn sum_found(&self, found: &Bits) -> u128
         requires { length self.now.entries ≡ length found.now.bits }
         ensures sum { result ≡ sum (numbers_at found.now.bits self.now.entries) }
         ensures within { result ≤ 2 ^ 95 }
@@ -29,7 +29,7 @@ impl<E: Encoding> Decomposed<E> {
     }
 
     /// The number of rank `k` at the rows of a found set.
-    pub fn number_of_rank(&self, found: &Bits, k: u64) -> Result<u64, NoMemory>
+    pub(crate) fn number_of_rank(&self, found: &Bits, k: u64) -> Result<u64, NoMemory>
         requires same { length self.now.entries ≡ length found.now.bits }
         requires there { k < length (numbers_at found.now.bits self.now.entries) }
         ensures { IfOk result (IsRanked (numbers_at found.now.bits self.now.entries) k) }

@@ -12,7 +12,7 @@ use bsi_bits::Bits;
 impl Slices {
     /// The sum of the numbers at the rows of a found set: how many found rows have each binary place set, times two to the
     /// power of the place (O'Neil and Quass, 1997).
-    pub fn sum_found(&self, found: &Bits) -> u128
+    pub(crate) fn sum_found(&self, found: &Bits) -> u128
         requires { length self.now.entries ≡ length found.now.bits }
         ensures sum { result ≡ sum (numbers_at found.now.bits self.now.entries) }
         ensures within { result ≤ 2 ^ 95 }
@@ -29,7 +29,7 @@ impl Slices {
     }
 
     /// The number of rank `k` at the rows of a found set.
-    pub fn number_of_rank(&self, found: &Bits, k: u64) -> Result<u64, NoMemory>
+    pub(crate) fn number_of_rank(&self, found: &Bits, k: u64) -> Result<u64, NoMemory>
         requires same { length self.now.entries ≡ length found.now.bits }
         requires there { k < length (numbers_at found.now.bits self.now.entries) }
         ensures { IfOk result (IsRanked (numbers_at found.now.bits self.now.entries) k) }
