@@ -13,7 +13,7 @@ use Rattle.bsi_digits.proofs.CallerLemmas.{low_le, low_eq, low_all}
 use Rattle.bsi_bits.proofs.Pairs.{zip2-map_right}
 use Rattle.bsi_columns.specs.declared.decomposed.compare.Relation.{Relation}
 use Rattle.bsi_columns.specs.declared.decomposed.compare.Relation.TheVariants.{Equal, AtMost}
-use Rattle.bsi_columns.specs.Component.{at_most_from}
+use Rattle.bsi_components.specs.Component.{at_most_from}
 use Rattle.bsi_columns.specs.Rows.{number_or_zero}
 use Rattle.bsi_columns.specs.Tests.{holds, holds_from, as_wanted, answers}
 

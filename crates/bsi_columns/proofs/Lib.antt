@@ -1,16 +1,8 @@
 pub mod Adding
 pub mod Answering
-pub mod BitmapDigits
-pub mod BitmapGrowth
 pub mod BlockAnswers
-pub mod BlockBits
 pub mod ComponentLists
-pub mod DigitMaps
 pub mod EntriesFrom
-pub mod EqualityDigits
-pub mod EqualityReads
-pub mod RangeDigits
-pub mod RangeReads
 pub mod Ranking
 pub mod Rungs
 pub mod SliceBlocks

@@ -11,7 +11,7 @@ use Rattle.std.proofs.lemmas.Bool.Decides.{nat_tests}
 use Rattle.std.proofs.lemmas.List.{nil_from_length}
 use Rattle.std.proofs.lemmas.List.Sums.{sum_by-cons, get_or-le-sum_by}
 use Rattle.std.proofs.lemmas.List.Elements.{All-from_get_or}
-use Rattle.bsi_columns.specs.Component.{count_where}
+use Rattle.bsi_components.specs.Component.{count_where}
 use Rattle.bsi_columns.specs.Rows.{number_or_zero}
 use Rattle.bsi_columns.specs.Totals.{numbers_at, IsRanked, IsLeast, IsGreatest, IsLowerMedian}
 

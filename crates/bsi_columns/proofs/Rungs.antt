@@ -11,7 +11,7 @@ use Rattle.std.proofs.lemmas.Bool.{cases_lt}
 use Rattle.std.proofs.lemmas.List.{length-map, get_or-map, get_or_past}
 use Rattle.bsi_digits.specs.Digits.{weight, size_of, digit_of, IsBaseList}
 use Rattle.bsi_digits.proofs.CallerLemmas.{high_all, weight_all, weight_more, weight_pos}
-use Rattle.bsi_columns.specs.Component.{count_where}
+use Rattle.bsi_components.specs.Component.{count_where}
 use Rattle.bsi_columns.specs.Rows.{number_or_zero}
 use Rattle.bsi_columns.specs.Totals.{numbers_at}
 use Rattle.bsi_columns.proofs.Ranking.{IsNarrowed, narrowed_start, narrowed_step, where_below_zero}

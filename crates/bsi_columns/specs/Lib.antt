@@ -1,12 +1,12 @@
 pub mod AnyRows
-pub mod Bitmaps
 pub mod Blocks
-pub mod Component
 pub mod Decomposed
-pub mod Equality
-pub mod Range
 pub mod Rows
 pub mod SliceTests
 pub mod Slices
 pub mod Tests
 pub mod Totals
+pub use Rattle.bsi_components.specs.Bitmaps
+pub use Rattle.bsi_components.specs.Component
+pub use Rattle.bsi_components.specs.Equality
+pub use Rattle.bsi_components.specs.Range

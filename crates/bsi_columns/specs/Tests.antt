@@ -2,7 +2,7 @@
 use Rattle.std.specs.Prelude.{ℕ, Bool, false, ◌&&◌, not, Option, Some, None, nat_eq, nat_le, if◌then◌else◌}
 use Rattle.bsi_columns.specs.declared.decomposed.compare.Relation.{Relation}
 use Rattle.bsi_columns.specs.declared.decomposed.compare.Relation.TheVariants.{Equal, AtMost}
-use Rattle.bsi_columns.specs.Component.{at_most_from}
+use Rattle.bsi_components.specs.Component.{at_most_from}
 
 abbrev pub holds : Relation → ℕ → ℕ → Bool
 holds Equal x n = nat_eq x n

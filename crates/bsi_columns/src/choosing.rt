@@ -2,7 +2,7 @@
 
 ghost use Rattle.std.specs.Prelude.{◌≡◌, ℕ, ◌+◌, ◌<◌, ◌&&◌, length, count_by, nat_eq, nat_lt, nat_le, slice_index};
 ghost use Rattle.std.specs.Simd.Lanes.{zip2};
-ghost use Rattle.bsi_columns.specs.Component.{count_where};
+ghost use Rattle.bsi_components.specs.Component.{count_where};
 
 use crate::Encoding;
 use bsi_bits::Bits;

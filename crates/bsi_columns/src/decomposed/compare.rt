@@ -12,10 +12,10 @@ ghost use Rattle.bsi_digits.specs.Digits.{size_of};
 ghost use Rattle.bsi_columns.specs.Rows.{number_or_zero};
 ghost use Rattle.bsi_columns.specs.Tests.{holds, holds_from, as_wanted, answers};
 
-use crate::blocks::{keep_in, turn};
 use crate::decomposed::Decomposed;
 use crate::{Encoding, NoMemory};
 use bsi_bits::Bits;
+use bsi_components::blocks::{keep_in, turn};
 
 /// The words of a block, which stays in the first cache while each component narrows it.
 const BLOCK: usize = 256;

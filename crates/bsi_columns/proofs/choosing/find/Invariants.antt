@@ -1,6 +1,6 @@
 use Rattle.std.proofs.Common.{◌≡◌, ◌-◌, ◌<◌, ◌≤◌, length}
 use Rattle.std.specs.Prelude.{nat_lt, nat_le}
-use Rattle.bsi_columns.specs.Component.{count_where}
+use Rattle.bsi_components.specs.Component.{count_where}
 use Rattle.bsi_columns.proofs.choosing.find.Given as goal
 
 abbrev pub invariant-digits : goal.invariant-digits

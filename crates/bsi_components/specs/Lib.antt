@@ -1,0 +1,4 @@
+pub mod Bitmaps
+pub mod Component
+pub mod Equality
+pub mod Range

@@ -1,0 +1,118 @@
+//! What a component is to a column: a list of digits below its base.
+
+ghost use Rattle.std.specs.Prelude.{◌≡◌, ℕ, ◌+◌, ◌*◌, ◌/◌, ◌^◌, ◌≤◌, ◌<◌, ◌==◌, ◌&&◌, Bool, List, [], ◌∷◌, ◌++◌, length, map, sum, slice_index, nat_le, IsTrue, IfOk, OnOk};
+ghost use Rattle.std.specs.List.{items_where_true};
+ghost use Rattle.std.specs.Bool.{OnTrue, OnFalse};
+ghost use Rattle.bsi_bits.specs.Packed.{bit_of};
+ghost use Rattle.bsi_components.specs.Component.{at_most_from, count_where};
+
+use crate::NoMemory;
+use bsi_bits::Bits;
+use std::alloc::Global;
+
+/// A component: the digits of one place of a column's numbers, a row each, kept as bitmaps.
+pub trait Encoding: Drop {
+    /// The base.
+    ghost base_of: { Self → ℕ };
+
+    /// The digits, each below the base, in order of the rows.
+    ghost digits: { Self → List ℕ };
+
+    /// Whether one more digit can be appended with no memory.
+    ghost room: { Self → Bool };
+
+    /// An empty component of a base from 2 to 1,024.
+    fn make(alloc: Global, base: u32) -> Result<Self, NoMemory>
+        requires { (2 ≤ base) × (base ≤ 1024) }
+        ensures { IfOk result (λ c. (digits c ≡ []) × (base_of c ≡ base)) };
+
+    /// The base, from 2 to 1,024.
+    fn base(&self) -> u32
+        ensures base { result ≡ base_of self.now }
+        ensures within { (2 ≤ result) × (result ≤ 1024) };
+
+    /// The number of rows, at most 2^32.
+    fn len(&self) -> u64
+        ensures len { result ≡ length (digits self.now) }
+        ensures within { result ≤ 2 ^ 32 };
+
+    /// Whether one more digit can be appended with no memory.
+    fn has_room(&self) -> bool
+        ensures { result ≡ room self.now };
+
+    /// Makes room for one more digit. The digits stay, whatever the result.
+    fn reserve_one(&mut self) -> Result<(), NoMemory>
+        requires { length (digits self.old) < 2 ^ 32 }
+        ensures digits { digits self.new ≡ digits self.old }
+        ensures base { base_of self.new ≡ base_of self.old }
+        ensures ok { OnOk result (IsTrue (room self.new)) };
+
+    /// Appends a digit, in room that is there.
+    fn push_reserved(&mut self, digit: u32)
+        requires room { IsTrue (room self.old) }
+        requires below { digit < base_of self.old }
+        ensures digits { digits self.new ≡ digits self.old ++ digit ∷ [] }
+        ensures base { base_of self.new ≡ base_of self.old };
+
+    /// Writes for each row whether its digit is `d`.
+    fn eq_into(&self, d: u32, out: &mut Bits)
+        requires below { d < base_of self.now }
+        requires same { length (digits self.now) ≡ length out.old.bits }
+        ensures bits { out.new.bits ≡ map (λ v. v == d) (digits self.now) }
+        ensures room { out.new.room ≡ out.old.room };
+
+    /// Writes for each row whether its digit is at most `d`.
+    fn le_into(&self, d: u32, out: &mut Bits)
+        requires below { d < base_of self.now }
+        requires same { length (digits self.now) ≡ length out.old.bits }
+        ensures bits { out.new.bits ≡ map (λ v. nat_le v d) (digits self.now) }
+        ensures room { out.new.room ≡ out.old.room };
+
+    /// The sum of the digits of the rows of a found set.
+    fn digit_sum(&self, found: &Bits) -> u128
+        requires { length (digits self.now) ≡ length found.now.bits }
+        ensures { result ≡ sum (items_where_true found.now.bits (digits self.now)) };
+
+    /// How many rows of a found set have a digit of at most `d`. What `scratch`, a vector of as many bits, is left with is
+    /// left open.
+    fn count_le(&self, d: u32, found: &Bits, scratch: &mut Bits) -> u64
+        requires below { d < base_of self.now }
+        requires same { length (digits self.now) ≡ length found.now.bits }
+        requires scratch { length (digits self.now) ≡ length scratch.old.bits }
+        ensures count { result ≡ count_where (λ v. nat_le v d) found.now.bits (digits self.now) }
+        ensures scratch { length scratch.new.bits ≡ length scratch.old.bits }
+    {
+        self.le_into(d, scratch);
+        found.count_and(scratch)
+    }
+
+    /// A second component of the same digits.
+    fn copy(&self) -> Result<Self, NoMemory>
+        ensures { IfOk result (λ c. (digits c ≡ digits self.now) × (base_of c ≡ base_of self.now)) };
+
+    /// Clears in a block of words, which stand for the rows from `64 * at` on, the rows whose digit is not `d`. Answers
+    /// `false`, and does nothing, where the encoding works on whole vectors alone.
+    fn eq_block(&self, d: u32, at: usize, block: &mut [u64]) -> bool
+        requires below { d < base_of self.now }
+        requires within { at + length block.old ≤ (length (digits self.now) + 63) / 64 }
+        ensures kept { OnFalse result (block.new ≡ block.old) }
+        ensures bits { OnTrue result ((p : ℕ) → p < 64 * length block.old → 64 * at + p < length (digits self.now) →
+            bit_of block.new p ≡ (bit_of block.old p && (slice_index (digits self.now) (64 * at + p) == d))) }
+    {
+        false
+    }
+
+    /// Sets in a block of words, which stand for the rows from `64 * at` on, the rows whose digit is below `d`, and
+    /// clears those whose digit is above: what is left is whether the digits up to this one are at most those of a
+    /// constant, where the block said so of the digits before. Answers `false`, and does nothing, where the encoding works
+    /// on whole vectors alone.
+    fn le_block(&self, d: u32, at: usize, block: &mut [u64]) -> bool
+        requires below { d < base_of self.now }
+        requires within { at + length block.old ≤ (length (digits self.now) + 63) / 64 }
+        ensures kept { OnFalse result (block.new ≡ block.old) }
+        ensures bits { OnTrue result ((p : ℕ) → p < 64 * length block.old → 64 * at + p < length (digits self.now) →
+            bit_of block.new p ≡ at_most_from (bit_of block.old p) (slice_index (digits self.now) (64 * at + p)) d) }
+    {
+        false
+    }
+}

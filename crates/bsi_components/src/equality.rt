@@ -1,0 +1,228 @@
+//! The equality encoded component: a bitmap for each digit says which rows have it.
+
+ghost use Rattle.std.specs.Prelude.{◌≡◌, ◌≢◌, ℕ, ◌+◌, ◌*◌, ◌/◌, ◌<◌, ◌≤◌, ◌==◌, ◌&&◌, ◌||◌, not, [], ◌∷◌, ◌++◌, length, map, nat_le, nat_lt, slice_index, IsTrue};
+ghost use Rattle.std.specs.Bool.{OnTrue, OnFalse};
+ghost use Rattle.bsi_bits.specs.Packed.{bit_of};
+ghost use Rattle.bsi_components.specs.Bitmaps.{bitmap, has_room_in};
+ghost use Rattle.bsi_components.specs.Component.{at_most_from};
+ghost use Rattle.bsi_components.specs.Equality.{first_digit, is_among};
+
+use crate::NoMemory;
+use crate::bitmaps::{copy_each, have_room, make_empty, reserve_each};
+use crate::blocks::{add_in, add_missing, drop_in, keep_in};
+use crate::encoding::Encoding;
+use bsi_bits::Bits;
+use std::alloc::Global;
+use std::marker::Model;
+
+/// A component of a base from 2 to 1,024 that stores a bitmap for each digit. Under base 2 it stores that of digit 1 alone.
+#[derive(Drop)]
+pub struct EqualityComponent {
+    base: u32,
+    bitmaps: Vec<Bits>,
+}
+
+// Clauses see the base, the digits and whether there is room for one more.
+impl Model for EqualityComponent {
+    ghost use Rattle.bsi_components.specs.Bitmaps.{Component, has_room_in};
+    ghost use Rattle.bsi_components.specs.Equality.{equality_digits, IsEquality};
+
+    ghost Value = { Component };
+
+    ghost view = { λ c. record { base = c.base; digits = equality_digits c.base c.bitmaps.items; room = has_room_in c.bitmaps.items } };
+
+    ghost invariant = { λ c. IsEquality c.base c.bitmaps.items (equality_digits c.base c.bitmaps.items) };
+}
+
+/// The first digit that has a bitmap.
+fn first_stored(base: u32) -> u32
+    ensures { result ≡ first_digit base }
+{
+    if base == 2 { 1 } else { 0 }
+}
+
+/// Appends to each bitmap whether the digit is its own, of which the first is `first`.
+fn push_digit(bitmaps: &mut Vec<Bits>, first: u32, digit: u32)
+    requires small { first ≤ 1 }
+    requires room { IsTrue (has_room_in bitmaps.old.items) }
+    ensures count { length bitmaps.new.items ≡ length bitmaps.old.items }
+    ensures bits { (j : ℕ) → j < length bitmaps.old.items →
+        bitmap bitmaps.new.items j ≡ bitmap bitmaps.old.items j ++ (digit == first + j) ∷ [] }
+{
+    'bitmaps: for j in 0..bitmaps.len() {
+        bitmaps[j].push_reserved(digit as usize == first as usize + j);
+    }
+}
+
+impl EqualityComponent {
+    /// The bitmap of the rows whose digit is `j`, as it is stored. Under base 2 there is that of digit 1 alone.
+    pub fn bitmap(&self, j: u32) -> &Bits
+        requires below { j < self.now.base }
+        requires stored { self.now.base ≡ 2 → j ≡ 1 }
+        ensures { result.now.bits ≡ map (λ v. v == j) self.now.digits }
+    {
+        &self.bitmaps[(j - first_stored(self.base)) as usize]
+    }
+
+    /// Writes for each row whether its digit is from `from` on and below `to`.
+    fn among_into(&self, from: u32, to: u32, out: &mut Bits)
+        requires within { (from < to) × (to ≤ self.now.base) }
+        requires stored { self.now.base ≡ 2 → from ≡ 1 }
+        requires same { length self.now.digits ≡ length out.old.bits }
+        ensures bits { out.new.bits ≡ map (is_among from to) self.now.digits }
+        ensures room { out.new.room ≡ out.old.room }
+    {
+        out.copy_from(self.bitmap(from));
+        'digits: for j in from + 1..to {
+            out.or_with(self.bitmap(j));
+        }
+    }
+
+    /// Sets in a block the rows whose digit is from `from` on and below `to`.
+    fn add_among(&self, from: u32, to: u32, at: usize, block: &mut [u64])
+        requires within { (from ≤ to) × (to ≤ self.now.base) }
+        requires stored { self.now.base ≢ 2 }
+        requires rows { at + length block.old ≤ (length self.now.digits + 63) / 64 }
+        ensures len { length block.new ≡ length block.old }
+        ensures bits { (p : ℕ) → p < 64 * length block.old → 64 * at + p < length self.now.digits →
+            bit_of block.new p ≡ (bit_of block.old p || is_among from to (slice_index self.now.digits (64 * at + p))) }
+    {
+        'digits: for j in from..to {
+            add_in(self.bitmap(j), at, block);
+        }
+    }
+
+    /// Clears in a block the rows whose digit is from `from` on and below `to`.
+    fn drop_among(&self, from: u32, to: u32, at: usize, block: &mut [u64])
+        requires within { (from ≤ to) × (to ≤ self.now.base) }
+        requires stored { self.now.base ≢ 2 }
+        requires rows { at + length block.old ≤ (length self.now.digits + 63) / 64 }
+        ensures len { length block.new ≡ length block.old }
+        ensures bits { (p : ℕ) → p < 64 * length block.old → 64 * at + p < length self.now.digits →
+            bit_of block.new p ≡ (bit_of block.old p && not (is_among from to (slice_index self.now.digits (64 * at + p)))) }
+    {
+        'digits: for j in from..to {
+            drop_in(self.bitmap(j), at, block);
+        }
+    }
+}
+
+impl Encoding for EqualityComponent {
+    ghost base_of = { λ c. c.base };
+
+    ghost digits = { λ c. c.digits };
+
+    ghost room = { λ c. c.room };
+
+    fn make(alloc: Global, base: u32) -> Result<Self, NoMemory> {
+        let bitmaps = make_empty(alloc, (base - first_stored(base)) as usize)?;
+        Ok(EqualityComponent { base, bitmaps })
+    }
+
+    fn base(&self) -> u32
+        ensures base { result ≡ self.now.base }
+        ensures within { (2 ≤ result) × (result ≤ 1024) }
+        ensures below { (k : ℕ) → slice_index self.now.digits k < result }
+    {
+        self.base
+    }
+
+    fn len(&self) -> u64 {
+        self.bitmaps[0].len()
+    }
+
+    fn has_room(&self) -> bool {
+        have_room(&self.bitmaps)
+    }
+
+    fn reserve_one(&mut self) -> Result<(), NoMemory> {
+        reserve_each(&mut self.bitmaps)
+    }
+
+    fn push_reserved(&mut self, digit: u32) {
+        let first = first_stored(self.base);
+        push_digit(&mut self.bitmaps, first, digit);
+    }
+
+    fn eq_into(&self, d: u32, out: &mut Bits) {
+        if d == 0 && self.base() == 2 {
+            out.copy_from(self.bitmap(1));
+            out.flip();
+        } else {
+            out.copy_from(self.bitmap(d));
+        }
+    }
+
+    // It reads the bitmaps up to the digit, or those past it, whichever are fewer.
+    fn le_into(&self, d: u32, out: &mut Bits) {
+        let base = self.base();
+        if base > 2 && 2 * (d + 1) <= base {
+            self.among_into(0, d + 1, out);
+        } else if d + 1 < base {
+            self.among_into(d + 1, base, out);
+            out.flip();
+        } else {
+            out.copy_from(self.bitmap(1));
+            out.flip();
+            out.or_with(self.bitmap(1));
+        }
+    }
+
+    fn digit_sum(&self, found: &Bits) -> u128 {
+        let mut sum = 0u128;
+        'digits: for j in 1..self.base() {
+            sum += j as u128 * found.count_and(self.bitmap(j)) as u128;
+        }
+        sum
+    }
+
+    fn copy(&self) -> Result<Self, NoMemory> {
+        let bitmaps = copy_each(&self.bitmaps)?;
+        Ok(EqualityComponent {
+            base: self.base,
+            bitmaps,
+        })
+    }
+
+    fn eq_block(&self, d: u32, at: usize, block: &mut [u64]) -> bool
+        requires below { d < self.now.base }
+        requires within { at + length block.old ≤ (length self.now.digits + 63) / 64 }
+        ensures done { IsTrue result }
+        ensures kept { OnFalse result (block.new ≡ block.old) }
+        ensures bits { OnTrue result ((p : ℕ) → p < 64 * length block.old → 64 * at + p < length self.now.digits →
+            bit_of block.new p ≡ (bit_of block.old p && (slice_index self.now.digits (64 * at + p) == d))) }
+    {
+        if d == 0 && self.base() == 2 {
+            drop_in(self.bitmap(1), at, block);
+        } else {
+            keep_in(self.bitmap(d), at, block);
+        }
+        true
+    }
+
+    // It reads the bitmaps up to the digit, or those from it on, whichever are fewer.
+    fn le_block(&self, d: u32, at: usize, block: &mut [u64]) -> bool
+        requires below { d < self.now.base }
+        requires within { at + length block.old ≤ (length self.now.digits + 63) / 64 }
+        ensures done { IsTrue result }
+        ensures kept { OnFalse result (block.new ≡ block.old) }
+        ensures bits { OnTrue result ((p : ℕ) → p < 64 * length block.old → 64 * at + p < length self.now.digits →
+            bit_of block.new p ≡ at_most_from (bit_of block.old p) (slice_index self.now.digits (64 * at + p)) d) }
+    {
+        let base = self.base();
+        if base == 2 {
+            if d == 0 {
+                drop_in(self.bitmap(1), at, block);
+            } else {
+                add_missing(self.bitmap(1), at, block);
+            }
+        } else if 2 * d < base {
+            keep_in(self.bitmap(d), at, block);
+            self.add_among(0, d, at, block);
+        } else {
+            add_missing(self.bitmap(d), at, block);
+            self.drop_among(d + 1, base, at, block);
+        }
+        true
+    }
+}

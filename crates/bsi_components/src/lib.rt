@@ -1,0 +1,15 @@
+//! Components: the digits of one place of a column's numbers, a row each, kept as bitmaps, equality or range encoded.
+#![tactic(auto)]
+
+mod bitmaps;
+pub mod blocks;
+mod encoding;
+mod equality;
+mod range;
+#[cfg(test)]
+mod tests;
+
+pub use encoding::Encoding;
+pub use equality::EqualityComponent;
+pub use range::RangeComponent;
+pub use std::alloc::AllocError as NoMemory;
