@@ -1,5 +1,5 @@
 -- The sum of the numbers of a found set, by the sums of their digits.
-use Rattle.std.proofs.Common.{◌≡◌, ℕ, ◌+◌, ◌*◌, ◌/◌, ◌%◌, ◌^◌, ◌<◌, ◌≤◌, suc, Bool, true, false, cond, List, [], ◌∷◌, Option, Some, None, All, length, get_or, map, ap, ap₂, sym, ◌∙◌, refl, arith, mod-eq_of_lt}
+use Rattle.std.proofs.Common.{◌≡◌, ℕ, ◌+◌, ◌-◌, ◌*◌, ◌/◌, ◌%◌, ◌^◌, ◌<◌, ◌≤◌, suc, Bool, true, false, cond, List, [], ◌∷◌, Option, Some, None, All, length, get_or, map, ap, ap₂, sym, ◌∙◌, refl, arith, mod-eq_of_lt}
 use Rattle.std.specs.Prelude.{count_by, sum, sum_by, ◌&&◌, ◌==◌}
 use Rattle.std.specs.Int.{bit_at}
 use Rattle.std.specs.List.{items_where_true}
@@ -81,13 +81,13 @@ sum_whole size (true ∷ found) (Some n ∷ entries) below =
 
 -- remainders of at most 2^32 numbers by at most 2^63 add up to less than 2^95
 pub sum_small : (w : ℕ) (found : List Bool) (entries : List (Option ℕ)) → 1 ≤ w → w ≤ 2 ^ 63 → length entries ≤ 2 ^ 32
-    → sum_by (λ n. n % w) (numbers_at found entries) ≤ 2 ^ 95
+    → sum_by (λ n. n % w) (numbers_at found entries) < 2 ^ 95
 sum_small w found entries some small few =
     let numbers = numbers_at found entries in
-    let each : (n : ℕ) → n % w ≤ 2 ^ 63 = λ n. omega (arith, mod_below n w some) in
+    let each : (n : ℕ) → n % w ≤ 2 ^ 63 - 1 = λ n. omega (arith, mod_below n w some) in
     let many = length-numbers_at found entries in
-    let product = mul-le (length numbers) (2 ^ 63) (2 ^ 32) (2 ^ 63) (omega arith) (omega arith) in
-    omega (arith, sum_bound (λ n. n % w) (2 ^ 63) each numbers, product)
+    let product = mul-le (length numbers) (2 ^ 63 - 1) (2 ^ 32) (2 ^ 63 - 1) (omega arith) (omega arith) in
+    omega (arith, sum_bound (λ n. n % w) (2 ^ 63 - 1) each numbers, product)
 
 -- nothing is left of a number under 1
 pub none_below_one : (numbers : List ℕ) → 0 ≡ sum_by (λ n. n % 1) numbers

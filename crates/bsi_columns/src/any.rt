@@ -1,5 +1,9 @@
 //! A column of whichever form, chosen when the program runs.
 
+ghost use Rattle.std.specs.Prelude.{◌≡◌, ◌<◌, ◌^◌, [], ◌∷◌, ◌++◌, length, IsTrue, IsOk, IfOk, OnOk};
+ghost use Rattle.bsi_columns.specs.AnyRows.{any_size, any_bases, any_entries, any_room, IsSameForm};
+ghost use Rattle.bsi_columns.specs.Rows.{number_or_zero};
+
 use crate::{Column, Decomposed, EqualityComponent, NoMemory, Op, RangeComponent, Slices};
 use bsi_bits::Bits;
 
@@ -15,9 +19,9 @@ pub enum AnyColumn {
 }
 
 impl Column for AnyColumn {
-    ghost use Rattle.bsi_columns.specs.AnyRows.{any_size, any_entries, any_room};
-
     ghost size_of = { any_size };
+
+    ghost bases_of = { any_bases };
 
     ghost entries = { any_entries };
 
@@ -47,7 +51,15 @@ impl Column for AnyColumn {
         }
     }
 
-    fn reserve_one(&mut self) -> Result<(), NoMemory> {
+    fn reserve_one(&mut self) -> Result<(), NoMemory>
+        requires { length (any_entries self.old) < 2 ^ 32 }
+        ensures entries { any_entries self.new ≡ any_entries self.old }
+        ensures size { any_size self.new ≡ any_size self.old }
+        ensures bases { any_bases self.new ≡ any_bases self.old }
+        ensures form { IsSameForm self.new self.old }
+        ensures ok { OnOk result (IsTrue (any_room self.new)) }
+        ensures succeeds { IsTrue (any_room self.old) → IsOk result }
+    {
         match self {
             AnyColumn::Slices(column) => column.reserve_one(),
             AnyColumn::Equality(column) => column.reserve_one(),
@@ -55,7 +67,14 @@ impl Column for AnyColumn {
         }
     }
 
-    fn push_reserved(&mut self, entry: Option<u64>) {
+    fn push_reserved(&mut self, entry: Option<u64>)
+        requires room { IsTrue (any_room self.old) }
+        requires below { number_or_zero entry < any_size self.old }
+        ensures entries { any_entries self.new ≡ any_entries self.old ++ entry ∷ [] }
+        ensures size { any_size self.new ≡ any_size self.old }
+        ensures bases { any_bases self.new ≡ any_bases self.old }
+        ensures form { IsSameForm self.new self.old }
+    {
         match self {
             AnyColumn::Slices(column) => column.push_reserved(entry),
             AnyColumn::Equality(column) => column.push_reserved(entry),
@@ -103,11 +122,14 @@ impl Column for AnyColumn {
         }
     }
 
-    fn copy(&self) -> Result<Self, NoMemory> {
-        Ok(match self {
-            AnyColumn::Slices(column) => AnyColumn::Slices(column.copy()?),
-            AnyColumn::Equality(column) => AnyColumn::Equality(column.copy()?),
-            AnyColumn::Range(column) => AnyColumn::Range(column.copy()?),
-        })
+    fn copy(&self) -> Result<Self, NoMemory>
+        ensures same { IfOk result (λ c. (any_entries c ≡ any_entries self.now) × (any_size c ≡ any_size self.now) × (any_bases c ≡ any_bases self.now)) }
+        ensures form { IfOk result (λ c. IsSameForm c self.now) }
+    {
+        match self {
+            AnyColumn::Slices(column) => Ok(AnyColumn::Slices(column.copy()?)),
+            AnyColumn::Equality(column) => Ok(AnyColumn::Equality(column.copy()?)),
+            AnyColumn::Range(column) => Ok(AnyColumn::Range(column.copy()?)),
+        }
     }
 }

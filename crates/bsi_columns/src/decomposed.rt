@@ -12,8 +12,6 @@ use std::alloc::Global;
 use std::marker::Model;
 
 mod compare;
-#[cfg(test)]
-mod tests;
 mod totals;
 
 /// A column of numbers below the product of its bases, which keeps a component for each base.
@@ -78,6 +76,8 @@ impl<E: Encoding> Column for Decomposed<E> {
 
     ghost size_of = { λ c. product_of c.bases };
 
+    ghost bases_of = { λ c. c.bases };
+
     ghost entries = { λ c. c.entries };
 
     ghost room = { λ c. c.room };
@@ -95,6 +95,9 @@ impl<E: Encoding> Column for Decomposed<E> {
     }
 
     fn reserve_one(&mut self) -> Result<(), NoMemory> {
+        if self.has_room() {
+            return Ok(());
+        }
         self.present.reserve_one()?;
         reserve_each(&mut self.components)
     }

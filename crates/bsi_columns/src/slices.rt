@@ -1,6 +1,6 @@
 //! A column as bit slices: one bit vector for each binary place of its numbers, as O'Neil and Quass described in 1997.
 
-ghost use Rattle.std.specs.Prelude.{◌≡◌, ℕ, ◌++◌, ◌∷◌, [], All, ◌<◌, ◌≤◌, ◌^◌, ◌==◌, ◌&&◌, length, map, IfOk, IsTrue, OnOk};
+ghost use Rattle.std.specs.Prelude.{◌≡◌, ℕ, ◌++◌, ◌∷◌, [], All, ◌<◌, ◌≤◌, ◌^◌, ◌==◌, ◌&&◌, length, map, replicate, IfOk, IsTrue, OnOk};
 ghost use Rattle.std.specs.Int.{bit_at};
 ghost use Rattle.bsi_columns.specs.Rows.{number_or_zero};
 ghost use Rattle.bsi_columns.specs.Slices.{entries_in, has_room_at, have_room, slice_at, IsSliced};
@@ -13,8 +13,6 @@ use std::alloc::Global;
 use std::marker::Model;
 
 mod compare;
-#[cfg(test)]
-mod tests;
 mod totals;
 
 /// A column of optional numbers below two to the power of its width. Slice `i` is binary place `i` of the numbers, and
@@ -72,6 +70,8 @@ impl Slices {
 impl Column for Slices {
     ghost size_of = { λ c. 2 ^ c.width };
 
+    ghost bases_of = { λ c. replicate c.width 2 };
+
     ghost entries = { λ c. c.entries };
 
     ghost room = { λ c. c.room };
@@ -89,6 +89,9 @@ impl Column for Slices {
     }
 
     fn reserve_one(&mut self) -> Result<(), NoMemory> {
+        if self.has_room() {
+            return Ok(());
+        }
         reserve_row(&mut self.slices, &mut self.present)
     }
 

@@ -1,6 +1,6 @@
 //! What a component is to a column: a list of digits below its base.
 
-ghost use Rattle.std.specs.Prelude.{◌≡◌, ℕ, ◌+◌, ◌*◌, ◌/◌, ◌^◌, ◌≤◌, ◌<◌, ◌==◌, ◌&&◌, Bool, List, [], ◌∷◌, ◌++◌, length, map, sum, slice_index, nat_le, IsTrue, IfOk, OnOk};
+ghost use Rattle.std.specs.Prelude.{◌≡◌, ℕ, ◌+◌, ◌*◌, ◌/◌, ◌^◌, ◌≤◌, ◌<◌, ◌==◌, ◌&&◌, Bool, List, [], ◌∷◌, ◌++◌, length, map, sum, slice_index, nat_le, IsTrue, IfOk, OnOk, IsOk};
 ghost use Rattle.std.specs.List.{items_where_true};
 ghost use Rattle.std.specs.Bool.{OnTrue, OnFalse};
 ghost use Rattle.bsi_bits.specs.Packed.{bit_of};
@@ -29,7 +29,8 @@ pub trait Encoding: Drop {
     /// The base, from 2 to 1,024.
     fn base(&self) -> u32
         ensures base { result ≡ base_of self.now }
-        ensures within { (2 ≤ result) × (result ≤ 1024) };
+        ensures within { (2 ≤ result) × (result ≤ 1024) }
+        ensures below { (k : ℕ) → slice_index (digits self.now) k < base_of self.now };
 
     /// The number of rows, at most 2^32.
     fn len(&self) -> u64
@@ -40,12 +41,13 @@ pub trait Encoding: Drop {
     fn has_room(&self) -> bool
         ensures { result ≡ room self.now };
 
-    /// Makes room for one more digit. The digits stay, whatever the result.
+    /// Makes room for one more digit. The digits stay, whatever the result. It takes memory only where there is no room.
     fn reserve_one(&mut self) -> Result<(), NoMemory>
         requires { length (digits self.old) < 2 ^ 32 }
         ensures digits { digits self.new ≡ digits self.old }
         ensures base { base_of self.new ≡ base_of self.old }
-        ensures ok { OnOk result (IsTrue (room self.new)) };
+        ensures ok { OnOk result (IsTrue (room self.new)) }
+        ensures succeeds { IsTrue (room self.old) → IsOk result };
 
     /// Appends a digit, in room that is there.
     fn push_reserved(&mut self, digit: u32)

@@ -48,6 +48,8 @@ impl PlainColumn {
 impl Column for PlainColumn {
     ghost size_of = { λ c. c.size };
 
+    ghost bases_of = { λ c. c.size ∷ [] };
+
     ghost entries = { λ c. c.entries };
 
     ghost room = { λ c. c.room };
@@ -65,6 +67,9 @@ impl Column for PlainColumn {
     }
 
     fn reserve_one(&mut self) -> Result<(), NoMemory> {
+        if self.has_room() {
+            return Ok(());
+        }
         self.entries.reserve(1)?;
         self.present.reserve_one()
     }
@@ -153,7 +158,7 @@ fn sum_each(entries: &[Option<u64>], found: &Bits) -> u128
     requires few { length entries.now ≤ 2 ^ 32 }
     requires below { All (λ e. number_or_zero e < 2 ^ 63) entries.now }
     ensures sum { result ≡ sum (numbers_at found.now.bits entries.now) }
-    ensures within { result ≤ 2 ^ 95 }
+    ensures within { result < 2 ^ 95 }
 {
     let mut total = 0;
     let mut row = 0;

@@ -1,6 +1,12 @@
-//! Every form of column beside a plain one. Each test tolerates one refused growth, and then makes the same call again.
+//! Columns of every form, on worked rows and beside a plain column. Each test tolerates one refused growth, and then makes the
+//! same call again.
 
-use super::*;
+mod comparisons;
+mod growth;
+mod stored;
+mod totals;
+
+use crate::{NoMemory, PlainColumn, WholeVectors};
 use bsi_bits::Bits;
 use bsi_columns::{
     AnyColumn, Column, Decomposed, Encoding, EqualityComponent, Op, RangeComponent, Slices,
@@ -10,9 +16,27 @@ use std::alloc::Global;
 use std::process::Abort;
 use std::test::Fail;
 
-const OPERATORS: [Op; 6] = [Op::Eq, Op::Ne, Op::Lt, Op::Le, Op::Gt, Op::Ge];
+/// The lengths about the edges of a word, and of four.
+const LENGTHS: [u64; 7] = [0, 1, 63, 64, 65, 256, 257];
 
-// The bases of a list as it is written, the most significant first.
+/// The forms of a column.
+#[derive(Clone, Copy, Debug)]
+enum Form {
+    Slices,
+    Equality,
+    Range,
+}
+
+const FORMS: [Form; 3] = [Form::Slices, Form::Equality, Form::Range];
+
+/// How wide a column is: in slices, and in bases, the most significant first.
+#[derive(Clone, Copy)]
+struct Wide<'a> {
+    width: u32,
+    bases: &'a [u32],
+}
+
+// The bases of a list as it is written.
 fn read(alloc: Global, list: &[u32]) -> Result<Bases, NoMemory> {
     let mut written = Vec::new(alloc);
     written.extend_from_slice(list)?;
@@ -26,10 +50,26 @@ fn bases(alloc: Global, list: &[u32]) -> Result<Bases, NoMemory> {
     }
 }
 
-fn empty<E: Encoding>(alloc: Global, list: &[u32]) -> Result<Decomposed<E>, NoMemory> {
+fn no_slices(alloc: Global, width: u32) -> Result<Slices, NoMemory> {
+    let width = width.clamp(1, 63);
+    match Slices::new(alloc, width) {
+        Err(_) => Slices::new(alloc, width),
+        made => made,
+    }
+}
+
+fn no_digits<E: Encoding>(alloc: Global, list: &[u32]) -> Result<Decomposed<E>, NoMemory> {
     match Decomposed::<E>::new(alloc, bases(alloc, list)?) {
         Err(_) => Decomposed::<E>::new(alloc, bases(alloc, list)?),
         made => made,
+    }
+}
+
+fn no_rows(alloc: Global, form: Form, wide: Wide) -> Result<AnyColumn, NoMemory> {
+    match form {
+        Form::Slices => Ok(AnyColumn::Slices(no_slices(alloc, wide.width)?)),
+        Form::Equality => Ok(AnyColumn::Equality(no_digits(alloc, wide.bases)?)),
+        Form::Range => Ok(AnyColumn::Range(no_digits(alloc, wide.bases)?)),
     }
 }
 
@@ -48,6 +88,30 @@ fn push<C: Column>(column: &mut C, entry: Option<u64>) -> Result<bool, NoMemory>
         column.push_reserved(entry);
     }
     Ok(stayed)
+}
+
+fn append<C: Column>(
+    rt: &impl Abort,
+    column: &mut C,
+    entries: &[Option<u64>],
+) -> Result<(), NoMemory> {
+    for entry in entries {
+        assert!(rt; push(column, *entry)?, "{entry:?}");
+    }
+    Ok(())
+}
+
+/// A column of these entries.
+fn of(
+    rt: &impl Abort,
+    alloc: Global,
+    form: Form,
+    wide: Wide,
+    entries: &[Option<u64>],
+) -> Result<AnyColumn, NoMemory> {
+    let mut column = no_rows(alloc, form, wide)?;
+    append(rt, &mut column, entries)?;
+    Ok(column)
 }
 
 /// The entry of a row below a size: a null now and then, the least and the greatest number, and numbers far apart.
@@ -69,6 +133,26 @@ fn fill<C: Column>(rt: &impl Abort, column: &mut C, rows: u64) -> Result<(), NoM
     Ok(())
 }
 
+/// A column of so many rows.
+fn filled(
+    rt: &impl Abort,
+    alloc: Global,
+    form: Form,
+    wide: Wide,
+    rows: u64,
+) -> Result<AnyColumn, NoMemory> {
+    let mut column = no_rows(alloc, form, wide)?;
+    fill(rt, &mut column, rows)?;
+    Ok(column)
+}
+
+/// A plain column of so many rows.
+fn plain(rt: &impl Abort, alloc: Global, size: u64, rows: u64) -> Result<PlainColumn, NoMemory> {
+    let mut column = PlainColumn::new(alloc, size.clamp(2, 1 << 63));
+    fill(rt, &mut column, rows)?;
+    Ok(column)
+}
+
 fn compared<C: Column>(column: &C, op: Op, constant: u64) -> Result<Bits, NoMemory> {
     match column.compare(op, constant) {
         Err(_) => column.compare(op, constant),
@@ -76,205 +160,25 @@ fn compared<C: Column>(column: &C, op: Op, constant: u64) -> Result<Bits, NoMemo
     }
 }
 
+fn copied(bits: &Bits) -> Result<Bits, NoMemory> {
+    match bits.copy() {
+        Err(_) => bits.copy(),
+        made => made,
+    }
+}
+
+fn get(bits: &Bits, i: u64) -> bool {
+    i < bits.len() && bits.get(i)
+}
+
+fn shows(bits: &Bits, wanted: &[bool]) -> bool {
+    bits.len() == wanted.len() as u64
+        && wanted
+            .iter()
+            .enumerate()
+            .all(|(i, bit)| get(bits, i as u64) == *bit)
+}
+
 fn same(a: &Bits, b: &Bits) -> bool {
     a.len() == b.len() && a.words() == b.words()
-}
-
-/// Whether both columns select the same rows by every operator.
-fn select_alike<A: Column, B: Column>(
-    rt: &impl Abort,
-    column: &A,
-    plain: &B,
-    constant: u64,
-) -> Result<(), NoMemory> {
-    for op in OPERATORS {
-        let found = compared(column, op, constant)?;
-        assert!(rt;
-            same(&found, &compared(plain, op, constant)?),
-            "{op:?} {constant}"
-        );
-    }
-    Ok(())
-}
-
-// The numbers about the least and the greatest digit of this weight.
-fn near(weight: u64, base: u32) -> [u64; 6] {
-    let greatest = weight.wrapping_mul(u64::from(base).wrapping_sub(1));
-    [
-        weight.wrapping_sub(1),
-        weight,
-        weight.wrapping_add(1),
-        greatest.wrapping_sub(1),
-        greatest,
-        greatest.wrapping_add(1),
-    ]
-}
-
-// The constants about the edges of each digit, of some of the many where they are more than four, and past the ends.
-fn constants(alloc: Global, list: &[u32]) -> Result<Vec<u64>, NoMemory> {
-    let bases = bases(alloc, list)?;
-    let mut constants = Vec::new(alloc);
-    constants.extend_from_slice(&[0, 1, bases.size(), u64::MAX])?;
-    let stride = bases.len() / 4 + 1;
-    for i in 0..bases.len() {
-        if i % stride != 0 && i + 1 != bases.len() {
-            continue;
-        }
-        constants.extend_from_slice(&near(bases.weight(i), bases.base(i)))?;
-    }
-    Ok(constants)
-}
-
-fn constants_of(alloc: Global, list: &[u32]) -> Result<Vec<u64>, NoMemory> {
-    match constants(alloc, list) {
-        Err(_) => constants(alloc, list),
-        made => made,
-    }
-}
-
-fn plain(rt: &impl Abort, alloc: Global, size: u64, rows: u64) -> Result<PlainColumn, NoMemory> {
-    let mut column = PlainColumn::new(alloc, size.clamp(2, 1 << 63));
-    fill(rt, &mut column, rows)?;
-    Ok(column)
-}
-
-fn decomposed<E: Encoding>(
-    rt: &impl Abort,
-    alloc: Global,
-    list: &[u32],
-    rows: u64,
-) -> Result<Decomposed<E>, NoMemory> {
-    let mut column = empty::<E>(alloc, list)?;
-    fill(rt, &mut column, rows)?;
-    Ok(column)
-}
-
-// The column beside a plain one of the same entries.
-fn alike<C: Column>(
-    rt: &impl Abort,
-    alloc: Global,
-    column: &C,
-    list: &[u32],
-    rows: u64,
-) -> Result<(), NoMemory> {
-    let plain = plain(rt, alloc, column.size(), rows)?;
-    let constants = constants_of(alloc, list)?;
-    for constant in constants.as_slice() {
-        select_alike(rt, column, &plain, *constant)?;
-    }
-    Ok(())
-}
-
-fn encoded_alike<E: Encoding>(
-    rt: &impl Abort,
-    alloc: Global,
-    list: &[u32],
-    rows: u64,
-) -> Result<(), NoMemory> {
-    let column = decomposed::<E>(rt, alloc, list, rows)?;
-    alike(rt, alloc, &column, list, rows)
-}
-
-fn any_alike(rt: &impl Abort, alloc: Global, list: &[u32], rows: u64) -> Result<(), NoMemory> {
-    let column = AnyColumn::Equality(decomposed::<EqualityComponent>(rt, alloc, list, rows)?);
-    alike(rt, alloc, &column, list, rows)
-}
-
-// Both encodings, by blocks and by whole vectors, and one as a column of any form.
-fn decomposed_alike(
-    rt: &impl Abort,
-    alloc: Global,
-    list: &[u32],
-    rows: u64,
-) -> Result<(), NoMemory> {
-    encoded_alike::<RangeComponent>(rt, alloc, list, rows)?;
-    encoded_alike::<EqualityComponent>(rt, alloc, list, rows)?;
-    encoded_alike::<WholeVectors<RangeComponent>>(rt, alloc, list, rows)?;
-    any_alike(rt, alloc, list, rows)
-}
-
-#[test]
-fn few_components(rt: HostRuntime) -> Result<(), Fail> {
-    decomposed_alike(&rt, rt.alloc(), &[2], 70)?;
-    decomposed_alike(&rt, rt.alloc(), &[5, 3], 130)?;
-    decomposed_alike(&rt, rt.alloc(), &[3, 3], 65)?;
-    decomposed_alike(&rt, rt.alloc(), &[2, 4], 64)?;
-    Ok(())
-}
-
-#[test]
-fn wide_component(rt: HostRuntime) -> Result<(), Fail> {
-    decomposed_alike(&rt, rt.alloc(), &[1024], 66)?;
-    Ok(())
-}
-
-#[test]
-fn several_blocks(rt: HostRuntime) -> Result<(), Fail> {
-    let rows = 64 * 256 + 65;
-    encoded_alike::<RangeComponent>(&rt, rt.alloc(), &[5, 3], rows)?;
-    encoded_alike::<EqualityComponent>(&rt, rt.alloc(), &[5, 3], rows)?;
-    Ok(())
-}
-
-#[test]
-fn sixty_three_twos(rt: HostRuntime) -> Result<(), Fail> {
-    decomposed_alike(&rt, rt.alloc(), &[2; 63], 70)?;
-    Ok(())
-}
-
-fn no_rows(alloc: Global, width: u32) -> Result<Slices, NoMemory> {
-    let width = width.clamp(1, 63);
-    match Slices::new(alloc, width) {
-        Err(_) => Slices::new(alloc, width),
-        made => made,
-    }
-}
-
-fn slices_alike(
-    rt: &impl Abort,
-    alloc: Global,
-    list: &[u32],
-    width: u32,
-    rows: u64,
-) -> Result<(), NoMemory> {
-    let mut slices = no_rows(alloc, width)?;
-    fill(rt, &mut slices, rows)?;
-    alike(rt, alloc, &slices, list, rows)
-}
-
-#[test]
-fn slices(rt: HostRuntime) -> Result<(), Fail> {
-    slices_alike(&rt, rt.alloc(), &[2], 1, 70)?;
-    slices_alike(&rt, rt.alloc(), &[2, 4], 3, 64)?;
-    slices_alike(&rt, rt.alloc(), &[1024], 10, 64 * 256 + 65)?;
-    slices_alike(&rt, rt.alloc(), &[2; 63], 63, 130)?;
-    Ok(())
-}
-
-fn calls(column: &Decomposed<WholeVectors<RangeComponent>>, i: u32) -> u32 {
-    if i < column.bases().len() {
-        column.component(i).calls()
-    } else {
-        0
-    }
-}
-
-/// Of an encoding without calls on blocks, a comparison calls each component one to four times.
-#[test]
-fn calls_of_a_comparison(rt: HostRuntime) -> Result<(), Fail> {
-    let column = decomposed::<WholeVectors<RangeComponent>>(&rt, rt.alloc(), &[5, 3], 100)?;
-    let before = [calls(&column, 0), calls(&column, 1)];
-    let found = match column.compare(Op::Le, 7) {
-        Err(_) => {
-            assert_eq!(rt; [calls(&column, 0), calls(&column, 1)], before);
-            column.compare(Op::Le, 7)?
-        }
-        Ok(found) => found,
-    };
-    assert_eq!(rt; found.len(), 100);
-    for (i, count) in [(0, before[0]), (1, before[1])] {
-        let made = calls(&column, i).wrapping_sub(count);
-        assert!(rt; made >= 1 && made <= 4, "{made} calls of component {i}");
-    }
-    Ok(())
 }

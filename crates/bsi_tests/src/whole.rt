@@ -1,4 +1,4 @@
-//! A component that works on whole vectors alone, and counts the calls that do.
+//! A component that works on whole vectors alone, and counts the calls that do, and the sums.
 
 use crate::NoMemory;
 use bsi_bits::Bits;
@@ -11,12 +11,18 @@ use std::cell::Cell;
 pub struct WholeVectors<E: Encoding> {
     inner: E,
     calls: Cell<u32>,
+    sums: Cell<u32>,
 }
 
 impl<E: Encoding> WholeVectors<E> {
     /// How many calls wrote a whole vector so far.
     pub fn calls(&self) -> u32 {
         self.calls.get()
+    }
+
+    /// How many sums of digits were asked for so far.
+    pub fn sums(&self) -> u32 {
+        self.sums.get()
     }
 
     fn count(&self) {
@@ -36,6 +42,7 @@ impl<E: Encoding> Encoding for WholeVectors<E> {
         Ok(WholeVectors {
             inner,
             calls: Cell::new(0),
+            sums: Cell::new(0),
         })
     }
 
@@ -70,6 +77,7 @@ impl<E: Encoding> Encoding for WholeVectors<E> {
     }
 
     fn digit_sum(&self, found: &Bits) -> u128 {
+        self.sums.set(self.sums.get().saturating_add(1));
         self.inner.digit_sum(found)
     }
 
@@ -78,6 +86,7 @@ impl<E: Encoding> Encoding for WholeVectors<E> {
         Ok(WholeVectors {
             inner,
             calls: Cell::new(0),
+            sums: Cell::new(0),
         })
     }
 }

@@ -14,7 +14,7 @@ impl<E: Encoding> Decomposed<E> {
     pub(crate) fn sum_found(&self, found: &Bits) -> u128
         requires { length self.now.entries ≡ length found.now.bits }
         ensures sum { result ≡ sum (numbers_at found.now.bits self.now.entries) }
-        ensures within { result ≤ 2 ^ 95 }
+        ensures within { result < 2 ^ 95 }
     {
         let rows = found.len();
         if rows == 0 {

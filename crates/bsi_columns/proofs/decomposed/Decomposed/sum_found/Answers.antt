@@ -22,7 +22,7 @@ more g c =
     (g.E.Encoding.digits c.component.result.now) c.components.total c.digit_sum.result c.from.result
     c.components.invariant digits c.digit_sum.ensures (c.from.ensures ∙ c.weight.ensures.weight)
 
-bound : (g : given.Over) (c : goal.After-from g) → c.components.total + c.digit_sum.result * c.from.result ≤ 2 ^ 95
+bound : (g : given.Over) (c : goal.After-from g) → c.components.total + c.digit_sum.result * c.from.result < 2 ^ 95
 bound g c =
     let bs = c.bases-bases.result.now in
     let valid = c.len-i-end.ensures.valid in

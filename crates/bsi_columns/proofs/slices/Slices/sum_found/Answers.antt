@@ -14,7 +14,7 @@ more : (c : goal.After-from) → c.slices.total + c.from.result * 2 ^ c.slices.i
 more c = sum_slice c.slices.i c.args.found.now.bits c.args.self.now.entries c.slice.result.now.bits c.slices.total c.from.result (2 ^ c.slices.i)
     c.slices.invariant c.slice.ensures (c.from.ensures ∙ c.count_and.ensures) refl
 
-bound : (c : goal.After-from) → c.slices.total + c.from.result * 2 ^ c.slices.i ≤ 2 ^ 95
+bound : (c : goal.After-from) → c.slices.total + c.from.result * 2 ^ c.slices.i < 2 ^ 95
 bound c =
     let few : length c.args.self.now.entries ≤ 2 ^ 32 = omega (arith, c.len-rows.ensures.len, c.len-rows.ensures.within, c.requires) in
     let within : c.slices.i + 1 ≤ 63 = omega (arith, c.slices-test.true, c.width-i-end.ensures.within) in

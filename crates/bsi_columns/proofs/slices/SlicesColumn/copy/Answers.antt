@@ -1,4 +1,4 @@
-use Rattle.std.proofs.Common.{◌^◌, length, ap, ◌∙◌, arith}
+use Rattle.std.proofs.Common.{replicate, ◌^◌, length, ap, ◌∙◌, arith}
 use Rattle.bsi_columns.specs.Slices.{slice_at}
 use Rattle.bsi_columns.proofs.SliceEntries.{entries_same, sliced_same}
 use Rattle.bsi_columns.proofs.slices.SlicesColumn.copy.Goals as goal
@@ -17,4 +17,5 @@ returns c =
           c.in_ok-copy.ensures (c.in_ok-slices.ensures.long ∙ ap length read)
           (λ k within. c.in_ok-slices.ensures.bits k (omega (arith, ap length read)) ∙ ap (λ s. slice_at s k) read) ∙ ap (λ e. e.entries) c.self.view_is,
       ap (λ w. 2 ^ w) (c.in_ok-slices.ensures.long ∙ ap length read) ∙ ap (λ e. 2 ^ e.width) c.self.view_is,
+      ap (λ w. replicate w 2) (c.in_ok-slices.ensures.long ∙ ap length read) ∙ ap (λ e. replicate e.width 2) c.self.view_is,
     )
