@@ -5,8 +5,8 @@ use super::*;
 use std::alloc::Global;
 use std::test::Fail;
 
-/// The lengths about the edges of a word and of four.
-const LENGTHS: [u64; 9] = [0, 1, 63, 64, 65, 255, 256, 257, 320];
+/// The lengths about the edges of a word, of four and of eight.
+const LENGTHS: [u64; 10] = [0, 1, 63, 64, 65, 255, 256, 257, 320, 513];
 
 fn filled(alloc: Global, n: u64, bit: bool) -> Result<Bits, NoMemory>
     requires { n ≤ 2 ^ 32 }
@@ -160,6 +160,7 @@ fn lane_counts(rt: HostRuntime) -> Result<(), Fail> {
         (256, 86, 43, 43),
         (257, 86, 43, 43),
         (320, 107, 54, 53),
+        (513, 171, 86, 85),
     ] {
         let a = multiples(rt.alloc(), n, 3)?;
         let b = multiples(rt.alloc(), n, 2)?;
@@ -261,12 +262,61 @@ fn a_refused_growth_changes_nothing(rt: HostRuntime) -> Result<(), Fail> {
     Ok(())
 }
 
-// Five words: four side by side, and one behind them.
-const A: [u64; 5] = [0b1100, 0, u64::MAX, 0xf0f0, 7];
+#[test]
+fn flip_keeps_the_room(rt: HostRuntime) -> Result<(), Fail> {
+    for n in [0, 63, 64, 65, 256, 513] {
+        let mut bits = multiples(rt.alloc(), n, 1)?;
+        let room = bits.has_room();
+        bits.flip();
+        assert_eq!(rt; (bits.len(), bits.has_room()), (n, room), "at {n}");
+        if bits.has_room() {
+            bits.push_reserved(true);
+        }
+        assert_eq!(rt; bits.count(), room as u64, "at {n}");
+        assert_eq!(rt; get(&bits, n), room, "at {n}");
+    }
+    Ok(())
+}
 
-const B: [u64; 5] = [0b1010, 1, 1 << 63, 0xff00, u64::MAX];
+// Nine words: twice four side by side, and one behind them.
+const A: [u64; 9] = [
+    0b1100,
+    0,
+    u64::MAX,
+    0xf0f0,
+    7,
+    1 << 63,
+    0xff00ff00,
+    1,
+    0x5555555555555555,
+];
 
-const C: [u64; 5] = [0b0110, 2, 3, 0x00ff, 1];
+const B: [u64; 9] = [
+    0b1010,
+    1,
+    1 << 63,
+    0xff00,
+    u64::MAX,
+    3 << 62,
+    0x00ffff00,
+    0,
+    0x3333333333333333,
+];
+
+const C: [u64; 9] = [
+    0b0110,
+    2,
+    3,
+    0x00ff,
+    1,
+    1,
+    0xf0f0f0f0,
+    5,
+    0x0f0f0f0f0f0f0f0f,
+];
+
+// Numbers of words: none, fewer than four, four, eight, and one more than those.
+const COUNTS: [usize; 6] = [0, 3, 4, 5, 8, 9];
 
 #[derive(Clone, Copy, Debug)]
 enum Kernel {
@@ -280,20 +330,35 @@ enum Kernel {
     AndAndNot,
 }
 
+const KERNELS: [Kernel; 8] = [
+    Kernel::And,
+    Kernel::Or,
+    Kernel::Xor,
+    Kernel::AndNot,
+    Kernel::OrNot,
+    Kernel::Not,
+    Kernel::AndOr,
+    Kernel::AndAndNot,
+];
+
 impl Kernel {
-    fn run(self) -> [u64; 5] {
-        let mut a = A;
+    // What it makes of the first `n` words. The others stay.
+    fn run(self, n: usize) -> [u64; 9]
+        requires { n ≤ 9 }
+    {
+        let mut made = A;
+        let (a, b, c) = (&mut made[..n], &B[..n], &C[..n]);
         match self {
-            Kernel::And => lanes::and(&mut a, &B),
-            Kernel::Or => lanes::or(&mut a, &B),
-            Kernel::Xor => lanes::xor(&mut a, &B),
-            Kernel::AndNot => lanes::and_not(&mut a, &B),
-            Kernel::OrNot => lanes::or_not(&mut a, &B),
-            Kernel::Not => lanes::not(&mut a),
-            Kernel::AndOr => lanes::and_or(&mut a, &B, &C),
-            Kernel::AndAndNot => lanes::and_and_not(&mut a, &B, &C),
+            Kernel::And => lanes::and(a, b),
+            Kernel::Or => lanes::or(a, b),
+            Kernel::Xor => lanes::xor(a, b),
+            Kernel::AndNot => lanes::and_not(a, b),
+            Kernel::OrNot => lanes::or_not(a, b),
+            Kernel::Not => lanes::not(a),
+            Kernel::AndOr => lanes::and_or(a, b, c),
+            Kernel::AndAndNot => lanes::and_and_not(a, b, c),
         }
-        a
+        made
     }
 
     fn of_words(self, a: u64, b: u64, c: u64) -> u64 {
@@ -308,30 +373,54 @@ impl Kernel {
             Kernel::AndAndNot => a & b & !c,
         }
     }
+
+    // What a plain loop makes of the first `n` words. The others stay.
+    fn wanted(self, n: usize) -> [u64; 9]
+        requires { n ≤ 9 }
+    {
+        let mut made = A;
+        for i in 0..n {
+            made[i] = self.of_words(A[i], B[i], C[i]);
+        }
+        made
+    }
+}
+
+// The ones in words, place by place.
+fn ones_in(words: &[u64]) -> u64 {
+    let mut ones = 0u64;
+    for i in 0..words.len() {
+        for place in 0..64u32 {
+            ones = ones.saturating_add(words[i] >> place & 1);
+        }
+    }
+    ones
 }
 
 #[test]
-fn kernels_on_five_words(rt: HostRuntime) {
-    for kernel in [
-        Kernel::And,
-        Kernel::Or,
-        Kernel::Xor,
-        Kernel::AndNot,
-        Kernel::OrNot,
-        Kernel::Not,
-        Kernel::AndOr,
-        Kernel::AndAndNot,
-    ] {
-        let made = kernel.run();
-        for i in 0..5 {
-            assert_eq!(rt;
-                made[i],
-                kernel.of_words(A[i], B[i], C[i]),
-                "{kernel:?} at {i}"
-            );
+fn kernels_at_each_number_of_words(rt: HostRuntime) {
+    for kernel in KERNELS {
+        for n in COUNTS {
+            assert_eq!(rt; kernel.run(n), kernel.wanted(n), "{kernel:?} of {n}");
         }
     }
-    assert_eq!(rt; lanes::count(&A), 77);
-    assert_eq!(rt; lanes::count_and(&A, &B), 9);
-    assert_eq!(rt; lanes::count_and_not(&A, &B), 68);
+}
+
+#[test]
+fn counts_at_each_number_of_words(rt: HostRuntime) {
+    for n in COUNTS {
+        let (a, b) = (&A[..n], &B[..n]);
+        let (both, first) = (Kernel::And.wanted(n), Kernel::AndNot.wanted(n));
+        assert_eq!(rt; lanes::count(a), ones_in(a), "of {n}");
+        assert_eq!(rt; lanes::count_and(a, b), ones_in(&both[..n]), "of {n}");
+        assert_eq!(rt; lanes::count_and_not(a, b), ones_in(&first[..n]), "of {n}");
+    }
+}
+
+#[test]
+fn counts_of_five_words(rt: HostRuntime) {
+    let (a, b) = (&A[..5], &B[..5]);
+    assert_eq!(rt; lanes::count(a), 77);
+    assert_eq!(rt; lanes::count_and(a, b), 9);
+    assert_eq!(rt; lanes::count_and_not(a, b), 68);
 }

@@ -96,6 +96,26 @@ fn the_first_refusal_that_applies_is_answered(rt: HostRuntime) -> Result<(), Fai
 }
 
 #[test]
+fn most_bases_of_two(rt: HostRuntime) -> Result<(), Fail> {
+    let most = [2; 63];
+    let too_many = [2; 64];
+    let mut last_bad = most;
+    last_bad[62] = 1;
+    let mut too_large = most;
+    too_large[0] = 3;
+    let rows: [(&[u32], Result<u64, BasesError>); 4] = [
+        (&most, Ok(9223372036854775808)),
+        (&too_many, Err(BasesError::TooMany)),
+        (&last_bad, Err(BasesError::BaseOutOfRange(62))),
+        (&too_large, Err(BasesError::ProductTooLarge)),
+    ];
+    for (bases, want) in rows {
+        assert_eq!(rt; sized(rt.alloc(), bases)?, want, "at {bases:?}");
+    }
+    Ok(())
+}
+
+#[test]
 fn seconds_of_a_day_are_hours_minutes_and_seconds(rt: HostRuntime) -> Result<(), Fail> {
     let clock = Bases::new(list(rt.alloc(), &[24, 60, 60])?).expect(&rt, "in range");
     assert_eq!(rt; clock.size(), 86400);
