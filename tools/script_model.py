@@ -225,48 +225,48 @@ def setup_begin(machine, fields):
     return ok(lambda: setattr(machine, "has_begun", True)) if is_ready else None
 
 
-def run_submit(machine, fields):
-    place = read_feeder(fields[0]) if fields else None
-    row = read_values(fields[1:])
-    if place is None or row is None:
+def at_feeder(machine, fields, run):
+    """Returns what `run` answers for the feeder that the only field names, or None where that spells no number."""
+    place = read_feeder(fields[0]) if len(fields) == 1 else None
+    if place is None:
         return None
-    if place >= len(machine.feeders):
-        return refused(b"no feeder")
-    feeder = machine.feeders[place]
-    if feeder.is_closed:
-        return refused(b"closed")
-    if not machine.fits(row):
-        return refused(b"misfit")
-    if len(feeder.waiting) == feeder.capacity:
-        return refused(b"full")
-    return Step(b"accepted", False, lambda: feeder.waiting.append(row))
+    return run(place, machine.feeders[place]) if place < len(machine.feeders) else refused(b"no feeder")
+
+
+def run_submit(machine, fields):
+    row = read_values(fields[1:])
+
+    def submit(place, feeder):
+        if feeder.is_closed:
+            return refused(b"closed")
+        if not machine.fits(row):
+            return refused(b"misfit")
+        if len(feeder.waiting) == feeder.capacity:
+            return refused(b"full")
+        return Step(b"accepted", False, lambda: feeder.waiting.append(row))
+
+    return None if row is None else at_feeder(machine, fields[:1], submit)
 
 
 def run_load(machine, fields):
-    place = read_feeder(fields[0]) if len(fields) == 1 else None
-    if place is None:
-        return None
-    if place >= len(machine.feeders):
-        return refused(b"no feeder")
-    feeder = machine.feeders[place]
-    if not feeder.waiting:
-        return refused(b"ended" if feeder.is_closed else b"empty")
-    if len(machine.indexed) == machine.limit:
-        return refused(b"index full")
-    take = lambda: machine.indexed.append((place, feeder.waiting.pop(0)))
-    return Step(b"loaded %d" % len(machine.indexed), True, take)
+    def load(place, feeder):
+        if not feeder.waiting:
+            return refused(b"ended" if feeder.is_closed else b"empty")
+        if len(machine.indexed) == machine.limit:
+            return refused(b"index full")
+        take = lambda: machine.indexed.append((place, feeder.waiting.pop(0)))
+        return Step(b"loaded %d" % len(machine.indexed), True, take)
+
+    return at_feeder(machine, fields, load)
 
 
 def run_close(machine, fields):
-    place = read_feeder(fields[0]) if len(fields) == 1 else None
-    if place is None:
-        return None
-    if place >= len(machine.feeders):
-        return refused(b"no feeder")
-    feeder = machine.feeders[place]
-    if feeder.is_closed:
-        return refused(b"closed")
-    return ok(lambda: setattr(feeder, "is_closed", True))
+    def close(place, feeder):
+        if feeder.is_closed:
+            return refused(b"closed")
+        return ok(lambda: setattr(feeder, "is_closed", True))
+
+    return at_feeder(machine, fields, close)
 
 
 def read_predicate(machine, fields):

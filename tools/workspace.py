@@ -6,6 +6,7 @@ import os
 import shutil
 import subprocess
 import sys
+import threading
 from collections import namedtuple
 
 TOP = os.path.dirname(os.path.dirname(os.path.abspath(__file__)))
@@ -45,6 +46,23 @@ def run(words, given=b"", variables=None, folder=None, seconds=60, source=None, 
             out, err = started.communicate()
             return Ran(None, out or b"", err)
         return Ran(started.returncode, out or b"", err)
+
+
+def run_in_turns(words, given, folder=None, seconds=10):
+    """Runs a command on the lines given, each once the one before it was answered by a line, and returns how it ended."""
+    late = threading.Event()
+    how = {"stdin": subprocess.PIPE, "stdout": subprocess.PIPE, "stderr": subprocess.PIPE}
+    with subprocess.Popen(words, cwd=folder, bufsize=0, **how) as started:
+        timer = threading.Timer(seconds, lambda: (late.set(), started.kill()))
+        timer.start()
+        out = b""
+        with contextlib.suppress(BrokenPipeError):
+            for line in given.splitlines(keepends=True):
+                started.stdin.write(line)
+                out += started.stdout.readline()
+        rest, err = started.communicate()
+        timer.cancel()
+    return Ran(None if late.is_set() else started.returncode, out + rest, err)
 
 
 def ending(status):

@@ -1,4 +1,4 @@
--- The values of a record, from place 2 on.
+-- The fields of a record, by their places.
 use Rattle.std.proofs.Common.{◌≡◌, ℕ, zero, suc, ◌+◌, ◌-◌, ◌<◌, ◌≤◌, true, false, ◌&&◌, List, [], ◌∷◌, length, get_or, take, drop, Option, Some, None, is_some, is_none, option_and_then, sym, ◌∙◌, ap, arith, refl, length-drop}
 use Rattle.std.proofs.lemmas.List.{get_or-drop}
 use Rattle.std.proofs.lemmas.List.Folds.{list_all_more, list_all_at}
@@ -47,3 +47,29 @@ values_stop fields place low within missing =
     let short : place - 2 < length (drop 2 fields) = omega (arith, length-drop 2 fields) in
     let this : is_some (value_of (get_or (drop 2 fields) (place - 2) [])) ≡ false = ap is_some (value_behind fields place low within) ∙ is_missing (value_at fields place) missing in
     sym (list_all_at (λ text. is_some (value_of text)) (drop 2 fields) (place - 2) [] short this)
+
+-- the only field of a record
+pub only_field : (fields : List (List ℕ)) (a : List ℕ) → length fields ≡ 1 → field_at fields 0 ≡ Some a → fields ≡ a ∷ []
+unfolding field_at
+only_field [] a one first = absurd (omega arith)
+only_field (w ∷ []) a one first = cc
+only_field (w ∷ x ∷ fields) a one first = absurd (omega arith)
+
+-- the field of a record of two, behind its word
+pub one_behind : (fields : List (List ℕ)) (a : List ℕ) → length fields ≡ 2 → field_at fields 1 ≡ Some a → drop 1 fields ≡ a ∷ []
+unfolding field_at
+one_behind [] a two first = absurd (omega arith)
+one_behind (w ∷ []) a two first = absurd (omega arith)
+one_behind (w ∷ x ∷ []) a two first = cc
+one_behind (w ∷ x ∷ y ∷ fields) a two first = absurd (omega arith)
+
+-- the fields of a record of four, behind its word
+pub three_behind : (fields : List (List ℕ)) (a b c : List ℕ) → length fields ≡ 4
+    → field_at fields 1 ≡ Some a → field_at fields 2 ≡ Some b → field_at fields 3 ≡ Some c → drop 1 fields ≡ a ∷ b ∷ c ∷ []
+unfolding field_at
+three_behind [] a b c four first second third = absurd (omega arith)
+three_behind (w ∷ []) a b c four first second third = absurd (omega arith)
+three_behind (w ∷ x ∷ []) a b c four first second third = absurd (omega arith)
+three_behind (w ∷ x ∷ y ∷ []) a b c four first second third = absurd (omega arith)
+three_behind (w ∷ x ∷ y ∷ z ∷ []) a b c four first second third = cc
+three_behind (w ∷ x ∷ y ∷ z ∷ v ∷ fields) a b c four first second third = absurd (omega arith)

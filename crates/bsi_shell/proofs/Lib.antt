@@ -4,4 +4,5 @@ mod Digits
 mod Fields
 mod Queue
 mod Slicing
+mod Turns
 mod Writes

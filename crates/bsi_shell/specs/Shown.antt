@@ -23,6 +23,10 @@ pub record Shown : Type 0 where
   pub capacity : ℕ
   pub limit : ℕ
 
+-- a machine with no row, whose feeder is open
+abbrev pub new_machine : ℕ → ℕ → ℕ → Shown
+new_machine width capacity limit = record { width = width; indexed = []; waiting = []; closed = false; capacity = capacity; limit = limit }
+
 -- the index keeps its limit, the queue its capacity, and each row that waits fits the column
 pub record IsSound (column : Entries) (queue : Buffer (Option ℕ)) (limit : ℕ) : Type 0 where
   pub limited : length column.rows ≤ limit

@@ -105,13 +105,13 @@ impl Model for Machine {
 }
 
 impl Machine {
-    ghost use Rattle.bsi_shell.specs.Shown.{Shown, IsLoadReply, close_reply, compares, submit_reply, values_of};
+    ghost use Rattle.bsi_shell.specs.Shown.{Shown, IsLoadReply, close_reply, compares, new_machine, submit_reply, values_of};
 
     /// Returns a machine with no row, whose feeder is open.
     pub fn new(alloc: Global, width: u32, capacity: u32, limit: u64) -> Result<Machine, NoMemory>
         requires width { (1 ≤ width) × (width ≤ 63) }
         requires limit { limit ≤ 2 ^ 32 }
-        ensures { IfOk result (λ m. m ≡ record { width = width; indexed = []; waiting = []; closed = false; capacity = capacity; limit = limit }) }
+        ensures { IfOk result (λ m. m ≡ new_machine width capacity limit) }
     {
         let column = Column::new(alloc, width)?;
         let queue = HeapCircularBuffer::with_capacity(alloc, capacity as usize)?;

@@ -1,7 +1,11 @@
 //! A script: records from a reader, and one line for each to a writer.
 ghost use Rattle.std.specs.Prelude.{◌≡◌, take, ℕ, OnOk, OnErr, IfErr};
 ghost use Rattle.std.specs.Io.KnownBytes.{Appends};
+ghost use Rattle.csv.specs.Records.{fields_of};
+ghost use Rattle.bsi_shell.specs.Answers.{line_of};
+ghost use Rattle.bsi_shell.specs.Session.{IsTurn};
 ghost use Rattle.bsi_shell.specs.Writing.{OnlyAppends};
+ghost use Rattle.bsi_shell.specs.declared.answers.Answer.{Answer};
 
 use crate::answers::write_answer;
 use crate::session::Session;
@@ -89,11 +93,14 @@ fn read_next<R: Read + Drop>(
 /// Does what the record asks for, and makes `line` the line that answers it.
 fn answer_record(
     session: &mut Session,
-    record: &ByteRecord,
+    fields: &ByteRecord,
     line: &mut Vec<u8>,
-) -> Result<(), ScriptFault> {
+) -> Result<(), ScriptFault>
+    ensures ok { OnOk result ((answer : Answer) × IsTurn session.old (fields_of fields.now) answer session.new × (line.new.items ≡ line_of answer)) }
+    ensures fault { IfErr result (λ fault. fault ≡ ScriptFault.NoMemory) }
+{
     line.clear();
-    let Ok(answer) = session.answer(record) else {
+    let Ok(answer) = session.answer(fields) else {
         return Err(ScriptFault::NoMemory);
     };
     match write_answer(answer, line) {

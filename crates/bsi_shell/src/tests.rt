@@ -1,5 +1,6 @@
 use crate::{ScriptFault, run_script, run_words};
 use std::alloc::{AllocError, Global};
+use std::cell::Cell;
 use std::io;
 use std::io::{Read, Write};
 use std::test::Fail;
@@ -25,12 +26,13 @@ impl<'a> Read for BrokenReader<'a> {
     }
 }
 
-// Takes a byte a call until it has `room` no more; then it fails, or takes nothing.
+// Takes a byte a call until it has `room` no more; then it fails once, or takes nothing once. It counts its flushes.
 #[derive(Drop)]
 struct NarrowWriter {
     taken: Vec<u8>,
     room: usize,
     fails: bool,
+    flushes: u64,
 }
 
 impl Write for NarrowWriter {
@@ -40,12 +42,18 @@ impl Write for NarrowWriter {
                 self.taken.push(*byte)?;
                 Ok(1)
             }
-            _ if self.fails => Err(io::Error::from(io::ErrorKind::BrokenPipe)),
-            _ => Ok(0),
+            _ => {
+                self.room = usize::MAX;
+                if self.fails {
+                    return Err(io::Error::from(io::ErrorKind::BrokenPipe));
+                }
+                Ok(0)
+            }
         }
     }
 
     fn flush(&mut self) -> io::Result<()> {
+        self.flushes = self.flushes.saturating_add(1);
         if self.fails {
             return Err(io::Error::from(io::ErrorKind::BrokenPipe));
         }
@@ -97,12 +105,13 @@ fn is_answered(alloc: Global, script: &str, want: &str) -> Result<bool, AllocErr
     Ok((begins || tells) && again.is_ok() && lines.as_slice() == want.as_bytes())
 }
 
-// How a command line ends: its status, and what it wrote.
+// How a command line ends: its status, what it wrote, and how often it flushed its output.
 #[derive(Drop)]
 struct Ended {
     status: u8,
     output: Vec<u8>,
     faults: Vec<u8>,
+    flushes: u64,
 }
 
 // How a command line is run: its words, whether its reader fails behind the text, and how much its writer takes.
@@ -129,6 +138,7 @@ fn end_once<R: AllocGlobal>(rt: &R, line: Line<'_>) -> Result<Ended, AllocError>
         taken: buffer(rt.alloc())?,
         room: line.room,
         fails: line.fails,
+        flushes: 0,
     };
     let mut faults = buffer(rt.alloc())?;
     let text = line.text.as_bytes();
@@ -139,6 +149,7 @@ fn end_once<R: AllocGlobal>(rt: &R, line: Line<'_>) -> Result<Ended, AllocError>
     };
     Ok(Ended {
         status,
+        flushes: output.flushes,
         output: output.taken,
         faults,
     })
@@ -329,6 +340,7 @@ fn words_that_are_no_command_get_the_usage_line(rt: HostRuntime) -> Result<(), F
         assert_eq!(rt; end.status, 2, "at {words:?}");
         assert_eq!(rt; end.faults.as_slice(), USAGE.as_bytes(), "at {words:?}");
         assert_eq!(rt; end.output.len(), 0, "at {words:?}");
+        assert_eq!(rt; end.flushes, 0, "at {words:?}");
     }
     Ok(())
 }
@@ -339,6 +351,7 @@ fn the_script_word_runs_the_script(rt: HostRuntime) -> Result<(), Fail> {
     assert_eq!(rt; end.status, 0);
     assert_eq!(rt; end.output.as_slice(), b"bad\nbad\nbad\n".as_slice());
     assert_eq!(rt; end.faults.len(), 0);
+    assert_eq!(rt; end.flushes, 1);
     Ok(())
 }
 
@@ -346,6 +359,7 @@ fn the_script_word_runs_the_script(rt: HostRuntime) -> Result<(), Fail> {
 fn each_fault_has_its_text_and_status_one(rt: HostRuntime) -> Result<(), Fail> {
     for (is_broken, room, fails, wrote, want) in [
         (true, 99, false, "bad\nbad\n", "bsi: read failed\n"),
+        (true, 99, true, "bad\nbad\n", "bsi: read failed\n"),
         (false, 6, true, "bad\nba", "bsi: write failed\n"),
         (false, 6, false, "bad\nba", "bsi: write failed\n"),
         (false, 99, true, "bad\nbad\nbad\n", "bsi: write failed\n"),
@@ -360,8 +374,69 @@ fn each_fault_has_its_text_and_status_one(rt: HostRuntime) -> Result<(), Fail> {
         assert_eq!(rt; end.status, 1, "at {want}");
         assert_eq!(rt; end.faults.as_slice(), want.as_bytes());
         assert_eq!(rt; end.output.as_slice(), wrote.as_bytes(), "at {want}");
+        assert_eq!(rt; end.flushes, 1, "at {want}");
     }
     Ok(())
+}
+
+// Gives a record a call, once each line that answers those before it was written; until then it fails.
+#[derive(Drop)]
+struct TurnReader<'a> {
+    written: &'a Cell<u64>,
+    given: u64,
+}
+
+impl<'a> Read for TurnReader<'a> {
+    fn read(&mut self, buf: &mut [u8]) -> io::Result<usize> {
+        if self.written.get() != self.given {
+            return Err(io::Error::from(io::ErrorKind::BrokenPipe));
+        }
+        match buf {
+            [field, end, ..] if self.given < 5 => {
+                self.given += 1;
+                *field = b'x';
+                *end = b'\n';
+                Ok(2)
+            }
+            _ => Ok(0),
+        }
+    }
+}
+
+// Counts the line ends that are written.
+#[derive(Drop)]
+struct TurnWriter<'a> {
+    written: &'a Cell<u64>,
+}
+
+impl<'a> Write for TurnWriter<'a> {
+    fn write(&mut self, buf: &[u8]) -> io::Result<usize> {
+        let ends = buf.iter().filter(|byte| **byte == b'\n').count() as u64;
+        self.written.set(self.written.get().saturating_add(ends));
+        Ok(buf.len())
+    }
+
+    fn flush(&mut self) -> io::Result<()> {
+        Ok(())
+    }
+}
+
+fn run_in_turns(alloc: Global, written: &Cell<u64>) -> Result<(), ScriptFault> {
+    written.set(0);
+    let reader = TurnReader { written, given: 0 };
+    let mut writer = TurnWriter { written };
+    run_script(alloc, reader, &mut writer)
+}
+
+#[test]
+fn a_line_is_written_before_the_next_record_is_read(rt: HostRuntime) {
+    let written = Cell::new(0);
+    let mut run = run_in_turns(rt.alloc(), &written);
+    if run == Err(ScriptFault::NoMemory) {
+        run = run_in_turns(rt.alloc(), &written);
+    }
+    assert_eq!(rt; run, Ok(()));
+    assert_eq!(rt; written.get(), 5);
 }
 
 // Gives so many records of one field.
