@@ -20,8 +20,12 @@ const THIRDS: u64 = 0x9249_2492_4924_9249;
 /// The words of a block of a comparison: eight registers of 128 bits.
 const BLOCK: usize = 16;
 
-/// The words of a block of a sum.
-const COUNTED: usize = 512;
+/// The words that stay in the first cache.
+const CHUNK: usize = 1024;
+
+/// The most bitmaps that are read side by side, and how many are where there are more.
+const MOST_READ: usize = 24;
+const FEW_READ: usize = 8;
 
 type Words = Vec<u64>;
 
@@ -44,10 +48,9 @@ enum Step<'a> {
     OrNot(&'a [u64]),
 }
 
-/// Runs the steps over a block of N words from `at` on.
+/// Runs the steps over a block of N words from `at` on, from what is found so far.
 #[inline(always)]
-fn block<const N: usize>(steps: &[Step], at: usize) -> [u64; N] {
-    let mut found = [u64::MAX; N];
+fn block<const N: usize>(steps: &[Step], at: usize, mut found: [u64; N]) -> [u64; N] {
     for step in steps {
         match step {
             Step::And(words) => found.iter_mut().zip(&words[at..at + N]).for_each(|(f, w)| *f &= w),
@@ -59,18 +62,28 @@ fn block<const N: usize>(steps: &[Step], at: usize) -> [u64; N] {
     found
 }
 
+/// Runs the steps over the words from `at` on, block by block, from all ones where they are the first.
 #[inline(never)]
-fn run(steps: &[Step], present: &[u64]) -> Words {
-    let mut out = vec![0; present.len()];
-    let whole = present.len() / BLOCK * BLOCK;
-    for at in (0..whole).step_by(BLOCK) {
-        let found = block::<BLOCK>(steps, at);
-        for k in 0..BLOCK {
-            out[at + k] = present[at + k] & found[k];
-        }
+fn run_group(steps: &[Step], at: usize, out: &mut [u64], first: bool) {
+    let (blocks, rest) = out.as_chunks_mut::<BLOCK>();
+    for (k, out) in blocks.iter_mut().enumerate() {
+        *out = block::<BLOCK>(steps, at + BLOCK * k, if first { [u64::MAX; BLOCK] } else { *out });
     }
-    for at in whole..present.len() {
-        out[at] = present[at] & block::<1>(steps, at)[0];
+    for (k, out) in rest.iter_mut().enumerate() {
+        [*out] = block::<1>(steps, at + BLOCK * blocks.len() + k, [if first { u64::MAX } else { *out }]);
+    }
+}
+
+/// Runs the steps over all words, and leaves those of the numbers. So many bitmaps that the processor no longer reads ahead in
+/// all of them are taken a few at a time, over words that stay in the first cache.
+fn run<'a>(mut steps: Vec<Step<'a>>, present: &'a [u64]) -> Words {
+    steps.push(Step::And(present));
+    let mut out = vec![0; present.len()];
+    let group = if steps.len() <= MOST_READ { MOST_READ } else { FEW_READ };
+    for (k, out) in out.chunks_mut(CHUNK).enumerate() {
+        for (g, steps) in steps.chunks(group).enumerate() {
+            run_group(steps, CHUNK * k, out, g == 0);
+        }
     }
     out
 }
@@ -87,9 +100,9 @@ fn count_and(a: &[u64], b: &[u64]) -> u64 {
 #[inline(never)]
 fn weigh(weighted: &[(u64, &[u64])], found: &[u64]) -> u128 {
     let mut counts = vec![0; weighted.len()];
-    for (k, block) in found.chunks(COUNTED).enumerate() {
+    for (k, block) in found.chunks(CHUNK).enumerate() {
         for (count, (_, bitmap)) in counts.iter_mut().zip(weighted) {
-            *count += count_and(&bitmap[COUNTED * k..], block);
+            *count += count_and(&bitmap[CHUNK * k..], block);
         }
     }
     counts.iter().zip(weighted).map(|(count, (weight, _))| u128::from(*count) * u128::from(*weight)).sum()
@@ -157,14 +170,14 @@ impl Column for Slices {
         let steps: Vec<Step> = (0..WIDTH)
             .map(|i| if c >> i & 1 == 1 { Step::OrNot(&self.slices[i]) } else { Step::AndNot(&self.slices[i]) })
             .collect();
-        run(&steps, &self.present)
+        run(steps, &self.present)
     }
 
     fn eq(&self, c: u64) -> Words {
         let steps: Vec<Step> = (0..WIDTH)
             .map(|i| if c >> i & 1 == 1 { Step::And(&self.slices[i]) } else { Step::AndNot(&self.slices[i]) })
             .collect();
-        run(&steps, &self.present)
+        run(steps, &self.present)
     }
 
     fn sum(&self, found: &[u64]) -> u128 {
@@ -255,11 +268,11 @@ impl Column for Range {
     }
 
     fn le(&self, c: u64) -> Words {
-        run(&self.steps(c, Step::Or), &self.present)
+        run(self.steps(c, Step::Or), &self.present)
     }
 
     fn eq(&self, c: u64) -> Words {
-        run(&self.steps(c, Step::AndNot), &self.present)
+        run(self.steps(c, Step::AndNot), &self.present)
     }
 
     fn sum(&self, found: &[u64]) -> u128 {
@@ -327,12 +340,12 @@ impl Column for Equality {
                 steps.extend(bitmaps[d + 1..].iter().map(|bitmap| Step::AndNot(bitmap)));
             }
         }
-        run(&steps, &self.present)
+        run(steps, &self.present)
     }
 
     fn eq(&self, c: u64) -> Words {
         let steps: Vec<Step> = self.bitmaps.iter().enumerate().map(|(i, bitmaps)| Step::And(&bitmaps[digit(c, i)])).collect();
-        run(&steps, &self.present)
+        run(steps, &self.present)
     }
 
     fn sum(&self, found: &[u64]) -> u128 {
@@ -447,7 +460,7 @@ fn measure<C: Column>(mut column: C, n: u64, samples: u32) {
 }
 
 fn main() {
-    for (n, samples) in [(1_000_000, 40), (16_000_000, 5)] {
+    for (n, samples) in [(1_000_000, 200), (16_000_000, 20)] {
         measure(Slices::new(n), n, samples);
         measure(Range::new(n), n, samples);
         measure(Equality::new(n), n, samples);
