@@ -1,12 +1,11 @@
-//! The peer of columns.rattle in Rust: the same columns and comparisons, written by hand.
+//! The peer of columns.rattle in Rust: the same columns, comparisons and totals, written by hand.
 //!
 //! Built by `rustc -C opt-level=3 -C target-cpu=x86-64-v2`. A comparison goes over the rows in blocks of words that stay in
-//! registers, reads each bitmap that it needs once, and writes its result once. The scan tests each number of a plain list.
+//! registers, reads each bitmap that it needs once, and writes its result once. A sum takes the found set in blocks that stay
+//! in the first cache. A median narrows the found set and takes the next count in one pass. The scan goes over a plain list.
 
 use std::hint::black_box;
 use std::time::Instant;
-
-const SAMPLES: u32 = 5;
 
 /// A multiplier that spreads a row's number over the values.
 const SPREAD: u64 = 0x9E37_79B9_7F4A_7C15;
@@ -15,8 +14,18 @@ const WIDTH: usize = 20;
 const BASE: u64 = 32;
 const COMPONENTS: usize = 4;
 
-/// The words of a block: eight registers of 128 bits.
+/// Every third bit of a word.
+const THIRDS: u64 = 0x9249_2492_4924_9249;
+
+/// The words of a block of a comparison: eight registers of 128 bits.
 const BLOCK: usize = 16;
+
+/// The words that stay in the first cache.
+const CHUNK: usize = 1024;
+
+/// The most bitmaps that are read side by side, and how many are where there are more.
+const MOST_READ: usize = 24;
+const FEW_READ: usize = 8;
 
 type Words = Vec<u64>;
 
@@ -39,10 +48,9 @@ enum Step<'a> {
     OrNot(&'a [u64]),
 }
 
-/// Runs the steps over a block of N words from `at` on.
+/// Runs the steps over a block of N words from `at` on, from what is found so far.
 #[inline(always)]
-fn block<const N: usize>(steps: &[Step], at: usize) -> [u64; N] {
-    let mut found = [u64::MAX; N];
+fn block<const N: usize>(steps: &[Step], at: usize, mut found: [u64; N]) -> [u64; N] {
     for step in steps {
         match step {
             Step::And(words) => found.iter_mut().zip(&words[at..at + N]).for_each(|(f, w)| *f &= w),
@@ -54,20 +62,73 @@ fn block<const N: usize>(steps: &[Step], at: usize) -> [u64; N] {
     found
 }
 
+/// Runs the steps over the words from `at` on, block by block, from all ones where they are the first.
 #[inline(never)]
-fn run(steps: &[Step], present: &[u64]) -> Words {
+fn run_group(steps: &[Step], at: usize, out: &mut [u64], first: bool) {
+    let (blocks, rest) = out.as_chunks_mut::<BLOCK>();
+    for (k, out) in blocks.iter_mut().enumerate() {
+        *out = block::<BLOCK>(steps, at + BLOCK * k, if first { [u64::MAX; BLOCK] } else { *out });
+    }
+    for (k, out) in rest.iter_mut().enumerate() {
+        [*out] = block::<1>(steps, at + BLOCK * blocks.len() + k, [if first { u64::MAX } else { *out }]);
+    }
+}
+
+/// Runs the steps over all words, and leaves those of the numbers. So many bitmaps that the processor no longer reads ahead in
+/// all of them are taken a few at a time, over words that stay in the first cache.
+fn run<'a>(mut steps: Vec<Step<'a>>, present: &'a [u64]) -> Words {
+    steps.push(Step::And(present));
     let mut out = vec![0; present.len()];
-    let whole = present.len() / BLOCK * BLOCK;
-    for at in (0..whole).step_by(BLOCK) {
-        let found = block::<BLOCK>(steps, at);
-        for k in 0..BLOCK {
-            out[at + k] = present[at + k] & found[k];
+    let group = if steps.len() <= MOST_READ { MOST_READ } else { FEW_READ };
+    for (k, out) in out.chunks_mut(CHUNK).enumerate() {
+        for (g, steps) in steps.chunks(group).enumerate() {
+            run_group(steps, CHUNK * k, out, g == 0);
         }
     }
-    for at in whole..present.len() {
-        out[at] = present[at] & block::<1>(steps, at)[0];
-    }
     out
+}
+
+fn count(words: &[u64]) -> u64 {
+    words.iter().map(|word| u64::from(word.count_ones())).sum()
+}
+
+fn count_and(a: &[u64], b: &[u64]) -> u64 {
+    a.iter().zip(b).map(|(a, b)| u64::from((a & b).count_ones())).sum()
+}
+
+/// The sum over the bitmaps of the found rows that each has, times its weight.
+#[inline(never)]
+fn weigh(weighted: &[(u64, &[u64])], found: &[u64]) -> u128 {
+    let mut counts = vec![0; weighted.len()];
+    for (k, block) in found.chunks(CHUNK).enumerate() {
+        for (count, (_, bitmap)) in counts.iter_mut().zip(weighted) {
+            *count += count_and(&bitmap[CHUNK * k..], block);
+        }
+    }
+    counts.iter().zip(weighted).map(|(count, (weight, _))| u128::from(*count) * u128::from(*weight)).sum()
+}
+
+/// Makes each word of the chosen rows anew, and counts those that are in the next bitmap too.
+#[inline(always)]
+fn pass(chosen: &mut [u64], next: &[u64], word: impl Fn(usize, u64) -> u64) -> u64 {
+    let mut ones = 0;
+    for (k, (chosen, next)) in chosen.iter_mut().zip(next).enumerate() {
+        *chosen = word(k, *chosen);
+        ones += u64::from((*chosen & next).count_ones());
+    }
+    ones
+}
+
+/// Leaves the chosen rows that are in `kept` and not in `dropped`, and counts those that are in the next bitmap too.
+#[inline(never)]
+fn narrow(chosen: &mut [u64], kept: Option<&[u64]>, dropped: Option<&[u64]>, next: &[u64]) -> u64 {
+    let n = chosen.len();
+    match (kept.map(|a| &a[..n]), dropped.map(|b| &b[..n])) {
+        (Some(a), Some(b)) => pass(chosen, next, |k, word| word & a[k] & !b[k]),
+        (Some(a), None) => pass(chosen, next, |k, word| word & a[k]),
+        (None, Some(b)) => pass(chosen, next, |k, word| word & !b[k]),
+        (None, None) => count_and(chosen, next),
+    }
 }
 
 trait Column {
@@ -75,6 +136,8 @@ trait Column {
     fn push(&mut self, row: u64);
     fn le(&self, c: u64) -> Words;
     fn eq(&self, c: u64) -> Words;
+    fn sum(&self, found: &[u64]) -> u128;
+    fn median(&self, found: &[u64]) -> u64;
 }
 
 struct Slices {
@@ -107,14 +170,37 @@ impl Column for Slices {
         let steps: Vec<Step> = (0..WIDTH)
             .map(|i| if c >> i & 1 == 1 { Step::OrNot(&self.slices[i]) } else { Step::AndNot(&self.slices[i]) })
             .collect();
-        run(&steps, &self.present)
+        run(steps, &self.present)
     }
 
     fn eq(&self, c: u64) -> Words {
         let steps: Vec<Step> = (0..WIDTH)
             .map(|i| if c >> i & 1 == 1 { Step::And(&self.slices[i]) } else { Step::AndNot(&self.slices[i]) })
             .collect();
-        run(&steps, &self.present)
+        run(steps, &self.present)
+    }
+
+    fn sum(&self, found: &[u64]) -> u128 {
+        let weighted: Vec<(u64, &[u64])> = self.slices.iter().enumerate().map(|(i, slice)| (1 << i, &slice[..])).collect();
+        weigh(&weighted, found)
+    }
+
+    fn median(&self, found: &[u64]) -> u64 {
+        let mut chosen = found.to_vec();
+        let mut ones = narrow(&mut chosen, Some(&self.present), None, &self.slices[WIDTH - 1]);
+        let mut left = count(&chosen);
+        let (mut rank, mut median) = (left.saturating_sub(1) / 2, 0);
+        for i in (0..WIDTH).rev() {
+            let slice = &self.slices[i][..];
+            let next = &self.slices[i.saturating_sub(1)];
+            let zeros = left - ones;
+            let is_one = rank >= zeros;
+            let (kept, dropped) = if is_one { (Some(slice), None) } else { (None, Some(slice)) };
+            (rank, left) = if is_one { (rank - zeros, ones) } else { (rank, zeros) };
+            median = median * 2 + u64::from(is_one);
+            ones = if i > 0 { narrow(&mut chosen, kept, dropped, next) } else { 0 };
+        }
+        median
     }
 }
 
@@ -134,6 +220,38 @@ impl Range {
     }
 }
 
+impl Range {
+    /// The steps of a comparison, of which `below` is the one by the digits that are below the constant's.
+    fn steps<'a>(&'a self, c: u64, below: fn(&'a [u64]) -> Step<'a>) -> Vec<Step<'a>> {
+        let mut steps = Vec::new();
+        for (i, bitmaps) in self.bitmaps.iter().enumerate() {
+            let d = digit(c, i);
+            if d < BASE as usize - 1 {
+                steps.push(Step::And(&bitmaps[d]));
+            }
+            if d > 0 {
+                steps.push(below(&bitmaps[d - 1]));
+            }
+        }
+        steps
+    }
+
+    /// The digit of the chosen row of the rank, and how many rows have a lower one, by halving. `upto` is the first count.
+    fn find(bitmaps: &[Words], chosen: &[u64], rank: u64, upto: u64) -> (usize, u64) {
+        let (mut low, mut high, mut below, mut first) = (0, BASE as usize - 1, 0, Some(upto));
+        while low < high {
+            let middle = (low + high) / 2;
+            let upto = first.take().unwrap_or_else(|| count_and(chosen, &bitmaps[middle]));
+            if rank < upto {
+                high = middle;
+            } else {
+                (low, below) = (middle + 1, upto);
+            }
+        }
+        (low, below)
+    }
+}
+
 impl Column for Range {
     fn name(&self) -> &'static str {
         "range"
@@ -150,31 +268,38 @@ impl Column for Range {
     }
 
     fn le(&self, c: u64) -> Words {
-        let mut steps = Vec::new();
-        for (i, bitmaps) in self.bitmaps.iter().enumerate() {
-            let d = digit(c, i);
-            if d < BASE as usize - 1 {
-                steps.push(Step::And(&bitmaps[d]));
-            }
-            if d > 0 {
-                steps.push(Step::Or(&bitmaps[d - 1]));
-            }
-        }
-        run(&steps, &self.present)
+        run(self.steps(c, Step::Or), &self.present)
     }
 
     fn eq(&self, c: u64) -> Words {
-        let mut steps = Vec::new();
+        run(self.steps(c, Step::AndNot), &self.present)
+    }
+
+    fn sum(&self, found: &[u64]) -> u128 {
+        // each bitmap that a found row is not in adds one weight to its number
+        let mut weighted = Vec::new();
         for (i, bitmaps) in self.bitmaps.iter().enumerate() {
-            let d = digit(c, i);
-            if d < BASE as usize - 1 {
-                steps.push(Step::And(&bitmaps[d]));
-            }
-            if d > 0 {
-                steps.push(Step::AndNot(&bitmaps[d - 1]));
+            weighted.extend(bitmaps.iter().map(|bitmap| (1 << (5 * i), &bitmap[..])));
+        }
+        u128::from(count(found)) * u128::from((1u64 << WIDTH) - 1) - weigh(&weighted, found)
+    }
+
+    fn median(&self, found: &[u64]) -> u64 {
+        let half = BASE as usize / 2 - 1;
+        let mut chosen = found.to_vec();
+        let mut upto = narrow(&mut chosen, Some(&self.present), None, &self.bitmaps[COMPONENTS - 1][half]);
+        let (mut rank, mut median) = (count(&chosen).saturating_sub(1) / 2, 0);
+        for i in (0..COMPONENTS).rev() {
+            let bitmaps = &self.bitmaps[i];
+            let (d, below) = Range::find(bitmaps, &chosen, rank, upto);
+            median = median * BASE + d as u64;
+            rank -= below;
+            if i > 0 {
+                let dropped = if d > 0 { Some(&bitmaps[d - 1][..]) } else { None };
+                upto = narrow(&mut chosen, bitmaps.get(d).map(|bitmap| &bitmap[..]), dropped, &self.bitmaps[i - 1][half]);
             }
         }
-        run(&steps, &self.present)
+        median
     }
 }
 
@@ -215,12 +340,40 @@ impl Column for Equality {
                 steps.extend(bitmaps[d + 1..].iter().map(|bitmap| Step::AndNot(bitmap)));
             }
         }
-        run(&steps, &self.present)
+        run(steps, &self.present)
     }
 
     fn eq(&self, c: u64) -> Words {
         let steps: Vec<Step> = self.bitmaps.iter().enumerate().map(|(i, bitmaps)| Step::And(&bitmaps[digit(c, i)])).collect();
-        run(&steps, &self.present)
+        run(steps, &self.present)
+    }
+
+    fn sum(&self, found: &[u64]) -> u128 {
+        let mut weighted = Vec::new();
+        for (i, bitmaps) in self.bitmaps.iter().enumerate() {
+            weighted.extend((1..BASE).map(|d| (d << (5 * i), &bitmaps[d as usize][..])));
+        }
+        weigh(&weighted, found)
+    }
+
+    fn median(&self, found: &[u64]) -> u64 {
+        let mut chosen = found.to_vec();
+        let mut ones = narrow(&mut chosen, Some(&self.present), None, &self.bitmaps[COMPONENTS - 1][0]);
+        let (mut rank, mut median) = (count(&chosen).saturating_sub(1) / 2, 0);
+        for i in (0..COMPONENTS).rev() {
+            let bitmaps = &self.bitmaps[i];
+            let mut d = 0;
+            while rank >= ones && d + 1 < BASE as usize {
+                rank -= ones;
+                d += 1;
+                ones = count_and(&chosen, &bitmaps[d]);
+            }
+            median = median * BASE + d as u64;
+            if i > 0 {
+                ones = narrow(&mut chosen, Some(&bitmaps[d]), None, &self.bitmaps[i - 1][0]);
+            }
+        }
+        median
     }
 }
 
@@ -250,34 +403,67 @@ impl Column for Scan {
         let c = c as u32;
         scan(&self.0, |v| v == c)
     }
-}
 
-/// Fills the column, times both comparisons, and prints a line for each.
-fn measure<C: Column>(mut column: C, n: u64, turns: u32) {
-    let start = Instant::now();
-    (0..n).for_each(|row| column.push(black_box(row)));
-    println!("{} build {n} 1 {} 0", column.name(), start.elapsed().as_nanos());
-    for (name, le) in [("le", true), ("eq", false)] {
-        let mut best = u128::MAX;
-        let mut ones = 0;
-        for _ in 0..SAMPLES {
-            let start = Instant::now();
-            for _ in 0..turns {
-                let c = black_box(349_526);
-                let found = if le { column.le(c) } else { column.eq(c) };
-                ones = found.iter().map(|word| u64::from(word.count_ones())).sum::<u64>();
-            }
-            best = best.min(start.elapsed().as_nanos());
+    fn sum(&self, found: &[u64]) -> u128 {
+        let mut total = 0;
+        for (rows, word) in self.0.chunks(64).zip(found) {
+            total += rows.iter().enumerate().map(|(i, v)| u64::from(*v) & (word >> i & 1).wrapping_neg()).sum::<u64>();
         }
-        println!("{} {name} {n} {turns} {best} {ones}", column.name());
+        u128::from(total)
+    }
+
+    fn median(&self, found: &[u64]) -> u64 {
+        let mut values = Vec::with_capacity(count(found) as usize);
+        for (rows, word) in self.0.chunks(64).zip(found) {
+            values.extend(rows.iter().enumerate().filter(|(i, _)| word >> i & 1 == 1).map(|(_, v)| *v));
+        }
+        let middle = values.len().saturating_sub(1) / 2;
+        if values.is_empty() { 0 } else { u64::from(*values.select_nth_unstable(middle).1) }
     }
 }
 
+/// Every third of so many rows.
+fn thirds(n: u64) -> Words {
+    let mut words: Words = (0..n.div_ceil(64)).map(|at| THIRDS << (2 * at % 3)).collect();
+    if let Some(last) = words.last_mut().filter(|_| n % 64 > 0) {
+        *last &= (1 << (n % 64)) - 1;
+    }
+    words
+}
+
+/// Times so many calls, and prints the line of the best, with a number that a wrong answer would hardly have.
+fn time<A>(form: &str, question: &str, n: u64, samples: u32, ask: impl Fn() -> A, checksum: impl Fn(&A) -> u128) {
+    let mut best = u128::MAX;
+    let mut sum = 0;
+    for _ in 0..samples {
+        let start = Instant::now();
+        let answer = black_box(ask());
+        best = best.min(start.elapsed().as_nanos());
+        sum = checksum(&answer);
+    }
+    println!("{form}.{question} {n} 1 {best} {sum}");
+}
+
+/// Fills the column, asks it each question, and prints a line for each.
+fn measure<C: Column>(mut column: C, n: u64, samples: u32) {
+    let form = column.name();
+    let start = Instant::now();
+    (0..n).for_each(|row| column.push(black_box(row)));
+    println!("{form}.build {n} 1 {} {n}", start.elapsed().as_nanos());
+    let found = thirds(n);
+    let (column, found, c) = (&column, &found[..], (1 << WIDTH) / 3 + 1);
+    let ones = |rows: &Words| u128::from(count(rows));
+    time(form, "le", n, samples, || column.le(black_box(c)), ones);
+    time(form, "eq", n, samples, || column.eq(black_box(c)), ones);
+    time(form, "sum", n, samples, || column.sum(black_box(found)), |sum| *sum);
+    time(form, "median", n, samples, || column.median(black_box(found)), |median| u128::from(*median));
+}
+
 fn main() {
-    for (n, turns) in [(1_000_000, 40), (16_000_000, 4)] {
-        measure(Slices::new(n), n, turns);
-        measure(Range::new(n), n, turns);
-        measure(Equality::new(n), n, turns);
-        measure(Scan(Vec::with_capacity(n as usize)), n, turns);
+    for (n, samples) in [(1_000_000, 200), (16_000_000, 20)] {
+        measure(Slices::new(n), n, samples);
+        measure(Range::new(n), n, samples);
+        measure(Equality::new(n), n, samples);
+        measure(Scan(Vec::with_capacity(n as usize)), n, samples);
     }
 }
