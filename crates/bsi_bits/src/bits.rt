@@ -47,7 +47,7 @@ impl Bits {
         }
     }
 
-    /// A vector of `n` bits, each of them `bit`.
+    /// A vector of `n` bits, at most 2^32, each of them `bit`.
     pub fn filled(alloc: Global, n: u64, bit: bool) -> Result<Bits, NoMemory>
         requires { n ≤ 2 ^ 32 }
         ensures { IfOk result (λ b. b.bits ≡ replicate n bit) }

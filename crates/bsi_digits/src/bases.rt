@@ -65,7 +65,8 @@ impl Bases {
         }
     }
 
-    /// Makes `w` bases of 2, under which the digits of a number are its binary digits.
+    /// Makes `w` bases of 2, from 1 to 63, under which the digits of a number are its binary digits. Another `w` is refused
+    /// as `new` refuses that list, before memory is asked for.
     pub fn twos(alloc: Global, w: u32) -> Result<Bases, BasesError>
         ensures empty { IsErrOf result BasesError.Empty ↔ (w ≡ 0) }
         ensures too_many { IsErrOf result BasesError.TooMany ↔ (63 < w) }
