@@ -59,7 +59,7 @@ impl Session {
         }
     }
 
-    /// Does an event of the machine.
+    /// Does a record from `begin` on.
     fn run(&mut self, fields: &ByteRecord) -> Answer
         ensures { IfSome self.old.machine (λ machine. IsStep self.old machine (fields_of fields.now) result self.new) }
     {
