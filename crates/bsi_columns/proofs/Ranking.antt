@@ -72,10 +72,10 @@ none_from_count p xs none = All-from_get_or (λ n. p n ≡ false) xs 0 (λ i wit
 below_or_same : (n m : ℕ) → cond (nat_le n m) 1 0 ≡ cond (nat_lt n m) 1 0 + cond (nat_eq n m) 1 0
 below_or_same n m = grind (arith, nat_tests)
 
-at_most_from_not_below : (n m : ℕ) → nat_lt n m ≡ false → m ≤ n
+at_most_from_not_below : (n m : ℕ) → nat_lt n m ≡ false → nat_le m n ≡ true
 at_most_from_not_below n m test = grind (arith, nat_tests)
 
-at_most_from_not_above : (n m : ℕ) → not (nat_le n m) ≡ false → n ≤ m
+at_most_from_not_above : (n m : ℕ) → not (nat_le n m) ≡ false → nat_le n m ≡ true
 at_most_from_not_above n m test = grind (arith, nat_tests)
 
 not_below_zero : (n : ℕ) → nat_lt n 0 ≡ false

@@ -1,6 +1,7 @@
 pub mod AnyRows
 pub mod Blocks
 pub mod Decomposed
+pub mod Orders
 pub mod Rows
 pub mod SliceTests
 pub mod Slices
