@@ -1,6 +1,7 @@
 pub mod Adding
 pub mod Answering
 pub mod BlockAnswers
+pub mod CallerLemmas
 pub mod ComponentLists
 pub mod EntriesFrom
 pub mod Ranking

@@ -17,7 +17,7 @@ use Rattle.bsi_columns.specs.Totals.{numbers_at, IsRanked, IsLeast, IsGreatest, 
 
 -- ---- counts of numbers that pass a test
 
-count_cons : {X : Type 0} (p : X → Bool) (x : X) (xs : List X) → count_by p (x ∷ xs) ≡ cond (p x) 1 0 + count_by p xs
+pub count_cons : {X : Type 0} (p : X → Bool) (x : X) (xs : List X) → count_by p (x ∷ xs) ≡ cond (p x) 1 0 + count_by p xs
 count_cons p x xs = sum_by-cons (λ y. cond (p y) 1 0) x xs
 
 -- a test that one of two tests passes, and never both, passes as often as both do
