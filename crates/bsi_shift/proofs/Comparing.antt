@@ -8,10 +8,10 @@ use mir.Syntax.{w64, w128}
 use mir.Val.{SFits}
 use Rattle.std.proofs.lemmas.Bool.Decides.{nat_tests}
 use Rattle.std.proofs.lemmas.Int.{ints}
-use Rattle.bsi_columns.specs.Orders.{compares_by}
-use Rattle.bsi_columns.specs.Rows.{number_order}
-use Rattle.bsi_columns.specs.declared.column.Op.{Op}
-use Rattle.bsi_columns.specs.declared.column.Op.TheVariants.{Eq, Ne, Lt, Le, Gt, Ge}
+use Rattle.bsi_slices.specs.Orders.{compares_by}
+use Rattle.bsi_slices.specs.Rows.{number_order}
+use Rattle.bsi_slices.specs.declared.column.Op.{Op}
+use Rattle.bsi_slices.specs.declared.column.Op.TheVariants.{Eq, Ne, Lt, Le, Gt, Ge}
 use Rattle.bsi_shift.specs.Shifted.{number_of}
 use Rattle.bsi_shift.specs.WholeNumbers.{whole_order}
 

@@ -6,10 +6,10 @@ use Rattle.std.proofs.lemmas.Int.{ints}
 use Rattle.std.proofs.lemmas.List.{length-map, map-append}
 use Rattle.std.proofs.lemmas.List.Elements.{All-head, All-tail, All-map, All-weaker}
 use Rattle.bsi_columns.specs.AnyRows.{any_entries}
-use Rattle.bsi_columns.specs.Orders.{compares_by, values_at}
-use Rattle.bsi_columns.specs.Rows.{number_or_zero, number_order, selects}
-use Rattle.bsi_columns.specs.Totals.{numbers_at}
-use Rattle.bsi_columns.specs.declared.column.Op.{Op}
+use Rattle.bsi_slices.specs.Orders.{compares_by, values_at}
+use Rattle.bsi_slices.specs.Rows.{number_or_zero, number_order, selects}
+use Rattle.bsi_slices.specs.Totals.{numbers_at}
+use Rattle.bsi_slices.specs.declared.column.Op.{Op}
 use Rattle.bsi_shift.specs.Shifted.{OffsetColumn, shifted_entries, number_of, IsInRange}
 use Rattle.bsi_shift.specs.WholeNumbers.{whole_order, signed_selects}
 

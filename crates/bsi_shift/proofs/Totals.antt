@@ -10,9 +10,9 @@ use Rattle.std.proofs.lemmas.List.Elements.{All-nil, All-cons, All-head, All-tai
 use Rattle.std.proofs.lemmas.List.Sums.{sum_by-cons}
 use mir.Syntax.{w64}
 use mir.Val.{SFits}
-use Rattle.bsi_columns.proofs.CallerLemmas.{count_cons}
-use Rattle.bsi_columns.specs.Rows.{number_or_zero}
-use Rattle.bsi_columns.specs.Totals.{numbers_at, IsLeastOf, IsGreatestOf, IsMedianOf}
+use Rattle.bsi_slices.proofs.CallerLemmas.{count_cons}
+use Rattle.bsi_slices.specs.Rows.{number_or_zero}
+use Rattle.bsi_slices.specs.Totals.{numbers_at, IsLeastOf, IsGreatestOf, IsMedianOf}
 use Rattle.bsi_shift.specs.Shifted.{number_of}
 use Rattle.bsi_shift.specs.WholeNumbers.{signed_sum, IsSignedLeastOf, IsSignedGreatestOf, IsSignedMedianOf}
 

@@ -3,7 +3,7 @@ use Rattle.std.specs.Prelude.{◌≡◌, ℕ, ◌<◌, ◌≤◌, ◌^◌, All, 
 use Rattle.std.specs.Option.{option_map}
 use Rattle.bsi_columns.specs.declared.any.AnyColumn.{AnyColumn}
 use Rattle.bsi_columns.specs.AnyRows.{any_entries, any_room, any_size}
-use Rattle.bsi_columns.specs.Rows.{number_or_zero}
+use Rattle.bsi_slices.specs.Rows.{number_or_zero}
 
 -- what a contract sees of it: the column of stored numbers, and the offset
 pub record OffsetColumn : Type 0 where

@@ -1,7 +1,7 @@
 -- Whole numbers in their order, and what comparisons and totals say of them.
 use Rattle.std.specs.Prelude.{ℤ, pos, ◌+ℤ◌, Bool, List, [], ◌∷◌, Option, ◌&&◌, int_lt, int_le}
-use Rattle.bsi_columns.specs.Orders.{Order, selects_by, IsLeastBy, IsGreatestBy, IsLowerMedianBy, IsNoneOr}
-use Rattle.bsi_columns.specs.declared.column.Op.{Op}
+use Rattle.bsi_slices.specs.Orders.{Order, selects_by, IsLeastBy, IsGreatestBy, IsLowerMedianBy, IsNoneOr}
+use Rattle.bsi_slices.specs.declared.column.Op.{Op}
 
 -- the whole numbers in their order
 abbrev pub whole_order : Order ℤ

@@ -3,8 +3,8 @@
 ghost use Rattle.std.specs.Prelude.{◌≡◌, ℕ, ℤ, pos, neg_ℤ, ◌+ℤ◌, ◌*ℤ◌, ◌≤ℤ◌, ◌<ℤ◌, ◌<◌, ◌≤◌, ◌^◌, [], ◌∷◌, ◌++◌, All, length, map, is_none, is_some, IsTrue, IsOk, IfOk, IfSome, OnOk};
 ghost use Rattle.std.specs.Option.{option_map};
 ghost use Rattle.bsi_columns.specs.AnyRows.{any_entries, any_size, any_bases, IsSameForm};
-ghost use Rattle.bsi_columns.specs.Orders.{values_at, compares_by};
-ghost use Rattle.bsi_columns.specs.Rows.{number_order};
+ghost use Rattle.bsi_slices.specs.Orders.{values_at, compares_by};
+ghost use Rattle.bsi_slices.specs.Rows.{number_order};
 ghost use Rattle.bsi_shift.specs.Shifted.{OffsetColumn, shifted_entries, shifted_size, shifted_room, number_of, IsInRange};
 ghost use Rattle.bsi_shift.specs.WholeNumbers.{whole_order, signed_selects, signed_sum, IsSignedLeastOf, IsSignedGreatestOf, IsSignedMedianOf};
 

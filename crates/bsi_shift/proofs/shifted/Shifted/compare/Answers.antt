@@ -3,8 +3,8 @@ use mir.Syntax.{w64, w128}
 use Rattle.std.proofs.lemmas.Int.{to_z-of_z}
 use Rattle.std.proofs.lemmas.Result.{IfOk-weaker}
 use Rattle.bsi_columns.specs.AnyRows.{any_entries}
-use Rattle.bsi_columns.specs.Orders.{compares_by}
-use Rattle.bsi_columns.specs.Rows.{number_order, selects}
+use Rattle.bsi_slices.specs.Orders.{compares_by}
+use Rattle.bsi_slices.specs.Rows.{number_order, selects}
 use Rattle.bsi_shift.specs.Shifted.{number_of, shifted_entries}
 use Rattle.bsi_shift.specs.WholeNumbers.{whole_order, signed_selects}
 use Rattle.bsi_shift.proofs.Shifting.{entries_from, shifted_entries-is, selected_from}

@@ -4,8 +4,8 @@ use Rattle.std.specs.Prelude.{◌<◌, ◌<ℤ◌, ◌^◌, pos, IfSome}
 use Rattle.std.proofs.lemmas.Int.{to_z-of_z}
 use mir.Syntax.{w64}
 use Rattle.bsi_columns.specs.AnyRows.{any_entries}
-use Rattle.bsi_columns.specs.Orders.{values_at}
-use Rattle.bsi_columns.specs.Totals.{numbers_at}
+use Rattle.bsi_slices.specs.Orders.{values_at}
+use Rattle.bsi_slices.specs.Totals.{numbers_at}
 use Rattle.bsi_shift.specs.Shifted.{shifted_entries, number_of}
 use Rattle.bsi_shift.specs.WholeNumbers.{IsSignedLeastOf}
 use Rattle.bsi_shift.proofs.Shifting.{length-shifted_entries, values_at-shifted_entries, fits}
