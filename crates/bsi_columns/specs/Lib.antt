@@ -1,12 +1,12 @@
 pub mod AnyRows
-pub mod Blocks
 pub mod Decomposed
-pub mod Rows
-pub mod SliceTests
-pub mod Slices
 pub mod Tests
-pub mod Totals
 pub use Rattle.bsi_components.specs.Bitmaps
 pub use Rattle.bsi_components.specs.Component
 pub use Rattle.bsi_components.specs.Equality
 pub use Rattle.bsi_components.specs.Range
+pub use Rattle.bsi_slices.specs.Blocks
+pub use Rattle.bsi_slices.specs.Rows
+pub use Rattle.bsi_slices.specs.SliceTests
+pub use Rattle.bsi_slices.specs.Slices
+pub use Rattle.bsi_slices.specs.Totals

@@ -1,0 +1,5 @@
+pub mod Blocks
+pub mod Rows
+pub mod SliceTests
+pub mod Slices
+pub mod Totals
