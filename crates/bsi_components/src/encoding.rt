@@ -3,6 +3,7 @@
 ghost use Rattle.std.specs.Prelude.{◌≡◌, ℕ, ◌+◌, ◌*◌, ◌/◌, ◌^◌, ◌≤◌, ◌<◌, ◌==◌, ◌&&◌, Bool, List, [], ◌∷◌, ◌++◌, length, map, sum, count_by, slice_index, nat_lt, nat_le, IsTrue, IfOk, OnOk, IsOk};
 ghost use Rattle.std.specs.List.{items_where_true};
 ghost use Rattle.std.specs.Bool.{OnTrue, OnFalse};
+ghost use Rattle.std.specs.Simd.Lanes.{zip2};
 ghost use Rattle.bsi_bits.specs.Packed.{bit_of};
 ghost use Rattle.bsi_components.specs.Component.{at_most_from, count_where};
 
@@ -123,6 +124,18 @@ pub trait Encoding: Drop {
             digit: low,
             rank: rank - below,
         }
+    }
+
+    /// Keeps of a set of rows those whose digit is `d`. What `scratch`, a vector of as many bits, is left with is left open.
+    fn keep_digit(&self, d: u32, scratch: &mut Bits, rows: &mut Bits)
+        requires below { d < base_of self.now }
+        requires scratch { length (digits self.now) ≡ length scratch.old.bits }
+        requires same { length (digits self.now) ≡ length rows.old.bits }
+        ensures rows { rows.new.bits ≡ zip2 (λ f v. f && (v == d)) rows.old.bits (digits self.now) }
+        ensures scratch { length scratch.new.bits ≡ length scratch.old.bits }
+    {
+        self.eq_into(d, scratch);
+        rows.and_with(scratch);
     }
 
     /// A second component of the same digits.

@@ -206,6 +206,14 @@ impl Encoding for EqualityComponent {
         }
     }
 
+    fn keep_digit(&self, d: u32, _scratch: &mut Bits, rows: &mut Bits) {
+        if d == 0 && self.base() == 2 {
+            rows.and_not_with(self.bitmap(1));
+        } else {
+            rows.and_with(self.bitmap(d));
+        }
+    }
+
     fn copy(&self) -> Result<Self, NoMemory> {
         let bitmaps = copy_each(&self.bitmaps)?;
         Ok(EqualityComponent {

@@ -137,6 +137,17 @@ impl Encoding for RangeComponent {
         }
     }
 
+    fn keep_digit(&self, d: u32, _scratch: &mut Bits, rows: &mut Bits) {
+        if d == self.top() {
+            rows.and_not_with(self.bitmap(d - 1));
+        } else if d > 0 {
+            rows.and_with(self.bitmap(d));
+            rows.and_not_with(self.bitmap(d - 1));
+        } else {
+            rows.and_with(self.bitmap(0));
+        }
+    }
+
     fn copy(&self) -> Result<Self, NoMemory> {
         let bitmaps = copy_each(&self.bitmaps)?;
         Ok(RangeComponent {
@@ -153,13 +164,12 @@ impl Encoding for RangeComponent {
         ensures bits { OnTrue result ((p : ℕ) → p < 64 * length block.old → 64 * at + p < length self.now.digits →
             bit_of block.new p ≡ (bit_of block.old p && (slice_index self.now.digits (64 * at + p) == d))) }
     {
-        let top = self.top();
-        if d == 0 {
-            keep_in(self.bitmap(0), at, block);
-        } else if d < top {
+        if d == self.top() {
+            drop_in(self.bitmap(d - 1), at, block);
+        } else if d > 0 {
             keep_but_drop(self.bitmap(d), self.bitmap(d - 1), at, block);
         } else {
-            drop_in(self.bitmap(d - 1), at, block);
+            keep_in(self.bitmap(0), at, block);
         }
         true
     }
@@ -172,13 +182,12 @@ impl Encoding for RangeComponent {
         ensures bits { OnTrue result ((p : ℕ) → p < 64 * length block.old → 64 * at + p < length self.now.digits →
             bit_of block.new p ≡ at_most_from (bit_of block.old p) (slice_index self.now.digits (64 * at + p)) d) }
     {
-        let top = self.top();
-        if d == 0 {
-            keep_in(self.bitmap(0), at, block);
-        } else if d < top {
+        if d == self.top() {
+            add_in(self.bitmap(d - 1), at, block);
+        } else if d > 0 {
             keep_and_add(self.bitmap(d), self.bitmap(d - 1), at, block);
         } else {
-            add_in(self.bitmap(d - 1), at, block);
+            keep_in(self.bitmap(0), at, block);
         }
         true
     }
