@@ -1,10 +1,8 @@
 -- One component on the way to the number of a rank.
-use Rattle.std.proofs.Common.{◌≡◌, ℕ, ◌+◌, ◌*◌, ◌/◌, ◌<◌, ◌≤◌, Bool, List, Option, None, All, length, get_or, map, inl, inr, ap, subst, ◌∙◌, arith}
+use Rattle.std.proofs.Common.{◌≡◌, ℕ, ◌+◌, ◌*◌, ◌<◌, ◌≤◌, Bool, List, Option, All, length, get_or, map, ap, subst, ◌∙◌, arith}
 use Rattle.std.specs.Prelude.{count_by, is_some, nat_eq, nat_lt, ◌&&◌}
 use Rattle.std.specs.Simd.Lanes.{zip2}
-use Rattle.std.proofs.lemmas.Nat.{mod_below, mul-le}
-use Rattle.std.proofs.lemmas.Bool.{cases_lt}
-use Rattle.std.proofs.lemmas.List.{length-map, get_or-map, get_or_past}
+use Rattle.std.proofs.lemmas.Nat.{mul-le}
 use Rattle.bsi_digits.specs.Digits.{weight, size_of, digit_of, IsBaseList}
 use Rattle.bsi_digits.proofs.CallerLemmas.{high_all, weight_all, weight_more, weight_pos}
 use Rattle.bsi_components.specs.Component.{count_where}
@@ -32,20 +30,6 @@ module _ (bs : List ℕ) (valid : IsBaseList bs) (found : List Bool) (entries : 
   }
 
   module _ (i : ℕ) (within : i < length bs) where
-    -- each digit is below its base, and so is what stands past the end
-    pub digits_below : (digits : List ℕ) → digits ≡ map (λ e. digit_of bs (number_or_zero e) i) entries → (r : ℕ) → get_or digits r 0 < get_or bs i 0
-    digits_below digits is r =
-        let base = valid.each i within in
-        let some : 0 < get_or bs i 0 = omega (arith, base) in
-        elim (cases_lt r (length digits)) [
-          | inl inside ↦
-              let in_entries : r < length entries = omega (arith, ap length is, length-map entries (λ e. digit_of bs (number_or_zero e) i)) in
-              let read = ap (λ ds. get_or ds r 0) is ∙ get_or-map (λ e. digit_of bs (number_or_zero e) i) entries r None 0 in_entries in
-              let below = mod_below (number_or_zero (get_or entries r None) / weight bs i) (get_or bs i 0) some in
-              omega (arith, read, below)
-          | inr past ↦ omega (arith, get_or_past digits r 0 past)
-        ]
-
     pub rung_step : (number rank d rank' : ℕ) (chosen chosen' : List Bool) (digits : List ℕ) → IsRung bs found entries k (i + 1) number rank chosen
         → digits ≡ map (λ e. digit_of bs (number_or_zero e) i) entries → d < get_or bs i 0
         → chosen' ≡ zip2 (λ f v. f && nat_eq v d) chosen digits → rank ≡ count_where (λ v. nat_lt v d) chosen digits + rank' → rank' < count_by (λ b. b) chosen'
