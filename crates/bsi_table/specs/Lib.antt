@@ -1,0 +1,4 @@
+pub mod Columns
+pub mod Names
+pub mod Refusals
+pub mod Rows
