@@ -1,5 +1,6 @@
 -- Which refusal a call meets first.
 use Rattle.std.specs.Prelude.{◌≡◌, ℕ, ◌^◌, not, ◌+ℤ◌, ℤ, pos, int_lt, List, length, Option, Some, None, is_some, option_map, nat_eq, nat_lt, nat_le, if◌then◌else◌}
+use Rattle.std.specs.Option.{option_or}
 use Rattle.bsi_digits.specs.Refusal.{refusal}
 use Rattle.bsi_digits.specs.declared.bases_error.BasesError.{BasesError}
 use Rattle.bsi_digits.specs.declared.bases_error.BasesError.TheVariants.{Empty, TooMany}
@@ -31,18 +32,13 @@ name_refusal schema name =
 abbrev pub offset_refusal : ℤ → ColumnSpec → Option SchemaError
 offset_refusal offset spec = if int_lt (pos (2 ^ 63)) (offset +ℤ pos (size_in (form_of spec))) then Some BadOffset else None
 
--- the first of two refusals that applies
-abbrev pub first_refusal : {E : Type 0} → Option E → Option E → Option E
-first_refusal (Some first) second = Some first
-first_refusal None second = second
-
 -- of one more column
 abbrev pub column_refusal : Declared → List ℕ → ColumnSpec → Option SchemaError
-column_refusal schema name spec = first_refusal (name_refusal schema name) (option_map BadBases (form_refusal spec))
+column_refusal schema name spec = option_or (name_refusal schema name) (option_map BadBases (form_refusal spec))
 
 -- of one more column with an offset
 abbrev pub signed_refusal : Declared → List ℕ → ColumnSpec → ℤ → Option SchemaError
-signed_refusal schema name spec offset = first_refusal (column_refusal schema name spec) (offset_refusal offset spec)
+signed_refusal schema name spec offset = option_or (column_refusal schema name spec) (offset_refusal offset spec)
 
 -- the refusal that applies or, where none does, want of memory
 abbrev pub IsFirstOr : {E : Type 0} → E → Option E → E → Type 0
