@@ -1,12 +1,10 @@
-pub mod Adding
 pub mod Answering
 pub mod BlockAnswers
 pub mod ComponentLists
+pub mod DigitSums
 pub mod EntriesFrom
-pub mod Ranking
 pub mod Rungs
-pub mod SliceBlocks
-pub mod SliceEntries
-pub mod SliceNumbers
-pub mod SliceSelections
-pub mod WordBlocks
+pub use Rattle.bsi_slices.proofs.Adding
+pub use Rattle.bsi_slices.proofs.CallerLemmas
+pub use Rattle.bsi_slices.proofs.Ranking
+pub use Rattle.bsi_slices.proofs.WordBlocks

@@ -4,13 +4,10 @@
 
 mod any;
 mod choosing;
-mod column;
 mod decomposed;
-mod slices;
 
 pub use any::AnyColumn;
 pub use bsi_components::{Encoding, EqualityComponent, RangeComponent};
-pub use column::{Column, Op};
+pub use bsi_slices::{Column, Op, Slices};
 pub use decomposed::Decomposed;
-pub use slices::Slices;
 pub use std::alloc::AllocError as NoMemory;

@@ -1,14 +1,13 @@
 -- Steps on a block of words, bit by bit, by the words of a bitmap.
-use Rattle.std.proofs.Common.{◌≡◌, ℕ, ◌+◌, ◌-◌, ◌*◌, ◌/◌, ◌%◌, ◌^◌, ◌<◌, ◌≤◌, Bool, true, false, not, List, length, get_or, map, ap, ap₂, sym, ◌∙◌, arith}
-use Rattle.std.specs.Prelude.{◌==◌, ◌&&◌, ◌||◌}
+use Rattle.std.proofs.Common.{◌≡◌, ℕ, ◌+◌, ◌-◌, ◌*◌, ◌/◌, ◌%◌, ◌^◌, ◌<◌, ◌≤◌, Bool, not, List, length, get_or, map, ap, ap₂, sym, ◌∙◌, arith}
+use Rattle.std.specs.Prelude.{◌==◌, ◌||◌, bit_or, max}
 use Rattle.std.specs.Int.{bit_at, bit_not, w64}
 use Rattle.std.specs.Simd.Lanes.{zip2, chunk}
-use Rattle.std.proofs.lemmas.Simd.{get_or-zip2, get_or-chunk, length-chunk}
+use Rattle.std.proofs.lemmas.Simd.{get_or-zip2, get_or-chunk, length-chunk, length-zip2}
 use Rattle.std.proofs.lemmas.List.{get_or-map}
-use Rattle.std.proofs.lemmas.Nat.Bits.{bit_at_not, bit_at-lt}
+use Rattle.std.proofs.lemmas.Nat.Bits.{bit_at_or, bit_at_not, bit_at-lt}
 use Rattle.bsi_bits.specs.Packed.{bit_of}
 use Rattle.std.proofs.lemmas.Bool.Decides.{nat_tests}
-use Rattle.bsi_bits.proofs.Logic.{IsBitwise}
 
 -- a place of the words from `at` on
 pub bit_of-chunk : (at n : ℕ) (words : List ℕ) (p : ℕ) → p < 64 * n → bit_of (chunk at n words) p ≡ bit_of words (64 * at + p)
@@ -18,8 +17,10 @@ bit_of-chunk at n words p below =
     ap (λ w. bit_at w (p % 64) == 1) (get_or-chunk at n words (p / 64) 0 (omega arith))
     ∙ sym (ap₂ (λ q r. bit_at (get_or words q 0) r == 1) word place)
 
--- a place of a block after a step with the words from `at` on
-module _ (IsFit : ℕ → Type 0) (word_of : ℕ → ℕ → ℕ) (bit : Bool → Bool → Bool) (bitwise : IsBitwise IsFit word_of bit) (block words : List ℕ) (fit : (k : ℕ) → IsFit (get_or words k 0)) (at n : ℕ) (same : n ≡ length block) (within : at + n ≤ length words) where
+-- a place of a block after a step with the words from `at` on, by what the step makes of two bits
+module _ (IsFit : ℕ → Type 0) (word_of : ℕ → ℕ → ℕ) (bit : Bool → Bool → Bool)
+    (each : (x y i : ℕ) → IsFit y → i < 64 → (bit_at (word_of x y) i == 1) ≡ bit (bit_at x i == 1) (bit_at y i == 1))
+    (block words : List ℕ) (fit : (k : ℕ) → IsFit (get_or words k 0)) (at n : ℕ) (same : n ≡ length block) (within : at + n ≤ length words) where
   pub stepped_place : (p : ℕ) → p < 64 * length block → bit_of (zip2 word_of block (chunk at n words)) p ≡ bit (bit_of block p) (bit_of words (64 * at + p))
   stepped_place p below =
       let long : length (chunk at n words) ≡ n = length-chunk at n words (omega arith) in
@@ -27,8 +28,21 @@ module _ (IsFit : ℕ → Type 0) (word_of : ℕ → ℕ → ℕ) (bit : Bool �
       let in_words : p / 64 < length (chunk at n words) = omega arith in
       let read = get_or-chunk at n words (p / 64) 0 (omega arith) in
       ap (λ w. bit_at w (p % 64) == 1) (get_or-zip2 word_of block (chunk at n words) (p / 64) 0 0 0 in_block in_words ∙ ap (word_of (get_or block (p / 64) 0)) read)
-      ∙ bitwise.at (get_or block (p / 64) 0) (get_or words (at + p / 64) 0) (p % 64) (fit (at + p / 64)) (omega arith)
+      ∙ each (get_or block (p / 64) 0) (get_or words (at + p / 64) 0) (p % 64) (fit (at + p / 64)) (omega arith)
       ∙ ap (bit (bit_of block p)) (ap (λ w. bit_at w (p % 64) == 1) (sym read) ∙ bit_of-chunk at n words p (omega arith))
+
+  -- and the block is as long as it was
+  pub stepped_length : length (zip2 word_of block (chunk at n words)) ≡ length block
+  stepped_length = length-zip2 word_of block (chunk at n words) (sym same ∙ sym (length-chunk at n words (omega arith)))
+
+missing_digit : (a b : ℕ) → a < 2 → b < 2 → (max a (1 - b) == 1) ≡ ((a == 1) || not (b == 1))
+missing_digit a b low high = grind (arith, nat_tests)
+
+-- a step that sets the bits that are not set in a word
+pub or_not_digit : (x y i : ℕ) → y < 2 ^ 64 → i < 64 → (bit_at (bit_or x (bit_not w64 y)) i == 1) ≡ ((bit_at x i == 1) || not (bit_at y i == 1))
+or_not_digit x y i fits place =
+    ap (λ b. b == 1) (bit_at_or x (bit_not w64 y) i ∙ ap (max (bit_at x i)) (bit_at_not w64 y i fits place))
+    ∙ missing_digit (bit_at x i) (bit_at y i) (bit_at-lt x i) (bit_at-lt y i)
 
 turned_digit : (a : ℕ) → a < 2 → (1 - a == 1) ≡ not (a == 1)
 turned_digit a low = grind (arith, nat_tests)
@@ -39,8 +53,3 @@ turned_place block fits p below =
     ap (λ w. bit_at w (p % 64) == 1) (get_or-map (bit_not w64) block (p / 64) 0 0 (omega arith))
     ∙ ap (λ b. b == 1) (bit_at_not w64 (get_or block (p / 64) 0) (p % 64) (fits (p / 64)) (omega arith))
     ∙ turned_digit (bit_at (get_or block (p / 64) 0) (p % 64)) (bit_at-lt (get_or block (p / 64) 0) (p % 64))
-
--- a place that is turned, kept in some rows and turned again
-pub turned_twice : (low turned kept last other : Bool) → turned ≡ not low → kept ≡ (turned && other) → last ≡ not kept → last ≡ (low || not other)
-turned_twice true turned kept last other first then again = again ∙ ap not (then ∙ ap (λ b. b && other) first)
-turned_twice false turned kept last other first then again = again ∙ ap not (then ∙ ap (λ b. b && other) first)

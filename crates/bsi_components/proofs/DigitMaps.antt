@@ -26,6 +26,19 @@ pub map_same : (f g : ℕ → Bool) → ((v : ℕ) → f v ≡ g v) → (ds : Li
 map_same f g agree [] = refl
 map_same f g agree (d ∷ ds) = ap₂ (λ bit bits. bit ∷ bits) (agree d) (map_same f g agree ds)
 
+-- rows that are stepped by a test of their digits, and once more by another
+pub zip2_twice : (g h : Bool → Bool → Bool) (p q : ℕ → Bool) (rows : List Bool) (ds : List ℕ) → zip2 h (zip2 g rows (map p ds)) (map q ds) ≡ zip2 (λ f v. h (g f (p v)) (q v)) rows ds
+zip2_twice g h p q [] ds = refl
+zip2_twice g h p q (f ∷ rows) [] = refl
+zip2_twice g h p q (f ∷ rows) (d ∷ ds) = ap (λ bits. h (g f (p d)) (q d) ∷ bits) (zip2_twice g h p q rows ds)
+
+-- two steps that agree on the digits that there are
+pub same_steps : (f g : Bool → ℕ → Bool) (top : ℕ) → ((b : Bool) (v : ℕ) → v ≤ top → f b v ≡ g b v) → (rows : List Bool) (ds : List ℕ) → ((k : ℕ) → get_or ds k 0 ≤ top) → zip2 f rows ds ≡ zip2 g rows ds
+same_steps f g top agree [] ds most = refl
+same_steps f g top agree (b ∷ rows) [] most = refl
+same_steps f g top agree (b ∷ rows) (d ∷ ds) most =
+    ap₂ (λ bit bits. bit ∷ bits) (agree b d (most zero)) (same_steps f g top agree rows ds (λ k. most (suc k)))
+
 -- a sum over found rows of two parts, of which one is a weight of the rows that a test counts
 module _ (test : Bool → ℕ → Bool) (weight : ℕ) (f g : ℕ → ℕ) (off : (v : ℕ) → test false v ≡ false) (parts : (v : ℕ) → g v ≡ cond (test true v) weight 0 + f v) where
   part_sum : (b : Bool) (n x s : ℕ) → cond b weight 0 + x + (n * weight + s) ≡ (cond b 1 0 + n) * weight + (x + s)

@@ -1,13 +1,14 @@
 -- What the bitmaps of an equality encoded component say of one digit.
-use Rattle.std.proofs.Common.{◌≡◌, ℕ, ◌+◌, ◌-◌, ◌*◌, ◌^◌, ◌<◌, ◌≤◌, Bool, cond, not, List, get_or, map, ap, sym, ◌∙◌, refl, arith}
+use Rattle.std.proofs.Common.{◌≡◌, ℕ, ◌+◌, ◌-◌, ◌*◌, ◌^◌, ◌<◌, ◌≤◌, Bool, true, false, cond, not, List, get_or, map, ap, sym, ◌∙◌, refl, arith}
 use Rattle.std.specs.Prelude.{◌==◌, ◌&&◌, ◌||◌, nat_le, nat_lt, sum_by, count_by}
 use Rattle.std.specs.List.{items_where_true}
 use Rattle.std.specs.Simd.Lanes.{zip2}
 use Rattle.std.proofs.lemmas.Bool.Decides.{nat_tests}
 use Rattle.std.proofs.Math.Nat.{mul-le-mul_right}
+use Rattle.bsi_bits.specs.BitList.{without}
 use Rattle.bsi_bits.proofs.Pairs.{zip2-map_right}
 use Rattle.bsi_components.specs.Equality.{is_among}
-use Rattle.bsi_components.proofs.DigitMaps.{zip2_maps, map_map, same_tests, map_same, sum_parts, same_sums, zero_sum}
+use Rattle.bsi_components.proofs.DigitMaps.{zip2_maps, map_map, same_tests, map_same, same_steps, sum_parts, same_sums, zero_sum}
 
 zero_test : (v : ℕ) → v ≤ 1 → not (v == 1) ≡ (v == 0)
 zero_test v most = grind (arith, nat_tests)
@@ -15,6 +16,16 @@ zero_test v most = grind (arith, nat_tests)
 -- digit 0 under base 2: the one bitmap turned
 pub zero_eq : (ds : List ℕ) → ((k : ℕ) → get_or ds k 0 ≤ 1) → map not (map (λ v. v == 1) ds) ≡ map (λ v. v == 0) ds
 zero_eq ds most = map_map not (λ v. v == 1) ds ∙ same_tests (λ v. not (v == 1)) (λ v. v == 0) 1 zero_test ds most
+
+zero_step : (f : Bool) (v : ℕ) → v ≤ 1 → without f (v == 1) ≡ (f && (v == 0))
+zero_step true v most = zero_test v most
+zero_step false v most = refl
+
+-- the rows of a set that have it
+pub keep_zero : (rows : List Bool) (ds : List ℕ) → ((k : ℕ) → get_or ds k 0 ≤ 1) → zip2 without rows (map (λ v. v == 1) ds) ≡ zip2 (λ f v. f && (v == 0)) rows ds
+keep_zero rows ds most =
+    zip2-map_right without (λ v. v == 1) rows ds
+    ∙ same_steps (λ f v. without f (v == 1)) (λ f v. f && (v == 0)) 1 zero_step rows ds most
 
 among_test : (from j v : ℕ) → from ≤ j → (is_among from j v || (v == j)) ≡ is_among from (j + 1) v
 among_test from j v within = grind (arith, nat_tests)

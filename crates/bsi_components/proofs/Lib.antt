@@ -1,6 +1,7 @@
 pub mod BitmapDigits
 pub mod BitmapGrowth
 pub mod BlockBits
+pub mod DigitCounts
 pub mod DigitMaps
 pub mod EqualityDigits
 pub mod EqualityReads

@@ -1,12 +1,12 @@
 -- What the bitmaps of a range encoded component say of one digit.
 use Rattle.std.proofs.Common.{◌≡◌, ℕ, ◌+◌, ◌-◌, ◌*◌, ◌<◌, ◌≤◌, Bool, true, false, cond, not, List, get_or, map, ap, sym, ◌∙◌, refl, arith}
-use Rattle.std.specs.Prelude.{◌==◌, ◌||◌, nat_le, sum_by, count_by, min}
+use Rattle.std.specs.Prelude.{◌==◌, ◌&&◌, ◌||◌, nat_le, sum_by, count_by, min}
 use Rattle.std.specs.List.{items_where_true}
 use Rattle.std.specs.Simd.Lanes.{zip2}
 use Rattle.std.proofs.lemmas.Bool.Decides.{nat_tests}
 use Rattle.bsi_bits.specs.BitList.{without}
 use Rattle.bsi_bits.proofs.Pairs.{zip2-map_right}
-use Rattle.bsi_components.proofs.DigitMaps.{zip2_maps, map_map, same_tests, map_same, sum_parts, same_sums, zero_sum}
+use Rattle.bsi_components.proofs.DigitMaps.{zip2_maps, map_map, same_tests, map_same, zip2_twice, same_steps, sum_parts, same_sums, zero_sum}
 
 top_test : (d v : ℕ) → 0 < d → v ≤ d → not (nat_le v (d - 1)) ≡ (v == d)
 top_test d v some most = grind (arith, nat_tests)
@@ -25,6 +25,35 @@ pub between_eq : (d : ℕ) (ds : List ℕ) → 0 < d → zip2 without (map (λ v
 between_eq d ds some =
     zip2_maps without (λ v. nat_le v d) (λ v. nat_le v (d - 1)) ds
     ∙ map_same (λ v. without (nat_le v d) (nat_le v (d - 1))) (λ v. v == d) (λ v. between_test d v some) ds
+
+least_step : (f : Bool) (v : ℕ) → (f && nat_le v 0) ≡ (f && (v == 0))
+least_step true v = grind (arith, nat_tests)
+least_step false v = refl
+
+between_step : (d : ℕ) → 0 < d → (f : Bool) (v : ℕ) → without (f && nat_le v d) (nat_le v (d - 1)) ≡ (f && (v == d))
+between_step d some true v = between_test d v some
+between_step d some false v = refl
+
+top_step : (d : ℕ) → 0 < d → (f : Bool) (v : ℕ) → v ≤ d → without f (nat_le v (d - 1)) ≡ (f && (v == d))
+top_step d some true v most = top_test d v some most
+top_step d some false v most = refl
+
+-- the rows of a set that have digit 0, one between, and the greatest
+module _ (top : ℕ) (rows : List Bool) (ds : List ℕ) (most : (k : ℕ) → get_or ds k 0 ≤ top) where
+  pub keep_least : zip2 ◌&&◌ rows (map (λ v. nat_le v 0) ds) ≡ zip2 (λ f v. f && (v == 0)) rows ds
+  keep_least =
+      zip2-map_right ◌&&◌ (λ v. nat_le v 0) rows ds
+      ∙ same_steps (λ f v. f && nat_le v 0) (λ f v. f && (v == 0)) top (λ f v within. least_step f v) rows ds most
+
+  pub keep_between : (d : ℕ) → 0 < d → zip2 without (zip2 ◌&&◌ rows (map (λ v. nat_le v d) ds)) (map (λ v. nat_le v (d - 1)) ds) ≡ zip2 (λ f v. f && (v == d)) rows ds
+  keep_between d some =
+      zip2_twice ◌&&◌ without (λ v. nat_le v d) (λ v. nat_le v (d - 1)) rows ds
+      ∙ same_steps (λ f v. without (f && nat_le v d) (nat_le v (d - 1))) (λ f v. f && (v == d)) top (λ f v within. between_step d some f v) rows ds most
+
+  pub keep_top : 0 < top → zip2 without rows (map (λ v. nat_le v (top - 1)) ds) ≡ zip2 (λ f v. f && (v == top)) rows ds
+  keep_top some =
+      zip2-map_right without (λ v. nat_le v (top - 1)) rows ds
+      ∙ same_steps (λ f v. without f (nat_le v (top - 1))) (λ f v. f && (v == top)) top (top_step top some) rows ds most
 
 either_way : (b : Bool) → (not b || b) ≡ true
 either_way true = refl

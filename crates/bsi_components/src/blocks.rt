@@ -44,6 +44,33 @@ pub fn add_in(bitmap: &Bits, at: usize, block: &mut [u64])
     lanes::or(block, &words[at..at + block.len()]);
 }
 
+/// Keeps in the block the rows that `kept` has, and sets those that `added` has, in one pass.
+pub fn keep_and_add(kept: &Bits, added: &Bits, at: usize, block: &mut [u64])
+    requires kept { at + length block.old ≤ (length kept.now.bits + 63) / 64 }
+    requires added { at + length block.old ≤ (length added.now.bits + 63) / 64 }
+    ensures len { length block.new ≡ length block.old }
+    ensures bits { (p : ℕ) → p < 64 * length block.old → bit_of block.new p
+        ≡ (bit_of block.old p && slice_index_or kept.now.bits (64 * at + p) false || slice_index_or added.now.bits (64 * at + p) false) }
+{
+    let (first, second) = (kept.words(), added.words());
+    let end = at + block.len();
+    lanes::and_or(block, &first[at..end], &second[at..end]);
+}
+
+/// Keeps in the block the rows that `kept` has and `dropped` has not, in one pass.
+pub fn keep_but_drop(kept: &Bits, dropped: &Bits, at: usize, block: &mut [u64])
+    requires kept { at + length block.old ≤ (length kept.now.bits + 63) / 64 }
+    requires dropped { at + length block.old ≤ (length dropped.now.bits + 63) / 64 }
+    ensures len { length block.new ≡ length block.old }
+    ensures bits { (p : ℕ) → p < 64 * length block.old → bit_of block.new p
+        ≡ (bit_of block.old p && slice_index_or kept.now.bits (64 * at + p) false && not (slice_index_or dropped.now.bits (64 * at + p) false)) }
+{
+    let (first, second) = (kept.words(), dropped.words());
+    know_fits(second);
+    let end = at + block.len();
+    lanes::and_and_not(block, &first[at..end], &second[at..end]);
+}
+
 /// Turns each row of the block.
 pub fn turn(block: &mut [u64])
     ensures len { length block.new ≡ length block.old }
@@ -60,7 +87,7 @@ pub fn add_missing(bitmap: &Bits, at: usize, block: &mut [u64])
     ensures bits { (p : ℕ) → p < 64 * length block.old →
         bit_of block.new p ≡ (bit_of block.old p || not (slice_index_or bitmap.now.bits (64 * at + p) false)) }
 {
-    turn(block);
-    keep_in(bitmap, at, block);
-    turn(block);
+    let words = bitmap.words();
+    know_fits(words);
+    lanes::or_not(block, &words[at..at + block.len()]);
 }

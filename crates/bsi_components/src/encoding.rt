@@ -1,14 +1,22 @@
 //! What a component is to a column: a list of digits below its base.
 
-ghost use Rattle.std.specs.Prelude.{◌≡◌, ℕ, ◌+◌, ◌*◌, ◌/◌, ◌^◌, ◌≤◌, ◌<◌, ◌==◌, ◌&&◌, Bool, List, [], ◌∷◌, ◌++◌, length, map, sum, slice_index, nat_le, IsTrue, IfOk, OnOk, IsOk};
+ghost use Rattle.std.specs.Prelude.{◌≡◌, ℕ, ◌+◌, ◌*◌, ◌/◌, ◌^◌, ◌≤◌, ◌<◌, ◌==◌, ◌&&◌, Bool, List, [], ◌∷◌, ◌++◌, length, map, sum, count_by, slice_index, nat_lt, nat_le, IsTrue, IfOk, OnOk, IsOk};
 ghost use Rattle.std.specs.List.{items_where_true};
 ghost use Rattle.std.specs.Bool.{OnTrue, OnFalse};
+ghost use Rattle.std.specs.Simd.Lanes.{zip2};
 ghost use Rattle.bsi_bits.specs.Packed.{bit_of};
 ghost use Rattle.bsi_components.specs.Component.{at_most_from, count_where};
 
 use crate::NoMemory;
 use bsi_bits::Bits;
 use std::alloc::Global;
+
+/// A digit, and a rank, from 0, among the rows that have it.
+#[derive(Clone, Copy, Debug, PartialEq, Eq)]
+pub struct RankedDigit {
+    pub digit: u32,
+    pub rank: u64,
+}
 
 /// A component: the digits of one place of a column's numbers, a row each, kept as bitmaps.
 pub trait Encoding: Drop {
@@ -86,6 +94,48 @@ pub trait Encoding: Drop {
     {
         self.le_into(d, scratch);
         found.count_and(scratch)
+    }
+
+    /// The digit of the row of rank `rank`, from 0, among the rows of a found set in order of their digits, and the rank of
+    /// that row among those of its digit. What `scratch`, a vector of as many bits, is left with is left open. It halves the
+    /// digits in question by one count each.
+    fn digit_of_rank(&self, rank: u64, found: &Bits, scratch: &mut Bits) -> RankedDigit
+        requires same { length (digits self.now) ≡ length found.now.bits }
+        requires scratch { length (digits self.now) ≡ length scratch.old.bits }
+        requires there { rank < count_by (λ b. b) found.now.bits }
+        ensures digit { result.digit < base_of self.now }
+        ensures rank { rank ≡ count_where (λ v. nat_lt v result.digit) found.now.bits (digits self.now) + result.rank }
+        ensures there { rank < count_where (λ v. nat_le v result.digit) found.now.bits (digits self.now) }
+        ensures scratch { length scratch.new.bits ≡ length scratch.old.bits }
+    {
+        let (mut low, mut high) = (0, self.base() - 1);
+        let mut below = 0;
+        'digits: while low < high {
+            let middle = low + (high - low) / 2;
+            let upto = self.count_le(middle, found, scratch);
+            if rank < upto {
+                high = middle;
+            } else {
+                below = upto;
+                low = middle + 1;
+            }
+        }
+        RankedDigit {
+            digit: low,
+            rank: rank - below,
+        }
+    }
+
+    /// Keeps of a set of rows those whose digit is `d`. What `scratch`, a vector of as many bits, is left with is left open.
+    fn keep_digit(&self, d: u32, scratch: &mut Bits, rows: &mut Bits)
+        requires below { d < base_of self.now }
+        requires scratch { length (digits self.now) ≡ length scratch.old.bits }
+        requires same { length (digits self.now) ≡ length rows.old.bits }
+        ensures rows { rows.new.bits ≡ zip2 (λ f v. f && (v == d)) rows.old.bits (digits self.now) }
+        ensures scratch { length scratch.new.bits ≡ length scratch.old.bits }
+    {
+        self.eq_into(d, scratch);
+        rows.and_with(scratch);
     }
 
     /// A second component of the same digits.

@@ -4,13 +4,13 @@ ghost use Rattle.std.specs.Prelude.{◌≡◌, ◌≢◌, ℕ, ◌+◌, ◌*◌,
 ghost use Rattle.std.specs.Bool.{OnTrue, OnFalse};
 ghost use Rattle.bsi_bits.specs.Packed.{bit_of};
 ghost use Rattle.bsi_components.specs.Bitmaps.{bitmap, has_room_in};
-ghost use Rattle.bsi_components.specs.Component.{at_most_from};
+ghost use Rattle.bsi_components.specs.Component.{at_most_from, count_where};
 ghost use Rattle.bsi_components.specs.Equality.{first_digit, is_among};
 
 use crate::NoMemory;
 use crate::bitmaps::{copy_each, have_room, make_empty, reserve_each};
 use crate::blocks::{add_in, add_missing, drop_in, keep_in};
-use crate::encoding::Encoding;
+use crate::encoding::{Encoding, RankedDigit};
 use bsi_bits::Bits;
 use std::alloc::Global;
 use std::marker::Model;
@@ -75,6 +75,19 @@ impl EqualityComponent {
         out.copy_from(self.bitmap(from));
         'digits: for j in from + 1..to {
             out.or_with(self.bitmap(j));
+        }
+    }
+
+    /// How many rows of a found set have a digit of `d`.
+    fn count_eq(&self, d: u32, found: &Bits) -> u64
+        requires below { d < self.now.base }
+        requires same { length self.now.digits ≡ length found.now.bits }
+        ensures { result ≡ count_where (λ v. v == d) found.now.bits self.now.digits }
+    {
+        if d == 0 && self.base() == 2 {
+            found.count_and_not(self.bitmap(1))
+        } else {
+            found.count_and(self.bitmap(d))
         }
     }
 
@@ -174,6 +187,31 @@ impl Encoding for EqualityComponent {
             sum += j as u128 * found.count_and(self.bitmap(j)) as u128;
         }
         sum
+    }
+
+    // It counts the digits from 0 up, by one bitmap each, and writes no vector.
+    fn digit_of_rank(&self, rank: u64, found: &Bits, _scratch: &mut Bits) -> RankedDigit {
+        let top = self.base() - 1;
+        let mut left = rank;
+        'digits: for digit in 0..top {
+            let rows = self.count_eq(digit, found);
+            if left < rows {
+                return RankedDigit { digit, rank: left };
+            }
+            left -= rows;
+        }
+        RankedDigit {
+            digit: top,
+            rank: left,
+        }
+    }
+
+    fn keep_digit(&self, d: u32, _scratch: &mut Bits, rows: &mut Bits) {
+        if d == 0 && self.base() == 2 {
+            rows.and_not_with(self.bitmap(1));
+        } else {
+            rows.and_with(self.bitmap(d));
+        }
     }
 
     fn copy(&self) -> Result<Self, NoMemory> {

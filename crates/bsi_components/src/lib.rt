@@ -9,7 +9,7 @@ mod range;
 #[cfg(test)]
 mod tests;
 
-pub use encoding::Encoding;
+pub use encoding::{Encoding, RankedDigit};
 pub use equality::EqualityComponent;
 pub use range::RangeComponent;
 pub use std::alloc::AllocError as NoMemory;

@@ -8,7 +8,7 @@ ghost use Rattle.bsi_components.specs.Component.{at_most_from};
 
 use crate::NoMemory;
 use crate::bitmaps::{copy_each, have_room, make_empty, reserve_each};
-use crate::blocks::{add_in, drop_in, keep_in};
+use crate::blocks::{add_in, drop_in, keep_and_add, keep_but_drop, keep_in};
 use crate::encoding::Encoding;
 use bsi_bits::Bits;
 use std::alloc::Global;
@@ -128,6 +128,26 @@ impl Encoding for RangeComponent {
         sum
     }
 
+    // It writes no vector.
+    fn count_le(&self, d: u32, found: &Bits, _scratch: &mut Bits) -> u64 {
+        if d < self.top() {
+            found.count_and(self.bitmap(d))
+        } else {
+            found.count()
+        }
+    }
+
+    fn keep_digit(&self, d: u32, _scratch: &mut Bits, rows: &mut Bits) {
+        if d == self.top() {
+            rows.and_not_with(self.bitmap(d - 1));
+        } else if d > 0 {
+            rows.and_with(self.bitmap(d));
+            rows.and_not_with(self.bitmap(d - 1));
+        } else {
+            rows.and_with(self.bitmap(0));
+        }
+    }
+
     fn copy(&self) -> Result<Self, NoMemory> {
         let bitmaps = copy_each(&self.bitmaps)?;
         Ok(RangeComponent {
@@ -144,11 +164,12 @@ impl Encoding for RangeComponent {
         ensures bits { OnTrue result ((p : ℕ) → p < 64 * length block.old → 64 * at + p < length self.now.digits →
             bit_of block.new p ≡ (bit_of block.old p && (slice_index self.now.digits (64 * at + p) == d))) }
     {
-        if d < self.top() {
-            keep_in(self.bitmap(d), at, block);
-        }
-        if d > 0 {
+        if d == self.top() {
             drop_in(self.bitmap(d - 1), at, block);
+        } else if d > 0 {
+            keep_but_drop(self.bitmap(d), self.bitmap(d - 1), at, block);
+        } else {
+            keep_in(self.bitmap(0), at, block);
         }
         true
     }
@@ -161,11 +182,12 @@ impl Encoding for RangeComponent {
         ensures bits { OnTrue result ((p : ℕ) → p < 64 * length block.old → 64 * at + p < length self.now.digits →
             bit_of block.new p ≡ at_most_from (bit_of block.old p) (slice_index self.now.digits (64 * at + p)) d) }
     {
-        if d < self.top() {
-            keep_in(self.bitmap(d), at, block);
-        }
-        if d > 0 {
+        if d == self.top() {
             add_in(self.bitmap(d - 1), at, block);
+        } else if d > 0 {
+            keep_and_add(self.bitmap(d), self.bitmap(d - 1), at, block);
+        } else {
+            keep_in(self.bitmap(0), at, block);
         }
         true
     }

@@ -2,7 +2,7 @@
 
 ghost use Rattle.std.specs.Prelude.{◌≤◌, ◌^◌};
 
-use crate::{Encoding, EqualityComponent, NoMemory, RangeComponent};
+use crate::{Encoding, EqualityComponent, NoMemory, RangeComponent, RankedDigit};
 use bsi_bits::Bits;
 use std::alloc::Global;
 use std::process::Abort;
@@ -406,4 +406,114 @@ fn lengths<E: Encoding>(rt: &impl Abort, alloc: Global) -> Result<(), Fail> {
 fn digits_at_lengths(rt: HostRuntime) -> Result<(), Fail> {
     lengths::<EqualityComponent>(&rt, rt.alloc())?;
     lengths::<RangeComponent>(&rt, rt.alloc())
+}
+
+// The rows of a set that leaves out each third.
+fn two_thirds(alloc: Global, len: u64) -> Result<Bits, NoMemory>
+    requires { len ≤ 2 ^ 32 }
+{
+    let mut words = vec![in alloc; 0u64; len.div_ceil(64) as usize]?;
+    for at in 0..words.len() {
+        words[at] = word_before(at);
+    }
+    Ok(Bits::from_words(words, len))
+}
+
+fn chosen(alloc: Global, len: u64) -> Result<Bits, NoMemory>
+    requires { len ≤ 2 ^ 32 }
+{
+    match two_thirds(alloc, len) {
+        Err(_) => two_thirds(alloc, len),
+        made => made,
+    }
+}
+
+// How many rows of a found set have the digit.
+fn plain_count(base: u32, digit: u32, found: &Bits) -> u64
+    requires { 2 ≤ base }
+{
+    let mut rows = 0u64;
+    for i in 0..found.len() {
+        if get(found, i) && plain_digit(i, base) == digit {
+            rows = rows.wrapping_add(1);
+        }
+    }
+    rows
+}
+
+// The digit of a rank, by plain counts.
+fn plain_rank(base: u32, rank: u64, found: &Bits) -> Option<RankedDigit>
+    requires { 2 ≤ base }
+{
+    let mut left = rank;
+    for digit in 0..base {
+        let rows = plain_count(base, digit, found);
+        if left < rows {
+            return Some(RankedDigit { digit, rank: left });
+        }
+        left -= rows;
+    }
+    None
+}
+
+// The digit of a rank, where there is such a row, and the rows that have it.
+fn narrow<E: Encoding>(
+    component: &E,
+    rank: u64,
+    scratch: &mut Bits,
+    rows: &mut Bits,
+) -> Option<RankedDigit> {
+    let len = component.len();
+    if rank >= rows.count() || len != rows.len() || len != scratch.len() {
+        return None;
+    }
+    let found = component.digit_of_rank(rank, rows, scratch);
+    component.keep_digit(found.digit, scratch, rows);
+    Some(found)
+}
+
+// One rank among two thirds of the rows of a patterned component.
+fn ranked<E: Encoding>(
+    rt: &impl Abort,
+    alloc: Global,
+    component: &E,
+    rank: u64,
+) -> Result<(), Fail> {
+    let (base, len) = (component.base(), component.len());
+    let found = chosen(alloc, len)?;
+    let mut rows = chosen(alloc, len)?;
+    let mut scratch = filled(alloc, len, true)?;
+    let expected = plain_rank(base, rank, &found);
+    assert_eq!(rt;
+        narrow(component, rank, &mut scratch, &mut rows),
+        expected,
+        "{rank} of {base} at {len}"
+    );
+    if let Some(ranked) = expected {
+        assert!(rt;
+            (0..len).all(|i| get(&rows, i)
+                == (get(&found, i) && plain_digit(i, base) == ranked.digit)),
+            "rows of {rank} of {base} at {len}"
+        );
+    }
+    Ok(())
+}
+
+fn ranks<E: Encoding>(rt: &impl Abort, alloc: Global) -> Result<(), Fail> {
+    for base in [2, 3, 10] {
+        for len in LENGTHS {
+            assert!(rt; base >= 2 && base <= 1024);
+            let component = patterned::<E>(rt, alloc, base, len)?;
+            for rank in [0, len / 3, len.saturating_sub(1) / 3 * 2, len] {
+                ranked(rt, alloc, &component, rank)?;
+            }
+        }
+    }
+    Ok(())
+}
+
+#[test]
+fn digits_of_ranks(rt: HostRuntime) -> Result<(), Fail> {
+    ranks::<EqualityComponent>(&rt, rt.alloc())?;
+    ranks::<RangeComponent>(&rt, rt.alloc())
 }

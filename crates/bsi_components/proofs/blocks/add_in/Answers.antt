@@ -10,5 +10,5 @@ returns-clause-bits c p below =
     let at = c.args.at in
     let n = at + length c.args.block.now - at in
     ap (λ ws. bit_of ws p) c.or.ensures
-    ∙ stepped_place (λ _. Unit {0}) bit_or ◌||◌ or_bitwise c.args.block.now c.words-words.result.now (λ k. tt) at n (omega arith) (omega (arith, c.words-words.ensures.few)) p below
+    ∙ stepped_place (λ _. Unit {0}) bit_or ◌||◌ or_bitwise.at c.args.block.now c.words-words.result.now (λ k. tt) at n (omega arith) (omega (arith, c.words-words.ensures.few)) p below
     ∙ ap (◌||◌ (bit_of c.args.block.now p)) (c.words-words.ensures.places (64 * at + p))

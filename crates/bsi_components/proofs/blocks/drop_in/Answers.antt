@@ -12,5 +12,5 @@ returns-clause-bits c p below =
     let at = c.args.at in
     let n = at + length c.args.block.now - at in
     ap (λ ws. bit_of ws p) c.and_not.ensures
-    ∙ stepped_place (λ y. y < 2 ^ 64) (λ x y. bit_and x (bit_not w64 y)) without and_not_bitwise c.args.block.now c.words-words.result.now c.know_fits.ensures at n (omega arith) (omega (arith, c.words-words.ensures.few)) p below
+    ∙ stepped_place (λ y. y < 2 ^ 64) (λ x y. bit_and x (bit_not w64 y)) without and_not_bitwise.at c.args.block.now c.words-words.result.now c.know_fits.ensures at n (omega arith) (omega (arith, c.words-words.ensures.few)) p below
     ∙ ap (without (bit_of c.args.block.now p)) (c.words-words.ensures.places (64 * at + p))

@@ -7,7 +7,7 @@ use Rattle.bsi_digits.specs.Digits.{weight, size_of, digit_of}
 use Rattle.bsi_digits.proofs.CallerLemmas.{weight_pos}
 use Rattle.bsi_columns.specs.Rows.{number_or_zero}
 use Rattle.bsi_columns.proofs.Ranking.{narrowed_end}
-use Rattle.bsi_columns.proofs.Rungs.{IsRung, rung_start, rung_step, digits_below, fits_size}
+use Rattle.bsi_columns.proofs.Rungs.{IsRung, rung_start, rung_step, fits_size}
 use Rattle.bsi_columns.proofs.decomposed.Decomposed.number_of_rank.Given as given
 use Rattle.bsi_columns.proofs.decomposed.Decomposed.number_of_rank.Goals as goal
 use Rattle.bsi_columns.proofs.decomposed.Decomposed.number_of_rank.Goals.{After-from}
@@ -27,17 +27,6 @@ components-init g c =
       chosen_even = ap length chosen ∙ length-zip2 ◌&&◌ found (map is_some entries) (sym (length-map entries is_some ∙ c.requires.same));
       scratch_even = ap length c.in_ok-scratch.ensures;
     }
-
-pub choose-choice-requires-clause-below : goal.choose-choice-requires-clause-below
-choose-choice-requires-clause-below g c =
-    let bs = c.bases-bases.result.now in
-    let entries = c.args.self.now.entries in
-    let j = c.components.i - 1 in
-    let same = sym c.bases-bases.ensures.bases in
-    let within : j < length bs = omega (arith, c.components.invariant.rung.within, c.components-test.true) in
-    let digits = c.component.ensures.digits ∙ ap (λ bs. map (λ e. digit_of bs (number_or_zero e) j) entries) same in
-    let base = c.component.ensures.base ∙ ap (λ bs. get_or bs j 0) same in
-    λ r. omega (arith, base, digits_below bs c.len-i.ensures.valid c.args.found.now.bits entries c.args.k j within (g.E.Encoding.digits c.component.result.now) digits r)
 
 -- one component down
 next : (g : given.Over) (c : goal.After-from g)

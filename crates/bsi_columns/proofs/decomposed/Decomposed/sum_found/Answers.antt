@@ -4,7 +4,8 @@ use Rattle.bsi_digits.specs.Digits.{weight, digit_of, size_of}
 use Rattle.bsi_digits.proofs.CallerLemmas.{weight_pos, weight_le_size, weight_all}
 use Rattle.bsi_columns.specs.Rows.{number_or_zero}
 use Rattle.bsi_columns.specs.Totals.{numbers_at}
-use Rattle.bsi_columns.proofs.Adding.{sum_none, sum_digits, sum_small, sum_whole}
+use Rattle.bsi_columns.proofs.Adding.{sum_small, sum_whole}
+use Rattle.bsi_columns.proofs.DigitSums.{sum_none, sum_digits}
 use Rattle.bsi_columns.proofs.decomposed.Decomposed.sum_found.Given as given
 use Rattle.bsi_columns.proofs.decomposed.Decomposed.sum_found.Goals as goal
 

@@ -1,5 +1,0 @@
-use Rattle.bsi_columns.proofs.SliceEntries.{entries_in-nil}
-use Rattle.bsi_columns.proofs.slices.Slices.new.Goals as goal
-
-pub returns-clause-entries : goal.returns-clause-entries
-returns-clause-entries c = entries_in-nil c.new.result.bits c.in_ok-slices.slices.items c.new.ensures

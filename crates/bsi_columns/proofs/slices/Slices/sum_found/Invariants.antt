@@ -1,7 +1,0 @@
-use Rattle.std.proofs.Common.{◌≡◌, ◌%◌, ◌^◌}
-use Rattle.std.specs.Prelude.{sum_by}
-use Rattle.bsi_columns.specs.Totals.{numbers_at}
-use Rattle.bsi_columns.proofs.slices.Slices.sum_found.Given as goal
-
-abbrev pub invariant-slices : goal.invariant-slices
-invariant-slices l = l.total ≡ sum_by (λ n. n % 2 ^ l.i) (numbers_at l.found.bits l.self.entries)

@@ -1,5 +1,0 @@
-use Rattle.bsi_columns.proofs.SliceEntries.{entries_below}
-use Rattle.bsi_columns.proofs.slices.Slices.width.Goals as goal
-
-pub returns-clause-below : goal.returns-clause-below
-returns-clause-below c = rw (← c.self.view_is) (entries_below c.self.inside.present.bits c.self.inside.slices.items)

@@ -1,0 +1,53 @@
+-- What a comparison selects of the rows of a column of slices.
+use Rattle.std.proofs.Common.{◌≡◌, ℕ, ◌+◌, ◌/◌, ◌^◌, ◌<◌, Bool, true, false, ◌&&◌, List, length, get_or, map, replicate, Some, None, sym, ◌∙◌, ap, refl, arith}
+use Rattle.std.specs.Prelude.{if◌then◌else◌}
+use Rattle.std.proofs.lemmas.List.{length-replicate, get_or-replicate}
+use Rattle.std.proofs.Math.Bool.{and-true, and-false}
+use Rattle.bsi_bits.specs.BitList.{BitList}
+use Rattle.bsi_bits.specs.Packed.{bit_of, bits_of}
+use Rattle.bsi_bits.proofs.Reading.{length-bits_of, get_or-bits_of}
+use Rattle.bsi_slices.specs.Rows.{compares, selects}
+use Rattle.bsi_slices.specs.declared.column.Op.{Op}
+use Rattle.bsi_slices.specs.declared.slices.compare.Test.{Test}
+use Rattle.bsi_slices.specs.declared.slices.compare.Selection.{Selection}
+use Rattle.bsi_slices.specs.declared.slices.compare.Selection.TheVariants.{Nothing, Everything, Tested}
+use Rattle.bsi_slices.specs.Slices.{number, entries_in}
+use Rattle.bsi_slices.specs.Blocks.{IsKept}
+use Rattle.bsi_slices.specs.SliceTests.{chosen, passes}
+use Rattle.bsi_slices.proofs.SliceEntries.{by_entries}
+use Rattle.bsi_slices.proofs.SliceNumbers.{number_below}
+
+module _ (present : List Bool) (slices : List BitList) (op : Op) (n size : ℕ) (size_is : size ≡ 2 ^ length slices) (choice : Selection)
+    (agree : (x : ℕ) → x < size → chosen choice x ≡ compares op x n) where
+  -- the rows that are there and chosen are those that the comparison selects
+  selected : (bits : List Bool) → length bits ≡ length present → ((r : ℕ) → r < length present → get_or bits r false ≡ (get_or present r false && chosen choice (number slices r)))
+      → bits ≡ map (selects op n) (entries_in present slices)
+  selected bits long each =
+      by_entries (selects op n) present slices false bits long
+      (λ r below. each r below ∙ of_mark (get_or present r false) (number slices r) (omega (arith, size_is, number_below slices r)))
+    where
+      of_mark : (there : Bool) (m : ℕ) → m < size → (there && chosen choice m) ≡ selects op n (if there then Some m else None)
+      of_mark true m small = agree m small
+      of_mark false m small = refl
+
+  pub selected_none : choice ≡ Nothing → (bits : List Bool) (count : ℕ) → count ≡ length present → bits ≡ replicate count false → bits ≡ map (selects op n) (entries_in present slices)
+  selected_none is bits count long none =
+      selected bits (ap length none ∙ length-replicate count false ∙ long)
+      (λ r below. ap (λ b. get_or b r false) none ∙ get_or-replicate count r false false (omega arith)
+      ∙ sym (ap (λ s. get_or present r false && chosen s (number slices r)) is ∙ and-false (get_or present r false)))
+
+  pub selected_all : choice ≡ Everything → (bits : List Bool) → bits ≡ present → bits ≡ map (selects op n) (entries_in present slices)
+  selected_all is bits all =
+      selected bits (ap length all)
+      (λ r below. ap (λ b. get_or b r false) all ∙ sym (ap (λ s. get_or present r false && chosen s (number slices r)) is ∙ and-true (get_or present r false)))
+
+  pub selected_tested : (test : Test) → choice ≡ Tested test
+      → (bits : List Bool) (old new : List ℕ) (count : ℕ) → count ≡ length present → length old ≡ (length present + 63) / 64 → ((r : ℕ) → bit_of old r ≡ get_or present r false)
+      → IsKept (λ r. passes test (number slices r)) 0 (length old) old new → bits ≡ bits_of count new
+      → bits ≡ map (selects op n) (entries_in present slices)
+  selected_tested test is bits old new count long few places kept are =
+      selected bits (ap length are ∙ length-bits_of count new ∙ long)
+      (λ r below. ap (λ b. get_or b r false) are ∙ get_or-bits_of count new r false (omega arith)
+      ∙ kept.inside r (omega arith) (omega arith)
+      ∙ (λ j. places r j && passes test (number slices r))
+      ∙ sym (ap (λ s. get_or present r false && chosen s (number slices r)) is))

@@ -1,0 +1,7 @@
+use Rattle.std.proofs.Common.{◌≡◌, ◌%◌, ◌^◌}
+use Rattle.std.specs.Prelude.{sum_by}
+use Rattle.bsi_slices.specs.Totals.{numbers_at}
+use Rattle.bsi_slices.proofs.slices.Slices.sum_found.Given as goal
+
+abbrev pub invariant-slices : goal.invariant-slices
+invariant-slices l = l.total ≡ sum_by (λ n. n % 2 ^ l.i) (numbers_at l.found.bits l.self.entries)

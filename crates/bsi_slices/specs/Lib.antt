@@ -1,0 +1,6 @@
+pub mod Blocks
+pub mod Orders
+pub mod Rows
+pub mod SliceTests
+pub mod Slices
+pub mod Totals

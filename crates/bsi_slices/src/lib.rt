@@ -1,0 +1,9 @@
+//! A column of optional numbers: what it is to a table, and its form as bit slices, with every comparison and total.
+#![tactic(auto)]
+
+mod column;
+mod slices;
+
+pub use column::{Column, Op};
+pub use slices::Slices;
+pub use std::alloc::AllocError as NoMemory;

@@ -1,0 +1,231 @@
+//! Comparisons of the numbers in slices with a constant, block by block and from the least significant slice up.
+
+ghost use Rattle.std.specs.Prelude.{◌≡◌, ℕ, ◌+◌, ◌*◌, ◌-◌, ◌/◌, ◌<◌, ◌≤◌, ◌^◌, ◌==◌, if◌then◌else◌, length, map, nat_lt, slice_index, slice_index_or, false, IfOk, bit_and, bit_or};
+ghost use Rattle.std.specs.Int.{bit_not, w64};
+ghost use Rattle.std.specs.Simd.Lanes.{zip2};
+ghost use Rattle.bsi_bits.specs.Packed.{bit_of};
+ghost use Rattle.bsi_slices.specs.Blocks.{IsKept};
+ghost use Rattle.bsi_slices.specs.Rows.{compares, selects};
+ghost use Rattle.bsi_slices.specs.SliceTests.{chosen, passes, relates, IsBelowSize};
+ghost use Rattle.bsi_slices.specs.Slices.{entries_in, number, slice_at, IsSliced};
+ghost use Rattle.bsi_slices.specs.declared.slices.compare.Selection.TheVariants.{Tested};
+
+use super::know_len;
+use crate::NoMemory;
+use crate::column::Op;
+use bsi_bits::Bits;
+use std::alloc::Global;
+use std::simd::Simd;
+
+/// The words of a block, which is kept in half of a processor's 16 registers of two words.
+const BLOCK: usize = 16;
+
+/// How a number is to stand to a constant.
+#[derive(Clone, Copy)]
+enum Relation {
+    /// Above the constant.
+    Above,
+    /// Equal to the constant.
+    Equal,
+}
+
+/// The numbers that a comparison selects of those below a size.
+#[derive(Clone, Copy)]
+enum Selection {
+    /// None of them.
+    Nothing,
+    /// Each of them.
+    Everything,
+    /// Those that pass a test, whose constant is below the size.
+    Tested(Test),
+}
+
+/// A test of numbers.
+#[derive(Clone, Copy)]
+struct Test {
+    /// How a number is to stand to the constant.
+    relation: Relation,
+    constant: u64,
+    /// Whether the numbers that do not stand so are to pass, in place of those that do.
+    negated: bool,
+}
+
+/// For each row whether it is a number that compares so with `constant`. No slice is read where the answer is known.
+pub fn select(
+    alloc: Global,
+    slices: &[Bits],
+    present: &Bits,
+    op: Op,
+    constant: u64,
+) -> Result<Bits, NoMemory>
+    requires { IsSliced present.now.bits slices.now }
+    ensures { IfOk result (λ b. b.bits ≡ map (selects op constant) (entries_in present.now.bits slices.now)) }
+{
+    match decide(op, constant, 1 << slices.len()) {
+        Selection::Nothing => Bits::filled(alloc, present.len(), false),
+        Selection::Everything => present.copy(),
+        Selection::Tested(test) => {
+            let mut words = present.copy()?.into_words();
+            keep(slices, test, &mut words);
+            Ok(Bits::from_words(words, present.len()))
+        }
+    }
+}
+
+/// The numbers below a size that a comparison with a constant selects.
+fn decide(op: Op, constant: u64, size: u64) -> Selection
+    ensures chosen { (x : ℕ) → x < size → chosen result x ≡ compares op x constant }
+    ensures below { IsBelowSize result size }
+{
+    if constant >= size {
+        return match op {
+            Op::Eq | Op::Gt | Op::Ge => Selection::Nothing,
+            Op::Ne | Op::Lt | Op::Le => Selection::Everything,
+        };
+    }
+    match op {
+        Op::Eq => tested(Relation::Equal, constant, false),
+        Op::Ne => tested(Relation::Equal, constant, true),
+        Op::Gt => tested(Relation::Above, constant, false),
+        Op::Le => tested(Relation::Above, constant, true),
+        Op::Lt if constant == 0 => Selection::Nothing,
+        Op::Ge if constant == 0 => Selection::Everything,
+        Op::Lt => tested(Relation::Above, constant - 1, true),
+        Op::Ge => tested(Relation::Above, constant - 1, false),
+    }
+}
+
+/// The numbers in a relation to a constant or, where the test is negated, the others.
+fn tested(relation: Relation, constant: u64, negated: bool) -> Selection
+    ensures { result ≡ Tested (record { relation = relation; constant = constant; negated = negated }) }
+{
+    Selection::Tested(Test {
+        relation,
+        constant,
+        negated,
+    })
+}
+
+/// Keeps in `words` the rows whose numbers pass the test: blocks first, and single words behind them.
+fn keep(slices: &[Bits], test: Test, words: &mut [u64])
+    requires few { length slices.now ≤ 63 }
+    requires below { test.constant < 2 ^ length slices.now }
+    requires long { (i : ℕ) → i < length slices.now → (length (slice_at slices.now i) + 63) / 64 ≡ length words.old }
+    ensures { IsKept (λ r. passes test (number slices.now r)) 0 (length words.old) words.old words.new }
+{
+    let whole = words.len() / BLOCK * BLOCK;
+    keep_blocks::<BLOCK>(slices, test, 0, words);
+    keep_blocks::<1>(slices, test, whole, words);
+}
+
+/// The same from a word on, as far as blocks of `N` words go.
+fn keep_blocks<const N: usize>(slices: &[Bits], test: Test, from: usize, words: &mut [u64])
+    requires blocks { (1 ≤ N) × (N ≤ 64) }
+    requires few { length slices.now ≤ 63 }
+    requires below { test.constant < 2 ^ length slices.now }
+    requires within { from ≤ length words.old }
+    requires long { (i : ℕ) → i < length slices.now → (length (slice_at slices.now i) + 63) / 64 ≡ length words.old }
+    ensures { IsKept (λ r. passes test (number slices.now r)) from (from + N * ((length words.old - from) / N)) words.old words.new }
+{
+    let blocks = (words.len() - from) / N;
+    'block: for k in 0..blocks {
+        let at = from + N * k;
+        let found = related_block::<N>(slices, test.relation, test.constant, at);
+        let kept = Simd::<u64, N>::from_slice(&words[at..]);
+        cut(kept, found, test.negated).copy_to_slice(&mut words[at..]);
+    }
+}
+
+/// For the rows of a block, whether their numbers are in the relation to the constant.
+fn related_block<const N: usize>(
+    slices: &[Bits],
+    relation: Relation,
+    constant: u64,
+    at: usize,
+) -> Simd<u64, N>
+    requires blocks { (1 ≤ N) × (N ≤ 64) }
+    requires few { length slices.now ≤ 63 }
+    requires below { constant < 2 ^ length slices.now }
+    requires long { (i : ℕ) → i < length slices.now → at + N ≤ (length (slice_at slices.now i) + 63) / 64 }
+    ensures long { length result ≡ N }
+    ensures fits { (k : ℕ) → slice_index result k < 2 ^ 64 }
+    ensures bits { (p : ℕ) → p < 64 * N → bit_of result p ≡ relates relation constant (number slices.now (64 * at + p)) }
+{
+    match relation {
+        Relation::Above => above_block::<N>(slices, constant, at),
+        Relation::Equal => equal_block::<N>(slices, constant, at),
+    }
+}
+
+/// For the rows of a block, whether their numbers are above the constant. A place that is 1 in it keeps what the places
+/// below say only where the slice is 1 too, and a place that is 0 says so wherever the slice is 1.
+fn above_block<const N: usize>(slices: &[Bits], constant: u64, at: usize) -> Simd<u64, N>
+    requires blocks { (1 ≤ N) × (N ≤ 64) }
+    requires few { length slices.now ≤ 63 }
+    requires below { constant < 2 ^ length slices.now }
+    requires long { (i : ℕ) → i < length slices.now → at + N ≤ (length (slice_at slices.now i) + 63) / 64 }
+    ensures long { length result ≡ N }
+    ensures fits { (k : ℕ) → slice_index result k < 2 ^ 64 }
+    ensures bits { (p : ℕ) → p < 64 * N → bit_of result p ≡ nat_lt constant (number slices.now (64 * at + p)) }
+{
+    let mut above = Simd::<u64, N>::splat(0);
+    'slices: for place in 0..slices.len() {
+        let words = words_at(slices, place);
+        let lanes = Simd::<u64, N>::from_slice(&words[at..]);
+        above = stepped(above, lanes, constant >> place & 1 == 1);
+    }
+    above
+}
+
+/// For the rows of a block, whether their numbers are the constant.
+fn equal_block<const N: usize>(slices: &[Bits], constant: u64, at: usize) -> Simd<u64, N>
+    requires blocks { (1 ≤ N) × (N ≤ 64) }
+    requires few { length slices.now ≤ 63 }
+    requires below { constant < 2 ^ length slices.now }
+    requires long { (i : ℕ) → i < length slices.now → at + N ≤ (length (slice_at slices.now i) + 63) / 64 }
+    ensures long { length result ≡ N }
+    ensures fits { (k : ℕ) → slice_index result k < 2 ^ 64 }
+    ensures bits { (p : ℕ) → p < 64 * N → bit_of result p ≡ (constant == number slices.now (64 * at + p)) }
+{
+    let mut found = Simd::<u64, N>::splat(u64::MAX);
+    'slices: for place in 0..slices.len() {
+        let words = words_at(slices, place);
+        let lanes = Simd::<u64, N>::from_slice(&words[at..]);
+        found = cut(found, lanes, constant >> place & 1 == 0);
+    }
+    found
+}
+
+/// What the places up to one more say, by the slice of that place and whether it is 1 in the constant.
+fn stepped<const N: usize>(above: Simd<u64, N>, lanes: Simd<u64, N>, is_one: bool) -> Simd<u64, N>
+    ensures { result ≡ (if is_one then zip2 bit_and above.entry lanes.entry else zip2 bit_or above.entry lanes.entry) }
+{
+    if is_one { above & lanes } else { above | lanes }
+}
+
+/// Keeps the bits that are set in `found` or, if it is negated, those that are not.
+fn cut<const N: usize>(kept: Simd<u64, N>, found: Simd<u64, N>, negated: bool) -> Simd<u64, N>
+    ensures { result ≡ (if negated then zip2 bit_and kept.entry (map (bit_not w64) found.entry) else zip2 bit_and kept.entry found.entry) }
+{
+    if negated { kept & !found } else { kept & found }
+}
+
+/// The words of a slice, of which there are at most 2^26.
+fn words_at(slices: &[Bits], place: usize) -> &[u64]
+    requires { place < length slices.now }
+    ensures few { length result.now ≡ (length (slice_at slices.now place) + 63) / 64 }
+    ensures small { length result.now ≤ 2 ^ 26 }
+    ensures places { (i : ℕ) → bit_of result.now i ≡ slice_index_or (slice_at slices.now place) i false }
+    ensures fits { (k : ℕ) → slice_index result.now k < 2 ^ 64 }
+{
+    let slice = &slices[place];
+    know_len(slice);
+    let words = slice.words();
+    know_fits(words);
+    words
+}
+
+/// Says of words behind a shared reference what their type does.
+fn know_fits(words: &[u64])
+    ensures { (k : ℕ) → slice_index words.now k < 2 ^ 64 }
+{}
