@@ -1,4 +1,5 @@
 pub mod Adding
+pub mod Narrowing
 pub mod Places
 pub mod Ranking
 pub mod SliceBlocks

@@ -10,7 +10,7 @@ ghost use Rattle.bsi_slices.specs.SliceTests.{chosen, passes, relates, IsBelowSi
 ghost use Rattle.bsi_slices.specs.Slices.{entries_in, number, slice_at, IsSliced};
 ghost use Rattle.bsi_slices.specs.declared.slices.compare.Selection.TheVariants.{Tested};
 
-use super::know_len;
+use super::{know_fits, know_len};
 use crate::NoMemory;
 use crate::column::Op;
 use bsi_bits::Bits;
@@ -224,8 +224,3 @@ fn words_at(slices: &[Bits], place: usize) -> &[u64]
     know_fits(words);
     words
 }
-
-/// Says of words behind a shared reference what their type does.
-fn know_fits(words: &[u64])
-    ensures { (k : ℕ) → slice_index words.now k < 2 ^ 64 }
-{}
