@@ -1,0 +1,3 @@
+pub mod Balance
+pub mod Composing
+pub mod Events
