@@ -17,7 +17,7 @@ use Rattle.bsi_load.specs.Runs.{Done, rows_from, accepted, accepted_by, loads, l
 use Rattle.bsi_load.proofs.Balance.{balanced, conserved, IsBalanced, loads_waiting, feeder_at-after, count_after}
 
 -- two functions that agree on the numbers below n
-map_range_same : {X : Type 0} (g h : ℕ → X) (n : ℕ) (d : X) → ((i : ℕ) → i < n → g i ≡ h i) → map g (range_with_len 0 n) ≡ map h (range_with_len 0 n)
+pub map_range_same : {X : Type 0} (g h : ℕ → X) (n : ℕ) (d : X) → ((i : ℕ) → i < n → g i ≡ h i) → map g (range_with_len 0 n) ≡ map h (range_with_len 0 n)
 map_range_same g h n d same =
     let long = length-map-range_with_len g 0 n in
     ext_get_or d (map g (range_with_len 0 n)) (map h (range_with_len 0 n)) (long ∙ sym (length-map-range_with_len h 0 n)) (λ i within.
@@ -25,7 +25,7 @@ map_range_same g h n d same =
         get_or-map-range_with_len g 0 n i i d below (omega arith) ∙ same i below ∙ sym (get_or-map-range_with_len h 0 n i i d below (omega arith)))
 
 -- a list read from its start to its end
-map_range_reads : {X : Type 0} (xs : List X) (d : X) → map (λ i. get_or xs i d) (range_with_len 0 (length xs)) ≡ xs
+pub map_range_reads : {X : Type 0} (xs : List X) (d : X) → map (λ i. get_or xs i d) (range_with_len 0 (length xs)) ≡ xs
 map_range_reads xs d =
     let long = length-map-range_with_len (λ i. get_or xs i d) 0 (length xs) in
     ext_get_or d (map (λ i. get_or xs i d) (range_with_len 0 (length xs))) xs long (λ i within.
@@ -33,11 +33,11 @@ map_range_reads xs d =
 
 -- ---- what a feeder has, by its parts
 
-feeder : List Entries → Bool → ℕ → Waiting
+abbrev pub feeder : List Entries → Bool → ℕ → Waiting
 feeder rows is_closed capacity = record { rows = rows; closed = is_closed; capacity = capacity }
 
-same_feeder : (v w : Waiting) → v.rows ≡ w.rows → v.closed ≡ w.closed → v.capacity ≡ w.capacity → v ≡ w
-unfolding feeder
+pub same_feeder : (v w : Waiting) → v.rows ≡ w.rows → v.closed ≡ w.closed → v.capacity ≡ w.capacity → v ≡ w
+
 same_feeder v w rows is_closed capacity =
     ap (λ r. feeder r v.closed v.capacity) rows ∙ ap (λ b. feeder w.rows b v.capacity) is_closed ∙ ap (λ n. feeder w.rows w.closed n) capacity
 

@@ -1,8 +1,10 @@
 -- What a contract sees of a step machine, and the reply that it owes to an event.
-use Rattle.std.specs.Prelude.{◌≡◌, ℕ, Bool, false, not, List, [], Option, Some, None, Result, Ok, Err, ◌⊎◌, MatchOption, length, nat_le, ◌==◌, if◌then◌else◌, slice_index_or}
+use Rattle.std.specs.Prelude.{◌≡◌, ℕ, ◌≤◌, All, IsTrue, Bool, false, not, List, [], Option, Some, None, Result, Ok, Err, ◌⊎◌, MatchOption, length, nat_le, ◌==◌, if◌then◌else◌, slice_index_or}
 use Rattle.bsi_table.specs.declared.query.Answer.{Answer}
 use Rattle.bsi_table.specs.declared.errors.AskError.{AskError}
 use Rattle.bsi_table.specs.declared.errors.AskError.TheVariants as ask
+use Rattle.bsi_table.specs.declared.errors.AppendError.{AppendError}
+use Rattle.bsi_table.specs.declared.errors.AppendError.TheVariants as append
 use Rattle.bsi_table.specs.declared.query.Query.{Query}
 use Rattle.bsi_table.specs.Answers.{IsAnswer, missing_column}
 use Rattle.bsi_table.specs.Columns.{fits}
@@ -50,6 +52,11 @@ submit_reply s f row =
     else (if length (feeder_at s f).rows == (feeder_at s f).capacity then Err (submit.Full row)
     else Ok tt)))
 
+-- the refusal of a load where the index refuses its row
+abbrev pub refusal_of_append : AppendError → LoadRefused
+refusal_of_append append.IndexFull = load.IndexFull
+refusal_of_append append.NoMemory = load.NoMemory
+
 -- the first refusal of a load, want of memory apart
 abbrev pub load_refusal : Shown → ℕ → Option LoadRefused
 load_refusal s f =
@@ -83,3 +90,12 @@ IsLawful s (Load f) (Loaded reply) = IsLoadReply s f reply
 IsLawful s (Close f) (Closed reply) = reply ≡ close_reply s f
 IsLawful s (Ask query) (Answered reply) = IsAskReply s query reply
 IsLawful s event reply = ⊥
+
+-- there are from 1 to 64 feeders, no more rows of each wait than may, and those that wait fit the schema
+pub record IsMachine (index : Table) (feeders : List Waiting) : Type 0 where
+  pub as_many : index.feeders ≡ length feeders
+  pub some : 1 ≤ length feeders
+  pub few : length feeders ≤ 64
+  pub bounded : All (λ w. length w.rows ≤ w.capacity) feeders
+  pub small : All (λ w. w.capacity ≤ 65536) feeders
+  pub fitting : All (λ w. All (λ row. IsTrue (fits index.schema.columns row)) w.rows) feeders

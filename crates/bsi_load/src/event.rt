@@ -1,6 +1,8 @@
 //! What is asked of a step machine, and what it replies.
 
-use bsi_table::{Answer, AskError, Query, Row};
+ghost use Rattle.std.specs.Prelude.{◌≡◌};
+
+use bsi_table::{Answer, AppendError, AskError, Query, Row};
 
 /// One step of a machine. Feeders go by their places, from 0.
 #[derive(Debug, Drop)]
@@ -41,6 +43,19 @@ pub enum LoadRefused {
     IndexFull,
     /// The index found no memory. The row still waits.
     NoMemory,
+}
+
+impl From<AppendError> for LoadRefused {
+    ghost use Rattle.bsi_load.specs.Shown.{refusal_of_append};
+
+    ghost from_gives = { λ refused e. e ≡ refusal_of_append refused };
+
+    fn from(refused: AppendError) -> LoadRefused {
+        match refused {
+            AppendError::IndexFull => LoadRefused::IndexFull,
+            AppendError::NoMemory => LoadRefused::NoMemory,
+        }
+    }
 }
 
 /// Why a feeder is not closed, in the order of checking.

@@ -2,7 +2,12 @@
 #![tactic(auto)]
 
 mod event;
+mod feeder;
 pub mod laws;
+mod machine;
+mod sizes;
 
 pub use event::{CloseRefused, Event, LoadRefused, Reply, RunRefused, SubmitRefused};
+pub use machine::Core;
+pub use sizes::{MakeError, check_sizes};
 pub use std::alloc::AllocError as NoMemory;
