@@ -1,6 +1,6 @@
 -- In a lawful run the rows of a feeder that are indexed are the first of those accepted, as many as were loaded.
-use Rattle.std.proofs.Common.{◌≡◌, ℕ, ◌+◌, ◌<◌, ◌≤◌, Bool, true, false, cond, List, [], ◌∷◌, ◌++◌, Option, Some, None, Result, Ok, Err, length, take, drop, get_or, map, inl, inr, ap, ap₂, sym, ◌∙◌, refl, subst, arith}
-use Rattle.std.specs.Prelude.{◌⊎◌, MatchOption, slice_get, nat_eq, nat_le, ◌==◌}
+use Rattle.std.proofs.Common.{◌≡◌, ℕ, ◌+◌, ◌<◌, ◌≤◌, Bool, true, false, cond, List, [], ◌∷◌, ◌++◌, Option, Some, None, Result, Ok, Err, length, take, get_or, map, inl, inr, ap, ap₂, sym, ◌∙◌, refl, subst, arith}
+use Rattle.std.specs.Prelude.{◌⊎◌, MatchOption, slice_get, nat_eq, ◌==◌}
 use Rattle.std.specs.List.{filter_map, range_with_len}
 use Rattle.std.specs.Option.{option_map, option_to_list}
 use Rattle.std.proofs.Math.Seq.{take-append_seam}
@@ -13,10 +13,9 @@ use Rattle.std.proofs.lemmas.Option.{slice_get-get_or}
 use Rattle.bsi_table.specs.Rows.{Entries, FedRow}
 use Rattle.bsi_load.specs.declared.event.Event.{Event}
 use Rattle.bsi_load.specs.declared.event.Event.TheVariants.{Submit, Load, Close, Ask}
-use Rattle.bsi_load.specs.declared.event.LoadRefused.{LoadRefused}
 use Rattle.bsi_load.specs.declared.event.Reply.{Reply}
 use Rattle.bsi_load.specs.declared.event.Reply.TheVariants.{Submitted, Loaded, Closed, Answered}
-use Rattle.bsi_load.specs.Shown.{Shown, Waiting, feeder_at, no_feeder, is_unknown, load_refusal, IsLoadReply, IsLawful}
+use Rattle.bsi_load.specs.Shown.{Shown, feeder_at, no_feeder, is_unknown, IsLoadReply, IsLawful}
 use Rattle.bsi_load.specs.Runs.{Done, rows_from, accepted, accepted_by, loads, loaded_by, indexed, loaded_row, waiting, feeder_after, AreLawful, shown_after, IsConserved}
 
 -- ---- what the machine shows of a feeder after a run
@@ -150,8 +149,8 @@ load_step s f past before g p reply =
       | inl same ↦
           let is : g ≡ f = grind (arith, nat_tests) in
           moved s f past before (Load g) (Loaded (Ok p)) (ap (λ b. cond b 1 0) same) refl
-              (subst (λ h. loads s h past < length (accepted s h past)) is waits)
-              (row ∙ ap (λ b. cond b (get_or (accepted s g past) (loads s g past) [] ∷ []) []) same ∙ ap (λ h. get_or (accepted s h past) (loads s h past) [] ∷ []) is)
+          (subst (λ h. loads s h past < length (accepted s h past)) is waits)
+          (row ∙ ap (λ b. cond b (get_or (accepted s g past) (loads s g past) [] ∷ []) []) same ∙ ap (λ h. get_or (accepted s h past) (loads s h past) [] ∷ []) is)
       | inr other ↦ kept s f past before (Load g) (Loaded (Ok p)) (ap (λ b. cond b 1 0) other) (row ∙ ap (λ b. cond b (get_or (accepted s g past) (loads s g past) [] ∷ []) []) other)
     ]
 

@@ -1,35 +1,34 @@
 -- One event after a run is one event more of the run, and what one event changes.
-use Rattle.std.proofs.Common.{◌≡◌, ◌≢◌, ℕ, ◌+◌, ◌<◌, Bool, true, false, List, [], ◌∷◌, ◌++◌, Option, Some, None, Ok, Err, length, take, drop, get_or, set, map, inl, inr, ap, ap₂, sym, ◌∙◌, refl, arith}
-use Rattle.std.specs.Prelude.{slice_get, nat_eq, ◌||◌}
+use Rattle.std.proofs.Common.{◌≡◌, ℕ, ◌+◌, ◌<◌, Bool, List, [], ◌∷◌, ◌++◌, Ok, Err, length, drop, get_or, map, ap, ap₂, sym, ◌∙◌, refl, arith}
+use Rattle.std.specs.Prelude.{slice_get, ◌||◌}
 use Rattle.std.specs.List.{range_with_len}
 use Rattle.std.specs.Option.{option_map, option_to_list}
 use Rattle.std.proofs.Math.Seq.{drop-append_seam}
-use Rattle.std.proofs.lemmas.List.{append-nil, ext_get_or, get_or-set_other, get_or-set_same, length-set, length-take-le}
+use Rattle.std.proofs.lemmas.List.{ext_get_or, length-take-le}
 use Rattle.std.proofs.lemmas.List.FromFn.{length-map-range_with_len, get_or-map-range_with_len}
-use Rattle.bsi_table.specs.Rows.{Entries, FedRow}
-use Rattle.bsi_table.specs.Table.{Table}
+use Rattle.bsi_table.specs.Rows.{Entries}
 use Rattle.bsi_load.specs.declared.event.Event.{Event}
 use Rattle.bsi_load.specs.declared.event.Event.TheVariants.{Submit, Load, Close, Ask}
 use Rattle.bsi_load.specs.declared.event.Reply.{Reply}
 use Rattle.bsi_load.specs.declared.event.Reply.TheVariants.{Submitted, Loaded, Closed, Answered}
 use Rattle.bsi_load.specs.Shown.{Shown, Waiting, feeder_at, no_feeder, IsLawful}
 use Rattle.bsi_load.specs.Runs.{Done, rows_from, accepted, accepted_by, loads, loaded_by, indexed, loaded_row, waiting, closed, closed_by, feeder_after, AreLawful, shown_after}
-use Rattle.bsi_load.proofs.Balance.{balanced, conserved, IsBalanced, loads_waiting, feeder_at-after, count_after}
+use Rattle.bsi_load.proofs.Balance.{balanced, conserved, loads_waiting, feeder_at-after, count_after}
 
 -- two functions that agree on the numbers below n
 pub map_range_same : {X : Type 0} (g h : ℕ → X) (n : ℕ) (d : X) → ((i : ℕ) → i < n → g i ≡ h i) → map g (range_with_len 0 n) ≡ map h (range_with_len 0 n)
 map_range_same g h n d same =
     let long = length-map-range_with_len g 0 n in
     ext_get_or d (map g (range_with_len 0 n)) (map h (range_with_len 0 n)) (long ∙ sym (length-map-range_with_len h 0 n)) (λ i within.
-        let below : i < n = omega (arith, within, long) in
-        get_or-map-range_with_len g 0 n i i d below (omega arith) ∙ same i below ∙ sym (get_or-map-range_with_len h 0 n i i d below (omega arith)))
+    let below : i < n = omega (arith, within, long) in
+    get_or-map-range_with_len g 0 n i i d below (omega arith) ∙ same i below ∙ sym (get_or-map-range_with_len h 0 n i i d below (omega arith)))
 
 -- a list read from its start to its end
 pub map_range_reads : {X : Type 0} (xs : List X) (d : X) → map (λ i. get_or xs i d) (range_with_len 0 (length xs)) ≡ xs
 map_range_reads xs d =
     let long = length-map-range_with_len (λ i. get_or xs i d) 0 (length xs) in
     ext_get_or d (map (λ i. get_or xs i d) (range_with_len 0 (length xs))) xs long (λ i within.
-        get_or-map-range_with_len (λ j. get_or xs j d) 0 (length xs) i i d (omega (arith, within, long)) (omega arith))
+    get_or-map-range_with_len (λ j. get_or xs j d) 0 (length xs) i i d (omega (arith, within, long)) (omega arith))
 
 -- ---- what a feeder has, by its parts
 
@@ -37,7 +36,6 @@ abbrev pub feeder : List Entries → Bool → ℕ → Waiting
 feeder rows is_closed capacity = record { rows = rows; closed = is_closed; capacity = capacity }
 
 pub same_feeder : (v w : Waiting) → v.rows ≡ w.rows → v.closed ≡ w.closed → v.capacity ≡ w.capacity → v ≡ w
-
 same_feeder v w rows is_closed capacity =
     ap (λ r. feeder r v.closed v.capacity) rows ∙ ap (λ b. feeder w.rows b v.capacity) is_closed ∙ ap (λ n. feeder w.rows w.closed n) capacity
 
@@ -51,12 +49,12 @@ waiting_start : (s : Shown) (f : ℕ) → waiting s f [] ≡ (feeder_at s f).row
 unfolding accepted loads
 waiting_start s f = drop-append_seam (rows_from f s.index.rows) (feeder_at s f).rows
 
-shown_start : (s : Shown) → shown_after s [] ≡ s
+pub shown_start : (s : Shown) → shown_after s [] ≡ s
 unfolding shown_after indexed closed
 shown_start s =
     ap (λ feeders. record { index = s.index; feeders = feeders })
-        (map_range_same (feeder_after s []) (feeder_at s) (length s.feeders) no_feeder (λ f there. same_feeder (feeder_after s [] f) (feeder_at s f) (waiting_start s f) refl refl)
-        ∙ map_range_reads s.feeders no_feeder)
+    (map_range_same (feeder_after s []) (feeder_at s) (length s.feeders) no_feeder (λ f there. same_feeder (feeder_after s [] f) (feeder_at s f) (waiting_start s f) refl refl)
+    ∙ map_range_reads s.feeders no_feeder)
 
 -- ---- one event after a run
 
@@ -84,7 +82,7 @@ module _ (s : Shown) (past : List Done) (lawful : AreLawful s past) where
     then_feeder : (f : ℕ) → f < length s.feeders → feeder_after (shown_after s past) ((e, r) ∷ []) f ≡ feeder_after s ((e, r) ∷ past) f
     then_feeder f there =
         same_feeder (feeder_after (shown_after s past) ((e, r) ∷ []) f) (feeder_after s ((e, r) ∷ past) f)
-            (then_waiting f there) (then_closed f there) (ap (λ w. w.capacity) (feeder_at-after s past f there))
+        (then_waiting f there) (then_closed f there) (ap (λ w. w.capacity) (feeder_at-after s past f there))
 
   then_row : (e : Event) (r : Reply) → IsLawful (shown_after s past) e r → loaded_row (shown_after s past) [] e r ≡ loaded_row s past e r
   then_row (Submit g row) r next = refl
@@ -103,6 +101,6 @@ module _ (s : Shown) (past : List Done) (lawful : AreLawful s past) where
   unfolding shown_after indexed
   shown_step e r next =
       ap₂ (λ row feeders. record { index = record s.index { rows = indexed s past ++ row }; feeders = feeders })
-          (then_row e r next)
-          (ap (λ n. map (feeder_after (shown_after s past) ((e, r) ∷ [])) (range_with_len 0 n)) (count_after s past)
-          ∙ map_range_same (feeder_after (shown_after s past) ((e, r) ∷ [])) (feeder_after s ((e, r) ∷ past)) (length s.feeders) no_feeder (then_feeder e r next))
+      (then_row e r next)
+      (ap (λ n. map (feeder_after (shown_after s past) ((e, r) ∷ [])) (range_with_len 0 n)) (count_after s past)
+      ∙ map_range_same (feeder_after (shown_after s past) ((e, r) ∷ [])) (feeder_after s ((e, r) ∷ past)) (length s.feeders) no_feeder (then_feeder e r next))

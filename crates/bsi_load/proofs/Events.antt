@@ -1,5 +1,5 @@
 -- A run's events and replies as its past, and what stays of a closed feeder.
-use Rattle.std.proofs.Common.{◌≡◌, ℕ, zero, suc, ◌+◌, ◌<◌, ◌≤◌, Bool, true, false, cond, not, List, [], ◌∷◌, ◌++◌, Option, Some, None, Result, Ok, Err, length, take, get_or, inl, inr, ap, sym, ◌∙◌, refl, subst, arith}
+use Rattle.std.proofs.Common.{◌≡◌, ℕ, zero, suc, ◌+◌, ◌<◌, ◌≤◌, Bool, true, false, cond, not, List, [], ◌∷◌, ◌++◌, Some, Result, Ok, Err, length, take, get_or, inl, inr, ap, sym, ◌∙◌, refl, subst, arith}
 use Rattle.std.specs.Prelude.{slice_get, nat_le, unwrap_or, ◌==◌}
 use Rattle.std.proofs.lemmas.Bool.{cases_Bool}
 use Rattle.std.proofs.lemmas.Bool.Decides.{nat_tests}
@@ -7,12 +7,12 @@ use Rattle.std.proofs.lemmas.List.{append-nil, length-take-le, take_all, take_mo
 use Rattle.bsi_table.specs.Columns.{fits}
 use Rattle.bsi_table.specs.Rows.{Entries}
 use Rattle.bsi_load.specs.declared.event.Event.{Event}
-use Rattle.bsi_load.specs.declared.event.Event.TheVariants.{Submit, Load, Close, Ask}
+use Rattle.bsi_load.specs.declared.event.Event.TheVariants.{Submit}
 use Rattle.bsi_load.specs.declared.event.Reply.{Reply}
 use Rattle.bsi_load.specs.declared.event.Reply.TheVariants.{Submitted, Loaded, Closed, Answered}
 use Rattle.bsi_load.specs.declared.event.SubmitRefused.{SubmitRefused}
 use Rattle.bsi_load.specs.declared.event.SubmitRefused.TheVariants as submit
-use Rattle.bsi_load.specs.Shown.{Shown, Waiting, feeder_at, is_unknown, submit_reply, IsLawful}
+use Rattle.bsi_load.specs.Shown.{Shown, feeder_at, is_unknown, IsLawful}
 use Rattle.bsi_load.specs.Runs.{Done, accepted, accepted_by, closed, AreLawful, shown_after, done_after, past_of, past_at, IsConserved, StaysClosed}
 use Rattle.bsi_load.proofs.Balance.{conserved, feeder_at-after, count_after}
 
@@ -62,8 +62,8 @@ nothing_accepted s past f row (Submitted reply) lawful is_closed =
     let shown = shown_after s past in
     ap (λ a. accepted_by f (Submit f row) (Submitted a)) lawful
     ∙ refused (is_unknown shown f) ((feeder_at shown f).closed) f row (submit.UnknownFeeder row) (submit.Closed row) (cond (not (fits shown.index.schema.columns row)) (Err (submit.Misfit row)) (cond (length (feeder_at shown f).rows == (feeder_at shown f).capacity) (Err (submit.Full row)) (Ok tt))) (λ known.
-        let there : f < length s.feeders = let many = count_after s past in grind (arith, nat_tests, known, many) in
-        ap (λ w. w.closed) (feeder_at-after s past f there) ∙ is_closed)
+    let there : f < length s.feeders = let many = count_after s past in grind (arith, nat_tests, known, many) in
+    ap (λ w. w.closed) (feeder_at-after s past f there) ∙ is_closed)
 nothing_accepted s past f row (Loaded reply) lawful is_closed = refl
 nothing_accepted s past f row (Closed reply) lawful is_closed = refl
 nothing_accepted s past f row (Answered reply) lawful is_closed = refl
@@ -93,3 +93,17 @@ stays_closed s events replies lawful f n row submits is_closed = elim (cases_Boo
       let is = last_lawful s (past_at events replies n) (Submit f row) r (subst (AreLawful s) pushed (lawful_at s events replies (n + 1) lawful)) in
       ap (accepted s f) pushed ∙ nothing_more s (past_at events replies n) f (Submit f row) r (nothing_accepted s (past_at events replies n) f row r is is_closed)
 ]
+
+-- ---- lawful runs grow from nothing
+
+pub none_lawful : (s : Shown) → AreLawful s []
+unfolding AreLawful
+none_lawful s = tt
+
+pub more_lawful : (s : Shown) (past : List Done) (e : Event) (r : Reply) → AreLawful s past → IsLawful (shown_after s past) e r → AreLawful s ((e, r) ∷ past)
+unfolding AreLawful
+more_lawful s past e r before next = (before, next)
+
+pub past_none : (events : List Event) → past_of events [] ≡ []
+unfolding done_after
+past_none events = refl

@@ -1,13 +1,19 @@
 -- A machine of which one feeder changes is still a machine.
-use Rattle.std.proofs.Common.{◌≡◌, ℕ, ◌<◌, ◌≤◌, true, false, cond, ◌++◌, ◌∷◌, [], List, Option, Some, None, Result, Ok, Err, length, drop, get_or, set, ap, ap₂, sym, ◌∙◌, subst, refl, arith}
-use Rattle.std.specs.Prelude.{All, IsTrue, IsOk, IsErr, OnOk, IfErr, MatchOption, ◌↔◌, ◌⊎◌, ◌==◌, slice_get, unwrap_or}
+use Rattle.std.proofs.Common.{◌≡◌, ℕ, ◌+◌, ◌<◌, ◌≤◌, true, false, cond, ◌++◌, ◌∷◌, [], List, Option, Some, None, Bool, map, Result, Ok, Err, length, drop, get_or, set, ap, ap₂, sym, ◌∙◌, subst, refl, arith}
+use Rattle.std.specs.Prelude.{All, IsTrue, IsOk, IsErr, OnOk, IfErr, MatchOption, ◌↔◌, ◌⊎◌, ◌==◌, slice_get, unwrap_or, position, nat_eq, nat_lt}
 use Rattle.std.proofs.lemmas.Bool.Decides.{nat_tests}
-use Rattle.std.proofs.lemmas.List.{length-append, length-set}
-use Rattle.std.proofs.lemmas.List.Elements.{All-drop, All-push, All-set}
+use Rattle.std.proofs.lemmas.Iterator.Adapters.{position_from-zero}
+use Rattle.std.proofs.lemmas.List.{length-append, length-map, length-set}
+use Rattle.std.proofs.lemmas.List.Elements.{All-cons, All-drop, All-map, All-nil, All-push, All-set, All-weaker}
 use Rattle.circular_buffer.specs.Buffer.{Buffer, buffer}
 use Rattle.bsi_table.specs.Rows.{Entries}
-use Rattle.bsi_table.specs.Columns.{fits}
-use Rattle.bsi_table.specs.Table.{Table, with_row}
+use Rattle.std.specs.List.{position_from}
+use Rattle.std.specs.Option.{option_map, option_or}
+use Rattle.bsi_table.specs.Columns.{Declared, fits}
+use Rattle.bsi_table.specs.Table.{Table, no_rows, with_row}
+use Rattle.bsi_load.specs.Sizes.{capacities_refusal, is_out_of_range, new_feeder, sizes_refusal}
+use Rattle.bsi_table.specs.Refusals.{index_refusal}
+use Rattle.bsi_load.specs.declared.sizes.MakeError.TheVariants.{NoFeeders, TooManyFeeders, CapacityOutOfRange, Index}
 use Rattle.bsi_load.specs.declared.event.Event.TheVariants.{Load}
 use Rattle.bsi_load.specs.declared.event.LoadRefused.{LoadRefused}
 use Rattle.bsi_load.specs.declared.event.LoadRefused.TheVariants as load
@@ -82,3 +88,38 @@ load_failed s f (Err e) err = load_refused s f e
 -- the index has one more row
 pub machine_row : (index : Table) (feeders : List Waiting) (f : ℕ) (row : Entries) → IsMachine index feeders → IsMachine (with_row index f row) feeders
 machine_row index feeders f row is = record { as_many = is.as_many; some = is.some; few = is.few; bounded = is.bounded; small = is.small; fitting = is.fitting }
+
+-- ---- a machine of sizes that are not refused
+
+none_of_test : {X : Type 0} (b : Bool) (x : X) (rest : Option X) → cond b (Some x) rest ≡ None → (b ≡ false) × (rest ≡ None)
+none_of_test true x rest is = absurd (grind (arith, is))
+none_of_test false x rest is = (refl, is)
+
+none_of_first : {X : Type 0} (a b : Option X) → option_or a b ≡ None → a ≡ None
+none_of_first None b is = refl
+none_of_first (Some x) b is = absurd (grind (arith, is))
+
+none_of_mapped : {X Y : Type 0} (f : X → Y) (o : Option X) → option_map f o ≡ None → o ≡ None
+none_of_mapped f None is = refl
+none_of_mapped f (Some x) is = absurd (grind (arith, is))
+
+all_in_range : (i : ℕ) (capacities : List ℕ) → position_from is_out_of_range i capacities ≡ None → All (λ n. is_out_of_range n ≡ false) capacities
+all_in_range i [] none = All-nil (λ n. is_out_of_range n ≡ false)
+all_in_range i (n ∷ capacities) none =
+    let tests = none_of_test (is_out_of_range n) i (position_from is_out_of_range (i + 1) capacities) none in
+    All-cons (λ n. is_out_of_range n ≡ false) n capacities tests.0 (all_in_range (i + 1) capacities tests.1)
+
+pub machine_new : (schema : Declared) (capacities : List ℕ) (limit : ℕ) → sizes_refusal schema capacities limit ≡ None → IsMachine (no_rows schema (length capacities) limit) (map new_feeder capacities)
+machine_new schema capacities limit is =
+    let one = none_of_test (nat_eq (length capacities) 0) NoFeeders (cond (nat_lt 64 (length capacities)) (Some TooManyFeeders) (option_or (capacities_refusal capacities) (option_map Index (index_refusal schema limit)))) is in
+    let two = none_of_test (nat_lt 64 (length capacities)) TooManyFeeders (option_or (capacities_refusal capacities) (option_map Index (index_refusal schema limit))) one.1 in
+    let in_range = none_of_mapped CapacityOutOfRange (position is_out_of_range capacities) (none_of_first (capacities_refusal capacities) (option_map Index (index_refusal schema limit)) two.1) in
+    let many = length-map capacities new_feeder in
+    record {
+      as_many = sym many;
+      some = let test = one.0 in grind (arith, nat_tests, many);
+      few = let test = two.0 in grind (arith, nat_tests, many);
+      bounded = All-map (λ w. length w.rows ≤ w.capacity) new_feeder capacities (λ k d within. omega arith);
+      small = All-map (λ w. w.capacity ≤ 65536) new_feeder capacities (All-weaker (λ n. is_out_of_range n ≡ false) (λ n. n ≤ 65536) (λ n test. grind (arith, nat_tests)) capacities (all_in_range 0 capacities (sym (position_from-zero is_out_of_range capacities) ∙ in_range)));
+      fitting = All-map (λ w. All (λ row. IsTrue (fits schema.columns row)) w.rows) new_feeder capacities (λ k d within. All-nil (λ row. IsTrue (fits schema.columns row)));
+    }

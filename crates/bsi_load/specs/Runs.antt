@@ -1,13 +1,12 @@
 -- A run of events: what was accepted, what is indexed, what waits, and who was closed, by the events and their replies alone.
-use Rattle.std.specs.Prelude.{◌≡◌, ℕ, ◌+◌, Bool, true, false, ◌||◌, List, [], ◌∷◌, ◌++◌, Option, Some, None, Ok, Err, length, map, take, drop, filter_map, nat_eq, if◌then◌else◌, slice_get, ⊤}
+use Rattle.std.specs.Prelude.{◌≡◌, ℕ, ◌+◌, Bool, true, false, ◌||◌, List, [], ◌∷◌, ◌++◌, Some, None, Ok, length, map, take, drop, filter_map, nat_eq, if◌then◌else◌, slice_get, ⊤}
 use Rattle.std.specs.List.{range_with_len}
 use Rattle.std.specs.Option.{option_map, option_to_list}
 use Rattle.bsi_table.specs.Rows.{Entries, FedRow}
-use Rattle.bsi_table.specs.Table.{Table}
 use Rattle.bsi_load.specs.declared.event.Event.{Event}
-use Rattle.bsi_load.specs.declared.event.Event.TheVariants.{Submit, Load, Close, Ask}
+use Rattle.bsi_load.specs.declared.event.Event.TheVariants.{Submit, Load, Close}
 use Rattle.bsi_load.specs.declared.event.Reply.{Reply}
-use Rattle.bsi_load.specs.declared.event.Reply.TheVariants.{Submitted, Loaded, Closed, Answered}
+use Rattle.bsi_load.specs.declared.event.Reply.TheVariants.{Submitted, Loaded, Closed}
 use Rattle.bsi_load.specs.Shown.{Shown, Waiting, feeder_at, IsLawful}
 
 -- the past of a run: each event and its reply, the newest first

@@ -1,5 +1,5 @@
 -- Which sizes a machine may have, and a machine as it is made.
-use Rattle.std.specs.Prelude.{ℕ, Bool, false, ◌||◌, List, [], Option, Some, None, length, map, position, nat_eq, nat_lt, option_map, if◌then◌else◌}
+use Rattle.std.specs.Prelude.{ℕ, Bool, false, ◌||◌, List, [], Option, Some, length, map, position, nat_eq, nat_lt, option_map, if◌then◌else◌}
 use Rattle.std.specs.Option.{option_or}
 use Rattle.bsi_table.specs.declared.errors.IndexError.{IndexError}
 use Rattle.bsi_table.specs.declared.errors.IndexError.TheVariants as index

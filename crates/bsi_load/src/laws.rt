@@ -9,18 +9,15 @@ ghost use Rattle.bsi_load.specs.Runs.{Done, AreLawful, IsConserved, StaysClosed,
 /// In every run whose replies are lawful, each feeder's indexed rows followed by its waiting rows are its accepted rows.
 pub fn nothing_is_lost()
     ensures { (s : Shown) → (past : List Done) → AreLawful s past → IsConserved s past }
-{
-}
+{}
 
 /// One event after a run is one event more of it.
 pub fn runs_compose()
     ensures { (s : Shown) → (past : List Done) → (e : Event) → (r : Reply) → AreLawful s past → IsLawful (shown_after s past) e r
         → shown_after (shown_after s past) ((e, r) ∷ []) ≡ shown_after s ((e, r) ∷ past) }
-{
-}
+{}
 
 /// In a lawful run a row that is submitted where its feeder is closed adds nothing.
 pub fn closed_stays_closed()
     ensures { (s : Shown) → (events : List Event) → (replies : List Reply) → AreLawful s (past_of events replies) → StaysClosed s events replies }
-{
-}
+{}

@@ -8,9 +8,9 @@ ghost use Rattle.bsi_load.specs.Runs.{shown_after, past_of, past_at, AreLawful, 
 ghost use Rattle.bsi_load.specs.Shown.{submit_reply, close_reply, feeder_at, is_unknown, IsLoadReply, IsAskReply, IsLawful};
 ghost use Rattle.bsi_load.specs.Sizes.{new_feeder, new_machine, sizes_refusal};
 
+use crate::NoMemory;
 use crate::event::{CloseRefused, Event, LoadRefused, Reply, RunRefused, SubmitRefused};
 use crate::feeder::Feeder;
-use crate::NoMemory;
 use crate::sizes::{MakeError, check_sizes};
 use bsi_table::{Answer, AskError, Index, Query, Row, Schema};
 use circular_buffer::HeapCircularBuffer;
@@ -38,7 +38,12 @@ impl Model for Core {
 impl Core {
     /// Makes a machine with a feeder for each capacity and an index of at most so many rows. All feeders are open, and no row
     /// is there.
-    pub fn new(alloc: Global, schema: Schema, capacities: Vec<u32>, limit: u64) -> Result<Core, MakeError>
+    pub fn new(
+        alloc: Global,
+        schema: Schema,
+        capacities: Vec<u32>,
+        limit: u64,
+    ) -> Result<Core, MakeError>
         ensures ok { IfOk result (λ core. core ≡ new_machine schema capacities.items limit) }
         ensures taken { OnOk result (sizes_refusal schema capacities.items limit ≡ None) }
         ensures refused { IfErr result (λ e. IsFirstOr MakeError.NoMemory (sizes_refusal schema capacities.items limit) e) }

@@ -1,8 +1,8 @@
 //! Which sizes a machine may have.
 
-ghost use Rattle.std.specs.Prelude.{◌≡◌};
+ghost use Rattle.std.specs.Prelude.{◌≡◌, ◌≤◌, length, position};
 ghost use Rattle.std.specs.Result.{result_err};
-ghost use Rattle.bsi_load.specs.Sizes.{sizes_refusal, capacities_refusal};
+ghost use Rattle.bsi_load.specs.Sizes.{sizes_refusal, capacities_refusal, is_out_of_range};
 
 use bsi_table::{Index, IndexError, Schema};
 use std::alloc::AllocError;
@@ -71,12 +71,20 @@ pub fn check_sizes(schema: &Schema, capacities: &[u32], limit: u64) -> Result<()
 
 /// Refuses the first capacity that is out of range.
 fn check_capacities(capacities: &[u32]) -> Result<(), MakeError>
+    requires { length capacities.now ≤ MOST_FEEDERS }
     ensures { result_err result ≡ capacities_refusal capacities.now }
 {
-    'feeders: for (f, capacity) in capacities.iter().enumerate() {
-        if *capacity == 0 || *capacity > MOST_WAITING {
-            return Err(MakeError::CapacityOutOfRange(f as u32));
-        }
+    match first_out_of_range(capacities) {
+        None => Ok(()),
+        Some(f) => Err(MakeError::CapacityOutOfRange(f as u32)),
     }
-    Ok(())
+}
+
+/// Returns the place of the first capacity that is out of range.
+fn first_out_of_range(capacities: &[u32]) -> Option<usize>
+    ensures { result ≡ position is_out_of_range capacities.now }
+{
+    capacities
+        .iter()
+        .position(|capacity| *capacity == 0 || *capacity > MOST_WAITING)
 }

@@ -1,4 +1,4 @@
-use Rattle.std.proofs.Common.{◌≡◌, ◌<◌, true, set, length, ap, sym, ◌∙◌, subst, [], ◌∷◌, Ok, arith}
+use Rattle.std.proofs.Common.{◌<◌, true, set, length, ap, ◌∙◌, [], ◌∷◌, Ok, arith}
 use Rattle.std.proofs.lemmas.List.{get_or_default}
 use Rattle.bsi_load.specs.declared.event.CloseRefused.TheVariants as close
 use Rattle.bsi_load.specs.declared.event.Event.TheVariants.{Close}

@@ -1,4 +1,4 @@
-use Rattle.std.proofs.Common.{◌≡◌, ◌<◌, ◌≤◌, cond, set, length, drop, ◌++◌, ap, sym, ◌∙◌, subst, [], ◌∷◌, Ok, Err, rules, arith}
+use Rattle.std.proofs.Common.{◌<◌, ◌≤◌, cond, set, length, drop, ap, sym, ◌∙◌, subst, [], ◌∷◌, Ok, Err, arith}
 use Rattle.std.specs.Prelude.{All, IsTrue}
 use Rattle.std.specs.Option.{option_copied}
 use Rattle.std.proofs.lemmas.List.{get_or_default, length-drop}
@@ -31,8 +31,8 @@ returns-in_default-clause-reply c =
     let end_is = c.index-in_default.ensures ∙ get_or_default items c.args.f c.index-in_default.result.now no_feeder there in
     let empty = no_first c.behind-self.inside.queue.items (sym c.front.ensures ∙ ap option_copied c.in_default.is) in
     subst (λ v. IsLoadReply v c.args.f (Err c.end.result)) c.self.view_is
-        (nothing_waits (with_feeders c.self.inside.index items) c.args.f c.end.result there (ap (λ w. w.rows) (sym old_is) ∙ empty)
-            (c.end.ensures ∙ ap (λ w. cond w.closed load.Ended load.Empty) end_is))
+    (nothing_waits (with_feeders c.self.inside.index items) c.args.f c.end.result there (ap (λ w. w.rows) (sym old_is) ∙ empty)
+    (c.end.ensures ∙ ap (λ w. cond w.closed load.Ended load.Empty) end_is))
 
 pub append-requires-clause-fits : goal.append-requires-clause-fits
 append-requires-clause-fits c =
@@ -64,7 +64,7 @@ invariant_of-self-2 c =
     let w = feeder (drop 1 old.items) c.behind-self-2.inside.closed old.capacity in
     let is = machine_set index items c.self.invariant c.args.f there w (omega (arith, length-drop 1 old.items, c.behind-self-2.invariant)) small (All-drop Fits 1 old.items fitting) in
     subst (λ q. IsMachine c.append.new.self (set items c.args.f (feeder q.items c.behind-self-2.inside.closed q.capacity))) (sym c.pop_front.ensures.items)
-        (subst (λ table. IsMachine table (set items c.args.f w)) (sym c.in_ok-position.ensures.appended) (machine_row index (set items c.args.f w) c.args.f c.in-Some.row.now is))
+    (subst (λ table. IsMachine table (set items c.args.f w)) (sym c.in_ok-position.ensures.appended) (machine_row index (set items c.args.f w) c.args.f c.in-Some.row.now is))
 
 pub returns-clause-after : goal.returns-clause-after
 returns-clause-after c =

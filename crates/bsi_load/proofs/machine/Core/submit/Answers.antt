@@ -1,7 +1,6 @@
-use Rattle.std.proofs.Common.{◌≡◌, ◌<◌, ◌≤◌, set, length, ◌++◌, ap, sym, ◌∙◌, subst, [], ◌∷◌, Ok, Err, rules, arith}
+use Rattle.std.proofs.Common.{◌<◌, ◌≤◌, set, length, ◌++◌, ap, sym, ◌∙◌, subst, [], ◌∷◌, Ok, rules, arith}
 use Rattle.std.specs.Prelude.{All, IsTrue}
 use Rattle.std.proofs.lemmas.List.{get_or_default, set-get_or}
-use Rattle.std.proofs.lemmas.List.Elements.{All-push}
 use Rattle.bsi_table.specs.Columns.{fits}
 use Rattle.bsi_table.specs.Rows.{Entries}
 use Rattle.bsi_load.specs.declared.event.SubmitRefused.TheVariants as submit
@@ -39,9 +38,9 @@ invariant_of-self c =
     let told = c.try_push_back.ensures in
     let capacity = pushed_capacity Fits old new c.args.row c.try_push_back.result told.ok told.err in
     machine_set c.self.inside.index items c.self.invariant c.args.f there (feeder new.items c.behind-self-2.inside.closed new.capacity)
-        (pushed_within Fits old new c.args.row c.try_push_back.result told.variant told.ok told.err c.behind-self-2.invariant)
-        (omega (arith, small, capacity))
-        (pushed_all Fits old new c.args.row c.try_push_back.result told.ok told.err fitting row_fits)
+    (pushed_within Fits old new c.args.row c.try_push_back.result told.variant told.ok told.err c.behind-self-2.invariant)
+    (omega (arith, small, capacity))
+    (pushed_all Fits old new c.args.row c.try_push_back.result told.ok told.err fitting row_fits)
 
 pub returns-clause-after : goal.returns-clause-after
 returns-clause-after c =
