@@ -8,10 +8,10 @@ ghost use Rattle.bsi_bits.specs.Packed.{bits_of, IsPacked};
 ghost use Rattle.bsi_slices.specs.Blocks.{word_kept};
 ghost use Rattle.bsi_slices.specs.Totals.{numbers_at, IsRanked};
 
-use super::{know_fits, know_len};
+use super::know_len;
 use crate::slices::Slices;
 use crate::{Column, NoMemory};
-use bsi_bits::{Bits, lanes};
+use bsi_bits::{Bits, know_fits, lanes};
 
 /// The words of a block. It is small, since narrowing leaves more and more blocks with no row.
 const BLOCK: usize = 32;
