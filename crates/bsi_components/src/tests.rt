@@ -472,6 +472,18 @@ fn narrow<E: Encoding>(
     Some(found)
 }
 
+// Whether the rows are those of the found set that have the digit.
+fn are_kept(base: u32, digit: u32, found: &Bits, rows: &Bits) -> bool
+    requires { 2 ≤ base }
+{
+    for i in 0..found.len() {
+        if get(rows, i) != (get(found, i) && plain_digit(i, base) == digit) {
+            return false;
+        }
+    }
+    rows.len() == found.len()
+}
+
 // One rank among two thirds of the rows of a patterned component.
 fn ranked<E: Encoding>(
     rt: &impl Abort,
@@ -491,8 +503,7 @@ fn ranked<E: Encoding>(
     );
     if let Some(ranked) = expected {
         assert!(rt;
-            (0..len).all(|i| get(&rows, i)
-                == (get(&found, i) && plain_digit(i, base) == ranked.digit)),
+            are_kept(base, ranked.digit, &found, &rows),
             "rows of {rank} of {base} at {len}"
         );
     }
