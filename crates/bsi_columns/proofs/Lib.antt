@@ -6,5 +6,6 @@ pub mod DigitSums
 pub mod EntriesFrom
 pub mod Rungs
 pub use Rattle.bsi_slices.proofs.Adding
+pub use Rattle.bsi_slices.proofs.CallerLemmas
 pub use Rattle.bsi_slices.proofs.Ranking
 pub use Rattle.bsi_slices.proofs.WordBlocks

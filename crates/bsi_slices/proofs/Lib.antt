@@ -1,4 +1,5 @@
 pub mod Adding
+pub mod CallerLemmas
 pub mod Narrowing
 pub mod Places
 pub mod Ranking

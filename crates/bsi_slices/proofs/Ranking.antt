@@ -16,7 +16,7 @@ use Rattle.bsi_slices.specs.Totals.{numbers_at, IsRanked, IsLeast, IsGreatest, I
 
 -- ---- counts of numbers that pass a test
 
-count_cons : {X : Type 0} (p : X → Bool) (x : X) (xs : List X) → count_by p (x ∷ xs) ≡ cond (p x) 1 0 + count_by p xs
+pub count_cons : {X : Type 0} (p : X → Bool) (x : X) (xs : List X) → count_by p (x ∷ xs) ≡ cond (p x) 1 0 + count_by p xs
 count_cons p x xs = sum_by-cons (λ y. cond (p y) 1 0) x xs
 
 -- a test that one of two tests passes, and never both, passes as often as both do
@@ -71,10 +71,10 @@ none_from_count p xs none = All-from_get_or (λ n. p n ≡ false) xs 0 (λ i wit
 below_or_same : (n m : ℕ) → cond (nat_le n m) 1 0 ≡ cond (nat_lt n m) 1 0 + cond (nat_eq n m) 1 0
 below_or_same n m = grind (arith, nat_tests)
 
-at_most_from_not_below : (n m : ℕ) → nat_lt n m ≡ false → m ≤ n
+at_most_from_not_below : (n m : ℕ) → nat_lt n m ≡ false → nat_le m n ≡ true
 at_most_from_not_below n m test = grind (arith, nat_tests)
 
-at_most_from_not_above : (n m : ℕ) → not (nat_le n m) ≡ false → n ≤ m
+at_most_from_not_above : (n m : ℕ) → not (nat_le n m) ≡ false → nat_le n m ≡ true
 at_most_from_not_above n m test = grind (arith, nat_tests)
 
 not_below_zero : (n : ℕ) → nat_lt n 0 ≡ false

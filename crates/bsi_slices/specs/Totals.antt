@@ -1,26 +1,23 @@
 -- The totals of the numbers that a found set has in a column.
-use Rattle.std.specs.Prelude.{◌≡◌, ℕ, ◌*◌, ◌<◌, ◌≤◌, Bool, List, [], Option, MatchOption, All, Contains, length, count_by, nat_lt, nat_le}
-use Rattle.std.specs.List.{filter_map, items_where_true}
+use Rattle.std.specs.Prelude.{ℕ, ◌<◌, ◌≤◌, Bool, List, Option, count_by, nat_lt, nat_le}
+use Rattle.bsi_slices.specs.Orders.{values_at, IsLeastBy, IsGreatestBy, IsLowerMedianBy, IsNoneOr}
+use Rattle.bsi_slices.specs.Rows.{number_order}
 
 -- the numbers at the rows of a found set, in order of the rows; a null is none
 abbrev pub numbers_at : List Bool → List (Option ℕ) → List ℕ
-numbers_at found entries = filter_map (λ e. e) (items_where_true found entries)
+numbers_at = values_at
 
 -- a number that none is below
-pub record IsLeast (numbers : List ℕ) (m : ℕ) : Type 0 where
-  pub member : Contains numbers m
-  pub none_below : All (λ n. m ≤ n) numbers
+abbrev pub IsLeast : List ℕ → ℕ → Type 0
+IsLeast = IsLeastBy number_order
 
 -- a number that none is above
-pub record IsGreatest (numbers : List ℕ) (m : ℕ) : Type 0 where
-  pub member : Contains numbers m
-  pub none_above : All (λ n. n ≤ m) numbers
+abbrev pub IsGreatest : List ℕ → ℕ → Type 0
+IsGreatest = IsGreatestBy number_order
 
 -- the lower median: at least half of the numbers are at most this one, and fewer than half are below it
-pub record IsLowerMedian (numbers : List ℕ) (m : ℕ) : Type 0 where
-  pub member : Contains numbers m
-  pub half : length numbers ≤ 2 * count_by (λ n. nat_le n m) numbers
-  pub fewer_below : 2 * count_by (λ n. nat_lt n m) numbers < length numbers
+abbrev pub IsLowerMedian : List ℕ → ℕ → Type 0
+IsLowerMedian = IsLowerMedianBy number_order
 
 -- the number of rank k, from 0: at most k numbers are below it, and more than k are at most it
 pub record IsRanked (numbers : List ℕ) (k m : ℕ) : Type 0 where
@@ -29,10 +26,10 @@ pub record IsRanked (numbers : List ℕ) (k m : ℕ) : Type 0 where
 
 -- the answer, which is none exactly where there is no number
 abbrev pub IsLeastOf : List ℕ → Option ℕ → Type 0
-IsLeastOf numbers answer = MatchOption answer (numbers ≡ []) (IsLeast numbers)
+IsLeastOf = IsNoneOr IsLeast
 
 abbrev pub IsGreatestOf : List ℕ → Option ℕ → Type 0
-IsGreatestOf numbers answer = MatchOption answer (numbers ≡ []) (IsGreatest numbers)
+IsGreatestOf = IsNoneOr IsGreatest
 
 abbrev pub IsMedianOf : List ℕ → Option ℕ → Type 0
-IsMedianOf numbers answer = MatchOption answer (numbers ≡ []) (IsLowerMedian numbers)
+IsMedianOf = IsNoneOr IsLowerMedian

@@ -1,0 +1,39 @@
+-- A column of whole numbers, each of which is stored less an offset.
+use Rattle.std.specs.Prelude.{◌≡◌, ℕ, ◌<◌, ◌≤◌, ◌^◌, All, ℤ, pos, ◌+ℤ◌, ◌≤ℤ◌, ◌<ℤ◌, Bool, List, Option, IfSome, map}
+use Rattle.std.specs.Option.{option_map}
+use Rattle.bsi_columns.specs.declared.any.AnyColumn.{AnyColumn}
+use Rattle.bsi_columns.specs.AnyRows.{any_entries, any_room, any_size}
+use Rattle.bsi_slices.specs.Rows.{number_or_zero}
+
+-- what a contract sees of it: the column of stored numbers, and the offset
+pub record OffsetColumn : Type 0 where
+  pub stored : AnyColumn
+  pub offset : ℤ
+
+-- the number that is stored as n
+abbrev pub number_of : ℤ → ℕ → ℤ
+number_of offset n = offset +ℤ pos n
+
+-- the numbers and nulls, in order of the rows
+unfoldable pub shifted_entries : OffsetColumn → List (Option ℤ)
+shifted_entries c = map (option_map (number_of c.offset)) (any_entries c.stored)
+
+-- how many numbers there are from the offset on that an entry may be
+abbrev pub shifted_size : OffsetColumn → ℕ
+shifted_size c = any_size c.stored
+
+-- whether one more entry can be appended with no memory
+abbrev pub shifted_room : OffsetColumn → Bool
+shifted_room c = any_room c.stored
+
+-- the entry is a null, or one of as many numbers as the size, from the offset on
+abbrev pub IsInRange : ℤ → ℕ → Option ℤ → Type 0
+IsInRange offset size entry = IfSome entry (λ x. (offset ≤ℤ x) × (x <ℤ (offset +ℤ pos size)))
+
+-- the numbers are as many as the size, all below 2^63, and those of the entries are among them
+pub record IsShifted (stored : AnyColumn) (offset : ℤ) (size : ℕ) : Type 0 where
+  pub size_is : size ≡ any_size stored
+  pub small : size ≤ 2 ^ 63
+  pub some : 2 ≤ size
+  pub within : (offset +ℤ pos size) ≤ℤ pos (2 ^ 63)
+  pub below : All (λ e. number_or_zero e < size) (any_entries stored)

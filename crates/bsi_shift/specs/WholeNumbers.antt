@@ -1,0 +1,26 @@
+-- Whole numbers in their order, and what comparisons and totals say of them.
+use Rattle.std.specs.Prelude.{ℤ, pos, ◌+ℤ◌, Bool, List, [], ◌∷◌, Option, ◌&&◌, int_lt, int_le}
+use Rattle.bsi_slices.specs.Orders.{Order, selects_by, IsLeastBy, IsGreatestBy, IsLowerMedianBy, IsNoneOr}
+use Rattle.bsi_slices.specs.declared.column.Op.{Op}
+
+-- the whole numbers in their order
+abbrev pub whole_order : Order ℤ
+whole_order = record { same = λ x y. int_le x y && int_le y x; below = int_lt; at_most = int_le }
+
+-- the entry is a number that compares so with the constant
+abbrev pub signed_selects : Op → ℤ → Option ℤ → Bool
+signed_selects = selects_by whole_order
+
+unfoldable pub signed_sum : List ℤ → ℤ
+signed_sum [] = pos 0
+signed_sum (x ∷ xs) = x +ℤ signed_sum xs
+
+-- the answer, which is none exactly where there is no number
+abbrev pub IsSignedLeastOf : List ℤ → Option ℤ → Type 0
+IsSignedLeastOf = IsNoneOr (IsLeastBy whole_order)
+
+abbrev pub IsSignedGreatestOf : List ℤ → Option ℤ → Type 0
+IsSignedGreatestOf = IsNoneOr (IsGreatestBy whole_order)
+
+abbrev pub IsSignedMedianOf : List ℤ → Option ℤ → Type 0
+IsSignedMedianOf = IsNoneOr (IsLowerMedianBy whole_order)

@@ -1,0 +1,247 @@
+//! A column of whole numbers from an offset on, kept as the column of the numbers less the offset.
+
+ghost use Rattle.std.specs.Prelude.{◌≡◌, ℕ, ℤ, pos, neg_ℤ, ◌+ℤ◌, ◌*ℤ◌, ◌≤ℤ◌, ◌<ℤ◌, ◌<◌, ◌≤◌, ◌^◌, [], ◌∷◌, ◌++◌, All, length, map, is_none, is_some, IsTrue, IsOk, IfOk, IfSome, OnOk};
+ghost use Rattle.std.specs.Option.{option_map};
+ghost use Rattle.bsi_columns.specs.AnyRows.{any_entries, any_size, any_bases, IsSameForm};
+ghost use Rattle.bsi_slices.specs.Orders.{values_at, compares_by};
+ghost use Rattle.bsi_slices.specs.Rows.{number_order};
+ghost use Rattle.bsi_shift.specs.Shifted.{OffsetColumn, shifted_entries, shifted_size, shifted_room, number_of, IsInRange};
+ghost use Rattle.bsi_shift.specs.WholeNumbers.{whole_order, signed_selects, signed_sum, IsSignedLeastOf, IsSignedGreatestOf, IsSignedMedianOf};
+
+use crate::NoMemory;
+use bsi_bits::Bits;
+use bsi_columns::{AnyColumn, Column, Op};
+use std::marker::Model;
+
+/// A column of optional whole numbers, as many as the stored column's size, from its offset on.
+#[derive(Drop)]
+pub struct Shifted {
+    stored: AnyColumn,
+    offset: i64,
+    // (that of the stored column)
+    size: u64,
+}
+
+// Clauses see the stored column and the offset, and of these the list of numbers.
+impl Model for Shifted {
+    ghost use Rattle.bsi_shift.specs.Shifted.{OffsetColumn, IsShifted};
+
+    ghost Value = { OffsetColumn };
+
+    ghost view = { λ c. record { stored = c.stored; offset = c.offset } };
+
+    ghost invariant = { λ c. IsShifted c.stored c.offset c.size };
+}
+
+impl Shifted {
+    /// A column of no rows yet, whose numbers are those from `offset` on, as many as the size of `stored`. The last of them
+    /// is below 2^63. It takes no memory.
+    pub fn new(stored: AnyColumn, offset: i64) -> Shifted
+        requires empty { any_entries stored ≡ [] }
+        requires within { (offset +ℤ pos (any_size stored)) ≤ℤ pos (2 ^ 63) }
+        ensures { result ≡ record { stored = stored; offset = offset } }
+    {
+        let size = stored.size();
+        Shifted {
+            stored,
+            offset,
+            size,
+        }
+    }
+
+    /// The least number that an entry may be.
+    pub fn offset(&self) -> i64
+        ensures { result ≡ self.now.offset }
+    {
+        self.offset
+    }
+
+    /// The column of the numbers less the offset.
+    pub fn stored(&self) -> &AnyColumn
+        ensures { result.now ≡ self.now.stored }
+    {
+        &self.stored
+    }
+
+    /// How many numbers an entry may be, from the offset on; at most 2^63.
+    pub fn size(&self) -> u64
+        ensures size { result ≡ shifted_size self.now }
+        ensures within { (2 ≤ result) × (result ≤ 2 ^ 63) }
+        ensures range { All (IsInRange self.now.offset (shifted_size self.now)) (shifted_entries self.now) }
+    {
+        self.size
+    }
+
+    /// The number of rows, at most 2^32.
+    pub fn len(&self) -> u64
+        ensures len { result ≡ length (shifted_entries self.now) }
+        ensures within { result ≤ 2 ^ 32 }
+    {
+        self.stored.len()
+    }
+
+    /// Whether one more entry can be appended with no memory.
+    pub fn has_room(&self) -> bool
+        ensures { result ≡ shifted_room self.now }
+    {
+        self.stored.has_room()
+    }
+
+    /// Makes room for one more entry. The entries stay, whatever the result. It takes memory only where there is no room.
+    pub fn reserve_one(&mut self) -> Result<(), NoMemory>
+        requires { length (shifted_entries self.old) < 2 ^ 32 }
+        ensures entries { shifted_entries self.new ≡ shifted_entries self.old }
+        ensures offset { self.new.offset ≡ self.old.offset }
+        ensures size { shifted_size self.new ≡ shifted_size self.old }
+        ensures bases { any_bases self.new.stored ≡ any_bases self.old.stored }
+        ensures form { IsSameForm self.new.stored self.old.stored }
+        ensures ok { OnOk result (IsTrue (shifted_room self.new)) }
+        ensures succeeds { IsTrue (shifted_room self.old) → IsOk result }
+    {
+        self.stored.reserve_one()
+    }
+
+    /// Appends a null, or a number from the offset on that is below the offset and the size together, in room that is there.
+    pub fn push_reserved(&mut self, entry: Option<i64>)
+        requires room { IsTrue (shifted_room self.old) }
+        requires range { IsInRange self.old.offset (shifted_size self.old) entry }
+        ensures entries { shifted_entries self.new ≡ shifted_entries self.old ++ entry ∷ [] }
+        ensures offset { self.new.offset ≡ self.old.offset }
+        ensures size { shifted_size self.new ≡ shifted_size self.old }
+        ensures bases { any_bases self.new.stored ≡ any_bases self.old.stored }
+        ensures form { IsSameForm self.new.stored self.old.stored }
+    {
+        let stored = stored_from(self.offset, entry);
+        self.stored.push_reserved(stored);
+    }
+
+    /// For each row whether it is a number that compares so with `constant`, whatever that is. A null row is never selected.
+    pub fn compare(&self, op: Op, constant: i128) -> Result<Bits, NoMemory>
+        ensures { IfOk result (λ b. b.bits ≡ map (signed_selects op constant) (shifted_entries self.now)) }
+    {
+        let (op, constant) = stored_comparison(op, constant, self.offset);
+        self.stored.compare(op, constant)
+    }
+
+    /// Writes for each row whether it is a null.
+    pub fn nulls_into(&self, out: &mut Bits)
+        requires { length (shifted_entries self.now) ≡ length out.old.bits }
+        ensures bits { out.new.bits ≡ map is_none (shifted_entries self.now) }
+        ensures room { out.new.room ≡ out.old.room }
+    {
+        self.stored.nulls_into(out);
+    }
+
+    /// The not-null bitmap.
+    pub fn present(&self) -> &Bits
+        ensures { result.now.bits ≡ map is_some (shifted_entries self.now) }
+    {
+        self.stored.present()
+    }
+
+    /// The sum of the numbers at the rows of a found set, at least -2^95 and below 2^95. A null counts for nothing. It takes
+    /// no memory.
+    pub fn sum(&self, found: &Bits) -> i128
+        requires { length (shifted_entries self.now) ≡ length found.now.bits }
+        ensures sum { result ≡ signed_sum (values_at found.now.bits (shifted_entries self.now)) }
+        ensures within { (neg_ℤ (pos (2 ^ 95)) ≤ℤ result) × (result <ℤ pos (2 ^ 95)) }
+    {
+        prove!(found.len() <= 1 << 32);
+        let numbers = found.count_and(self.stored.present());
+        sum_from(self.stored.sum(found), self.offset, numbers)
+    }
+
+    /// The least number at the rows of a found set, none where there is none.
+    pub fn least(&self, found: &Bits) -> Result<Option<i64>, NoMemory>
+        requires { length (shifted_entries self.now) ≡ length found.now.bits }
+        ensures { IfOk result (λ o. IsSignedLeastOf (values_at found.now.bits (shifted_entries self.now)) o) }
+    {
+        let stored = self.stored.least(found)?;
+        Ok(number_from(self.offset, stored))
+    }
+
+    /// The greatest number at the rows of a found set, none where there is none.
+    pub fn greatest(&self, found: &Bits) -> Result<Option<i64>, NoMemory>
+        requires { length (shifted_entries self.now) ≡ length found.now.bits }
+        ensures { IfOk result (λ o. IsSignedGreatestOf (values_at found.now.bits (shifted_entries self.now)) o) }
+    {
+        let stored = self.stored.greatest(found)?;
+        Ok(number_from(self.offset, stored))
+    }
+
+    /// The lower median of the numbers at the rows of a found set, none where there is none.
+    pub fn median(&self, found: &Bits) -> Result<Option<i64>, NoMemory>
+        requires { length (shifted_entries self.now) ≡ length found.now.bits }
+        ensures { IfOk result (λ o. IsSignedMedianOf (values_at found.now.bits (shifted_entries self.now)) o) }
+    {
+        let stored = self.stored.median(found)?;
+        Ok(number_from(self.offset, stored))
+    }
+
+    /// A second column of the same entries, in the same form.
+    pub fn copy(&self) -> Result<Shifted, NoMemory>
+        ensures entries { IfOk result (λ c. shifted_entries c ≡ shifted_entries self.now) }
+        ensures offset { IfOk result (λ c. c.offset ≡ self.now.offset) }
+        ensures size { IfOk result (λ c. shifted_size c ≡ shifted_size self.now) }
+        ensures bases { IfOk result (λ c. any_bases c.stored ≡ any_bases self.now.stored) }
+        ensures form { IfOk result (λ c. IsSameForm c.stored self.now.stored) }
+    {
+        Ok(Shifted {
+            stored: self.stored.copy()?,
+            offset: self.offset,
+            size: self.size,
+        })
+    }
+}
+
+/// The comparison of stored numbers that selects those whose number less the offset is stored, and compares so with
+/// `constant`. Each stored number is below 2^63, so the greatest constant of 64 bits stands for all that are past them.
+fn stored_comparison(op: Op, constant: i128, offset: i64) -> (Op, u64)
+    ensures { (n : ℕ) → n < 2 ^ 63 → compares_by number_order result.0 n result.1 ≡ compares_by whole_order op (number_of offset n) constant }
+{
+    let above = constant.saturating_sub(i128::from(offset));
+    if above < 0 {
+        return (below_all(op), 0);
+    }
+    (op, u64::try_from(above).unwrap_or(u64::MAX))
+}
+
+/// The comparison with 0 that selects all stored numbers or none, as `op` does with a constant that is below each of them.
+fn below_all(op: Op) -> Op
+    ensures { (n : ℕ) → (x constant : ℤ) → constant <ℤ x → compares_by number_order result n 0 ≡ compares_by whole_order op x constant }
+{
+    match op {
+        Op::Eq | Op::Lt | Op::Le => Op::Lt,
+        Op::Ne | Op::Gt | Op::Ge => Op::Ge,
+    }
+}
+
+/// What is stored of an entry that is not below the offset: how far it is above it.
+fn stored_from(offset: i64, entry: Option<i64>) -> Option<u64>
+    requires { IfSome entry (λ x. (offset ≤ℤ x) × (x <ℤ (offset +ℤ pos (2 ^ 63)))) }
+    ensures { option_map (number_of offset) result ≡ entry }
+{
+    match entry {
+        None => None,
+        Some(number) => Some((number - offset) as u64),
+    }
+}
+
+/// The number that is stored so, if there is one.
+fn number_from(offset: i64, stored: Option<u64>) -> Option<i64>
+    requires { IfSome stored (λ n. (n < 2 ^ 63) × (number_of offset n <ℤ pos (2 ^ 63))) }
+    ensures { result ≡ option_map (number_of offset) stored }
+{
+    match stored {
+        None => None,
+        Some(n) => Some(offset + n as i64),
+    }
+}
+
+/// The sum of as many numbers, where `stored` is the sum of what is stored of them: each is the offset and that.
+fn sum_from(stored: u128, offset: i64, numbers: u64) -> i128
+    requires { (stored < 2 ^ 95) × (numbers ≤ 2 ^ 32) }
+    ensures { result ≡ pos stored +ℤ (offset *ℤ pos numbers) }
+{
+    stored as i128 + i128::from(offset) * i128::from(numbers)
+}

@@ -1,0 +1,9 @@
+pub mod Fitting
+pub mod Keeping
+pub mod Missing
+pub mod Naming
+pub mod Numbers
+pub mod Parts
+pub mod Selecting
+pub mod Selections
+pub mod TableRows

@@ -1,0 +1,106 @@
+-- The rows of a table, by the columns that keep them.
+use Rattle.std.proofs.Common.{◌≡◌, ℕ, zero, suc, ◌<◌, Bool, List, [], ◌∷◌, None, length, map, get_or, refl, ap, ap₂, sym, ◌∙◌, arith}
+use Rattle.std.specs.Prelude.{count_by, slice_index}
+use Rattle.std.specs.List.{range_with_len}
+use Rattle.std.proofs.lemmas.List.{ext_get_or, get_or-map, length-map}
+use Rattle.std.proofs.lemmas.List.FromFn.{fill_by_all, length-map-range_with_len}
+use Rattle.bsi_bits.specs.BitList.{set_places}
+use Rattle.bsi_columns.specs.Orders.{values_at}
+use Rattle.bsi_columns.proofs.SliceEntries.{same_below}
+use Rattle.bsi_shift.specs.Shifted.{shifted_entries, OffsetColumn}
+use Rattle.bsi_table.specs.declared.query.Pred.{Pred}
+use Rattle.bsi_table.specs.Rows.{column_of, entry_at, feeders_of, holds, selected, values, Entries}
+use Rattle.bsi_table.specs.Table.{fed_rows, kept_at, no_entries, row_in, rows_in}
+use Rattle.bsi_table.proofs.Selections.{length-places, set_places-map, values-places}
+
+pub map_twice : {X Y Z : Type 0} (f : Y → Z) (g : X → Y) (xs : List X) → map f (map g xs) ≡ map (λ x. f (g x)) xs
+map_twice f g [] = refl
+map_twice f g (x ∷ xs) = ap (λ ys. f (g x) ∷ ys) (map_twice f g xs)
+
+-- a column as it is read
+pub kept_read : (kept : List OffsetColumn) (c : ℕ) (column : OffsetColumn) → c < length kept → column ≡ get_or kept c column → kept_at kept c ≡ column
+kept_read [] c column within is = absurd (omega arith)
+kept_read (k ∷ kept) zero column within is = sym is
+kept_read (k ∷ kept) (suc c) column within is = kept_read kept c column (omega arith) is
+
+module _ (kept : List OffsetColumn) where
+  pub length-rows_in : (n : ℕ) → length (rows_in kept n) ≡ n
+  unfolding rows_in
+  length-rows_in n = length-map-range_with_len (row_in kept) 0 n
+
+  -- entry c of a row is that of column c
+  entry-row_in : (c r : ℕ) → c < length kept → entry_at (row_in kept r) c ≡ get_or (shifted_entries (kept_at kept c)) r None
+  entry-row_in c r within = get_or-map (λ column. get_or (shifted_entries column) r None) kept c no_entries None within
+
+  -- entries c of the rows are those of column c
+  pub column-rows_in : (c n : ℕ) → c < length kept → length (shifted_entries (kept_at kept c)) ≡ n
+      → map (λ row. entry_at row c) (rows_in kept n) ≡ shifted_entries (kept_at kept c)
+  unfolding rows_in
+  column-rows_in c n within even =
+      map_twice (λ row. entry_at row c) (row_in kept) (range_with_len 0 n)
+      ∙ sym (fill_by_all (λ r. entry_at (row_in kept r) c) (shifted_entries (kept_at kept c)) n None even (λ r below. sym (entry-row_in c r within)))
+
+module _ (sources : List ℕ) (kept : List OffsetColumn) where
+  pub length-fed_rows : length (fed_rows sources kept) ≡ length sources
+  unfolding fed_rows
+  length-fed_rows = length-map-range_with_len (λ r. (slice_index sources r, row_in kept r)) 0 (length sources)
+
+  pub feeders-fed_rows : feeders_of (fed_rows sources kept) ≡ sources
+  unfolding fed_rows
+  feeders-fed_rows =
+      map_twice (λ row. row.0) (λ r. (slice_index sources r, row_in kept r)) (range_with_len 0 (length sources))
+      ∙ sym (fill_by_all (λ r. slice_index sources r) sources (length sources) 0 refl (λ r below. refl))
+
+  -- a function of the rows' entries
+  pub map-fed_rows : {X : Type 0} (f : Entries → X) → map (λ row. f row.1) (fed_rows sources kept) ≡ map f (rows_in kept (length sources))
+  unfolding fed_rows rows_in
+  map-fed_rows f =
+      map_twice (λ row. f row.1) (λ r. (slice_index sources r, row_in kept r)) (range_with_len 0 (length sources))
+      ∙ sym (map_twice f (row_in kept) (range_with_len 0 (length sources)))
+
+  -- entries c of the rows are those of column c
+  pub column-fed_rows : (c : ℕ) → c < length kept → length (shifted_entries (kept_at kept c)) ≡ length sources
+      → column_of (fed_rows sources kept) c ≡ shifted_entries (kept_at kept c)
+  column-fed_rows c within even = map-fed_rows (λ row. entry_at row c) ∙ column-rows_in kept c (length sources) within even
+
+  module _ (pred : Pred) (bits : List Bool) (found : bits ≡ map (λ row. holds pred row.1) (fed_rows sources kept))
+      (even : (k : ℕ) → k < length kept → length (shifted_entries (kept_at kept k)) ≡ length sources) where
+    -- a found set has a bit for each row
+    pub length-found : length bits ≡ length sources
+    length-found = ap length found ∙ length-map (fed_rows sources kept) _ ∙ length-fed_rows
+
+    -- so many rows are selected
+    pub count-found : count_by (λ b. b) bits ≡ length (selected pred (fed_rows sources kept))
+    count-found = ap (count_by (λ b. b)) found ∙ sym (length-places (0, []) (λ row. holds pred row.1) (fed_rows sources kept))
+
+    -- at these positions
+    pub set_places-found : set_places bits ≡ selected pred (fed_rows sources kept)
+    set_places-found = ap set_places found ∙ set_places-map (0, []) (λ row. holds pred row.1) (fed_rows sources kept)
+
+    -- column c, as it is read, has an entry for each row
+    module _ (c : ℕ) (column : OffsetColumn) (within : c < length kept) (read : column ≡ get_or kept c column) where
+      pub even-found : length (shifted_entries column) ≡ length bits
+      even-found =
+          ap (λ k. length (shifted_entries k)) (sym (kept_read kept c column within read)) ∙ even c within ∙ sym length-found
+
+      -- and its numbers that a found set has are those of the rows that are selected
+      pub values-found : values_at bits (shifted_entries column) ≡ values c pred (fed_rows sources kept)
+      values-found =
+          ap₂ values_at found (ap shifted_entries (sym (kept_read kept c column within read)) ∙ sym (column-fed_rows c within (even c within)))
+          ∙ values-places (0, []) (λ row. holds pred row.1) (λ row. entry_at row.1 c) (fed_rows sources kept)
+
+-- columns of the same entries show the same rows
+pub rows_in-same : (old new : List OffsetColumn) (r : ℕ) → length new ≡ length old
+    → ((c : ℕ) → c < length old → shifted_entries (kept_at new c) ≡ shifted_entries (kept_at old c)) → row_in new r ≡ row_in old r
+rows_in-same old new r long each =
+    ext_get_or None (row_in new r) (row_in old r) (length-map new _ ∙ long ∙ sym (length-map old _))
+    (λ c below.
+    let there : c < length new = omega (arith, length-map new (λ column. get_or (shifted_entries column) r None)) in
+    entry-row_in new c r there ∙ ap (λ es. get_or es r None) (each c (omega arith)) ∙ sym (entry-row_in old c r (omega arith)))
+
+pub fed_rows-same : (sources : List ℕ) (old new : List OffsetColumn) → length new ≡ length old
+    → ((c : ℕ) → c < length old → shifted_entries (kept_at new c) ≡ shifted_entries (kept_at old c)) → fed_rows sources new ≡ fed_rows sources old
+unfolding fed_rows
+fed_rows-same sources old new long each =
+    same_below (0, []) (λ r. (slice_index sources r, row_in new r)) (λ r. (slice_index sources r, row_in old r)) (length sources)
+    (λ r below. ap (λ row. (slice_index sources r, row)) (rows_in-same old new r long each))

@@ -1,0 +1,10 @@
+use Rattle.std.proofs.Common.{◌≡◌, ℕ, ◌<◌, length}
+use Rattle.bsi_table.specs.Table.{kept_at, IsSameColumn}
+use Rattle.bsi_table.proofs.columns.copy_each.Given as goal
+
+-- the columns so far are copied
+abbrev pub invariant-columns : goal.invariant-columns
+invariant-columns l = record {
+  long : length l.copied.items ≡ l.c;
+  same : (k : ℕ) → k < l.c → IsSameColumn (kept_at l.columns k) (kept_at l.copied.items k);
+}

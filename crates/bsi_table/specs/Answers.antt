@@ -1,0 +1,66 @@
+-- What the answer to a query is.
+use Rattle.std.specs.Prelude.{◌≡◌, ℕ, List, [], ◌∷◌, ◌++◌, Option, length, map, take, find, count_by, nat_eq, nat_le, slice_index, ℤ}
+use Rattle.bsi_shift.specs.WholeNumbers.{signed_sum, IsSignedLeastOf, IsSignedGreatestOf, IsSignedMedianOf}
+use Rattle.bsi_table.specs.declared.query.Answer.{Answer}
+use Rattle.bsi_table.specs.declared.query.Answer.TheVariants.{Count as count_answer, Sum as sum_answer, Value as value_answer, Rows as rows_answer}
+use Rattle.bsi_table.specs.declared.query.Pred.{Pred, All, Compare, Null, Both', Either', Not'}
+use Rattle.bsi_table.specs.declared.query.Query.{Query}
+use Rattle.bsi_table.specs.declared.query.Total.{Total}
+use Rattle.bsi_table.specs.declared.query.Total.TheVariants.{Count, Sum, Least, Greatest, Median, Rows}
+use Rattle.bsi_table.specs.Rows.{FedRow, feeders_of, selected, values}
+
+-- the number of row r among its feeder's, of rows from these feeders: how many before it came from the same feeder
+abbrev pub number_within : List ℕ → ℕ → ℕ
+number_within feeders r = count_by (λ feeder. nat_eq feeder (slice_index feeders r)) (take r feeders)
+
+-- the rows at these positions, each by its feeder and its number among the feeder's
+abbrev pub numbered_at : List ℕ → List ℕ → List (ℕ × ℕ)
+numbered_at feeders positions = map (λ r. (slice_index feeders r, number_within feeders r)) positions
+
+-- the answer is a number or none, and this is so of it
+abbrev pub IsValue : (Option ℤ → Type 0) → Answer → Type 0
+IsValue Is (value_answer number) = Is number
+IsValue Is answer = ⊥
+
+-- the answer is this list of rows
+abbrev pub IsRows : List (ℕ × ℕ) → Answer → Type 0
+IsRows rows (rows_answer listed) = listed.items ≡ rows
+IsRows rows answer = ⊥
+
+-- the answer is the total of the rows that the predicate selects
+abbrev pub IsTotal : Total → Pred → List FedRow → Answer → Type 0
+IsTotal Count pred rows answer = answer ≡ count_answer (length (selected pred rows))
+IsTotal (Sum c) pred rows answer = answer ≡ sum_answer (signed_sum (values c pred rows))
+IsTotal (Least c) pred rows answer = IsValue (IsSignedLeastOf (values c pred rows)) answer
+IsTotal (Greatest c) pred rows answer = IsValue (IsSignedGreatestOf (values c pred rows)) answer
+IsTotal (Median c) pred rows answer = IsValue (IsSignedMedianOf (values c pred rows)) answer
+IsTotal Rows pred rows answer = IsRows (numbered_at (feeders_of rows) (selected pred rows)) answer
+
+abbrev pub IsAnswer : Query → List FedRow → Answer → Type 0
+IsAnswer query rows answer = IsTotal query.total query.pred rows answer
+
+-- the columns that a total reads
+abbrev pub columns_of_total : Total → List ℕ
+columns_of_total Count = []
+columns_of_total (Sum c) = c ∷ []
+columns_of_total (Least c) = c ∷ []
+columns_of_total (Greatest c) = c ∷ []
+columns_of_total (Median c) = c ∷ []
+columns_of_total Rows = []
+
+-- the columns that a predicate reads, from left to right
+abbrev pub columns_of_pred : Pred → List ℕ
+columns_of_pred All = []
+columns_of_pred (Compare c op n) = c ∷ []
+columns_of_pred (Null c) = c ∷ []
+columns_of_pred (Both' p first q second) = columns_of_pred first ++ columns_of_pred second
+columns_of_pred (Either' p first q second) = columns_of_pred first ++ columns_of_pred second
+columns_of_pred (Not' p pred) = columns_of_pred pred
+
+-- the first of these columns that is none of the first `count`
+abbrev pub missing_of : ℕ → List ℕ → Option ℕ
+missing_of count columns = find (λ c. nat_le count c) columns
+
+-- the first column that a query reads and that is not there: its total's, else the first of its predicate
+abbrev pub missing_column : ℕ → Query → Option ℕ
+missing_column count query = missing_of count (columns_of_total query.total ++ columns_of_pred query.pred)

@@ -1,0 +1,84 @@
+-- A table, and the columns that keep its rows.
+use Rattle.std.specs.Prelude.{◌≡◌, ℕ, ◌^◌, ◌<◌, ◌≤◌, false, List, [], ◌∷◌, ◌++◌, Option, None, All, length, map, slice_index, slice_index_or, ℤ, pos, neg_ℤ, ◌+ℤ◌, ◌≤ℤ◌}
+use Rattle.std.specs.List.{range_with_len}
+use Rattle.bsi_columns.specs.declared.any.AnyColumn.{AnyColumn}
+use Rattle.bsi_columns.specs.declared.any.AnyColumn.TheVariants.{Slices as kept_slices, Equality as kept_equality, Range as kept_range}
+use Rattle.bsi_columns.specs.AnyRows.{IsSameForm}
+use Rattle.bsi_shift.specs.Shifted.{OffsetColumn, shifted_entries}
+use Rattle.bsi_table.specs.declared.form.Form.{Form}
+use Rattle.bsi_table.specs.declared.form.Form.TheVariants.{Slices, Equality, Range}
+use Rattle.bsi_table.specs.Columns.{column_at, size_in, Declared, NamedColumn}
+use Rattle.bsi_table.specs.Rows.{Entries, FedRow}
+
+-- what a contract sees of an index: its schema, how many feeders there are, the most rows, and the rows
+pub record Table : Type 0 where
+  pub schema : Declared
+  pub feeders : ℕ
+  pub limit : ℕ
+  pub rows : List FedRow
+
+abbrev pub no_rows : Declared → ℕ → ℕ → Table
+no_rows schema feeders limit = record { schema = schema; feeders = feeders; limit = limit; rows = [] }
+
+-- one more row stands last
+abbrev pub with_row : Table → ℕ → Entries → Table
+with_row table feeder row = record table { rows = table.rows ++ (feeder, row) ∷ [] }
+
+-- the column is kept in this form
+abbrev pub IsInForm : Form → AnyColumn → Type 0
+IsInForm (Slices w) (kept_slices column) = column.width ≡ w
+IsInForm (Equality bs) (kept_equality column) = column.bases ≡ bs
+IsInForm (Range bs) (kept_range column) = column.bases ≡ bs
+IsInForm form column = ⊥
+
+-- what a list of kept columns has past its end
+abbrev pub no_entries : OffsetColumn
+no_entries = record { stored = kept_slices (record { width = 0; entries = []; room = false }); offset = pos 0 }
+
+abbrev pub kept_at : List OffsetColumn → ℕ → OffsetColumn
+kept_at kept c = slice_index_or kept c no_entries
+
+-- the entries of row r
+abbrev pub row_in : List OffsetColumn → ℕ → Entries
+row_in kept r = map (λ column. slice_index_or (shifted_entries column) r None) kept
+
+-- the first n rows of kept columns
+unfoldable pub rows_in : List OffsetColumn → ℕ → List Entries
+rows_in kept n = map (row_in kept) (range_with_len 0 n)
+
+-- the rows of kept columns, of which the r-th came from the r-th of these feeders
+unfoldable pub fed_rows : List ℕ → List OffsetColumn → List FedRow
+fed_rows sources kept = map (λ r. (slice_index sources r, row_in kept r)) (range_with_len 0 (length sources))
+
+-- a column of a schema is kept so, with n rows; each of its numbers is one of 64 bits
+pub record Keeps (column : NamedColumn) (kept : OffsetColumn) (n : ℕ) : Type 0 where
+  pub form : IsInForm column.form kept.stored
+  pub offset : kept.offset ≡ column.offset
+  pub rows : length (shifted_entries kept) ≡ n
+  pub low : neg_ℤ (pos (2 ^ 63)) ≤ℤ column.offset
+  pub high : (column.offset +ℤ pos (size_in column.form)) ≤ℤ pos (2 ^ 63)
+
+-- each column of a schema is
+pub record AreKept (columns : List NamedColumn) (kept : List OffsetColumn) (n : ℕ) : Type 0 where
+  pub long : length kept ≡ length columns
+  pub each : (c : ℕ) → c < length columns → Keeps (column_at columns c) (kept_at kept c) n
+
+-- a table keeps its rows so: the feeder of each, and the columns
+pub record IsTable (columns : List NamedColumn) (feeders limit : ℕ) (sources : List ℕ) (kept : List OffsetColumn) : Type 0 where
+  pub columns_are : AreKept columns kept (length sources)
+  pub few : feeders ≤ 64
+  pub from : All (λ source. source < feeders) sources
+  pub within : length sources ≤ limit
+  pub small : limit ≤ 2 ^ 32
+
+-- a column has the entries, the offset and the form of another
+pub record IsSameColumn (old new : OffsetColumn) : Type 0 where
+  pub entries : shifted_entries new ≡ shifted_entries old
+  pub offset : new.offset ≡ old.offset
+  pub form : IsSameForm new.stored old.stored
+
+-- a column is another one with one more entry
+pub record HasOneMore (old new : OffsetColumn) (entry : Option ℤ) : Type 0 where
+  pub entries : shifted_entries new ≡ shifted_entries old ++ entry ∷ []
+  pub offset : new.offset ≡ old.offset
+  pub form : IsSameForm new.stored old.stored

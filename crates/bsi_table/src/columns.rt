@@ -1,0 +1,89 @@
+//! The columns of a table, side by side: each call is done on each.
+
+ghost use Rattle.std.specs.Prelude.{◌≡◌, ℕ, ◌<◌, ◌^◌, ◌+ℤ◌, ◌≤ℤ◌, ◌<ℤ◌, pos, neg_ℤ, [], length, IfOk, IfSome, IsTrue, OnOk};
+ghost use Rattle.bsi_columns.specs.AnyRows.{any_entries};
+ghost use Rattle.bsi_shift.specs.Shifted.{shifted_entries, shifted_room, shifted_size, IsInRange};
+ghost use Rattle.bsi_table.specs.Columns.{column_at, IsForm};
+ghost use Rattle.bsi_table.specs.Rows.{entry_at};
+ghost use Rattle.bsi_table.specs.Table.{kept_at, AreKept, HasOneMore, IsInForm, IsSameColumn, Keeps};
+
+use crate::{Form, NoMemory, Schema};
+use bsi_columns::{AnyColumn, Decomposed, Slices};
+use bsi_shift::Shifted;
+use std::alloc::Global;
+
+/// Makes an empty column for each of a schema.
+pub(crate) fn make_each(alloc: Global, schema: &Schema) -> Result<Vec<Shifted>, NoMemory>
+    ensures { IfOk result (λ made. AreKept schema.now.columns made.items 0) }
+{
+    let mut made = Vec::with_capacity(alloc, schema.columns() as usize)?;
+    'columns: for c in 0..schema.columns() {
+        made.push(make_one(alloc, schema, c)?)?;
+    }
+    Ok(made)
+}
+
+/// Makes an empty column for column `c` of a schema.
+fn make_one(alloc: Global, schema: &Schema, c: u32) -> Result<Shifted, NoMemory>
+    requires { c < length schema.now.columns }
+    ensures { IfOk result (λ made. Keeps (column_at schema.now.columns c) made 0) }
+{
+    let stored = make_stored(alloc, schema.form(c))?;
+    Ok(Shifted::new(stored, schema.offset(c)))
+}
+
+/// Makes an empty column in a form.
+fn make_stored(alloc: Global, form: &Form) -> Result<AnyColumn, NoMemory>
+    requires { IsForm form.now }
+    ensures form { IfOk result (λ made. IsInForm form.now made) }
+    ensures empty { IfOk result (λ made. any_entries made ≡ []) }
+{
+    match form {
+        Form::Slices(width) => Ok(AnyColumn::Slices(Slices::new(alloc, *width)?)),
+        Form::Equality(bases) => Ok(AnyColumn::Equality(Decomposed::new(alloc, bases.copy()?)?)),
+        Form::Range(bases) => Ok(AnyColumn::Range(Decomposed::new(alloc, bases.copy()?)?)),
+    }
+}
+
+/// Makes room for one more entry in each column. The columns stay, whatever the result.
+pub(crate) fn reserve_each(columns: &mut [Shifted]) -> Result<(), NoMemory>
+    requires { (k : ℕ) → k < length columns.old → length (shifted_entries (kept_at columns.old k)) < 2 ^ 32 }
+    ensures same { (k : ℕ) → k < length columns.old → IsSameColumn (kept_at columns.old k) (kept_at columns.new k) }
+    ensures ok { OnOk result ((k : ℕ) → k < length columns.old → IsTrue (shifted_room (kept_at columns.new k))) }
+{
+    'columns: for c in 0..columns.len() {
+        columns[c].reserve_one()?;
+    }
+    Ok(())
+}
+
+/// Appends to each column its entry of a row, in room that is there.
+pub(crate) fn push_each(columns: &mut [Shifted], values: &[Option<i128>])
+    requires long { length values.now ≡ length columns.old }
+    requires room { (k : ℕ) → k < length columns.old → IsTrue (shifted_room (kept_at columns.old k)) }
+    requires range { (k : ℕ) → k < length columns.old →
+        IsInRange (kept_at columns.old k).offset (shifted_size (kept_at columns.old k)) (entry_at values.now k) }
+    requires narrow { (k : ℕ) → k < length columns.old →
+        IfSome (entry_at values.now k) (λ x. (neg_ℤ (pos (2 ^ 63)) ≤ℤ x) × (x <ℤ pos (2 ^ 63))) }
+    ensures { (k : ℕ) → k < length columns.old → HasOneMore (kept_at columns.old k) (kept_at columns.new k) (entry_at values.now k) }
+{
+    'columns: for c in 0..columns.len() {
+        let entry = match values[c] {
+            None => None,
+            Some(number) => Some(number as i64),
+        };
+        columns[c].push_reserved(entry);
+    }
+}
+
+/// Makes a second column of each.
+pub(crate) fn copy_each(alloc: Global, columns: &[Shifted]) -> Result<Vec<Shifted>, NoMemory>
+    ensures long { IfOk result (λ copied. length copied.items ≡ length columns.now) }
+    ensures same { IfOk result (λ copied. (k : ℕ) → k < length columns.now → IsSameColumn (kept_at columns.now k) (kept_at copied.items k)) }
+{
+    let mut copied = Vec::with_capacity(alloc, columns.len())?;
+    'columns: for c in 0..columns.len() {
+        copied.push(columns[c].copy()?)?;
+    }
+    Ok(copied)
+}

@@ -1,0 +1,21 @@
+//! A table of rows from feeders: its schema, its rows, and the queries that it answers.
+#![tactic(auto)]
+
+mod columns;
+mod form;
+mod name;
+mod numbering;
+mod query;
+mod row;
+mod schema;
+mod schema_error;
+mod select;
+mod totals;
+
+pub use bsi_columns::Op;
+pub use form::{ColumnSpec, Form, Kind};
+pub use query::{Answer, Pred, Query, Total};
+pub use row::Row;
+pub use schema::Schema;
+pub use schema_error::SchemaError;
+pub use std::alloc::AllocError as NoMemory;

@@ -1,0 +1,106 @@
+//! What is asked of a table, and what is answered.
+
+ghost use Rattle.std.specs.Prelude.{◌≡◌, ◌++◌, ◌∷◌, [], Option};
+ghost use Rattle.bsi_table.specs.Answers.{columns_of_pred, columns_of_total, missing_column, missing_of};
+
+use bsi_columns::Op;
+
+/// A condition on a row. Columns go by their places, from 0.
+#[derive(Debug, Drop)]
+pub enum Pred {
+    /// Holds of every row.
+    All,
+    /// The column's entry is a number that compares so with the constant, which may be any. No null does.
+    Compare(u32, Op, i128),
+    /// The column's entry is a null.
+    Null(u32),
+    /// Both hold.
+    Both(Box<Pred>, Box<Pred>),
+    /// One of the two holds, or both.
+    Either(Box<Pred>, Box<Pred>),
+    /// It does not hold: so of nulls too.
+    Not(Box<Pred>),
+}
+
+/// What is wanted of the rows that a predicate selects.
+#[derive(Clone, Copy, Debug, PartialEq, Eq)]
+pub enum Total {
+    /// How many there are.
+    Count,
+    /// The sum of the column's numbers.
+    Sum(u32),
+    /// The least of the column's numbers.
+    Least(u32),
+    /// The greatest of the column's numbers.
+    Greatest(u32),
+    /// The lower median of the column's numbers.
+    Median(u32),
+    /// Which rows they are.
+    Rows,
+}
+
+/// A total of the rows that a predicate selects.
+#[derive(Debug, Drop)]
+pub struct Query {
+    pub total: Total,
+    pub pred: Pred,
+}
+
+/// The answer to a query.
+#[derive(Debug, Drop)]
+pub enum Answer {
+    /// How many rows there are.
+    Count(u64),
+    /// The sum of numbers, which is 0 where there are none.
+    Sum(i128),
+    /// The least, greatest or median number, none where there are none.
+    Value(Option<i64>),
+    /// Each row's feeder and its number among the feeder's rows, from 0, in order of the rows.
+    Rows(Vec<(u32, u64)>),
+}
+
+impl Query {
+    /// Returns the first column that the query reads and that is none of the first `columns`: that of its total, else the
+    /// predicate's first, from left to right.
+    pub(crate) fn missing_column(&self, columns: u32) -> Option<u32>
+        ensures { result ≡ missing_column columns self.now }
+    {
+        match self.total.missing_column(columns) {
+            Some(missing) => Some(missing),
+            None => self.pred.missing_column(columns),
+        }
+    }
+}
+
+impl Total {
+    /// Returns the column that the total reads, if it is none of the first `columns`.
+    fn missing_column(self, columns: u32) -> Option<u32>
+        ensures { result ≡ missing_of columns (columns_of_total self) }
+    {
+        match self {
+            Total::Count | Total::Rows => None,
+            Total::Sum(c) | Total::Least(c) | Total::Greatest(c) | Total::Median(c) => {
+                if c < columns { None } else { Some(c) }
+            }
+        }
+    }
+}
+
+impl Pred {
+    /// Returns the first column that the predicate reads, from left to right, and that is none of the first `columns`.
+    fn missing_column(&self, columns: u32) -> Option<u32>
+        ensures { result ≡ missing_of columns (columns_of_pred self.now) }
+    {
+        match self {
+            Pred::All => None,
+            Pred::Compare(c, _, _) | Pred::Null(c) => { if *c < columns { None } else { Some(*c) } }
+            Pred::Both(first, second) | Pred::Either(first, second) => {
+                match first.missing_column(columns) {
+                    Some(missing) => Some(missing),
+                    None => second.missing_column(columns),
+                }
+            }
+            Pred::Not(pred) => pred.missing_column(columns),
+        }
+    }
+}

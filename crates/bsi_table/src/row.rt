@@ -1,0 +1,45 @@
+//! A row: an entry for each column.
+
+ghost use Rattle.std.specs.Prelude.{◌≡◌, IfOk};
+
+use crate::NoMemory;
+use std::marker::Model;
+
+/// A list of entries, each a whole number or a null. A contract sees that list.
+#[derive(Debug, Drop)]
+pub struct Row {
+    values: Vec<Option<i128>>,
+}
+
+impl Model for Row {
+    ghost use Rattle.std.specs.Prelude.{List, Option, ℤ};
+
+    ghost Value = { List (Option ℤ) };
+
+    ghost view = { λ r. r.values.items };
+}
+
+impl Row {
+    /// Makes a row of these entries.
+    pub fn new(values: Vec<Option<i128>>) -> Row
+        ensures { result ≡ values.items }
+    {
+        Row { values }
+    }
+
+    /// Lends the entries.
+    pub fn values(&self) -> &[Option<i128>]
+        ensures { result.now ≡ self.now }
+    {
+        &self.values
+    }
+
+    /// Makes a second row of the same entries.
+    pub fn copy(&self) -> Result<Row, NoMemory>
+        ensures { IfOk result (λ r. r ≡ self.now) }
+    {
+        Ok(Row {
+            values: self.values.clone()?,
+        })
+    }
+}

@@ -1,0 +1,219 @@
+//! The columns of a table: their names in order of declaration, their forms and offsets.
+
+ghost use Rattle.std.specs.Prelude.{◌≡◌, ◌<◌, ◌≤◌, ◌^◌, ◌++◌, ◌∷◌, [], Some, None, true, false, length, is_some, pos, ◌+ℤ◌, ◌≤ℤ◌, IfOk, IfErr, OnOk, OnErr, IsTrue, Ok};
+ghost use Rattle.std.specs.Result.{result_err};
+ghost use Rattle.bsi_table.specs.Columns.{column_at, fits, form_of, is_taken_by, no_columns, position_of, size_in, with_column, IsColumn, IsForm};
+ghost use Rattle.bsi_table.specs.Refusals.{column_refusal, name_refusal, signed_refusal, IsFirstOr};
+
+use crate::form::{ColumnSpec, Form, Kind};
+use crate::name::test_name;
+use crate::{NoMemory, Row, SchemaError};
+use indexmap::IndexMap;
+use std::alloc::Global;
+use std::marker::Model;
+
+/// The most columns of a schema.
+const MOST_COLUMNS: usize = 64;
+
+/// What the offset and the size of a column come to at most.
+const GREATEST_END: i128 = 1 << 63;
+
+/// A list of at most 64 named columns, in order of declaration.
+#[derive(Drop)]
+pub struct Schema {
+    columns: IndexMap<String, Kind>,
+    signed: bool,
+}
+
+// Clauses see the list of columns, and whether one was declared with an offset.
+impl Model for Schema {
+    ghost use Rattle.std.specs.Prelude.{map};
+    ghost use Rattle.bsi_table.specs.Columns.{named, Declared, IsSchema};
+
+    ghost Value = { Declared };
+
+    ghost view = { λ s. record { columns = map named s.columns.entries; signed = s.signed } };
+
+    ghost invariant = { λ s. IsSchema (map named s.columns.entries) };
+}
+
+impl Schema {
+    /// Makes a schema of no columns. It takes no memory until a column is added.
+    pub fn new(alloc: Global) -> Schema
+        ensures { result ≡ no_columns }
+    {
+        Schema {
+            columns: IndexMap::new(alloc),
+            signed: false,
+        }
+    }
+
+    /// Returns the number of columns, at most 64.
+    pub fn columns(&self) -> u32
+        ensures columns { result ≡ length self.now.columns }
+        ensures within { result ≤ 64 }
+    {
+        self.columns.len() as u32
+    }
+
+    /// Returns whether some column was added with an offset.
+    pub fn signed(&self) -> bool
+        ensures { result ≡ self.now.signed }
+    {
+        self.signed
+    }
+
+    /// Returns the place of the column of this name.
+    pub fn position(&self, name: &str) -> Option<u32>
+        ensures { result ≡ position_of self.now.columns name.now }
+    {
+        match self.columns.get_index_of(name) {
+            None => None,
+            Some(place) => Some(place as u32),
+        }
+    }
+
+    /// Returns the name of column `c`.
+    pub fn name(&self, c: u32) -> &str
+        requires { c < length self.now.columns }
+        ensures { result.now ≡ (column_at self.now.columns c).name }
+    {
+        let (name, _) = self.columns.get_index(c as usize).unwrap();
+        name.as_str()
+    }
+
+    /// Returns the form of column `c`.
+    pub fn form(&self, c: u32) -> &Form
+        requires { c < length self.now.columns }
+        ensures form { result.now ≡ (column_at self.now.columns c).form }
+        ensures valid { IsForm result.now }
+    {
+        let (_, kind) = self.columns.get_index(c as usize).unwrap();
+        &kind.form
+    }
+
+    /// Returns how many numbers column `c` tells apart, at most 2^63.
+    pub fn size(&self, c: u32) -> u64
+        requires { c < length self.now.columns }
+        ensures size { result ≡ size_in (column_at self.now.columns c).form }
+        ensures within { result ≤ 2 ^ 63 }
+    {
+        self.form(c).size()
+    }
+
+    /// Returns the least number that column `c` takes.
+    pub fn offset(&self, c: u32) -> i64
+        requires { c < length self.now.columns }
+        ensures offset { result ≡ (column_at self.now.columns c).offset }
+        ensures below { (result +ℤ pos (size_in (column_at self.now.columns c).form)) ≤ℤ pos (2 ^ 63) }
+    {
+        let (_, kind) = self.columns.get_index(c as usize).unwrap();
+        kind.offset
+    }
+
+    /// Returns whether a row has one entry for each column, a null or a number that the column takes.
+    pub fn fits(&self, row: &Row) -> bool
+        ensures { result ≡ fits self.now.columns row.now }
+    {
+        let values = row.values();
+        if values.len() != self.columns.len() {
+            return false;
+        }
+        'columns: for c in 0..self.columns() {
+            if !self.takes(c, values[c as usize]) {
+                return false;
+            }
+        }
+        true
+    }
+
+    /// Returns whether column `c` takes an entry.
+    fn takes(&self, c: u32, entry: Option<i128>) -> bool
+        requires { c < length self.now.columns }
+        ensures { result ≡ is_taken_by (column_at self.now.columns c) entry }
+    {
+        let Some(number) = entry else {
+            return true;
+        };
+        let least = i128::from(self.offset(c));
+        if number < least {
+            return false;
+        }
+        number < least + i128::from(self.size(c))
+    }
+
+    /// Adds a column of numbers from 0 up, last. A column that is refused is dropped, and the schema stays.
+    pub fn add(&mut self, name: &str, spec: ColumnSpec) -> Result<(), SchemaError>
+        ensures added { OnOk result (self.new ≡ with_column self.old (record { name = name.now; form = form_of spec; offset = pos 0 }) false) }
+        ensures taken { OnOk result (column_refusal self.old name.now spec ≡ None) }
+        ensures refused { IfErr result (λ e. IsFirstOr SchemaError.NoMemory (column_refusal self.old name.now spec) e) }
+        ensures kept { OnErr result (self.new ≡ self.old) }
+    {
+        self.check_name(name)?;
+        let form = Form::of(spec)?;
+        self.push(name, Kind { form, offset: 0 }, false)?;
+        Ok(())
+    }
+
+    /// Adds a column of numbers from `offset` up, last. A column that is refused is dropped, and the schema stays.
+    pub fn add_signed(
+        &mut self,
+        name: &str,
+        spec: ColumnSpec,
+        offset: i64,
+    ) -> Result<(), SchemaError>
+        ensures added { OnOk result (self.new ≡ with_column self.old (record { name = name.now; form = form_of spec; offset = offset }) true) }
+        ensures taken { OnOk result (signed_refusal self.old name.now spec offset ≡ None) }
+        ensures refused { IfErr result (λ e. IsFirstOr SchemaError.NoMemory (signed_refusal self.old name.now spec offset) e) }
+        ensures kept { OnErr result (self.new ≡ self.old) }
+    {
+        self.check_name(name)?;
+        let form = Form::of(spec)?;
+        if i128::from(offset) + i128::from(form.size()) > GREATEST_END {
+            return Err(SchemaError::BadOffset);
+        }
+        self.push(name, Kind { form, offset }, true)?;
+        Ok(())
+    }
+
+    /// Refuses a name, or one more column.
+    fn check_name(&self, name: &str) -> Result<(), SchemaError>
+        ensures { result_err result ≡ name_refusal self.now name.now }
+    {
+        if !test_name(name.as_bytes()) {
+            return Err(SchemaError::BadName);
+        }
+        if self.position(name).is_some() {
+            return Err(SchemaError::NameTaken);
+        }
+        if self.columns.len() >= MOST_COLUMNS {
+            return Err(SchemaError::TooManyColumns);
+        }
+        Ok(())
+    }
+
+    /// Puts a column last, under a name that is not taken.
+    fn push(&mut self, name: &str, kind: Kind, signed: bool) -> Result<(), NoMemory>
+        requires fresh { position_of self.old.columns name.now ≡ None }
+        requires few { length self.old.columns < 64 }
+        requires form { IsForm kind.form }
+        requires below { (kind.offset +ℤ pos (size_in kind.form)) ≤ℤ pos (2 ^ 63) }
+        ensures ok { OnOk result (self.new ≡ with_column self.old (record { name = name.now; form = kind.form; offset = kind.offset }) signed) }
+        ensures err { OnErr result (self.new ≡ self.old) }
+    {
+        let key = String::from_str(*self.columns.allocator(), name)?;
+        self.columns.insert(key, kind)?;
+        self.signed |= signed;
+        Ok(())
+    }
+
+    /// Makes a second schema of the same columns.
+    pub fn copy(&self) -> Result<Schema, NoMemory>
+        ensures { IfOk result (λ schema. schema ≡ self.now) }
+    {
+        Ok(Schema {
+            columns: self.columns.clone()?,
+            signed: self.signed,
+        })
+    }
+}

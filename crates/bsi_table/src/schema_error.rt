@@ -1,0 +1,44 @@
+//! Why one more column is refused.
+
+ghost use Rattle.std.specs.Prelude.{◌≡◌};
+
+use bsi_digits::BasesError;
+use std::alloc::AllocError;
+
+/// The refusals of a column, in the order in which they are checked.
+#[derive(Clone, Copy, Debug, PartialEq, Eq)]
+pub enum SchemaError {
+    /// The text is no name: a lower-case letter, then lower-case letters, digits and `_`, 1 to 32 bytes in all, and none
+    /// of the words `all`, `null`, `and`, `or`, `not`.
+    BadName,
+    /// There is a column of this name.
+    NameTaken,
+    /// There are 64 columns.
+    TooManyColumns,
+    /// The bases are refused, for this reason. Slices are refused as so many bases of 2.
+    BadBases(BasesError),
+    /// The offset and the size come to more than 2^63.
+    BadOffset,
+    /// A growth was refused.
+    NoMemory,
+}
+
+impl From<AllocError> for SchemaError {
+    ghost use Rattle.bsi_table.specs.declared.schema_error.SchemaError.TheVariants.{NoMemory};
+
+    ghost from_gives = { λ _ e. e ≡ NoMemory };
+
+    fn from(_refused: AllocError) -> SchemaError {
+        SchemaError::NoMemory
+    }
+}
+
+impl From<BasesError> for SchemaError {
+    ghost use Rattle.bsi_table.specs.declared.schema_error.SchemaError.TheVariants.{BadBases};
+
+    ghost from_gives = { λ why e. e ≡ BadBases why };
+
+    fn from(why: BasesError) -> SchemaError {
+        SchemaError::BadBases(why)
+    }
+}

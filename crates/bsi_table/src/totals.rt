@@ -1,0 +1,38 @@
+//! The total that a query asks of the rows that its predicate selects.
+
+ghost use Rattle.std.specs.Prelude.{◌≡◌, ℕ, ◌<◌, All, None, length, map, IfOk};
+ghost use Rattle.bsi_shift.specs.Shifted.{shifted_entries};
+ghost use Rattle.bsi_table.specs.Answers.{columns_of_total, missing_of, IsAnswer};
+ghost use Rattle.bsi_table.specs.Rows.{holds};
+ghost use Rattle.bsi_table.specs.Table.{fed_rows, kept_at};
+
+use crate::numbering::number_rows;
+use crate::{Answer, NoMemory, Query, Total};
+use bsi_bits::Bits;
+use bsi_shift::Shifted;
+use std::alloc::Global;
+
+/// Returns the answer to a query whose predicate selects the found rows. It reads a column that is there alone. A count
+/// and a sum take no memory.
+pub(crate) fn answer(
+    alloc: Global,
+    columns: &[Shifted],
+    sources: &[u8],
+    found: &Bits,
+    query: &Query,
+) -> Result<Answer, NoMemory>
+    requires few { All (λ source. source < 64) sources.now }
+    requires even { (k : ℕ) → k < length columns.now → length (shifted_entries (kept_at columns.now k)) ≡ length sources.now }
+    requires found { found.now.bits ≡ map (λ row. holds query.now.pred row.1) (fed_rows sources.now columns.now) }
+    requires there { missing_of (length columns.now) (columns_of_total query.now.total) ≡ None }
+    ensures { IfOk result (λ answer. IsAnswer query.now (fed_rows sources.now columns.now) answer) }
+{
+    match query.total {
+        Total::Count => Ok(Answer::Count(found.count())),
+        Total::Sum(c) => Ok(Answer::Sum(columns[c as usize].sum(found))),
+        Total::Least(c) => Ok(Answer::Value(columns[c as usize].least(found)?)),
+        Total::Greatest(c) => Ok(Answer::Value(columns[c as usize].greatest(found)?)),
+        Total::Median(c) => Ok(Answer::Value(columns[c as usize].median(found)?)),
+        Total::Rows => Ok(Answer::Rows(number_rows(alloc, found, sources)?)),
+    }
+}
