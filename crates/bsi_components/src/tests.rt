@@ -510,11 +510,46 @@ fn ranked<E: Encoding>(
     Ok(())
 }
 
+// How many rows of a found set have a digit of at most `d`, by plain counts.
+fn plain_upto(base: u32, d: u32, found: &Bits) -> u64
+    requires { 2 ≤ base }
+{
+    let mut rows = 0u64;
+    for digit in 0..=d {
+        rows = rows.wrapping_add(plain_count(base, digit, found));
+    }
+    rows
+}
+
+fn count_le<E: Encoding>(component: &E, d: u32, found: &Bits, scratch: &mut Bits) -> Option<u64> {
+    let len = component.len();
+    if d >= component.base() || len != found.len() || len != scratch.len() {
+        return None;
+    }
+    Some(component.count_le(d, found, scratch))
+}
+
+// The counts of the digits at both ends among two thirds of the rows of a patterned component.
+fn counted<E: Encoding>(rt: &impl Abort, alloc: Global, component: &E) -> Result<(), Fail> {
+    let (base, len) = (component.base(), component.len());
+    let found = chosen(alloc, len)?;
+    let mut scratch = filled(alloc, len, true)?;
+    for d in [0, base / 2, base - 2, base - 1] {
+        assert_eq!(rt;
+            count_le(component, d, &found, &mut scratch),
+            Some(plain_upto(base, d, &found)),
+            "up to {d} of {base} at {len}"
+        );
+    }
+    Ok(())
+}
+
 fn ranks<E: Encoding>(rt: &impl Abort, alloc: Global) -> Result<(), Fail> {
     for base in [2, 3, 10] {
         for len in LENGTHS {
             assert!(rt; base >= 2 && base <= 1024);
             let component = patterned::<E>(rt, alloc, base, len)?;
+            counted(rt, alloc, &component)?;
             for rank in [0, len / 3, len.saturating_sub(1) / 3 * 2, len] {
                 ranked(rt, alloc, &component, rank)?;
             }

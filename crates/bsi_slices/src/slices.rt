@@ -1,6 +1,6 @@
 //! A column as bit slices: one bit vector for each binary place of its numbers, as O'Neil and Quass described in 1997.
 
-ghost use Rattle.std.specs.Prelude.{◌≡◌, ℕ, ◌++◌, ◌∷◌, [], All, ◌<◌, ◌≤◌, ◌^◌, ◌==◌, ◌&&◌, length, map, replicate, slice_index, IfOk, IsTrue, OnOk};
+ghost use Rattle.std.specs.Prelude.{◌≡◌, ℕ, ◌++◌, ◌∷◌, [], All, ◌<◌, ◌≤◌, ◌^◌, ◌==◌, ◌&&◌, length, map, replicate, IfOk, IsTrue, OnOk};
 ghost use Rattle.std.specs.Int.{bit_at};
 ghost use Rattle.bsi_slices.specs.Rows.{number_or_zero};
 ghost use Rattle.bsi_slices.specs.Slices.{entries_in, has_room_at, have_room, slice_at, IsSliced};
@@ -185,11 +185,6 @@ fn know_len(bits: &Bits)
 {
     let _len = bits.len();
 }
-
-/// Says of words behind a shared reference what their type does.
-fn know_fits(words: &[u64])
-    ensures { (k : ℕ) → slice_index words.now k < 2 ^ 64 }
-{}
 
 /// Makes room for one more bit in each slice. The bits stay, whatever the result.
 fn reserve_all(slices: &mut [Bits]) -> Result<(), NoMemory>

@@ -10,10 +10,10 @@ ghost use Rattle.bsi_slices.specs.SliceTests.{chosen, passes, relates, IsBelowSi
 ghost use Rattle.bsi_slices.specs.Slices.{entries_in, number, slice_at, IsSliced};
 ghost use Rattle.bsi_slices.specs.declared.slices.compare.Selection.TheVariants.{Tested};
 
-use super::{know_fits, know_len};
+use super::know_len;
 use crate::NoMemory;
 use crate::column::Op;
-use bsi_bits::Bits;
+use bsi_bits::{Bits, know_fits};
 use std::alloc::Global;
 use std::simd::Simd;
 

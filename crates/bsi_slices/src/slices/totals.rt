@@ -1,17 +1,17 @@
 //! The totals of a found set: the sum by one count a slice, and the number of a rank by narrowing the found set from the most
 //! significant slice down.
 
-ghost use Rattle.std.specs.Prelude.{◌≡◌, ℕ, ◌+◌, ◌*◌, ◌^◌, ◌≤◌, ◌<◌, ◌&&◌, false, if◌then◌else◌, length, not, slice_index, sum, sum_by, count_by, count_ones, IfOk, IsTrue};
+ghost use Rattle.std.specs.Prelude.{◌≡◌, ℕ, ◌+◌, ◌*◌, ◌^◌, ◌≤◌, ◌<◌, ◌&&◌, false, if◌then◌else◌, length, not, slice_index, sum, sum_by, count_by, count_ones, IfOk, IsTrue, ◌↔◌};
 ghost use Rattle.std.specs.Simd.Lanes.{zip2};
 ghost use Rattle.bsi_bits.specs.BitList.{without};
 ghost use Rattle.bsi_bits.specs.Packed.{bits_of, IsPacked};
 ghost use Rattle.bsi_slices.specs.Blocks.{word_kept};
 ghost use Rattle.bsi_slices.specs.Totals.{numbers_at, IsRanked};
 
-use super::{know_fits, know_len};
+use super::know_len;
 use crate::slices::Slices;
 use crate::{Column, NoMemory};
-use bsi_bits::{Bits, lanes};
+use bsi_bits::{Bits, know_fits, lanes};
 
 /// The words of a block. It is small, since narrowing leaves more and more blocks with no row.
 const BLOCK: usize = 32;
@@ -35,7 +35,8 @@ impl Slices {
         total
     }
 
-    /// The number of rank `k` at the rows of a found set.
+    /// The number of rank `k` at the rows of a found set. Each step cuts the rows that are left by the slice of the step before,
+    /// the first one by the not-null bitmap, and counts in its own.
     pub(crate) fn number_of_rank(&self, found: &Bits, k: u64) -> Result<u64, NoMemory>
         requires same { length self.now.entries ≡ length found.now.bits }
         requires there { k < length (numbers_at found.now.bits self.now.entries) }
@@ -148,7 +149,7 @@ fn narrow_block(chosen: &mut [u64], words: &[u64], is_set: bool, next: &[u64]) -
 
 /// Whether no bit of the words is set.
 fn is_empty(words: &[u64]) -> bool
-    ensures { IsTrue result → (k : ℕ) → slice_index words.now k ≡ 0 }
+    ensures { IsTrue result ↔ ((k : ℕ) → slice_index words.now k ≡ 0) }
 {
     let mut seen = 0;
     'words: for i in 0..words.len() {
