@@ -107,8 +107,8 @@ impl Schema {
         ensures offset { result ≡ (column_at self.now.columns c).offset }
         ensures below { (result +ℤ pos (size_in (column_at self.now.columns c).form)) ≤ℤ pos (2 ^ 63) }
     {
-        let (_, kind) = self.columns.get_index(c as usize).unwrap();
-        kind.offset
+        let (_, declared) = self.columns.get_index(c as usize).unwrap();
+        declared.offset
     }
 
     /// Returns whether a row has one entry for each column, a null or a number that the column takes.
@@ -149,8 +149,7 @@ impl Schema {
         ensures refused { IfErr result (IsFirstOr SchemaError.NoMemory (column_refusal self.old name.now spec)) }
         ensures kept { OnErr result (self.new ≡ self.old) }
     {
-        self.check_name(name)?;
-        let form = Form::of(spec)?;
+        let form = self.checked(name, spec)?;
         self.push(name, Kind { form, offset: 0 }, false)?;
         Ok(())
     }
@@ -167,13 +166,23 @@ impl Schema {
         ensures refused { IfErr result (IsFirstOr SchemaError.NoMemory (signed_refusal self.old name.now spec offset)) }
         ensures kept { OnErr result (self.new ≡ self.old) }
     {
-        self.check_name(name)?;
-        let form = Form::of(spec)?;
+        let form = self.checked(name, spec)?;
         if i128::from(offset) + i128::from(form.size()) > GREATEST_END {
             return Err(SchemaError::BadOffset);
         }
         self.push(name, Kind { form, offset }, true)?;
         Ok(())
+    }
+
+    /// Returns the form of a column that may be added under this name.
+    fn checked(&self, name: &str, spec: ColumnSpec) -> Result<Form, SchemaError>
+        ensures refused { result_err result ≡ column_refusal self.now name.now spec }
+        ensures free { OnOk result (name_refusal self.now name.now ≡ None) }
+        ensures form { IfOk result (λ form. form ≡ form_of spec) }
+        ensures valid { IfOk result IsForm }
+    {
+        self.check_name(name)?;
+        Ok(Form::of(spec)?)
     }
 
     /// Refuses a name, or one more column.

@@ -4,6 +4,7 @@
 mod comparisons;
 mod growth;
 mod stored;
+mod table;
 mod totals;
 
 use crate::{NoMemory, PlainColumn, WholeVectors};
