@@ -1,13 +1,13 @@
 //! The index: rows from feeders, kept column by column, and the answers to queries over them.
 
-ghost use Rattle.std.specs.Prelude.{◌≡◌, ℕ, ◌+◌, ◌<◌, ◌≤◌, ◌^◌, ◌++◌, ◌∷◌, [], ◌≤ℤ◌, ◌<ℤ◌, pos, neg_ℤ, None, length, vec_len, vec_capacity, IfErr, IfOk, IfSome, IsTrue, OnErr, OnOk};
+ghost use Rattle.std.specs.Prelude.{◌≡◌, ℕ, ◌<◌, ◌≤◌, ◌^◌, ◌++◌, ◌∷◌, [], None, length, vec_len, vec_capacity, IfErr, IfOk, IsTrue, OnErr, OnOk};
 ghost use Rattle.std.specs.Result.{result_err};
-ghost use Rattle.bsi_shift.specs.Shifted.{shifted_entries, shifted_room, shifted_size, IsInRange};
+ghost use Rattle.bsi_shift.specs.Shifted.{shifted_entries};
 ghost use Rattle.bsi_table.specs.Answers.{missing_column, IsAnswer};
 ghost use Rattle.bsi_table.specs.Columns.{column_at, fits};
 ghost use Rattle.bsi_table.specs.Refusals.{ask_refusal, index_refusal, row_refusal, IsFirstOr};
-ghost use Rattle.bsi_table.specs.Rows.{column_of, entry_at};
-ghost use Rattle.bsi_table.specs.Table.{kept_at, no_rows, with_row, HasOneMore, IsInForm, IsSameColumn};
+ghost use Rattle.bsi_table.specs.Rows.{column_of};
+ghost use Rattle.bsi_table.specs.Table.{kept_at, no_rows, with_row, AreInRange, AreNarrow, AreSameColumns, HaveOneMore, HaveRoom, IsInForm};
 
 use crate::columns::{copy_each, make_each, push_each, reserve_each};
 use crate::select::select;
@@ -33,11 +33,11 @@ pub struct Index {
 
 // Clauses see the schema, the number of feeders, the limit, and the list of rows, each with its feeder.
 impl Model for Index {
-    ghost use Rattle.bsi_table.specs.Table.{fed_rows, IsTable, Table};
+    ghost use Rattle.bsi_table.specs.Table.{fed_rows, table, IsTable, Table};
 
     ghost Value = { Table };
 
-    ghost view = { λ i. record { schema = i.schema; feeders = i.feeders; limit = i.limit; rows = fed_rows i.sources.items i.columns.items } };
+    ghost view = { λ i. table i.schema i.feeders i.limit (fed_rows i.sources.items i.columns.items) };
 
     ghost invariant = { λ i. IsTable i.schema.columns i.feeders i.limit i.sources.items i.columns.items };
 }
@@ -48,7 +48,7 @@ impl Index {
         requires { (1 ≤ feeders) × (feeders ≤ 64) }
         ensures ok { IfOk result (λ index. index ≡ no_rows schema feeders limit) }
         ensures taken { OnOk result (index_refusal schema limit ≡ None) }
-        ensures refused { IfErr result (λ e. IsFirstOr IndexError.NoMemory (index_refusal schema limit) e) }
+        ensures refused { IfErr result (IsFirstOr IndexError.NoMemory (index_refusal schema limit)) }
     {
         Index::check(&schema, limit)?;
         let columns = make_each(alloc, &schema)?;
@@ -90,7 +90,7 @@ impl Index {
         ensures appended { OnOk result (self.new ≡ with_row self.old feeder row.now) }
         ensures position { IfOk result (λ position. position ≡ length self.old.rows) }
         ensures taken { OnOk result (row_refusal self.old ≡ None) }
-        ensures refused { IfErr result (λ e. IsFirstOr AppendError.NoMemory (row_refusal self.old) e) }
+        ensures refused { IfErr result (IsFirstOr AppendError.NoMemory (row_refusal self.old)) }
         ensures kept { OnErr result (self.new ≡ self.old) }
     {
         let position = self.len();
@@ -109,9 +109,9 @@ impl Index {
 
     /// Answers a query over all rows.
     pub fn ask(&self, query: &Query) -> Result<Answer, AskError>
-        ensures answer { IfOk result (λ answer. IsAnswer query.now self.now.rows answer) }
+        ensures answer { IfOk result (IsAnswer query.now self.now.rows) }
         ensures there { OnOk result (ask_refusal self.now.schema query.now ≡ None) }
-        ensures refused { IfErr result (λ e. IsFirstOr AskError.NoMemory (ask_refusal self.now.schema query.now) e) }
+        ensures refused { IfErr result (IsFirstOr AskError.NoMemory (ask_refusal self.now.schema query.now)) }
     {
         match query.missing_column(self.schema.columns()) {
             Some(missing) => Err(AskError::BadColumn(missing)),
@@ -122,7 +122,7 @@ impl Index {
     /// Answers a query of which no column is missing.
     fn answer(&self, query: &Query) -> Result<Answer, NoMemory>
         requires { missing_column (length self.now.schema.columns) query.now ≡ None }
-        ensures { IfOk result (λ answer. IsAnswer query.now self.now.rows answer) }
+        ensures { IfOk result (IsAnswer query.now self.now.rows) }
     {
         let alloc = *self.sources.allocator();
         let found = select(alloc, &self.columns, self.len(), &query.pred)?;
@@ -183,9 +183,9 @@ impl Index {
 fn reserve_row(columns: &mut Vec<Shifted>, sources: &mut Vec<u8>) -> Result<(), NoMemory>
     requires { (k : ℕ) → k < length columns.old.items → length (shifted_entries (kept_at columns.old.items k)) < 2 ^ 32 }
     ensures long { length columns.new.items ≡ length columns.old.items }
-    ensures same { (k : ℕ) → k < length columns.old.items → IsSameColumn (kept_at columns.old.items k) (kept_at columns.new.items k) }
+    ensures same { AreSameColumns columns.old.items columns.new.items }
     ensures sources { sources.new.items ≡ sources.old.items }
-    ensures ok { OnOk result ((k : ℕ) → k < length columns.old.items → IsTrue (shifted_room (kept_at columns.new.items k))) }
+    ensures ok { OnOk result (HaveRoom columns.new.items (length columns.old.items)) }
     ensures room { OnOk result (vec_len sources.new < vec_capacity sources.new) }
 {
     reserve_each(columns)?;
@@ -195,15 +195,12 @@ fn reserve_row(columns: &mut Vec<Shifted>, sources: &mut Vec<u8>) -> Result<(), 
 /// Appends a row, in room that is there.
 fn push_row(columns: &mut Vec<Shifted>, sources: &mut Vec<u8>, source: u8, values: &[Option<i128>])
     requires long { length values.now ≡ length columns.old.items }
-    requires room { (k : ℕ) → k < length columns.old.items → IsTrue (shifted_room (kept_at columns.old.items k)) }
+    requires room { HaveRoom columns.old.items (length columns.old.items) }
     requires reserved { vec_len sources.old < vec_capacity sources.old }
-    requires range { (k : ℕ) → k < length columns.old.items →
-        IsInRange (kept_at columns.old.items k).offset (shifted_size (kept_at columns.old.items k)) (entry_at values.now k) }
-    requires narrow { (k : ℕ) → k < length columns.old.items →
-        IfSome (entry_at values.now k) (λ x. (neg_ℤ (pos (2 ^ 63)) ≤ℤ x) × (x <ℤ pos (2 ^ 63))) }
+    requires range { AreInRange columns.old.items values.now }
+    requires narrow { AreNarrow columns.old.items values.now }
     ensures long { length columns.new.items ≡ length columns.old.items }
-    ensures more { (k : ℕ) → k < length columns.old.items →
-        HasOneMore (kept_at columns.old.items k) (kept_at columns.new.items k) (entry_at values.now k) }
+    ensures more { HaveOneMore columns.old.items columns.new.items values.now }
     ensures sources { sources.new.items ≡ sources.old.items ++ source ∷ [] }
 {
     push_each(columns, values);

@@ -16,7 +16,7 @@ mod totals;
 
 pub use bsi_columns::Op;
 pub use errors::{AppendError, AskError, IndexError};
-pub use form::{ColumnSpec, Form, Kind};
+pub use form::{ColumnSpec, Form};
 pub use index::Index;
 pub use query::{Answer, Pred, Query, Total};
 pub use row::Row;
