@@ -1,21 +1,27 @@
 -- The rows of a table, by the columns that keep them.
-use Rattle.std.proofs.Common.{◌≡◌, ℕ, zero, suc, ◌<◌, Bool, List, [], ◌∷◌, None, length, map, get_or, refl, ap, ap₂, sym, ◌∙◌, arith}
+use Rattle.std.proofs.Common.{◌≡◌, ℕ, zero, suc, ◌+◌, ◌<◌, Bool, List, [], ◌∷◌, ◌++◌, None, length, map, get_or, refl, ap, ap₂, sym, ◌∙◌, arith, zero-add}
 use Rattle.std.specs.Prelude.{count_by, slice_index}
 use Rattle.std.specs.List.{range_with_len}
-use Rattle.std.proofs.lemmas.List.{ext_get_or, get_or-map, length-map}
-use Rattle.std.proofs.lemmas.List.FromFn.{fill_by_all, length-map-range_with_len}
+use Rattle.std.proofs.lemmas.List.{ext_get_or, get_or-map, get_or_append_left, length-map, map-append}
+use Rattle.std.proofs.lemmas.List.FromFn.{fill_by_all, get_or-map-range_with_len, length-map-range_with_len}
 use Rattle.bsi_bits.specs.BitList.{set_places}
 use Rattle.bsi_columns.specs.Orders.{values_at}
-use Rattle.bsi_columns.proofs.SliceEntries.{same_below}
 use Rattle.bsi_shift.specs.Shifted.{shifted_entries, OffsetColumn}
 use Rattle.bsi_table.specs.declared.query.Pred.{Pred}
-use Rattle.bsi_table.specs.Rows.{column_of, entry_at, feeders_of, holds, selected, values, Entries}
-use Rattle.bsi_table.specs.Table.{fed_rows, kept_at, no_entries, row_in, rows_in}
-use Rattle.bsi_table.proofs.Selections.{length-places, set_places-map, values-places}
+use Rattle.bsi_table.specs.Rows.{column_of, entry_at, feeders_of, holds, selected, values, Entries, FedRow}
+use Rattle.bsi_table.specs.Table.{fed_rows, kept_at, no_entries, row_in, rows_in, HasOneMore}
+use Rattle.bsi_table.proofs.Selections.{length-places, range_push, set_places-map, values-places}
+use Rattle.std.proofs.Math.Seq.{get_or-append_seam}
 
 pub map_twice : {X Y Z : Type 0} (f : Y → Z) (g : X → Y) (xs : List X) → map f (map g xs) ≡ map (λ x. f (g x)) xs
 map_twice f g [] = refl
 map_twice f g (x ∷ xs) = ap (λ ys. f (g x) ∷ ys) (map_twice f g xs)
+
+-- two functions that agree below n
+same_below : {X : Type 0} (default : X) (f g : ℕ → X) (n : ℕ) → ((r : ℕ) → r < n → f r ≡ g r) → map f (range_with_len 0 n) ≡ map g (range_with_len 0 n)
+same_below default f g n each =
+    fill_by_all g (map f (range_with_len 0 n)) n default (length-map-range_with_len f 0 n)
+    (λ i within. get_or-map-range_with_len f 0 n i i default within (omega arith) ∙ each i within)
 
 -- a column as it is read
 pub kept_read : (kept : List OffsetColumn) (c : ℕ) (column : OffsetColumn) → c < length kept → column ≡ get_or kept c column → kept_at kept c ≡ column
@@ -104,3 +110,52 @@ unfolding fed_rows
 fed_rows-same sources old new long each =
     same_below (0, []) (λ r. (slice_index sources r, row_in new r)) (λ r. (slice_index sources r, row_in old r)) (length sources)
     (λ r below. ap (λ row. (slice_index sources r, row)) (rows_in-same old new r long each))
+
+-- before the first there is none
+pub fed_rows-none : (sources : List ℕ) (kept : List OffsetColumn) → sources ≡ [] → fed_rows sources kept ≡ []
+unfolding fed_rows
+fed_rows-none sources kept none = ap (λ xs. fed_rows xs kept) none
+
+-- and with one more entry in each column, one more row
+pub fed_rows-more : (sources : List ℕ) (old new : List OffsetColumn) (source : ℕ) (row : Entries) → length new ≡ length old → length row ≡ length old
+    → ((c : ℕ) → c < length old → length (shifted_entries (kept_at old c)) ≡ length sources)
+    → ((c : ℕ) → c < length old → HasOneMore (kept_at old c) (kept_at new c) (entry_at row c))
+    → fed_rows (sources ++ source ∷ []) new ≡ fed_rows sources old ++ (source, row) ∷ []
+unfolding fed_rows
+fed_rows-more sources old new source row long wide even more =
+    let n = length sources in
+    let now : ℕ → FedRow = λ r. (slice_index (sources ++ source ∷ []) r, row_in new r) in
+    let then : ℕ → FedRow = λ r. (slice_index sources r, row_in old r) in
+    let pair : ℕ → Entries → FedRow = λ s entries. (s, entries) in
+    ap (λ k. map now (range_with_len 0 k)) (length-push sources source)
+    ∙ ap (map now) (range_push 0 n)
+    ∙ map-append now (range_with_len 0 n) ((0 + n) ∷ [])
+    ∙ ap₂ (λ rows last. rows ++ last ∷ [])
+    (same_below (0, []) now then n
+    (λ r below. ap₂ pair (get_or_append_left sources (source ∷ []) 0 r below) (earlier r below)))
+    (ap now (zero-add n) ∙ ap₂ pair (get_or-append_seam sources source [] 0) last)
+  where
+    length-push : (xs : List ℕ) (x : ℕ) → length (xs ++ x ∷ []) ≡ suc (length xs)
+    length-push [] x = refl
+    length-push (y ∷ xs) x = ap suc (length-push xs x)
+
+    entry_then : (c r : ℕ) → c < length old → entry_at (row_in new r) c ≡ get_or (shifted_entries (kept_at old c) ++ entry_at row c ∷ []) r None
+    entry_then c r below = entry-row_in new c r (omega arith) ∙ ap (λ es. get_or es r None) (more c below).entries
+
+    earlier : (r : ℕ) → r < length sources → row_in new r ≡ row_in old r
+    earlier r before =
+        ext_get_or None (row_in new r) (row_in old r) (length-map new _ ∙ long ∙ sym (length-map old _))
+        (λ c below.
+        let there : c < length old = omega (arith, length-map new (λ column. get_or (shifted_entries column) r None)) in
+        entry_then c r there
+        ∙ get_or_append_left (shifted_entries (kept_at old c)) (entry_at row c ∷ []) None r (omega (arith, even c there))
+        ∙ sym (entry-row_in old c r there))
+
+    last : row_in new (length sources) ≡ row
+    last =
+        ext_get_or None (row_in new (length sources)) row (length-map new _ ∙ long ∙ sym wide)
+        (λ c below.
+        let there : c < length old = omega (arith, length-map new (λ column. get_or (shifted_entries column) (length sources) None)) in
+        entry_then c (length sources) there
+        ∙ ap (λ r. get_or (shifted_entries (kept_at old c) ++ entry_at row c ∷ []) r None) (sym (even c there))
+        ∙ get_or-append_seam (shifted_entries (kept_at old c)) (entry_at row c) [] None)

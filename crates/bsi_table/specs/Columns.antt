@@ -32,6 +32,9 @@ pub record NamedColumn : Type 0 where
   pub form : Form
   pub offset : ℤ
 
+abbrev pub named_column : List ℕ → Form → ℤ → NamedColumn
+named_column name form offset = record { name = name; form = form; offset = offset }
+
 -- what a contract sees of a schema: its columns in order, and whether one was declared with an offset
 pub record Declared : Type 0 where
   pub columns : List NamedColumn
@@ -46,7 +49,7 @@ with_column schema column signed = record { columns = schema.columns ++ column �
 
 -- what a list of columns has past its end
 abbrev pub no_column : NamedColumn
-no_column = record { name = []; form = Slices 0; offset = pos 0 }
+no_column = named_column [] (Slices 0) (pos 0)
 
 abbrev pub column_at : List NamedColumn → ℕ → NamedColumn
 column_at columns c = slice_index_or columns c no_column
@@ -67,7 +70,7 @@ pub record IsSchema (columns : List NamedColumn) : Type 0 where
 
 -- the entry of a map of names, as a column
 abbrev pub named : {Z : Type 0} → String Z × Kind → NamedColumn
-named entry = record { name = string_bytes entry.0; form = entry.1.form; offset = entry.1.offset }
+named entry = named_column (string_bytes entry.0) entry.1.form entry.1.offset
 
 -- a null, or a number from the offset up, as many as the column tells apart
 abbrev pub is_taken_by : NamedColumn → Option ℤ → Bool

@@ -1,5 +1,5 @@
 -- Which refusal a call meets first.
-use Rattle.std.specs.Prelude.{◌≡◌, ℕ, ◌^◌, not, ◌+ℤ◌, ℤ, pos, int_lt, List, length, Option, Some, None, is_some, option_map, nat_eq, nat_lt, nat_le, if◌then◌else◌}
+use Rattle.std.specs.Prelude.{◌≡◌, ◌||◌, ℕ, ◌^◌, not, ◌+ℤ◌, ℤ, pos, int_lt, List, length, Option, Some, None, is_some, option_map, nat_eq, nat_lt, nat_le, if◌then◌else◌}
 use Rattle.std.specs.Option.{option_or}
 use Rattle.bsi_digits.specs.Refusal.{refusal}
 use Rattle.bsi_digits.specs.declared.bases_error.BasesError.{BasesError}
@@ -8,8 +8,17 @@ use Rattle.bsi_table.specs.declared.form.ColumnSpec.{ColumnSpec}
 use Rattle.bsi_table.specs.declared.form.ColumnSpec.TheVariants.{Slices, Equality, Range}
 use Rattle.bsi_table.specs.declared.schema_error.SchemaError.{SchemaError}
 use Rattle.bsi_table.specs.declared.schema_error.SchemaError.TheVariants.{BadName, NameTaken, TooManyColumns, BadBases, BadOffset}
+use Rattle.bsi_table.specs.declared.errors.IndexError.{IndexError}
+use Rattle.bsi_table.specs.declared.errors.IndexError.TheVariants.{NoColumns, LimitOutOfRange}
+use Rattle.bsi_table.specs.declared.errors.AppendError.{AppendError}
+use Rattle.bsi_table.specs.declared.errors.AppendError.TheVariants.{IndexFull}
+use Rattle.bsi_table.specs.declared.errors.AskError.{AskError}
+use Rattle.bsi_table.specs.declared.errors.AskError.TheVariants.{BadColumn}
+use Rattle.bsi_table.specs.declared.query.Query.{Query}
+use Rattle.bsi_table.specs.Answers.{missing_column}
 use Rattle.bsi_table.specs.Columns.{Declared, position_of, form_of, size_in}
 use Rattle.bsi_table.specs.Names.{is_name}
+use Rattle.bsi_table.specs.Table.{Table}
 
 -- of so many slices
 abbrev pub slices_refusal : ℕ → Option BasesError
@@ -39,6 +48,20 @@ column_refusal schema name spec = option_or (name_refusal schema name) (option_m
 -- of one more column with an offset
 abbrev pub signed_refusal : Declared → List ℕ → ColumnSpec → ℤ → Option SchemaError
 signed_refusal schema name spec offset = option_or (column_refusal schema name spec) (offset_refusal offset spec)
+
+-- of an index of this schema with this row limit
+abbrev pub index_refusal : Declared → ℕ → Option IndexError
+index_refusal schema limit =
+    if nat_eq (length schema.columns) 0 then Some NoColumns
+    else (if nat_eq limit 0 || nat_lt 0x1_0000_0000 limit then Some LimitOutOfRange else None)
+
+-- of one more row
+abbrev pub row_refusal : Table → Option AppendError
+row_refusal table = if nat_eq (length table.rows) table.limit then Some IndexFull else None
+
+-- of a query to a table of this schema
+abbrev pub ask_refusal : Declared → Query → Option AskError
+ask_refusal schema query = option_map BadColumn (missing_column (length schema.columns) query)
 
 -- the refusal that applies or, where none does, want of memory
 abbrev pub IsFirstOr : {E : Type 0} → E → Option E → E → Type 0

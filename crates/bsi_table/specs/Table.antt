@@ -1,14 +1,14 @@
 -- A table, and the columns that keep its rows.
-use Rattle.std.specs.Prelude.{◌≡◌, ℕ, ◌^◌, ◌<◌, ◌≤◌, false, List, [], ◌∷◌, ◌++◌, Option, None, All, length, map, slice_index, slice_index_or, ℤ, pos, neg_ℤ, ◌+ℤ◌, ◌≤ℤ◌}
+use Rattle.std.specs.Prelude.{◌≡◌, ℕ, ◌^◌, ◌<◌, ◌≤◌, false, List, [], ◌∷◌, ◌++◌, Option, None, All, length, map, slice_index, slice_index_or, ℤ, pos, neg_ℤ, ◌+ℤ◌, ◌≤ℤ◌, ◌<ℤ◌, IfSome, IsTrue}
 use Rattle.std.specs.List.{range_with_len}
 use Rattle.bsi_columns.specs.declared.any.AnyColumn.{AnyColumn}
 use Rattle.bsi_columns.specs.declared.any.AnyColumn.TheVariants.{Slices as kept_slices, Equality as kept_equality, Range as kept_range}
 use Rattle.bsi_columns.specs.AnyRows.{IsSameForm}
-use Rattle.bsi_shift.specs.Shifted.{OffsetColumn, shifted_entries}
+use Rattle.bsi_shift.specs.Shifted.{shifted_entries, shifted_room, shifted_size, IsInRange, OffsetColumn}
 use Rattle.bsi_table.specs.declared.form.Form.{Form}
 use Rattle.bsi_table.specs.declared.form.Form.TheVariants.{Slices, Equality, Range}
 use Rattle.bsi_table.specs.Columns.{column_at, size_in, Declared, NamedColumn}
-use Rattle.bsi_table.specs.Rows.{Entries, FedRow}
+use Rattle.bsi_table.specs.Rows.{entry_at, Entries, FedRow}
 
 -- what a contract sees of an index: its schema, how many feeders there are, the most rows, and the rows
 pub record Table : Type 0 where
@@ -17,8 +17,11 @@ pub record Table : Type 0 where
   pub limit : ℕ
   pub rows : List FedRow
 
+abbrev pub table : Declared → ℕ → ℕ → List FedRow → Table
+table schema feeders limit rows = record { schema = schema; feeders = feeders; limit = limit; rows = rows }
+
 abbrev pub no_rows : Declared → ℕ → ℕ → Table
-no_rows schema feeders limit = record { schema = schema; feeders = feeders; limit = limit; rows = [] }
+no_rows schema feeders limit = table schema feeders limit []
 
 -- one more row stands last
 abbrev pub with_row : Table → ℕ → Entries → Table
@@ -64,7 +67,8 @@ pub record AreKept (columns : List NamedColumn) (kept : List OffsetColumn) (n : 
   pub each : (c : ℕ) → c < length columns → Keeps (column_at columns c) (kept_at kept c) n
 
 -- a table keeps its rows so: the feeder of each, and the columns
-pub record IsTable (columns : List NamedColumn) (feeders limit : ℕ) (sources : List ℕ) (kept : List OffsetColumn) : Type 0 where
+pub record IsTable (columns : List NamedColumn) (feeders limit : ℕ) (sources : List ℕ) (kept : List OffsetColumn)
+    : Type 0 where
   pub columns_are : AreKept columns kept (length sources)
   pub few : feeders ≤ 64
   pub from : All (λ source. source < feeders) sources
@@ -82,3 +86,26 @@ pub record HasOneMore (old new : OffsetColumn) (entry : Option ℤ) : Type 0 whe
   pub entries : shifted_entries new ≡ shifted_entries old ++ entry ∷ []
   pub offset : new.offset ≡ old.offset
   pub form : IsSameForm new.stored old.stored
+
+-- each column has n rows
+abbrev pub AreEven : List OffsetColumn → ℕ → Type 0
+AreEven kept n = (k : ℕ) → k < length kept → length (shifted_entries (kept_at kept k)) ≡ n
+
+-- each of the first n columns has room for one more entry
+abbrev pub HaveRoom : List OffsetColumn → ℕ → Type 0
+HaveRoom kept n = (k : ℕ) → k < n → IsTrue (shifted_room (kept_at kept k))
+
+-- each column takes its entry of a row, which is a null or a number of 64 bits
+abbrev pub AreInRange : List OffsetColumn → Entries → Type 0
+AreInRange kept row = (k : ℕ) → k < length kept → IsInRange (kept_at kept k).offset (shifted_size (kept_at kept k)) (entry_at row k)
+
+abbrev pub AreNarrow : List OffsetColumn → Entries → Type 0
+AreNarrow kept row = (k : ℕ) → k < length kept → IfSome (entry_at row k) (λ x. (neg_ℤ (pos (2 ^ 63)) ≤ℤ x) × (x <ℤ pos (2 ^ 63)))
+
+-- each column has the entries, the offset and the form that it had
+abbrev pub AreSameColumns : List OffsetColumn → List OffsetColumn → Type 0
+AreSameColumns old new = (k : ℕ) → k < length old → IsSameColumn (kept_at old k) (kept_at new k)
+
+-- each column has its entry of a row more
+abbrev pub HaveOneMore : List OffsetColumn → List OffsetColumn → Entries → Type 0
+HaveOneMore old new row = (k : ℕ) → k < length old → HasOneMore (kept_at old k) (kept_at new k) (entry_at row k)

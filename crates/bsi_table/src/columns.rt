@@ -1,11 +1,10 @@
 //! The columns of a table, side by side: each call is done on each.
 
-ghost use Rattle.std.specs.Prelude.{◌≡◌, ℕ, ◌<◌, ◌^◌, ◌+ℤ◌, ◌≤ℤ◌, ◌<ℤ◌, pos, neg_ℤ, [], length, IfOk, IfSome, IsTrue, OnOk};
+ghost use Rattle.std.specs.Prelude.{◌≡◌, ℕ, ◌<◌, ◌^◌, [], length, IfOk, OnOk};
 ghost use Rattle.bsi_columns.specs.AnyRows.{any_entries};
-ghost use Rattle.bsi_shift.specs.Shifted.{shifted_entries, shifted_room, shifted_size, IsInRange};
+ghost use Rattle.bsi_shift.specs.Shifted.{shifted_entries};
 ghost use Rattle.bsi_table.specs.Columns.{column_at, IsForm};
-ghost use Rattle.bsi_table.specs.Rows.{entry_at};
-ghost use Rattle.bsi_table.specs.Table.{kept_at, AreKept, HasOneMore, IsInForm, IsSameColumn, Keeps};
+ghost use Rattle.bsi_table.specs.Table.{kept_at, AreInRange, AreKept, AreNarrow, AreSameColumns, HaveOneMore, HaveRoom, IsInForm, Keeps};
 
 use crate::{Form, NoMemory, Schema};
 use bsi_columns::{AnyColumn, Decomposed, Slices};
@@ -48,8 +47,8 @@ fn make_stored(alloc: Global, form: &Form) -> Result<AnyColumn, NoMemory>
 /// Makes room for one more entry in each column. The columns stay, whatever the result.
 pub(crate) fn reserve_each(columns: &mut [Shifted]) -> Result<(), NoMemory>
     requires { (k : ℕ) → k < length columns.old → length (shifted_entries (kept_at columns.old k)) < 2 ^ 32 }
-    ensures same { (k : ℕ) → k < length columns.old → IsSameColumn (kept_at columns.old k) (kept_at columns.new k) }
-    ensures ok { OnOk result ((k : ℕ) → k < length columns.old → IsTrue (shifted_room (kept_at columns.new k))) }
+    ensures same { AreSameColumns columns.old columns.new }
+    ensures ok { OnOk result (HaveRoom columns.new (length columns.old)) }
 {
     'columns: for c in 0..columns.len() {
         columns[c].reserve_one()?;
@@ -60,12 +59,10 @@ pub(crate) fn reserve_each(columns: &mut [Shifted]) -> Result<(), NoMemory>
 /// Appends to each column its entry of a row, in room that is there.
 pub(crate) fn push_each(columns: &mut [Shifted], values: &[Option<i128>])
     requires long { length values.now ≡ length columns.old }
-    requires room { (k : ℕ) → k < length columns.old → IsTrue (shifted_room (kept_at columns.old k)) }
-    requires range { (k : ℕ) → k < length columns.old →
-        IsInRange (kept_at columns.old k).offset (shifted_size (kept_at columns.old k)) (entry_at values.now k) }
-    requires narrow { (k : ℕ) → k < length columns.old →
-        IfSome (entry_at values.now k) (λ x. (neg_ℤ (pos (2 ^ 63)) ≤ℤ x) × (x <ℤ pos (2 ^ 63))) }
-    ensures { (k : ℕ) → k < length columns.old → HasOneMore (kept_at columns.old k) (kept_at columns.new k) (entry_at values.now k) }
+    requires room { HaveRoom columns.old (length columns.old) }
+    requires range { AreInRange columns.old values.now }
+    requires narrow { AreNarrow columns.old values.now }
+    ensures { HaveOneMore columns.old columns.new values.now }
 {
     'columns: for c in 0..columns.len() {
         let entry = match values[c] {
@@ -79,7 +76,7 @@ pub(crate) fn push_each(columns: &mut [Shifted], values: &[Option<i128>])
 /// Makes a second column of each.
 pub(crate) fn copy_each(alloc: Global, columns: &[Shifted]) -> Result<Vec<Shifted>, NoMemory>
     ensures long { IfOk result (λ copied. length copied.items ≡ length columns.now) }
-    ensures same { IfOk result (λ copied. (k : ℕ) → k < length columns.now → IsSameColumn (kept_at columns.now k) (kept_at copied.items k)) }
+    ensures same { IfOk result (λ copied. AreSameColumns columns.now copied.items) }
 {
     let mut copied = Vec::with_capacity(alloc, columns.len())?;
     'columns: for c in 0..columns.len() {

@@ -34,7 +34,7 @@ pub enum Form {
 
 /// What a schema keeps beside the name of a column: its form, and the least number that it takes.
 #[derive(Debug, Drop)]
-pub struct Kind {
+pub(crate) struct Kind {
     pub(crate) form: Form,
     pub(crate) offset: i64,
 }

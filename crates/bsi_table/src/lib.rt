@@ -2,7 +2,9 @@
 #![tactic(auto)]
 
 mod columns;
+mod errors;
 mod form;
+mod index;
 mod name;
 mod numbering;
 mod query;
@@ -13,7 +15,9 @@ mod select;
 mod totals;
 
 pub use bsi_columns::Op;
-pub use form::{ColumnSpec, Form, Kind};
+pub use errors::{AppendError, AskError, IndexError};
+pub use form::{ColumnSpec, Form};
+pub use index::Index;
 pub use query::{Answer, Pred, Query, Total};
 pub use row::Row;
 pub use schema::Schema;

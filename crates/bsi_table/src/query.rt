@@ -47,7 +47,7 @@ pub struct Query {
 }
 
 /// The answer to a query.
-#[derive(Debug, Drop)]
+#[derive(Debug, Drop, PartialEq, Eq)]
 pub enum Answer {
     /// How many rows there are.
     Count(u64),

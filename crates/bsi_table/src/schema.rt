@@ -2,7 +2,7 @@
 
 ghost use Rattle.std.specs.Prelude.{◌≡◌, ◌<◌, ◌≤◌, ◌^◌, ◌++◌, ◌∷◌, [], Some, None, true, false, length, is_some, pos, ◌+ℤ◌, ◌≤ℤ◌, IfOk, IfErr, OnOk, OnErr, IsTrue, Ok};
 ghost use Rattle.std.specs.Result.{result_err};
-ghost use Rattle.bsi_table.specs.Columns.{column_at, fits, form_of, is_taken_by, no_columns, position_of, size_in, with_column, IsColumn, IsForm};
+ghost use Rattle.bsi_table.specs.Columns.{column_at, fits, form_of, is_taken_by, named_column, no_columns, position_of, size_in, with_column, IsColumn, IsForm};
 ghost use Rattle.bsi_table.specs.Refusals.{column_refusal, name_refusal, signed_refusal, IsFirstOr};
 
 use crate::form::{ColumnSpec, Form, Kind};
@@ -107,8 +107,8 @@ impl Schema {
         ensures offset { result ≡ (column_at self.now.columns c).offset }
         ensures below { (result +ℤ pos (size_in (column_at self.now.columns c).form)) ≤ℤ pos (2 ^ 63) }
     {
-        let (_, kind) = self.columns.get_index(c as usize).unwrap();
-        kind.offset
+        let (_, declared) = self.columns.get_index(c as usize).unwrap();
+        declared.offset
     }
 
     /// Returns whether a row has one entry for each column, a null or a number that the column takes.
@@ -144,13 +144,12 @@ impl Schema {
 
     /// Adds a column of numbers from 0 up, last. A column that is refused is dropped, and the schema stays.
     pub fn add(&mut self, name: &str, spec: ColumnSpec) -> Result<(), SchemaError>
-        ensures added { OnOk result (self.new ≡ with_column self.old (record { name = name.now; form = form_of spec; offset = pos 0 }) false) }
+        ensures added { OnOk result (self.new ≡ with_column self.old (named_column name.now (form_of spec) (pos 0)) false) }
         ensures taken { OnOk result (column_refusal self.old name.now spec ≡ None) }
-        ensures refused { IfErr result (λ e. IsFirstOr SchemaError.NoMemory (column_refusal self.old name.now spec) e) }
+        ensures refused { IfErr result (IsFirstOr SchemaError.NoMemory (column_refusal self.old name.now spec)) }
         ensures kept { OnErr result (self.new ≡ self.old) }
     {
-        self.check_name(name)?;
-        let form = Form::of(spec)?;
+        let form = self.checked(name, spec)?;
         self.push(name, Kind { form, offset: 0 }, false)?;
         Ok(())
     }
@@ -162,18 +161,28 @@ impl Schema {
         spec: ColumnSpec,
         offset: i64,
     ) -> Result<(), SchemaError>
-        ensures added { OnOk result (self.new ≡ with_column self.old (record { name = name.now; form = form_of spec; offset = offset }) true) }
+        ensures added { OnOk result (self.new ≡ with_column self.old (named_column name.now (form_of spec) offset) true) }
         ensures taken { OnOk result (signed_refusal self.old name.now spec offset ≡ None) }
-        ensures refused { IfErr result (λ e. IsFirstOr SchemaError.NoMemory (signed_refusal self.old name.now spec offset) e) }
+        ensures refused { IfErr result (IsFirstOr SchemaError.NoMemory (signed_refusal self.old name.now spec offset)) }
         ensures kept { OnErr result (self.new ≡ self.old) }
     {
-        self.check_name(name)?;
-        let form = Form::of(spec)?;
+        let form = self.checked(name, spec)?;
         if i128::from(offset) + i128::from(form.size()) > GREATEST_END {
             return Err(SchemaError::BadOffset);
         }
         self.push(name, Kind { form, offset }, true)?;
         Ok(())
+    }
+
+    /// Returns the form of a column that may be added under this name.
+    fn checked(&self, name: &str, spec: ColumnSpec) -> Result<Form, SchemaError>
+        ensures refused { result_err result ≡ column_refusal self.now name.now spec }
+        ensures free { OnOk result (name_refusal self.now name.now ≡ None) }
+        ensures form { IfOk result (λ form. form ≡ form_of spec) }
+        ensures valid { IfOk result IsForm }
+    {
+        self.check_name(name)?;
+        Ok(Form::of(spec)?)
     }
 
     /// Refuses a name, or one more column.
@@ -198,7 +207,7 @@ impl Schema {
         requires few { length self.old.columns < 64 }
         requires form { IsForm kind.form }
         requires below { (kind.offset +ℤ pos (size_in kind.form)) ≤ℤ pos (2 ^ 63) }
-        ensures ok { OnOk result (self.new ≡ with_column self.old (record { name = name.now; form = kind.form; offset = kind.offset }) signed) }
+        ensures ok { OnOk result (self.new ≡ with_column self.old (named_column name.now kind.form kind.offset) signed) }
         ensures err { OnErr result (self.new ≡ self.old) }
     {
         let key = String::from_str(*self.columns.allocator(), name)?;

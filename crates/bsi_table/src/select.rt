@@ -1,10 +1,9 @@
 //! Which rows a predicate selects.
 
-ghost use Rattle.std.specs.Prelude.{◌≡◌, ℕ, ◌^◌, ◌<◌, ◌≤◌, None, length, map, IfOk};
-ghost use Rattle.bsi_shift.specs.Shifted.{shifted_entries};
+ghost use Rattle.std.specs.Prelude.{◌≡◌, ◌^◌, ◌<◌, ◌≤◌, None, length, map, IfOk};
 ghost use Rattle.bsi_table.specs.Answers.{columns_of_pred, missing_of};
 ghost use Rattle.bsi_table.specs.Rows.{holds};
-ghost use Rattle.bsi_table.specs.Table.{kept_at, rows_in};
+ghost use Rattle.bsi_table.specs.Table.{rows_in, AreEven};
 
 use crate::{NoMemory, Pred};
 use bsi_bits::Bits;
@@ -20,7 +19,7 @@ pub(crate) fn select(
     pred: &Pred,
 ) -> Result<Bits, NoMemory>
     requires few { count ≤ 2 ^ 32 }
-    requires even { (k : ℕ) → k < length columns.now → length (shifted_entries (kept_at columns.now k)) ≡ count }
+    requires even { AreEven columns.now count }
     requires there { missing_of (length columns.now) (columns_of_pred pred.now) ≡ None }
     ensures { IfOk result (λ found. found.bits ≡ map (holds pred.now) (rows_in columns.now count)) }
 {

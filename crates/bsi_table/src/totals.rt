@@ -1,10 +1,9 @@
 //! The total that a query asks of the rows that its predicate selects.
 
-ghost use Rattle.std.specs.Prelude.{◌≡◌, ℕ, ◌<◌, All, None, length, map, IfOk};
-ghost use Rattle.bsi_shift.specs.Shifted.{shifted_entries};
+ghost use Rattle.std.specs.Prelude.{◌≡◌, ◌<◌, All, None, length, map, IfOk};
 ghost use Rattle.bsi_table.specs.Answers.{columns_of_total, missing_of, IsAnswer};
 ghost use Rattle.bsi_table.specs.Rows.{holds};
-ghost use Rattle.bsi_table.specs.Table.{fed_rows, kept_at};
+ghost use Rattle.bsi_table.specs.Table.{fed_rows, AreEven};
 
 use crate::numbering::number_rows;
 use crate::{Answer, NoMemory, Query, Total};
@@ -22,10 +21,10 @@ pub(crate) fn answer(
     query: &Query,
 ) -> Result<Answer, NoMemory>
     requires few { All (λ source. source < 64) sources.now }
-    requires even { (k : ℕ) → k < length columns.now → length (shifted_entries (kept_at columns.now k)) ≡ length sources.now }
+    requires even { AreEven columns.now (length sources.now) }
     requires found { found.now.bits ≡ map (λ row. holds query.now.pred row.1) (fed_rows sources.now columns.now) }
     requires there { missing_of (length columns.now) (columns_of_total query.now.total) ≡ None }
-    ensures { IfOk result (λ answer. IsAnswer query.now (fed_rows sources.now columns.now) answer) }
+    ensures { IfOk result (IsAnswer query.now (fed_rows sources.now columns.now)) }
 {
     match query.total {
         Total::Count => Ok(Answer::Count(found.count())),

@@ -5,6 +5,7 @@ mod comparisons;
 mod growth;
 mod shifted;
 mod stored;
+mod table;
 mod totals;
 
 use crate::{NoMemory, PlainColumn, WholeVectors};

@@ -1,0 +1,8 @@
+use Rattle.std.proofs.Common.{length, ap, sym, ◌∙◌}
+use Rattle.bsi_table.proofs.TableRows.{length-fed_rows}
+use Rattle.bsi_table.proofs.index.Index.len.Goals as goal
+
+pub returns-clause-len : goal.returns-clause-len
+returns-clause-len c =
+    c.len.ensures ∙ c.self.inside.sources.ok.0 ∙ sym (length-fed_rows c.self.inside.sources.items c.self.inside.columns.items)
+    ∙ ap (λ t. length t.rows) c.self.view_is

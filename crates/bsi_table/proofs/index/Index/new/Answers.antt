@@ -1,0 +1,11 @@
+use Rattle.std.proofs.Common.{ap}
+use Rattle.bsi_table.specs.Rows.{FedRow}
+use Rattle.bsi_table.specs.Table.{Table}
+use Rattle.std.specs.Prelude.{List}
+use Rattle.bsi_table.proofs.TableRows.{fed_rows-none}
+use Rattle.bsi_table.proofs.index.Index.new.Goals as goal
+
+pub returns-clause-ok : goal.returns-clause-ok
+returns-clause-ok c =
+    let table : List FedRow → Table = λ rows. record { schema = c.args.schema; feeders = c.args.feeders; limit = c.args.limit; rows = rows } in
+    ap table (fed_rows-none c.new.result.items c.in_ok-columns.columns.items c.new.ensures.items)

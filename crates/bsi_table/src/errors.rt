@@ -1,0 +1,64 @@
+//! Why a call of an index is refused.
+
+ghost use Rattle.std.specs.Prelude.{◌≡◌};
+
+use std::alloc::AllocError;
+
+/// The refusals of an index, in the order in which they are checked.
+#[derive(Clone, Copy, Debug, PartialEq, Eq)]
+pub enum IndexError {
+    /// The schema has no column.
+    NoColumns,
+    /// The limit is not from 1 to 2^32.
+    LimitOutOfRange,
+    /// A growth was refused.
+    NoMemory,
+}
+
+/// The refusals of a row, in the order in which they are checked.
+#[derive(Clone, Copy, Debug, PartialEq, Eq)]
+pub enum AppendError {
+    /// There are as many rows as the limit.
+    IndexFull,
+    /// A growth was refused.
+    NoMemory,
+}
+
+/// The refusals of a query, in the order in which they are checked.
+#[derive(Clone, Copy, Debug, PartialEq, Eq)]
+pub enum AskError {
+    /// There is no such column: that of the total, else the first of the predicate, from left to right.
+    BadColumn(u32),
+    /// A growth was refused.
+    NoMemory,
+}
+
+impl From<AllocError> for IndexError {
+    ghost use Rattle.bsi_table.specs.declared.errors.IndexError.TheVariants.{NoMemory};
+
+    ghost from_gives = { λ _ e. e ≡ NoMemory };
+
+    fn from(_refused: AllocError) -> IndexError {
+        IndexError::NoMemory
+    }
+}
+
+impl From<AllocError> for AppendError {
+    ghost use Rattle.bsi_table.specs.declared.errors.AppendError.TheVariants.{NoMemory};
+
+    ghost from_gives = { λ _ e. e ≡ NoMemory };
+
+    fn from(_refused: AllocError) -> AppendError {
+        AppendError::NoMemory
+    }
+}
+
+impl From<AllocError> for AskError {
+    ghost use Rattle.bsi_table.specs.declared.errors.AskError.TheVariants.{NoMemory};
+
+    ghost from_gives = { λ _ e. e ≡ NoMemory };
+
+    fn from(_refused: AllocError) -> AskError {
+        AskError::NoMemory
+    }
+}

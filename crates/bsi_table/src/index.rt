@@ -1,0 +1,208 @@
+//! The index: rows from feeders, kept column by column, and the answers to queries over them.
+
+ghost use Rattle.std.specs.Prelude.{◌≡◌, ℕ, ◌<◌, ◌≤◌, ◌^◌, ◌++◌, ◌∷◌, [], None, length, vec_len, vec_capacity, IfErr, IfOk, IsTrue, OnErr, OnOk};
+ghost use Rattle.std.specs.Result.{result_err};
+ghost use Rattle.bsi_shift.specs.Shifted.{shifted_entries};
+ghost use Rattle.bsi_table.specs.Answers.{missing_column, IsAnswer};
+ghost use Rattle.bsi_table.specs.Columns.{column_at, fits};
+ghost use Rattle.bsi_table.specs.Refusals.{ask_refusal, index_refusal, row_refusal, IsFirstOr};
+ghost use Rattle.bsi_table.specs.Rows.{column_of};
+ghost use Rattle.bsi_table.specs.Table.{kept_at, no_rows, with_row, AreInRange, AreNarrow, AreSameColumns, HaveOneMore, HaveRoom, IsInForm};
+
+use crate::columns::{copy_each, make_each, push_each, reserve_each};
+use crate::select::select;
+use crate::totals::answer;
+use crate::{Answer, AppendError, AskError, IndexError, NoMemory, Query, Row, Schema};
+use bsi_shift::Shifted;
+use std::alloc::Global;
+use std::marker::Model;
+
+/// The most rows of an index.
+const MOST_ROWS: u64 = 1 << 32;
+
+/// The rows of a schema that came from 1 to 64 feeders, at most so many as a limit. A row is kept as its entry in each
+/// column and the number of its feeder, a byte; no row is kept as it came.
+#[derive(Drop)]
+pub struct Index {
+    schema: Schema,
+    columns: Vec<Shifted>,
+    sources: Vec<u8>,
+    feeders: u32,
+    limit: u64,
+}
+
+// Clauses see the schema, the number of feeders, the limit, and the list of rows, each with its feeder.
+impl Model for Index {
+    ghost use Rattle.bsi_table.specs.Table.{fed_rows, table, IsTable, Table};
+
+    ghost Value = { Table };
+
+    ghost view = { λ i. table i.schema i.feeders i.limit (fed_rows i.sources.items i.columns.items) };
+
+    ghost invariant = { λ i. IsTable i.schema.columns i.feeders i.limit i.sources.items i.columns.items };
+}
+
+impl Index {
+    /// Makes an index of no rows. A schema that is refused is dropped.
+    pub fn new(alloc: Global, schema: Schema, feeders: u32, limit: u64) -> Result<Index, IndexError>
+        requires { (1 ≤ feeders) × (feeders ≤ 64) }
+        ensures ok { IfOk result (λ index. index ≡ no_rows schema feeders limit) }
+        ensures taken { OnOk result (index_refusal schema limit ≡ None) }
+        ensures refused { IfErr result (IsFirstOr IndexError.NoMemory (index_refusal schema limit)) }
+    {
+        Index::check(&schema, limit)?;
+        let columns = make_each(alloc, &schema)?;
+        Ok(Index {
+            schema,
+            columns,
+            sources: Vec::new(alloc),
+            feeders,
+            limit,
+        })
+    }
+
+    /// Tells how `new` refuses a schema or a limit, want of memory apart.
+    pub fn check(schema: &Schema, limit: u64) -> Result<(), IndexError>
+        ensures { result_err result ≡ index_refusal schema.now limit }
+    {
+        if schema.columns() == 0 {
+            return Err(IndexError::NoColumns);
+        }
+        if limit == 0 || limit > MOST_ROWS {
+            return Err(IndexError::LimitOutOfRange);
+        }
+        Ok(())
+    }
+
+    /// Returns the number of rows, at most the limit.
+    pub fn len(&self) -> u64
+        ensures len { result ≡ length self.now.rows }
+        ensures within { result ≤ self.now.limit }
+    {
+        self.sources.len() as u64
+    }
+
+    /// Appends a row from a feeder, and returns its position: the length before. It grows first; what was refused a growth
+    /// stays as it was.
+    pub fn append(&mut self, feeder: u32, row: &Row) -> Result<u64, AppendError>
+        requires fits { IsTrue (fits self.old.schema.columns row.now) }
+        requires feeder { feeder < self.old.feeders }
+        ensures appended { OnOk result (self.new ≡ with_row self.old feeder row.now) }
+        ensures position { IfOk result (λ position. position ≡ length self.old.rows) }
+        ensures taken { OnOk result (row_refusal self.old ≡ None) }
+        ensures refused { IfErr result (IsFirstOr AppendError.NoMemory (row_refusal self.old)) }
+        ensures kept { OnErr result (self.new ≡ self.old) }
+    {
+        let position = self.len();
+        if position == self.limit() {
+            return Err(AppendError::IndexFull);
+        }
+        reserve_row(&mut self.columns, &mut self.sources)?;
+        push_row(
+            &mut self.columns,
+            &mut self.sources,
+            feeder as u8,
+            row.values(),
+        );
+        Ok(position)
+    }
+
+    /// Answers a query over all rows.
+    pub fn ask(&self, query: &Query) -> Result<Answer, AskError>
+        ensures answer { IfOk result (IsAnswer query.now self.now.rows) }
+        ensures there { OnOk result (ask_refusal self.now.schema query.now ≡ None) }
+        ensures refused { IfErr result (IsFirstOr AskError.NoMemory (ask_refusal self.now.schema query.now)) }
+    {
+        match query.missing_column(self.schema.columns()) {
+            Some(missing) => Err(AskError::BadColumn(missing)),
+            None => Ok(self.answer(query)?),
+        }
+    }
+
+    /// Answers a query of which no column is missing.
+    fn answer(&self, query: &Query) -> Result<Answer, NoMemory>
+        requires { missing_column (length self.now.schema.columns) query.now ≡ None }
+        ensures { IfOk result (IsAnswer query.now self.now.rows) }
+    {
+        let alloc = *self.sources.allocator();
+        let found = select(alloc, &self.columns, self.len(), &query.pred)?;
+        answer(alloc, &self.columns, &self.sources, &found, query)
+    }
+
+    /// Lends column `c`: the entries of all rows there, in the form and with the offset that the schema says.
+    pub fn column(&self, c: u32) -> &Shifted
+        requires { c < length self.now.schema.columns }
+        ensures entries { shifted_entries result.now ≡ column_of self.now.rows c }
+        ensures form { IsInForm (column_at self.now.schema.columns c).form result.now.stored }
+        ensures offset { result.now.offset ≡ (column_at self.now.schema.columns c).offset }
+    {
+        &self.columns[c as usize]
+    }
+
+    /// Makes a second index of the same rows.
+    pub fn copy(&self) -> Result<Index, NoMemory>
+        ensures { IfOk result (λ index. index ≡ self.now) }
+    {
+        let schema = self.schema.copy()?;
+        let columns = copy_each(*self.sources.allocator(), &self.columns)?;
+        let sources = self.sources.clone()?;
+        Ok(Index {
+            schema,
+            columns,
+            sources,
+            feeders: self.feeders,
+            limit: self.limit,
+        })
+    }
+
+    /// Lends the schema.
+    pub fn schema(&self) -> &Schema
+        ensures { result.now ≡ self.now.schema }
+    {
+        &self.schema
+    }
+
+    /// Returns the number of feeders, at most 64.
+    pub fn feeders(&self) -> u32
+        ensures feeders { result ≡ self.now.feeders }
+        ensures within { result ≤ 64 }
+    {
+        self.feeders
+    }
+
+    /// Returns the most rows that the index holds, at most 2^32.
+    pub fn limit(&self) -> u64
+        ensures limit { result ≡ self.now.limit }
+        ensures within { result ≤ 2 ^ 32 }
+    {
+        self.limit
+    }
+}
+
+/// Makes room for one more row. The rows stay, whatever the result.
+fn reserve_row(columns: &mut Vec<Shifted>, sources: &mut Vec<u8>) -> Result<(), NoMemory>
+    requires { (k : ℕ) → k < length columns.old.items → length (shifted_entries (kept_at columns.old.items k)) < 2 ^ 32 }
+    ensures long { length columns.new.items ≡ length columns.old.items }
+    ensures same { AreSameColumns columns.old.items columns.new.items }
+    ensures sources { sources.new.items ≡ sources.old.items }
+    ensures ok { OnOk result (HaveRoom columns.new.items (length columns.old.items)) }
+    ensures room { OnOk result (vec_len sources.new < vec_capacity sources.new) }
+{
+    reserve_each(columns)?;
+    sources.reserve(1)
+}
+
+/// Appends a row, in room that is there.
+fn push_row(columns: &mut Vec<Shifted>, sources: &mut Vec<u8>, source: u8, values: &[Option<i128>])
+    requires long { length values.now ≡ length columns.old.items }
+    requires room { HaveRoom columns.old.items (length columns.old.items) }
+    requires reserved { vec_len sources.old < vec_capacity sources.old }
+    requires range { AreInRange columns.old.items values.now }
+    requires narrow { AreNarrow columns.old.items values.now }
+    ensures long { length columns.new.items ≡ length columns.old.items }
+    ensures more { HaveOneMore columns.old.items columns.new.items values.now }
+    ensures sources { sources.new.items ≡ sources.old.items ++ source ∷ [] }
+{
+    push_each(columns, values);
+    sources.push_reserved(source);
+}
