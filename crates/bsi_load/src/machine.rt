@@ -163,7 +163,7 @@ impl Core {
     ///
     /// A load or a query may find no memory, and then nothing changed. Where the list of replies finds none, the events are
     /// handed back and none was done.
-    pub fn run(&mut self, alloc: Global, events: Vec<Event>) -> Result<Vec<Reply>, RunRefused>
+    pub fn run(&mut self, events: Vec<Event>) -> Result<Vec<Reply>, RunRefused>
         ensures length { IfOk result (λ replies. length replies.items ≡ length events.items) }
         ensures lawful { IfOk result (λ replies. AreLawful self.old (past_of events.items replies.items)) }
         ensures after { IfOk result (λ replies. self.new ≡ shown_after self.old (past_of events.items replies.items)) }
@@ -171,6 +171,7 @@ impl Core {
         ensures stays_closed { IfOk result (λ replies. StaysClosed self.old events.items replies.items) }
         ensures refused { IfErr result (λ e. (e.events.items ≡ events.items) × (self.new ≡ self.old)) }
     {
+        let alloc = *self.feeders.allocator();
         let Ok(mut replies) = Vec::with_capacity(alloc, events.len()) else {
             return Err(RunRefused { events });
         };

@@ -61,7 +61,7 @@ impl Index {
         })
     }
 
-    /// Tells how `new` refuses a schema or a limit, want of memory apart.
+    /// Tells how `new` refuses a schema or a limit, want of memory apart. It takes no memory.
     pub fn check(schema: &Schema, limit: u64) -> Result<(), IndexError>
         ensures { result_err result ≡ index_refusal schema.now limit }
     {

@@ -5,7 +5,8 @@ ghost use Rattle.bsi_table.specs.Answers.{columns_of_pred, columns_of_total, mis
 
 use bsi_columns::Op;
 
-/// A condition on a row. Columns go by their places, from 0.
+/// A condition on a row. Columns go by their places, from 0. What goes over a predicate goes down it by calls, so that its depth
+/// is bounded by the stack.
 #[derive(Debug, Drop)]
 pub enum Pred {
     /// Holds of every row.
