@@ -10,4 +10,5 @@ mod tests;
 
 pub use bits::Bits;
 pub use ones::Ones;
+pub use packing::know_fits;
 pub use std::alloc::AllocError as NoMemory;

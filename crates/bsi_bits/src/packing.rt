@@ -36,7 +36,7 @@ pub fn push_bit(words: &mut Vec<u64>, n: u64, bit: bool)
     }
 }
 
-/// Says of words behind a shared reference what their type does.
+/// Says of words behind a shared reference what their type does: each is below 2^64. It does nothing when it runs.
 pub fn know_fits(words: &[u64])
     ensures { (k : ℕ) → slice_index words.now k < 2 ^ 64 }
 {}

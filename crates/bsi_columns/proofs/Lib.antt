@@ -1,5 +1,6 @@
 pub mod Answering
 pub mod BlockAnswers
+pub mod BlockParts
 pub mod ComponentLists
 pub mod DigitSums
 pub mod EntriesFrom

@@ -7,6 +7,7 @@ pub use Rattle.bsi_components.specs.Equality
 pub use Rattle.bsi_components.specs.Range
 pub use Rattle.bsi_slices.specs.Blocks
 pub use Rattle.bsi_slices.specs.Orders
+pub use Rattle.bsi_slices.specs.Ranks
 pub use Rattle.bsi_slices.specs.Rows
 pub use Rattle.bsi_slices.specs.SliceTests
 pub use Rattle.bsi_slices.specs.Slices

@@ -8,6 +8,6 @@ mod decomposed;
 
 pub use any::AnyColumn;
 pub use bsi_components::{Encoding, EqualityComponent, RangeComponent};
-pub use bsi_slices::{Column, Op, Slices};
+pub use bsi_slices::{Column, Op, Rank, Slices};
 pub use decomposed::Decomposed;
 pub use std::alloc::AllocError as NoMemory;

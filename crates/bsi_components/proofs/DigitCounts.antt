@@ -80,3 +80,40 @@ where_all d (f ∷ chosen) (v ∷ digits) same each =
     ∙ ap₂ (λ b n. cond (f && b) 1 0 + n) (passes v d (each 0 (omega arith))) (where_all d chosen digits (omega arith) (λ k within. each (suc k) (omega arith)))
     ∙ ap {B = ℕ} (λ b. cond b 1 0 + count_by (λ b. b) chosen) (and-true f)
     ∙ sym (count_cons (λ b. b) f chosen)
+
+-- where one of two tests passes each digit, and never both, the rows of the first and of the second are all
+pub where_parts : (p q : ℕ → Bool) (top : ℕ) → ((v : ℕ) → v ≤ top → cond (p v) 1 0 + cond (q v) 1 0 ≡ 1) → (chosen : List Bool) (digits : List ℕ) → length chosen ≡ length digits
+    → ((k : ℕ) → get_or digits k 0 ≤ top) → count_where p chosen digits + count_where q chosen digits ≡ count_by (λ b. b) chosen
+where_parts p q top one [] digits same most = refl
+where_parts p q top one (f ∷ chosen) [] same most = absurd (omega arith)
+where_parts p q top one (false ∷ chosen) (v ∷ digits) same most =
+    let rest = where_parts p q top one chosen digits (omega arith) (λ k. most (suc k)) in
+    omega (
+      arith,
+      rest,
+      count_cons (λ b. b) false chosen,
+      count_cons (λ b. b) false (zip2 (λ f v. f && p v) chosen digits),
+      count_cons (λ b. b) false (zip2 (λ f v. f && q v) chosen digits),
+    )
+where_parts p q top one (true ∷ chosen) (v ∷ digits) same most =
+    let rest = where_parts p q top one chosen digits (omega arith) (λ k. most (suc k)) in
+    omega (
+      arith,
+      rest,
+      one v (most 0),
+      count_cons (λ b. b) true chosen,
+      count_cons (λ b. b) (p v) (zip2 (λ f v. f && p v) chosen digits),
+      count_cons (λ b. b) (q v) (zip2 (λ f v. f && q v) chosen digits),
+    )
+
+-- no more rows are counted than there are
+pub where_most : (p : ℕ → Bool) (chosen : List Bool) (digits : List ℕ) → count_where p chosen digits ≤ length chosen
+where_most p [] digits = omega arith
+where_most p (f ∷ chosen) [] = omega arith
+where_most p (false ∷ chosen) (v ∷ digits) = omega (arith, where_most p chosen digits, count_cons (λ b. b) false (zip2 (λ f v. f && p v) chosen digits))
+where_most p (true ∷ chosen) (v ∷ digits) =
+    let one : cond (p v) 1 0 ≤ 1 = elim (p v) as (λ b. cond b 1 0 ≤ 1) [ true ↦ omega arith | false ↦ omega arith ] in
+    omega (arith, one, where_most p chosen digits, count_cons (λ b. b) (p v) (zip2 (λ f v. f && p v) chosen digits))
+
+pub where_none : (p : ℕ → Bool) → ((n : ℕ) → p n ≡ false) → (chosen : List Bool) (digits : List ℕ) → count_where p chosen digits ≡ 0
+where_none p none chosen digits = where_same p (λ v. nat_lt v 0) (λ n. none n ∙ sym (not_below_zero n)) chosen digits ∙ where_below_zero chosen digits

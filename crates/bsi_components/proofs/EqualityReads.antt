@@ -1,5 +1,5 @@
 -- What the bitmaps of an equality encoded component say of one digit.
-use Rattle.std.proofs.Common.{◌≡◌, ℕ, ◌+◌, ◌-◌, ◌*◌, ◌^◌, ◌<◌, ◌≤◌, Bool, true, false, cond, not, List, get_or, map, ap, sym, ◌∙◌, refl, arith}
+use Rattle.std.proofs.Common.{◌≡◌, ℕ, ◌+◌, ◌-◌, ◌*◌, ◌^◌, ◌<◌, ◌≤◌, Bool, true, false, cond, not, List, length, get_or, map, ap, sym, ◌∙◌, refl, arith}
 use Rattle.std.specs.Prelude.{◌==◌, ◌&&◌, ◌||◌, nat_le, nat_lt, sum_by, count_by}
 use Rattle.std.specs.List.{items_where_true}
 use Rattle.std.specs.Simd.Lanes.{zip2}
@@ -8,6 +8,8 @@ use Rattle.std.proofs.Math.Nat.{mul-le-mul_right}
 use Rattle.bsi_bits.specs.BitList.{without}
 use Rattle.bsi_bits.proofs.Pairs.{zip2-map_right}
 use Rattle.bsi_components.specs.Equality.{is_among}
+use Rattle.bsi_components.specs.Component.{count_where}
+use Rattle.bsi_components.proofs.DigitCounts.{where_none, where_split, where_same, where_parts}
 use Rattle.bsi_components.proofs.DigitMaps.{zip2_maps, map_map, same_tests, map_same, same_steps, sum_parts, same_sums, zero_sum}
 
 zero_test : (v : ℕ) → v ≤ 1 → not (v == 1) ≡ (v == 0)
@@ -35,6 +37,34 @@ pub among_more : (from j : ℕ) (ds : List ℕ) → from ≤ j → zip2 ◌||◌
 among_more from j ds within =
     zip2_maps ◌||◌ (is_among from j) (λ v. v == j) ds
     ∙ map_same (λ v. is_among from j v || (v == j)) (is_among from (j + 1)) (λ v. among_test from j v within) ds
+
+among_none : (from v : ℕ) → is_among from from v ≡ false
+among_none from v = grind (arith, nat_tests)
+
+among_one : (from j v : ℕ) → from ≤ j → cond (is_among from (j + 1) v) 1 0 ≡ cond (is_among from j v) 1 0 + cond (v == j) 1 0
+among_one from j v within = grind (arith, nat_tests)
+
+among_least : (d v : ℕ) → is_among 0 (d + 1) v ≡ nat_le v d
+among_least d v = grind (arith, nat_tests)
+
+among_rest : (d base v : ℕ) → v ≤ base - 1 → 1 ≤ base → cond (nat_le v d) 1 0 + cond (is_among (d + 1) base v) 1 0 ≡ 1
+among_rest d base v most some = grind (arith, nat_tests)
+
+-- rows are counted digit by digit
+module _ (found : List Bool) (ds : List ℕ) where
+  pub among_start : (from : ℕ) → count_where (is_among from from) found ds ≡ 0
+  among_start from = where_none (is_among from from) (among_none from) found ds
+
+  pub among_next : (from j : ℕ) → from ≤ j → count_where (is_among from (j + 1)) found ds ≡ count_where (is_among from j) found ds + count_where (λ v. v == j) found ds
+  among_next from j within = where_split (is_among from j) (λ v. v == j) (is_among from (j + 1)) (λ v. among_one from j v within) found ds
+
+  pub among_first : (d : ℕ) → count_where (is_among 0 (d + 1)) found ds ≡ count_where (λ v. nat_le v d) found ds
+  among_first d = where_same (is_among 0 (d + 1)) (λ v. nat_le v d) (among_least d) found ds
+
+  pub among_last : (d base : ℕ) → 1 ≤ base → length found ≡ length ds → ((k : ℕ) → get_or ds k 0 ≤ base - 1)
+      → count_where (λ v. nat_le v d) found ds + count_where (is_among (d + 1) base) found ds ≡ count_by (λ b. b) found
+  among_last d base some same most =
+      where_parts (λ v. nat_le v d) (is_among (d + 1) base) (base - 1) (λ v within. among_rest d base v within some) found ds same most
 
 past_test : (d base v : ℕ) → v ≤ base - 1 → 1 ≤ base → not (is_among (d + 1) base v) ≡ nat_le v d
 past_test d base v most some = grind (arith, nat_tests)

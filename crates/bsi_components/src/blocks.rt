@@ -1,14 +1,9 @@
 //! Boolean steps on a block of words, by the words of a bitmap that stand for the same rows.
 
-ghost use Rattle.std.specs.Prelude.{◌≡◌, ℕ, ◌+◌, ◌*◌, ◌/◌, ◌^◌, ◌<◌, ◌≤◌, ◌&&◌, ◌||◌, not, false, length, slice_index, slice_index_or};
+ghost use Rattle.std.specs.Prelude.{◌≡◌, ℕ, ◌+◌, ◌*◌, ◌/◌, ◌<◌, ◌≤◌, ◌&&◌, ◌||◌, not, false, length, slice_index_or};
 ghost use Rattle.bsi_bits.specs.Packed.{bit_of};
 
-use bsi_bits::{Bits, lanes};
-
-/// Each word of a slice is below 2^64.
-pub fn know_fits(words: &[u64])
-    ensures { (k : ℕ) → slice_index words.now k < 2 ^ 64 }
-{}
+use bsi_bits::{Bits, know_fits, lanes};
 
 /// Keeps in the block the rows that the bitmap has.
 pub fn keep_in(bitmap: &Bits, at: usize, block: &mut [u64])

@@ -97,8 +97,8 @@ pub trait Encoding: Drop {
     }
 
     /// The digit of the row of rank `rank`, from 0, among the rows of a found set in order of their digits, and the rank of
-    /// that row among those of its digit. What `scratch`, a vector of as many bits, is left with is left open. It halves the
-    /// digits in question by one count each.
+    /// that row among those of its digit. What `scratch`, a vector of as many bits, is left with is left open. The provided
+    /// body halves the digits in question by one `count_le` each.
     fn digit_of_rank(&self, rank: u64, found: &Bits, scratch: &mut Bits) -> RankedDigit
         requires same { length (digits self.now) ≡ length found.now.bits }
         requires scratch { length (digits self.now) ≡ length scratch.old.bits }

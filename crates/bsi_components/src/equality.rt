@@ -1,6 +1,6 @@
 //! The equality encoded component: a bitmap for each digit says which rows have it.
 
-ghost use Rattle.std.specs.Prelude.{◌≡◌, ◌≢◌, ℕ, ◌+◌, ◌*◌, ◌/◌, ◌<◌, ◌≤◌, ◌==◌, ◌&&◌, ◌||◌, not, [], ◌∷◌, ◌++◌, length, map, nat_le, nat_lt, slice_index, IsTrue};
+ghost use Rattle.std.specs.Prelude.{◌≡◌, ◌≢◌, ℕ, ◌+◌, ◌*◌, ◌/◌, ◌^◌, ◌<◌, ◌≤◌, ◌==◌, ◌&&◌, ◌||◌, not, [], ◌∷◌, ◌++◌, length, map, nat_le, nat_lt, slice_index, IsTrue};
 ghost use Rattle.std.specs.Bool.{OnTrue, OnFalse};
 ghost use Rattle.bsi_bits.specs.Packed.{bit_of};
 ghost use Rattle.bsi_components.specs.Bitmaps.{bitmap, has_room_in};
@@ -39,6 +39,13 @@ fn first_stored(base: u32) -> u32
     ensures { result ≡ first_digit base }
 {
     if base == 2 { 1 } else { 0 }
+}
+
+/// Says of a bit vector behind a shared reference how long it may be.
+fn know_len(bits: &Bits)
+    ensures { length bits.now.bits ≤ 2 ^ 32 }
+{
+    let _len = bits.len();
 }
 
 /// Appends to each bitmap whether the digit is its own, of which the first is `first`.
@@ -89,6 +96,20 @@ impl EqualityComponent {
         } else {
             found.count_and(self.bitmap(d))
         }
+    }
+
+    /// How many rows of a found set have a digit from `from` on and below `to`.
+    fn count_among(&self, from: u32, to: u32, found: &Bits) -> u64
+        requires within { (from ≤ to) × (to ≤ self.now.base) }
+        requires same { length self.now.digits ≡ length found.now.bits }
+        ensures { result ≡ count_where (is_among from to) found.now.bits self.now.digits }
+    {
+        know_len(found);
+        let mut rows = 0;
+        'digits: for j in from..to {
+            rows += self.count_eq(j, found);
+        }
+        rows
     }
 
     /// Sets in a block the rows whose digit is from `from` on and below `to`.
@@ -187,6 +208,16 @@ impl Encoding for EqualityComponent {
             sum += j as u128 * found.count_and(self.bitmap(j)) as u128;
         }
         sum
+    }
+
+    // It counts by the bitmaps up to the digit, or by those past it, whichever are fewer, and writes no vector.
+    fn count_le(&self, d: u32, found: &Bits, _scratch: &mut Bits) -> u64 {
+        let base = self.base();
+        if 2 * (d + 1) <= base {
+            self.count_among(0, d + 1, found)
+        } else {
+            found.count() - self.count_among(d + 1, base, found)
+        }
     }
 
     // It counts the digits from 0 up, by one bitmap each, and writes no vector.

@@ -472,6 +472,18 @@ fn narrow<E: Encoding>(
     Some(found)
 }
 
+// Whether the rows are those of the found set that have the digit.
+fn are_kept(base: u32, digit: u32, found: &Bits, rows: &Bits) -> bool
+    requires { 2 ≤ base }
+{
+    for i in 0..found.len() {
+        if get(rows, i) != (get(found, i) && plain_digit(i, base) == digit) {
+            return false;
+        }
+    }
+    rows.len() == found.len()
+}
+
 // One rank among two thirds of the rows of a patterned component.
 fn ranked<E: Encoding>(
     rt: &impl Abort,
@@ -491,9 +503,42 @@ fn ranked<E: Encoding>(
     );
     if let Some(ranked) = expected {
         assert!(rt;
-            (0..len).all(|i| get(&rows, i)
-                == (get(&found, i) && plain_digit(i, base) == ranked.digit)),
+            are_kept(base, ranked.digit, &found, &rows),
             "rows of {rank} of {base} at {len}"
+        );
+    }
+    Ok(())
+}
+
+// How many rows of a found set have a digit of at most `d`, by plain counts.
+fn plain_upto(base: u32, d: u32, found: &Bits) -> u64
+    requires { 2 ≤ base }
+{
+    let mut rows = 0u64;
+    for digit in 0..=d {
+        rows = rows.wrapping_add(plain_count(base, digit, found));
+    }
+    rows
+}
+
+fn count_le<E: Encoding>(component: &E, d: u32, found: &Bits, scratch: &mut Bits) -> Option<u64> {
+    let len = component.len();
+    if d >= component.base() || len != found.len() || len != scratch.len() {
+        return None;
+    }
+    Some(component.count_le(d, found, scratch))
+}
+
+// The counts of the digits at both ends among two thirds of the rows of a patterned component.
+fn counted<E: Encoding>(rt: &impl Abort, alloc: Global, component: &E) -> Result<(), Fail> {
+    let (base, len) = (component.base(), component.len());
+    let found = chosen(alloc, len)?;
+    let mut scratch = filled(alloc, len, true)?;
+    for d in [0, base / 2, base - 2, base - 1] {
+        assert_eq!(rt;
+            count_le(component, d, &found, &mut scratch),
+            Some(plain_upto(base, d, &found)),
+            "up to {d} of {base} at {len}"
         );
     }
     Ok(())
@@ -504,6 +549,7 @@ fn ranks<E: Encoding>(rt: &impl Abort, alloc: Global) -> Result<(), Fail> {
         for len in LENGTHS {
             assert!(rt; base >= 2 && base <= 1024);
             let component = patterned::<E>(rt, alloc, base, len)?;
+            counted(rt, alloc, &component)?;
             for rank in [0, len / 3, len.saturating_sub(1) / 3 * 2, len] {
                 ranked(rt, alloc, &component, rank)?;
             }

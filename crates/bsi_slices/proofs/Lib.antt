@@ -1,5 +1,6 @@
 pub mod Adding
 pub mod CallerLemmas
+pub mod Narrowing
 pub mod Places
 pub mod Ranking
 pub mod SliceBlocks

@@ -9,7 +9,7 @@ use Rattle.std.proofs.lemmas.Nat.{pow_pos, pow-add}
 use Rattle.std.proofs.lemmas.Nat.Bits.{bit_at-lt}
 use Rattle.bsi_slices.specs.Rows.{number_or_zero}
 use Rattle.bsi_slices.specs.Totals.{numbers_at}
-use Rattle.bsi_slices.proofs.Ranking.{IsNarrowed, count_where, narrowed_start, narrowed_step, next_small, where_below_zero}
+use Rattle.bsi_slices.proofs.Ranking.{IsNarrowed, count_by_slice, count_where, narrowed_start, narrowed_step, next_small, where_below_zero}
 
 -- the rows that are left among those of a found set, above place i of a column of slices: a component of base 2
 pub record IsPlace (width : ℕ) (found : List Bool) (entries : List (Option ℕ)) (k i number rank : ℕ) (chosen : List Bool) : Type 0 where
@@ -70,3 +70,11 @@ place_start width found entries k chosen below chosen_is there = record {
   narrowed = narrowed_start found entries k (2 ^ width) chosen (λ i d within. div-eq_of_lt (below i d within)) chosen_is there;
   small = omega arith;
 }
+
+-- the rank among the rows that have the place of its row
+pub rank_there : (d : Bool) (chosen slice : List Bool) (clear rank rank' : ℕ) → length slice ≡ length chosen
+    → clear ≡ count_by (λ b. b) (zip2 (λ f b. f && not b) chosen slice) → rank < count_by (λ b. b) chosen
+    → rank ≡ (if d then clear else 0) + rank' → (d ≡ false → rank' < clear)
+    → rank' < count_by (λ b. b) (zip2 (λ f b. f && (if d then b else not b)) chosen slice)
+rank_there true chosen slice clear rank rank' same clear_is there rank_is first = omega (arith, count_by_slice chosen slice same, clear_is, there, rank_is)
+rank_there false chosen slice clear rank rank' same clear_is there rank_is first = omega (arith, first refl, clear_is)

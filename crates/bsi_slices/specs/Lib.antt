@@ -1,5 +1,6 @@
 pub mod Blocks
 pub mod Orders
+pub mod Ranks
 pub mod Rows
 pub mod SliceTests
 pub mod Slices

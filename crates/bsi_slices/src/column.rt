@@ -3,6 +3,7 @@
 ghost use Rattle.std.specs.Prelude.{◌≡◌, ℕ, ◌^◌, ◌≤◌, ◌<◌, Bool, List, Option, [], ◌∷◌, ◌++◌, All, length, map, is_some, is_none, sum, IsTrue, IfOk, OnOk, IsOk};
 ghost use Rattle.bsi_slices.specs.Rows.{number_or_zero, selects};
 ghost use Rattle.bsi_slices.specs.Totals.{numbers_at, IsRanked, IsLeastOf, IsGreatestOf, IsMedianOf};
+ghost use Rattle.bsi_slices.specs.Ranks.{IsOfRank};
 
 use crate::NoMemory;
 use bsi_bits::Bits;
@@ -22,6 +23,17 @@ pub enum Op {
     Gt,
     /// `>=`
     Ge,
+}
+
+/// Which one of some numbers in order.
+#[derive(Clone, Copy, Debug, PartialEq, Eq)]
+pub enum Rank {
+    /// The first.
+    Least,
+    /// The last.
+    Greatest,
+    /// The middle one or, of an even number, the lower one of the two.
+    Median,
 }
 
 /// A column: a list of optional numbers below its size, of which none is a null.
@@ -93,16 +105,30 @@ pub trait Column: Drop {
         requires there { k < length (numbers_at found.now.bits (entries self.now)) }
         ensures { IfOk result (IsRanked (numbers_at found.now.bits (entries self.now)) k) };
 
-    /// The least number at the rows of a found set, none where there is none.
-    fn least(&self, found: &Bits) -> Result<Option<u64>, NoMemory>
+    /// The number of a rank in order among those at the rows of a found set, none where there is none. It counts them, and
+    /// asks for that one.
+    fn of_rank(&self, found: &Bits, rank: Rank) -> Result<Option<u64>, NoMemory>
         requires { length (entries self.now) ≡ length found.now.bits }
-        ensures { IfOk result (λ o. IsLeastOf (numbers_at found.now.bits (entries self.now)) o) }
+        ensures { IfOk result (λ o. IsOfRank rank (numbers_at found.now.bits (entries self.now)) o) }
     {
         let numbers = found.count_and(self.present());
         if numbers == 0 {
             return Ok(None);
         }
-        Ok(Some(self.ranked(found, 0)?))
+        let place = match rank {
+            Rank::Least => 0,
+            Rank::Greatest => numbers - 1,
+            Rank::Median => (numbers - 1) / 2,
+        };
+        Ok(Some(self.ranked(found, place)?))
+    }
+
+    /// The least number at the rows of a found set, none where there is none.
+    fn least(&self, found: &Bits) -> Result<Option<u64>, NoMemory>
+        requires { length (entries self.now) ≡ length found.now.bits }
+        ensures { IfOk result (λ o. IsLeastOf (numbers_at found.now.bits (entries self.now)) o) }
+    {
+        self.of_rank(found, Rank::Least)
     }
 
     /// The greatest number at the rows of a found set, none where there is none.
@@ -110,11 +136,7 @@ pub trait Column: Drop {
         requires { length (entries self.now) ≡ length found.now.bits }
         ensures { IfOk result (λ o. IsGreatestOf (numbers_at found.now.bits (entries self.now)) o) }
     {
-        let numbers = found.count_and(self.present());
-        if numbers == 0 {
-            return Ok(None);
-        }
-        Ok(Some(self.ranked(found, numbers - 1)?))
+        self.of_rank(found, Rank::Greatest)
     }
 
     /// The lower median of the numbers at the rows of a found set, none where there is none.
@@ -122,11 +144,7 @@ pub trait Column: Drop {
         requires { length (entries self.now) ≡ length found.now.bits }
         ensures { IfOk result (λ o. IsMedianOf (numbers_at found.now.bits (entries self.now)) o) }
     {
-        let numbers = found.count_and(self.present());
-        if numbers == 0 {
-            return Ok(None);
-        }
-        Ok(Some(self.ranked(found, (numbers - 1) / 2)?))
+        self.of_rank(found, Rank::Median)
     }
 
     /// The not-null bitmap.

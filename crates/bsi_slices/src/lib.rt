@@ -4,6 +4,6 @@
 mod column;
 mod slices;
 
-pub use column::{Column, Op};
+pub use column::{Column, Op, Rank};
 pub use slices::Slices;
 pub use std::alloc::AllocError as NoMemory;

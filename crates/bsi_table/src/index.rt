@@ -50,7 +50,7 @@ impl Index {
         ensures taken { OnOk result (index_refusal schema limit ≡ None) }
         ensures refused { IfErr result (IsFirstOr IndexError.NoMemory (index_refusal schema limit)) }
     {
-        check(&schema, limit)?;
+        Index::check(&schema, limit)?;
         let columns = make_each(alloc, &schema)?;
         Ok(Index {
             schema,
@@ -59,6 +59,19 @@ impl Index {
             feeders,
             limit,
         })
+    }
+
+    /// Tells how `new` refuses a schema or a limit, want of memory apart.
+    pub fn check(schema: &Schema, limit: u64) -> Result<(), IndexError>
+        ensures { result_err result ≡ index_refusal schema.now limit }
+    {
+        if schema.columns() == 0 {
+            return Err(IndexError::NoColumns);
+        }
+        if limit == 0 || limit > MOST_ROWS {
+            return Err(IndexError::LimitOutOfRange);
+        }
+        Ok(())
     }
 
     /// Returns the number of rows, at most the limit.
@@ -164,19 +177,6 @@ impl Index {
     {
         self.limit
     }
-}
-
-/// Refuses a schema or a limit.
-fn check(schema: &Schema, limit: u64) -> Result<(), IndexError>
-    ensures { result_err result ≡ index_refusal schema.now limit }
-{
-    if schema.columns() == 0 {
-        return Err(IndexError::NoColumns);
-    }
-    if limit == 0 || limit > MOST_ROWS {
-        return Err(IndexError::LimitOutOfRange);
-    }
-    Ok(())
 }
 
 /// Makes room for one more row. The rows stay, whatever the result.

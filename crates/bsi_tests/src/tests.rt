@@ -3,6 +3,7 @@
 
 mod comparisons;
 mod growth;
+mod shifted;
 mod stored;
 mod table;
 mod totals;

@@ -16,12 +16,14 @@ pub struct WholeVectors<E: Encoding> {
 
 impl<E: Encoding> WholeVectors<E> {
     /// How many calls wrote a whole vector so far.
-    pub fn calls(&self) -> u32 {
+    #[cfg(test)]
+    pub(crate) fn calls(&self) -> u32 {
         self.calls.get()
     }
 
     /// How many sums of digits were asked for so far.
-    pub fn sums(&self) -> u32 {
+    #[cfg(test)]
+    pub(crate) fn sums(&self) -> u32 {
         self.sums.get()
     }
 

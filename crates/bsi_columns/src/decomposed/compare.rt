@@ -4,7 +4,7 @@
 //! leaves nothing to ask is decided before any digit is read. What is found is cut with the not-null bitmap, so that a
 //! complement selects no null.
 
-ghost use Rattle.std.specs.Prelude.{◌≡◌, ℕ, ◌+◌, ◌*◌, ◌/◌, ◌≤◌, ◌<◌, ◌&&◌, Bool, List, [], None, true, false, length, map, is_some, slice_index, slice_index_or, nat_eq, nat_lt, nat_le, IfOk, IfSome};
+ghost use Rattle.std.specs.Prelude.{◌≡◌, ℕ, ◌+◌, ◌*◌, ◌/◌, ◌^◌, ◌≤◌, ◌<◌, ◌&&◌, Bool, List, [], None, true, false, length, map, is_some, slice_index, slice_index_or, nat_eq, nat_lt, nat_le, IfOk, IfSome};
 ghost use Rattle.std.specs.Bool.{OnTrue};
 ghost use Rattle.std.specs.Simd.Lanes.{zip2};
 ghost use Rattle.bsi_bits.specs.Packed.{bit_of};
@@ -18,7 +18,11 @@ use bsi_bits::Bits;
 use bsi_components::blocks::{keep_in, turn};
 
 /// The words of a block, which stays in the first cache while each component narrows it.
-const BLOCK: usize = 256;
+const BLOCK: usize = 1024;
+
+/// The words of a part of a block, which a component narrows by all the bitmaps that it reads before it goes on to the
+/// next, so that it reads them side by side.
+const PART: usize = 64;
 
 /// A comparison that the digits decide.
 #[derive(Clone, Copy)]
@@ -219,8 +223,40 @@ impl<E: Encoding> Decomposed<E> {
     }
 }
 
-/// Takes one digit more into the test of a block; `false` where the component works on whole vectors alone.
+/// Takes one digit more into the test of a block, part by part; `false` where the component works on whole vectors alone.
 fn narrow_digit<E: Encoding>(
+    component: &E,
+    relation: Relation,
+    digit: u32,
+    at: usize,
+    block: &mut [u64],
+) -> bool
+    requires below { digit < E.base_of component.now }
+    requires within { at + length block.old ≤ (length (E.digits component.now) + 63) / 64 }
+    ensures { OnTrue result ((p : ℕ) → p < 64 * length block.old → 64 * at + p < length (E.digits component.now) → bit_of block.new p
+        ≡ holds_from relation (bit_of block.old p) (slice_index (E.digits component.now) (64 * at + p)) digit) }
+{
+    know_rows(component);
+    let len = block.len();
+    'parts: for k in 0..len.div_ceil(PART) {
+        let from = PART * k;
+        let part = &mut block[from..from + PART.min(len - from)];
+        if !narrow_part(component, relation, digit, at + from, part) {
+            return false;
+        }
+    }
+    true
+}
+
+/// Says of a component how many rows it has at most.
+fn know_rows<E: Encoding>(component: &E)
+    ensures { length (E.digits component.now) ≤ 2 ^ 32 }
+{
+    let _rows = component.len();
+}
+
+/// Takes one digit more into the test of a part.
+fn narrow_part<E: Encoding>(
     component: &E,
     relation: Relation,
     digit: u32,

@@ -13,7 +13,7 @@ ghost use Rattle.bsi_slices.specs.declared.slices.compare.Selection.TheVariants.
 use super::know_len;
 use crate::NoMemory;
 use crate::column::Op;
-use bsi_bits::Bits;
+use bsi_bits::{Bits, know_fits};
 use std::alloc::Global;
 use std::simd::Simd;
 
@@ -224,8 +224,3 @@ fn words_at(slices: &[Bits], place: usize) -> &[u64]
     know_fits(words);
     words
 }
-
-/// Says of words behind a shared reference what their type does.
-fn know_fits(words: &[u64])
-    ensures { (k : ℕ) → slice_index words.now k < 2 ^ 64 }
-{}

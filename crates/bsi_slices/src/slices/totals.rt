@@ -1,13 +1,20 @@
 //! The totals of a found set: the sum by one count a slice, and the number of a rank by narrowing the found set from the most
 //! significant slice down.
 
-ghost use Rattle.std.specs.Prelude.{◌≡◌, ℕ, ◌+◌, ◌^◌, ◌≤◌, ◌<◌, ◌&&◌, ◌==◌, Bool, true, false, if◌then◌else◌, length, map, not, sum, count_by, IfOk};
+ghost use Rattle.std.specs.Prelude.{◌≡◌, ℕ, ◌+◌, ◌*◌, ◌^◌, ◌≤◌, ◌<◌, ◌&&◌, false, if◌then◌else◌, length, not, slice_index, sum, sum_by, count_by, count_ones, IfOk, IsTrue, ◌↔◌};
 ghost use Rattle.std.specs.Simd.Lanes.{zip2};
+ghost use Rattle.bsi_bits.specs.BitList.{without};
+ghost use Rattle.bsi_bits.specs.Packed.{bits_of, IsPacked};
+ghost use Rattle.bsi_slices.specs.Blocks.{word_kept};
 ghost use Rattle.bsi_slices.specs.Totals.{numbers_at, IsRanked};
 
+use super::know_len;
 use crate::slices::Slices;
 use crate::{Column, NoMemory};
-use bsi_bits::Bits;
+use bsi_bits::{Bits, know_fits, lanes};
+
+/// The words of a block. It is small, since narrowing leaves more and more blocks with no row.
+const BLOCK: usize = 32;
 
 impl Slices {
     /// The sum of the numbers at the rows of a found set: how many found rows have each binary place set, times two to the
@@ -28,21 +35,28 @@ impl Slices {
         total
     }
 
-    /// The number of rank `k` at the rows of a found set.
+    /// The number of rank `k` at the rows of a found set. Each step cuts the rows that are left by the slice of the step before,
+    /// the first one by the not-null bitmap, and counts in its own.
     pub(crate) fn number_of_rank(&self, found: &Bits, k: u64) -> Result<u64, NoMemory>
         requires same { length self.now.entries ≡ length found.now.bits }
         requires there { k < length (numbers_at found.now.bits self.now.entries) }
         ensures { IfOk result (IsRanked (numbers_at found.now.bits self.now.entries) k) }
     {
-        let mut chosen = found.copy()?;
-        chosen.and_with(self.present());
+        know_len(found);
+        let mut chosen = found.copy()?.into_words();
+        let mut last = self.present();
+        let mut is_set = true;
         let (mut number, mut rank) = (0, k);
         let mut i = self.width();
         'slices: while i > 0 {
             i -= 1;
-            let choice = choose(self.slice(i), rank, &mut chosen);
+            let slice = self.slice(i);
+            let clear = narrow(&mut chosen, last, is_set, slice);
+            let choice = choose(rank, clear);
             number = number * 2 + u64::from(choice.is_set);
             rank = choice.rank;
+            is_set = choice.is_set;
+            last = slice;
         }
         Ok(number)
     }
@@ -55,27 +69,91 @@ struct Choice {
     rank: u64,
 }
 
-/// Finds the binary place of the row of the rank, counted from 0 among the chosen rows, of which those that are clear come
-/// first, and leaves the chosen rows that have it.
-fn choose(slice: &Bits, rank: u64, chosen: &mut Bits) -> Choice
-    requires same { length slice.now.bits ≡ length chosen.old.bits }
-    requires there { rank < count_by (λ b. b) chosen.old.bits }
-    ensures chosen { chosen.new.bits ≡ zip2 (λ f b. f && (if result.is_set then b else not b)) chosen.old.bits slice.now.bits }
-    ensures rank { rank ≡ (if result.is_set then count_by (λ b. b) (zip2 (λ f b. f && not b) chosen.old.bits slice.now.bits) else 0) + result.rank }
-    ensures there { result.rank < count_by (λ b. b) chosen.new.bits }
+/// The binary place of the row of the rank, counted from 0 among rows of which so many are clear there and come first.
+fn choose(rank: u64, clear: u64) -> Choice
+    ensures rank { rank ≡ (if result.is_set then clear else 0) + result.rank }
+    ensures clear { result.is_set ≡ false → result.rank < clear }
 {
-    let clear = chosen.count_and_not(slice);
     if rank < clear {
-        chosen.and_not_with(slice);
         Choice {
             is_set: false,
             rank,
         }
     } else {
-        chosen.and_with(slice);
         Choice {
             is_set: true,
             rank: rank - clear,
         }
     }
+}
+
+/// Keeps of the chosen rows those that are set in a slice or, as wanted, those that are clear there, and counts those of
+/// them that are clear in the next slice.
+fn narrow(chosen: &mut [u64], slice: &Bits, is_set: bool, next: &Bits) -> u64
+    requires packed { IsPacked (length slice.now.bits) chosen.old }
+    requires same { length next.now.bits ≡ length slice.now.bits }
+    ensures packed { IsPacked (length slice.now.bits) chosen.new }
+    ensures chosen { bits_of (length slice.now.bits) chosen.new
+        ≡ zip2 (λ f b. f && (if is_set then b else not b)) (bits_of (length slice.now.bits) chosen.old) slice.now.bits }
+    ensures clear { result ≡ count_by (λ b. b) (zip2 without (bits_of (length slice.now.bits) chosen.new) next.now.bits) }
+{
+    let (words, others) = (slice.words(), next.words());
+    know_fits(words);
+    know_fits(others);
+    narrow_words(chosen, words, is_set, others)
+}
+
+/// The same of words, block by block.
+fn narrow_words(chosen: &mut [u64], words: &[u64], is_set: bool, next: &[u64]) -> u64
+    requires few { length chosen.old ≤ 2 ^ 26 }
+    requires same { length words.now ≡ length chosen.old }
+    requires same_next { length next.now ≡ length chosen.old }
+    ensures chosen { chosen.new ≡ zip2 (word_kept is_set) chosen.old words.now }
+    ensures clear { result ≡ sum_by count_ones (zip2 (word_kept false) chosen.new next.now) }
+{
+    let len = chosen.len();
+    let mut clear = 0;
+    'blocks: for k in 0..len.div_ceil(BLOCK) {
+        let at = BLOCK * k;
+        let end = len.min(at + BLOCK);
+        clear += narrow_block(
+            &mut chosen[at..end],
+            &words[at..end],
+            is_set,
+            &next[at..end],
+        );
+    }
+    clear
+}
+
+/// The same of the words of a block, of which nothing else is read where no row of them is chosen any more.
+fn narrow_block(chosen: &mut [u64], words: &[u64], is_set: bool, next: &[u64]) -> u64
+    requires few { length chosen.old ≤ BLOCK }
+    requires same { length words.now ≡ length chosen.old }
+    requires same_next { length next.now ≡ length chosen.old }
+    ensures chosen { chosen.new ≡ zip2 (word_kept is_set) chosen.old words.now }
+    ensures clear { result ≡ sum_by count_ones (zip2 (word_kept false) chosen.new next.now) }
+    ensures few { result ≤ 64 * BLOCK }
+{
+    if is_empty(chosen) {
+        return 0;
+    }
+    if is_set {
+        lanes::and(chosen, words);
+    } else {
+        lanes::and_not(chosen, words);
+    }
+    know_fits(chosen);
+    lanes::count_and_not(chosen, next)
+}
+
+/// Whether no bit of the words is set.
+fn is_empty(words: &[u64]) -> bool
+    ensures { IsTrue result ↔ ((k : ℕ) → slice_index words.now k ≡ 0) }
+{
+    let mut seen = 0;
+    'words: for i in 0..words.len() {
+        seen |= words[i];
+    }
+    seen == 0
 }

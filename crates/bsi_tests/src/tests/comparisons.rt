@@ -15,7 +15,7 @@ const SHOWN: [(Op, u64, [bool; 3]); 7] = [
     (Op::Eq, 15, [false, false, false]),
 ];
 
-fn selects_shown(rt: &impl Abort, column: &AnyColumn) -> Result<(), NoMemory> {
+fn selects_shown<C: Column>(rt: &impl Abort, column: &C) -> Result<(), NoMemory> {
     for (op, constant, wanted) in SHOWN {
         let found = compared(column, op, constant)?;
         assert!(rt; shows(&found, &wanted), "{op:?} {constant}");
@@ -33,6 +33,26 @@ fn comparisons_table(rt: HostRuntime) -> Result<(), Fail> {
         let column = of(&rt, rt.alloc(), form, wide, &[Some(3), None, Some(2)])?;
         selects_shown(&rt, &column)?;
     }
+    Ok(())
+}
+
+fn copy_of<C: Column>(column: &C) -> Result<C, NoMemory> {
+    match column.copy() {
+        Err(_) => column.copy(),
+        made => made,
+    }
+}
+
+fn copy_selects_shown<E: Encoding>(rt: &impl Abort, alloc: Global) -> Result<(), NoMemory> {
+    let mut column = no_digits::<E>(alloc, &[5, 3])?;
+    append(rt, &mut column, &[Some(3), None, Some(2)])?;
+    selects_shown(rt, &copy_of(&column)?)
+}
+
+#[test]
+fn comparisons_table_of_copies(rt: HostRuntime) -> Result<(), Fail> {
+    copy_selects_shown::<EqualityComponent>(&rt, rt.alloc())?;
+    copy_selects_shown::<RangeComponent>(&rt, rt.alloc())?;
     Ok(())
 }
 
@@ -121,7 +141,7 @@ fn near(weight: u64, base: u32) -> [u64; 6] {
     ]
 }
 
-// The constants about the edges of each digit, of some of the many where they are more than four, and past the ends.
+// The constants about the edges of each digit, of some of the many where they are more than three, and past the ends.
 fn edges(alloc: Global, list: &[u32]) -> Result<Vec<u64>, NoMemory> {
     let bases = bases(alloc, list)?;
     let mut constants = Vec::new(alloc);
@@ -170,23 +190,24 @@ fn form_alike(
     alike(rt, alloc, &column, wide.bases, rows)
 }
 
-fn whole_vectors_alike(
+fn whole_vectors_alike<E: Encoding>(
     rt: &impl Abort,
     alloc: Global,
     list: &[u32],
     rows: u64,
 ) -> Result<(), NoMemory> {
-    let mut column = no_digits::<WholeVectors<RangeComponent>>(alloc, list)?;
+    let mut column = no_digits::<WholeVectors<E>>(alloc, list)?;
     fill(rt, &mut column, rows)?;
     alike(rt, alloc, &column, list, rows)
 }
 
-// Every form, and range encoded components by whole vectors.
+// Every form, and components of both encodings by whole vectors.
 fn all_alike(rt: &impl Abort, alloc: Global, wide: Wide, rows: u64) -> Result<(), NoMemory> {
     for form in FORMS {
         form_alike(rt, alloc, form, wide, rows)?;
     }
-    whole_vectors_alike(rt, alloc, wide.bases, rows)
+    whole_vectors_alike::<RangeComponent>(rt, alloc, wide.bases, rows)?;
+    whole_vectors_alike::<EqualityComponent>(rt, alloc, wide.bases, rows)
 }
 
 #[test]
@@ -235,13 +256,75 @@ fn several_blocks(rt: HostRuntime) -> Result<(), Fail> {
     Ok(())
 }
 
+// Slices of so many rows as stand about the edges of a word, and of a block of words.
+fn lengths_alike(rt: &impl Abort, alloc: Global, wide: Wide) -> Result<(), NoMemory> {
+    for rows in [0, 1, 63, 64, 65, 256, 257, 1100] {
+        form_alike(rt, alloc, Form::Slices, wide, rows)?;
+    }
+    Ok(())
+}
+
 #[test]
-fn slices_about_the_edges_of_words(rt: HostRuntime) -> Result<(), Fail> {
-    for width in [1, 3, 20, 63] {
+fn few_slices_about_the_edges_of_words(rt: HostRuntime) -> Result<(), Fail> {
+    for width in [1, 2, 3] {
+        let bases = &[2; 3][..width as usize];
+        lengths_alike(&rt, rt.alloc(), Wide { width, bases })?;
+    }
+    Ok(())
+}
+
+#[test]
+fn many_slices_about_the_edges_of_words(rt: HostRuntime) -> Result<(), Fail> {
+    for width in [20, 63] {
         let bases = &[2; 63][..width as usize];
-        for rows in [0, 1, 63, 64, 65, 256, 257, 1100] {
-            form_alike(&rt, rt.alloc(), Form::Slices, Wide { width, bases }, rows)?;
-        }
+        lengths_alike(&rt, rt.alloc(), Wide { width, bases })?;
+    }
+    Ok(())
+}
+
+/// The entry of a row of so many slices: nulls, numbers about the edge of a place, the greatest one, and numbers far apart.
+fn about_a_place(row: u64, width: u32) -> Option<u64> {
+    let width = width.clamp(1, 63);
+    let edge = 1u64 << (row % u64::from(width));
+    let greatest = u64::MAX >> (64 - width);
+    match row % 7 {
+        0 => None,
+        1 => Some(edge),
+        2 => Some(edge.wrapping_sub(1)),
+        3 => Some(greatest),
+        _ => Some(row.wrapping_mul(0x9E37_79B9_7F4A_7C15) & greatest),
+    }
+}
+
+fn fill_about_places<C: Column>(
+    rt: &impl Abort,
+    column: &mut C,
+    width: u32,
+) -> Result<(), NoMemory> {
+    for row in 0..1100 {
+        assert!(rt; push(column, about_a_place(row, width))?, "row {row}");
+    }
+    Ok(())
+}
+
+// Slices beside a plain column, at each power of two below the size and at the number before it.
+fn places_alike(rt: &impl Abort, alloc: Global, width: u32) -> Result<(), NoMemory> {
+    let mut column = no_slices(alloc, width)?;
+    fill_about_places(rt, &mut column, width)?;
+    let mut plain = PlainColumn::new(alloc, column.size());
+    fill_about_places(rt, &mut plain, width)?;
+    for place in 0..column.width() {
+        let edge = 1u64 << place;
+        select_alike(rt, &column, &plain, edge)?;
+        select_alike(rt, &column, &plain, edge.wrapping_sub(1))?;
+    }
+    Ok(())
+}
+
+#[test]
+fn slices_about_the_edges_of_each_place(rt: HostRuntime) -> Result<(), Fail> {
+    for width in [1, 2, 3, 20, 63] {
+        places_alike(&rt, rt.alloc(), width)?;
     }
     Ok(())
 }

@@ -12,11 +12,11 @@ loop-k-preserved g c =
     let entries = c.args.self.now.entries in
     let chosen = λ (r : ℕ). get_or (map (answers (λ x. holds c.args.test.relation x c.args.test.constant) c.args.test.wanted) entries) r false in
     let after : c.extend_from_slice.new.self.items ≡ words ++ block = c.in_ok-extend_from_slice.ensures.items in
-    let size : length block ≡ min 256 (c.args.len - 256 * c.loop-k.k) =
+    let size : length block ≡ min 1024 (c.args.len - 1024 * c.loop-k.k) =
     omega (arith, c.select_block.auto.block, length-take c.min.result c.loop-k.buffer, c.min.array_long, c.min.ensures) in
-    let at_start : length words ≡ 256 * c.loop-k.k = omega (arith, c.loop-k.invariant.long) in
+    let at_start : length words ≡ 1024 * c.loop-k.k = omega (arith, c.loop-k.invariant.long) in
     rw after (record {
       long = omega (arith, length-append words block, size, at_start);
-      done = appended_bits chosen (length entries) (256 * c.loop-k.k) words block at_start c.loop-k.invariant.done
+      done = appended_bits chosen (length entries) (1024 * c.loop-k.k) words block at_start c.loop-k.invariant.done
           (λ q below row. c.if-not-select_block.ensures q (omega (arith, c.select_block.auto.block)) row);
     })

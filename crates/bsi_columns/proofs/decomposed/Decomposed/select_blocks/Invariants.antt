@@ -6,7 +6,7 @@ use Rattle.bsi_columns.proofs.decomposed.Decomposed.select_blocks.Given as goal
 
 abbrev pub invariant-loop-k : goal.invariant-loop-k
 invariant-loop-k g l = record {
-  long : length l.words.items ≡ min (256 * l.k) l.len;
+  long : length l.words.items ≡ min (1024 * l.k) l.len;
   done : (p : ℕ) → p < 64 * length l.words.items → p < length l.self.entries
       → bit_of l.words.items p ≡ get_or (map (answers (λ x. holds l.test.relation x l.test.constant) l.test.wanted) l.self.entries) p false;
 }

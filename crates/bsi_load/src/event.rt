@@ -1,0 +1,88 @@
+//! What is asked of a step machine, and what it replies.
+
+ghost use Rattle.std.specs.Prelude.{◌≡◌};
+
+use bsi_table::{Answer, AppendError, AskError, Query, Row};
+
+/// One step of a machine. Feeders go by their places, from 0.
+#[derive(Debug, Drop)]
+pub enum Event {
+    /// A row of this feeder is to wait.
+    Submit(u32, Row),
+    /// The row of this feeder that waits longest is to be indexed.
+    Load(u32),
+    /// This feeder ends.
+    Close(u32),
+    /// A query over the indexed rows.
+    Ask(Query),
+}
+
+/// Why a row is not accepted, in the order of checking. The row is handed back.
+#[derive(Debug, Drop)]
+pub enum SubmitRefused {
+    /// There is no such feeder.
+    UnknownFeeder(Row),
+    /// The feeder was closed.
+    Closed(Row),
+    /// The row does not fit the schema.
+    Misfit(Row),
+    /// As many rows of the feeder wait as its capacity.
+    Full(Row),
+}
+
+/// Why no row is loaded, in the order of checking.
+#[derive(Clone, Copy, Debug, PartialEq, Eq)]
+pub enum LoadRefused {
+    /// There is no such feeder.
+    UnknownFeeder,
+    /// No row of the feeder waits, and it was closed.
+    Ended,
+    /// No row of the feeder waits.
+    Empty,
+    /// The index has as many rows as its limit. The row still waits.
+    IndexFull,
+    /// The index found no memory. The row still waits.
+    NoMemory,
+}
+
+impl From<AppendError> for LoadRefused {
+    ghost use Rattle.bsi_load.specs.Shown.{refusal_of_append};
+
+    ghost from_gives = { λ refused e. e ≡ refusal_of_append refused };
+
+    fn from(refused: AppendError) -> LoadRefused {
+        match refused {
+            AppendError::IndexFull => LoadRefused::IndexFull,
+            AppendError::NoMemory => LoadRefused::NoMemory,
+        }
+    }
+}
+
+/// Why a feeder is not closed, in the order of checking.
+#[derive(Clone, Copy, Debug, PartialEq, Eq)]
+pub enum CloseRefused {
+    /// There is no such feeder.
+    UnknownFeeder,
+    /// The feeder was closed before.
+    AlreadyClosed,
+}
+
+/// The reply to an event.
+#[derive(Debug, Drop)]
+pub enum Reply {
+    /// To a submission.
+    Submitted(Result<(), SubmitRefused>),
+    /// To a load: the position of the row in the index, from 0.
+    Loaded(Result<u64, LoadRefused>),
+    /// To a closing.
+    Closed(Result<(), CloseRefused>),
+    /// To a query.
+    Answered(Result<Answer, AskError>),
+}
+
+/// A run that did not begin, since the list of its replies found no memory. None of its events was done.
+#[derive(Debug, Drop)]
+pub struct RunRefused {
+    /// The events, as they were given.
+    pub events: Vec<Event>,
+}

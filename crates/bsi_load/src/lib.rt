@@ -1,0 +1,13 @@
+//! The step machine: rows of feeders wait in bounded queues until they are loaded into a table, and nothing is lost.
+#![tactic(auto)]
+
+mod event;
+mod feeder;
+pub mod laws;
+mod machine;
+mod sizes;
+
+pub use event::{CloseRefused, Event, LoadRefused, Reply, RunRefused, SubmitRefused};
+pub use machine::Core;
+pub use sizes::{MakeError, check_sizes};
+pub use std::alloc::AllocError as NoMemory;

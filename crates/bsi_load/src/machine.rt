@@ -1,0 +1,198 @@
+//! The machine: a bounded queue for each feeder, over the index of a table.
+
+ghost use Rattle.std.specs.Prelude.{◌≡◌, ℕ, ◌≤◌, List, [], ◌∷◌, Option, None, Ok, Err, length, map, IfErr, IfOk, OnOk, option_map, if◌then◌else◌};
+ghost use Rattle.bsi_table.specs.Refusals.{IsFirstOr};
+ghost use Rattle.bsi_load.specs.declared.event.Event.TheVariants as event;
+ghost use Rattle.bsi_load.specs.declared.event.Reply.TheVariants as reply;
+ghost use Rattle.bsi_load.specs.Runs.{shown_after, past_of, past_at, AreLawful, IsConserved, StaysClosed};
+ghost use Rattle.bsi_load.specs.Shown.{submit_reply, close_reply, feeder_at, is_unknown, IsLoadReply, IsAskReply, IsLawful};
+ghost use Rattle.bsi_load.specs.Sizes.{new_feeder, new_machine, sizes_refusal};
+
+use crate::NoMemory;
+use crate::event::{CloseRefused, Event, LoadRefused, Reply, RunRefused, SubmitRefused};
+use crate::feeder::Feeder;
+use crate::sizes::{MakeError, check_sizes};
+use bsi_table::{Answer, AskError, Index, Query, Row, Schema};
+use circular_buffer::HeapCircularBuffer;
+use std::alloc::Global;
+use std::marker::Model;
+
+/// A table's index, and the rows of each feeder that wait to be indexed.
+#[derive(Drop)]
+pub struct Core {
+    index: Index,
+    feeders: Vec<Feeder>,
+}
+
+// Clauses see the index, and of each feeder the rows that wait, whether it was closed, and its capacity.
+impl Model for Core {
+    ghost use Rattle.bsi_load.specs.Shown.{Shown, IsMachine};
+
+    ghost Value = { Shown };
+
+    ghost view = { λ c. record { index = c.index; feeders = c.feeders.items } };
+
+    ghost invariant = { λ c. IsMachine c.index c.feeders.items };
+}
+
+impl Core {
+    /// Makes a machine with a feeder for each capacity and an index of at most so many rows. All feeders are open, and no row
+    /// is there.
+    pub fn new(
+        alloc: Global,
+        schema: Schema,
+        capacities: Vec<u32>,
+        limit: u64,
+    ) -> Result<Core, MakeError>
+        ensures ok { IfOk result (λ core. core ≡ new_machine schema capacities.items limit) }
+        ensures taken { OnOk result (sizes_refusal schema capacities.items limit ≡ None) }
+        ensures refused { IfErr result (λ e. IsFirstOr MakeError.NoMemory (sizes_refusal schema capacities.items limit) e) }
+    {
+        check_sizes(&schema, &capacities, limit)?;
+        let feeders = open_feeders(alloc, &capacities)?;
+        let index = Index::new(alloc, schema, capacities.len() as u32, limit)?;
+        Ok(Core { index, feeders })
+    }
+
+    /// Returns how many feeders there are, from 1 to 64.
+    pub fn feeders(&self) -> u32
+        ensures feeders { result ≡ length self.now.feeders }
+        ensures within { (1 ≤ result) × (result ≤ 64) }
+    {
+        self.feeders.len() as u32
+    }
+
+    /// Returns how many rows of a feeder wait, none where there is no such feeder.
+    pub fn waiting(&self, f: u32) -> Option<u32>
+        ensures { result ≡ (if is_unknown self.now f then None else Some (length (feeder_at self.now f).rows)) }
+    {
+        if f >= self.feeders() {
+            return None;
+        }
+        Some(self.feeders[f as usize].queue.len() as u32)
+    }
+
+    /// Lends the schema of the index.
+    pub fn schema(&self) -> &Schema
+        ensures { result.now ≡ self.now.index.schema }
+    {
+        self.index.schema()
+    }
+
+    /// Takes a row of a feeder, which waits from then on behind the feeder's others. It takes no memory.
+    pub fn submit(&mut self, f: u32, row: Row) -> Result<(), SubmitRefused>
+        ensures reply { result ≡ submit_reply self.old f row }
+        ensures after { self.new ≡ shown_after self.old ((event.Submit f row, reply.Submitted result) ∷ []) }
+    {
+        if f >= self.feeders() {
+            return Err(SubmitRefused::UnknownFeeder(row));
+        }
+        let place = f as usize;
+        if self.feeders[place].closed {
+            return Err(SubmitRefused::Closed(row));
+        }
+        if !self.index.schema().fits(&row) {
+            return Err(SubmitRefused::Misfit(row));
+        }
+        match self.feeders[place].queue.try_push_back(row) {
+            Err(row) => Err(SubmitRefused::Full(row)),
+            Ok(()) => Ok(()),
+        }
+    }
+
+    /// Moves the row of a feeder that waits longest into the index, and returns its position there. Where the index is full
+    /// or finds no memory, the row is still the first that waits.
+    pub fn load(&mut self, f: u32) -> Result<u64, LoadRefused>
+        ensures reply { IsLoadReply self.old f result }
+        ensures after { self.new ≡ shown_after self.old ((event.Load f, reply.Loaded result) ∷ []) }
+    {
+        if f >= self.feeders() {
+            return Err(LoadRefused::UnknownFeeder);
+        }
+        let place = f as usize;
+        let Some(row) = self.feeders[place].queue.front() else {
+            return Err(self.feeders[place].end());
+        };
+        let position = self.index.append(f, row)?;
+        self.feeders[place].queue.pop_front();
+        Ok(position)
+    }
+
+    /// Ends a feeder. Its rows still wait. It takes no memory.
+    pub fn close(&mut self, f: u32) -> Result<(), CloseRefused>
+        ensures reply { result ≡ close_reply self.old f }
+        ensures after { self.new ≡ shown_after self.old ((event.Close f, reply.Closed result) ∷ []) }
+    {
+        if f >= self.feeders() {
+            return Err(CloseRefused::UnknownFeeder);
+        }
+        let place = f as usize;
+        if self.feeders[place].closed {
+            return Err(CloseRefused::AlreadyClosed);
+        }
+        self.feeders[place].closed = true;
+        Ok(())
+    }
+
+    /// Answers a query over the indexed rows. What waits is not among them.
+    pub fn ask(&self, query: &Query) -> Result<Answer, AskError>
+        ensures { IsAskReply self.now query.now result }
+    {
+        self.index.ask(query)
+    }
+
+    /// Does one event, and returns its reply.
+    fn step(&mut self, event: Event) -> Reply
+        ensures lawful { IsLawful self.old event result }
+        ensures after { self.new ≡ shown_after self.old ((event, result) ∷ []) }
+    {
+        match event {
+            Event::Submit(f, row) => Reply::Submitted(self.submit(f, row)),
+            Event::Load(f) => Reply::Loaded(self.load(f)),
+            Event::Close(f) => Reply::Closed(self.close(f)),
+            Event::Ask(query) => Reply::Answered(self.ask(&query)),
+        }
+    }
+
+    /// Does a list of events in their order, and returns their replies in the same order.
+    ///
+    /// For every list of submissions, loads, closings and queries, each feeder's indexed rows followed by its waiting rows
+    /// are exactly its accepted rows, each once and in order of submission; none submitted after its closing is among them;
+    /// and every answered selection and total equals the plain definition over the rows indexed at that step, whatever bases
+    /// and encodings were chosen.
+    ///
+    /// A load or a query may find no memory, and then nothing changed. Where the list of replies finds none, the events are
+    /// handed back and none was done.
+    pub fn run(&mut self, alloc: Global, events: Vec<Event>) -> Result<Vec<Reply>, RunRefused>
+        ensures length { IfOk result (λ replies. length replies.items ≡ length events.items) }
+        ensures lawful { IfOk result (λ replies. AreLawful self.old (past_of events.items replies.items)) }
+        ensures after { IfOk result (λ replies. self.new ≡ shown_after self.old (past_of events.items replies.items)) }
+        ensures nothing_lost { IfOk result (λ replies. (n : ℕ) → IsConserved self.old (past_at events.items replies.items n)) }
+        ensures stays_closed { IfOk result (λ replies. StaysClosed self.old events.items replies.items) }
+        ensures refused { IfErr result (λ e. (e.events.items ≡ events.items) × (self.new ≡ self.old)) }
+    {
+        let Ok(mut replies) = Vec::with_capacity(alloc, events.len()) else {
+            return Err(RunRefused { events });
+        };
+        'events: for event in events {
+            let reply = self.step(event);
+            replies.push_reserved(reply);
+        }
+        Ok(replies)
+    }
+}
+
+/// Makes an open feeder for each capacity.
+fn open_feeders(alloc: Global, capacities: &[u32]) -> Result<Vec<Feeder>, NoMemory>
+    ensures { IfOk result (λ feeders. feeders.items ≡ map new_feeder capacities.now) }
+{
+    let mut feeders = Vec::with_capacity(alloc, capacities.len())?;
+    'feeders: for capacity in capacities {
+        let queue = HeapCircularBuffer::with_capacity(alloc, *capacity as usize)?;
+        feeders.push_reserved(Feeder {
+            queue,
+            closed: false,
+        });
+    }
+    Ok(feeders)
+}

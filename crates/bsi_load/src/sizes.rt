@@ -1,0 +1,90 @@
+//! Which sizes a machine may have.
+
+ghost use Rattle.std.specs.Prelude.{◌≡◌, ◌≤◌, length, position};
+ghost use Rattle.std.specs.Result.{result_err};
+ghost use Rattle.bsi_load.specs.Sizes.{sizes_refusal, capacities_refusal, is_out_of_range};
+
+use bsi_table::{Index, IndexError, Schema};
+use std::alloc::AllocError;
+
+/// The most feeders.
+const MOST_FEEDERS: usize = 64;
+
+/// The most rows of a feeder that may wait.
+const MOST_WAITING: u32 = 65_536;
+
+/// Why a machine is not made, in the order of checking.
+#[derive(Clone, Copy, Debug, PartialEq, Eq)]
+pub enum MakeError {
+    /// No capacity is given, so there would be no feeder.
+    NoFeeders,
+    /// There would be more than 64 feeders.
+    TooManyFeeders,
+    /// The capacity of this feeder, the first such one, is not from 1 to 65,536.
+    CapacityOutOfRange(u32),
+    /// The index can't be had of this schema or limit.
+    Index(IndexError),
+    /// A growth was refused.
+    NoMemory,
+}
+
+impl From<AllocError> for MakeError {
+    ghost use Rattle.bsi_load.specs.declared.sizes.MakeError.TheVariants.{NoMemory};
+
+    ghost from_gives = { λ _ e. e ≡ NoMemory };
+
+    fn from(_refused: AllocError) -> MakeError {
+        MakeError::NoMemory
+    }
+}
+
+impl From<IndexError> for MakeError {
+    ghost use Rattle.bsi_load.specs.Sizes.{refusal_of_index};
+
+    ghost from_gives = { λ refused e. e ≡ refusal_of_index refused };
+
+    fn from(refused: IndexError) -> MakeError {
+        match refused {
+            IndexError::NoMemory => MakeError::NoMemory,
+            refused => MakeError::Index(refused),
+        }
+    }
+}
+
+/// Tells how a machine of this schema is refused, with a feeder for each capacity and at most so many indexed rows, want
+/// of memory apart. It takes no memory.
+pub fn check_sizes(schema: &Schema, capacities: &[u32], limit: u64) -> Result<(), MakeError>
+    ensures { result_err result ≡ sizes_refusal schema.now capacities.now limit }
+{
+    if capacities.is_empty() {
+        return Err(MakeError::NoFeeders);
+    }
+    if capacities.len() > MOST_FEEDERS {
+        return Err(MakeError::TooManyFeeders);
+    }
+    check_capacities(capacities)?;
+    match Index::check(schema, limit) {
+        Err(refused) => Err(MakeError::Index(refused)),
+        Ok(()) => Ok(()),
+    }
+}
+
+/// Refuses the first capacity that is out of range.
+fn check_capacities(capacities: &[u32]) -> Result<(), MakeError>
+    requires { length capacities.now ≤ MOST_FEEDERS }
+    ensures { result_err result ≡ capacities_refusal capacities.now }
+{
+    match first_out_of_range(capacities) {
+        None => Ok(()),
+        Some(f) => Err(MakeError::CapacityOutOfRange(f as u32)),
+    }
+}
+
+/// Returns the place of the first capacity that is out of range.
+fn first_out_of_range(capacities: &[u32]) -> Option<usize>
+    ensures { result ≡ position is_out_of_range capacities.now }
+{
+    capacities
+        .iter()
+        .position(|capacity| *capacity == 0 || *capacity > MOST_WAITING)
+}
