@@ -197,7 +197,7 @@ fn first_slice_is(index: &Index, wanted: &[bool]) -> bool {
         return false;
     }
     match index.column(0).stored() {
-        AnyColumn::Slices(slices) => shows(slices.slice(0), wanted),
+        AnyColumn::Slices(slices) if slices.width() > 0 => shows(slices.slice(0), wanted),
         _ => false,
     }
 }
