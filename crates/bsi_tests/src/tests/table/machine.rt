@@ -6,6 +6,7 @@ use bsi_load::{
 };
 
 mod answers;
+mod beside;
 
 /// What a machine is made of.
 #[derive(Clone, Copy)]
