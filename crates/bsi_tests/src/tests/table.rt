@@ -8,6 +8,7 @@ use bsi_table::{
 };
 
 mod beside;
+mod machine;
 
 const SLICES_3: Wide<'static> = Wide {
     width: 3,
