@@ -4,11 +4,8 @@ ghost use Rattle.std.specs.Prelude.{◌≡◌, ◌≤◌, length, position};
 ghost use Rattle.std.specs.Result.{result_err};
 ghost use Rattle.bsi_load.specs.Sizes.{sizes_refusal, capacities_refusal, is_out_of_range};
 
-use bsi_table::{Index, IndexError, Schema};
+use bsi_table::{Index, IndexError, MOST_FEEDERS, Schema};
 use std::alloc::AllocError;
-
-/// The most feeders.
-const MOST_FEEDERS: usize = 64;
 
 /// The most rows of a feeder that may wait.
 const MOST_WAITING: u32 = 65_536;
@@ -59,7 +56,7 @@ pub fn check_sizes(schema: &Schema, capacities: &[u32], limit: u64) -> Result<()
     if capacities.is_empty() {
         return Err(MakeError::NoFeeders);
     }
-    if capacities.len() > MOST_FEEDERS {
+    if capacities.len() > MOST_FEEDERS as usize {
         return Err(MakeError::TooManyFeeders);
     }
     check_capacities(capacities)?;
@@ -71,7 +68,7 @@ pub fn check_sizes(schema: &Schema, capacities: &[u32], limit: u64) -> Result<()
 
 /// Refuses the first capacity that is out of range.
 fn check_capacities(capacities: &[u32]) -> Result<(), MakeError>
-    requires { length capacities.now ≤ MOST_FEEDERS }
+    requires { length capacities.now ≤ 64 }
     ensures { result_err result ≡ capacities_refusal capacities.now }
 {
     match first_out_of_range(capacities) {

@@ -2,6 +2,7 @@ pub mod Fitting
 pub mod Keeping
 pub mod Missing
 pub mod Naming
+pub mod NoNames
 pub mod Numbers
 pub mod Parts
 pub mod Selecting

@@ -1,7 +1,8 @@
 -- The columns that a schema declares, and the rows that fit them.
-use Rattle.std.specs.Prelude.{ℕ, ◌^◌, ◌≤◌, Bool, true, false, ◌&&◌, ◌||◌, List, [], ◌∷◌, ◌++◌, length, position, All, Option, Some, None, reverse, slice_index_or, String, string_bytes, ℤ, pos, ◌+ℤ◌, ◌≤ℤ◌, int_le, int_lt}
+use Rattle.std.specs.Prelude.{ℕ, ◌^◌, ◌≤◌, Bool, true, false, ◌&&◌, ◌||◌, List, [], ◌∷◌, ◌++◌, length, position, All, Option, Some, None, reverse, slice_index_or, String, string_bytes, ℤ, pos, ◌+ℤ◌, ◌≤ℤ◌, int_le, int_lt, IsTrue}
 use Rattle.std.specs.Str.{bytes_eq}
 use Rattle.bsi_digits.specs.Digits.{size_of, IsBaseList}
+use Rattle.bsi_table.specs.Names.{is_name}
 use Rattle.bsi_table.specs.declared.form.ColumnSpec.{ColumnSpec}
 use Rattle.bsi_table.specs.declared.form.ColumnSpec.TheVariants.{Slices as spec_slices, Equality as spec_equality, Range as spec_range}
 use Rattle.bsi_table.specs.declared.form.Form.{Form}
@@ -63,9 +64,14 @@ pub record IsColumn (column : NamedColumn) : Type 0 where
   pub form : IsForm column.form
   pub below : (column.offset +ℤ pos (size_in column.form)) ≤ℤ pos (2 ^ 63)
 
+-- each has a name that columns may have
+abbrev pub AreNamed : List NamedColumn → Type 0
+AreNamed columns = All (λ column. IsTrue (is_name column.name)) columns
+
 -- the schemas that can be had
 pub record IsSchema (columns : List NamedColumn) : Type 0 where
   pub few : length columns ≤ 64
+  pub named : AreNamed columns
   pub each : All IsColumn columns
 
 -- the entry of a map of names, as a column

@@ -18,6 +18,7 @@ pub use bsi_columns::Op;
 pub use errors::{AppendError, AskError, IndexError};
 pub use form::{ColumnSpec, Form};
 pub use index::Index;
+pub use numbering::MOST_FEEDERS;
 pub use query::{Answer, Pred, Query, Total};
 pub use row::Row;
 pub use schema::Schema;

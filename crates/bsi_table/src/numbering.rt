@@ -9,7 +9,7 @@ use bsi_bits::Bits;
 use std::alloc::Global;
 
 /// The most feeders of a table.
-pub(crate) const MOST_FEEDERS: u32 = 64;
+pub const MOST_FEEDERS: u32 = 64;
 
 /// Returns the rows of a found set in order, where `feeders` says which feeder each row of the table came from.
 pub(crate) fn number_rows(

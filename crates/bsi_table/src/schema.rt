@@ -2,7 +2,8 @@
 
 ghost use Rattle.std.specs.Prelude.{◌≡◌, ◌<◌, ◌≤◌, ◌^◌, ◌++◌, ◌∷◌, [], Some, None, true, false, length, is_some, pos, ◌+ℤ◌, ◌≤ℤ◌, IfOk, IfErr, OnOk, OnErr, IsTrue, Ok};
 ghost use Rattle.std.specs.Result.{result_err};
-ghost use Rattle.bsi_table.specs.Columns.{column_at, fits, form_of, is_taken_by, named_column, no_columns, position_of, size_in, with_column, IsColumn, IsForm};
+ghost use Rattle.bsi_table.specs.Columns.{column_at, fits, form_of, is_taken_by, named_column, no_columns, position_of, size_in, with_column, AreNamed, IsColumn, IsForm};
+ghost use Rattle.bsi_table.specs.Names.{is_name};
 ghost use Rattle.bsi_table.specs.Refusals.{column_refusal, name_refusal, signed_refusal, IsFirstOr};
 
 use crate::form::{ColumnSpec, Form, Kind};
@@ -11,6 +12,7 @@ use crate::{NoMemory, Row, SchemaError};
 use indexmap::IndexMap;
 use std::alloc::Global;
 use std::marker::Model;
+use std::str::from_utf8;
 
 /// The most columns of a schema.
 const MOST_COLUMNS: usize = 64;
@@ -52,6 +54,7 @@ impl Schema {
     pub fn columns(&self) -> u32
         ensures columns { result ≡ length self.now.columns }
         ensures within { result ≤ 64 }
+        ensures named { AreNamed self.now.columns }
     {
         self.columns.len() as u32
     }
@@ -70,6 +73,17 @@ impl Schema {
         match self.columns.get_index_of(name) {
             None => None,
             Some(place) => Some(place as u32),
+        }
+    }
+
+    /// Returns the place of the column whose name has these bytes.
+    pub fn find(&self, name: &[u8]) -> Option<u32>
+        ensures { result ≡ position_of self.now.columns name.now }
+    {
+        let _ = &self.columns;
+        match from_utf8(name) {
+            Ok(name) => self.position(name),
+            Err(_) => None,
         }
     }
 
@@ -204,6 +218,7 @@ impl Schema {
     /// Puts a column last, under a name that is not taken.
     fn push(&mut self, name: &str, kind: Kind, signed: bool) -> Result<(), NoMemory>
         requires fresh { position_of self.old.columns name.now ≡ None }
+        requires name { IsTrue (is_name name.now) }
         requires few { length self.old.columns < 64 }
         requires form { IsForm kind.form }
         requires below { (kind.offset +ℤ pos (size_in kind.form)) ≤ℤ pos (2 ^ 63) }

@@ -1,7 +1,8 @@
-use Rattle.std.proofs.Common.{◌||◌, length, map, subst, sym, ap, arith, ◌∙◌}
+use Rattle.std.proofs.Common.{◌||◌, length, map, IsTrue, subst, sym, ap, arith, ◌∙◌}
 use Rattle.std.proofs.lemmas.List.Elements.{All-push}
 use Rattle.std.proofs.lemmas.List.{length-append}
 use Rattle.bsi_table.specs.Columns.{named, position_of, with_column, IsColumn, IsSchema, NamedColumn}
+use Rattle.bsi_table.specs.Names.{is_name}
 use Rattle.bsi_table.proofs.Naming.{named-insert}
 use Rattle.bsi_table.proofs.schema.Schema.push.Goals as goal
 
@@ -15,6 +16,7 @@ invariant_of-self-2 c =
     let valid : IsColumn column = record { form = c.requires.form; below = c.requires.below } in
     subst IsSchema (sym columns) (record {
       few = omega (arith, length-append {A = NamedColumn}, c.requires.few, ap (λ s. length s.columns) c.self.view_is);
+      named = All-push (λ c. IsTrue (is_name c.name)) (map named before.entries) column c.self.invariant.named c.requires.name;
       each = All-push IsColumn (map named before.entries) column c.self.invariant.each valid;
     })
 

@@ -1,0 +1,5 @@
+mod Digits
+mod Layouts
+mod Parts
+mod Taking
+mod Values

@@ -1,0 +1,91 @@
+-- The source of the rows of a row file.
+use Rattle.std.specs.Prelude.{◌≡◌, ℕ, ◌+◌, ◌≤◌, List, [], ◌∷◌, Option, None, Some, IsSome, IfSome, length, ⊤, true, false, MatchOption}
+use Rattle.csv.specs.Machine.{next_record}
+use Rattle.csv.specs.Reading.{Ready, Reached, default_config, reader_config, reader_state, reader_trim, source_of}
+use Rattle.csv.specs.declared.parser.State.TheVariants as st
+use Rattle.csv.specs.declared.reader.Reader.{Reader}
+use Rattle.csv.specs.declared.reader.Trim.TheVariants as trim
+use Rattle.bsi_table.specs.Columns.{Declared}
+use Rattle.bsi_table.specs.Rows.{Entries}
+use Rattle.bsi_text.specs.Numbers.{Field}
+use Rattle.bsi_text.specs.RowFiles.{bad_count, good_rows, is_header}
+use Rattle.bsi_text.specs.declared.rows.Progress.{Progress}
+use Rattle.bsi_text.specs.declared.rows.SourceFault.{SourceFault}
+use Rattle.bsi_text.specs.declared.rows.SourceFault.TheVariants.{TooLong}
+use Rattle.bsi_text.specs.declared.rows.Tally.{Tally}
+
+-- the columns of a row file, and its header
+pub record Layout : Type 0 where
+  pub schema : Declared
+  pub header : List Field
+
+-- a row source: its file's layout, what it reads from, how many records it took behind the header and how many of these were
+-- bad, and whether it goes on
+pub record Source (R : Type 0) : Type 0 where
+  pub layout : Layout
+  pub input : Reader R
+  pub tally : Tally
+  pub progress : Progress
+
+-- the reader gives one record after another, as they stand
+pub record IsPlain {R : Type 0} (input : Reader R) : Type 0 where
+  pub trims : reader_trim input ≡ trim.None
+  pub ready : Ready input
+  pub config : reader_config input ≡ default_config
+
+-- a reader that had these bytes left has read these records of them
+abbrev pub HasReadOf : {R : Type 0} → (R → Option (List ℕ)) → Reader R → Reader R → List (List Field) → List ℕ → Type 0
+HasReadOf rem old new records bytes =
+    MatchOption (source_of rem new) ⊥ (λ rest. Reached default_config (reader_state old) bytes records (reader_state new) rest)
+
+-- a reader has read these records, if its bytes are known
+abbrev pub HasRead : {R : Type 0} → (R → Option (List ℕ)) → Reader R → Reader R → List (List Field) → Type 0
+HasRead rem old new records = IfSome (source_of rem old) (HasReadOf rem old new records)
+
+-- a reader has no record left, if its bytes are known, or has one more
+abbrev pub IsOver : {R : Type 0} → (R → Option (List ℕ)) → Reader R → Type 0
+IsOver rem input = IfSome (source_of rem input) (λ rest. next_record default_config (reader_state input) [] [] rest ≡ None)
+
+abbrev pub HasMore : {R : Type 0} → (R → Option (List ℕ)) → Reader R → Type 0
+HasMore rem input = IfSome (source_of rem input) (λ rest. IsSome (next_record default_config (reader_state input) [] [] rest))
+
+-- records were read and counted, and these are the rows of the good ones
+pub record HasTaken {R : Type 0} (rem : R → Option (List ℕ)) (layout : Layout) (old new : Reader R) (before after : Tally) (rows : List Entries) : Type 0 where
+  pub records : List (List Field)
+  pub read : HasRead rem old new records
+  pub good : good_rows layout.schema layout.header records ≡ rows
+  pub passed : after.passed ≡ before.passed + length records
+  pub bad : after.bad ≡ before.bad + bad_count layout.schema layout.header records
+
+-- all records that were left were read and counted, all of them bad
+pub record HasEnded {R : Type 0} (rem : R → Option (List ℕ)) (layout : Layout) (old : Reader R) (before after : Tally) : Type 0 where
+  pub at : Reader R
+  pub taken : HasTaken rem layout old at before after []
+  pub over : IsOver rem at
+
+-- a fault was met where these records, all of them bad, had been read; a file is too long where these are 1,000,000 with those
+-- before, and there is one more
+pub record HasStopped {R : Type 0} (rem : R → Option (List ℕ)) (layout : Layout) (old : Reader R) (before after : Tally) (fault : SourceFault) : Type 0 where
+  pub at : Reader R
+  pub taken : HasTaken rem layout old at before after []
+  pub too_long : fault ≡ TooLong → (after.passed ≡ 1000000) × HasMore rem at
+
+-- what a call leaves that gives a row, or finds that none is left
+abbrev pub HasGiven : {R : Type 0} → (R → Option (List ℕ)) → Layout → Reader R → Reader R → Tally → Tally → Option Entries → Type 0
+HasGiven rem layout old new before after found =
+    MatchOption found (HasEnded rem layout old before after) (λ row. HasTaken rem layout old new before after (row ∷ []))
+
+-- the counts of a source
+pub record IsTally (tally : Tally) : Type 0 where
+  pub few : tally.passed ≤ 1000000
+  pub bad : tally.bad ≤ tally.passed
+
+-- a reader stands after the first record of a text, which is the header
+abbrev pub StandsAfter : {R : Type 0} → (R → Option (List ℕ)) → Layout → Reader R → List ℕ → Type 0
+StandsAfter rem layout input text =
+    MatchOption (next_record default_config st.StartRecord [] [] text) ⊥
+    (λ read. (layout.header ≡ read.0) × (reader_state input ≡ read.1) × (source_of rem input ≡ Some read.2))
+
+-- the first record of a text is no header of these columns, or there is none
+abbrev pub HasNoHeader : Declared → List ℕ → Type 0
+HasNoHeader schema text = IfSome (next_record default_config st.StartRecord [] [] text) (λ read. is_header schema read.0 ≡ false)

@@ -1,0 +1,175 @@
+//! The header of a row file, and the rows that its records give.
+
+ghost use Rattle.std.specs.Prelude.{◌≡◌, ℕ, List, [], get_or, if◌then◌else◌, nat_eq, map, not, length, count_by, Option, Some, None, is_some, IfOk};
+ghost use Rattle.std.specs.List.{list_all, prefix_len};
+ghost use Rattle.std.specs.Str.{bytes_eq};
+ghost use Rattle.csv.specs.Records.{fields_of};
+ghost use Rattle.bsi_table.specs.Columns.{position_of};
+ghost use Rattle.bsi_text.specs.Numbers.{values_in};
+ghost use Rattle.bsi_text.specs.RowFiles.{good_row, in_order, is_header, is_known, is_named_once, place_of};
+
+use crate::NoMemory;
+use crate::numbers::read_value;
+use bsi_table::{Row, Schema};
+use csv::ByteRecord;
+use std::alloc::Global;
+use std::marker::Model;
+
+/// The columns of a row file, and for each the place of its field in a record.
+#[derive(Drop)]
+pub(crate) struct Layout {
+    schema: Schema,
+    header: ByteRecord,
+    places: Vec<usize>,
+}
+
+// Clauses see the schema and the header.
+impl Model for Layout {
+    ghost use Rattle.std.specs.Prelude.{◌≡◌, map};
+    ghost use Rattle.csv.specs.Records.{fields_of};
+    ghost use Rattle.bsi_text.specs.RowFiles.{place_of};
+    ghost use Rattle.bsi_text.specs.Sources.{Layout};
+
+    ghost Value = { Layout };
+
+    ghost view = { λ l. record { schema = l.schema; header = fields_of l.header } };
+
+    ghost invariant = { λ l. l.places.items ≡ map (λ column. place_of (fields_of l.header) column.name) l.schema.columns };
+}
+
+impl Layout {
+    /// Makes the layout of a header; none where it does not name each column once, and nothing else.
+    pub(crate) fn new(
+        alloc: Global,
+        schema: &Schema,
+        header: ByteRecord,
+    ) -> Result<Option<Layout>, NoMemory>
+        ensures { IfOk result (λ made. made ≡ (if is_header schema.now (fields_of header) then Some (record { schema = schema.now; header = fields_of header }) else None)) }
+    {
+        if !test_header(schema, &header) {
+            return Ok(None);
+        }
+        let places = places_of(alloc, schema, &header)?;
+        let schema = schema.copy()?;
+        Ok(Some(Layout {
+            schema,
+            header,
+            places,
+        }))
+    }
+
+    /// Reads a record as a row; none where it is bad.
+    pub(crate) fn read(&self, alloc: Global, fields: &ByteRecord) -> Result<Option<Row>, NoMemory>
+        ensures { IfOk result (λ read. read ≡ good_row self.now.schema self.now.header (fields_of fields.now)) }
+    {
+        if fields.len() != self.header.len() {
+            return Ok(None);
+        }
+        let Some(row) = self.read_values(alloc, fields)? else {
+            return Ok(None);
+        };
+        Ok(if self.schema.fits(&row) {
+            Some(row)
+        } else {
+            None
+        })
+    }
+
+    /// Reads the fields of a record in the order of the columns; none where one is no value.
+    fn read_values(&self, alloc: Global, fields: &ByteRecord) -> Result<Option<Row>, NoMemory>
+        ensures { IfOk result (λ read. read ≡ values_in self.now.schema.signed (in_order self.now.schema self.now.header (fields_of fields.now))) }
+    {
+        let signed = self.schema.signed();
+        let mut values = Vec::with_capacity(alloc, self.places.len())?;
+        'places: for place in &self.places {
+            let Some(value) = read_value(signed, field(fields, *place)) else {
+                return Ok(None);
+            };
+            values.push_reserved(value);
+        }
+        Ok(Some(Row::new(values)))
+    }
+}
+
+/// Lends the field at a place, or no byte past the last one.
+fn field(fields: &ByteRecord, place: usize) -> &[u8]
+    ensures { result.now ≡ get_or (fields_of fields.now) place [] }
+{
+    match fields.get(place) {
+        None => &[],
+        Some(field) => field,
+    }
+}
+
+/// Returns whether a header names each column exactly once, and nothing else.
+fn test_header(schema: &Schema, header: &ByteRecord) -> bool
+    ensures { result ≡ is_header schema.now (fields_of header.now) }
+{
+    if header.len() != schema.columns() as usize {
+        return false;
+    }
+    if !test_columns(schema, header) {
+        return false;
+    }
+    test_fields(schema, header)
+}
+
+/// Returns whether each column is named exactly once.
+fn test_columns(schema: &Schema, header: &ByteRecord) -> bool
+    ensures { result ≡ list_all (is_named_once (fields_of header.now)) schema.now.columns }
+{
+    'columns: for c in 0..schema.columns() {
+        if count_named(header, schema.name(c).as_bytes()) != 1 {
+            return false;
+        }
+    }
+    true
+}
+
+/// Returns how many fields are this name.
+fn count_named(header: &ByteRecord, name: &[u8]) -> usize
+    ensures { result ≡ count_by (λ field. bytes_eq field name.now) (fields_of header.now) }
+{
+    let mut count = 0;
+    'fields: for place in 0..header.len() {
+        if field(header, place) == name {
+            count += 1;
+        }
+    }
+    count
+}
+
+/// Returns whether each field is the name of a column.
+fn test_fields(schema: &Schema, header: &ByteRecord) -> bool
+    ensures { result ≡ list_all (is_known schema.now) (fields_of header.now) }
+{
+    'fields: for place in 0..header.len() {
+        if schema.find(field(header, place)).is_none() {
+            return false;
+        }
+    }
+    true
+}
+
+/// Returns for each column how many fields stand before its name.
+fn places_of(alloc: Global, schema: &Schema, header: &ByteRecord) -> Result<Vec<usize>, NoMemory>
+    ensures { IfOk result (λ places. places.items ≡ map (λ column. place_of (fields_of header.now) column.name) schema.now.columns) }
+{
+    let mut places = Vec::with_capacity(alloc, schema.columns() as usize)?;
+    'columns: for c in 0..schema.columns() {
+        places.push(count_before(header, schema.name(c).as_bytes()))?;
+    }
+    Ok(places)
+}
+
+/// Returns how many fields stand before the first that is this name.
+fn count_before(header: &ByteRecord, name: &[u8]) -> usize
+    ensures { result ≡ place_of (fields_of header.now) name.now }
+{
+    'fields: for place in 0..header.len() {
+        if field(header, place) == name {
+            return place;
+        }
+    }
+    header.len()
+}

@@ -1,0 +1,240 @@
+//! The rows of a row file, one after another.
+
+ghost use Rattle.std.specs.Prelude.{◌≡◌, ◌≢◌, ◌≤◌, [], Option, Some, None, Ok, Err, true, is_some, if◌then◌else◌, IfOk, IfErr, IfSome, OnOk, OnErr};
+ghost use Rattle.csv.specs.Reading.{ReadRecord, reader_state, source_of, strip_bom};
+ghost use Rattle.csv.specs.declared.parser.State.TheVariants as st;
+ghost use Rattle.csv.specs.Records.{fields_of};
+ghost use Rattle.bsi_text.specs.RowFiles.{is_header};
+ghost use Rattle.bsi_text.specs.Sources.{HasGiven, HasNoHeader, HasStopped, IsPlain, IsTally, StandsAfter};
+
+use crate::layout::Layout;
+use bsi_table::{Row, Schema};
+use csv::{ByteRecord, Reader, ReaderBuilder};
+use std::alloc::{AllocError, Global};
+use std::io::Read;
+use std::marker::Model;
+use thiserror::Error;
+
+/// The most records of a row file behind its header.
+const MAX_RECORDS: u64 = 1_000_000;
+
+/// Why a row source gives no more rows.
+#[derive(Clone, Copy, Debug, PartialEq, Eq, Error)]
+pub enum SourceFault {
+    /// The first record does not name each column exactly once and nothing else, or there is no record.
+    #[error("bad header")]
+    BadHeader,
+    /// The reader failed.
+    #[error("read failed")]
+    Read,
+    /// A record, a row or the copy of the schema found no memory.
+    #[error("no memory")]
+    NoMemory,
+    /// There are more than 1,000,000 records behind the header.
+    #[error("input too long")]
+    TooLong,
+}
+
+impl From<AllocError> for SourceFault {
+    ghost use Rattle.bsi_text.specs.declared.rows.SourceFault.TheVariants.{NoMemory};
+
+    ghost from_gives = { λ _ e. e ≡ NoMemory };
+
+    fn from(_refused: AllocError) -> SourceFault {
+        SourceFault::NoMemory
+    }
+}
+
+/// Whether a row source goes on.
+#[derive(Clone, Copy, Debug, PartialEq, Eq)]
+pub(crate) enum Progress {
+    /// There may be rows left.
+    Open,
+    /// All rows were given.
+    Ended,
+    /// A fault was met.
+    Failed(SourceFault),
+}
+
+/// How many records were taken behind the header, and how many of them were bad.
+#[derive(Clone, Copy, Debug, PartialEq, Eq)]
+pub(crate) struct Tally {
+    passed: u64,
+    bad: u64,
+}
+
+/// The rows of the good records of a row file, in their order.
+///
+/// It keeps a copy of the schema, the header and the record at hand; a row is made for the caller.
+#[derive(Drop)]
+pub struct RowSource<R: Read + Drop> {
+    alloc: Global,
+    layout: Layout,
+    input: Reader<R>,
+    record: ByteRecord,
+    tally: Tally,
+    progress: Progress,
+}
+
+// Clauses see the layout, the reader, the counts, and whether the source goes on.
+impl<R: Read + Drop> Model for RowSource<R> {
+    ghost use Rattle.std.specs.Prelude.{◌≡◌};
+    ghost use Rattle.bsi_text.specs.Sources.{IsPlain, IsTally, Source};
+    ghost use Rattle.bsi_text.specs.declared.rows.Progress.TheVariants.{Open};
+
+    ghost Value = { Source R };
+
+    ghost view = { λ s. record { layout = s.layout; input = s.input; tally = s.tally; progress = s.progress } };
+
+    ghost invariant = { λ s. IsTally s.tally × (s.progress ≡ Open → IsPlain s.input) };
+}
+
+impl<R: Read + Drop> RowSource<R> {
+    /// Reads the header. `BadHeader` is answered where it does not name each column of the schema exactly once and nothing
+    /// else, or where there is no record.
+    pub fn begin(alloc: Global, schema: &Schema, reader: R) -> Result<RowSource<R>, SourceFault>
+        ensures schema { IfOk result (λ source. source.layout.schema ≡ schema.now) }
+        ensures header { IfOk result (λ source. is_header schema.now source.layout.header ≡ true) }
+        ensures fresh { IfOk result (λ source. (source.tally ≡ record { passed = 0; bad = 0 }) × (source.progress ≡ Progress.Open)) }
+        ensures behind { IfOk result (λ source. IfSome (R.remaining reader) (λ bytes. StandsAfter R.remaining source.layout source.input (strip_bom bytes))) }
+        ensures bad_header { result ≡ Err SourceFault.BadHeader → IfSome (R.remaining reader) (λ bytes. HasNoHeader schema.now (strip_bom bytes)) }
+        ensures short { result ≢ Err SourceFault.TooLong }
+    {
+        let mut input = ReaderBuilder::new()
+            .has_headers(false)
+            .flexible(true)
+            .from_reader(alloc, reader);
+        let layout = read_layout(alloc, schema, &mut input)?;
+        Ok(RowSource {
+            alloc,
+            layout,
+            input,
+            record: ByteRecord::new(alloc),
+            tally: Tally { passed: 0, bad: 0 },
+            progress: Progress::Open,
+        })
+    }
+
+    /// Returns the row of the next good record, none at the end and from then on. Bad records are passed over and counted.
+    /// After a fault each later call answers the same fault.
+    pub fn next_row(&mut self) -> Result<Option<Row>, SourceFault>
+        ensures failed { (fault : SourceFault) → self.old.progress ≡ Progress.Failed fault → (result ≡ Err fault) × (self.new ≡ self.old) }
+        ensures ended { self.old.progress ≡ Progress.Ended → (result ≡ Ok None) × (self.new ≡ self.old) }
+        ensures given { self.old.progress ≡ Progress.Open → IfOk result (HasGiven R.remaining self.old.layout self.old.input self.new.input self.old.tally self.new.tally) }
+        ensures goes_on { self.old.progress ≡ Progress.Open → IfOk result (λ found. self.new.progress ≡ (if is_some found then Progress.Open else Progress.Ended)) }
+        ensures stopped { self.old.progress ≡ Progress.Open → IfErr result (λ fault. HasStopped R.remaining self.old.layout self.old.input self.old.tally self.new.tally fault × (self.new.progress ≡ Progress.Failed fault)) }
+        ensures same { self.new.layout ≡ self.old.layout }
+    {
+        match self.progress {
+            Progress::Ended => return Ok(None),
+            Progress::Failed(fault) => return Err(fault),
+            Progress::Open => {}
+        }
+        let found = take_row(
+            self.alloc,
+            &self.layout,
+            &mut self.input,
+            &mut self.record,
+            &mut self.tally,
+        );
+        self.progress = match &found {
+            Ok(Some(_)) => Progress::Open,
+            Ok(None) => Progress::Ended,
+            Err(fault) => Progress::Failed(*fault),
+        };
+        found
+    }
+
+    /// Returns how many records were passed over so far, at most 1,000,000.
+    pub fn bad(&self) -> u64
+        ensures bad { result ≡ self.now.tally.bad }
+        ensures within { result ≤ 1000000 }
+    {
+        self.tally.bad
+    }
+}
+
+/// Reads the first record, and makes the layout of it.
+fn read_layout<R: Read + Drop>(
+    alloc: Global,
+    schema: &Schema,
+    input: &mut Reader<R>,
+) -> Result<Layout, SourceFault>
+    requires plain { IsPlain input.old }
+    requires start { reader_state input.old ≡ st.StartRecord }
+    ensures schema { IfOk result (λ layout. layout.schema ≡ schema.now) }
+    ensures header { IfOk result (λ layout. is_header schema.now layout.header ≡ true) }
+    ensures behind { IfOk result (λ layout. IfSome (source_of R.remaining input.old) (StandsAfter R.remaining layout input.new)) }
+    ensures bad_header { result ≡ Err SourceFault.BadHeader → IfSome (source_of R.remaining input.old) (HasNoHeader schema.now) }
+    ensures short { result ≢ Err SourceFault.TooLong }
+    ensures plain { OnOk result (IsPlain input.new) }
+{
+    let mut header = ByteRecord::new(alloc);
+    match read_next(input, &mut header) {
+        Err(fault) => return Err(fault),
+        Ok(false) => return Err(SourceFault::BadHeader),
+        Ok(true) => {}
+    }
+    match Layout::new(alloc, schema, header) {
+        Err(_) => Err(SourceFault::NoMemory),
+        Ok(None) => Err(SourceFault::BadHeader),
+        Ok(Some(layout)) => Ok(layout),
+    }
+}
+
+/// Takes records until one is good, and returns its row; none where no record is left.
+fn take_row<R: Read + Drop>(
+    alloc: Global,
+    layout: &Layout,
+    input: &mut Reader<R>,
+    record: &mut ByteRecord,
+    tally: &mut Tally,
+) -> Result<Option<Row>, SourceFault>
+    requires plain { IsPlain input.old }
+    requires tally { IsTally tally.old }
+    ensures given { IfOk result (HasGiven R.remaining layout.now input.old input.new tally.old tally.new) }
+    ensures stopped { IfErr result (λ fault. HasStopped R.remaining layout.now input.old tally.old tally.new fault) }
+    ensures plain { OnOk result (IsPlain input.new) }
+    ensures tally { IsTally tally.new }
+{
+    'records: for passed in tally.passed..MAX_RECORDS {
+        match read_next(input, record) {
+            Err(fault) => return Err(fault),
+            Ok(false) => return Ok(None),
+            Ok(true) => {}
+        }
+        let Ok(found) = layout.read(alloc, record) else {
+            return Err(SourceFault::NoMemory);
+        };
+        tally.passed = passed + 1;
+        if let Some(row) = found {
+            return Ok(Some(row));
+        }
+        tally.bad += 1;
+    }
+    match read_next(input, record) {
+        Err(fault) => Err(fault),
+        Ok(false) => Ok(None),
+        Ok(true) => Err(SourceFault::TooLong),
+    }
+}
+
+/// Reads the next record, and returns whether there was one.
+fn read_next<R: Read + Drop>(
+    input: &mut Reader<R>,
+    record: &mut ByteRecord,
+) -> Result<bool, SourceFault>
+    requires plain { IsPlain input.old }
+    ensures reads { IfOk result (λ found. ReadRecord R.remaining input.old input.new found (fields_of record.new)) }
+    ensures plain { OnOk result (IsPlain input.new) }
+    ensures fault { IfErr result (λ fault. (fault ≢ SourceFault.TooLong) × (fault ≢ SourceFault.BadHeader)) }
+{
+    match input.read_byte_record(record) {
+        Ok(found) => Ok(found),
+        Err(error) => Err(if error.is_io_error() {
+            SourceFault::Read
+        } else {
+            SourceFault::NoMemory
+        }),
+    }
+}
