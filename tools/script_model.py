@@ -8,6 +8,7 @@ machine as it then stands.
 import sys
 from collections import namedtuple
 from functools import lru_cache
+from math import prod
 
 NO_MEMORY = b"no memory"
 BAD = b"bad"
@@ -20,13 +21,21 @@ LARGEST_FEEDER = 2**32 - 1
 LARGEST_LIMIT = 2**32
 LARGEST_CAPACITY = 65_536
 LARGEST_WIDTH = 63
-MOST_COLUMNS = 1
-MOST_FEEDERS = 1
+LARGEST_BASE = 1_024
+LARGEST_SUM_OF_BASES = 4_096
+LARGEST_SIZE = 2**63
+MOST_BASES = 63
+MOST_COLUMNS = 64
+MOST_FEEDERS = 64
+MOST_FIELDS = 1_000
 MOST_RECORDS = 1_000_000
+
+# (each field of a predicate may be a call within a call)
+sys.setrecursionlimit(10 * MOST_FIELDS)
 
 # What a record may be answered: the usual line, whether memory may be refused in its place, and the change it makes.
 Step = namedtuple("Step", "line may_lack_memory change")
-Column = namedtuple("Column", "name size")
+Column = namedtuple("Column", "name least size")
 
 
 # ---- Bytes to records ----
@@ -111,10 +120,23 @@ def read_number(field):
     return value if value <= LARGEST_NUMBER else None
 
 
+def read_signed(field):
+    """Returns the whole number that the field spells, with one minus sign before it or none, or None."""
+    value = read_number(field[1:] if field[:1] == b"-" else field)
+    return -value if value is not None and field[:1] == b"-" else value
+
+
 def number_within(field, least, most):
     """Returns the number that the field spells, or None where it is no number from least to most."""
     value = read_number(field)
     return value if value is not None and least <= value <= most else None
+
+
+def read_bases(field):
+    """Returns the bases that the field spells, with one space between two, or None where they can't be had."""
+    bases = [number_within(part, 2, LARGEST_BASE) for part in field.split(b" ")]
+    can_be_had = None not in bases and len(bases) <= MOST_BASES and sum(bases) <= LARGEST_SUM_OF_BASES
+    return bases if can_be_had and prod(bases) <= LARGEST_SIZE else None
 
 
 def is_name(field):
@@ -130,9 +152,9 @@ def read_feeder(field):
     return None if value is None else min(value, LARGEST_FEEDER)
 
 
-def read_values(fields):
+def read_values(fields, read):
     """Returns the row that the fields spell, with None at a null, or None where one is no value."""
-    values = [None if field == b"" else read_number(field) for field in fields]
+    values = [None if field == b"" else read(field) for field in fields]
     spelled = all(field == b"" or value is not None for field, value in zip(fields, values))
     return values if spelled else None
 
@@ -141,7 +163,11 @@ def read_values(fields):
 
 SIGNS = {
     b"=": lambda value, constant: value == constant,
+    b"!=": lambda value, constant: value != constant,
+    b"<": lambda value, constant: value < constant,
     b"<=": lambda value, constant: value <= constant,
+    b">": lambda value, constant: value > constant,
+    b">=": lambda value, constant: value >= constant,
 }
 
 
@@ -159,6 +185,7 @@ class Machine:
 
     def __init__(self):
         self.columns = []
+        self.is_signed = False
         self.feeders = []
         self.limit = LARGEST_LIMIT
         self.has_begun = False
@@ -177,9 +204,15 @@ class Machine:
         return names.index(name) if name in names else None
 
     def fits(self, row):
-        """Returns whether the row has one value for each column, each null or below that column's size."""
+        """Returns whether the row has one value for each column, each null or one of those that the column takes."""
         is_as_long = len(row) == len(self.columns)
-        return is_as_long and all(v is None or v < column.size for v, column in zip(row, self.columns))
+        return is_as_long and all(
+            v is None or column.least <= v < column.least + column.size for v, column in zip(row, self.columns)
+        )
+
+    def read(self, field):
+        """Returns the number that the field spells, with a sign where a column was declared with one."""
+        return read_signed(field) if self.is_signed else read_number(field)
 
 
 def nothing():
@@ -196,16 +229,26 @@ def refused(line):
 
 def read_size(form, field):
     """Returns the size of the column that the form and the field declare, or None."""
-    width = number_within(field, 1, LARGEST_WIDTH) if form == b"slices" else None
-    return None if width is None else 2**width
+    if form == b"slices":
+        width = number_within(field, 1, LARGEST_WIDTH)
+        return None if width is None else 2**width
+    bases = read_bases(field) if form in (b"equality", b"range") else None
+    return None if bases is None else prod(bases)
 
 
 def setup_column(machine, fields):
-    size = read_size(fields[1], fields[2]) if len(fields) == 3 else None
-    is_new = size is not None and is_name(fields[0]) and machine.position(fields[0]) is None
-    if not is_new or len(machine.columns) == MOST_COLUMNS:
+    size = read_size(fields[1], fields[2]) if len(fields) in (3, 4) else None
+    least = 0 if len(fields) < 4 else read_signed(fields[3])
+    if size is None or least is None or not -(2**63) <= least <= 2**63 - size:
         return None
-    return ok(lambda: machine.columns.append(Column(fields[0], size)))
+    if not is_name(fields[0]) or machine.position(fields[0]) is not None or len(machine.columns) == MOST_COLUMNS:
+        return None
+
+    def declare():
+        machine.columns.append(Column(fields[0], least, size))
+        machine.is_signed |= len(fields) == 4
+
+    return ok(declare)
 
 
 def setup_feeder(machine, fields):
@@ -234,7 +277,7 @@ def at_feeder(machine, fields, run):
 
 
 def run_submit(machine, fields):
-    row = read_values(fields[1:])
+    row = read_values(fields[1:], machine.read)
 
     def submit(place, feeder):
         if feeder.is_closed:
@@ -271,24 +314,106 @@ def run_close(machine, fields):
 
 def read_predicate(machine, fields):
     """Returns a function from a row to whether it is selected, or None where the fields spell no predicate."""
-    if len(fields) != 3:
+    if not 1 <= len(fields) <= MOST_FIELDS:
         return None
-    place, sign, constant = machine.position(fields[0]), SIGNS.get(fields[1]), read_number(fields[2])
-    if place is None or sign is None or constant is None:
-        return None
-    return lambda row: row[place] is not None and sign(row[place], constant)
+    found, at = [], 0
+    while at < len(fields):
+        taken = take_part(machine, fields[at:], found)
+        if not taken:
+            return None
+        at += taken
+    return found[0] if len(found) == 1 else None
+
+
+def take_part(machine, fields, found):
+    """Puts what the first fields spell behind the tests found so far, or in the place of those that it joins. Returns
+    how many fields that takes, or 0 where they spell nothing."""
+    word = fields[0]
+    if word == b"all":
+        found.append(lambda row: True)
+        return 1
+    if word == b"not" and found:
+        test = found.pop()
+        found.append(lambda row: not test(row))
+        return 1
+    if word in (b"and", b"or") and len(found) > 1:
+        second, first = found.pop(), found.pop()
+        join = all if word == b"and" else any
+        found.append(lambda row: join((first(row), second(row))))
+        return 1
+    return take_comparison(machine, fields, found)
+
+
+def take_comparison(machine, fields, found):
+    """Does the same for fields that begin with the name of a column."""
+    place = machine.position(fields[0])
+    if place is None or len(fields) < 2:
+        return 0
+    if fields[1] == b"null":
+        found.append(lambda row: row[place] is None)
+        return 2
+    sign, constant = SIGNS.get(fields[1]), machine.read(fields[2]) if len(fields) > 2 else None
+    if sign is None or constant is None:
+        return 0
+    found.append(lambda row: row[place] is not None and sign(row[place], constant))
+    return 3
+
+
+def selected(machine, fields):
+    """Returns the places of the rows that the fields select, or None where they spell no predicate."""
+    selects = read_predicate(machine, fields)
+    return selects and [at for at, (_, row) in enumerate(machine.indexed) if selects(row)]
 
 
 def run_count(machine, fields):
-    selects = read_predicate(machine, fields)
-    if selects is None:
+    places = selected(machine, fields)
+    return None if places is None else Step(b"count %d" % len(places), True, nothing)
+
+
+def run_list(machine, fields):
+    places = selected(machine, fields)
+    if places is None:
         return None
-    found = sum(1 for _, row in machine.indexed if selects(row))
-    return Step(b"count %d" % found, True, nothing)
+    sources = [feeder for feeder, _ in machine.indexed]
+    pairs = [b" %d:%d" % (sources[at], sources[:at].count(sources[at])) for at in places]
+    return Step(b"rows" + b"".join(pairs), True, nothing)
+
+
+def run_total(total):
+    """Returns what runs a query for the total of a column's numbers."""
+
+    def run(machine, fields):
+        place = machine.position(fields[0]) if fields else None
+        places = None if place is None else selected(machine, fields[1:])
+        if places is None:
+            return None
+        numbers = sorted(row[place] for _, row in map(machine.indexed.__getitem__, places) if row[place] is not None)
+        return Step(total(numbers), True, nothing)
+
+    return run
+
+
+def sum_line(numbers):
+    return b"sum %d" % sum(numbers)
+
+
+def value_line(place):
+    """Returns what writes the number at a place, as a function of how many there are, of sorted numbers."""
+    return lambda numbers: b"value %d" % numbers[place(len(numbers))] if numbers else b"none"
 
 
 SETUP = {b"column": setup_column, b"feeder": setup_feeder, b"limit": setup_limit, b"begin": setup_begin}
-RUNNING = {b"submit": run_submit, b"load": run_load, b"close": run_close, b"count": run_count}
+RUNNING = {
+    b"submit": run_submit,
+    b"load": run_load,
+    b"close": run_close,
+    b"count": run_count,
+    b"list": run_list,
+    b"sum": run_total(sum_line),
+    b"least": run_total(value_line(lambda count: 0)),
+    b"greatest": run_total(value_line(lambda count: count - 1)),
+    b"median": run_total(value_line(lambda count: (count - 1) // 2)),
+}
 
 
 # ---- Whole scripts ----

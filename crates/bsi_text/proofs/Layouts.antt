@@ -40,14 +40,14 @@ pub place_next : (fields : List Field) (i : ℕ) (name : Field) → i < length f
 place_next fields i name within other before =
     let rest = place_of (drop (i + 1) fields) name in
     let step : place_of (drop i fields) name ≡ 1 + rest =
-        at_drop_more (λ fs. place_of fs name) fields i [] within ∙ ap (λ b. cond (not b) (1 + rest) 0) other in
+    at_drop_more (λ fs. place_of fs name) fields i [] within ∙ ap (λ b. cond (not b) (1 + rest) 0) other in
     omega (arith, before, step)
 
 pub place_here : (fields : List Field) (i : ℕ) (name : Field) → i < length fields → bytes_eq (get_or fields i []) name ≡ true
     → place_of fields name ≡ i + place_of (drop i fields) name → i ≡ place_of fields name
 place_here fields i name within same before =
     let step : place_of (drop i fields) name ≡ 0 =
-        at_drop_more (λ fs. place_of fs name) fields i [] within ∙ ap (λ b. cond (not b) (1 + place_of (drop (i + 1) fields) name) 0) same in
+    at_drop_more (λ fs. place_of fs name) fields i [] within ∙ ap (λ b. cond (not b) (1 + place_of (drop (i + 1) fields) name) 0) same in
     omega (arith, before, step)
 
 pub place_nowhere : (fields : List Field) (i : ℕ) (name : Field) → length fields ≡ i

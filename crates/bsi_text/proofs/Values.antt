@@ -23,7 +23,7 @@ module _ (whole : Option (List ℕ)) (fields : List Field) (i : ℕ) (read : Lis
   smalls_next n within this =
       let rest = smalls_of (drop (i + 1) fields) in
       let step : smalls_of (drop i fields) ≡ option_map (λ more. n ∷ more) rest =
-          at_drop_more smalls_of fields i [] within ∙ ap (λ o. option_and_then (λ m. option_map (λ more. m ∷ more) rest) o) this in
+      at_drop_more smalls_of fields i [] within ∙ ap (λ o. option_and_then (λ m. option_map (λ more. m ∷ more) rest) o) this in
       before ∙ ap (behind read) step ∙ behind_next read n rest
 
   pub smalls_stop : i < length fields → small_of (get_or fields i []) ≡ None → None ≡ whole
@@ -31,7 +31,7 @@ module _ (whole : Option (List ℕ)) (fields : List Field) (i : ℕ) (read : Lis
   smalls_stop within this =
       let rest = smalls_of (drop (i + 1) fields) in
       let step : smalls_of (drop i fields) ≡ None =
-          at_drop_more smalls_of fields i [] within ∙ ap (λ o. option_and_then (λ m. option_map (λ more. m ∷ more) rest) o) this in
+      at_drop_more smalls_of fields i [] within ∙ ap (λ o. option_and_then (λ m. option_map (λ more. m ∷ more) rest) o) this in
       sym (before ∙ ap (behind read) step)
 
   pub smalls_done : length fields ≤ i → Some read ≡ whole
@@ -48,7 +48,7 @@ module _ (signed : Bool) (whole : Option (List (Option ℤ))) (fields : List Fie
   values_next value within this =
       let rest = values_in signed (drop (i + 1) fields) in
       let step : values_in signed (drop i fields) ≡ option_map (λ more. value ∷ more) rest =
-          at_drop_more (values_in signed) fields i [] within ∙ ap (λ o. option_and_then (λ v. option_map (λ more. v ∷ more) rest) o) this in
+      at_drop_more (values_in signed) fields i [] within ∙ ap (λ o. option_and_then (λ v. option_map (λ more. v ∷ more) rest) o) this in
       before ∙ ap (behind read) step ∙ behind_next read value rest
 
   pub values_stop : i < length fields → value_in signed (get_or fields i []) ≡ None → None ≡ whole
@@ -56,7 +56,7 @@ module _ (signed : Bool) (whole : Option (List (Option ℤ))) (fields : List Fie
   values_stop within this =
       let rest = values_in signed (drop (i + 1) fields) in
       let step : values_in signed (drop i fields) ≡ None =
-          at_drop_more (values_in signed) fields i [] within ∙ ap (λ o. option_and_then (λ v. option_map (λ more. v ∷ more) rest) o) this in
+      at_drop_more (values_in signed) fields i [] within ∙ ap (λ o. option_and_then (λ v. option_map (λ more. v ∷ more) rest) o) this in
       sym (before ∙ ap (behind read) step)
 
   pub values_done : length fields ≤ i → Some read ≡ whole

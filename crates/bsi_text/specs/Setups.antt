@@ -1,12 +1,13 @@
 -- What the records before `begin` declare, by the lists of their fields.
-use Rattle.std.specs.Prelude.{ℕ, ◌^◌, Bool, true, false, ◌&&◌, nat_lt, if◌then◌else◌, List, [], ◌∷◌, ◌++◌, length, reverse, Option, Some, None, option_map, option_and_then, codes, ℤ, pos, ◌+ℤ◌, int_le}
+use Rattle.std.specs.Prelude.{◌≡◌, is_some, unwrap_or, ℕ, ◌^◌, ◌≤◌, All, Bool, true, false, ◌&&◌, nat_lt, if◌then◌else◌, List, [], ◌∷◌, ◌++◌, length, reverse, Option, Some, None, option_map, option_and_then, codes, ℤ, pos, ◌+ℤ◌, int_le}
 use Rattle.std.specs.Option.{is_none}
 use Rattle.std.specs.Str.{bytes_eq}
 use Rattle.bsi_digits.specs.Refusal.{refusal}
+use Rattle.bsi_table.specs.declared.form.ColumnSpec.{ColumnSpec}
 use Rattle.bsi_table.specs.declared.form.Form.{Form}
 use Rattle.bsi_table.specs.declared.form.Form.TheVariants.{Slices, Equality, Range}
-use Rattle.bsi_table.specs.Columns.{Declared, named_column, no_columns, size_in, with_column}
-use Rattle.bsi_table.specs.Refusals.{name_refusal}
+use Rattle.bsi_table.specs.Columns.{Declared, form_of, named_column, no_columns, size_in, with_column}
+use Rattle.bsi_table.specs.Refusals.{form_refusal, name_refusal}
 use Rattle.bsi_text.specs.Numbers.{Field, bases_of, number_within, offset_of}
 
 -- what was declared so far: the columns, the capacity of each feeder, and the most rows of the index
@@ -84,3 +85,24 @@ is_begin fields = false
 -- a script can begin: there are a column and a feeder
 abbrev pub can_begin : Setup → Bool
 can_begin setup = nat_lt 0 (length setup.schema.columns) && nat_lt 0 (length setup.capacities)
+
+-- ---- words of the functions that do records
+
+-- the form that is asked for, if its bases can be had
+abbrev pub form_had : ColumnSpec → Option Form
+form_had spec = if is_none (form_refusal spec) then Some (form_of spec) else None
+
+-- the columns after one more, of the form that is asked for
+abbrev pub added_after : Declared → Field → Bool → ColumnSpec → ℤ → Option Declared
+added_after schema name signed spec offset = option_and_then (λ f. one_more schema name signed f offset) (form_had spec)
+
+-- a record was done, so that `new` stands; or it can't be done, and `old` still stands
+abbrev pub IsChange : {T : Type 0} → Option T → T → T → Bool → Type 0
+IsChange after old new done = (done ≡ is_some after) × (new ≡ unwrap_or after old)
+
+-- what a setup keeps: at most 64 feeders, each capacity from 1 to 65,536, and a limit from 1 to 2^32
+pub record IsSetup (capacities : List ℕ) (limit : ℕ) : Type 0 where
+  pub few : length capacities ≤ 64
+  pub each : All (λ n. (1 ≤ n) × (n ≤ 65536)) capacities
+  pub some : 1 ≤ limit
+  pub most : limit ≤ 4294967296

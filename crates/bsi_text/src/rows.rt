@@ -71,7 +71,7 @@ pub struct RowSource<R: Read + Drop> {
     alloc: Global,
     layout: Layout,
     input: Reader<R>,
-    record: ByteRecord,
+    fields: ByteRecord,
     tally: Tally,
     progress: Progress,
 }
@@ -109,7 +109,7 @@ impl<R: Read + Drop> RowSource<R> {
             alloc,
             layout,
             input,
-            record: ByteRecord::new(alloc),
+            fields: ByteRecord::new(alloc),
             tally: Tally { passed: 0, bad: 0 },
             progress: Progress::Open,
         })
@@ -134,7 +134,7 @@ impl<R: Read + Drop> RowSource<R> {
             self.alloc,
             &self.layout,
             &mut self.input,
-            &mut self.record,
+            &mut self.fields,
             &mut self.tally,
         );
         self.progress = match &found {
@@ -187,7 +187,7 @@ fn take_row<R: Read + Drop>(
     alloc: Global,
     layout: &Layout,
     input: &mut Reader<R>,
-    record: &mut ByteRecord,
+    fields: &mut ByteRecord,
     tally: &mut Tally,
 ) -> Result<Option<Row>, SourceFault>
     requires plain { IsPlain input.old }
@@ -198,12 +198,12 @@ fn take_row<R: Read + Drop>(
     ensures tally { IsTally tally.new }
 {
     'records: for passed in tally.passed..MAX_RECORDS {
-        match read_next(input, record) {
+        match read_next(input, fields) {
             Err(fault) => return Err(fault),
             Ok(false) => return Ok(None),
             Ok(true) => {}
         }
-        let Ok(found) = layout.read(alloc, record) else {
+        let Ok(found) = layout.read(alloc, fields) else {
             return Err(SourceFault::NoMemory);
         };
         tally.passed = passed + 1;
@@ -212,7 +212,7 @@ fn take_row<R: Read + Drop>(
         }
         tally.bad += 1;
     }
-    match read_next(input, record) {
+    match read_next(input, fields) {
         Err(fault) => Err(fault),
         Ok(false) => Ok(None),
         Ok(true) => Err(SourceFault::TooLong),
@@ -222,14 +222,14 @@ fn take_row<R: Read + Drop>(
 /// Reads the next record, and returns whether there was one.
 fn read_next<R: Read + Drop>(
     input: &mut Reader<R>,
-    record: &mut ByteRecord,
+    fields: &mut ByteRecord,
 ) -> Result<bool, SourceFault>
     requires plain { IsPlain input.old }
-    ensures reads { IfOk result (λ found. ReadRecord R.remaining input.old input.new found (fields_of record.new)) }
+    ensures reads { IfOk result (λ found. ReadRecord R.remaining input.old input.new found (fields_of fields.new)) }
     ensures plain { OnOk result (IsPlain input.new) }
     ensures fault { IfErr result (λ fault. (fault ≢ SourceFault.TooLong) × (fault ≢ SourceFault.BadHeader)) }
 {
-    match input.read_byte_record(record) {
+    match input.read_byte_record(fields) {
         Ok(found) => Ok(found),
         Err(error) => Err(if error.is_io_error() {
             SourceFault::Read

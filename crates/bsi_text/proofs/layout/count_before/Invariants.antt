@@ -1,4 +1,4 @@
-use Rattle.std.proofs.Common.{◌≡◌, ◌+◌, drop, not}
+use Rattle.std.proofs.Common.{◌≡◌, ◌+◌, drop}
 use Rattle.csv.specs.Records.{fields_of}
 use Rattle.bsi_text.specs.RowFiles.{place_of}
 use Rattle.bsi_text.proofs.layout.count_before.Given as goal

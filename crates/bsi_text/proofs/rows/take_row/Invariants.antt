@@ -1,4 +1,3 @@
-use Rattle.std.proofs.Common.{◌≡◌, []}
 use Rattle.bsi_text.proofs.Taking.{AreTaken}
 use Rattle.bsi_text.proofs.rows.take_row.Given as goal
 

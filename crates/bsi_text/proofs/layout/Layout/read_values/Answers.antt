@@ -1,4 +1,4 @@
-use Rattle.std.proofs.Common.{◌≡◌, ◌+◌, Some, ap, ap₂, sym, subst, ◌∙◌}
+use Rattle.std.proofs.Common.{◌+◌, Some, ap, ap₂, sym, subst, ◌∙◌}
 use Rattle.std.specs.Vec.{vec_capacity}
 use Rattle.csv.specs.Records.{fields_of}
 use Rattle.bsi_text.specs.Numbers.{value_in, values_in}
@@ -12,7 +12,7 @@ returns-in_default c =
     let inside = c.self.inside in
     let places = c.deref-place-items.ensures.value ∙ c.self.invariant in
     let order = ordered inside.schema (fields_of inside.header) fields c.deref-place-items.result.now places
-        ∙ ap (λ l. in_order l.schema l.header fields) c.self.view_is in
+    ∙ ap (λ l. in_order l.schema l.header fields) c.self.view_is in
     let signed = c.signed-signed.ensures ∙ ap (λ l. l.schema.signed) c.self.view_is in
     let missing = ap (value_in c.signed-signed.result) (sym c.field.ensures) ∙ sym c.read_value.ensures ∙ c.in_default.is in
     value_stop _ _ _ _ _ _ c.places.invariant c.places-test.true missing ∙ ap₂ values_in signed order
@@ -30,6 +30,6 @@ returns c =
     let inside = c.self.inside in
     let places = c.deref-place-items.ensures.value ∙ c.self.invariant in
     let order = ordered inside.schema (fields_of inside.header) fields c.deref-place-items.result.now places
-        ∙ ap (λ l. in_order l.schema l.header fields) c.self.view_is in
+    ∙ ap (λ l. in_order l.schema l.header fields) c.self.view_is in
     let signed = c.signed-signed.ensures ∙ ap (λ l. l.schema.signed) c.self.view_is in
     ap Some c.new.ensures ∙ value_done _ _ _ _ _ _ c.places.invariant c.places-test.false ∙ ap₂ values_in signed order

@@ -1,4 +1,3 @@
-use Rattle.std.proofs.Common.{◌≡◌}
 use Rattle.std.specs.Vec.{vec_capacity}
 use Rattle.csv.specs.Records.{fields_of}
 use Rattle.bsi_text.proofs.Layouts.{IsRead}

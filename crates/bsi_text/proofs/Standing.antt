@@ -1,0 +1,171 @@
+-- Where the loop of a script stands: the records that were read, and the lines that were written.
+use Rattle.std.proofs.Common.{◌≡◌, ℕ, ◌+◌, ◌≤◌, Bool, true, false, List, [], ◌∷◌, ◌++◌, length, min, take, Option, Some, None, Result, Ok, Err, is_some, refl, ap, sym, ◌∙◌, subst, arith, append_assoc}
+use Rattle.std.specs.Prelude.{IsSome, IsTrue, IfErr, OnErr, ◌≢◌}
+use Rattle.std.specs.Io.KnownBytes.{Appends}
+use Rattle.std.specs.List.{concat}
+use Rattle.std.proofs.lemmas.List.{append-nil, length-append, take-append-le, take_all, take_min}
+use Rattle.std.proofs.lemmas.List.Folds.{concat-append}
+use Rattle.std.proofs.lemmas.List.Elements.{All-nil}
+use Rattle.std.proofs.Math.Seq.{take-append-add}
+use Rattle.csv.proofs.ReadFacts.{rows-end, rows-more}
+use Rattle.csv.proofs.WriteFacts.{appends-more, appends-none}
+use Rattle.csv.specs.Machine.{Read, next_record}
+use Rattle.csv.specs.Reading.{NextIs, ReadRecord, ReadsNext, Reached, default_config, reader_config, reader_state, source_of, strip_bom}
+use Rattle.csv.specs.declared.parser.Config.{Config}
+use Rattle.csv.specs.declared.parser.State.{State}
+use Rattle.csv.specs.declared.parser.State.TheVariants as st
+use Rattle.csv.specs.declared.reader.Reader.{Reader}
+use Rattle.bsi_table.specs.Columns.{NamedColumn}
+use Rattle.bsi_table.specs.Names.{is_name}
+use Rattle.bsi_text.specs.Numbers.{Field}
+use Rattle.bsi_text.specs.Scripts.{Stage, Declaring, IsTurn, AreTurns}
+use Rattle.bsi_text.specs.Setups.{nothing_declared}
+use Rattle.bsi_text.specs.Texts.{AreFirstRecords, IsAnswered, IsBegun, IsStopped, IsTooLong}
+use Rattle.bsi_text.proofs.AllRecords.{all_records, records_behind, records_end}
+use Rattle.bsi_text.proofs.Named.{turns_named}
+use Rattle.bsi_text.proofs.Turns.{extended, no_turn, one_turn, turns_behind}
+
+-- so many records were read, and the lines of all of them were written
+pub record StandsAt (stage : Stage) (bytes : List ℕ) (state : State) (source : Option (List ℕ)) (count : ℕ) (before after : Option (List ℕ)) : Type 0 where
+  pub rest : List ℕ
+  pub records : List (List Field)
+  pub lines : List (List ℕ)
+  pub left : source ≡ Some rest
+  pub first : AreFirstRecords bytes records state rest
+  pub many : length records ≡ count
+  pub run : AreTurns (Declaring nothing_declared) records lines stage
+  pub written : Appends before after (concat lines)
+
+pub stands_first : (stage : Stage) (bytes : List ℕ) (state : State) (source : Option (List ℕ)) (before : Option (List ℕ))
+    → stage ≡ Declaring nothing_declared → state ≡ st.StartRecord → source ≡ Some (strip_bom bytes) → StandsAt stage bytes state source 0 before before
+unfolding Reached
+stands_first stage bytes state source before first start left = record {
+  rest = strip_bom bytes;
+  records = [];
+  lines = [];
+  left = left;
+  first = (sym start, refl);
+  many = refl;
+  run = subst (AreTurns (Declaring nothing_declared) [] []) (sym first) (no_turn (Declaring nothing_declared));
+  written = appends-none before;
+}
+
+concat_one : (line : List ℕ) → concat (line ∷ []) ≡ line
+concat_one line = append-nil line
+
+concat_more : (lines : List (List ℕ)) (line : List ℕ) → concat (lines ++ line ∷ []) ≡ concat lines ++ line
+concat_more lines line = concat-append lines (line ∷ []) ∙ ap (λ last. concat lines ++ last) (concat_one line)
+
+-- a part of the lines of the first records is one of those of all records
+begun : (stage : Stage) (bytes : List ℕ) (state : State) (rest : List ℕ) (records : List (List Field)) (lines : List (List ℕ)) (n : ℕ) (before after : Option (List ℕ))
+    → AreFirstRecords bytes records state rest → AreTurns (Declaring nothing_declared) records lines stage → n ≤ length (concat lines)
+    → Appends before after (take n (concat lines)) → IsBegun bytes before after
+begun stage bytes state rest records lines n before after first run within written =
+    let more = all_records default_config state rest in
+    let named = turns_named (Declaring nothing_declared) records lines stage (All-nil (λ (column : NamedColumn). IsTrue (is_name column.name))) run in
+    let others = extended stage more.records named in
+    let part : take n (concat lines) ≡ take n (concat (lines ++ others.0)) =
+    sym (ap (take n) (concat-append lines others.0) ∙ take-append-le n (concat lines) (concat others.0) within) in
+    record {
+      records = records ++ more.records;
+      all = records_behind default_config st.StartRecord state (strip_bom bytes) rest records more.records first more.are;
+      written = (
+        lines ++ others.0,
+        n,
+        (others.1, turns_behind (Declaring nothing_declared) stage others.1 records more.records lines others.0 run others.2),
+        subst (Appends before after) part written,
+      );
+    }
+
+-- no more than the lines of all records so far was written
+pub stands_cut : (stage : Stage) (bytes : List ℕ) (state : State) (source : Option (List ℕ)) (count : ℕ) (before after : Option (List ℕ))
+    → StandsAt stage bytes state source count before after → IsBegun bytes before after
+stands_cut stage bytes state source count before after stands =
+    let all = concat stands.lines in
+    begun stage bytes state stands.rest stands.records stands.lines (length all) before after stands.first stands.run (omega arith)
+    (subst (Appends before after) (sym (take_all (length all) all (omega arith))) stands.written)
+
+-- what a read that found a record says of the bytes before it
+next_is : (o : Option Read) (fields : List Field) (state : State) (rest : List ℕ) → NextIs o true fields state rest → IsSome o
+next_is None fields state rest next = sym next
+next_is (Some p) fields state rest next = refl
+
+there_is : (cfg : Config) (s : State) (xs : List ℕ) (k : Option (List ℕ)) (fields : List Field) (s2 : State) → ReadsNext cfg s (Some xs) k true fields s2 → IsSome (next_record cfg s [] [] xs)
+there_is cfg s xs None fields s2 reads = absurd reads
+there_is cfg s xs (Some ys) fields s2 reads = next_is (next_record cfg s [] [] xs) fields s2 ys reads
+
+-- what was written are whole lines
+pub stands_stopped : (stage : Stage) (bytes : List ℕ) (state : State) (source : Option (List ℕ)) (count : ℕ) (before after : Option (List ℕ))
+    → StandsAt stage bytes state source count before after → IsStopped bytes before after
+stands_stopped stage bytes state source count before after stands = record {
+  records = stands.records;
+  state = state;
+  rest = stands.rest;
+  first = stands.first;
+  written = (stands.lines, (stage, stands.run), stands.written);
+}
+
+module _ {R : Type 0} (rem : R → Option (List ℕ)) (a b : Reader R) (fields : List Field) (stage : Stage) (bytes : List ℕ) (count : ℕ) (before middle : Option (List ℕ))
+    (stands : StandsAt stage bytes (reader_state a) (source_of rem a) count before middle) (config : reader_config a ≡ default_config) where
+  -- one more record, and its line
+  pub stands_next : (next : Stage) (line : List ℕ) (after : Option (List ℕ)) → ReadRecord rem a b true fields → IsTurn stage fields line next → Appends middle after line
+      → StandsAt next bytes (reader_state b) (source_of rem b) (count + 1) before after
+  stands_next next line after reads turn writes =
+      let more = rows-more rem a b fields default_config st.StartRecord (strip_bom bytes) stands.rest stands.records config stands.left stands.first reads in
+      record {
+        rest = more.0;
+        records = stands.records ++ fields ∷ [];
+        lines = stands.lines ++ line ∷ [];
+        left = more.1;
+        first = more.2;
+        many = length-append stands.records (fields ∷ []) ∙ ap (λ n. n + 1) stands.many;
+        run = turns_behind (Declaring nothing_declared) stage next stands.records (fields ∷ []) stands.lines (line ∷ []) stands.run (one_turn stage fields line next turn);
+        written = subst (Appends before after) (sym (concat_more stands.lines line)) (appends-more before middle after (concat stands.lines) line stands.written writes);
+      }
+
+  -- one more record, and a first part of its line
+  pub stands_part : (next : Stage) (line : List ℕ) (after : Option (List ℕ)) (n : ℕ) → ReadRecord rem a b true fields → IsTurn stage fields line next → Appends middle after (take n line)
+      → IsBegun bytes before after
+  stands_part next line after n reads turn writes =
+      let more = rows-more rem a b fields default_config st.StartRecord (strip_bom bytes) stands.rest stands.records config stands.left stands.first reads in
+      let all = concat stands.lines in
+      let m : ℕ = min n (length line) in
+      let short : take m line ≡ take n line = take_min n line in
+      let whole : concat (stands.lines ++ line ∷ []) ≡ all ++ line = concat_more stands.lines line in
+      let part : take (length all + m) (concat (stands.lines ++ line ∷ [])) ≡ all ++ take n line =
+      ap (take (length all + m)) whole ∙ take-append-add all line m ∙ ap (λ last. all ++ last) short in
+      let within : length all + m ≤ length (concat (stands.lines ++ line ∷ [])) = omega (arith, ap length whole, length-append all line) in
+      begun next bytes (reader_state b) more.0 (stands.records ++ fields ∷ []) (stands.lines ++ line ∷ []) (length all + m) before after more.2
+      (turns_behind (Declaring nothing_declared) stage next stands.records (fields ∷ []) stands.lines (line ∷ []) stands.run (one_turn stage fields line next turn))
+      within
+      (subst (Appends before after) (sym part) (appends-more before middle after all (take n line) stands.written writes))
+
+  -- there is no more
+  pub stands_answered : ReadRecord rem a b false fields → count ≤ 1000000 → IsAnswered bytes before middle
+  stands_answered reads small = record {
+    records = stands.records;
+    all = records_end default_config st.StartRecord (reader_state a) (strip_bom bytes) stands.rest stands.records stands.first (rows-end rem a b fields default_config stands.rest config stands.left reads);
+    few = omega (arith, stands.many, small);
+    written = (stands.lines, (stage, stands.run), stands.written);
+  }
+
+  -- there is one more than may be
+  pub stands_long : ReadRecord rem a b true fields → count ≡ 1000000 → IsTooLong bytes before middle
+  stands_long reads many = record {
+    records = stands.records;
+    state = reader_state a;
+    rest = stands.rest;
+    first = stands.first;
+    many = stands.many ∙ many;
+    more = there_is default_config (reader_state a) stands.rest _ fields (reader_state b) (rw (config, stands.left) at reads.0);
+    written = (stands.lines, (stage, stands.run), stands.written);
+  }
+
+-- a fact that holds anyway
+pub on_err : {T E : Type 0} {P : Type 0} (r : Result T E) → P → OnErr r P
+on_err (Ok x) p = tt
+on_err (Err e) p = p
+
+pub if_err : {T E : Type 0} {P : Type 0} (wrong : E) (r : Result T E) → P → IfErr r (λ e. e ≢ wrong → P)
+if_err wrong (Ok x) p = tt
+if_err wrong (Err e) p = λ other. p

@@ -1,0 +1,61 @@
+-- What a script run leaves in its writer, by the bytes of its reader.
+use Rattle.std.specs.Prelude.{◌≡◌, ◌≤◌, ℕ, List, [], Option, Some, IsSome, take, length}
+use Rattle.std.specs.Io.KnownBytes.{Appends}
+use Rattle.std.specs.List.{concat}
+use Rattle.csv.specs.Machine.{next_record}
+use Rattle.csv.specs.Reading.{AreRecords, Reached, default_config, strip_bom}
+use Rattle.csv.specs.declared.parser.State.{State}
+use Rattle.csv.specs.declared.parser.State.TheVariants as st
+use Rattle.bsi_text.specs.Numbers.{Field}
+use Rattle.bsi_text.specs.Scripts.{IsScriptRun}
+
+-- these are all the records of a text, of which a byte order mark at its start is no part
+abbrev pub AreAllRecords : List ℕ → List (List Field) → Type 0
+AreAllRecords bytes records = AreRecords default_config st.StartRecord (strip_bom bytes) records
+
+-- these are its first records, and lead to this state before these bytes
+abbrev pub AreFirstRecords : List ℕ → List (List Field) → State → List ℕ → Type 0
+AreFirstRecords bytes records state rest = Reached default_config st.StartRecord (strip_bom bytes) records state rest
+
+-- the lines of a script run of records were put behind what a writer held
+abbrev pub WritesLines : Option (List ℕ) → Option (List ℕ) → List (List Field) → Type 0
+WritesLines before after records = (lines : List (List ℕ)) × IsScriptRun records lines × Appends before after (concat lines)
+
+-- a first part of them was
+abbrev pub WritesPart : Option (List ℕ) → Option (List ℕ) → List (List Field) → Type 0
+WritesPart before after records = (lines : List (List ℕ)) × (n : ℕ) × IsScriptRun records lines × Appends before after (take n (concat lines))
+
+-- the text has at most 1,000,000 records, and the lines of all of them were written
+pub record IsAnswered (bytes : List ℕ) (before after : Option (List ℕ)) : Type 0 where
+  pub records : List (List Field)
+  pub all : AreAllRecords bytes records
+  pub few : length records ≤ 1000000
+  pub written : WritesLines before after records
+
+-- the text has more than 1,000,000 records, and the lines of the first 1,000,000 were written
+pub record IsTooLong (bytes : List ℕ) (before after : Option (List ℕ)) : Type 0 where
+  pub records : List (List Field)
+  pub state : State
+  pub rest : List ℕ
+  pub first : AreFirstRecords bytes records state rest
+  pub many : length records ≡ 1000000
+  pub more : IsSome (next_record default_config state [] [] rest)
+  pub written : WritesLines before after records
+
+-- the whole lines of some first records of the text were written
+pub record IsStopped (bytes : List ℕ) (before after : Option (List ℕ)) : Type 0 where
+  pub records : List (List Field)
+  pub state : State
+  pub rest : List ℕ
+  pub first : AreFirstRecords bytes records state rest
+  pub written : WritesLines before after records
+
+-- a first part of the lines of a script run of all records of the text was written
+pub record IsBegun (bytes : List ℕ) (before after : Option (List ℕ)) : Type 0 where
+  pub records : List (List Field)
+  pub all : AreAllRecords bytes records
+  pub written : WritesPart before after records
+
+-- of the text that a reader is about to read, if it is known
+abbrev pub FromText : Option (List ℕ) → (List ℕ → Type 0) → Type 0
+FromText source P = (bytes : List ℕ) → source ≡ Some (strip_bom bytes) → P bytes

@@ -1,0 +1,152 @@
+//! A script: records from a reader, and one line for each to a writer.
+
+ghost use Rattle.std.specs.Prelude.{◌≡◌, ◌≢◌, ℕ, take, Err, OnOk, OnErr, IfErr, IfOk, IfSome};
+ghost use Rattle.std.specs.Io.KnownBytes.{Appends};
+ghost use Rattle.csv.specs.Records.{fields_of};
+ghost use Rattle.csv.specs.Reading.{ReadRecord, Ready, default_config, reader_config, reader_state, reader_trim, source_of};
+ghost use Rattle.csv.specs.declared.parser.State.TheVariants as st;
+ghost use Rattle.csv.specs.declared.reader.Trim.TheVariants as trim;
+ghost use Rattle.bsi_text.specs.Scripts.{Declaring, IsTurn};
+ghost use Rattle.bsi_text.specs.Sessions.{stage_of};
+ghost use Rattle.bsi_text.specs.Setups.{nothing_declared};
+ghost use Rattle.bsi_text.specs.Texts.{FromText, IsAnswered, IsBegun, IsStopped, IsTooLong};
+
+use crate::session::Session;
+use csv::{ByteRecord, Reader, ReaderBuilder};
+use std::alloc::Global;
+use std::io::{Read, Write};
+use thiserror::Error;
+
+/// The most records of a script.
+const MAX_RECORDS: u64 = 1_000_000;
+
+/// Why a script ends before its input does. The lines before it were written.
+#[derive(Clone, Copy, Debug, PartialEq, Eq, Error)]
+pub enum ScriptFault {
+    /// The reader failed.
+    #[error("bsi: read failed")]
+    Read,
+    /// The writer failed, or took no byte.
+    #[error("bsi: write failed")]
+    Write,
+    /// Reading a record, setting up or writing a line found no memory.
+    #[error("bsi: no memory")]
+    NoMemory,
+    /// There are more than 1,000,000 records.
+    #[error("bsi: input too long")]
+    TooLong,
+}
+
+/// Answers each record of the reader by a line to the writer, before it reads the next record.
+///
+/// At the end the lines of all records were written, which are at most 1,000,000. `TooLong` comes where there are more, and
+/// the lines of the first 1,000,000 were written. After every fault what was written is a first part of the lines that answer
+/// the whole text, and only `Write` cuts a line.
+///
+/// It keeps the script's columns, feeders and rows, the record at hand and its line. A load or a query that finds no memory is
+/// answered so; everything else that finds none is `NoMemory`.
+pub fn run_script<R: Read + Drop, W: Write>(
+    alloc: Global,
+    reader: R,
+    writer: &mut W,
+) -> Result<(), ScriptFault>
+    ensures ok { OnOk result (IfSome (R.remaining reader) (λ bytes. IsAnswered bytes (W.contents writer.old) (W.contents writer.new))) }
+    ensures too_long { result ≡ Err ScriptFault.TooLong → IfSome (R.remaining reader) (λ bytes. IsTooLong bytes (W.contents writer.old) (W.contents writer.new)) }
+    ensures fault { OnErr result (IfSome (R.remaining reader) (λ bytes. IsBegun bytes (W.contents writer.old) (W.contents writer.new))) }
+    ensures whole { IfErr result (λ fault. fault ≢ ScriptFault.Write → IfSome (R.remaining reader) (λ bytes. IsStopped bytes (W.contents writer.old) (W.contents writer.new))) }
+{
+    let mut input = ReaderBuilder::new()
+        .has_headers(false)
+        .flexible(true)
+        .from_reader(alloc, reader);
+    let mut session = Session::new(alloc);
+    let mut row = ByteRecord::new(alloc);
+    let mut line = Vec::new(alloc);
+    serve(alloc, &mut session, &mut input, &mut row, &mut line, writer)
+}
+
+/// Answers the records of a text, at most 1,000,000 of them.
+fn serve<R: Read + Drop, W: Write>(
+    alloc: Global,
+    session: &mut Session,
+    input: &mut Reader<R>,
+    row: &mut ByteRecord,
+    line: &mut Vec<u8>,
+    writer: &mut W,
+) -> Result<(), ScriptFault>
+    requires first { stage_of session.old ≡ Declaring nothing_declared }
+    requires plain { reader_trim input.old ≡ trim.None }
+    requires ready { Ready input.old }
+    requires config { reader_config input.old ≡ default_config }
+    requires start { reader_state input.old ≡ st.StartRecord }
+    ensures ok { OnOk result (FromText (source_of R.remaining input.old) (λ bytes. IsAnswered bytes (W.contents writer.old) (W.contents writer.new))) }
+    ensures too_long { result ≡ Err ScriptFault.TooLong → FromText (source_of R.remaining input.old) (λ bytes. IsTooLong bytes (W.contents writer.old) (W.contents writer.new)) }
+    ensures fault { OnErr result (FromText (source_of R.remaining input.old) (λ bytes. IsBegun bytes (W.contents writer.old) (W.contents writer.new))) }
+    ensures whole { IfErr result (λ fault. fault ≢ ScriptFault.Write → FromText (source_of R.remaining input.old) (λ bytes. IsStopped bytes (W.contents writer.old) (W.contents writer.new))) }
+{
+    'records: for count in 0..MAX_RECORDS {
+        if !read_next(input, row)? {
+            return Ok(());
+        }
+        answer_record(alloc, session, row, line)?;
+        write_bytes(writer, line.as_slice())?;
+    }
+    if read_next(input, row)? {
+        return Err(ScriptFault::TooLong);
+    }
+    Ok(())
+}
+
+/// Reads the next record, and returns whether there was one.
+fn read_next<R: Read + Drop>(
+    input: &mut Reader<R>,
+    row: &mut ByteRecord,
+) -> Result<bool, ScriptFault>
+    requires plain { reader_trim input.old ≡ trim.None }
+    requires ready { Ready input.old }
+    ensures reads { IfOk result (λ found. ReadRecord R.remaining input.old input.new found (fields_of row.new)) }
+    ensures ready { OnOk result (Ready input.new) }
+    ensures fault { OnErr result (result ≢ Err ScriptFault.TooLong) }
+{
+    match input.read_byte_record(row) {
+        Ok(found) => Ok(found),
+        Err(error) => Err(if error.is_io_error() {
+            ScriptFault::Read
+        } else {
+            ScriptFault::NoMemory
+        }),
+    }
+}
+
+/// Does what the record asks for, and makes `line` the line that answers it.
+fn answer_record(
+    alloc: Global,
+    session: &mut Session,
+    fields: &ByteRecord,
+    line: &mut Vec<u8>,
+) -> Result<(), ScriptFault>
+    ensures ok { OnOk result (IsTurn (stage_of session.old) (fields_of fields.now) line.new.items (stage_of session.new)) }
+    ensures fault { IfErr result (λ fault. fault ≡ ScriptFault.NoMemory) }
+{
+    match session.answer(alloc, fields, line) {
+        Ok(()) => Ok(()),
+        Err(_) => Err(ScriptFault::NoMemory),
+    }
+}
+
+/// Writes all bytes, so that after a fault what went out is a first part of them.
+fn write_bytes<W: Write>(writer: &mut W, bytes: &[u8]) -> Result<(), ScriptFault>
+    ensures ok { OnOk result (Appends (W.contents writer.old) (W.contents writer.new) bytes.now) }
+    ensures part { OnErr result ((n : ℕ) × Appends (W.contents writer.old) (W.contents writer.new) (take n bytes.now)) }
+    ensures fault { IfErr result (λ fault. fault ≡ ScriptFault.Write) }
+{
+    let mut at = 0;
+    'bytes: while at < bytes.len() {
+        match writer.write(&bytes[at..]) {
+            Ok(0) => return Err(ScriptFault::Write),
+            Ok(taken) => at += taken,
+            Err(_) => return Err(ScriptFault::Write),
+        }
+    }
+    Ok(())
+}

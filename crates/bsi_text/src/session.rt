@@ -1,0 +1,121 @@
+//! What a script has come to: its setup, and the machine from `begin` on.
+
+ghost use Rattle.std.specs.Prelude.{◌≡◌, ◌++◌, ◌∷◌, [], IfOk, OnOk, if◌then◌else◌};
+ghost use Rattle.csv.specs.Records.{fields_of};
+ghost use Rattle.bsi_load.specs.Runs.{shown_after};
+ghost use Rattle.bsi_load.specs.Shown.{IsLawful};
+ghost use Rattle.bsi_text.specs.Lines.{bad_line, done_line};
+ghost use Rattle.bsi_text.specs.Scripts.{IsTurn, Running};
+
+use crate::NoMemory;
+use crate::lines::write_reply;
+use crate::records::read_event;
+use crate::setups::{Setup, test_begin};
+use bsi_load::{Core, Event, Reply};
+use csv::ByteRecord;
+use std::alloc::Global;
+
+/// A script: what it has declared before it begins, and its machine from then on.
+#[derive(Drop)]
+pub(crate) enum Session {
+    /// The setup goes on.
+    Declaring(Setup),
+    /// The machine runs.
+    Running(Core),
+}
+
+impl Session {
+    ghost use Rattle.std.specs.Prelude.{◌≡◌, IfOk, OnOk};
+    ghost use Rattle.csv.specs.Records.{fields_of};
+    ghost use Rattle.bsi_text.specs.Setups.{nothing_declared};
+    ghost use Rattle.bsi_text.specs.Scripts.{Declaring, IsTurn};
+    ghost use Rattle.bsi_text.specs.Sessions.{stage_of, IsSetUp};
+
+    /// Returns a script of which no record was read.
+    pub(crate) fn new(alloc: Global) -> Session
+        ensures { stage_of result ≡ Declaring nothing_declared }
+    {
+        Session::Declaring(Setup::new(alloc))
+    }
+
+    /// Does what a record asks for, and makes `line` the line that answers it. A load or a query that finds no memory is
+    /// answered so. Everything else that finds none is an error, after which the script can't go on.
+    pub(crate) fn answer(
+        &mut self,
+        alloc: Global,
+        fields: &ByteRecord,
+        line: &mut Vec<u8>,
+    ) -> Result<(), NoMemory>
+        ensures { OnOk result (IsTurn (stage_of self.old) (fields_of fields.now) line.new.items (stage_of self.new)) }
+    {
+        line.clear();
+        match self {
+            Session::Running(core) => run(alloc, core, fields, line),
+            Session::Declaring(_) => {
+                let done = self.set_up(alloc, fields)?;
+                write_word(done, line)
+            }
+        }
+    }
+
+    /// Does a record of the setup, and returns whether it was done.
+    fn set_up(&mut self, alloc: Global, fields: &ByteRecord) -> Result<bool, NoMemory>
+        ensures { IfOk result (λ done. IsSetUp (stage_of self.old) (fields_of fields.now) done (stage_of self.new)) }
+    {
+        let Session::Declaring(setup) = self else {
+            return Ok(false);
+        };
+        if !test_begin(fields) {
+            return setup.declare(alloc, fields);
+        }
+        match setup.begin(alloc)? {
+            None => Ok(false),
+            Some(core) => {
+                *self = Session::Running(core);
+                Ok(true)
+            }
+        }
+    }
+}
+
+/// Writes the line that answers a record of the setup.
+fn write_word(done: bool, line: &mut Vec<u8>) -> Result<(), NoMemory>
+    ensures { OnOk result (line.new.items ≡ line.old.items ++ (if done then done_line else bad_line)) }
+{
+    let word = if done {
+        b"ok\n".as_slice()
+    } else {
+        b"bad\n".as_slice()
+    };
+    line.extend_from_slice(word)
+}
+
+/// Does what a record asks for of the machine, and writes the line that answers it.
+fn run(
+    alloc: Global,
+    core: &mut Core,
+    fields: &ByteRecord,
+    line: &mut Vec<u8>,
+) -> Result<(), NoMemory>
+    requires { line.old.items ≡ [] }
+    ensures { OnOk result (IsTurn (Running core.old) (fields_of fields.now) line.new.items (Running core.new)) }
+{
+    let Some(event) = read_event(alloc, core.schema(), fields)? else {
+        return write_word(false, line);
+    };
+    let reply = step(alloc, core, event)?;
+    write_reply(&reply, line)
+}
+
+/// Does one event.
+fn step(alloc: Global, core: &mut Core, event: Event) -> Result<Reply, NoMemory>
+    ensures lawful { IfOk result (λ reply. IsLawful core.old event reply) }
+    ensures after { IfOk result (λ reply. core.new ≡ shown_after core.old ((event, reply) ∷ [])) }
+{
+    let mut events = Vec::with_capacity(alloc, 1)?;
+    events.push_reserved(event);
+    let Ok(mut replies) = core.run(events) else {
+        return Err(NoMemory);
+    };
+    Ok(replies.remove(0))
+}
