@@ -1,7 +1,8 @@
 //! The command line: the words behind the program's name, and the status that they end with.
-ghost use Rattle.std.specs.Prelude.{◌≡◌, ◌≤◌};
+ghost use Rattle.std.specs.Prelude.{◌≡◌, ◌≤◌, IfSome, OnOk};
+ghost use Rattle.bsi_text.specs.Texts.{IsAnswered};
 
-use crate::script::{ScriptFault, run_script};
+use bsi_text::{ScriptFault, run_script};
 use clap::error::ErrorKind;
 use clap::{Command, Error};
 use std::alloc::Global;
@@ -32,7 +33,8 @@ pub fn run_words<R: AllocGlobal, I: Read + Drop, O: Write, F: Write>(
 ) -> u8
     ensures status { result ≤ 2 }
 
-    // A run with no fault says nothing, and words that are no command run nothing.
+    // A run with no fault has answered the whole input and says nothing, and words that are no command run nothing.
+    ensures answered { result ≡ 0 → IfSome (I.remaining input) (λ bytes. IsAnswered bytes (O.contents output.old) (O.contents output.new)) }
     ensures quiet { result ≡ 0 → F.contents faults.new ≡ F.contents faults.old }
     ensures wrong { result ≡ 2 → O.contents output.new ≡ O.contents output.old }
 {
@@ -79,7 +81,9 @@ fn run_to_end<I: Read + Drop, O: Write>(
     alloc: Global,
     input: I,
     output: &mut O,
-) -> Result<(), ScriptFault> {
+) -> Result<(), ScriptFault>
+    ensures { OnOk result (IfSome (I.remaining input) (λ bytes. IsAnswered bytes (O.contents output.old) (O.contents output.new))) }
+{
     let run = run_script(alloc, input, output);
     match output.flush() {
         Ok(()) => run,

@@ -1,9 +1,0 @@
-pub mod Answers
-pub mod Column
-pub mod Number
-pub mod Records
-pub mod Session
-pub mod Setup
-pub mod Shown
-pub mod Slices
-pub mod Writing
