@@ -3,6 +3,7 @@
 
 mod words;
 
+pub use bsi_text::ScriptFault;
 pub use words::run_words;
 
 #[cfg(test)]

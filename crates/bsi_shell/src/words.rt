@@ -33,7 +33,7 @@ pub fn run_words<R: AllocGlobal, I: Read + Drop, O: Write, F: Write>(
 ) -> u8
     ensures status { result ≤ 2 }
 
-    // A run with no fault has answered the whole input and says nothing, and words that are no command run nothing.
+    // A run with no fault has answered the whole input and says nothing, and after status 2 nothing was written.
     ensures answered { result ≡ 0 → IfSome (I.remaining input) (λ bytes. IsAnswered bytes (O.contents output.old) (O.contents output.new)) }
     ensures quiet { result ≡ 0 → F.contents faults.new ≡ F.contents faults.old }
     ensures wrong { result ≡ 2 → O.contents output.new ≡ O.contents output.old }

@@ -1,7 +1,6 @@
 -- Where no memory is wanted, records have one script run.
 use Rattle.std.proofs.Common.{◌≡◌, ◌≢◌, ℕ, Bool, true, false, if◌then◌else◌, List, [], ◌∷◌, ◌++◌, length, filter, filter_map, Option, Some, None, Result, Ok, Err, ℤ, inl, inr, refl, ap, ap₂, sym, ◌∙◌, subst, option_map, option_and_then}
-use Rattle.std.specs.Prelude.{All, IfSome, MatchOption, ◌⊎◌, codes}
-use Rattle.std.specs.Fmt.{signed_decimal}
+use Rattle.std.specs.Prelude.{IfSome, MatchOption, ◌⊎◌, codes}
 use Rattle.std.specs.List.{range_with_len}
 use Rattle.std.specs.Str.{bytes_eq}
 use Rattle.std.proofs.lemmas.List.Elements.{All-head, All-nil, All-tail}
@@ -16,7 +15,7 @@ use Rattle.bsi_load.specs.declared.event.LoadRefused.TheVariants as load
 use Rattle.bsi_load.specs.declared.event.Reply.{Reply}
 use Rattle.bsi_load.specs.declared.event.Reply.TheVariants.{Submitted, Loaded, Closed, Answered}
 use Rattle.bsi_table.specs.Answers.{IsAnswer, IsTotal, missing_column, numbered_at}
-use Rattle.bsi_table.specs.Columns.{Declared, position_of}
+use Rattle.bsi_table.specs.Columns.{Declared}
 use Rattle.bsi_table.specs.Rows.{Entries, FedRow, entry_at, feeders_of, holds, row_at, selected, values}
 use Rattle.bsi_table.specs.declared.errors.AskError.{AskError}
 use Rattle.bsi_table.specs.declared.errors.AskError.TheVariants as ask
@@ -32,7 +31,7 @@ use Rattle.bsi_text.specs.Lines.{answer_line, ask_line, bad_line, done_line, no_
 use Rattle.bsi_text.specs.Numbers.{Field, feeder_of, values_in}
 use Rattle.bsi_text.specs.Pasts.{FindMemory}
 use Rattle.bsi_text.specs.Predicates.{IsPredicate}
-use Rattle.bsi_text.specs.Scripts.{AreTurns, Declaring, IsBad, IsDone, IsTurn, Running, Stage, set_up}
+use Rattle.bsi_text.specs.Scripts.{AreTurns, Declaring, IsTurn, Running, Stage, set_up}
 use Rattle.bsi_text.specs.Setups.{nothing_declared}
 use Rattle.bsi_text.proofs.Named.{HasNames, turn_named}
 use Rattle.bsi_table.specs.Columns.{AreNamed}

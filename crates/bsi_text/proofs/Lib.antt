@@ -5,6 +5,7 @@ mod Determined
 mod Digits
 mod Events
 mod Fields
+mod Joining
 mod Layouts
 mod Machines
 mod Named

@@ -1,18 +1,18 @@
 -- The columns of a script have names, whatever its records.
-use Rattle.std.proofs.Common.{◌≡◌, ℕ, Bool, true, false, cond, List, [], ◌∷◌, Option, Some, None, is_none, inl, inr, refl, ap, sym, ◌∙◌, subst, option_map, option_and_then}
-use Rattle.std.specs.Prelude.{◌&&◌, not, IfSome, IsTrue, MatchOption, if◌then◌else◌, ⊤, ℤ, pos, ◌+ℤ◌, int_le, ◌^◌, ◌⊎◌, codes}
+use Rattle.std.proofs.Common.{◌≡◌, ℕ, Bool, true, false, List, [], ◌∷◌, Option, Some, None, is_none, inl, inr, refl, ap, sym, subst, option_map, option_and_then}
+use Rattle.std.specs.Prelude.{◌&&◌, not, IfSome, IsTrue, MatchOption, if◌then◌else◌, ℤ, pos, ◌+ℤ◌, int_le, ◌^◌, codes}
 use Rattle.std.specs.Str.{bytes_eq}
 use Rattle.std.proofs.lemmas.List.Elements.{All-append, All-nil, All-cons}
 use Rattle.bsi_load.specs.Runs.{Done, shown_after}
 use Rattle.bsi_load.specs.Shown.{Shown}
 use Rattle.bsi_load.specs.Sizes.{new_machine}
-use Rattle.bsi_table.specs.Columns.{Declared, NamedColumn, named_column, size_in, with_column}
+use Rattle.bsi_table.specs.Columns.{Declared, named_column, size_in, with_column}
 use Rattle.bsi_table.specs.Names.{is_name}
 use Rattle.bsi_table.specs.Refusals.{name_refusal}
 use Rattle.bsi_table.specs.declared.form.Form.{Form}
 use Rattle.bsi_text.specs.Lines.{bad_line, done_line}
 use Rattle.bsi_text.specs.Numbers.{Field, offset_of}
-use Rattle.bsi_text.specs.Scripts.{Stage, Declaring, Running, begun, set_up, IsTurn, IsBad, IsDone, AreTurns}
+use Rattle.bsi_text.specs.Scripts.{Stage, Declaring, Running, set_up, IsTurn, AreTurns}
 use Rattle.bsi_text.specs.Setups.{Setup, can_begin, column_after, declared_after, feeder_after, form_in, is_begin, limit_of, one_more, table_after}
 use Rattle.bsi_table.specs.Columns.{AreNamed}
 

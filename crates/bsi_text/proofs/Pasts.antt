@@ -1,17 +1,16 @@
 -- The past of a script run that has begun.
 use Rattle.std.proofs.Common.{◌≡◌, ℕ, Bool, true, false, List, [], ◌∷◌, ◌++◌, Option, Some, None, inl, inr, refl, ap, sym, ◌∙◌, subst, option_map}
-use Rattle.std.specs.Prelude.{MatchOption, if◌then◌else◌, ◌⊎◌}
+use Rattle.std.specs.Prelude.{MatchOption, if◌then◌else◌}
 use Rattle.bsi_load.proofs.Composing.{shown_start, shown_step}
 use Rattle.bsi_load.specs.Runs.{AreLawful, Done, IsConserved, shown_after}
 use Rattle.bsi_load.specs.Shown.{Shown, IsLawful}
 use Rattle.bsi_load.specs.declared.event.Event.{Event}
 use Rattle.bsi_load.specs.declared.event.Reply.{Reply}
-use Rattle.bsi_table.specs.Columns.{Declared}
 use Rattle.bsi_text.specs.Events.{IsEvent}
-use Rattle.bsi_text.specs.Lines.{bad_line, done_line, reply_line}
+use Rattle.bsi_text.specs.Lines.{bad_line, done_line}
 use Rattle.bsi_text.specs.Numbers.{Field}
-use Rattle.bsi_text.specs.Pasts.{AddsEvent, AddsNothing, AreAddedBy, HasBegun, HasPast, IsAddedBy, machine_of}
-use Rattle.bsi_text.specs.Scripts.{AreTurns, Declaring, IsBad, IsDone, IsTurn, Running, Stage, begun, set_up}
+use Rattle.bsi_text.specs.Pasts.{AreAddedBy, HasPast, IsAddedBy, machine_of}
+use Rattle.bsi_text.specs.Scripts.{AreTurns, Declaring, IsTurn, Running, Stage, set_up}
 use Rattle.bsi_text.specs.Setups.{Setup, can_begin, declared_after, is_begin, nothing_declared}
 use Rattle.bsi_text.proofs.Named.{same_schema}
 use Rattle.bsi_text.proofs.Turns.{no_turn, one_turn, turns_behind}

@@ -1,10 +1,10 @@
 -- A run of one event.
-use Rattle.std.proofs.Common.{◌≡◌, ℕ, ◌<◌, Bool, List, [], ◌∷◌, ◌++◌, length, get_or, map, ap, sym, ◌∙◌, refl, subst, arith}
+use Rattle.std.proofs.Common.{◌≡◌, List, [], ◌∷◌, length, get_or, ap, sym, subst, arith}
 use Rattle.bsi_load.proofs.Composing.{shown_start}
 use Rattle.bsi_load.specs.declared.event.Event.{Event}
 use Rattle.bsi_load.specs.declared.event.Reply.{Reply}
-use Rattle.bsi_load.specs.Shown.{Shown, Waiting, feeder_at, no_feeder, IsLawful}
-use Rattle.bsi_load.specs.Runs.{rows_from, accepted, loads, indexed, waiting, closed, feeder_after, AreLawful, done_after, past_of, shown_after}
+use Rattle.bsi_load.specs.Shown.{Shown, IsLawful}
+use Rattle.bsi_load.specs.Runs.{AreLawful, done_after, past_of}
 
 -- the only reply of a run of one event
 pub only_reply : (e : Event) (r : Reply) (replies : List Reply) → length replies ≡ 1 → r ≡ get_or replies 0 r → past_of (e ∷ []) replies ≡ (e, r) ∷ []

@@ -1,5 +1,5 @@
 -- Records that a row source takes, one after another.
-use Rattle.std.proofs.Common.{◌≡◌, ℕ, ◌+◌, ◌<◌, ◌≤◌, Bool, true, false, List, [], ◌∷◌, ◌++◌, length, Option, Some, None, IsSome, IfSome, MatchOption, option_map, refl, sym, ap, ap₂, subst, ◌∙◌, arith, count_by, filter_map, cond}
+use Rattle.std.proofs.Common.{◌≡◌, ℕ, ◌+◌, ◌<◌, ◌≤◌, true, false, List, [], ◌∷◌, ◌++◌, Option, Some, None, IsSome, IfSome, MatchOption, option_map, refl, sym, ap, ap₂, subst, ◌∙◌, arith, cond}
 use Rattle.std.specs.List.{cons_option}
 use Rattle.std.specs.Option.{is_none}
 use Rattle.std.proofs.lemmas.List.{length-append}
@@ -14,10 +14,10 @@ use Rattle.csv.specs.declared.reader.Reader.{Reader}
 use Rattle.bsi_table.specs.Columns.{Declared}
 use Rattle.bsi_table.specs.Rows.{Entries}
 use Rattle.bsi_text.specs.Numbers.{Field}
-use Rattle.bsi_text.specs.RowFiles.{bad_count, good_row, good_rows, is_header}
+use Rattle.bsi_text.specs.RowFiles.{bad_count, good_row, is_header}
 use Rattle.bsi_text.specs.Sources.{HasEnded, HasMore, HasRead, HasStopped, HasNoHeader, HasTaken, IsOver, IsPlain, IsTally, Layout, StandsAfter}
 use Rattle.bsi_text.specs.declared.rows.SourceFault.{SourceFault}
-use Rattle.bsi_text.specs.declared.rows.SourceFault.TheVariants.{TooLong}
+use Rattle.bsi_text.specs.declared.rows.SourceFault.TheVariants.{BadHeader, TooLong}
 use Rattle.bsi_text.specs.declared.rows.Tally.{Tally}
 
 -- no record was read
@@ -70,7 +70,7 @@ module _ {R : Type 0} (rem : R → Option (List ℕ)) (a b c : Reader R) (fields
           subst IsSome (sym more.2.1) refl
 
 -- the bad ones among records
-abbrev bad_one : Layout → List Field → ℕ
+abbrev pub bad_one : Layout → List Field → ℕ
 bad_one layout fields = cond (is_none (good_row layout.schema layout.header fields)) 1 0
 
 count_good : (layout : Layout) (records : List (List Field)) (fields : List Field) → is_none (good_row layout.schema layout.header fields) ≡ false
@@ -131,14 +131,15 @@ module _ {R : Type 0} (rem : R → Option (List ℕ)) (layout : Layout) (old b :
   has_ended c fields next = record { at = b; taken = are.taken; over = is_over rem old b c fields are.plain.config next }
 
   -- a fault is met
-  pub has_stopped : (fault : SourceFault) → (fault ≡ TooLong → ⊥) → HasStopped rem layout old before after fault
-  has_stopped fault other = record { at = b; taken = are.taken; too_long = λ is. absurd (other is) }
+  pub has_stopped : (fault : SourceFault) → (fault ≡ TooLong → ⊥) → (fault ≡ BadHeader → ⊥) → HasStopped rem layout old before after fault
+  has_stopped fault other later = record { at = b; taken = are.taken; later = later; too_long = λ is. absurd (other is) }
 
   -- there are too many
   pub is_too_long : (c : Reader R) (fields : List Field) → ReadRecord rem b c true fields → 1000000 ≤ passed → HasStopped rem layout old before after TooLong
   is_too_long c fields next many = record {
     at = b;
     taken = are.taken;
+    later = λ is. cc is;
     too_long = λ is. (omega (arith, are.count, are.tally.few), has_more rem old b c fields are.plain.config next);
   }
 

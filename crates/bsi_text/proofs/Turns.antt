@@ -1,6 +1,6 @@
 -- A script run goes on over any further records.
-use Rattle.std.proofs.Common.{◌≡◌, ℕ, List, [], ◌∷◌, ◌++◌, length, Option, Some, None, Result, Ok, Err, inl, inr, refl, ap, sym, ◌∙◌, subst, option_map, option_and_then}
-use Rattle.std.specs.Prelude.{IfSome, MatchOption, if◌then◌else◌, ◌⊎◌, codes, Bool, true, false, ℤ, ⊤}
+use Rattle.std.proofs.Common.{◌≡◌, ℕ, List, [], ◌∷◌, ◌++◌, length, Option, Some, None, Result, Ok, Err, inl, inr, refl, sym, ◌∙◌, subst}
+use Rattle.std.specs.Prelude.{IfSome, MatchOption, ◌⊎◌, codes, ℤ, ⊤}
 use Rattle.std.specs.Str.{bytes_eq}
 use Rattle.bsi_load.specs.declared.event.Event.{Event}
 use Rattle.bsi_load.specs.declared.event.Event.TheVariants.{Submit, Load, Close, Ask}
@@ -9,14 +9,14 @@ use Rattle.bsi_load.specs.declared.event.LoadRefused.TheVariants as load
 use Rattle.bsi_load.specs.declared.event.Reply.{Reply}
 use Rattle.bsi_load.specs.declared.event.Reply.TheVariants.{Submitted, Loaded, Closed, Answered}
 use Rattle.bsi_load.specs.Runs.{shown_after}
-use Rattle.bsi_load.specs.Shown.{Shown, close_reply, load_refusal, submit_reply, IsLawful, IsLoadReply}
+use Rattle.bsi_load.specs.Shown.{Shown, close_reply, load_refusal, submit_reply, IsLawful}
 use Rattle.bsi_table.specs.Columns.{Declared}
 use Rattle.bsi_table.specs.declared.errors.AskError.TheVariants as ask
 use Rattle.bsi_table.specs.declared.query.Query.{Query}
 use Rattle.bsi_text.specs.Events.{IsEvent, IsQuery, feeder_event, plain_event}
 use Rattle.bsi_text.specs.Lines.{bad_line, done_line, reply_line}
 use Rattle.bsi_text.specs.Numbers.{Field, feeder_of, values_in}
-use Rattle.bsi_text.specs.Scripts.{Stage, Declaring, Running, set_up, IsTurn, IsBad, IsDone, AreTurns}
+use Rattle.bsi_text.specs.Scripts.{Stage, Declaring, Running, set_up, IsTurn, AreTurns}
 use Rattle.bsi_text.proofs.Named.{HasNames, IfSome-choice, IfSome-map, IfSome-then, turn_named}
 use Rattle.bsi_table.specs.Columns.{AreNamed}
 use Rattle.bsi_text.proofs.Spelling.{query_is_there, query_or_not}

@@ -1,6 +1,6 @@
 -- A list of numbers has one least number, one greatest and one lower median.
-use Rattle.std.proofs.Common.{◌≡◌, ℕ, ◌+◌, ◌*◌, ◌<◌, ◌≤◌, Bool, true, false, cond, List, [], ◌∷◌, Option, Some, None, length, ℤ, inl, inr, ap, sym, ◌∙◌, refl, arith}
-use Rattle.std.specs.Prelude.{Contains, IsTrue, MatchOption, count_by, int_le, int_lt, ◌⊎◌}
+use Rattle.std.proofs.Common.{◌≡◌, ℕ, ◌+◌, ◌≤◌, Bool, true, false, cond, List, [], ◌∷◌, Option, Some, None, ℤ, inl, inr, ap, refl, arith}
+use Rattle.std.specs.Prelude.{Contains, IsTrue, count_by, int_le, int_lt}
 use Rattle.std.proofs.lemmas.Bool.{cases_Bool}
 use Rattle.std.proofs.lemmas.Bool.Decides.{nat_tests}
 use Rattle.std.proofs.lemmas.Int.{ints}

@@ -1,7 +1,7 @@
 -- The source of the rows of a row file.
-use Rattle.std.specs.Prelude.{◌≡◌, ℕ, ◌+◌, ◌≤◌, List, [], ◌∷◌, Option, None, Some, IsSome, IfSome, length, ⊤, true, false, MatchOption}
+use Rattle.std.specs.Prelude.{◌≡◌, ◌≢◌, ℕ, ◌+◌, ◌≤◌, List, [], ◌∷◌, Option, None, Some, IsSome, IfSome, length, false, MatchOption}
 use Rattle.csv.specs.Machine.{next_record}
-use Rattle.csv.specs.Reading.{Ready, Reached, default_config, reader_config, reader_state, reader_trim, source_of}
+use Rattle.csv.specs.Reading.{AreRecords, Ready, Reached, default_config, reader_config, reader_state, reader_trim, source_of}
 use Rattle.csv.specs.declared.parser.State.TheVariants as st
 use Rattle.csv.specs.declared.reader.Reader.{Reader}
 use Rattle.csv.specs.declared.reader.Trim.TheVariants as trim
@@ -11,7 +11,7 @@ use Rattle.bsi_text.specs.Numbers.{Field}
 use Rattle.bsi_text.specs.RowFiles.{bad_count, good_rows, is_header}
 use Rattle.bsi_text.specs.declared.rows.Progress.{Progress}
 use Rattle.bsi_text.specs.declared.rows.SourceFault.{SourceFault}
-use Rattle.bsi_text.specs.declared.rows.SourceFault.TheVariants.{TooLong}
+use Rattle.bsi_text.specs.declared.rows.SourceFault.TheVariants.{BadHeader, TooLong}
 use Rattle.bsi_text.specs.declared.rows.Tally.{Tally}
 
 -- the columns of a row file, and its header
@@ -63,11 +63,12 @@ pub record HasEnded {R : Type 0} (rem : R → Option (List ℕ)) (layout : Layou
   pub taken : HasTaken rem layout old at before after []
   pub over : IsOver rem at
 
--- a fault was met where these records, all of them bad, had been read; a file is too long where these are 1,000,000 with those
+-- a fault, none of the header, was met where these records, all of them bad, had been read; a file is too long where these are 1,000,000 with those
 -- before, and there is one more
 pub record HasStopped {R : Type 0} (rem : R → Option (List ℕ)) (layout : Layout) (old : Reader R) (before after : Tally) (fault : SourceFault) : Type 0 where
   pub at : Reader R
   pub taken : HasTaken rem layout old at before after []
+  pub later : fault ≢ BadHeader
   pub too_long : fault ≡ TooLong → (after.passed ≡ 1000000) × HasMore rem at
 
 -- what a call leaves that gives a row, or finds that none is left
@@ -89,3 +90,11 @@ StandsAfter rem layout input text =
 -- the first record of a text is no header of these columns, or there is none
 abbrev pub HasNoHeader : Declared → List ℕ → Type 0
 HasNoHeader schema text = IfSome (next_record default_config st.StartRecord [] [] text) (λ read. is_header schema read.0 ≡ false)
+
+-- the records of a whole text are the header and these, and the rows are those of the good ones, and the counts have grown by them
+pub record IsWhole (layout : Layout) (text : List ℕ) (before after : Tally) (rows : List Entries) : Type 0 where
+  pub records : List (List Field)
+  pub all : AreRecords default_config st.StartRecord text (layout.header ∷ records)
+  pub good : rows ≡ good_rows layout.schema layout.header records
+  pub passed : after.passed ≡ before.passed + length records
+  pub bad : after.bad ≡ before.bad + bad_count layout.schema layout.header records

@@ -245,9 +245,14 @@ fn column_of(
 ) -> Result<Index, NoMemory> {
     let column = Declared { form, ..QTY };
     let mut index = index_of(alloc, &[column], 1, 10).expect(rt, "a column and a limit");
-    for entry in entries {
+    for (position, entry) in entries.iter().enumerate() {
         let row = row_of(alloc, &[*entry])?;
-        assert!(rt; append_row(&mut index, 0, &row).is_some(), "{entry:?}");
+        let position = position as u64;
+        assert_eq!(rt;
+            append_row(&mut index, 0, &row),
+            Some(Ok(position)),
+            "{entry:?}"
+        );
     }
     Ok(index)
 }
@@ -450,9 +455,9 @@ fn signed_extremes(rt: HostRuntime) -> Result<(), Fail> {
     };
     let mut index = index_of(rt.alloc(), &[lowest], 1, 10).expect(&rt, "a column and a limit");
     assert!(rt; index.schema().signed());
-    for _ in 0..3 {
+    for position in 0..3 {
         let row = row_of(rt.alloc(), &[Some(i128::from(i64::MIN))])?;
-        assert!(rt; append_row(&mut index, 0, &row).is_some());
+        assert_eq!(rt; append_row(&mut index, 0, &row), Some(Ok(position)));
     }
     let past = row_of(rt.alloc(), &[Some(0)])?;
     assert_eq!(rt; append_row(&mut index, 0, &past), None);

@@ -190,3 +190,24 @@ fn a_row_file_has_a_million_records(rt: HostRuntime) -> Result<(), Fail> {
     }
     Ok(())
 }
+
+fn text_once(alloc: Global, fault: SourceFault) -> Result<String, NoMemory> {
+    format!(in alloc; "{fault}")
+}
+
+#[test]
+fn each_fault_has_its_text(rt: HostRuntime) -> Result<(), Fail> {
+    for (fault, want) in [
+        (SourceFault::BadHeader, "bad header"),
+        (SourceFault::Read, "read failed"),
+        (SourceFault::NoMemory, "no memory"),
+        (SourceFault::TooLong, "input too long"),
+    ] {
+        let text = match text_once(rt.alloc(), fault) {
+            Err(_) => text_once(rt.alloc(), fault)?,
+            Ok(text) => text,
+        };
+        assert_eq!(rt; text.as_str(), want);
+    }
+    Ok(())
+}

@@ -4,8 +4,8 @@ use super::*;
 
 /// The rows as they came, each with its feeder.
 #[derive(Drop)]
-struct PlainTable {
-    rows: Vec<(u32, Row)>,
+pub(super) struct PlainTable {
+    pub(super) rows: Vec<(u32, Row)>,
 }
 
 fn entry_at(row: &Row, c: u32) -> Option<i128> {
@@ -38,6 +38,12 @@ fn holds(pred: &Pred, row: &Row) -> bool {
 }
 
 impl PlainTable {
+    pub(super) fn new(alloc: Global) -> PlainTable {
+        PlainTable {
+            rows: Vec::new(alloc),
+        }
+    }
+
     // The numbers of a column in the selected rows, in order of size.
     fn numbers(&self, alloc: Global, c: u32, pred: &Pred) -> Result<Vec<i128>, NoMemory> {
         let mut numbers = Vec::with_capacity(alloc, self.rows.len())?;
@@ -74,7 +80,7 @@ impl PlainTable {
         Ok(Answer::Rows(listed))
     }
 
-    fn answer(&self, alloc: Global, query: &Query) -> Result<Answer, NoMemory> {
+    pub(super) fn answer(&self, alloc: Global, query: &Query) -> Result<Answer, NoMemory> {
         let pred = &query.pred;
         match query.total {
             Total::Count => {
@@ -226,9 +232,7 @@ fn same_answers(
 fn beside_a_plain_table(rt: HostRuntime) -> Result<(), Fail> {
     for rows in [0, 1, 65, 130] {
         let mut index = index_of(rt.alloc(), &COLUMNS, 3, 130).expect(&rt, "columns and a limit");
-        let mut plain = PlainTable {
-            rows: Vec::new(rt.alloc()),
-        };
+        let mut plain = PlainTable::new(rt.alloc());
         for row in 0..rows {
             let feeder = ((row * 7 + row / 3) % 3) as u32;
             let entries = row_at(rt.alloc(), row)?;

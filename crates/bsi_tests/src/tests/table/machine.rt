@@ -541,6 +541,37 @@ const SIGNED_TOTALS: &[Done<'static>] = &[
     (GREATEST_ALL, Said::Value(Some(7))),
 ];
 
+const SIGNED_COUNTS: &[(Op, i128, u64)] = &[
+    (Op::Lt, -8, 0),
+    (Op::Ge, -8, 3),
+    (Op::Lt, -100, 0),
+    (Op::Gt, -100, 3),
+    (Op::Eq, -100, 0),
+    (Op::Ne, -100, 3),
+    (Op::Le, 18446744073709551615, 3),
+    (Op::Eq, -1, 1),
+    (Op::Ne, -1, 2),
+    (Op::Eq, 0, 0),
+];
+
+// Sixteen numbers from -8 on, in this form.
+fn signed_form(rt: &impl Abort, alloc: Global, form: Form, bases: &[u32]) -> Result<(), NoMemory> {
+    let column = Declared {
+        name: "t",
+        form,
+        wide: Wide { width: 4, bases },
+        offset: -8,
+    };
+    let machine = Machine {
+        columns: &[column],
+        capacities: &[8],
+        limit: 10,
+    };
+    let core = played(rt, alloc, machine, &[SIGNED_ROWS, SIGNED_TOTALS])?;
+    counted(rt, &core, 0, SIGNED_COUNTS);
+    Ok(())
+}
+
 #[test]
 fn signed_rows(rt: HostRuntime) -> Result<(), Fail> {
     for (form, bases) in [
@@ -548,38 +579,46 @@ fn signed_rows(rt: HostRuntime) -> Result<(), Fail> {
         (Form::Equality, [4, 4]),
         (Form::Range, [2, 8]),
     ] {
-        let column = Declared {
-            name: "t",
-            form,
-            wide: Wide {
-                width: 4,
-                bases: &bases,
-            },
-            offset: -8,
-        };
-        let machine = Machine {
-            columns: &[column],
-            capacities: &[8],
-            limit: 10,
-        };
-        let core = played(&rt, rt.alloc(), machine, &[SIGNED_ROWS, SIGNED_TOTALS])?;
-        counted(
-            &rt,
-            &core,
-            0,
-            &[
-                (Op::Lt, -8, 0),
-                (Op::Ge, -8, 3),
-                (Op::Lt, -100, 0),
-                (Op::Gt, -100, 3),
-                (Op::Eq, -100, 0),
-                (Op::Ne, -100, 3),
-                (Op::Le, 18446744073709551615, 3),
-                (Op::Eq, -1, 1),
-                (Op::Ne, -1, 2),
-                (Op::Eq, 0, 0),
-            ],
-        );
+        signed_form(&rt, rt.alloc(), form, &bases)?;
     }
+    Ok(())
+}
+
+/// A machine with room for two rows, and three rows of their own numbers.
+#[derive(Drop)]
+struct RoomForTwo {
+    core: Core,
+    first: Row,
+    second: Row,
+    third: Row,
+}
+
+fn room_for_two(alloc: Global) -> Result<RoomForTwo, NoMemory> {
+    Ok(RoomForTwo {
+        core: made(alloc, PAIR).map_err(|_| NoMemory)?,
+        first: row_of(alloc, &[Some(1)])?,
+        second: row_of(alloc, &[Some(2)])?,
+        third: row_of(alloc, &[Some(3)])?,
+    })
+}
+
+// From the probe on nothing asks for memory: each later growth may be refused too.
+#[test]
+fn submit_and_close_take_no_memory(rt: HostRuntime) -> Result<(), Fail> {
+    let Ok(fixture) = room_for_two(rt.alloc()) else {
+        eprintln!(rt; "gave up: no memory for the fixture")?;
+        return Ok(());
+    };
+    let mut core = fixture.core;
+    let _probe = Vec::<u8>::with_capacity(rt.alloc(), 1);
+    let first = core.submit(0, fixture.first);
+    let second = core.submit(0, fixture.second);
+    assert!(rt; first.is_ok() && second.is_ok());
+    assert_eq!(rt; (core.close(0), core.waiting(0)), (Ok(()), Some(2)));
+    match core.submit(0, fixture.third) {
+        Err(SubmitRefused::Closed(row)) => assert!(rt; row.values() == &[Some(3)][..]),
+        other => panic!(rt; "{other:?}"),
+    }
+    assert_eq!(rt; core.waiting(0), Some(2));
     Ok(())
 }

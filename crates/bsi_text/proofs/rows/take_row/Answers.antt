@@ -1,7 +1,7 @@
 use Rattle.std.proofs.Common.{◌≡◌, refl, sym, subst, ◌∙◌}
 use Rattle.csv.specs.Reading.{ReadRecord}
 use Rattle.csv.specs.Records.{fields_of}
-use Rattle.bsi_text.specs.declared.rows.SourceFault.TheVariants.{NoMemory, TooLong}
+use Rattle.bsi_text.specs.declared.rows.SourceFault.TheVariants.{BadHeader, NoMemory, TooLong}
 use Rattle.bsi_text.proofs.Taking.{has_ended, has_stopped, is_too_long, taken_bad, taken_good, taken_none}
 use Rattle.bsi_text.proofs.rows.take_row.Goals as goal
 
@@ -9,7 +9,7 @@ pub records-init : goal.records-init
 records-init g c = record { taken = taken_none _ _ _ _; plain = c.requires.plain; tally = c.requires.tally; count = refl }
 
 pub returns-in-Err-clause-stopped : goal.returns-in-Err-clause-stopped
-returns-in-Err-clause-stopped g c = has_stopped _ _ _ _ _ _ _ c.records.invariant c.in-Err.fault c.in-Err.ensures.fault.0
+returns-in-Err-clause-stopped g c = has_stopped _ _ _ _ _ _ _ c.records.invariant c.in-Err.fault c.in-Err.ensures.fault.0 c.in-Err.ensures.fault.1
 
 pub returns-in-Ok-false-clause-given : goal.returns-in-Ok-false-clause-given
 returns-in-Ok-false-clause-given g c =
@@ -21,7 +21,8 @@ returns-in-Ok-false-clause-given g c =
 pub returns-in_default-clause-stopped : goal.returns-in_default-clause-stopped
 returns-in_default-clause-stopped g c =
     let other : NoMemory ≡ TooLong → ⊥ = λ is. cc is in
-    has_stopped _ _ _ _ _ _ _ c.records.invariant NoMemory other
+    let later : NoMemory ≡ BadHeader → ⊥ = λ is. cc is in
+    has_stopped _ _ _ _ _ _ _ c.records.invariant NoMemory other later
 
 pub returns-in-Some-clause-given : goal.returns-in-Some-clause-given
 returns-in-Some-clause-given g c =
@@ -39,7 +40,7 @@ records-preserved g c =
     (sym c.in_default-found.is ∙ c.in-Ok.ensures)
 
 pub returns-in-Err-read_next-clause-stopped : goal.returns-in-Err-read_next-clause-stopped
-returns-in-Err-read_next-clause-stopped g c = has_stopped _ _ _ _ _ _ _ c.records.invariant c.in-Err-read_next.fault c.in-Err-read_next.ensures.fault.0
+returns-in-Err-read_next-clause-stopped g c = has_stopped _ _ _ _ _ _ _ c.records.invariant c.in-Err-read_next.fault c.in-Err-read_next.ensures.fault.0 c.in-Err-read_next.ensures.fault.1
 
 pub returns-in-Ok-true-read_next-clause-stopped : goal.returns-in-Ok-true-read_next-clause-stopped
 returns-in-Ok-true-read_next-clause-stopped g c =

@@ -1,29 +1,91 @@
-//! The step machine beside a plain one, on a long list of events of several feeders.
+//! The step machine beside a plain one, on a long list of events of several feeders over columns of every form.
 
+use super::super::beside::PlainTable;
 use super::*;
 
-/// The entries of a row.
-type Entries = &'static [Option<i128>];
-
-/// Rows that events take in turn: two of them do not fit.
-const ROWS: [Entries; 11] = [
-    &[Some(0)],
-    &[Some(1)],
-    &[Some(2)],
-    &[Some(3)],
-    &[Some(4)],
-    &[Some(5)],
-    &[Some(6)],
-    &[Some(7)],
-    &[Some(8)],
-    &[None],
-    &[],
+/// A column in each form, and one with numbers below zero.
+const COLUMNS: [Declared<'static>; 4] = [
+    QTY,
+    Declared {
+        name: "equality",
+        form: Form::Equality,
+        ..NINE
+    },
+    Declared {
+        name: "range",
+        form: Form::Range,
+        wide: Wide {
+            width: 4,
+            bases: &[3, 4],
+        },
+        offset: 0,
+    },
+    Declared {
+        name: "signed",
+        form: Form::Slices,
+        wide: Wide {
+            width: 4,
+            bases: &[4, 4],
+        },
+        offset: -8,
+    },
 ];
+
+/// What a column takes: so many numbers from the least one on.
+#[derive(Clone, Copy)]
+struct Domain {
+    least: i128,
+    size: u64,
+}
+
+/// What the columns take.
+const DOMAINS: [Domain; 4] = [
+    Domain { least: 0, size: 8 },
+    Domain { least: 0, size: 9 },
+    Domain { least: 0, size: 12 },
+    Domain {
+        least: -8,
+        size: 16,
+    },
+];
+
+const CAPACITY: usize = 3;
+
+const LIMIT: usize = 30;
+
+const THREE_FEEDERS: Machine<'static> = Machine {
+    columns: &COLUMNS,
+    capacities: &[3, 3, 3],
+    limit: 30,
+};
+
+impl Domain {
+    fn has(self, entry: Option<i128>) -> bool {
+        match entry {
+            None => true,
+            Some(number) => {
+                let above = number.wrapping_sub(self.least);
+                0 <= above && above < i128::from(self.size)
+            }
+        }
+    }
+
+    fn number(self, above: u64) -> i128 {
+        self.least.wrapping_add(i128::from(above))
+    }
+}
+
+fn all_fit(entries: &[Option<i128>]) -> bool {
+    entries
+        .iter()
+        .zip(&DOMAINS)
+        .all(|(entry, domain)| domain.has(*entry))
+}
 
 /// The rows of a feeder that wait, the oldest first, and whether it was closed.
 #[derive(Drop)]
 struct PlainFeeder {
-    rows: Vec<Entries>,
+    rows: Vec<Row>,
     closed: bool,
 }
 
@@ -31,150 +93,206 @@ struct PlainFeeder {
 #[derive(Drop)]
 struct PlainMachine {
     feeders: Vec<PlainFeeder>,
-    indexed: Vec<(u32, Entries)>,
+    table: PlainTable,
     newest_first: bool,
 }
 
-const CAPACITY: usize = 3;
-
-const LIMIT: usize = 25;
-
-fn number_in(entries: Entries) -> Option<i128> {
-    entries.first().copied().flatten()
-}
-
-fn fits(entries: Entries) -> bool {
-    entries.len() == 1 && number_in(entries).unwrap_or(0) < 8
-}
-
 impl PlainMachine {
-    fn submit(&mut self, f: u32, row: Entries) -> Result<Said<'static>, NoMemory> {
+    fn new(alloc: Global, newest_first: bool) -> Result<PlainMachine, NoMemory> {
+        let mut feeders = Vec::new(alloc);
+        for _ in 0..3 {
+            feeders.push(PlainFeeder {
+                rows: Vec::new(alloc),
+                closed: false,
+            })?;
+        }
+        Ok(PlainMachine {
+            feeders,
+            table: PlainTable::new(alloc),
+            newest_first,
+        })
+    }
+
+    fn submit(&mut self, f: u32, row: Row) -> Result<Reply, NoMemory> {
         let Some(feeder) = self.feeders.get_mut(f as usize) else {
-            return Ok(Said::UnknownFeeder(row));
+            return Ok(Reply::Submitted(Err(SubmitRefused::UnknownFeeder(row))));
         };
         if feeder.closed {
-            return Ok(Said::Closed(row));
+            return Ok(Reply::Submitted(Err(SubmitRefused::Closed(row))));
         }
-        if !fits(row) {
-            return Ok(Said::Misfit(row));
+        if row.values().len() != DOMAINS.len() || !all_fit(row.values()) {
+            return Ok(Reply::Submitted(Err(SubmitRefused::Misfit(row))));
         }
         if feeder.rows.len() == CAPACITY {
-            return Ok(Said::Full(row));
+            return Ok(Reply::Submitted(Err(SubmitRefused::Full(row))));
         }
         feeder.rows.push(row)?;
-        Ok(Said::Accepted)
+        Ok(Reply::Submitted(Ok(())))
     }
 
-    fn load(&mut self, f: u32) -> Result<Said<'static>, NoMemory> {
-        let position = self.indexed.len();
+    fn load(&mut self, f: u32) -> Result<Reply, NoMemory> {
+        let position = self.table.rows.len();
         let Some(feeder) = self.feeders.get_mut(f as usize) else {
-            return Ok(Said::Loaded(Err(LoadRefused::UnknownFeeder)));
+            return Ok(Reply::Loaded(Err(LoadRefused::UnknownFeeder)));
         };
         if feeder.rows.is_empty() {
-            return Ok(if feeder.closed { ENDED } else { EMPTY });
+            return Ok(Reply::Loaded(Err(if feeder.closed {
+                LoadRefused::Ended
+            } else {
+                LoadRefused::Empty
+            })));
         }
         if position == LIMIT {
-            return Ok(INDEX_FULL);
+            return Ok(Reply::Loaded(Err(LoadRefused::IndexFull)));
         }
-        let row = if self.newest_first {
-            feeder.rows.pop().unwrap_or(&[])
+        let place = if self.newest_first {
+            feeder.rows.len() - 1
         } else {
-            feeder.rows.remove(0)
+            0
         };
-        self.indexed.push((f, row))?;
-        Ok(Said::Loaded(Ok(position as u64)))
+        let row = feeder.rows.remove(place);
+        self.table.rows.push((f, row))?;
+        Ok(Reply::Loaded(Ok(position as u64)))
     }
 
-    fn close(&mut self, f: u32) -> Said<'static> {
-        match self.feeders.get_mut(f as usize) {
-            None => Said::Ended(Err(CloseRefused::UnknownFeeder)),
-            Some(feeder) => {
-                if feeder.closed {
-                    return Said::Ended(Err(CloseRefused::AlreadyClosed));
-                }
-                feeder.closed = true;
-                CLOSED
-            }
+    fn close(&mut self, f: u32) -> Result<(), CloseRefused> {
+        let Some(feeder) = self.feeders.get_mut(f as usize) else {
+            return Err(CloseRefused::UnknownFeeder);
+        };
+        if feeder.closed {
+            return Err(CloseRefused::AlreadyClosed);
         }
+        feeder.closed = true;
+        Ok(())
     }
 
-    fn sum(&self) -> i128 {
-        let mut sum = 0i128;
-        for (_, row) in &self.indexed {
-            sum = sum.wrapping_add(number_in(row).unwrap_or(0));
+    fn step(&mut self, alloc: Global, event: Event) -> Result<Reply, NoMemory> {
+        match event {
+            Event::Submit(f, row) => self.submit(f, row),
+            Event::Load(f) => self.load(f),
+            Event::Close(f) => Ok(Reply::Closed(self.close(f))),
+            Event::Ask(query) => Ok(Reply::Answered(Ok(self.table.answer(alloc, &query)?))),
         }
-        sum
     }
+}
 
-    fn step(&mut self, step: Step<'static>) -> Result<Said<'static>, NoMemory> {
-        match step {
-            Step::Submit(f, row) => self.submit(f, row),
-            Step::Load(f) => self.load(f),
-            Step::Close(f) => Ok(self.close(f)),
-            Step::Ask(Total::Count, _) => Ok(Said::Count(self.indexed.len() as u64)),
-            Step::Ask(_, _) => Ok(Said::Sum(self.sum())),
+// A number that differs widely from place to place.
+fn mix(k: u64) -> u64 {
+    let mixed = k.wrapping_add(1).wrapping_mul(0x9E37_79B9_7F4A_7C15);
+    (mixed ^ (mixed >> 31))
+        .wrapping_mul(0xBF58_476D_1CE4_E5B9)
+        .rotate_left(29)
+}
+
+// An entry of a row: a null or a number past an end now and then, else one of the column's numbers.
+fn entry_of(k: u64, place: u64, domain: Domain) -> Option<i128> {
+    let mixed = mix(k.wrapping_mul(5).wrapping_add(place));
+    match mixed % 32 {
+        0..=3 => None,
+        4 => Some(domain.number(domain.size)),
+        5 => Some(domain.least.wrapping_sub(1)),
+        _ => Some(domain.number(mixed / 32 % domain.size.max(1))),
+    }
+}
+
+// A row, now and then with too few entries or one too many.
+fn row_at(alloc: Global, k: u64) -> Result<Row, NoMemory> {
+    let [slices, equality, range, signed] = DOMAINS;
+    let entries = [
+        entry_of(k, 0, slices),
+        entry_of(k, 1, equality),
+        entry_of(k, 2, range),
+        entry_of(k, 3, signed),
+        Some(0),
+    ];
+    match k % 29 {
+        0 => row_of(alloc, &[]),
+        1 => row_of(alloc, &entries[..3]),
+        2 => row_of(alloc, &entries),
+        _ => row_of(alloc, &entries[..4]),
+    }
+}
+
+fn predicate_at(alloc: Global, k: u64) -> Result<Pred, NoMemory> {
+    match k % 8 {
+        0 => Ok(Pred::All),
+        1 => Ok(Pred::Compare(0, Op::Lt, 4)),
+        2 => not(alloc, Pred::Compare(1, Op::Le, 3)),
+        3 => Ok(Pred::Compare(2, Op::Ne, 5)),
+        4 => either(alloc, Pred::Null(3), Pred::Compare(1, Op::Gt, 6)),
+        5 => {
+            let low = Pred::Compare(3, Op::Lt, 1);
+            both(alloc, low, Pred::Compare(2, Op::Ge, 4))
         }
+        6 => {
+            let null = not(alloc, Pred::Null(1))?;
+            both(alloc, Pred::Compare(0, Op::Ge, 2), null)
+        }
+        _ => {
+            let high = Pred::Compare(3, Op::Ge, -3);
+            let low = both(alloc, high, Pred::Compare(0, Op::Ne, 0))?;
+            either(alloc, low, Pred::Compare(2, Op::Eq, 0))
+        }
+    }
+}
+
+fn total_at(k: u64) -> Total {
+    let c = (k % 4) as u32;
+    match k / 4 % 8 {
+        0 => Total::Count,
+        1 | 2 => Total::Sum(c),
+        3 => Total::Least(c),
+        4 => Total::Greatest(c),
+        5 => Total::Median(c),
+        _ => Total::Rows,
     }
 }
 
 // The event at a place of the list: of feeders 0 to 2, and now and then of one that is not there.
-fn step_at(k: u64) -> Step<'static> {
-    let mixed = k.wrapping_mul(0x9E37_79B9_7F4A_7C15).rotate_left(20);
-    let f = (mixed % 13 % 4) as u32;
-    let place = (mixed / 64 % 11) as usize;
-    match mixed / 4096 % 16 {
-        0..=6 => Step::Submit(f, ROWS.get(place).copied().unwrap_or(&[])),
-        7..=11 => Step::Load(f),
-        12 => COUNT_ALL,
-        13 | 14 => SUM_ALL,
-        _ => { if k < 150 { SUM_ALL } else { Step::Close(f) } }
+fn event_at(alloc: Global, k: u64) -> Result<Event, NoMemory> {
+    let mixed = mix(k);
+    let f = (mixed % 10 / 3) as u32;
+    match mixed / 64 % 16 {
+        0..=6 => Ok(Event::Submit(f, row_at(alloc, k)?)),
+        7..=11 => Ok(Event::Load(f)),
+        15 if k >= 140 => Ok(Event::Close(f)),
+        _ => Ok(Event::Ask(Query {
+            total: total_at(mixed >> 13),
+            pred: predicate_at(alloc, mixed >> 20)?,
+        })),
     }
 }
 
-fn plain(alloc: Global, newest_first: bool) -> Result<PlainMachine, NoMemory> {
-    let mut feeders = Vec::new(alloc);
-    for _ in 0..3 {
-        feeders.push(PlainFeeder {
-            rows: Vec::new(alloc),
-            closed: false,
-        })?;
-    }
-    Ok(PlainMachine {
-        feeders,
-        indexed: Vec::new(alloc),
-        newest_first,
-    })
-}
-
-// The events, each with what the plain machine replies.
-fn run_of(alloc: Global, newest_first: bool) -> Result<Vec<Done<'static>>, NoMemory> {
-    let mut machine = plain(alloc, newest_first)?;
-    let mut run = Vec::new(alloc);
+fn events(alloc: Global) -> Result<Vec<Event>, NoMemory> {
+    let mut events = Vec::with_capacity(alloc, 300)?;
     for k in 0..300 {
-        let step = step_at(k);
-        let said = machine.step(step)?;
-        run.push((step, said))?;
+        events.push(event_at(alloc, k)?)?;
     }
-    Ok(run)
+    Ok(events)
 }
 
-const THREE: Machine<'static> = Machine {
-    columns: &[QTY],
-    capacities: &[3, 3, 3],
-    limit: 25,
-};
+// What the plain machine replies to the events.
+fn plain_replies(alloc: Global, newest_first: bool) -> Result<Vec<Reply>, NoMemory> {
+    let mut machine = PlainMachine::new(alloc, newest_first)?;
+    let mut replies = Vec::with_capacity(alloc, 300)?;
+    for event in events(alloc)? {
+        replies.push(machine.step(alloc, event)?)?;
+    }
+    Ok(replies)
+}
 
 // Whether both machines reply alike to each event.
 fn agree_once(rt: &impl Abort, alloc: Global, newest_first: bool) -> Result<bool, NoMemory> {
-    let run = run_of(alloc, newest_first)?;
-    let mut core = made(alloc, THREE).expect(rt, "a machine");
-    let mut alike = true;
-    for (reply, (_, wanted)) in replies(rt, alloc, &mut core, &run)?.iter().zip(&run) {
+    let plain = plain_replies(alloc, newest_first)?;
+    let mut core = made(alloc, THREE_FEEDERS).expect(rt, "a machine");
+    let replies = core.run(events(alloc)?).map_err(|_| NoMemory)?;
+    let mut alike = replies.len() == plain.len();
+    for (reply, wanted) in replies.iter().zip(&plain) {
         let said = told(reply);
         if lacks_memory(&said) {
             return Err(NoMemory);
         }
-        alike = alike && said == *wanted;
+        alike = alike && said == told(wanted);
     }
     Ok(alike)
 }
