@@ -81,13 +81,20 @@ fn read_until(alloc: Global, text: &[u8], lines: &mut Vec<u8>) -> Result<(), Scr
     }
 }
 
+// Whether some line says that memory was wanted.
+fn told_of_memory(lines: &[u8]) -> bool {
+    lines
+        .windows(10)
+        .any(|part| part == b"no memory\n".as_slice())
+}
+
 #[test]
 fn a_reader_fails_after_each_byte(rt: HostRuntime) -> Result<(), Fail> {
     let mut lines = buffer(rt.alloc())?;
     for count in 0..SCRIPT.len() {
         let text = &SCRIPT.as_bytes()[..count];
         let run = read_until(rt.alloc(), text, &mut lines);
-        if lines.as_slice().ends_with(b"no memory\n") {
+        if told_of_memory(&lines) {
             continue;
         }
         let answered = text.iter().filter(|byte| **byte == b'\n').count();
