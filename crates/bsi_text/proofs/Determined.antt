@@ -26,16 +26,16 @@ use Rattle.bsi_table.specs.declared.query.Query.{Query}
 use Rattle.bsi_table.specs.declared.query.Total.{Total}
 use Rattle.bsi_table.specs.declared.query.Total.TheVariants.{Count, Sum, Least, Greatest, Median, Rows}
 use Rattle.bsi_shift.specs.WholeNumbers.{signed_sum, IsSignedGreatestOf, IsSignedLeastOf, IsSignedMedianOf}
-use Rattle.bsi_text.specs.Events.{IsEvent, IsQuery, feeder_event, plain_event, total_of}
-use Rattle.bsi_text.specs.Lines.{answer_line, ask_line, bad_line, done_line, no_memory_line, reply_line, rows_text}
-use Rattle.bsi_text.specs.Numbers.{Field, feeder_of, values_in}
+use Rattle.bsi_records.specs.Events.{IsEvent, IsQuery, feeder_event, plain_event, total_of}
+use Rattle.bsi_records.specs.Lines.{answer_line, ask_line, bad_line, done_line, no_memory_line, reply_line, rows_text}
+use Rattle.bsi_records.specs.Numbers.{Field, feeder_of, values_in}
 use Rattle.bsi_text.specs.Pasts.{FindMemory}
-use Rattle.bsi_text.specs.Predicates.{IsPredicate}
+use Rattle.bsi_records.specs.Predicates.{IsPredicate}
 use Rattle.bsi_text.specs.Scripts.{AreTurns, Declaring, IsTurn, Running, Stage, set_up}
-use Rattle.bsi_text.specs.Setups.{nothing_declared}
+use Rattle.bsi_records.specs.Setups.{nothing_declared}
 use Rattle.bsi_text.proofs.Named.{HasNames, turn_named}
 use Rattle.bsi_table.specs.Columns.{AreNamed}
-use Rattle.bsi_text.proofs.Spelling.{query_is_there, same_query}
+use Rattle.bsi_records.proofs.Spelling.{query_is_there, same_query}
 use Rattle.bsi_text.proofs.Turns.{IsPlain, plain}
 use Rattle.bsi_text.proofs.Unique.{one_greatest, one_least, one_median}
 

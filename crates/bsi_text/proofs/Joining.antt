@@ -10,7 +10,7 @@ use Rattle.csv.specs.declared.parser.State.{State}
 use Rattle.csv.specs.declared.parser.State.TheVariants as st
 use Rattle.csv.specs.declared.reader.Reader.{Reader}
 use Rattle.bsi_table.specs.Rows.{Entries}
-use Rattle.bsi_text.specs.Numbers.{Field}
+use Rattle.bsi_records.specs.Numbers.{Field}
 use Rattle.bsi_text.specs.RowFiles.{good_row}
 use Rattle.bsi_text.specs.Sources.{HasRead, HasTaken, IsOver, IsWhole, Layout, StandsAfter}
 use Rattle.bsi_text.specs.declared.rows.Tally.{Tally}

@@ -10,9 +10,9 @@ use Rattle.std.proofs.lemmas.List.Sums.{prefix_len-drop_all}
 use Rattle.csv.specs.Records.{field_at}
 use Rattle.bsi_table.specs.Columns.{Declared}
 use Rattle.bsi_table.specs.Rows.{Entries}
-use Rattle.bsi_text.specs.Numbers.{Field, value_in, values_in}
+use Rattle.bsi_records.specs.Numbers.{Field, value_in, values_in}
 use Rattle.bsi_text.specs.RowFiles.{in_order, place_of}
-use Rattle.bsi_text.proofs.Values.{behind, values_done, values_next, values_stop}
+use Rattle.bsi_records.proofs.Values.{behind, values_done, values_next, values_stop}
 
 -- the field at a place, or no byte
 pub at_place : (fields : List (List ℕ)) (place : ℕ) → get_or fields place [] ≡ unwrap_or (field_at fields place) []

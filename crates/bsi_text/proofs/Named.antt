@@ -10,10 +10,10 @@ use Rattle.bsi_table.specs.Columns.{Declared, named_column, size_in, with_column
 use Rattle.bsi_table.specs.Names.{is_name}
 use Rattle.bsi_table.specs.Refusals.{name_refusal}
 use Rattle.bsi_table.specs.declared.form.Form.{Form}
-use Rattle.bsi_text.specs.Lines.{bad_line, done_line}
-use Rattle.bsi_text.specs.Numbers.{Field, offset_of}
+use Rattle.bsi_records.specs.Lines.{bad_line, done_line}
+use Rattle.bsi_records.specs.Numbers.{Field, offset_of}
 use Rattle.bsi_text.specs.Scripts.{Stage, Declaring, Running, set_up, IsTurn, AreTurns}
-use Rattle.bsi_text.specs.Setups.{Setup, can_begin, column_after, declared_after, feeder_after, form_in, is_begin, limit_of, one_more, table_after}
+use Rattle.bsi_records.specs.Setups.{Setup, can_begin, column_after, declared_after, feeder_after, form_in, is_begin, limit_of, one_more, table_after}
 use Rattle.bsi_table.specs.Columns.{AreNamed}
 
 -- ---- what holds of an option's content

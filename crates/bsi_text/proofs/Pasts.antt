@@ -6,12 +6,12 @@ use Rattle.bsi_load.specs.Runs.{AreLawful, Done, IsConserved, shown_after}
 use Rattle.bsi_load.specs.Shown.{Shown, IsLawful}
 use Rattle.bsi_load.specs.declared.event.Event.{Event}
 use Rattle.bsi_load.specs.declared.event.Reply.{Reply}
-use Rattle.bsi_text.specs.Events.{IsEvent}
-use Rattle.bsi_text.specs.Lines.{bad_line, done_line}
-use Rattle.bsi_text.specs.Numbers.{Field}
+use Rattle.bsi_records.specs.Events.{IsEvent}
+use Rattle.bsi_records.specs.Lines.{bad_line, done_line}
+use Rattle.bsi_records.specs.Numbers.{Field}
 use Rattle.bsi_text.specs.Pasts.{AreAddedBy, HasPast, IsAddedBy, machine_of}
 use Rattle.bsi_text.specs.Scripts.{AreTurns, Declaring, IsTurn, Running, Stage, set_up}
-use Rattle.bsi_text.specs.Setups.{Setup, can_begin, declared_after, is_begin, nothing_declared}
+use Rattle.bsi_records.specs.Setups.{Setup, can_begin, declared_after, is_begin, nothing_declared}
 use Rattle.bsi_text.proofs.Named.{same_schema}
 use Rattle.bsi_text.proofs.Turns.{no_turn, one_turn, turns_behind}
 

@@ -17,9 +17,9 @@ use Rattle.csv.specs.declared.parser.State.TheVariants as st
 use Rattle.csv.specs.declared.reader.Reader.{Reader}
 use Rattle.bsi_table.specs.Columns.{NamedColumn}
 use Rattle.bsi_table.specs.Names.{is_name}
-use Rattle.bsi_text.specs.Numbers.{Field}
+use Rattle.bsi_records.specs.Numbers.{Field}
 use Rattle.bsi_text.specs.Scripts.{Stage, Declaring, IsTurn, AreTurns}
-use Rattle.bsi_text.specs.Setups.{nothing_declared}
+use Rattle.bsi_records.specs.Setups.{nothing_declared}
 use Rattle.bsi_text.specs.Texts.{AreFirstRecords, IsAnswered, IsBegun, IsStopped, IsTooLong}
 use Rattle.bsi_text.proofs.AllRecords.{all_records, records_behind, records_end}
 use Rattle.bsi_text.proofs.Named.{turns_named}

@@ -13,7 +13,7 @@ use Rattle.csv.specs.declared.parser.State.TheVariants as st
 use Rattle.csv.specs.declared.reader.Reader.{Reader}
 use Rattle.bsi_table.specs.Columns.{Declared}
 use Rattle.bsi_table.specs.Rows.{Entries}
-use Rattle.bsi_text.specs.Numbers.{Field}
+use Rattle.bsi_records.specs.Numbers.{Field}
 use Rattle.bsi_text.specs.RowFiles.{bad_count, good_row, is_header}
 use Rattle.bsi_text.specs.Sources.{HasEnded, HasMore, HasRead, HasStopped, HasNoHeader, HasTaken, IsOver, IsPlain, IsTally, Layout, StandsAfter}
 use Rattle.bsi_text.specs.declared.rows.SourceFault.{SourceFault}

@@ -13,13 +13,13 @@ use Rattle.bsi_load.specs.Shown.{Shown, close_reply, load_refusal, submit_reply,
 use Rattle.bsi_table.specs.Columns.{Declared}
 use Rattle.bsi_table.specs.declared.errors.AskError.TheVariants as ask
 use Rattle.bsi_table.specs.declared.query.Query.{Query}
-use Rattle.bsi_text.specs.Events.{IsEvent, IsQuery, feeder_event, plain_event}
-use Rattle.bsi_text.specs.Lines.{bad_line, done_line, reply_line}
-use Rattle.bsi_text.specs.Numbers.{Field, feeder_of, values_in}
+use Rattle.bsi_records.specs.Events.{IsEvent, IsQuery, feeder_event, plain_event}
+use Rattle.bsi_records.specs.Lines.{bad_line, done_line, reply_line}
+use Rattle.bsi_records.specs.Numbers.{Field, feeder_of, values_in}
 use Rattle.bsi_text.specs.Scripts.{Stage, Declaring, Running, set_up, IsTurn, AreTurns}
 use Rattle.bsi_text.proofs.Named.{HasNames, IfSome-choice, IfSome-map, IfSome-then, turn_named}
 use Rattle.bsi_table.specs.Columns.{AreNamed}
-use Rattle.bsi_text.proofs.Spelling.{query_is_there, query_or_not}
+use Rattle.bsi_records.proofs.Spelling.{query_is_there, query_or_not}
 
 -- ---- runs behind one another
 

@@ -1,12 +1,6 @@
-pub mod Events
-pub mod Lines
-pub mod Numbers
 pub mod Pasts
-pub mod Postfix
-pub mod Predicates
 pub mod RowFiles
 pub mod Scripts
 pub mod Sessions
-pub mod Setups
 pub mod Sources
 pub mod Texts

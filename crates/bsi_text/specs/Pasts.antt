@@ -6,11 +6,11 @@ use Rattle.bsi_load.specs.Sizes.{new_machine}
 use Rattle.bsi_load.specs.declared.event.Event.{Event}
 use Rattle.bsi_load.specs.declared.event.Reply.{Reply}
 use Rattle.bsi_table.specs.Columns.{Declared}
-use Rattle.bsi_text.specs.Events.{IsEvent}
-use Rattle.bsi_text.specs.Lines.{bad_line, done_line, no_memory_line, reply_line}
-use Rattle.bsi_text.specs.Numbers.{Field}
+use Rattle.bsi_records.specs.Events.{IsEvent}
+use Rattle.bsi_records.specs.Lines.{bad_line, done_line, no_memory_line, reply_line}
+use Rattle.bsi_records.specs.Numbers.{Field}
 use Rattle.bsi_text.specs.Scripts.{AreTurns, Declaring}
-use Rattle.bsi_text.specs.Setups.{Setup, can_begin, is_begin, nothing_declared}
+use Rattle.bsi_records.specs.Setups.{Setup, can_begin, is_begin, nothing_declared}
 
 -- the machine that a setup makes
 abbrev pub machine_of : Setup → Shown

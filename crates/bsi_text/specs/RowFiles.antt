@@ -5,7 +5,7 @@ use Rattle.std.specs.Option.{is_none}
 use Rattle.std.specs.Str.{bytes_eq}
 use Rattle.bsi_table.specs.Columns.{Declared, NamedColumn, fits, position_of}
 use Rattle.bsi_table.specs.Rows.{Entries}
-use Rattle.bsi_text.specs.Numbers.{Field, values_in}
+use Rattle.bsi_records.specs.Numbers.{Field, values_in}
 
 -- one field of the header alone is the column's name
 abbrev pub is_named_once : List Field → NamedColumn → Bool

@@ -5,10 +5,10 @@ use Rattle.bsi_load.specs.declared.event.Reply.{Reply}
 use Rattle.bsi_load.specs.Runs.{shown_after}
 use Rattle.bsi_load.specs.Shown.{Shown, IsLawful}
 use Rattle.bsi_load.specs.Sizes.{new_machine}
-use Rattle.bsi_text.specs.Events.{IsEvent}
-use Rattle.bsi_text.specs.Lines.{bad_line, done_line, reply_line}
-use Rattle.bsi_text.specs.Numbers.{Field}
-use Rattle.bsi_text.specs.Setups.{Setup, can_begin, declared_after, is_begin, nothing_declared}
+use Rattle.bsi_records.specs.Events.{IsEvent}
+use Rattle.bsi_records.specs.Lines.{bad_line, done_line, reply_line}
+use Rattle.bsi_records.specs.Numbers.{Field}
+use Rattle.bsi_records.specs.Setups.{Setup, can_begin, declared_after, is_begin, nothing_declared}
 
 -- what a script has come to: its setup, and from `begin` on its machine
 pub data Stage : Type 0 where

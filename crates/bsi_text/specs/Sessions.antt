@@ -2,7 +2,7 @@
 use Rattle.std.specs.Prelude.{◌≡◌, ⊤, Bool, true, false, List, MatchOption}
 use Rattle.bsi_text.specs.declared.session.Session.{Session}
 use Rattle.bsi_text.specs.declared.session.Session.TheVariants as session
-use Rattle.bsi_text.specs.Numbers.{Field}
+use Rattle.bsi_records.specs.Numbers.{Field}
 use Rattle.bsi_text.specs.Scripts.{Stage, Declaring, Running, set_up}
 
 abbrev pub stage_of : Session → Stage

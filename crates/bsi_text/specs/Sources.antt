@@ -7,7 +7,7 @@ use Rattle.csv.specs.declared.reader.Reader.{Reader}
 use Rattle.csv.specs.declared.reader.Trim.TheVariants as trim
 use Rattle.bsi_table.specs.Columns.{Declared}
 use Rattle.bsi_table.specs.Rows.{Entries}
-use Rattle.bsi_text.specs.Numbers.{Field}
+use Rattle.bsi_records.specs.Numbers.{Field}
 use Rattle.bsi_text.specs.RowFiles.{bad_count, good_rows, is_header}
 use Rattle.bsi_text.specs.declared.rows.Progress.{Progress}
 use Rattle.bsi_text.specs.declared.rows.SourceFault.{SourceFault}

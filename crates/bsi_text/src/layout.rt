@@ -5,11 +5,11 @@ ghost use Rattle.std.specs.List.{list_all, prefix_len};
 ghost use Rattle.std.specs.Str.{bytes_eq};
 ghost use Rattle.csv.specs.Records.{fields_of};
 ghost use Rattle.bsi_table.specs.Columns.{position_of};
-ghost use Rattle.bsi_text.specs.Numbers.{values_in};
+ghost use Rattle.bsi_records.specs.Numbers.{values_in};
 ghost use Rattle.bsi_text.specs.RowFiles.{good_row, in_order, is_header, is_known, is_named_once, place_of};
 
 use crate::NoMemory;
-use crate::numbers::read_value;
+use bsi_records::read_value;
 use bsi_table::{Row, Schema};
 use csv::ByteRecord;
 use std::alloc::Global;

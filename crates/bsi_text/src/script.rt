@@ -8,7 +8,7 @@ ghost use Rattle.csv.specs.declared.parser.State.TheVariants as st;
 ghost use Rattle.csv.specs.declared.reader.Trim.TheVariants as trim;
 ghost use Rattle.bsi_text.specs.Scripts.{Declaring, IsTurn};
 ghost use Rattle.bsi_text.specs.Sessions.{stage_of};
-ghost use Rattle.bsi_text.specs.Setups.{nothing_declared};
+ghost use Rattle.bsi_records.specs.Setups.{nothing_declared};
 ghost use Rattle.bsi_text.specs.Texts.{FromText, IsAnswered, IsBegun, IsStopped, IsTooLong};
 
 use crate::session::Session;

@@ -4,14 +4,12 @@ ghost use Rattle.std.specs.Prelude.{◌≡◌, ◌++◌, ◌∷◌, [], IfOk, On
 ghost use Rattle.csv.specs.Records.{fields_of};
 ghost use Rattle.bsi_load.specs.Runs.{shown_after};
 ghost use Rattle.bsi_load.specs.Shown.{IsLawful};
-ghost use Rattle.bsi_text.specs.Lines.{bad_line, done_line};
+ghost use Rattle.bsi_records.specs.Lines.{bad_line, done_line};
 ghost use Rattle.bsi_text.specs.Scripts.{IsTurn, Running};
 
 use crate::NoMemory;
-use crate::lines::write_reply;
-use crate::records::read_event;
-use crate::setups::{Setup, test_begin};
 use bsi_load::{Core, Event, Reply};
+use bsi_records::{Setup, read_event, test_begin, write_reply};
 use csv::ByteRecord;
 use std::alloc::Global;
 
@@ -27,7 +25,7 @@ pub(crate) enum Session {
 impl Session {
     ghost use Rattle.std.specs.Prelude.{◌≡◌, IfOk, OnOk};
     ghost use Rattle.csv.specs.Records.{fields_of};
-    ghost use Rattle.bsi_text.specs.Setups.{nothing_declared};
+    ghost use Rattle.bsi_records.specs.Setups.{nothing_declared};
     ghost use Rattle.bsi_text.specs.Scripts.{Declaring, IsTurn};
     ghost use Rattle.bsi_text.specs.Sessions.{stage_of, IsSetUp};
 

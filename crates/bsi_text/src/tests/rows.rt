@@ -1,21 +1,30 @@
 //! The rows of row files.
 
-use super::declare;
 use crate::tests::ends::BrokenReader;
 use crate::{NoMemory, RowSource, SourceFault};
-use bsi_table::{Row, Schema};
+use bsi_table::{ColumnSpec, Row, Schema, SchemaError};
 use std::alloc::Global;
 use std::io;
 use std::io::Read;
 use std::test::Fail;
 
-// The columns a, of numbers below 16, and b, of numbers below 10.
-fn schema_of(alloc: Global) -> Result<Schema, NoMemory> {
+fn schema_once(alloc: Global) -> Result<Schema, SchemaError> {
     let mut schema = Schema::new(alloc);
-    let mut limit = 1;
-    declare(alloc, &mut schema, &mut limit, "column,a,slices,4")?;
-    declare(alloc, &mut schema, &mut limit, "column,b,range,10")?;
+    let Ok(mut bases) = Vec::with_capacity(alloc, 1) else {
+        return Err(SchemaError::NoMemory);
+    };
+    bases.push_reserved(10);
+    schema.add("a", ColumnSpec::Slices(4))?;
+    schema.add("b", ColumnSpec::Range(bases))?;
     Ok(schema)
+}
+
+// The columns a, of numbers below 16, and b, of numbers below 10; a refused growth is asked for again.
+fn schema_of(alloc: Global) -> Result<Schema, SchemaError> {
+    match schema_once(alloc) {
+        Err(SchemaError::NoMemory) => schema_once(alloc),
+        made => made,
+    }
 }
 
 // A row, or that there is none, or the fault; what the test waits for.

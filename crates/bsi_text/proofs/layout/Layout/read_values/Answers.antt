@@ -1,7 +1,7 @@
 use Rattle.std.proofs.Common.{◌+◌, Some, ap, ap₂, sym, subst, ◌∙◌}
 use Rattle.std.specs.Vec.{vec_capacity}
 use Rattle.csv.specs.Records.{fields_of}
-use Rattle.bsi_text.specs.Numbers.{value_in, values_in}
+use Rattle.bsi_records.specs.Numbers.{value_in, values_in}
 use Rattle.bsi_text.specs.RowFiles.{in_order}
 use Rattle.bsi_text.proofs.Layouts.{IsRead, ordered, value_done, value_next, value_stop}
 use Rattle.bsi_text.proofs.layout.Layout.read_values.Goals as goal

@@ -1,0 +1,222 @@
+-- Fields are read as the predicate that they spell, and as no other.
+use Rattle.std.proofs.Common.{◌≡◌, ℕ, List, [], ◌∷◌, ◌++◌, ◌-◌, ◌<◌, ◌≤◌, length, length-drop, drop, arith, MatchOption, Option, Some, None, option_map, option_and_then, ap, sym, ◌∙◌, refl, append_assoc, codes, subst}
+use Rattle.std.proofs.lemmas.List.{append-nil}
+use Rattle.std.proofs.lemmas.Option.{option_and_then_some}
+use Rattle.bsi_slices.specs.declared.column.Op.{Op}
+use Rattle.bsi_table.specs.Columns.{AreNamed, Declared, position_of}
+use Rattle.bsi_table.specs.declared.query.Pred.{Pred, All, Compare, Null, Both', Either', Not'}
+use Rattle.bsi_records.specs.declared.predicates.Pending.{Pending}
+use Rattle.bsi_records.specs.declared.predicates.Pending.TheVariants.{Nothing, Column, Comparison}
+use Rattle.bsi_records.specs.Numbers.{Field, number_in}
+use Rattle.bsi_records.specs.Postfix.{after_field, after_fields, after_name, after_sign, after_word, begun, joined_both, joined_either, negated, nowhere, only_of, op_of, plain, ready, shown, State}
+use Rattle.bsi_records.specs.Predicates.{IsPredicate, sign_of, Spells}
+use Rattle.bsi_records.proofs.SpellWords.{if_same, mapped, name_leads, none_is_some, read_is_sign, sign_leads, some_same}
+
+-- one more field
+field_leads : (schema : Declared) (field : Field) (rest : List Field) (pending next : Pending) (stack after : List Pred)
+    → after_field schema pending stack field ≡ Some (next, after)
+    → after_fields schema (field ∷ rest) pending stack ≡ after_fields schema rest next after
+unfolding after_fields
+field_leads schema field rest pending next stack after step = ap (option_and_then (λ state. after_fields schema rest state.0 state.1)) step
+
+-- two spellings and a word
+regrouped : (fields one two rest : List Field) (word : Field) → fields ≡ one ++ two ++ word ∷ [] → fields ++ rest ≡ one ++ (two ++ word ∷ rest)
+regrouped fields one two rest word is = ap (λ f. f ++ rest) is ∙ append_assoc (one ++ two) (word ∷ []) rest ∙ append_assoc one two (word ∷ rest)
+
+-- the spelling of a predicate puts it on the stack
+pub spelled_leads : (schema : Declared) (P : Pred) (fields rest : List Field) (stack : List Pred) → AreNamed schema.columns → Spells schema fields P
+    → after_fields schema (fields ++ rest) Nothing stack ≡ after_fields schema rest Nothing (plain P ∷ stack)
+unfolding Spells
+spelled_leads schema All fields rest stack named spelled =
+    ap (λ f. after_fields schema (f ++ rest) Nothing stack) spelled ∙ field_leads schema (codes "all") rest Nothing Nothing stack (All ∷ stack) refl
+spelled_leads schema (Compare c op n) fields rest stack named spelled =
+    let number : after_field schema (Comparison c op) stack spelled.1 ≡ Some (Nothing, Compare c op n ∷ stack) = ap (option_map (λ n. (Nothing, Compare c op n ∷ stack))) spelled.4 in
+    ap (λ f. after_fields schema (f ++ rest) Nothing stack) spelled.2
+    ∙ field_leads schema spelled.0 (sign_of op ∷ spelled.1 ∷ rest) Nothing (Column c) stack stack (name_leads schema spelled.0 c stack named spelled.3)
+    ∙ field_leads schema (sign_of op) (spelled.1 ∷ rest) (Column c) (Comparison c op) stack stack (sign_leads op c stack)
+    ∙ field_leads schema spelled.1 rest (Comparison c op) Nothing stack (Compare c op n ∷ stack) number
+spelled_leads schema (Null c) fields rest stack named spelled =
+    ap (λ f. after_fields schema (f ++ rest) Nothing stack) spelled.1
+    ∙ field_leads schema spelled.0 (codes "null" ∷ rest) Nothing (Column c) stack stack (name_leads schema spelled.0 c stack named spelled.2)
+    ∙ field_leads schema (codes "null") rest (Column c) Nothing stack (Null c ∷ stack) refl
+spelled_leads schema (Both' p first q second) fields rest stack named spelled =
+    ap (λ f. after_fields schema f Nothing stack) (regrouped fields spelled.0 spelled.1 rest (codes "and") spelled.2)
+    ∙ spelled_leads schema first spelled.0 (spelled.1 ++ codes "and" ∷ rest) stack named spelled.3
+    ∙ spelled_leads schema second spelled.1 (codes "and" ∷ rest) (plain first ∷ stack) named spelled.4
+    ∙ field_leads schema (codes "and") rest Nothing Nothing (plain second ∷ plain first ∷ stack) (plain (Both' p first q second) ∷ stack) refl
+spelled_leads schema (Either' p first q second) fields rest stack named spelled =
+    ap (λ f. after_fields schema f Nothing stack) (regrouped fields spelled.0 spelled.1 rest (codes "or") spelled.2)
+    ∙ spelled_leads schema first spelled.0 (spelled.1 ++ codes "or" ∷ rest) stack named spelled.3
+    ∙ spelled_leads schema second spelled.1 (codes "or" ∷ rest) (plain first ∷ stack) named spelled.4
+    ∙ field_leads schema (codes "or") rest Nothing Nothing (plain second ∷ plain first ∷ stack) (plain (Either' p first q second) ∷ stack) refl
+spelled_leads schema (Not' p pred) fields rest stack named spelled =
+    ap (λ f. after_fields schema (f ++ rest) Nothing stack) spelled.1
+    ∙ ap (λ f. after_fields schema f Nothing stack) (append_assoc spelled.0 (codes "not" ∷ []) rest)
+    ∙ spelled_leads schema pred spelled.0 (codes "not" ∷ rest) stack named spelled.2
+    ∙ field_leads schema (codes "not") rest Nothing Nothing (plain pred ∷ stack) (plain (Not' p pred) ∷ stack) refl
+
+-- what is spelled is read
+pub is_read : (schema : Declared) → AreNamed schema.columns → (fields : List Field) (P : Pred) → Spells schema fields P
+    → after_fields schema fields Nothing [] ≡ Some (Nothing, plain P ∷ [])
+unfolding after_fields
+is_read schema named fields P spelled = ap (λ f. after_fields schema f Nothing []) (sym (append-nil fields)) ∙ spelled_leads schema P fields [] [] named spelled
+
+-- the fields spell these predicates, the newest first
+abbrev AreSpelled : Declared → List Field → List Pred → Type 0
+AreSpelled schema fields [] = fields ≡ []
+AreSpelled schema fields (P ∷ stack) = (before : List Field) × (own : List Field) × (fields ≡ before ++ own) × AreSpelled schema before stack × Spells schema own P
+
+-- they do so up to what the last ones have begun
+abbrev AreRead : Declared → List Field → Pending → List Pred → Type 0
+AreRead schema fields Nothing stack = AreSpelled schema fields stack
+AreRead schema fields (Column c) stack =
+    (before : List Field) × (name : Field) × (fields ≡ before ++ name ∷ []) × (position_of schema.columns name ≡ Some c) × AreSpelled schema before stack
+AreRead schema fields (Comparison c op) stack =
+    (before : List Field) × (name : Field) × (fields ≡ before ++ name ∷ sign_of op ∷ []) × (position_of schema.columns name ≡ Some c) × AreSpelled schema before stack
+
+reached : (schema : Declared) (fields : List Field) (next : Pending) (after : List Pred) (state : State) → Some (next, after) ≡ Some state
+    → AreRead schema fields next after → AreRead schema fields state.0 state.1
+reached schema fields next after state is read = subst (λ s. AreRead schema fields s.0 s.1) (some_same (next, after) state is) read
+
+joined : (fields before own lower one : List Field) (word : Field) → fields ≡ before ++ own → before ≡ lower ++ one
+    → fields ++ word ∷ [] ≡ lower ++ (one ++ own ++ word ∷ [])
+joined fields before own lower one word is was =
+    ap (λ f. f ++ word ∷ []) (is ∙ ap (λ b. b ++ own) was) ∙ append_assoc (lower ++ one) own (word ∷ []) ∙ append_assoc lower one (own ++ word ∷ [])
+    ∙ ap (λ t. lower ++ t) (sym (append_assoc one own (word ∷ [])))
+
+both_read : (schema : Declared) (fields : List Field) (stack : List Pred) (field : Field) (state : State) → AreSpelled schema fields stack
+    → field ≡ codes "and" → joined_both stack ≡ Some state → AreRead schema (fields ++ field ∷ []) state.0 state.1
+unfolding Spells
+both_read schema fields [] field state spelled word is = cc
+both_read schema fields (second ∷ []) field state spelled word is = cc
+both_read schema fields (second ∷ first ∷ stack) field state spelled word is =
+    let lower = spelled.3 in
+    reached schema (fields ++ field ∷ []) Nothing (Both' nowhere first nowhere second ∷ stack) state is
+    (lower.0, lower.1 ++ spelled.1 ++ field ∷ [], joined fields spelled.0 spelled.1 lower.0 lower.1 field spelled.2 lower.2, lower.3, (lower.1, spelled.1, ap (λ w. lower.1 ++ spelled.1 ++ w ∷ []) word, lower.4, spelled.4))
+
+either_read : (schema : Declared) (fields : List Field) (stack : List Pred) (field : Field) (state : State) → AreSpelled schema fields stack
+    → field ≡ codes "or" → joined_either stack ≡ Some state → AreRead schema (fields ++ field ∷ []) state.0 state.1
+unfolding Spells
+either_read schema fields [] field state spelled word is = cc
+either_read schema fields (second ∷ []) field state spelled word is = cc
+either_read schema fields (second ∷ first ∷ stack) field state spelled word is =
+    let lower = spelled.3 in
+    reached schema (fields ++ field ∷ []) Nothing (Either' nowhere first nowhere second ∷ stack) state is
+    (lower.0, lower.1 ++ spelled.1 ++ field ∷ [], joined fields spelled.0 spelled.1 lower.0 lower.1 field spelled.2 lower.2, lower.3, (lower.1, spelled.1, ap (λ w. lower.1 ++ spelled.1 ++ w ∷ []) word, lower.4, spelled.4))
+
+not_read : (schema : Declared) (fields : List Field) (stack : List Pred) (field : Field) (state : State) → AreSpelled schema fields stack
+    → field ≡ codes "not" → negated stack ≡ Some state → AreRead schema (fields ++ field ∷ []) state.0 state.1
+unfolding Spells
+not_read schema fields [] field state spelled word is = cc
+not_read schema fields (pred ∷ stack) field state spelled word is =
+    reached schema (fields ++ field ∷ []) Nothing (Not' nowhere pred ∷ stack) state is
+    (spelled.0, spelled.1 ++ field ∷ [], ap (λ f. f ++ field ∷ []) spelled.2 ∙ append_assoc spelled.0 spelled.1 (field ∷ []), spelled.3, (spelled.1, ap (λ w. spelled.1 ++ w ∷ []) word, spelled.4))
+
+word_read : (schema : Declared) (fields : List Field) (stack : List Pred) (field : Field) (state : State) → AreSpelled schema fields stack
+    → after_word schema stack field ≡ Some state → AreRead schema (fields ++ field ∷ []) state.0 state.1
+unfolding Spells
+word_read schema fields stack field state spelled is =
+    if_same field (codes "all") _ _ (Some state) is
+    (λ word found. reached schema (fields ++ field ∷ []) Nothing (All ∷ stack) state found (fields, field ∷ [], refl, spelled, ap (λ w. w ∷ []) word)) λ is.
+    if_same field (codes "and") _ _ (Some state) is (both_read schema fields stack field state spelled) λ is.
+    if_same field (codes "or") _ _ (Some state) is (either_read schema fields stack field state spelled) λ is.
+    if_same field (codes "not") _ _ (Some state) is (not_read schema fields stack field state spelled) λ is.
+    mapped (λ c. (Column c, stack)) (position_of schema.columns field) state is λ c at found.
+    reached schema (fields ++ field ∷ []) (Column c) stack state found (fields, field, refl, at, spelled)
+
+-- a name and one field more
+behind : (fields before : List Field) (name field : Field) → fields ≡ before ++ name ∷ [] → fields ++ field ∷ [] ≡ before ++ name ∷ field ∷ []
+behind fields before name field is = ap (λ f. f ++ field ∷ []) is ∙ append_assoc before (name ∷ []) (field ∷ [])
+
+name_read : (schema : Declared) (fields : List Field) (c : ℕ) (stack : List Pred) (field : Field) (state : State) → AreRead schema fields (Column c) stack
+    → after_name c stack field ≡ Some state → AreRead schema (fields ++ field ∷ []) state.0 state.1
+unfolding Spells
+name_read schema fields c stack field state read is =
+    if_same field (codes "null") _ _ (Some state) is
+    (λ word found. reached schema (fields ++ field ∷ []) Nothing (Null c ∷ stack) state found
+    (read.0, read.1 ∷ field ∷ [], behind fields read.0 read.1 field read.2, read.4, (read.1, ap (λ w. read.1 ∷ w ∷ []) word, read.3))) λ is.
+    mapped (λ op. (Comparison c op, stack)) (op_of field) state is λ op sign found.
+    reached schema (fields ++ field ∷ []) (Comparison c op) stack state found
+    (read.0, read.1, behind fields read.0 read.1 field read.2 ∙ ap (λ s. read.0 ++ read.1 ∷ s ∷ []) (read_is_sign field op sign), read.3, read.4)
+
+number_read : (schema : Declared) (fields : List Field) (c : ℕ) (op : Op) (stack : List Pred) (field : Field) (state : State) → AreRead schema fields (Comparison c op) stack
+    → after_sign schema.signed c op stack field ≡ Some state → AreRead schema (fields ++ field ∷ []) state.0 state.1
+unfolding Spells
+number_read schema fields c op stack field state read is =
+    mapped (λ n. (Nothing, Compare c op n ∷ stack)) (number_in schema.signed field) state is λ n number found.
+    reached schema (fields ++ field ∷ []) Nothing (Compare c op n ∷ stack) state found
+    (read.0, read.1 ∷ sign_of op ∷ field ∷ [], ap (λ f. f ++ field ∷ []) read.2 ∙ append_assoc read.0 (read.1 ∷ sign_of op ∷ []) (field ∷ []), read.4, (read.1, field, refl, read.3, number))
+
+field_read : (schema : Declared) (fields : List Field) (pending : Pending) (stack : List Pred) (field : Field) (state : State) → AreRead schema fields pending stack
+    → after_field schema pending stack field ≡ Some state → AreRead schema (fields ++ field ∷ []) state.0 state.1
+field_read schema fields Nothing stack field state read is = word_read schema fields stack field state read is
+field_read schema fields (Column c) stack field state read is = name_read schema fields c stack field state read is
+field_read schema fields (Comparison c op) stack field state read is = number_read schema fields c op stack field state read is
+
+fields_read : (schema : Declared) (before fields : List Field) (pending : Pending) (stack : List Pred) (state : State) → AreRead schema before pending stack
+    → after_fields schema fields pending stack ≡ Some state → AreRead schema (before ++ fields) state.0 state.1
+unfolding after_fields
+fields_read schema before [] pending stack state read is =
+    reached schema (before ++ []) pending stack state is (subst (λ f. AreRead schema f pending stack) (sym (append-nil before)) read)
+fields_read schema before (field ∷ fields) pending stack state read is =
+    option_and_then_some (λ (s : State). after_fields schema fields s.0 s.1) (after_field schema pending stack field) state is λ next step rest.
+    subst (λ f. AreRead schema f state.0 state.1) (append_assoc before (field ∷ []) fields)
+    (fields_read schema (before ++ field ∷ []) fields next.0 next.1 state (field_read schema before pending stack field next read step) rest)
+
+-- wherever the boxes lie, the same is spelled
+spelled_anywhere : (schema : Declared) (P : Pred) (fields : List Field) → Spells schema fields (plain P) → Spells schema fields P
+unfolding Spells
+spelled_anywhere schema All fields spelled = spelled
+spelled_anywhere schema (Compare c op n) fields spelled = spelled
+spelled_anywhere schema (Null c) fields spelled = spelled
+spelled_anywhere schema (Both' p first q second) fields spelled =
+    (spelled.0, spelled.1, spelled.2, spelled_anywhere schema first spelled.0 spelled.3, spelled_anywhere schema second spelled.1 spelled.4)
+spelled_anywhere schema (Either' p first q second) fields spelled =
+    (spelled.0, spelled.1, spelled.2, spelled_anywhere schema first spelled.0 spelled.3, spelled_anywhere schema second spelled.1 spelled.4)
+spelled_anywhere schema (Not' p pred) fields spelled = (spelled.0, spelled.1, spelled_anywhere schema pred spelled.0 spelled.2)
+
+-- what is read is spelled
+pub is_spelled : (schema : Declared) (fields : List Field) (P : Pred) → after_fields schema fields Nothing [] ≡ Some (Nothing, P ∷ []) → Spells schema fields P
+is_spelled schema fields P is =
+    let read : AreSpelled schema fields (P ∷ []) = fields_read schema [] fields Nothing [] (Nothing, P ∷ []) refl is in
+    subst (λ f. Spells schema f P) (sym (read.2 ∙ ap (λ b. b ++ read.1) read.3)) read.4
+
+pub is_spelled_anywhere : (schema : Declared) (fields : List Field) (P : Pred) → after_fields schema fields Nothing [] ≡ Some (Nothing, plain P ∷ []) → Spells schema fields P
+is_spelled_anywhere schema fields P is = spelled_anywhere schema P fields (is_spelled schema fields (plain P) is)
+
+-- where the fields lead nowhere, they spell nothing
+pub nothing_read : (schema : Declared) → AreNamed schema.columns → (fields : List Field) (stack : List Pred) → stack ≡ []
+    → None ≡ after_fields schema fields Nothing (shown stack) → (P : Pred) → IsPredicate schema fields P → ⊥
+nothing_read schema named fields stack empty leads P spelled =
+    let nowhere : None ≡ after_fields schema fields Nothing [] = leads ∙ ap (λ s. after_fields schema fields Nothing (shown s)) empty in
+    none_is_some _ (nowhere ∙ is_read schema named fields P spelled.1)
+
+-- a predicate that is alone
+only_is : (pending : Pending) (stack : List Pred) (P : Pred) → Some P ≡ only_of pending stack → begun pending stack ≡ ready (P ∷ [])
+only_is Nothing [] P is = absurd (none_is_some P (sym is))
+only_is Nothing (Q ∷ []) P is = ap (λ R. ready (R ∷ [])) (sym (some_same P Q is))
+only_is Nothing (Q ∷ R ∷ stack) P is = absurd (none_is_some P (sym is))
+only_is (Column c) stack P is = absurd (none_is_some P (sym is))
+only_is (Comparison c op) stack P is = absurd (none_is_some P (sym is))
+
+-- the only predicate of a state
+unfoldable pub only_at : Option State → Option Pred
+only_at None = None
+only_at (Some state) = only_of state.0 state.1
+
+-- what they lead to is what they spell
+pub only_read : (schema : Declared) → AreNamed schema.columns → (fields : List Field) (before stack : List Pred) (pending : Pending) (read : Option Pred)
+    → length fields ≤ 1000 → before ≡ [] → begun pending stack ≡ after_fields schema fields Nothing (shown before) → option_map plain read ≡ only_of pending stack
+    → MatchOption read ((P : Pred) → IsPredicate schema fields P → ⊥) (IsPredicate schema fields)
+unfolding only_at
+only_read schema named fields before stack pending None few empty leads is = λ P spelled.
+    let state : begun pending stack ≡ after_fields schema fields Nothing [] = leads ∙ ap (λ s. after_fields schema fields Nothing (shown s)) empty in
+    let found : begun pending stack ≡ ready (plain P ∷ []) = state ∙ is_read schema named fields P spelled.1 in
+    none_is_some (plain P) (is ∙ ap only_at found)
+only_read schema named fields before stack pending (Some P) few empty leads is =
+    let state : begun pending stack ≡ after_fields schema fields Nothing [] = leads ∙ ap (λ s. after_fields schema fields Nothing (shown s)) empty in
+    (few, is_spelled_anywhere schema fields P (sym state ∙ only_is pending stack (plain P) is))
+
+-- too many fields
+pub too_many : (schema : Declared) (fields : List Field) (from : ℕ) → 1000 < length fields - from → (P : Pred) → IsPredicate schema (drop from fields) P → ⊥
+too_many schema fields from many P spelled = omega (arith, length-drop from fields, spelled.0)

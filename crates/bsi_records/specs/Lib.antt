@@ -1,0 +1,6 @@
+pub mod Events
+pub mod Lines
+pub mod Numbers
+pub mod Postfix
+pub mod Predicates
+pub mod Setups

@@ -1,0 +1,98 @@
+-- Reading a predicate in postfix order, a field at a time.
+use Rattle.std.specs.Prelude.{ℕ, Bool, if◌then◌else◌, List, [], ◌∷◌, map, reverse, Option, Some, None, option_map, option_and_then, codes, Box}
+use Rattle.std.specs.Ptr.{null_ptr}
+use Rattle.std.specs.Str.{bytes_eq}
+use Rattle.std.specs.declared.alloc.Global.{Global}
+use Rattle.bsi_slices.specs.declared.column.Op.{Op}
+use Rattle.bsi_slices.specs.declared.column.Op.TheVariants.{Eq, Ne, Lt, Le, Gt, Ge}
+use Rattle.bsi_table.specs.Columns.{Declared, position_of}
+use Rattle.bsi_table.specs.declared.query.Pred.{Pred, All, Compare, Null, Both', Either', Not'}
+use Rattle.bsi_records.specs.declared.predicates.Pending.{Pending}
+use Rattle.bsi_records.specs.declared.predicates.Pending.TheVariants.{Nothing, Column, Comparison}
+use Rattle.bsi_records.specs.Numbers.{Field, number_in}
+
+-- a box at no address
+abbrev pub nowhere : Box (Unit {0}) Global
+nowhere = record { ptr = null_ptr; alloc = record { memory = record { seal = tt } }; value = tt }
+
+-- the predicate, wherever its boxes lie
+abbrev pub plain : Pred → Pred
+plain All = All
+plain (Compare c op n) = Compare c op n
+plain (Null c) = Null c
+plain (Both' p first q second) = Both' nowhere (plain first) nowhere (plain second)
+plain (Either' p first q second) = Either' nowhere (plain first) nowhere (plain second)
+plain (Not' p pred) = Not' nowhere (plain pred)
+
+-- predicates that stand oldest first, as they are shown here: the newest first, wherever their boxes lie
+abbrev pub shown : List Pred → List Pred
+shown preds = reverse (map plain preds)
+
+-- what the last fields have begun, and the predicates that the fields before them spell, the newest first
+abbrev pub State : Type 0
+State = Pending × List Pred
+
+abbrev pub begun : Pending → List Pred → Option State
+begun pending stack = Some (pending, stack)
+
+abbrev pub ready : List Pred → Option State
+ready stack = begun Nothing stack
+
+-- behind `and`, `or` and `not`
+abbrev pub joined_both : List Pred → Option State
+joined_both (second ∷ first ∷ stack) = ready (Both' nowhere first nowhere second ∷ stack)
+joined_both stack = None
+
+abbrev pub joined_either : List Pred → Option State
+joined_either (second ∷ first ∷ stack) = ready (Either' nowhere first nowhere second ∷ stack)
+joined_either stack = None
+
+abbrev pub negated : List Pred → Option State
+negated (pred ∷ stack) = ready (Not' nowhere pred ∷ stack)
+negated [] = None
+
+-- behind the first field of a token: a word, or a column's name
+abbrev pub after_word : Declared → List Pred → Field → Option State
+after_word schema stack field =
+    if bytes_eq field (codes "all") then ready (All ∷ stack)
+    else (if bytes_eq field (codes "and") then joined_both stack
+    else (if bytes_eq field (codes "or") then joined_either stack
+    else (if bytes_eq field (codes "not") then negated stack
+    else option_map (λ c. (Column c, stack)) (position_of schema.columns field))))
+
+-- the comparison of this sign
+abbrev pub op_of : Field → Option Op
+op_of sign =
+    if bytes_eq sign (codes "=") then Some Eq
+    else (if bytes_eq sign (codes "!=") then Some Ne
+    else (if bytes_eq sign (codes "<") then Some Lt
+    else (if bytes_eq sign (codes "<=") then Some Le
+    else (if bytes_eq sign (codes ">") then Some Gt
+    else (if bytes_eq sign (codes ">=") then Some Ge
+    else None)))))
+
+-- behind the field that follows a column's name
+abbrev pub after_name : ℕ → List Pred → Field → Option State
+after_name c stack field =
+    if bytes_eq field (codes "null") then ready (Null c ∷ stack) else option_map (λ op. (Comparison c op, stack)) (op_of field)
+
+-- behind the field that follows a sign
+abbrev pub after_sign : Bool → ℕ → Op → List Pred → Field → Option State
+after_sign signed c op stack field = option_map (λ n. (Nothing, Compare c op n ∷ stack)) (number_in signed field)
+
+-- behind one more field, none where no predicate goes on so
+abbrev pub after_field : Declared → Pending → List Pred → Field → Option State
+after_field schema Nothing stack field = after_word schema stack field
+after_field schema (Column c) stack field = after_name c stack field
+after_field schema (Comparison c op) stack field = after_sign schema.signed c op stack field
+
+-- behind all of these fields
+unfoldable pub after_fields : Declared → List Field → Pending → List Pred → Option State
+after_fields schema [] pending stack = begun pending stack
+after_fields schema (field ∷ fields) pending stack =
+    option_and_then (λ state. after_fields schema fields state.0 state.1) (after_field schema pending stack field)
+
+-- the only predicate, where nothing else has begun
+abbrev pub only_of : Pending → List Pred → Option Pred
+only_of Nothing (pred ∷ []) = Some pred
+only_of pending stack = None

@@ -1,0 +1,32 @@
+-- Which fields spell a predicate, in postfix order.
+use Rattle.std.specs.Prelude.{◌≡◌, ◌≤◌, List, [], ◌∷◌, ◌++◌, length, Some, codes}
+use Rattle.bsi_slices.specs.declared.column.Op.{Op}
+use Rattle.bsi_slices.specs.declared.column.Op.TheVariants.{Eq, Ne, Lt, Le, Gt, Ge}
+use Rattle.bsi_table.specs.Columns.{Declared, position_of}
+use Rattle.bsi_table.specs.declared.query.Pred.{Pred, All, Compare, Null, Both', Either', Not'}
+use Rattle.bsi_records.specs.Numbers.{Field, number_in}
+
+-- the sign of a comparison
+abbrev pub sign_of : Op → Field
+sign_of Eq = codes "="
+sign_of Ne = codes "!="
+sign_of Lt = codes "<"
+sign_of Le = codes "<="
+sign_of Gt = codes ">"
+sign_of Ge = codes ">="
+
+-- the fields spell the predicate
+unfoldable pub Spells : Declared → List Field → Pred → Type 0
+Spells schema fields All = fields ≡ codes "all" ∷ []
+Spells schema fields (Compare c op n) =
+    (name number : Field) × (fields ≡ name ∷ sign_of op ∷ number ∷ []) × (position_of schema.columns name ≡ Some c) × (number_in schema.signed number ≡ Some n)
+Spells schema fields (Null c) = (name : Field) × (fields ≡ name ∷ codes "null" ∷ []) × (position_of schema.columns name ≡ Some c)
+Spells schema fields (Both' p first q second) =
+    (one two : List Field) × (fields ≡ one ++ two ++ codes "and" ∷ []) × Spells schema one first × Spells schema two second
+Spells schema fields (Either' p first q second) =
+    (one two : List Field) × (fields ≡ one ++ two ++ codes "or" ∷ []) × Spells schema one first × Spells schema two second
+Spells schema fields (Not' p pred) = (one : List Field) × (fields ≡ one ++ codes "not" ∷ []) × Spells schema one pred
+
+-- a predicate of a record: at most 1,000 fields
+abbrev pub IsPredicate : Declared → List Field → Pred → Type 0
+IsPredicate schema fields pred = (length fields ≤ 1000) × Spells schema fields pred

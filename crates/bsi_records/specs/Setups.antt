@@ -1,0 +1,108 @@
+-- What the records before `begin` declare, by the lists of their fields.
+use Rattle.std.specs.Prelude.{◌≡◌, is_some, unwrap_or, ℕ, ◌^◌, ◌≤◌, All, Bool, true, false, ◌&&◌, nat_lt, if◌then◌else◌, List, [], ◌∷◌, ◌++◌, length, reverse, Option, Some, None, option_map, option_and_then, codes, ℤ, pos, ◌+ℤ◌, int_le}
+use Rattle.std.specs.Option.{is_none}
+use Rattle.std.specs.Str.{bytes_eq}
+use Rattle.bsi_digits.specs.Refusal.{refusal}
+use Rattle.bsi_table.specs.declared.form.ColumnSpec.{ColumnSpec}
+use Rattle.bsi_table.specs.declared.form.Form.{Form}
+use Rattle.bsi_table.specs.declared.form.Form.TheVariants.{Slices, Equality, Range}
+use Rattle.bsi_table.specs.Columns.{Declared, form_of, named_column, no_columns, size_in, with_column}
+use Rattle.bsi_table.specs.Refusals.{form_refusal, name_refusal}
+use Rattle.bsi_records.specs.Numbers.{Field, bases_of, number_within, offset_of}
+
+-- what was declared so far: the columns, the capacity of each feeder, and the most rows of the index
+pub record Setup : Type 0 where
+  pub schema : Declared
+  pub capacities : List ℕ
+  pub limit : ℕ
+
+abbrev pub nothing_declared : Setup
+nothing_declared = record { schema = no_columns; capacities = []; limit = 4294967296 }
+
+-- ---- a column
+
+-- bases that can be had, the least significant first
+abbrev pub checked_bases : List ℕ → Option (List ℕ)
+checked_bases bases = if is_none (refusal bases) then Some (reverse bases) else None
+
+-- the form that a word and a text give
+abbrev pub form_in : Field → Field → Option Form
+form_in word text =
+    if bytes_eq word (codes "slices") then option_map Slices (number_within 1 63 text)
+    else (if bytes_eq word (codes "equality") then option_map Equality (option_and_then checked_bases (bases_of text))
+    else (if bytes_eq word (codes "range") then option_map Range (option_and_then checked_bases (bases_of text))
+    else None))
+
+-- the columns after one more, none where it can't be had: its name, its form, the least number, and whether that was given
+abbrev pub one_more : Declared → Field → Bool → Form → ℤ → Option Declared
+one_more schema name signed form offset =
+    if is_none (name_refusal schema name) && int_le (offset +ℤ pos (size_in form)) (pos (2 ^ 63))
+    then Some (with_column schema (named_column name form offset) signed) else None
+
+-- `NAME,FORM,SIZES` and `NAME,FORM,SIZES,OFFSET`
+abbrev pub column_after : Declared → List Field → Option Declared
+column_after schema (name ∷ form ∷ sizes ∷ []) = option_and_then (λ f. one_more schema name false f (pos 0)) (form_in form sizes)
+column_after schema (name ∷ form ∷ sizes ∷ offset ∷ []) =
+    option_and_then (λ f. option_and_then (λ o. one_more schema name true f o) (offset_of offset)) (form_in form sizes)
+column_after schema fields = None
+
+-- ---- a feeder, and the limit
+
+-- the number from 1 to `most` that the only field spells
+abbrev pub only_number : ℕ → List Field → Option ℕ
+only_number most (text ∷ []) = number_within 1 most text
+only_number most fields = None
+
+-- the capacities after one more, of at most 64
+abbrev pub feeder_after : List ℕ → List Field → Option (List ℕ)
+feeder_after capacities fields = if nat_lt (length capacities) 64 then option_map (λ n. capacities ++ n ∷ []) (only_number 65536 fields) else None
+
+abbrev pub limit_of : List Field → Option ℕ
+limit_of fields = only_number 4294967296 fields
+
+-- ---- a record
+
+-- the columns and the limit after a record that declares a column or the limit
+abbrev pub table_after : Declared → ℕ → List Field → Option (Declared × ℕ)
+table_after schema limit [] = None
+table_after schema limit (word ∷ fields) =
+    if bytes_eq word (codes "column") then option_map (λ after. (after, limit)) (column_after schema fields)
+    else (if bytes_eq word (codes "limit") then option_map (λ after. (schema, after)) (limit_of fields)
+    else None)
+
+-- what is declared after a record; none where it is no declaration, or can't be done
+abbrev pub declared_after : Setup → List Field → Option Setup
+declared_after before [] = None
+declared_after before (word ∷ fields) =
+    if bytes_eq word (codes "feeder") then option_map (λ capacities. record before { capacities = capacities }) (feeder_after before.capacities fields)
+    else option_map (λ after. record before { schema = after.0; limit = after.1 }) (table_after before.schema before.limit (word ∷ fields))
+
+-- the record is `begin`
+abbrev pub is_begin : List Field → Bool
+is_begin (word ∷ []) = bytes_eq word (codes "begin")
+is_begin fields = false
+
+-- a script can begin: there are a column and a feeder
+abbrev pub can_begin : Setup → Bool
+can_begin setup = nat_lt 0 (length setup.schema.columns) && nat_lt 0 (length setup.capacities)
+
+-- ---- words of the functions that do records
+
+-- the form that is asked for, if its bases can be had
+abbrev pub form_had : ColumnSpec → Option Form
+form_had spec = if is_none (form_refusal spec) then Some (form_of spec) else None
+
+-- the columns after one more, of the form that is asked for
+abbrev pub added_after : Declared → Field → Bool → ColumnSpec → ℤ → Option Declared
+added_after schema name signed spec offset = option_and_then (λ f. one_more schema name signed f offset) (form_had spec)
+
+-- a record was done, so that `new` stands; or it can't be done, and `old` still stands
+abbrev pub IsChange : {T : Type 0} → Option T → T → T → Bool → Type 0
+IsChange after old new done = (done ≡ is_some after) × (new ≡ unwrap_or after old)
+
+-- what a setup keeps: at most 64 feeders, each capacity from 1 to 65,536, and a limit from 1 to 2^32
+pub record IsSetup (capacities : List ℕ) (limit : ℕ) : Type 0 where
+  pub few : length capacities ≤ 64
+  pub each : All (λ n. (1 ≤ n) × (n ≤ 65536)) capacities
+  pub some : 1 ≤ limit
+  pub most : limit ≤ 4294967296

@@ -1,0 +1,18 @@
+//! Records and lines: from fields to events, rows and setups, and from replies to lines.
+#![tactic(auto)]
+
+mod lines;
+mod numbers;
+mod predicates;
+mod queries;
+mod records;
+mod setups;
+#[cfg(test)]
+mod tests;
+
+pub use lines::write_reply;
+pub use numbers::{read_number, read_signed, read_value};
+pub use queries::read_query;
+pub use records::{read_event, read_row};
+pub use setups::{Setup, read_setup, test_begin};
+pub use std::alloc::AllocError as NoMemory;

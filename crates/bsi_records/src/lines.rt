@@ -1,0 +1,149 @@
+//! The lines that answer records: from replies to bytes.
+
+ghost use Rattle.std.specs.Prelude.{◌≡◌, ◌++◌, OnErr, OnOk, codes, decimal};
+ghost use Rattle.std.specs.Fmt.{signed_decimal};
+ghost use Rattle.std.specs.Io.{StartsWith};
+ghost use Rattle.bsi_records.specs.Lines.{answer_line, ask_line, close_line, load_line, reply_line, rows_text, submit_line};
+
+use bsi_load::{CloseRefused, LoadRefused, Reply, SubmitRefused};
+use bsi_table::{Answer, AskError};
+use itoa::Buffer;
+use std::alloc::AllocError as NoMemory;
+
+/// Appends the line of a reply, with its line feed, whole or not at all. It takes memory for the line alone.
+pub fn write_reply(reply: &Reply, line: &mut Vec<u8>) -> Result<(), NoMemory>
+    ensures ok { OnOk result (line.new.items ≡ line.old.items ++ reply_line reply.now) }
+    ensures err { OnErr result (line.new.items ≡ line.old.items) }
+{
+    let length = line.len();
+    let written = write_parts(reply, line);
+    if written.is_err() {
+        line.truncate(length);
+    }
+    written
+}
+
+/// Appends the line of a reply, or a first part of it.
+fn write_parts(reply: &Reply, line: &mut Vec<u8>) -> Result<(), NoMemory>
+    ensures ok { OnOk result (line.new.items ≡ line.old.items ++ reply_line reply.now) }
+    ensures begins { StartsWith line.new.items line.old.items }
+{
+    match reply {
+        Reply::Submitted(reply) => write_submitted(reply, line),
+        Reply::Loaded(reply) => write_loaded(*reply, line),
+        Reply::Closed(reply) => write_closed(*reply, line),
+        Reply::Answered(Ok(answer)) => write_answer(answer, line),
+        Reply::Answered(Err(AskError::BadColumn(_))) => line.extend_from_slice(b"bad\n"),
+        Reply::Answered(Err(AskError::NoMemory)) => line.extend_from_slice(b"no memory\n"),
+    }
+}
+
+/// Appends the line of a submission.
+fn write_submitted(reply: &Result<(), SubmitRefused>, line: &mut Vec<u8>) -> Result<(), NoMemory>
+    ensures ok { OnOk result (line.new.items ≡ line.old.items ++ submit_line reply.now) }
+    ensures begins { StartsWith line.new.items line.old.items }
+{
+    match reply {
+        Ok(()) => line.extend_from_slice(b"accepted\n"),
+        Err(SubmitRefused::UnknownFeeder(_)) => line.extend_from_slice(b"no feeder\n"),
+        Err(SubmitRefused::Closed(_)) => line.extend_from_slice(b"closed\n"),
+        Err(SubmitRefused::Misfit(_)) => line.extend_from_slice(b"misfit\n"),
+        Err(SubmitRefused::Full(_)) => line.extend_from_slice(b"full\n"),
+    }
+}
+
+/// Appends the line of a load.
+fn write_loaded(reply: Result<u64, LoadRefused>, line: &mut Vec<u8>) -> Result<(), NoMemory>
+    ensures ok { OnOk result (line.new.items ≡ line.old.items ++ load_line reply) }
+    ensures begins { StartsWith line.new.items line.old.items }
+{
+    match reply {
+        Ok(position) => write_count(b"loaded ", position, line),
+        Err(LoadRefused::UnknownFeeder) => line.extend_from_slice(b"no feeder\n"),
+        Err(LoadRefused::Ended) => line.extend_from_slice(b"ended\n"),
+        Err(LoadRefused::Empty) => line.extend_from_slice(b"empty\n"),
+        Err(LoadRefused::IndexFull) => line.extend_from_slice(b"index full\n"),
+        Err(LoadRefused::NoMemory) => line.extend_from_slice(b"no memory\n"),
+    }
+}
+
+/// Appends the line of a closing.
+fn write_closed(reply: Result<(), CloseRefused>, line: &mut Vec<u8>) -> Result<(), NoMemory>
+    ensures ok { OnOk result (line.new.items ≡ line.old.items ++ close_line reply) }
+    ensures begins { StartsWith line.new.items line.old.items }
+{
+    match reply {
+        Ok(()) => line.extend_from_slice(b"ok\n"),
+        Err(CloseRefused::UnknownFeeder) => line.extend_from_slice(b"no feeder\n"),
+        Err(CloseRefused::AlreadyClosed) => line.extend_from_slice(b"closed\n"),
+    }
+}
+
+/// Appends the line of an answer.
+fn write_answer(answer: &Answer, line: &mut Vec<u8>) -> Result<(), NoMemory>
+    ensures ok { OnOk result (line.new.items ≡ line.old.items ++ answer_line answer.now) }
+    ensures begins { StartsWith line.new.items line.old.items }
+{
+    match answer {
+        Answer::Count(count) => write_count(b"count ", *count, line),
+        Answer::Sum(sum) => write_number(b"sum ", *sum, line),
+        Answer::Value(None) => line.extend_from_slice(b"none\n"),
+        Answer::Value(Some(number)) => write_number(b"value ", i128::from(*number), line),
+        Answer::Rows(rows) => write_rows(rows, line),
+    }
+}
+
+/// Appends a word and a count, and the line feed.
+fn write_count(word: &[u8], count: u64, line: &mut Vec<u8>) -> Result<(), NoMemory>
+    ensures ok { OnOk result (line.new.items ≡ line.old.items ++ (word.now ++ decimal count ++ codes "\n")) }
+    ensures begins { StartsWith line.new.items line.old.items }
+{
+    let mut digits = Buffer::new();
+    line.extend_from_slice(word)?;
+    line.extend_from_slice(digits.format(count).as_bytes())?;
+    line.extend_from_slice(b"\n")
+}
+
+/// Appends a word and a whole number, and the line feed.
+fn write_number(word: &[u8], number: i128, line: &mut Vec<u8>) -> Result<(), NoMemory>
+    ensures ok { OnOk result (line.new.items ≡ line.old.items ++ (word.now ++ signed_decimal number ++ codes "\n")) }
+    ensures begins { StartsWith line.new.items line.old.items }
+{
+    let mut digits = Buffer::new();
+    line.extend_from_slice(word)?;
+    line.extend_from_slice(digits.format(number).as_bytes())?;
+    line.extend_from_slice(b"\n")
+}
+
+/// Appends the line of a selection.
+fn write_rows(rows: &[(u32, u64)], line: &mut Vec<u8>) -> Result<(), NoMemory>
+    ensures ok { OnOk result (line.new.items ≡ line.old.items ++ (codes "rows" ++ rows_text rows.now ++ codes "\n")) }
+    ensures begins { StartsWith line.new.items line.old.items }
+{
+    line.extend_from_slice(b"rows")?;
+    write_each_row(rows, line)?;
+    line.extend_from_slice(b"\n")
+}
+
+/// Appends rows, each with a space before it.
+fn write_each_row(rows: &[(u32, u64)], line: &mut Vec<u8>) -> Result<(), NoMemory>
+    ensures ok { OnOk result (line.new.items ≡ line.old.items ++ rows_text rows.now) }
+    ensures begins { StartsWith line.new.items line.old.items }
+{
+    'rows: for row in rows {
+        write_row(row.0, row.1, line)?;
+    }
+    Ok(())
+}
+
+/// Appends a space, a row's feeder and its number among the feeder's.
+fn write_row(feeder: u32, number: u64, line: &mut Vec<u8>) -> Result<(), NoMemory>
+    ensures ok { OnOk result (line.new.items ≡ line.old.items ++ (codes " " ++ decimal feeder ++ codes ":" ++ decimal number)) }
+    ensures begins { StartsWith line.new.items line.old.items }
+{
+    let mut digits = Buffer::new();
+    line.extend_from_slice(b" ")?;
+    line.extend_from_slice(digits.format(feeder).as_bytes())?;
+    line.extend_from_slice(b":")?;
+    line.extend_from_slice(digits.format(number).as_bytes())
+}

@@ -1,0 +1,136 @@
+//! Numbers and values: what the bytes of a field spell.
+
+ghost use Rattle.std.specs.Prelude.{◌≡◌, ◌≤◌, option_map, pos, IfOk, IfSome};
+ghost use Rattle.bsi_records.specs.Numbers.{bases_of, feeder_of, number_in, number_of, number_within, offset_of, signed_of, small_of, smalls_of, value_in};
+
+use std::alloc::{AllocError as NoMemory, Global};
+
+/// The most digits of a number: those of the greatest `u64`.
+const MAX_DIGITS: usize = 20;
+
+/// Reads a number of one to twenty digits, leading zeros among them, whose value is a `u64`. It takes no memory.
+pub fn read_number(text: &[u8]) -> Option<u64>
+    ensures { result ≡ number_of text.now }
+{
+    if text.is_empty() || text.len() > MAX_DIGITS {
+        return None;
+    }
+    let mut value = 0u64;
+    'digits: for byte in text {
+        if !byte.is_ascii_digit() {
+            return None;
+        }
+        let Some(tens) = value.checked_mul(10) else {
+            return None;
+        };
+        let Some(next) = tens.checked_add(u64::from(*byte - b'0')) else {
+            return None;
+        };
+        value = next;
+    }
+    Some(value)
+}
+
+/// Reads a number with one minus sign before it, or none. It takes no memory.
+pub fn read_signed(text: &[u8]) -> Option<i128>
+    ensures { result ≡ signed_of text.now }
+{
+    match text {
+        [b'-', digits @ ..] => match read_number(digits) {
+            None => None,
+            Some(n) => Some(-i128::from(n)),
+        },
+        _ => read_unsigned(text),
+    }
+}
+
+/// Reads a number with no sign.
+fn read_unsigned(text: &[u8]) -> Option<i128>
+    ensures { result ≡ option_map pos (number_of text.now) }
+{
+    match read_number(text) {
+        None => None,
+        Some(n) => Some(i128::from(n)),
+    }
+}
+
+/// Reads a number, with a sign where numbers are signed alone.
+pub(crate) fn read_in(signed: bool, text: &[u8]) -> Option<i128>
+    ensures { result ≡ number_in signed text.now }
+{
+    if signed {
+        return read_signed(text);
+    }
+    read_unsigned(text)
+}
+
+/// Reads a value: no byte is a null.
+pub fn read_value(signed: bool, text: &[u8]) -> Option<Option<i128>>
+    ensures { result ≡ value_in signed text.now }
+{
+    if text.is_empty() {
+        return Some(None);
+    }
+    match read_in(signed, text) {
+        None => None,
+        Some(n) => Some(Some(n)),
+    }
+}
+
+/// Reads the number of a feeder; one that no `u32` holds becomes the greatest, which is no feeder either.
+pub(crate) fn read_feeder(text: &[u8]) -> Option<u32>
+    ensures { result ≡ feeder_of text.now }
+{
+    match read_number(text) {
+        None => None,
+        Some(n) => Some(n.min(u64::from(u32::MAX)) as u32),
+    }
+}
+
+/// Reads a number from `least` to `most`.
+pub(crate) fn read_within(least: u64, most: u64, text: &[u8]) -> Option<u64>
+    ensures value { result ≡ number_within least most text.now }
+    ensures within { IfSome result (λ n. (least ≤ n) × (n ≤ most)) }
+{
+    match read_number(text) {
+        Some(n) if n >= least && n <= most => Some(n),
+        _ => None,
+    }
+}
+
+/// Reads a number of 32 bits.
+fn read_small(text: &[u8]) -> Option<u32>
+    ensures { result ≡ small_of text.now }
+{
+    match read_within(0, u64::from(u32::MAX), text) {
+        None => None,
+        Some(n) => Some(n as u32),
+    }
+}
+
+/// Reads the least number of a column: a whole number of 64 bits.
+pub(crate) fn read_offset(text: &[u8]) -> Option<i64>
+    ensures { result ≡ offset_of text.now }
+{
+    let Some(n) = read_signed(text) else {
+        return None;
+    };
+    if n < i128::from(i64::MIN) || n > i128::from(i64::MAX) {
+        return None;
+    }
+    Some(n as i64)
+}
+
+/// Reads a list of bases: numbers of 32 bits with one space between two.
+pub(crate) fn read_bases(alloc: Global, text: &[u8]) -> Result<Option<Vec<u32>>, NoMemory>
+    ensures { IfOk result (λ read. option_map (λ v. v.items) read ≡ bases_of text.now) }
+{
+    let mut bases = Vec::new(alloc);
+    'bases: for part in text.split(|byte| *byte == b' ') {
+        let Some(base) = read_small(part) else {
+            return Ok(None);
+        };
+        bases.push(base)?;
+    }
+    Ok(Some(bases))
+}

@@ -1,0 +1,234 @@
+//! Predicates in postfix order: from the fields that spell one to the predicate.
+
+ghost use Rattle.std.specs.Prelude.{◌≡◌, List, drop, option_map, IfOk, MatchOption};
+ghost use Rattle.csv.specs.Records.{fields_of};
+ghost use Rattle.bsi_records.specs.Postfix.{after_field, after_fields, after_name, after_sign, after_word, joined_both, joined_either, negated, only_of, op_of, plain, shown};
+ghost use Rattle.bsi_records.specs.Predicates.{IsPredicate};
+
+use crate::NoMemory;
+use crate::numbers::read_in;
+use bsi_slices::Op;
+use bsi_table::{Pred, Schema};
+use csv::ByteRecord;
+use std::alloc::Global;
+
+/// The most fields of a predicate.
+const MOST_FIELDS: usize = 1_000;
+
+/// What the last fields have begun.
+#[derive(Clone, Copy, PartialEq, Eq)]
+pub(crate) enum Pending {
+    /// Nothing: the next field begins a token.
+    Nothing,
+    /// A token that begins with the name of this column.
+    Column(u32),
+    /// A comparison of this column by this sign.
+    Comparison(u32, Op),
+}
+
+/// Reads the fields of a record from a place on as a predicate; `None` where they spell none, or are over 1,000. It takes memory
+/// for each part of the predicate.
+pub(crate) fn read_predicate(
+    alloc: Global,
+    schema: &Schema,
+    fields: &ByteRecord,
+    from: usize,
+) -> Result<Option<Pred>, NoMemory>
+    ensures { IfOk result (λ read. MatchOption read ((pred : Pred) → IsPredicate schema.now (drop from (fields_of fields.now)) pred → ⊥) (IsPredicate schema.now (drop from (fields_of fields.now)))) }
+{
+    if fields.len().saturating_sub(from) > MOST_FIELDS {
+        return Ok(None);
+    }
+    // A column's name is none of the words.
+    prove!(schema.columns() <= 64);
+    let mut stack = Vec::new(alloc);
+    let Some(pending) = read_fields(alloc, schema, fields, from, &mut stack)? else {
+        return Ok(None);
+    };
+    Ok(take_only(pending, &mut stack))
+}
+
+/// Reads the fields from a place on, and returns what the last ones have begun; `None` where no predicate goes on so.
+fn read_fields(
+    alloc: Global,
+    schema: &Schema,
+    fields: &ByteRecord,
+    from: usize,
+    stack: &mut Vec<Pred>,
+) -> Result<Option<Pending>, NoMemory>
+    ensures { IfOk result (λ read. option_map (λ pending. (pending, shown stack.new.items)) read ≡ after_fields schema.now (drop from (fields_of fields.now)) Pending.Nothing (shown stack.old.items)) }
+{
+    let mut pending = Pending::Nothing;
+    'fields: for place in from..fields.len() {
+        let Some(field) = fields.get(place) else {
+            return Ok(None);
+        };
+        let Some(next) = read_field(alloc, schema, pending, field, stack)? else {
+            return Ok(None);
+        };
+        pending = next;
+    }
+    Ok(Some(pending))
+}
+
+/// Reads one more field.
+fn read_field(
+    alloc: Global,
+    schema: &Schema,
+    pending: Pending,
+    field: &[u8],
+    stack: &mut Vec<Pred>,
+) -> Result<Option<Pending>, NoMemory>
+    ensures { IfOk result (λ read. option_map (λ next. (next, shown stack.new.items)) read ≡ after_field schema.now pending (shown stack.old.items) field.now) }
+{
+    match pending {
+        Pending::Nothing => read_word(alloc, schema, field, stack),
+        Pending::Column(c) => read_behind_name(c, field, stack),
+        Pending::Comparison(c, op) => read_constant(schema.signed(), c, op, field, stack),
+    }
+}
+
+/// Reads the first field of a token.
+fn read_word(
+    alloc: Global,
+    schema: &Schema,
+    field: &[u8],
+    stack: &mut Vec<Pred>,
+) -> Result<Option<Pending>, NoMemory>
+    ensures { IfOk result (λ read. option_map (λ next. (next, shown stack.new.items)) read ≡ after_word schema.now (shown stack.old.items) field.now) }
+{
+    if field == b"all".as_slice() {
+        stack.push(Pred::All)?;
+        return Ok(Some(Pending::Nothing));
+    }
+    if field == b"and".as_slice() {
+        return join_both(alloc, stack);
+    }
+    if field == b"or".as_slice() {
+        return join_either(alloc, stack);
+    }
+    if field == b"not".as_slice() {
+        return negate(alloc, stack);
+    }
+    match schema.find(field) {
+        None => Ok(None),
+        Some(c) => Ok(Some(Pending::Column(c))),
+    }
+}
+
+/// Reads the field that follows the name of column `c`.
+fn read_behind_name(
+    c: u32,
+    field: &[u8],
+    stack: &mut Vec<Pred>,
+) -> Result<Option<Pending>, NoMemory>
+    ensures { IfOk result (λ read. option_map (λ next. (next, shown stack.new.items)) read ≡ after_name c (shown stack.old.items) field.now) }
+{
+    if field == b"null".as_slice() {
+        stack.push(Pred::Null(c))?;
+        return Ok(Some(Pending::Nothing));
+    }
+    match read_op(field) {
+        None => Ok(None),
+        Some(op) => Ok(Some(Pending::Comparison(c, op))),
+    }
+}
+
+/// Reads the number that column `c` is compared with.
+fn read_constant(
+    signed: bool,
+    c: u32,
+    op: Op,
+    field: &[u8],
+    stack: &mut Vec<Pred>,
+) -> Result<Option<Pending>, NoMemory>
+    ensures { IfOk result (λ read. option_map (λ next. (next, shown stack.new.items)) read ≡ after_sign signed c op (shown stack.old.items) field.now) }
+{
+    let Some(n) = read_in(signed, field) else {
+        return Ok(None);
+    };
+    stack.push(Pred::Compare(c, op, n))?;
+    Ok(Some(Pending::Nothing))
+}
+
+/// Reads the sign of a comparison.
+fn read_op(sign: &[u8]) -> Option<Op>
+    ensures { result ≡ op_of sign.now }
+{
+    if sign == b"=".as_slice() {
+        return Some(Op::Eq);
+    }
+    if sign == b"!=".as_slice() {
+        return Some(Op::Ne);
+    }
+    if sign == b"<".as_slice() {
+        return Some(Op::Lt);
+    }
+    if sign == b"<=".as_slice() {
+        return Some(Op::Le);
+    }
+    if sign == b">".as_slice() {
+        return Some(Op::Gt);
+    }
+    if sign == b">=".as_slice() {
+        return Some(Op::Ge);
+    }
+    None
+}
+
+/// Puts in place of the two newest predicates that both hold.
+fn join_both(alloc: Global, stack: &mut Vec<Pred>) -> Result<Option<Pending>, NoMemory>
+    ensures { IfOk result (λ read. option_map (λ next. (next, shown stack.new.items)) read ≡ joined_both (shown stack.old.items)) }
+{
+    let Some(second) = stack.pop() else {
+        return Ok(None);
+    };
+    let Some(first) = stack.pop() else {
+        return Ok(None);
+    };
+    let first = Box::new(alloc, first)?;
+    let second = Box::new(alloc, second)?;
+    stack.push(Pred::Both(first, second))?;
+    Ok(Some(Pending::Nothing))
+}
+
+/// Puts in place of the two newest predicates that one of them holds.
+fn join_either(alloc: Global, stack: &mut Vec<Pred>) -> Result<Option<Pending>, NoMemory>
+    ensures { IfOk result (λ read. option_map (λ next. (next, shown stack.new.items)) read ≡ joined_either (shown stack.old.items)) }
+{
+    let Some(second) = stack.pop() else {
+        return Ok(None);
+    };
+    let Some(first) = stack.pop() else {
+        return Ok(None);
+    };
+    let first = Box::new(alloc, first)?;
+    let second = Box::new(alloc, second)?;
+    stack.push(Pred::Either(first, second))?;
+    Ok(Some(Pending::Nothing))
+}
+
+/// Puts in place of the newest predicate that it does not hold.
+fn negate(alloc: Global, stack: &mut Vec<Pred>) -> Result<Option<Pending>, NoMemory>
+    ensures { IfOk result (λ read. option_map (λ next. (next, shown stack.new.items)) read ≡ negated (shown stack.old.items)) }
+{
+    let Some(pred) = stack.pop() else {
+        return Ok(None);
+    };
+    let pred = Box::new(alloc, pred)?;
+    stack.push(Pred::Not(pred))?;
+    Ok(Some(Pending::Nothing))
+}
+
+/// Takes the only predicate, where nothing else has begun.
+fn take_only(pending: Pending, stack: &mut Vec<Pred>) -> Option<Pred>
+    ensures { option_map plain result ≡ only_of pending (shown stack.old.items) }
+{
+    if pending != Pending::Nothing {
+        return None;
+    }
+    let Some(pred) = stack.pop() else {
+        return None;
+    };
+    if stack.is_empty() { Some(pred) } else { None }
+}

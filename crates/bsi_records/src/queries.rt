@@ -1,0 +1,73 @@
+//! The records that ask: from the fields of a record to a query.
+
+ghost use Rattle.std.specs.Prelude.{◌≡◌, drop, option_map, IfOk, MatchOption};
+ghost use Rattle.csv.specs.Records.{fields_of};
+ghost use Rattle.bsi_records.specs.Events.{total_of, total_of_column, IsQuery};
+
+use crate::NoMemory;
+use crate::predicates::read_predicate;
+use bsi_table::{Query, Schema, Total};
+use csv::ByteRecord;
+use std::alloc::Global;
+
+/// Reads a record as a query: `count` or `list`, or another total and the column that it is of, and then the fields of a
+/// predicate in postfix order, at most 1,000. `None` is a record that is no query. It takes memory for each part of the predicate.
+pub fn read_query(
+    alloc: Global,
+    schema: &Schema,
+    fields: &ByteRecord,
+) -> Result<Option<Query>, NoMemory>
+    ensures { IfOk result (λ read. MatchOption read ((query : Query) → IsQuery schema.now (fields_of fields.now) query → ⊥) (IsQuery schema.now (fields_of fields.now))) }
+{
+    let Some((total, from)) = read_total(schema, fields) else {
+        return Ok(None);
+    };
+    let Some(pred) = read_predicate(alloc, schema, fields, from)? else {
+        return Ok(None);
+    };
+    Ok(Some(Query { total, pred }))
+}
+
+/// Reads the total that a record asks for, and returns it with the place where the predicate begins.
+fn read_total(schema: &Schema, fields: &ByteRecord) -> Option<(Total, usize)>
+    ensures { option_map (λ found. (found.0, drop found.1 (fields_of fields.now))) result ≡ total_of schema.now (fields_of fields.now) }
+{
+    let Some(word) = fields.get(0) else {
+        return None;
+    };
+    if word == b"count".as_slice() {
+        return Some((Total::Count, 1));
+    }
+    if word == b"list".as_slice() {
+        return Some((Total::Rows, 1));
+    }
+    let Some(name) = fields.get(1) else {
+        return None;
+    };
+    let Some(c) = schema.find(name) else {
+        return None;
+    };
+    let Some(total) = read_column_total(word, c) else {
+        return None;
+    };
+    Some((total, 2))
+}
+
+/// Reads the word of a total of column `c`.
+fn read_column_total(word: &[u8], c: u32) -> Option<Total>
+    ensures { result ≡ option_map (λ total. total c) (total_of_column word.now) }
+{
+    if word == b"sum".as_slice() {
+        return Some(Total::Sum(c));
+    }
+    if word == b"least".as_slice() {
+        return Some(Total::Least(c));
+    }
+    if word == b"greatest".as_slice() {
+        return Some(Total::Greatest(c));
+    }
+    if word == b"median".as_slice() {
+        return Some(Total::Median(c));
+    }
+    None
+}

@@ -1,0 +1,298 @@
+//! Records before `begin`: columns, feeders and the row limit.
+
+ghost use Rattle.std.specs.Prelude.{◌≡◌, ◌≢◌, ◌≤◌, ◌<◌, ◌∷◌, [], None, Some, drop, false, true, if◌then◌else◌, is_some, length, option_map, option_and_then, pos, unwrap_or, IfNone, IfOk, IfSome, OnErr, OnOk};
+ghost use Rattle.csv.specs.Records.{fields_of};
+ghost use Rattle.bsi_load.specs.Sizes.{new_machine};
+ghost use Rattle.bsi_table.specs.Columns.{no_columns};
+ghost use Rattle.bsi_table.specs.declared.form.Form.TheVariants.{Slices};
+ghost use Rattle.bsi_records.specs.Numbers.{number_within};
+ghost use Rattle.bsi_records.specs.Setups.{added_after, can_begin, column_after, declared_after, feeder_after, form_had, form_in, is_begin, limit_of, nothing_declared, only_number, table_after, IsChange};
+
+use crate::numbers::{read_bases, read_offset, read_within};
+use crate::records::lend;
+use bsi_load::{Core, MakeError};
+use bsi_table::{ColumnSpec, Schema, SchemaError};
+use csv::ByteRecord;
+use std::alloc::{AllocError as NoMemory, Global};
+use std::marker::Model;
+use std::mem;
+
+/// The most feeders.
+const MOST_FEEDERS: usize = 64;
+
+/// The most rows of a feeder that may wait.
+const MOST_WAITING: u64 = 65_536;
+
+/// The most rows of an index, and the limit where none is declared.
+const MOST_ROWS: u64 = 1 << 32;
+
+/// The most slices of a column.
+const MOST_SLICES: u64 = 63;
+
+// ---- numbers and forms
+
+/// Reads the number of a record of a word and a number, which is to be from 1 to `most`.
+fn read_only_number(fields: &ByteRecord, most: u64) -> Option<u64>
+    ensures value { result ≡ only_number most (drop 1 (fields_of fields.now)) }
+    ensures within { IfSome result (λ n. (1 ≤ n) × (n ≤ most)) }
+{
+    if fields.len() != 2 {
+        return None;
+    }
+    read_within(1, most, lend(fields, 1))
+}
+
+/// Reads the form of a column; none where the word or the text is of no form.
+fn read_form(alloc: Global, word: &[u8], text: &[u8]) -> Result<Option<ColumnSpec>, NoMemory>
+    ensures { IfOk result (λ read. option_and_then form_had read ≡ form_in word.now text.now) }
+{
+    if word == b"slices".as_slice() {
+        return Ok(read_slices(text));
+    }
+    if word == b"equality".as_slice() {
+        return match read_bases(alloc, text)? {
+            None => Ok(None),
+            Some(bases) => Ok(Some(ColumnSpec::Equality(bases))),
+        };
+    }
+    if word == b"range".as_slice() {
+        return match read_bases(alloc, text)? {
+            None => Ok(None),
+            Some(bases) => Ok(Some(ColumnSpec::Range(bases))),
+        };
+    }
+    Ok(None)
+}
+
+/// Reads the number of slices of a column.
+fn read_slices(text: &[u8]) -> Option<ColumnSpec>
+    ensures { option_and_then form_had result ≡ option_map Slices (number_within 1 63 text.now) }
+{
+    match read_within(1, MOST_SLICES, text) {
+        None => None,
+        Some(width) => Some(ColumnSpec::Slices(width as u32)),
+    }
+}
+
+// ---- columns
+
+/// Adds a column of numbers from 0 up; false, with nothing changed, where it can't be had.
+fn add(schema: &mut Schema, name: &str, spec: ColumnSpec) -> Result<bool, NoMemory>
+    ensures done { IfOk result (λ done. IsChange (added_after schema.old name.now false spec (pos 0)) schema.old schema.new done) }
+    ensures kept { OnErr result (schema.new ≡ schema.old) }
+{
+    match schema.add(name, spec) {
+        Ok(()) => Ok(true),
+        Err(refused) => report(refused),
+    }
+}
+
+/// Adds a column of numbers from `offset` up; false, with nothing changed, where it can't be had.
+fn add_signed(
+    schema: &mut Schema,
+    name: &str,
+    spec: ColumnSpec,
+    offset: i64,
+) -> Result<bool, NoMemory>
+    ensures done { IfOk result (λ done. IsChange (added_after schema.old name.now true spec offset) schema.old schema.new done) }
+    ensures kept { OnErr result (schema.new ≡ schema.old) }
+{
+    match schema.add_signed(name, spec, offset) {
+        Ok(()) => Ok(true),
+        Err(refused) => report(refused),
+    }
+}
+
+/// Tells want of memory from a column that can't be had, which is false.
+fn report(refused: SchemaError) -> Result<bool, NoMemory>
+    ensures { IfOk result (λ done. (done ≡ false) × (refused ≢ SchemaError.NoMemory)) }
+{
+    match refused {
+        SchemaError::NoMemory => Err(NoMemory),
+        _ => Ok(false),
+    }
+}
+
+/// Does `column,NAME,FORM,SIZES`.
+fn declare_unsigned(
+    alloc: Global,
+    schema: &mut Schema,
+    fields: &ByteRecord,
+) -> Result<bool, NoMemory>
+    requires { length (fields_of fields.now) ≡ 4 }
+    ensures done { IfOk result (λ done. IsChange (column_after schema.old (drop 1 (fields_of fields.now))) schema.old schema.new done) }
+    ensures kept { OnErr result (schema.new ≡ schema.old) }
+{
+    let Ok(name) = str::from_utf8(lend(fields, 1)) else {
+        return Ok(false);
+    };
+    let Some(spec) = read_form(alloc, lend(fields, 2), lend(fields, 3))? else {
+        return Ok(false);
+    };
+    add(schema, name, spec)
+}
+
+/// Does `column,NAME,FORM,SIZES,OFFSET`.
+fn declare_signed(alloc: Global, schema: &mut Schema, fields: &ByteRecord) -> Result<bool, NoMemory>
+    requires { length (fields_of fields.now) ≡ 5 }
+    ensures done { IfOk result (λ done. IsChange (column_after schema.old (drop 1 (fields_of fields.now))) schema.old schema.new done) }
+    ensures kept { OnErr result (schema.new ≡ schema.old) }
+{
+    let Ok(name) = str::from_utf8(lend(fields, 1)) else {
+        return Ok(false);
+    };
+    let Some(offset) = read_offset(lend(fields, 4)) else {
+        return Ok(false);
+    };
+    let Some(spec) = read_form(alloc, lend(fields, 2), lend(fields, 3))? else {
+        return Ok(false);
+    };
+    add_signed(schema, name, spec, offset)
+}
+
+/// Does a record of the word `column`.
+fn declare_column(alloc: Global, schema: &mut Schema, fields: &ByteRecord) -> Result<bool, NoMemory>
+    ensures done { IfOk result (λ done. IsChange (column_after schema.old (drop 1 (fields_of fields.now))) schema.old schema.new done) }
+    ensures kept { OnErr result (schema.new ≡ schema.old) }
+{
+    if fields.len() == 4 {
+        return declare_unsigned(alloc, schema, fields);
+    }
+    if fields.len() == 5 {
+        return declare_signed(alloc, schema, fields);
+    }
+    Ok(false)
+}
+
+// ---- records
+
+/// Does a `column` or `limit` record, and returns true. False, with nothing changed, is a record that a script answers
+/// `bad`, or another record. It takes memory for the bases and the name of a column; where that is refused nothing changes.
+pub fn read_setup(
+    alloc: Global,
+    schema: &mut Schema,
+    limit: &mut u64,
+    fields: &ByteRecord,
+) -> Result<bool, NoMemory>
+    ensures done { IfOk result (λ done. IsChange (table_after schema.old limit.old (fields_of fields.now)) (schema.old, limit.old) (schema.new, limit.new) done) }
+    ensures kept { OnErr result ((schema.new ≡ schema.old) × (limit.new ≡ limit.old)) }
+{
+    let Some(word) = fields.get(0) else {
+        return Ok(false);
+    };
+    if word == b"column".as_slice() {
+        return declare_column(alloc, schema, fields);
+    }
+    if word == b"limit".as_slice() {
+        return Ok(declare_limit(limit, fields));
+    }
+    Ok(false)
+}
+
+/// Does `limit,ROWS`; a later one replaces an earlier one.
+fn declare_limit(limit: &mut u64, fields: &ByteRecord) -> bool
+    ensures { IsChange (limit_of (drop 1 (fields_of fields.now))) limit.old limit.new result }
+{
+    let Some(rows) = read_only_number(fields, MOST_ROWS) else {
+        return false;
+    };
+    *limit = rows;
+    true
+}
+
+/// Returns whether the record is `begin`.
+pub fn test_begin(fields: &ByteRecord) -> bool
+    ensures { result ≡ is_begin (fields_of fields.now) }
+{
+    if fields.len() != 1 {
+        return false;
+    }
+    lend(fields, 0) == b"begin".as_slice()
+}
+
+/// What the setup records of a script declared so far.
+#[derive(Drop)]
+pub struct Setup {
+    schema: Schema,
+    capacities: Vec<u32>,
+    limit: u64,
+}
+
+// Clauses see the columns, the capacities and the limit.
+impl Model for Setup {
+    ghost use Rattle.bsi_records.specs.Setups.{IsSetup, Setup};
+
+    ghost Value = { Setup };
+
+    ghost view = { λ s. record { schema = s.schema; capacities = s.capacities.items; limit = s.limit } };
+
+    ghost invariant = { λ s. IsSetup s.capacities.items s.limit };
+}
+
+impl Setup {
+    /// Returns a setup with no column, no feeder and the greatest limit. It takes no memory.
+    pub fn new(alloc: Global) -> Setup
+        ensures { result ≡ nothing_declared }
+    {
+        Setup {
+            schema: Schema::new(alloc),
+            capacities: Vec::new(alloc),
+            limit: MOST_ROWS,
+        }
+    }
+
+    /// Does a record that declares something, and returns true. False, with nothing changed, is a record that is answered
+    /// `bad`. Where memory is refused nothing changes.
+    pub fn declare(&mut self, alloc: Global, fields: &ByteRecord) -> Result<bool, NoMemory>
+        ensures done { IfOk result (λ done. IsChange (declared_after self.old (fields_of fields.now)) self.old self.new done) }
+        ensures kept { OnErr result (self.new ≡ self.old) }
+    {
+        let Some(word) = fields.get(0) else {
+            return Ok(false);
+        };
+        if word == b"feeder".as_slice() {
+            return declare_feeder(&mut self.capacities, fields);
+        }
+        read_setup(alloc, &mut self.schema, &mut self.limit, fields)
+    }
+
+    /// Makes the machine; none, with nothing changed, where there is no column or no feeder. The columns and the feeders
+    /// are moved into it. Where memory is refused they are dropped.
+    pub fn begin(&mut self, alloc: Global) -> Result<Option<Core>, NoMemory>
+        ensures made { IfOk result (λ made. made ≡ (if can_begin self.old then Some (new_machine self.old.schema self.old.capacities self.old.limit) else None)) }
+        ensures kept { IfOk result (λ made. IfNone made (self.new ≡ self.old)) }
+        ensures emptied { OnErr result (self.new ≡ record { schema = no_columns; capacities = []; limit = self.old.limit }) }
+    {
+        if self.schema.columns() == 0 || self.capacities.is_empty() {
+            return Ok(None);
+        }
+        let schema = mem::replace(&mut self.schema, Schema::new(alloc));
+        let capacities = mem::replace(&mut self.capacities, Vec::new(alloc));
+        match Core::new(alloc, schema, capacities, self.limit) {
+            Ok(core) => Ok(Some(core)),
+            Err(refused) => Err(only_memory(refused)),
+        }
+    }
+}
+
+/// Turns into want of memory the refusal of a machine, which is no other where its sizes are in range.
+fn only_memory(_refused: MakeError) -> NoMemory
+    requires { _refused ≡ MakeError.NoMemory }
+{
+    NoMemory
+}
+
+/// Does `feeder,CAPACITY`, where there are fewer than 64 feeders.
+fn declare_feeder(capacities: &mut Vec<u32>, fields: &ByteRecord) -> Result<bool, NoMemory>
+    ensures done { IfOk result (λ done. IsChange (feeder_after capacities.old.items (drop 1 (fields_of fields.now))) capacities.old.items capacities.new.items done) }
+    ensures kept { OnErr result (capacities.new.items ≡ capacities.old.items) }
+{
+    if capacities.len() >= MOST_FEEDERS {
+        return Ok(false);
+    }
+    let Some(capacity) = read_only_number(fields, MOST_WAITING) else {
+        return Ok(false);
+    };
+    capacities.push(capacity as u32)?;
+    Ok(true)
+}
