@@ -1,5 +1,6 @@
 //! Worked records and replies. Each test tolerates one refused growth, and then makes the same call again.
 
+mod events;
 mod lines;
 mod numbers;
 mod queries;

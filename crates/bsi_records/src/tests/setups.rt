@@ -1,6 +1,8 @@
 //! Records that declare columns and the limit.
 
 use super::*;
+use crate::{Setup, test_begin};
+use bsi_load::Core;
 
 #[test]
 fn setup_records(rt: HostRuntime) -> Result<(), Fail> {
@@ -35,5 +37,43 @@ fn setup_records(rt: HostRuntime) -> Result<(), Fail> {
         );
     }
     assert!(rt; schema.signed());
+    Ok(())
+}
+
+/// Whether a record is done; one that finds no memory changes nothing, and is done again.
+fn done(alloc: Global, setup: &mut Setup, line: &str) -> Result<bool, NoMemory> {
+    let fields = record(alloc, line)?;
+    match setup.declare(alloc, &fields) {
+        Err(_) => setup.declare(alloc, &fields),
+        done => done,
+    }
+}
+
+/// The machine of two columns and a feeder, of which none can be made before all of it is declared.
+fn begun(alloc: Global) -> Result<Option<Core>, NoMemory> {
+    let mut setup = Setup::new(alloc);
+    for line in ["column,a,slices,3", "column,b,range,10", "feeder,2"] {
+        if setup.begin(alloc)?.is_some() || !done(alloc, &mut setup, line)? {
+            return Ok(None);
+        }
+    }
+    setup.begin(alloc)
+}
+
+#[test]
+fn a_setup_begins_once_there_are_a_column_and_a_feeder(rt: HostRuntime) -> Result<(), Fail> {
+    let made = match begun(rt.alloc()) {
+        Err(_) => begun(rt.alloc())?,
+        made => made?,
+    };
+    let sizes = match &made {
+        None => None,
+        Some(core) => Some((core.schema().columns(), core.feeders())),
+    };
+    assert_eq!(rt; sizes, Some((2, 1)));
+    for (line, want) in [("begin", true), ("begin,", false), ("begins", false), ("", false)] {
+        let fields = record(rt.alloc(), line)?;
+        assert_eq!(rt; test_begin(&fields), want, "at {line}");
+    }
     Ok(())
 }
