@@ -64,7 +64,8 @@ pub(crate) fn read_in(signed: bool, text: &[u8]) -> Option<i128>
     read_unsigned(text)
 }
 
-/// Reads a value: no byte is a null.
+/// Reads a value of a row: no byte is a null, else it is a number, with a minus sign where numbers are signed alone. `None` is a
+/// text that is no value. It takes no memory.
 pub fn read_value(signed: bool, text: &[u8]) -> Option<Option<i128>>
     ensures { result ≡ value_in signed text.now }
 {

@@ -36,7 +36,8 @@ pub fn read_row(
     Ok(Some(Row::new(values)))
 }
 
-/// Reads a record as the event that it asks for; none where it asks for none. It takes memory for the row or the query.
+/// Reads a record as the event that it asks for: `submit` and the entries of a row, `load` or `close`, each with a feeder, or a
+/// query. `None` is a record that asks for none. It takes memory for the row or the query.
 pub fn read_event(
     alloc: Global,
     schema: &Schema,

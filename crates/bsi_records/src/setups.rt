@@ -200,7 +200,7 @@ fn declare_limit(limit: &mut u64, fields: &ByteRecord) -> bool
     true
 }
 
-/// Returns whether the record is `begin`.
+/// Returns whether the record is `begin` alone, which ends what a script declares. It takes no memory.
 pub fn test_begin(fields: &ByteRecord) -> bool
     ensures { result ≡ is_begin (fields_of fields.now) }
 {
@@ -210,7 +210,8 @@ pub fn test_begin(fields: &ByteRecord) -> bool
     lend(fields, 0) == b"begin".as_slice()
 }
 
-/// What the setup records of a script declared so far.
+/// What the records of a script before `begin` declared so far: the columns, the feeders, each with the number of its rows that
+/// may wait, and the most rows of the index.
 #[derive(Drop)]
 pub struct Setup {
     schema: Schema,
@@ -241,8 +242,8 @@ impl Setup {
         }
     }
 
-    /// Does a record that declares something, and returns true. False, with nothing changed, is a record that is answered
-    /// `bad`. Where memory is refused nothing changes.
+    /// Does a `column`, `feeder` or `limit` record, and returns true. False, with nothing changed, is a record that a script
+    /// answers `bad`, or another record. Where memory is refused nothing changes.
     pub fn declare(&mut self, alloc: Global, fields: &ByteRecord) -> Result<bool, NoMemory>
         ensures done { IfOk result (λ done. IsChange (declared_after self.old (fields_of fields.now)) self.old self.new done) }
         ensures kept { OnErr result (self.new ≡ self.old) }
@@ -256,8 +257,8 @@ impl Setup {
         read_setup(alloc, &mut self.schema, &mut self.limit, fields)
     }
 
-    /// Makes the machine; none, with nothing changed, where there is no column or no feeder. The columns and the feeders
-    /// are moved into it. Where memory is refused they are dropped.
+    /// Makes the machine of what was declared; `None`, with nothing changed, where there is no column or no feeder. The columns
+    /// and the feeders are moved into it. Where memory is refused they are dropped.
     pub fn begin(&mut self, alloc: Global) -> Result<Option<Core>, NoMemory>
         ensures made { IfOk result (λ made. made ≡ (if can_begin self.old then Some (new_machine self.old.schema self.old.capacities self.old.limit) else None)) }
         ensures kept { IfOk result (λ made. IfNone made (self.new ≡ self.old)) }
