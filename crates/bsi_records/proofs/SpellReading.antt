@@ -1,5 +1,5 @@
 -- Fields are read as the predicate that they spell, and as no other.
-use Rattle.std.proofs.Common.{◌≡◌, ℕ, List, [], ◌∷◌, ◌++◌, ◌-◌, ◌<◌, ◌≤◌, length, length-drop, drop, arith, MatchOption, Option, Some, None, option_map, option_and_then, ap, sym, ◌∙◌, refl, append_assoc, codes, subst}
+use Rattle.std.proofs.Common.{◌≡◌, ℕ, Bool, true, false, List, [], ◌∷◌, ◌++◌, ◌-◌, ◌<◌, ◌≤◌, length, length-drop, drop, arith, MatchOption, Option, Some, None, option_map, option_and_then, ap, sym, ◌∙◌, refl, append_assoc, codes, subst}
 use Rattle.std.proofs.lemmas.List.{append-nil}
 use Rattle.std.proofs.lemmas.Option.{option_and_then_some}
 use Rattle.bsi_slices.specs.declared.column.Op.{Op}
@@ -8,7 +8,7 @@ use Rattle.bsi_table.specs.declared.query.Pred.{Pred, All, Compare, Null, Both',
 use Rattle.bsi_records.specs.declared.predicates.Pending.{Pending}
 use Rattle.bsi_records.specs.declared.predicates.Pending.TheVariants.{Nothing, Column, Comparison}
 use Rattle.bsi_records.specs.Numbers.{Field, number_in}
-use Rattle.bsi_records.specs.Postfix.{after_field, after_fields, after_name, after_sign, after_word, begun, joined_both, joined_either, negated, nowhere, only_of, op_of, plain, ready, shown, State}
+use Rattle.bsi_records.specs.Postfix.{after_field, after_fields, after_name, after_sign, after_word, begun, joined, joint, negated, nowhere, only_of, op_of, plain, ready, shown, State}
 use Rattle.bsi_records.specs.Predicates.{IsPredicate, sign_of, Spells}
 use Rattle.bsi_records.proofs.SpellWords.{if_same, mapped, name_leads, none_is_some, read_is_sign, sign_leads, some_same}
 
@@ -78,31 +78,22 @@ reached : (schema : Declared) (fields : List Field) (next : Pending) (after : Li
     → AreRead schema fields next after → AreRead schema fields state.0 state.1
 reached schema fields next after state is read = subst (λ s. AreRead schema fields s.0 s.1) (some_same (next, after) state is) read
 
-joined : (fields before own lower one : List Field) (word : Field) → fields ≡ before ++ own → before ≡ lower ++ one
+joined_fields : (fields before own lower one : List Field) (word : Field) → fields ≡ before ++ own → before ≡ lower ++ one
     → fields ++ word ∷ [] ≡ lower ++ (one ++ own ++ word ∷ [])
-joined fields before own lower one word is was =
+joined_fields fields before own lower one word is was =
     ap (λ f. f ++ word ∷ []) (is ∙ ap (λ b. b ++ own) was) ∙ append_assoc (lower ++ one) own (word ∷ []) ∙ append_assoc lower one (own ++ word ∷ [])
     ∙ ap (λ t. lower ++ t) (sym (append_assoc one own (word ∷ [])))
 
-both_read : (schema : Declared) (fields : List Field) (stack : List Pred) (field : Field) (state : State) → AreSpelled schema fields stack
-    → field ≡ codes "and" → joined_both stack ≡ Some state → AreRead schema (fields ++ field ∷ []) state.0 state.1
-unfolding Spells
-both_read schema fields [] field state spelled word is = cc
-both_read schema fields (second ∷ []) field state spelled word is = cc
-both_read schema fields (second ∷ first ∷ stack) field state spelled word is =
+-- behind a word that joins two predicates into one
+joined_read : (schema : Declared) (fields : List Field) (stack : List Pred) (both : Bool) (word : Field) (state : State) → AreSpelled schema fields stack
+    → ((one two : List Field) (first second : Pred) → Spells schema one first → Spells schema two second → Spells schema (one ++ two ++ word ∷ []) (joint both first second))
+    → joined both stack ≡ Some state → AreRead schema (fields ++ word ∷ []) state.0 state.1
+joined_read schema fields [] both word state spelled joins is = cc
+joined_read schema fields (second ∷ []) both word state spelled joins is = cc
+joined_read schema fields (second ∷ first ∷ stack) both word state spelled joins is =
     let lower = spelled.3 in
-    reached schema (fields ++ field ∷ []) Nothing (Both' nowhere first nowhere second ∷ stack) state is
-    (lower.0, lower.1 ++ spelled.1 ++ field ∷ [], joined fields spelled.0 spelled.1 lower.0 lower.1 field spelled.2 lower.2, lower.3, (lower.1, spelled.1, ap (λ w. lower.1 ++ spelled.1 ++ w ∷ []) word, lower.4, spelled.4))
-
-either_read : (schema : Declared) (fields : List Field) (stack : List Pred) (field : Field) (state : State) → AreSpelled schema fields stack
-    → field ≡ codes "or" → joined_either stack ≡ Some state → AreRead schema (fields ++ field ∷ []) state.0 state.1
-unfolding Spells
-either_read schema fields [] field state spelled word is = cc
-either_read schema fields (second ∷ []) field state spelled word is = cc
-either_read schema fields (second ∷ first ∷ stack) field state spelled word is =
-    let lower = spelled.3 in
-    reached schema (fields ++ field ∷ []) Nothing (Either' nowhere first nowhere second ∷ stack) state is
-    (lower.0, lower.1 ++ spelled.1 ++ field ∷ [], joined fields spelled.0 spelled.1 lower.0 lower.1 field spelled.2 lower.2, lower.3, (lower.1, spelled.1, ap (λ w. lower.1 ++ spelled.1 ++ w ∷ []) word, lower.4, spelled.4))
+    reached schema (fields ++ word ∷ []) Nothing (joint both first second ∷ stack) state is
+    (lower.0, lower.1 ++ spelled.1 ++ word ∷ [], joined_fields fields spelled.0 spelled.1 lower.0 lower.1 word spelled.2 lower.2, lower.3, joins lower.1 spelled.1 first second lower.4 spelled.4)
 
 not_read : (schema : Declared) (fields : List Field) (stack : List Pred) (field : Field) (state : State) → AreSpelled schema fields stack
     → field ≡ codes "not" → negated stack ≡ Some state → AreRead schema (fields ++ field ∷ []) state.0 state.1
@@ -118,8 +109,8 @@ unfolding Spells
 word_read schema fields stack field state spelled is =
     if_same field (codes "all") _ _ (Some state) is
     (λ word found. reached schema (fields ++ field ∷ []) Nothing (All ∷ stack) state found (fields, field ∷ [], refl, spelled, ap (λ w. w ∷ []) word)) λ is.
-    if_same field (codes "and") _ _ (Some state) is (both_read schema fields stack field state spelled) λ is.
-    if_same field (codes "or") _ _ (Some state) is (either_read schema fields stack field state spelled) λ is.
+    if_same field (codes "and") _ _ (Some state) is (λ word. joined_read schema fields stack true field state spelled λ one two first second p q. (one, two, ap (λ w. one ++ two ++ w ∷ []) word, p, q)) λ is.
+    if_same field (codes "or") _ _ (Some state) is (λ word. joined_read schema fields stack false field state spelled λ one two first second p q. (one, two, ap (λ w. one ++ two ++ w ∷ []) word, p, q)) λ is.
     if_same field (codes "not") _ _ (Some state) is (not_read schema fields stack field state spelled) λ is.
     mapped (λ c. (Column c, stack)) (position_of schema.columns field) state is λ c at found.
     reached schema (fields ++ field ∷ []) (Column c) stack state found (fields, field, refl, at, spelled)

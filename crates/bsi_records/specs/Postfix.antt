@@ -1,5 +1,5 @@
 -- Reading a predicate in postfix order, a field at a time.
-use Rattle.std.specs.Prelude.{ℕ, Bool, if◌then◌else◌, List, [], ◌∷◌, map, reverse, Option, Some, None, option_map, option_and_then, codes, Box}
+use Rattle.std.specs.Prelude.{ℕ, Bool, true, false, if◌then◌else◌, List, [], ◌∷◌, map, reverse, Option, Some, None, option_map, option_and_then, codes, Box}
 use Rattle.std.specs.Ptr.{null_ptr}
 use Rattle.std.specs.Str.{bytes_eq}
 use Rattle.std.specs.declared.alloc.Global.{Global}
@@ -38,15 +38,16 @@ begun pending stack = Some (pending, stack)
 abbrev pub ready : List Pred → Option State
 ready stack = begun Nothing stack
 
--- behind `and`, `or` and `not`
-abbrev pub joined_both : List Pred → Option State
-joined_both (second ∷ first ∷ stack) = ready (Both' nowhere first nowhere second ∷ stack)
-joined_both stack = None
+-- two predicates as one: that both hold, or else that one of them holds
+abbrev pub joint : Bool → Pred → Pred → Pred
+joint both first second = if both then Both' nowhere first nowhere second else Either' nowhere first nowhere second
 
-abbrev pub joined_either : List Pred → Option State
-joined_either (second ∷ first ∷ stack) = ready (Either' nowhere first nowhere second ∷ stack)
-joined_either stack = None
+-- behind `and` and `or`
+abbrev pub joined : Bool → List Pred → Option State
+joined both (second ∷ first ∷ stack) = ready (joint both first second ∷ stack)
+joined both stack = None
 
+-- behind `not`
 abbrev pub negated : List Pred → Option State
 negated (pred ∷ stack) = ready (Not' nowhere pred ∷ stack)
 negated [] = None
@@ -55,8 +56,8 @@ negated [] = None
 abbrev pub after_word : Declared → List Pred → Field → Option State
 after_word schema stack field =
     if bytes_eq field (codes "all") then ready (All ∷ stack)
-    else (if bytes_eq field (codes "and") then joined_both stack
-    else (if bytes_eq field (codes "or") then joined_either stack
+    else (if bytes_eq field (codes "and") then joined true stack
+    else (if bytes_eq field (codes "or") then joined false stack
     else (if bytes_eq field (codes "not") then negated stack
     else option_map (λ c. (Column c, stack)) (position_of schema.columns field))))
 

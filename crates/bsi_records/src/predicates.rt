@@ -2,7 +2,7 @@
 
 ghost use Rattle.std.specs.Prelude.{◌≡◌, List, drop, option_map, IfOk, MatchOption};
 ghost use Rattle.csv.specs.Records.{fields_of};
-ghost use Rattle.bsi_records.specs.Postfix.{after_field, after_fields, after_name, after_sign, after_word, joined_both, joined_either, negated, only_of, op_of, plain, shown};
+ghost use Rattle.bsi_records.specs.Postfix.{after_field, after_fields, after_name, after_sign, after_word, joined, negated, only_of, op_of, plain, shown};
 ghost use Rattle.bsi_records.specs.Predicates.{IsPredicate};
 
 use crate::NoMemory;
@@ -102,10 +102,10 @@ fn read_word(
         return Ok(Some(Pending::Nothing));
     }
     if field == b"and".as_slice() {
-        return join_both(alloc, stack);
+        return join(alloc, true, stack);
     }
     if field == b"or".as_slice() {
-        return join_either(alloc, stack);
+        return join(alloc, false, stack);
     }
     if field == b"not".as_slice() {
         return negate(alloc, stack);
@@ -176,9 +176,9 @@ fn read_op(sign: &[u8]) -> Option<Op>
     None
 }
 
-/// Puts in place of the two newest predicates that both hold.
-fn join_both(alloc: Global, stack: &mut Vec<Pred>) -> Result<Option<Pending>, NoMemory>
-    ensures { IfOk result (λ read. option_map (λ next. (next, shown stack.new.items)) read ≡ joined_both (shown stack.old.items)) }
+/// Puts in place of the two newest predicates that both hold, or else that one of them holds.
+fn join(alloc: Global, both: bool, stack: &mut Vec<Pred>) -> Result<Option<Pending>, NoMemory>
+    ensures { IfOk result (λ read. option_map (λ next. (next, shown stack.new.items)) read ≡ joined both (shown stack.old.items)) }
 {
     let Some(second) = stack.pop() else {
         return Ok(None);
@@ -188,23 +188,11 @@ fn join_both(alloc: Global, stack: &mut Vec<Pred>) -> Result<Option<Pending>, No
     };
     let first = Box::new(alloc, first)?;
     let second = Box::new(alloc, second)?;
-    stack.push(Pred::Both(first, second))?;
-    Ok(Some(Pending::Nothing))
-}
-
-/// Puts in place of the two newest predicates that one of them holds.
-fn join_either(alloc: Global, stack: &mut Vec<Pred>) -> Result<Option<Pending>, NoMemory>
-    ensures { IfOk result (λ read. option_map (λ next. (next, shown stack.new.items)) read ≡ joined_either (shown stack.old.items)) }
-{
-    let Some(second) = stack.pop() else {
-        return Ok(None);
-    };
-    let Some(first) = stack.pop() else {
-        return Ok(None);
-    };
-    let first = Box::new(alloc, first)?;
-    let second = Box::new(alloc, second)?;
-    stack.push(Pred::Either(first, second))?;
+    if both {
+        stack.push(Pred::Both(first, second))?;
+    } else {
+        stack.push(Pred::Either(first, second))?;
+    }
     Ok(Some(Pending::Nothing))
 }
 
