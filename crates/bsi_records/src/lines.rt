@@ -1,13 +1,12 @@
 //! The lines that answer records: from replies to bytes.
 
 ghost use Rattle.std.specs.Prelude.{◌≡◌, ◌++◌, OnErr, OnOk, codes, decimal};
-ghost use Rattle.std.specs.Fmt.{signed_decimal};
 ghost use Rattle.std.specs.Io.{StartsWith};
 ghost use Rattle.bsi_records.specs.Lines.{answer_line, ask_line, close_line, load_line, reply_line, rows_text, submit_line};
 
 use bsi_load::{CloseRefused, LoadRefused, Reply, SubmitRefused};
 use bsi_table::{Answer, AskError};
-use itoa::Buffer;
+use itoa::{Buffer, Integer};
 use std::alloc::AllocError as NoMemory;
 
 /// Appends the line of a reply, with its line feed, whole or not at all. It takes memory for the line alone.
@@ -58,7 +57,7 @@ fn write_loaded(reply: Result<u64, LoadRefused>, line: &mut Vec<u8>) -> Result<(
     ensures begins { StartsWith line.new.items line.old.items }
 {
     match reply {
-        Ok(position) => write_count(b"loaded ", position, line),
+        Ok(position) => write_number(b"loaded ", position, line),
         Err(LoadRefused::UnknownFeeder) => line.extend_from_slice(b"no feeder\n"),
         Err(LoadRefused::Ended) => line.extend_from_slice(b"ended\n"),
         Err(LoadRefused::Empty) => line.extend_from_slice(b"empty\n"),
@@ -85,7 +84,7 @@ fn write_answer(answer: &Answer, line: &mut Vec<u8>) -> Result<(), NoMemory>
     ensures begins { StartsWith line.new.items line.old.items }
 {
     match answer {
-        Answer::Count(count) => write_count(b"count ", *count, line),
+        Answer::Count(count) => write_number(b"count ", *count, line),
         Answer::Sum(sum) => write_number(b"sum ", *sum, line),
         Answer::Value(None) => line.extend_from_slice(b"none\n"),
         Answer::Value(Some(number)) => write_number(b"value ", i128::from(*number), line),
@@ -93,20 +92,9 @@ fn write_answer(answer: &Answer, line: &mut Vec<u8>) -> Result<(), NoMemory>
     }
 }
 
-/// Appends a word and a count, and the line feed.
-fn write_count(word: &[u8], count: u64, line: &mut Vec<u8>) -> Result<(), NoMemory>
-    ensures ok { OnOk result (line.new.items ≡ line.old.items ++ (word.now ++ decimal count ++ codes "\n")) }
-    ensures begins { StartsWith line.new.items line.old.items }
-{
-    let mut digits = Buffer::new();
-    line.extend_from_slice(word)?;
-    line.extend_from_slice(digits.format(count).as_bytes())?;
-    line.extend_from_slice(b"\n")
-}
-
-/// Appends a word and a whole number, and the line feed.
-fn write_number(word: &[u8], number: i128, line: &mut Vec<u8>) -> Result<(), NoMemory>
-    ensures ok { OnOk result (line.new.items ≡ line.old.items ++ (word.now ++ signed_decimal number ++ codes "\n")) }
+/// Appends a word and a number, and the line feed.
+fn write_number<I: Integer>(word: &[u8], number: I, line: &mut Vec<u8>) -> Result<(), NoMemory>
+    ensures ok { OnOk result (line.new.items ≡ line.old.items ++ (word.now ++ I.text number ++ codes "\n")) }
     ensures begins { StartsWith line.new.items line.old.items }
 {
     let mut digits = Buffer::new();
