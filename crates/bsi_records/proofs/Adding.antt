@@ -1,6 +1,6 @@
 -- One more column: what the schema refuses is what a record can't declare.
-use Rattle.std.proofs.Common.{◌≡◌, ◌≢◌, ℕ, ◌*◌, ◌^◌, ◌<◌, ◌≤◌, Bool, true, false, ◌&&◌, not, nat_eq, nat_lt, nat_le, List, [], ◌∷◌, ◌++◌, length, reverse, sum, position, Option, Some, None, is_none, option_map, option_and_then, if◌then◌else◌, ℤ, pos, ◌+ℤ◌, refl, ◌∙◌, ap, arith}
-use Rattle.std.specs.Prelude.{int_le, int_lt, IsUtf8}
+use Rattle.std.proofs.Common.{◌≡◌, ◌≢◌, ℕ, ◌*◌, ◌^◌, ◌<◌, ◌≤◌, Bool, true, false, ◌&&◌, not, nat_eq, nat_lt, nat_le, List, [], ◌∷◌, ◌++◌, length, reverse, sum, position, Option, Some, None, is_none, is_some, unwrap_or, option_map, option_and_then, if◌then◌else◌, Result, Ok, Err, ℤ, pos, ◌+ℤ◌, refl, sym, ◌∙◌, ap, subst, arith}
+use Rattle.std.specs.Prelude.{int_le, int_lt, IfErr, IfOk, IsErr, IsUtf8, MatchResult, OnErr, OnOk}
 use Rattle.std.specs.Option.{option_or}
 use Rattle.std.specs.List.{list_all}
 use Rattle.std.specs.Str.{IsAscii}
@@ -16,6 +16,7 @@ use Rattle.bsi_digits.specs.Digits.{product}
 use Rattle.bsi_digits.specs.Refusal.{is_bad_base, refusal, refusal_by_place}
 use Rattle.bsi_table.specs.declared.form.ColumnSpec.{ColumnSpec}
 use Rattle.bsi_table.specs.declared.form.ColumnSpec.TheVariants.{Slices, Equality, Range}
+use Rattle.bsi_table.specs.declared.form.Form.{Form}
 use Rattle.bsi_table.specs.declared.schema_error.SchemaError.{SchemaError}
 use Rattle.bsi_table.specs.declared.schema_error.SchemaError.TheVariants.{BadName, BadBases, BadOffset, NoMemory}
 use Rattle.bsi_table.specs.Columns.{Declared, form_of, named_column, size_in, with_column}
@@ -33,6 +34,22 @@ not_done (Some x) old none = (cc, cc)
 pub done : {T : Type 0} (after : Option T) (old new : T) → after ≡ Some new → IsChange after old new true
 done None old new some = (cc, cc)
 done (Some x) old new some = (refl, cc)
+
+-- what adding a column comes to, where `refusal` says why it can't be had
+module _ {E : Type 0} (after : Option Declared) (old wanted : Declared) (refusal : Option SchemaError) (can : refusal ≡ None → after ≡ Some wanted)
+    (can_not : (e : SchemaError) → IsFirstOr NoMemory refusal e → e ≢ NoMemory → after ≡ None) where
+  pub told : (added : Result (Unit {0}) SchemaError) (result : Result Bool E) (new : Declared) → OnOk added (new ≡ wanted) → OnOk added (refusal ≡ None)
+      → IfErr added (IsFirstOr NoMemory refusal) → OnErr added (new ≡ old)
+      → IfOk result (λ done. MatchResult added (λ _. done ≡ true) (λ e. (done ≡ false) × (e ≢ NoMemory))) → IfOk result (λ b. IsChange after old new b)
+  told added (Err e) new is taken first kept tells = tt
+  told (Ok x) (Ok b) new is taken first kept tells = subst (IsChange after old new) (sym tells) (done after old new (can taken ∙ ap Some (sym is)))
+  told (Err e) (Ok b) new is taken first kept tells =
+      subst (IsChange after old new) (sym tells.0) (subst (λ n. IsChange after old n false) (sym kept) (not_done after old (can_not e first tells.1)))
+
+pub kept_by : {E : Type 0} (P : Type 0) (added : Result (Unit {0}) SchemaError) (result : Result Bool E) → OnErr result (IsErr added) → OnErr added P → OnErr result P
+kept_by P added (Ok b) memory kept = tt
+kept_by P (Ok x) (Err e) memory kept = absurd cc
+kept_by P (Err d) (Err e) memory kept = kept
 
 -- ---- the size of a form that can be had
 
@@ -87,31 +104,46 @@ low n small = grind (arith, ints, nat_tests)
 
 -- ---- one more column
 
-module _ (schema : Declared) (name : Field) (spec : ColumnSpec) where
-  bad_form : (signed : Bool) (offset : ℤ) (why : BasesError) → form_refusal spec ≡ Some why → added_after schema name signed spec offset ≡ None
-  bad_form signed offset why is = ap (λ o. option_and_then (λ f. one_more schema name signed f offset) (if is_none o then Some (form_of spec) else None)) is
+module _ (schema : Declared) (name : Field) (spec : ColumnSpec) (offset : Option ℤ) where
+  abbrev least : ℤ
+  least = unwrap_or offset (pos 0)
 
-  bad_name : (signed : Bool) (offset : ℤ) (why : SchemaError) → name_refusal schema name ≡ Some why → added_after schema name signed spec offset ≡ None
-  bad_name signed offset why is = by (is_none (form_refusal spec))
+  abbrev more : Form → Option Declared
+  more f = one_more schema name (is_some offset) f least
+
+  bad_form : (why : BasesError) → form_refusal spec ≡ Some why → added_after schema name spec offset ≡ None
+  bad_form why is = ap (λ o. option_and_then more (if is_none o then Some (form_of spec) else None)) is
+
+  bad_name : (why : SchemaError) → name_refusal schema name ≡ Some why → added_after schema name spec offset ≡ None
+  bad_name why is = by (is_none (form_refusal spec))
     where
-      by : (b : Bool) → option_and_then (λ f. one_more schema name signed f offset) (if b then Some (form_of spec) else None) ≡ None
-      by true = ap (λ o. if is_none o && int_le (offset +ℤ pos (size_in (form_of spec))) (pos (2 ^ 63))
-          then Some (with_column schema (named_column name (form_of spec) offset) signed) else None) is
+      by : (b : Bool) → option_and_then more (if b then Some (form_of spec) else None) ≡ None
+      by true = ap (λ o. if is_none o && int_le (least +ℤ pos (size_in (form_of spec))) (pos (2 ^ 63))
+          then Some (with_column schema (named_column name (form_of spec) least) (is_some offset)) else None) is
       by false = refl
 
-  too_high : (signed : Bool) (offset : ℤ) → int_le (offset +ℤ pos (size_in (form_of spec))) (pos (2 ^ 63)) ≡ false → added_after schema name signed spec offset ≡ None
-  too_high signed offset high = by (is_none (form_refusal spec)) (is_none (name_refusal schema name)) refl
+  too_high : int_le (least +ℤ pos (size_in (form_of spec))) (pos (2 ^ 63)) ≡ false → added_after schema name spec offset ≡ None
+  too_high high = by (is_none (form_refusal spec)) (is_none (name_refusal schema name)) refl
     where
-      by : (b n : Bool) → is_none (name_refusal schema name) ≡ n → option_and_then (λ f. one_more schema name signed f offset) (if b then Some (form_of spec) else None) ≡ None
+      by : (b n : Bool) → is_none (name_refusal schema name) ≡ n → option_and_then more (if b then Some (form_of spec) else None) ≡ None
       by true true is = rw (is, high) refl
       by true false is = rw is refl
       by false n is = refl
 
-  can_be_had : (signed : Bool) (offset : ℤ) → name_refusal schema name ≡ None → form_refusal spec ≡ None
-      → int_le (offset +ℤ pos (size_in (form_of spec))) (pos (2 ^ 63)) ≡ true
-      → added_after schema name signed spec offset ≡ Some (with_column schema (named_column name (form_of spec) offset) signed)
-  can_be_had signed offset free valid low = rw (valid, free, low) refl
+  can_be_had : name_refusal schema name ≡ None → form_refusal spec ≡ None → int_le (least +ℤ pos (size_in (form_of spec))) (pos (2 ^ 63)) ≡ true
+      → added_after schema name spec offset ≡ Some (with_column schema (named_column name (form_of spec) least) (is_some offset))
+  can_be_had free valid low = rw (valid, free, low) refl
 
+  column_some : (e : SchemaError) → column_refusal schema name spec ≡ Some e → added_after schema name spec offset ≡ None
+  column_some e some = by (name_refusal schema name) (form_refusal spec) refl refl some
+    where
+      by : (n : Option SchemaError) (f : Option BasesError) → name_refusal schema name ≡ n → form_refusal spec ≡ f → option_or n (option_map BadBases f) ≡ Some e
+          → added_after schema name spec offset ≡ None
+      by (Some why) f name_is form_is some = bad_name why name_is
+      by None (Some why) name_is form_is some = bad_form why form_is
+      by None None name_is form_is some = absurd cc
+
+module _ (schema : Declared) (name : Field) (spec : ColumnSpec) where
   column_none : column_refusal schema name spec ≡ None → (name_refusal schema name ≡ None) × (form_refusal spec ≡ None)
   column_none none = by (name_refusal schema name) (form_refusal spec) none
     where
@@ -120,49 +152,41 @@ module _ (schema : Declared) (name : Field) (spec : ColumnSpec) where
       by None (Some why) none = absurd cc
       by (Some why) f none = absurd cc
 
-  column_some : (signed : Bool) (offset : ℤ) (e : SchemaError) → column_refusal schema name spec ≡ Some e → added_after schema name signed spec offset ≡ None
-  column_some signed offset e some = by (name_refusal schema name) (form_refusal spec) refl refl some
-    where
-      by : (n : Option SchemaError) (f : Option BasesError) → name_refusal schema name ≡ n → form_refusal spec ≡ f → option_or n (option_map BadBases f) ≡ Some e
-          → added_after schema name signed spec offset ≡ None
-      by (Some why) f name_is form_is some = bad_name signed offset why name_is
-      by None (Some why) name_is form_is some = bad_form signed offset why form_is
-      by None None name_is form_is some = absurd cc
-
   -- from 0 up
   pub added : column_refusal schema name spec ≡ None
-      → added_after schema name false spec (pos 0) ≡ Some (with_column schema (named_column name (form_of spec) (pos 0)) false)
+      → added_after schema name spec None ≡ Some (with_column schema (named_column name (form_of spec) (pos 0)) false)
   added none =
       let small : size_in (form_of spec) ≤ 2 ^ 63 = form_size spec (column_none none).1 in
-      can_be_had false (pos 0) (column_none none).0 (column_none none).1 (low (size_in (form_of spec)) small)
+      can_be_had schema name spec None (column_none none).0 (column_none none).1 (low (size_in (form_of spec)) small)
 
-  pub refused : (e : SchemaError) → IsFirstOr NoMemory (column_refusal schema name spec) e → e ≢ NoMemory → added_after schema name false spec (pos 0) ≡ None
+  pub refused : (e : SchemaError) → IsFirstOr NoMemory (column_refusal schema name spec) e → e ≢ NoMemory → added_after schema name spec None ≡ None
   refused e first other = by (column_refusal schema name spec) refl first
     where
-      by : (o : Option SchemaError) → column_refusal schema name spec ≡ o → IsFirstOr NoMemory o e → added_after schema name false spec (pos 0) ≡ None
-      by (Some why) is first = column_some false (pos 0) why is
+      by : (o : Option SchemaError) → column_refusal schema name spec ≡ o → IsFirstOr NoMemory o e → added_after schema name spec None ≡ None
+      by (Some why) is first = column_some schema name spec None why is
       by None is first = absurd (other first)
 
   -- from an offset up
   module _ (offset : ℤ) where
     pub added_signed : signed_refusal schema name spec offset ≡ None
-        → added_after schema name true spec offset ≡ Some (with_column schema (named_column name (form_of spec) offset) true)
+        → added_after schema name spec (Some offset) ≡ Some (with_column schema (named_column name (form_of spec) offset) true)
     added_signed none = by (column_refusal schema name spec) (int_lt (pos (2 ^ 63)) (offset +ℤ pos (size_in (form_of spec)))) refl refl none
       where
         by : (o : Option SchemaError) (b : Bool) → column_refusal schema name spec ≡ o → int_lt (pos (2 ^ 63)) (offset +ℤ pos (size_in (form_of spec))) ≡ b
             → option_or o (if b then Some BadOffset else None) ≡ None
-            → added_after schema name true spec offset ≡ Some (with_column schema (named_column name (form_of spec) offset) true)
+            → added_after schema name spec (Some offset) ≡ Some (with_column schema (named_column name (form_of spec) offset) true)
         by (Some why) b is test none = absurd cc
         by None true is test none = absurd cc
-        by None false is test none = can_be_had true offset (column_none is).0 (column_none is).1 (not_above (offset +ℤ pos (size_in (form_of spec))) (pos (2 ^ 63)) test)
+        by None false is test none =
+            can_be_had schema name spec (Some offset) (column_none is).0 (column_none is).1 (not_above (offset +ℤ pos (size_in (form_of spec))) (pos (2 ^ 63)) test)
 
-    pub refused_signed : (e : SchemaError) → IsFirstOr NoMemory (signed_refusal schema name spec offset) e → e ≢ NoMemory → added_after schema name true spec offset ≡ None
+    pub refused_signed : (e : SchemaError) → IsFirstOr NoMemory (signed_refusal schema name spec offset) e → e ≢ NoMemory → added_after schema name spec (Some offset) ≡ None
     refused_signed e first other = by (column_refusal schema name spec) (int_lt (pos (2 ^ 63)) (offset +ℤ pos (size_in (form_of spec)))) refl refl first
       where
         by : (o : Option SchemaError) (b : Bool) → column_refusal schema name spec ≡ o → int_lt (pos (2 ^ 63)) (offset +ℤ pos (size_in (form_of spec))) ≡ b
-            → IsFirstOr NoMemory (option_or o (if b then Some BadOffset else None)) e → added_after schema name true spec offset ≡ None
-        by (Some why) b is test first = column_some true offset why is
-        by None true is test first = too_high true offset (above (offset +ℤ pos (size_in (form_of spec))) (pos (2 ^ 63)) test)
+            → IsFirstOr NoMemory (option_or o (if b then Some BadOffset else None)) e → added_after schema name spec (Some offset) ≡ None
+        by (Some why) b is test first = column_some schema name spec (Some offset) why is
+        by None true is test first = too_high schema name spec (Some offset) (above (offset +ℤ pos (size_in (form_of spec))) (pos (2 ^ 63)) test)
         by None false is test first = absurd (other first)
 
 -- ---- a name is text

@@ -1,98 +1,91 @@
 -- The records that declare a column.
-use Rattle.std.proofs.Common.{◌≡◌, ◌^◌, Bool, true, false, ◌&&◌, List, [], ◌∷◌, length, drop, Option, Some, None, is_none, option_and_then, if◌then◌else◌, ℤ, pos, ◌+ℤ◌, refl, sym, ◌∙◌, ap, arith}
+use Rattle.std.proofs.Common.{◌≡◌, ◌^◌, ◌<◌, ◌≤◌, true, false, ◌&&◌, List, [], ◌∷◌, length, get_or, drop, Option, Some, None, is_none, is_some, unwrap_or, option_map, option_and_then, if◌then◌else◌, ℤ, pos, ◌+ℤ◌, refl, sym, ◌∙◌, ap, subst, arith}
 use Rattle.std.specs.Prelude.{int_le, IsUtf8}
 use Rattle.csv.specs.Records.{field_at}
 use Rattle.bsi_table.specs.declared.form.ColumnSpec.{ColumnSpec}
 use Rattle.bsi_table.specs.declared.form.Form.{Form}
 use Rattle.bsi_table.specs.Columns.{Declared, named_column, size_in, with_column}
 use Rattle.bsi_records.specs.Numbers.{Field, offset_of}
-use Rattle.bsi_records.specs.Setups.{added_after, column_after, form_had, form_in, one_more}
+use Rattle.bsi_records.specs.Setups.{added_after, column_after, form_had, form_in, given_offset, one_more}
 use Rattle.bsi_records.proofs.Adding.{no_text}
+use Rattle.bsi_records.proofs.Fields.{field_is, three_behind}
 
--- no column has a name that is no text
-unnamed : (schema : Declared) (name : Field) (signed : Bool) (f : Form) (offset : ℤ) → (IsUtf8 name → ⊥) → one_more schema name signed f offset ≡ None
-unnamed schema name signed f offset wrong =
-    ap (λ o. if is_none o && int_le (offset +ℤ pos (size_in f)) (pos (2 ^ 63)) then Some (with_column schema (named_column name f offset) signed) else None)
-    (no_text schema name wrong)
+-- ---- what stands behind the sizes
 
--- ---- `NAME,FORM,SIZES`
+pub many_given : (fields : List Field) → 1 < length fields → given_offset fields ≡ None
+many_given [] many = absurd (omega arith)
+many_given (a ∷ []) many = absurd (omega arith)
+many_given (a ∷ b ∷ fields) many = refl
 
-module _ (schema : Declared) (fields : List Field) (four : length fields ≡ 4) where
-  pub unsigned_unnamed : (name : Field) → field_at fields 1 ≡ Some name → (IsUtf8 name → ⊥) → column_after schema (drop 1 fields) ≡ None
-  unfolding field_at
-  unsigned_unnamed name first wrong = by fields four first
-    where
-      by_form : (o : Option Form) → option_and_then (λ f. one_more schema name false f (pos 0)) o ≡ None
-      by_form None = refl
-      by_form (Some f) = unnamed schema name false f (pos 0) wrong
+-- ---- by the form and the offset that are read
 
-      by : (fields : List Field) → length fields ≡ 4 → field_at fields 1 ≡ Some name → column_after schema (drop 1 fields) ≡ None
-      by [] four first = absurd (omega arith)
-      by (w ∷ []) four first = absurd (omega arith)
-      by (w ∷ x ∷ []) four first = absurd (omega arith)
-      by (w ∷ x ∷ y ∷ []) four first = absurd (omega arith)
-      by (w ∷ x ∷ y ∷ z ∷ []) four first =
-          let same : x ≡ name = cc in
-          ap (λ n. column_after schema (n ∷ y ∷ z ∷ [])) same ∙ by_form (form_in y z)
-      by (w ∷ x ∷ y ∷ z ∷ v ∷ fields) four first = absurd (omega arith)
+abbrev by_parts : Declared → Field → Option Form → Option (Option ℤ) → Option Declared
+by_parts schema name form given = option_and_then (λ o. option_and_then (λ f. one_more schema name (is_some o) f (unwrap_or o (pos 0))) form) given
 
-pub unsigned_formless : (schema : Declared) (name form sizes : Field) → form_in form sizes ≡ None → column_after schema (name ∷ form ∷ sizes ∷ []) ≡ None
-unsigned_formless schema name form sizes none = ap (option_and_then (λ f. one_more schema name false f (pos 0))) none
+column_by : (schema : Declared) (name form sizes : Field) (rest : List Field)
+    → column_after schema (name ∷ form ∷ sizes ∷ rest) ≡ by_parts schema name (form_in form sizes) (given_offset rest)
+column_by schema name form sizes [] = by_form (form_in form sizes)
+  where
+    by_form : (found : Option Form) → option_and_then (λ f. one_more schema name false f (pos 0)) found ≡ by_parts schema name found (Some None)
+    by_form found = refl
+column_by schema name form sizes (offset ∷ []) = by_both (form_in form sizes) (offset_of offset)
+  where
+    by_both : (found : Option Form) (given : Option ℤ)
+        → option_and_then (λ f. option_and_then (λ o. one_more schema name true f o) given) found ≡ by_parts schema name found (option_map (λ x. Some x) given)
+    by_both None None = refl
+    by_both None (Some x) = refl
+    by_both (Some f) None = refl
+    by_both (Some f) (Some x) = refl
+column_by schema name form sizes (offset ∷ another ∷ rest) = refl
 
-pub unsigned_is : (schema : Declared) (name form sizes : Field) (spec : ColumnSpec) → form_had spec ≡ form_in form sizes
-    → column_after schema (name ∷ form ∷ sizes ∷ []) ≡ added_after schema name false spec (pos 0)
-unsigned_is schema name form sizes spec is = ap (option_and_then (λ f. one_more schema name false f (pos 0))) (sym is)
+pub too_few : (schema : Declared) (fields : List Field) → length fields < 4 → column_after schema (drop 1 fields) ≡ None
+too_few schema [] few = refl
+too_few schema (a ∷ []) few = refl
+too_few schema (a ∷ b ∷ []) few = refl
+too_few schema (a ∷ b ∷ c ∷ []) few = refl
+too_few schema (a ∷ b ∷ c ∷ d ∷ fields) few = absurd (omega arith)
 
--- ---- `NAME,FORM,SIZES,OFFSET`
+module _ (schema : Declared) (fields : List Field) (four : 4 ≤ length fields) where
+  whole : column_after schema (drop 1 fields)
+      ≡ by_parts schema (get_or fields 1 []) (form_in (get_or fields 2 []) (get_or fields 3 [])) (given_offset (drop 4 fields))
+  whole = ap (column_after schema) (three_behind fields four) ∙ column_by schema (get_or fields 1 []) (get_or fields 2 []) (get_or fields 3 []) (drop 4 fields)
 
-module _ (schema : Declared) (fields : List Field) (five : length fields ≡ 5) where
-  pub signed_unnamed : (name : Field) → field_at fields 1 ≡ Some name → (IsUtf8 name → ⊥) → column_after schema (drop 1 fields) ≡ None
-  unfolding field_at
-  signed_unnamed name first wrong = by fields five first
-    where
-      by_form : (o : Option Form) (x : Option ℤ) → option_and_then (λ f. option_and_then (λ offset. one_more schema name true f offset) x) o ≡ None
-      by_form None x = refl
-      by_form (Some f) None = refl
-      by_form (Some f) (Some offset) = unnamed schema name true f offset wrong
+  -- neither an offset nor nothing
+  pub unplaced : given_offset (drop 4 fields) ≡ None → column_after schema (drop 1 fields) ≡ None
+  unplaced none = whole ∙ ap (by_parts schema (get_or fields 1 []) (form_in (get_or fields 2 []) (get_or fields 3 []))) none
 
-      by : (fields : List Field) → length fields ≡ 5 → field_at fields 1 ≡ Some name → column_after schema (drop 1 fields) ≡ None
-      by [] five first = absurd (omega arith)
-      by (w ∷ []) five first = absurd (omega arith)
-      by (w ∷ x ∷ []) five first = absurd (omega arith)
-      by (w ∷ x ∷ y ∷ []) five first = absurd (omega arith)
-      by (w ∷ x ∷ y ∷ z ∷ []) five first = absurd (omega arith)
-      by (w ∷ x ∷ y ∷ z ∷ v ∷ []) five first =
-          let same : x ≡ name = cc in
-          ap (λ n. column_after schema (n ∷ y ∷ z ∷ v ∷ [])) same ∙ by_form (form_in y z) (offset_of v)
-      by (w ∷ x ∷ y ∷ z ∷ v ∷ u ∷ fields) five first = absurd (omega arith)
+  module _ (name : Field) (first : field_at fields 1 ≡ Some name) where
+    -- no column has a name that is no text
+    pub unnamed : (IsUtf8 name → ⊥) → column_after schema (drop 1 fields) ≡ None
+    unnamed wrong = whole ∙ by (form_in (get_or fields 2 []) (get_or fields 3 [])) (given_offset (drop 4 fields))
+      where
+        bad : get_or fields 1 [] ≡ name
+        bad = field_is fields 1 name first
 
-  -- the offset is no number
-  pub signed_unplaced : (offset : Field) → field_at fields 4 ≡ Some offset → offset_of offset ≡ None → column_after schema (drop 1 fields) ≡ None
-  unfolding field_at
-  signed_unplaced offset last none = by fields five last
-    where
-      by_form : (name : Field) (o : Option Form) (x : Option ℤ) → x ≡ None → option_and_then (λ f. option_and_then (λ offset. one_more schema name true f offset) x) o ≡ None
-      by_form name None x none = refl
-      by_form name (Some f) None none = refl
-      by_form name (Some f) (Some offset) none = absurd cc
+        by : (form : Option Form) (given : Option (Option ℤ)) → by_parts schema (get_or fields 1 []) form given ≡ None
+        by form None = refl
+        by None (Some offset) = refl
+        by (Some f) (Some offset) =
+            ap (λ o. if is_none o && int_le (unwrap_or offset (pos 0) +ℤ pos (size_in f)) (pos (2 ^ 63))
+            then Some (with_column schema (named_column (get_or fields 1 []) f (unwrap_or offset (pos 0))) (is_some offset)) else None)
+            (no_text schema (get_or fields 1 []) (λ text. wrong (subst IsUtf8 bad text)))
 
-      by : (fields : List Field) → length fields ≡ 5 → field_at fields 4 ≡ Some offset → column_after schema (drop 1 fields) ≡ None
-      by [] five last = absurd (omega arith)
-      by (w ∷ []) five last = absurd (omega arith)
-      by (w ∷ x ∷ []) five last = absurd (omega arith)
-      by (w ∷ x ∷ y ∷ []) five last = absurd (omega arith)
-      by (w ∷ x ∷ y ∷ z ∷ []) five last = absurd (omega arith)
-      by (w ∷ x ∷ y ∷ z ∷ v ∷ []) five last =
-          let same : v ≡ offset = cc in
-          by_form x (form_in y z) (offset_of v) (ap offset_of same ∙ none)
-      by (w ∷ x ∷ y ∷ z ∷ v ∷ u ∷ fields) five last = absurd (omega arith)
+    module _ (form sizes : Field) (second : field_at fields 2 ≡ Some form) (third : field_at fields 3 ≡ Some sizes) where
+      parts : column_after schema (drop 1 fields) ≡ by_parts schema name (form_in form sizes) (given_offset (drop 4 fields))
+      parts =
+          whole ∙ ap (λ n. by_parts schema n (form_in (get_or fields 2 []) (get_or fields 3 [])) (given_offset (drop 4 fields))) (field_is fields 1 name first)
+          ∙ ap (λ w. by_parts schema name (form_in w (get_or fields 3 [])) (given_offset (drop 4 fields))) (field_is fields 2 form second)
+          ∙ ap (λ s. by_parts schema name (form_in form s) (given_offset (drop 4 fields))) (field_is fields 3 sizes third)
 
-pub signed_formless : (schema : Declared) (name form sizes offset : Field) → form_in form sizes ≡ None → column_after schema (name ∷ form ∷ sizes ∷ offset ∷ []) ≡ None
-signed_formless schema name form sizes offset none =
-    ap (option_and_then (λ f. option_and_then (λ o. one_more schema name true f o) (offset_of offset))) none
+      -- there is no such form
+      pub formless : form_in form sizes ≡ None → column_after schema (drop 1 fields) ≡ None
+      formless none = parts ∙ ap (λ f. by_parts schema name f (given_offset (drop 4 fields))) none ∙ by (given_offset (drop 4 fields))
+        where
+          by : (given : Option (Option ℤ)) → by_parts schema name None given ≡ None
+          by None = refl
+          by (Some offset) = refl
 
-pub signed_is : (schema : Declared) (name form sizes offset : Field) (spec : ColumnSpec) (x : ℤ) → form_had spec ≡ form_in form sizes → offset_of offset ≡ Some x
-    → column_after schema (name ∷ form ∷ sizes ∷ offset ∷ []) ≡ added_after schema name true spec x
-signed_is schema name form sizes offset spec x is there =
-    ap (λ o. option_and_then (λ f. option_and_then (λ o. one_more schema name true f o) o) (form_in form sizes)) there
-    ∙ ap (option_and_then (λ f. one_more schema name true f x)) (sym is)
+      pub column_is : (spec : ColumnSpec) (offset : Option ℤ) → form_had spec ≡ form_in form sizes → given_offset (drop 4 fields) ≡ Some offset
+          → column_after schema (drop 1 fields) ≡ added_after schema name spec offset
+      column_is spec offset had given =
+          parts ∙ ap (by_parts schema name (form_in form sizes)) given ∙ ap (λ f. by_parts schema name f (Some offset)) (sym had)

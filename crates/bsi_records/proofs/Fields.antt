@@ -1,5 +1,5 @@
 -- The fields of a record, by their places.
-use Rattle.std.proofs.Common.{◌≡◌, ℕ, zero, suc, ◌<◌, ◌≤◌, List, [], ◌∷◌, length, get_or, drop, Some, None, arith, refl}
+use Rattle.std.proofs.Common.{◌≡◌, ℕ, zero, suc, ◌+◌, ◌<◌, ◌≤◌, List, [], ◌∷◌, length, get_or, drop, Some, None, arith, refl}
 use Rattle.csv.specs.Records.{field_at}
 use Rattle.bsi_records.specs.Numbers.{Field}
 
@@ -43,40 +43,25 @@ some_behind_two (a ∷ []) many = absurd (omega arith)
 some_behind_two (a ∷ b ∷ []) many = absurd (omega arith)
 some_behind_two (a ∷ b ∷ c ∷ fields) many = refl
 
--- the only field of a record
-pub only_field : (fields : List Field) (a : Field) → length fields ≡ 1 → field_at fields 0 ≡ Some a → fields ≡ a ∷ []
+-- no field from a place on, and the last field alone
+pub no_field : (fields : List Field) (place : ℕ) → field_at fields place ≡ None → drop place fields ≡ []
 unfolding field_at
-only_field [] a one first = absurd (omega arith)
-only_field (w ∷ []) a one first = cc
-only_field (w ∷ x ∷ fields) a one first = absurd (omega arith)
+no_field [] zero none = refl
+no_field [] (suc place) none = refl
+no_field (field ∷ fields) zero none = cc
+no_field (field ∷ fields) (suc place) none = no_field fields place none
 
--- the field of a record of two, behind its word
-pub one_behind : (fields : List Field) (a : Field) → length fields ≡ 2 → field_at fields 1 ≡ Some a → drop 1 fields ≡ a ∷ []
+pub last_field : (fields : List Field) (place : ℕ) (text : Field) → field_at fields place ≡ Some text → length fields ≤ place + 1 → drop place fields ≡ text ∷ []
 unfolding field_at
-one_behind [] a two first = absurd (omega arith)
-one_behind (w ∷ []) a two first = absurd (omega arith)
-one_behind (w ∷ x ∷ []) a two first = cc
-one_behind (w ∷ x ∷ y ∷ fields) a two first = absurd (omega arith)
+last_field [] place text at few = cc
+last_field (field ∷ []) zero text at few = cc
+last_field (field ∷ another ∷ fields) zero text at few = absurd (omega arith)
+last_field (field ∷ fields) (suc place) text at few = last_field fields place text at (omega arith)
 
--- the fields of a record of four, behind its word
-pub three_behind : (fields : List Field) (a b c : Field) → length fields ≡ 4
-    → field_at fields 1 ≡ Some a → field_at fields 2 ≡ Some b → field_at fields 3 ≡ Some c → drop 1 fields ≡ a ∷ b ∷ c ∷ []
-unfolding field_at
-three_behind [] a b c four first second third = absurd (omega arith)
-three_behind (w ∷ []) a b c four first second third = absurd (omega arith)
-three_behind (w ∷ x ∷ []) a b c four first second third = absurd (omega arith)
-three_behind (w ∷ x ∷ y ∷ []) a b c four first second third = absurd (omega arith)
-three_behind (w ∷ x ∷ y ∷ z ∷ []) a b c four first second third = cc
-three_behind (w ∷ x ∷ y ∷ z ∷ v ∷ fields) a b c four first second third = absurd (omega arith)
-
--- the fields of a record of five, behind its word
-pub four_behind : (fields : List Field) (a b c d : Field) → length fields ≡ 5
-    → field_at fields 1 ≡ Some a → field_at fields 2 ≡ Some b → field_at fields 3 ≡ Some c → field_at fields 4 ≡ Some d → drop 1 fields ≡ a ∷ b ∷ c ∷ d ∷ []
-unfolding field_at
-four_behind [] a b c d five first second third fourth = absurd (omega arith)
-four_behind (w ∷ []) a b c d five first second third fourth = absurd (omega arith)
-four_behind (w ∷ x ∷ []) a b c d five first second third fourth = absurd (omega arith)
-four_behind (w ∷ x ∷ y ∷ []) a b c d five first second third fourth = absurd (omega arith)
-four_behind (w ∷ x ∷ y ∷ z ∷ []) a b c d five first second third fourth = absurd (omega arith)
-four_behind (w ∷ x ∷ y ∷ z ∷ v ∷ []) a b c d five first second third fourth = cc
-four_behind (w ∷ x ∷ y ∷ z ∷ v ∷ u ∷ fields) a b c d five first second third fourth = absurd (omega arith)
+-- the fields of a record of four or more, behind its word
+pub three_behind : (fields : List Field) → 4 ≤ length fields → drop 1 fields ≡ get_or fields 1 [] ∷ get_or fields 2 [] ∷ get_or fields 3 [] ∷ drop 4 fields
+three_behind [] four = absurd (omega arith)
+three_behind (a ∷ []) four = absurd (omega arith)
+three_behind (a ∷ b ∷ []) four = absurd (omega arith)
+three_behind (a ∷ b ∷ c ∷ []) four = absurd (omega arith)
+three_behind (a ∷ b ∷ c ∷ d ∷ fields) four = refl

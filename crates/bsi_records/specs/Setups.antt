@@ -92,9 +92,15 @@ can_begin setup = nat_lt 0 (length setup.schema.columns) && nat_lt 0 (length set
 abbrev pub form_had : ColumnSpec → Option Form
 form_had spec = if is_none (form_refusal spec) then Some (form_of spec) else None
 
--- the columns after one more, of the form that is asked for
-abbrev pub added_after : Declared → Field → Bool → ColumnSpec → ℤ → Option Declared
-added_after schema name signed spec offset = option_and_then (λ f. one_more schema name signed f offset) (form_had spec)
+-- the least number that stands behind the sizes, if there is one; none where something else stands there
+abbrev pub given_offset : List Field → Option (Option ℤ)
+given_offset [] = Some None
+given_offset (offset ∷ []) = option_map (λ x. Some x) (offset_of offset)
+given_offset fields = None
+
+-- the columns after one more, of the form that is asked for, from the offset, or with none from 0
+abbrev pub added_after : Declared → Field → ColumnSpec → Option ℤ → Option Declared
+added_after schema name spec offset = option_and_then (λ f. one_more schema name (is_some offset) f (unwrap_or offset (pos 0))) (form_had spec)
 
 -- a record was done, so that `new` stands; or it can't be done, and `old` still stands
 abbrev pub IsChange : {T : Type 0} → Option T → T → T → Bool → Type 0

@@ -1,24 +1,21 @@
 //! Records before `begin`: columns, feeders and the row limit.
 
-ghost use Rattle.std.specs.Prelude.{◌≡◌, ◌≢◌, ◌≤◌, ◌<◌, ◌∷◌, [], None, Some, drop, false, true, if◌then◌else◌, is_some, length, option_map, option_and_then, pos, unwrap_or, IfNone, IfOk, IfSome, OnErr, OnOk};
+ghost use Rattle.std.specs.Prelude.{◌≡◌, ◌≢◌, ◌≤◌, ◌<◌, ◌∷◌, [], None, Some, drop, false, true, if◌then◌else◌, is_some, length, option_map, option_and_then, unwrap_or, IfNone, IfOk, IfSome, IsErr, MatchResult, OnErr, OnOk};
 ghost use Rattle.csv.specs.Records.{fields_of};
 ghost use Rattle.bsi_load.specs.Sizes.{new_machine};
 ghost use Rattle.bsi_table.specs.Columns.{no_columns};
 ghost use Rattle.bsi_table.specs.declared.form.Form.TheVariants.{Slices};
 ghost use Rattle.bsi_records.specs.Numbers.{number_within};
-ghost use Rattle.bsi_records.specs.Setups.{added_after, can_begin, column_after, declared_after, feeder_after, form_had, form_in, is_begin, limit_of, nothing_declared, only_number, table_after, IsChange};
+ghost use Rattle.bsi_records.specs.Setups.{added_after, can_begin, column_after, declared_after, feeder_after, form_had, form_in, given_offset, is_begin, limit_of, nothing_declared, only_number, table_after, IsChange};
 
 use crate::numbers::{read_bases, read_offset, read_within};
 use crate::records::lend;
 use bsi_load::{Core, MakeError};
-use bsi_table::{ColumnSpec, Schema, SchemaError};
+use bsi_table::{ColumnSpec, MOST_FEEDERS, Schema, SchemaError};
 use csv::ByteRecord;
 use std::alloc::{AllocError as NoMemory, Global};
 use std::marker::Model;
 use std::mem;
-
-/// The most feeders.
-const MOST_FEEDERS: usize = 64;
 
 /// The most rows of a feeder that may wait.
 const MOST_WAITING: u64 = 65_536;
@@ -76,92 +73,68 @@ fn read_slices(text: &[u8]) -> Option<ColumnSpec>
 
 // ---- columns
 
-/// Adds a column of numbers from 0 up; false, with nothing changed, where it can't be had.
-fn add(schema: &mut Schema, name: &str, spec: ColumnSpec) -> Result<bool, NoMemory>
-    ensures done { IfOk result (λ done. IsChange (added_after schema.old name.now false spec (pos 0)) schema.old schema.new done) }
-    ensures kept { OnErr result (schema.new ≡ schema.old) }
-{
-    match schema.add(name, spec) {
-        Ok(()) => Ok(true),
-        Err(refused) => report(refused),
-    }
-}
-
-/// Adds a column of numbers from `offset` up; false, with nothing changed, where it can't be had.
-fn add_signed(
+/// Adds a column of numbers from `offset` up, or with none from 0 up; false, with nothing changed, where it can't be had.
+fn add(
     schema: &mut Schema,
     name: &str,
     spec: ColumnSpec,
-    offset: i64,
+    offset: Option<i64>,
 ) -> Result<bool, NoMemory>
-    ensures done { IfOk result (λ done. IsChange (added_after schema.old name.now true spec offset) schema.old schema.new done) }
+    ensures done { IfOk result (λ done. IsChange (added_after schema.old name.now spec offset) schema.old schema.new done) }
     ensures kept { OnErr result (schema.new ≡ schema.old) }
 {
-    match schema.add_signed(name, spec, offset) {
+    match offset {
+        None => tell(schema.add(name, spec)),
+        Some(least) => tell(schema.add_signed(name, spec, least)),
+    }
+}
+
+/// Tells whether a column was added; want of memory stays an error.
+fn tell(added: Result<(), SchemaError>) -> Result<bool, NoMemory>
+    ensures told { IfOk result (λ done. MatchResult added (λ _. done ≡ true) (λ refused. (done ≡ false) × (refused ≢ SchemaError.NoMemory))) }
+    ensures memory { OnErr result (IsErr added) }
+{
+    match added {
         Ok(()) => Ok(true),
-        Err(refused) => report(refused),
+        Err(SchemaError::NoMemory) => Err(NoMemory),
+        Err(_) => Ok(false),
     }
 }
 
-/// Tells want of memory from a column that can't be had, which is false.
-fn report(refused: SchemaError) -> Result<bool, NoMemory>
-    ensures { IfOk result (λ done. (done ≡ false) × (refused ≢ SchemaError.NoMemory)) }
+/// Reads what stands behind the sizes of a column: an offset, or nothing.
+fn read_given_offset(fields: &ByteRecord) -> Option<Option<i64>>
+    ensures { result ≡ given_offset (drop 4 (fields_of fields.now)) }
 {
-    match refused {
-        SchemaError::NoMemory => Err(NoMemory),
-        _ => Ok(false),
+    let Some(text) = fields.get(4) else {
+        return Some(None);
+    };
+    if fields.len() > 5 {
+        return None;
+    }
+    match read_offset(text) {
+        None => None,
+        Some(offset) => Some(Some(offset)),
     }
 }
 
-/// Does `column,NAME,FORM,SIZES`.
-fn declare_unsigned(
-    alloc: Global,
-    schema: &mut Schema,
-    fields: &ByteRecord,
-) -> Result<bool, NoMemory>
-    requires { length (fields_of fields.now) ≡ 4 }
-    ensures done { IfOk result (λ done. IsChange (column_after schema.old (drop 1 (fields_of fields.now))) schema.old schema.new done) }
-    ensures kept { OnErr result (schema.new ≡ schema.old) }
-{
-    let Ok(name) = str::from_utf8(lend(fields, 1)) else {
-        return Ok(false);
-    };
-    let Some(spec) = read_form(alloc, lend(fields, 2), lend(fields, 3))? else {
-        return Ok(false);
-    };
-    add(schema, name, spec)
-}
-
-/// Does `column,NAME,FORM,SIZES,OFFSET`.
-fn declare_signed(alloc: Global, schema: &mut Schema, fields: &ByteRecord) -> Result<bool, NoMemory>
-    requires { length (fields_of fields.now) ≡ 5 }
-    ensures done { IfOk result (λ done. IsChange (column_after schema.old (drop 1 (fields_of fields.now))) schema.old schema.new done) }
-    ensures kept { OnErr result (schema.new ≡ schema.old) }
-{
-    let Ok(name) = str::from_utf8(lend(fields, 1)) else {
-        return Ok(false);
-    };
-    let Some(offset) = read_offset(lend(fields, 4)) else {
-        return Ok(false);
-    };
-    let Some(spec) = read_form(alloc, lend(fields, 2), lend(fields, 3))? else {
-        return Ok(false);
-    };
-    add_signed(schema, name, spec, offset)
-}
-
-/// Does a record of the word `column`.
+/// Does `column,NAME,FORM,SIZES` or `column,NAME,FORM,SIZES,OFFSET`.
 fn declare_column(alloc: Global, schema: &mut Schema, fields: &ByteRecord) -> Result<bool, NoMemory>
     ensures done { IfOk result (λ done. IsChange (column_after schema.old (drop 1 (fields_of fields.now))) schema.old schema.new done) }
     ensures kept { OnErr result (schema.new ≡ schema.old) }
 {
-    if fields.len() == 4 {
-        return declare_unsigned(alloc, schema, fields);
+    if fields.len() < 4 {
+        return Ok(false);
     }
-    if fields.len() == 5 {
-        return declare_signed(alloc, schema, fields);
-    }
-    Ok(false)
+    let Some(offset) = read_given_offset(fields) else {
+        return Ok(false);
+    };
+    let Ok(name) = str::from_utf8(lend(fields, 1)) else {
+        return Ok(false);
+    };
+    let Some(spec) = read_form(alloc, lend(fields, 2), lend(fields, 3))? else {
+        return Ok(false);
+    };
+    add(schema, name, spec, offset)
 }
 
 // ---- records
@@ -288,7 +261,7 @@ fn declare_feeder(capacities: &mut Vec<u32>, fields: &ByteRecord) -> Result<bool
     ensures done { IfOk result (λ done. IsChange (feeder_after capacities.old.items (drop 1 (fields_of fields.now))) capacities.old.items capacities.new.items done) }
     ensures kept { OnErr result (capacities.new.items ≡ capacities.old.items) }
 {
-    if capacities.len() >= MOST_FEEDERS {
+    if capacities.len() >= MOST_FEEDERS as usize {
         return Ok(false);
     }
     let Some(capacity) = read_only_number(fields, MOST_WAITING) else {
