@@ -1,78 +1,105 @@
 -- The events of records: those that are no query, and the queries.
-use Rattle.std.proofs.Common.{◌≡◌, ℕ, Bool, true, false, ◌||◌, List, [], ◌∷◌, get_or, drop, Option, Some, None, MatchOption, option_map, option_and_then, if◌then◌else◌, ◌⊎◌, inl, inr, ℤ, codes, refl, sym, ◌∙◌, ap, subst}
+use Rattle.std.proofs.Common.{◌≡◌, ◌≢◌, ℕ, Bool, true, false, List, [], ◌∷◌, length, drop, Option, Some, None, MatchOption, option_map, option_and_then, if◌then◌else◌, ℤ, codes, refl, sym, ◌∙◌, ap, subst}
 use Rattle.std.specs.Str.{bytes_eq}
-use Rattle.std.proofs.lemmas.Slice.Eq.{bytes_eq-Decides}
 use Rattle.csv.specs.Records.{field_at}
 use Rattle.bsi_load.specs.declared.event.Event.{Event}
 use Rattle.bsi_load.specs.declared.event.Event.TheVariants.{Submit, Load, Close, Ask}
 use Rattle.bsi_table.specs.Columns.{Declared}
 use Rattle.bsi_table.specs.declared.query.Query.{Query}
-use Rattle.bsi_records.specs.Events.{IsEvent, IsQuery, feeder_event, plain_event, total_of}
+use Rattle.bsi_records.specs.Events.{IsEvent, IsQuery, feeder_event, only_feeder, plain_event, total_of}
 use Rattle.bsi_records.specs.Predicates.{IsPredicate}
 use Rattle.bsi_records.specs.Numbers.{Field, feeder_of, values_in}
-use Rattle.bsi_records.proofs.Fields.{behind_word, no_fields}
+use Rattle.bsi_records.proofs.Fields.{behind_word, no_field}
+use Rattle.bsi_records.proofs.SpellWords.{none_is_some, same_bytes, some_same}
 
--- ---- the event of a word, a feeder and what stands behind them
+-- a record that begins with this word
+pub begins : (fields : List Field) (word own : Field) → field_at fields 0 ≡ Some word → bytes_eq word own ≡ true → fields ≡ own ∷ drop 1 fields
+begins fields word own first is = behind_word fields word first ∙ ap (λ w. w ∷ drop 1 fields) (same_bytes word own is)
 
-pub submitted : (schema : Declared) (word : Field) (f : ℕ) (rest : List Field) → bytes_eq word (codes "submit") ≡ true
-    → feeder_event schema word f rest ≡ option_map (Submit f) (values_in schema.signed rest)
-unfolding values_in
-submitted schema word f [] is = rw is refl
-submitted schema word f (value ∷ rest) is = rw is refl
+-- ---- what a record of a word asks for
 
--- ---- an event that is no query
+pub submitted : (schema : Declared) (fields : List Field) (text : Field) → field_at fields 1 ≡ Some text
+    → plain_event schema (codes "submit" ∷ drop 1 fields) ≡ option_and_then (λ f. option_map (Submit f) (values_in schema.signed (drop 2 fields))) (feeder_of text)
+unfolding field_at values_in
+submitted schema [] text second = cc
+submitted schema (word ∷ []) text second = cc
+submitted schema (word ∷ a ∷ []) text second = ap (λ t. plain_event schema (codes "submit" ∷ t ∷ [])) (some_same a text second)
+submitted schema (word ∷ a ∷ value ∷ rest) text second = ap (λ t. plain_event schema (codes "submit" ∷ t ∷ value ∷ rest)) (some_same a text second)
 
-pub plain_is : (schema : Declared) (fields : List Field) (text : Field) → field_at fields 1 ≡ Some text
-    → plain_event schema fields ≡ option_and_then (λ f. feeder_event schema (get_or fields 0 []) f (drop 2 fields)) (feeder_of text)
-unfolding field_at
-plain_is schema [] text second = cc
-plain_is schema (word ∷ []) text second = cc
-plain_is schema (word ∷ a ∷ rest) text second = cc
-
-abbrev pub is_plain : Field → Bool
-is_plain word = bytes_eq word (codes "submit") || bytes_eq word (codes "load") || bytes_eq word (codes "close")
-
--- the parts of the test, where it fails
-none_of : (a b d : Bool) → (a || b || d) ≡ false → (a ≡ false) × (b ≡ false) × (d ≡ false)
-none_of true b d none = cc
-none_of false true d none = cc
-none_of false false true none = cc
-none_of false false false none = (refl, refl, refl)
-
--- a record with another word asks for no such event
-other_fed : (schema : Declared) (word : Field) (f : ℕ) (rest : List Field) → is_plain word ≡ false → feeder_event schema word f rest ≡ None
-other_fed schema word f [] other =
-    let none = none_of (bytes_eq word (codes "submit")) (bytes_eq word (codes "load")) (bytes_eq word (codes "close")) other in
-    rw (none.0, none.1, none.2) refl
-other_fed schema word f (value ∷ rest) other =
-    let none = none_of (bytes_eq word (codes "submit")) (bytes_eq word (codes "load")) (bytes_eq word (codes "close")) other in
-    rw none.0 refl
-
-other_plain : (schema : Declared) (word : Field) (rest : List Field) → is_plain word ≡ false → plain_event schema (word ∷ rest) ≡ None
-other_plain schema word [] other = refl
-other_plain schema word (text ∷ rest) other = by_feeder (feeder_of text)
+pub loaded : (schema : Declared) (fields : List Field) → plain_event schema (codes "load" ∷ fields) ≡ option_map Load (only_feeder fields)
+loaded schema [] = refl
+loaded schema (text ∷ []) = by (feeder_of text)
   where
-    by_feeder : (o : Option ℕ) → option_and_then (λ f. feeder_event schema word f rest) o ≡ None
-    by_feeder None = refl
-    by_feeder (Some f) = other_fed schema word f rest other
-
-is_some_none : {X : Type 0} {o : Option X} {x : X} → o ≡ None → o ≡ Some x → ⊥
-is_some_none none some = absurd cc
-
--- so it asks for nothing, if for no query
-pub no_event : (schema : Declared) (fields : List Field) (word : Field) → field_at fields 0 ≡ Some word → is_plain word ≡ false
-    → ((query : Query) → IsQuery schema fields query → ⊥) → (event : Event) → IsEvent schema fields event → ⊥
-no_event schema fields word first other none event is =
-    by (ap (plain_event schema) (behind_word fields word first) ∙ other_plain schema word (drop 1 fields) other) event is
+    by : (o : Option ℕ) → option_and_then (λ f. feeder_event schema (codes "load") f []) o ≡ option_map Load o
+    by None = refl
+    by (Some f) = refl
+loaded schema (text ∷ value ∷ rest) = by (feeder_of text)
   where
-    by : plain_event schema fields ≡ None → (event : Event) → IsEvent schema fields event → ⊥
-    by absent (Submit f row) is = absurd (is_some_none absent is)
-    by absent (Load f) is = absurd (is_some_none absent is)
-    by absent (Close f) is = absurd (is_some_none absent is)
-    by absent (Ask query) is = none query is
+    by : (o : Option ℕ) → option_and_then (λ f. feeder_event schema (codes "load") f (value ∷ rest)) o ≡ None
+    by None = refl
+    by (Some f) = refl
+
+pub closed : (schema : Declared) (fields : List Field) → plain_event schema (codes "close" ∷ fields) ≡ option_map Close (only_feeder fields)
+closed schema [] = refl
+closed schema (text ∷ []) = by (feeder_of text)
+  where
+    by : (o : Option ℕ) → option_and_then (λ f. feeder_event schema (codes "close") f []) o ≡ option_map Close o
+    by None = refl
+    by (Some f) = refl
+closed schema (text ∷ value ∷ rest) = by (feeder_of text)
+  where
+    by : (o : Option ℕ) → option_and_then (λ f. feeder_event schema (codes "close") f (value ∷ rest)) o ≡ None
+    by None = refl
+    by (Some f) = refl
+
+pub not_alone : (fields : List Field) → length fields ≢ 2 → only_feeder (drop 1 fields) ≡ None
+not_alone [] other = refl
+not_alone (word ∷ []) other = refl
+not_alone (word ∷ text ∷ []) other = absurd (other refl)
+not_alone (word ∷ text ∷ value ∷ rest) other = refl
+
+-- such a record asks for no query
+pub no_submit_total : (schema : Declared) (rest : List Field) → total_of schema (codes "submit" ∷ rest) ≡ None
+no_submit_total schema [] = refl
+no_submit_total schema (name ∷ rest) = refl
+
+pub no_load_total : (schema : Declared) (rest : List Field) → total_of schema (codes "load" ∷ rest) ≡ None
+no_load_total schema [] = refl
+no_load_total schema (name ∷ rest) = refl
+
+pub no_close_total : (schema : Declared) (rest : List Field) → total_of schema (codes "close" ∷ rest) ≡ None
+no_close_total schema [] = refl
+no_close_total schema (name ∷ rest) = refl
+
+-- ---- a record with another word
+
+module _ (schema : Declared) (word : Field) (no_submit : bytes_eq word (codes "submit") ≡ false) (no_load : bytes_eq word (codes "load") ≡ false)
+    (no_close : bytes_eq word (codes "close") ≡ false) where
+  other_fed : (f : ℕ) (rest : List Field) → feeder_event schema word f rest ≡ None
+  other_fed f [] = rw (no_submit, no_load, no_close) refl
+  other_fed f (value ∷ rest) = rw no_submit refl
+
+  other_plain : (rest : List Field) → plain_event schema (word ∷ rest) ≡ None
+  other_plain [] = refl
+  other_plain (text ∷ rest) = by_feeder (feeder_of text)
+    where
+      by_feeder : (o : Option ℕ) → option_and_then (λ f. feeder_event schema word f rest) o ≡ None
+      by_feeder None = refl
+      by_feeder (Some f) = other_fed f rest
+
+  -- so it asks for nothing, if for no query
+  pub no_event : (fields : List Field) → field_at fields 0 ≡ Some word → ((query : Query) → IsQuery schema fields query → ⊥)
+      → (event : Event) → IsEvent schema fields event → ⊥
+  no_event fields first none event is = by (ap (plain_event schema) (behind_word fields word first) ∙ other_plain (drop 1 fields)) event is
+    where
+      by : plain_event schema fields ≡ None → (event : Event) → IsEvent schema fields event → ⊥
+      by absent (Submit f row) is = none_is_some (Submit f row) (sym absent ∙ is)
+      by absent (Load f) is = none_is_some (Load f) (sym absent ∙ is)
+      by absent (Close f) is = none_is_some (Close f) (sym absent ∙ is)
+      by absent (Ask query) is = none query is
 
 pub no_word : (schema : Declared) (fields : List Field) → field_at fields 0 ≡ None → (event : Event) → IsEvent schema fields event → ⊥
-no_word schema fields none event is = by event (subst (λ fs. IsEvent schema fs event) (no_fields fields none) is)
+no_word schema fields none event is = by event (subst (λ fs. IsEvent schema fs event) (no_field fields 0 none) is)
   where
     by : (event : Event) → IsEvent schema [] event → ⊥
     by (Submit f row) is = cc
@@ -80,39 +107,8 @@ no_word schema fields none event is = by event (subst (λ fs. IsEvent schema fs 
     by (Close f) is = cc
     by (Ask query) is = is
 
--- ---- a record that begins with one of the three words asks for no query
+-- ---- no event but a query is a query
 
-plain_words : (word : Field) → is_plain word ≡ true → (word ≡ codes "submit") ⊎ ((word ≡ codes "load") ⊎ (word ≡ codes "close"))
-plain_words word is = by (bytes_eq word (codes "submit")) (bytes_eq word (codes "load")) (bytes_eq word (codes "close")) refl refl refl is
-  where
-    by : (a b d : Bool) → bytes_eq word (codes "submit") ≡ a → bytes_eq word (codes "load") ≡ b → bytes_eq word (codes "close") ≡ d
-        → (a || b || d) ≡ true → (word ≡ codes "submit") ⊎ ((word ≡ codes "load") ⊎ (word ≡ codes "close"))
-    by true b d one two three some = inl ((bytes_eq-Decides word (codes "submit")).0 one)
-    by false true d one two three some = inr (inl ((bytes_eq-Decides word (codes "load")).0 two))
-    by false false true one two three some = inr (inr ((bytes_eq-Decides word (codes "close")).0 three))
-    by false false false one two three some = cc
-
-no_total : (schema : Declared) (word : Field) (rest : List Field) → is_plain word ≡ true → total_of schema (word ∷ rest) ≡ None
-no_total schema word rest is = by (plain_words word is)
-  where
-    submit_total : (rest : List Field) → total_of schema (codes "submit" ∷ rest) ≡ None
-    submit_total [] = refl
-    submit_total (name ∷ rest) = refl
-
-    load_total : (rest : List Field) → total_of schema (codes "load" ∷ rest) ≡ None
-    load_total [] = refl
-    load_total (name ∷ rest) = refl
-
-    close_total : (rest : List Field) → total_of schema (codes "close" ∷ rest) ≡ None
-    close_total [] = refl
-    close_total (name ∷ rest) = refl
-
-    by : (word ≡ codes "submit") ⊎ ((word ≡ codes "load") ⊎ (word ≡ codes "close")) → total_of schema (word ∷ rest) ≡ None
-    by (inl is) = ap (λ w. total_of schema (w ∷ rest)) is ∙ submit_total rest
-    by (inr (inl is)) = ap (λ w. total_of schema (w ∷ rest)) is ∙ load_total rest
-    by (inr (inr is)) = ap (λ w. total_of schema (w ∷ rest)) is ∙ close_total rest
-
--- no such event is a query
 never_asks : (schema : Declared) (word : Field) (f : ℕ) (rest : List Field) (query : Query) → feeder_event schema word f rest ≡ Some (Ask query) → ⊥
 never_asks schema word f [] query is = by (bytes_eq word (codes "submit")) (bytes_eq word (codes "load")) (bytes_eq word (codes "close")) is
   where
@@ -137,20 +133,18 @@ plain_never_asks schema (word ∷ text ∷ rest) query is = by (feeder_of text) 
     by None is = cc
     by (Some f) is = never_asks schema word f rest query is
 
--- what a record of such a word asks for
-pub plain_read : (schema : Declared) (fields : List Field) (word : Field) → field_at fields 0 ≡ Some word → is_plain word ≡ true
+-- what a record that asks for no query is read as
+pub plain_read : (schema : Declared) (fields : List Field) → total_of schema fields ≡ None
     → (read : Option Event) → read ≡ plain_event schema fields → MatchOption read ((event : Event) → IsEvent schema fields event → ⊥) (IsEvent schema fields)
-plain_read schema fields word first plain read is = by read is
+plain_read schema fields no_total read is = by read is
   where
     no_query : (query : Query) → IsQuery schema fields query → ⊥
-    no_query query asked =
-        subst (λ o. MatchOption o ⊥ (λ found. (query.total ≡ found.0) × IsPredicate schema found.1 query.pred))
-        (ap (total_of schema) (behind_word fields word first) ∙ no_total schema word (drop 1 fields) plain) asked
+    no_query query asked = subst (λ o. MatchOption o ⊥ (λ found. (query.total ≡ found.0) × IsPredicate schema found.1 query.pred)) no_total asked
 
     none : plain_event schema fields ≡ None → (event : Event) → IsEvent schema fields event → ⊥
-    none absent (Submit f row) is = cc
-    none absent (Load f) is = cc
-    none absent (Close f) is = cc
+    none absent (Submit f row) is = none_is_some (Submit f row) (sym absent ∙ is)
+    none absent (Load f) is = none_is_some (Load f) (sym absent ∙ is)
+    none absent (Close f) is = none_is_some (Close f) (sym absent ∙ is)
     none absent (Ask query) is = no_query query is
 
     some : (event : Event) → plain_event schema fields ≡ Some event → IsEvent schema fields event

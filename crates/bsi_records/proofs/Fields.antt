@@ -1,5 +1,5 @@
 -- The fields of a record, by their places.
-use Rattle.std.proofs.Common.{◌≡◌, ℕ, zero, suc, ◌+◌, ◌<◌, ◌≤◌, List, [], ◌∷◌, length, get_or, drop, Some, None, arith, refl}
+use Rattle.std.proofs.Common.{◌≡◌, ℕ, zero, suc, ◌+◌, ◌≤◌, List, [], ◌∷◌, length, get_or, drop, Some, None, arith, refl}
 use Rattle.csv.specs.Records.{field_at}
 use Rattle.bsi_records.specs.Numbers.{Field}
 
@@ -10,38 +10,11 @@ field_is [] place text there = cc
 field_is (field ∷ fields) zero text there = cc
 field_is (field ∷ fields) (suc place) text there = field_is fields place text there
 
--- no field is there
-pub no_fields : (fields : List Field) → field_at fields 0 ≡ None → fields ≡ []
-unfolding field_at
-no_fields [] none = refl
-no_fields (field ∷ fields) none = cc
-
 -- a record that begins with a word
 pub behind_word : (fields : List Field) (word : Field) → field_at fields 0 ≡ Some word → fields ≡ word ∷ drop 1 fields
 unfolding field_at
 behind_word [] word first = cc
 behind_word (field ∷ fields) word first = cc
-
--- a record of a word and at least one field
-pub behind_two : (fields : List Field) (word second : Field) → field_at fields 0 ≡ Some word → field_at fields 1 ≡ Some second
-    → fields ≡ word ∷ second ∷ drop 2 fields
-unfolding field_at
-behind_two [] word second first next = cc
-behind_two (a ∷ []) word second first next = cc
-behind_two (a ∷ b ∷ fields) word second first next = cc
-
--- what stands behind two fields, where there are no others, and where there are
-pub none_behind_two : (fields : List Field) → length fields ≤ 2 → drop 2 fields ≡ []
-none_behind_two [] few = refl
-none_behind_two (a ∷ []) few = refl
-none_behind_two (a ∷ b ∷ []) few = refl
-none_behind_two (a ∷ b ∷ c ∷ fields) few = absurd (omega arith)
-
-pub some_behind_two : (fields : List Field) → 2 < length fields → drop 2 fields ≡ get_or fields 2 [] ∷ drop 3 fields
-some_behind_two [] many = absurd (omega arith)
-some_behind_two (a ∷ []) many = absurd (omega arith)
-some_behind_two (a ∷ b ∷ []) many = absurd (omega arith)
-some_behind_two (a ∷ b ∷ c ∷ fields) many = refl
 
 -- no field from a place on, and the last field alone
 pub no_field : (fields : List Field) (place : ℕ) → field_at fields place ≡ None → drop place fields ≡ []

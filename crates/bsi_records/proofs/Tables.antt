@@ -9,7 +9,7 @@ use Rattle.csv.specs.Records.{field_at}
 use Rattle.bsi_table.specs.Columns.{Declared}
 use Rattle.bsi_records.specs.Numbers.{Field, number_of, number_within}
 use Rattle.bsi_records.specs.Setups.{Setup, column_after, declared_after, feeder_after, limit_of, only_number, table_after, IsChange, IsSetup}
-use Rattle.bsi_records.proofs.Fields.{behind_word, no_fields}
+use Rattle.bsi_records.proofs.Fields.{behind_word, no_field}
 
 -- ---- changes
 
@@ -27,7 +27,7 @@ kept P (Err e) after old new change same before later = subst P (sym same) befor
 -- ---- records of a table
 
 pub table_empty : (schema : Declared) (limit : ℕ) (fields : List Field) → field_at fields 0 ≡ None → table_after schema limit fields ≡ None
-table_empty schema limit fields none = ap (table_after schema limit) (no_fields fields none)
+table_empty schema limit fields none = ap (table_after schema limit) (no_field fields 0 none)
 
 module _ (schema : Declared) (limit : ℕ) (fields : List Field) (word : Field) (first : field_at fields 0 ≡ Some word) where
   pub table_column : bytes_eq word (codes "column") ≡ true → table_after schema limit fields ≡ option_map (λ after. (after, limit)) (column_after schema (drop 1 fields))
@@ -43,7 +43,7 @@ module _ (schema : Declared) (limit : ℕ) (fields : List Field) (word : Field) 
 -- ---- records of a setup
 
 pub setup_empty : (before : Setup) (fields : List Field) → field_at fields 0 ≡ None → declared_after before fields ≡ None
-setup_empty before fields none = ap (declared_after before) (no_fields fields none)
+setup_empty before fields none = ap (declared_after before) (no_field fields 0 none)
 
 module _ (before : Setup) (fields : List Field) (word : Field) (first : field_at fields 0 ≡ Some word) where
   pub setup_feeder : bytes_eq word (codes "feeder") ≡ true

@@ -52,6 +52,11 @@ abbrev pub plain_event : Declared → List Field → Option Event
 plain_event schema (word ∷ feeder ∷ rest) = option_and_then (λ f. feeder_event schema word f rest) (feeder_of feeder)
 plain_event schema fields = None
 
+-- the feeder that the only field behind a word gives
+abbrev pub only_feeder : List Field → Option ℕ
+only_feeder (feeder ∷ []) = feeder_of feeder
+only_feeder fields = None
+
 -- the record asks for this event
 abbrev pub IsEvent : Declared → List Field → Event → Type 0
 IsEvent schema fields (Ask query) = IsQuery schema fields query

@@ -1,10 +1,9 @@
 //! Records that ask for an event of the machine: from fields to rows and events.
 
-ghost use Rattle.std.specs.Prelude.{◌≡◌, ◌<◌, ◌||◌, drop, length, codes, IfOk, MatchOption};
-ghost use Rattle.std.specs.Str.{bytes_eq};
+ghost use Rattle.std.specs.Prelude.{◌≡◌, ◌<◌, ◌∷◌, drop, length, codes, IfOk, MatchOption};
 ghost use Rattle.csv.specs.Records.{field_at, fields_of};
 ghost use Rattle.bsi_load.specs.declared.event.Event.{Event as AnEvent};
-ghost use Rattle.bsi_records.specs.Events.{feeder_event, plain_event, IsEvent};
+ghost use Rattle.bsi_records.specs.Events.{only_feeder, plain_event, IsEvent};
 ghost use Rattle.bsi_records.specs.Numbers.{values_in};
 
 use crate::numbers::{read_feeder, read_value};
@@ -48,8 +47,20 @@ pub fn read_event(
     let Some(word) = fields.get(0) else {
         return Ok(None);
     };
-    if test_plain(word) {
-        return read_plain(alloc, schema, fields);
+    if word == b"submit".as_slice() {
+        return read_submission(alloc, schema, fields);
+    }
+    if word == b"load".as_slice() {
+        return match read_only_feeder(fields) {
+            None => Ok(None),
+            Some(feeder) => Ok(Some(Event::Load(feeder))),
+        };
+    }
+    if word == b"close".as_slice() {
+        return match read_only_feeder(fields) {
+            None => Ok(None),
+            Some(feeder) => Ok(Some(Event::Close(feeder))),
+        };
     }
     match read_query(alloc, schema, fields)? {
         None => Ok(None),
@@ -57,56 +68,34 @@ pub fn read_event(
     }
 }
 
-/// Returns whether a record that begins with this word asks for no query.
-fn test_plain(word: &[u8]) -> bool
-    ensures { result ≡ (bytes_eq word.now (codes "submit") || bytes_eq word.now (codes "load") || bytes_eq word.now (codes "close")) }
-{
-    word == b"submit".as_slice() || word == b"load".as_slice() || word == b"close".as_slice()
-}
-
-/// Reads a record as an event that is no query.
-fn read_plain(
+/// Reads the feeder and the row that a record submits.
+fn read_submission(
     alloc: Global,
     schema: &Schema,
     fields: &ByteRecord,
 ) -> Result<Option<Event>, NoMemory>
-    ensures { IfOk result (λ read. read ≡ plain_event schema.now (fields_of fields.now)) }
+    ensures { IfOk result (λ read. read ≡ plain_event schema.now (codes "submit" ∷ drop 1 (fields_of fields.now))) }
 {
-    if fields.len() < 2 {
-        return Ok(None);
-    }
-    let Some(feeder) = read_feeder(lend(fields, 1)) else {
+    let Some(text) = fields.get(1) else {
         return Ok(None);
     };
-    read_fed(alloc, schema, lend(fields, 0), feeder, fields)
+    let Some(feeder) = read_feeder(text) else {
+        return Ok(None);
+    };
+    match read_row(alloc, schema, fields, 2)? {
+        None => Ok(None),
+        Some(row) => Ok(Some(Event::Submit(feeder, row))),
+    }
 }
 
-/// Reads the event of this word and feeder, by the fields behind both.
-fn read_fed(
-    alloc: Global,
-    schema: &Schema,
-    word: &[u8],
-    feeder: u32,
-    fields: &ByteRecord,
-) -> Result<Option<Event>, NoMemory>
-    ensures { IfOk result (λ read. read ≡ feeder_event schema.now word.now feeder (drop 2 (fields_of fields.now))) }
+/// Reads the feeder of a record of a word and a feeder.
+fn read_only_feeder(fields: &ByteRecord) -> Option<u32>
+    ensures { result ≡ only_feeder (drop 1 (fields_of fields.now)) }
 {
-    if word == b"submit".as_slice() {
-        return match read_row(alloc, schema, fields, 2)? {
-            None => Ok(None),
-            Some(row) => Ok(Some(Event::Submit(feeder, row))),
-        };
+    if fields.len() != 2 {
+        return None;
     }
-    if fields.len() > 2 {
-        return Ok(None);
-    }
-    if word == b"load".as_slice() {
-        return Ok(Some(Event::Load(feeder)));
-    }
-    if word == b"close".as_slice() {
-        return Ok(Some(Event::Close(feeder)));
-    }
-    Ok(None)
+    read_feeder(lend(fields, 1))
 }
 
 /// Lends the field at a place.
