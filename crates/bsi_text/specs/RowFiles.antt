@@ -17,8 +17,7 @@ is_known schema field = is_some (position_of schema.columns field)
 
 -- the header names each column exactly once, in any order, and nothing else
 abbrev pub is_header : Declared → List Field → Bool
-is_header schema header =
-    nat_eq (length header) (length schema.columns) && list_all (is_named_once header) schema.columns && list_all (is_known schema) header
+is_header schema header = list_all (is_named_once header) schema.columns && list_all (is_known schema) header
 
 -- how many fields of the header stand before the name
 abbrev pub place_of : List Field → Field → ℕ

@@ -105,13 +105,7 @@ fn field(fields: &ByteRecord, place: usize) -> &[u8]
 fn test_header(schema: &Schema, header: &ByteRecord) -> bool
     ensures { result ≡ is_header schema.now (fields_of header.now) }
 {
-    if header.len() != schema.columns() as usize {
-        return false;
-    }
-    if !test_columns(schema, header) {
-        return false;
-    }
-    test_fields(schema, header)
+    test_columns(schema, header) && test_fields(schema, header)
 }
 
 /// Returns whether each column is named exactly once.
