@@ -151,7 +151,7 @@ fn places_of(alloc: Global, schema: &Schema, header: &ByteRecord) -> Result<Vec<
 {
     let mut places = Vec::with_capacity(alloc, schema.columns() as usize)?;
     'columns: for c in 0..schema.columns() {
-        places.push(count_before(header, schema.name(c).as_bytes()))?;
+        places.push_reserved(count_before(header, schema.name(c).as_bytes()));
     }
     Ok(places)
 }
