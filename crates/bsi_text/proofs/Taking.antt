@@ -1,5 +1,6 @@
 -- Records that a row source takes, one after another.
-use Rattle.std.proofs.Common.{◌≡◌, ℕ, ◌+◌, ◌<◌, ◌≤◌, true, false, List, [], ◌∷◌, ◌++◌, Option, Some, None, IsSome, IfSome, MatchOption, option_map, refl, sym, ap, ap₂, subst, ◌∙◌, arith, cond}
+use Rattle.std.proofs.Common.{◌≡◌, ℕ, ◌+◌, ◌<◌, ◌≤◌, true, false, List, [], ◌∷◌, ◌++◌, Option, Some, None, IsSome, IfSome, MatchOption, Result, Ok, Err, option_map, refl, sym, ap, ap₂, subst, ◌∙◌, arith, cond}
+use Rattle.std.specs.Prelude.{◌≢◌, IfErr, IsErrAnd}
 use Rattle.std.specs.List.{cons_option}
 use Rattle.std.specs.Option.{is_none}
 use Rattle.std.proofs.lemmas.List.{length-append}
@@ -17,7 +18,7 @@ use Rattle.bsi_records.specs.Numbers.{Field}
 use Rattle.bsi_text.specs.RowFiles.{bad_count, good_row, is_header}
 use Rattle.bsi_text.specs.Sources.{HasEnded, HasMore, HasRead, HasStopped, HasNoHeader, HasTaken, IsOver, IsPlain, IsTally, Layout, StandsAfter}
 use Rattle.bsi_text.specs.declared.rows.SourceFault.{SourceFault}
-use Rattle.bsi_text.specs.declared.rows.SourceFault.TheVariants.{BadHeader, TooLong}
+use Rattle.bsi_text.specs.declared.rows.SourceFault.TheVariants.{BadHeader, NoMemory, TooLong}
 use Rattle.bsi_text.specs.declared.rows.Tally.{Tally}
 
 -- no record was read
@@ -88,59 +89,63 @@ count_bad layout records fields bad =
     omega (arith, step, one)
 
 -- where a source stands between two records
-pub record AreTaken {R : Type 0} (rem : R → Option (List ℕ)) (layout : Layout) (old new : Reader R) (before after : Tally) (passed : ℕ) : Type 0 where
+pub record AreTaken {R : Type 0} (rem : R → Option (List ℕ)) (layout : Layout) (old new : Reader R) (before after : Tally) : Type 0 where
   pub taken : HasTaken rem layout old new before after []
   pub plain : IsPlain new
   pub tally : IsTally after
-  pub count : after.passed ≡ passed
 
-module _ {R : Type 0} (rem : R → Option (List ℕ)) (layout : Layout) (old b : Reader R) (before after : Tally) (passed : ℕ)
-    (are : AreTaken rem layout old b before after passed) where
+module _ {R : Type 0} (rem : R → Option (List ℕ)) (layout : Layout) (old b : Reader R) (before after : Tally)
+    (are : AreTaken rem layout old b before after) where
   -- one more good record
   pub taken_good : (c : Reader R) (fields : List Field) (row : Entries) → ReadRecord rem b c true fields
-      → Some row ≡ good_row layout.schema layout.header fields → HasTaken rem layout old c before (record { passed = passed + 1; bad = after.bad }) (row ∷ [])
+      → Some row ≡ good_row layout.schema layout.header fields → HasTaken rem layout old c before (record { passed = after.passed + 1; bad = after.bad }) (row ∷ [])
   taken_good c fields row next good = record {
     records = are.taken.records ++ fields ∷ [];
     read = read_more rem old b c fields are.plain.config are.taken.records are.taken.read next;
     good = filter_map-append (good_row layout.schema layout.header) are.taken.records (fields ∷ [])
         ∙ ap₂ (λ xs o. xs ++ cons_option o []) are.taken.good (sym good);
-    passed = omega (arith, are.count, are.taken.passed, length-append {A = List Field} are.taken.records (fields ∷ []));
+    passed = omega (arith, are.taken.passed, length-append {A = List Field} are.taken.records (fields ∷ []));
     bad = are.taken.bad ∙ ap (λ n. before.bad + n) (sym (count_good layout are.taken.records fields (ap is_none (sym good))));
   }
 
   -- one more bad record
-  pub taken_bad : (c : Reader R) (fields : List Field) → ReadRecord rem b c true fields → IsPlain c → passed < 1000000
+  pub taken_bad : (c : Reader R) (fields : List Field) → ReadRecord rem b c true fields → IsPlain c → after.passed < 1000000
       → None ≡ good_row layout.schema layout.header fields
-      → AreTaken rem layout old c before (record { passed = passed + 1; bad = after.bad + 1 }) (passed + 1)
+      → AreTaken rem layout old c before (record { passed = after.passed + 1; bad = after.bad + 1 })
   taken_bad c fields next plain few bad = record {
     taken = record {
       records = are.taken.records ++ fields ∷ [];
       read = read_more rem old b c fields are.plain.config are.taken.records are.taken.read next;
       good = filter_map-append (good_row layout.schema layout.header) are.taken.records (fields ∷ [])
           ∙ ap₂ (λ xs o. xs ++ cons_option o []) are.taken.good (sym bad);
-      passed = omega (arith, are.count, are.taken.passed, length-append {A = List Field} are.taken.records (fields ∷ []));
+      passed = omega (arith, are.taken.passed, length-append {A = List Field} are.taken.records (fields ∷ []));
       bad = omega (arith, are.taken.bad, count_bad layout are.taken.records fields (ap is_none (sym bad)));
     };
     plain = plain;
-    tally = record { few = omega arith; bad = omega (arith, are.tally.bad, are.count) };
-    count = refl;
+    tally = record { few = omega arith; bad = omega (arith, are.tally.bad) };
   }
 
   -- no record is left
   pub has_ended : (c : Reader R) (fields : List Field) → ReadRecord rem b c false fields → HasEnded rem layout old before after
   has_ended c fields next = record { at = b; taken = are.taken; over = is_over rem old b c fields are.plain.config next }
 
-  -- a fault is met
-  pub has_stopped : (fault : SourceFault) → (fault ≡ TooLong → ⊥) → (fault ≡ BadHeader → ⊥) → HasStopped rem layout old before after fault
-  has_stopped fault other later = record { at = b; taken = are.taken; later = later; too_long = λ is. absurd (other is) }
+  -- a record can't be read
+  pub read_fails : {T : Type 0} (r : Result T SourceFault) → IsErrAnd r (λ fault. (fault ≢ BadHeader) × (fault ≢ TooLong)) → IfErr r (HasStopped rem layout old before after)
+  read_fails (Ok found) is = tt
+  read_fails (Err fault) is = record { at = b; taken = are.taken; later = is.0; too_long = λ long. absurd (is.1 long) }
+
+  -- memory is wanted for a row
+  pub memory_fails : {T : Type 0} (r : Result T SourceFault) → IsErrAnd r (λ fault. fault ≡ NoMemory) → IfErr r (HasStopped rem layout old before after)
+  memory_fails (Ok found) is = tt
+  memory_fails (Err fault) is = record { at = b; taken = are.taken; later = λ bad. cc (is, bad); too_long = λ long. cc (is, long) }
 
   -- there are too many
-  pub is_too_long : (c : Reader R) (fields : List Field) → ReadRecord rem b c true fields → 1000000 ≤ passed → HasStopped rem layout old before after TooLong
+  pub is_too_long : (c : Reader R) (fields : List Field) → ReadRecord rem b c true fields → 1000000 ≤ after.passed → HasStopped rem layout old before after TooLong
   is_too_long c fields next many = record {
     at = b;
     taken = are.taken;
     later = λ is. cc is;
-    too_long = λ is. (omega (arith, are.count, are.tally.few), has_more rem old b c fields are.plain.config next);
+    too_long = λ is. (omega (arith, are.tally.few), has_more rem old b c fields are.plain.config next);
   }
 
 -- ---- the header

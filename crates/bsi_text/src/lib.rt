@@ -3,6 +3,7 @@
 
 pub mod laws;
 mod layout;
+mod reading;
 mod rows;
 mod script;
 mod session;

@@ -1,15 +1,15 @@
 //! The rows of a row file, one after another.
 
 ghost use Rattle.std.specs.Prelude.{◌≡◌, ◌≢◌, ◌≤◌, [], Option, Some, None, Ok, Err, true, is_some, if◌then◌else◌, IfOk, IfErr, IfSome, OnOk, OnErr};
-ghost use Rattle.csv.specs.Reading.{ReadRecord, reader_state, source_of, strip_bom};
+ghost use Rattle.csv.specs.Reading.{reader_state, source_of, strip_bom};
 ghost use Rattle.csv.specs.declared.parser.State.TheVariants as st;
-ghost use Rattle.csv.specs.Records.{fields_of};
 ghost use Rattle.bsi_text.specs.RowFiles.{is_header};
 ghost use Rattle.bsi_text.specs.Sources.{HasGiven, HasNoHeader, HasStopped, IsPlain, IsTally, StandsAfter};
 
 use crate::layout::Layout;
+use crate::reading::{plain_reader, read_next};
 use bsi_table::{Row, Schema};
-use csv::{ByteRecord, Reader, ReaderBuilder};
+use csv::{ByteRecord, Reader};
 use std::alloc::{AllocError, Global};
 use std::io::Read;
 use std::marker::Model;
@@ -42,6 +42,21 @@ impl From<AllocError> for SourceFault {
 
     fn from(_refused: AllocError) -> SourceFault {
         SourceFault::NoMemory
+    }
+}
+
+impl From<csv::Error> for SourceFault {
+    ghost use Rattle.std.specs.Prelude.{◌≢◌};
+    ghost use Rattle.bsi_text.specs.declared.rows.SourceFault.TheVariants.{BadHeader, TooLong};
+
+    ghost from_gives = { λ _ e. (e ≢ BadHeader) × (e ≢ TooLong) };
+
+    fn from(error: csv::Error) -> SourceFault {
+        if error.is_io_error() {
+            SourceFault::Read
+        } else {
+            SourceFault::NoMemory
+        }
     }
 }
 
@@ -100,10 +115,7 @@ impl<R: Read + Drop> RowSource<R> {
         ensures bad_header { result ≡ Err SourceFault.BadHeader → IfSome (R.remaining reader) (λ bytes. HasNoHeader schema.now (strip_bom bytes)) }
         ensures short { result ≢ Err SourceFault.TooLong }
     {
-        let mut input = ReaderBuilder::new()
-            .has_headers(false)
-            .flexible(true)
-            .from_reader(alloc, reader);
+        let mut input = plain_reader(alloc, reader);
         let layout = read_layout(alloc, schema, &mut input)?;
         Ok(RowSource {
             alloc,
@@ -170,15 +182,12 @@ fn read_layout<R: Read + Drop>(
     ensures plain { OnOk result (IsPlain input.new) }
 {
     let mut header = ByteRecord::new(alloc);
-    match read_next(input, &mut header) {
-        Err(fault) => return Err(fault),
-        Ok(false) => return Err(SourceFault::BadHeader),
-        Ok(true) => {}
+    if !read_next(input, &mut header)? {
+        return Err(SourceFault::BadHeader);
     }
-    match Layout::new(alloc, schema, header) {
-        Err(_) => Err(SourceFault::NoMemory),
-        Ok(None) => Err(SourceFault::BadHeader),
-        Ok(Some(layout)) => Ok(layout),
+    match Layout::new(alloc, schema, header)? {
+        None => Err(SourceFault::BadHeader),
+        Some(layout) => Ok(layout),
     }
 }
 
@@ -197,44 +206,19 @@ fn take_row<R: Read + Drop>(
     ensures plain { OnOk result (IsPlain input.new) }
     ensures tally { IsTally tally.new }
 {
-    'records: for passed in tally.passed..MAX_RECORDS {
-        match read_next(input, fields) {
-            Err(fault) => return Err(fault),
-            Ok(false) => return Ok(None),
-            Ok(true) => {}
+    'records: while tally.passed < MAX_RECORDS {
+        if !read_next(input, fields)? {
+            return Ok(None);
         }
-        let Ok(found) = layout.read(alloc, fields) else {
-            return Err(SourceFault::NoMemory);
-        };
-        tally.passed = passed + 1;
+        let found = layout.read(alloc, fields)?;
+        tally.passed += 1;
         if let Some(row) = found {
             return Ok(Some(row));
         }
         tally.bad += 1;
     }
-    match read_next(input, fields) {
-        Err(fault) => Err(fault),
-        Ok(false) => Ok(None),
-        Ok(true) => Err(SourceFault::TooLong),
+    if read_next(input, fields)? {
+        return Err(SourceFault::TooLong);
     }
-}
-
-/// Reads the next record, and returns whether there was one.
-fn read_next<R: Read + Drop>(
-    input: &mut Reader<R>,
-    fields: &mut ByteRecord,
-) -> Result<bool, SourceFault>
-    requires plain { IsPlain input.old }
-    ensures reads { IfOk result (λ found. ReadRecord R.remaining input.old input.new found (fields_of fields.new)) }
-    ensures plain { OnOk result (IsPlain input.new) }
-    ensures fault { IfErr result (λ fault. (fault ≢ SourceFault.TooLong) × (fault ≢ SourceFault.BadHeader)) }
-{
-    match input.read_byte_record(fields) {
-        Ok(found) => Ok(found),
-        Err(error) => Err(if error.is_io_error() {
-            SourceFault::Read
-        } else {
-            SourceFault::NoMemory
-        }),
-    }
+    Ok(None)
 }

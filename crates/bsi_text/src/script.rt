@@ -2,18 +2,18 @@
 
 ghost use Rattle.std.specs.Prelude.{◌≡◌, ◌≢◌, ℕ, take, Err, OnOk, OnErr, IfErr, IfOk, IfSome};
 ghost use Rattle.std.specs.Io.KnownBytes.{Appends};
-ghost use Rattle.csv.specs.Records.{fields_of};
-ghost use Rattle.csv.specs.Reading.{ReadRecord, Ready, default_config, reader_config, reader_state, reader_trim, source_of};
+ghost use Rattle.csv.specs.Reading.{reader_state, source_of};
 ghost use Rattle.csv.specs.declared.parser.State.TheVariants as st;
-ghost use Rattle.csv.specs.declared.reader.Trim.TheVariants as trim;
-ghost use Rattle.bsi_text.specs.Scripts.{Declaring, IsTurn};
-ghost use Rattle.bsi_text.specs.Sessions.{stage_of};
 ghost use Rattle.bsi_records.specs.Setups.{nothing_declared};
+ghost use Rattle.bsi_text.specs.Scripts.{Declaring};
+ghost use Rattle.bsi_text.specs.Sessions.{stage_of};
+ghost use Rattle.bsi_text.specs.Sources.{IsPlain};
 ghost use Rattle.bsi_text.specs.Texts.{FromText, IsAnswered, IsBegun, IsStopped, IsTooLong};
 
+use crate::reading::{plain_reader, read_next};
 use crate::session::Session;
-use csv::{ByteRecord, Reader, ReaderBuilder};
-use std::alloc::Global;
+use csv::{ByteRecord, Reader};
+use std::alloc::{AllocError, Global};
 use std::io::{Read, Write};
 use thiserror::Error;
 
@@ -37,6 +37,31 @@ pub enum ScriptFault {
     TooLong,
 }
 
+impl From<csv::Error> for ScriptFault {
+    ghost use Rattle.std.specs.Prelude.{◌≢◌};
+    ghost use Rattle.bsi_text.specs.declared.script.ScriptFault.TheVariants.{TooLong};
+
+    ghost from_gives = { λ _ e. e ≢ TooLong };
+
+    fn from(error: csv::Error) -> ScriptFault {
+        if error.is_io_error() {
+            ScriptFault::Read
+        } else {
+            ScriptFault::NoMemory
+        }
+    }
+}
+
+impl From<AllocError> for ScriptFault {
+    ghost use Rattle.bsi_text.specs.declared.script.ScriptFault.TheVariants.{NoMemory};
+
+    ghost from_gives = { λ _ e. e ≡ NoMemory };
+
+    fn from(_refused: AllocError) -> ScriptFault {
+        ScriptFault::NoMemory
+    }
+}
+
 /// Answers each record of the reader by a line to the writer, before it reads the next record.
 ///
 /// At the end the lines of all records were written, which are at most 1,000,000. `TooLong` comes where there are more, and
@@ -55,10 +80,7 @@ pub fn run_script<R: Read + Drop, W: Write>(
     ensures fault { OnErr result (IfSome (R.remaining reader) (λ bytes. IsBegun bytes (W.contents writer.old) (W.contents writer.new))) }
     ensures whole { IfErr result (λ fault. fault ≢ ScriptFault.Write → IfSome (R.remaining reader) (λ bytes. IsStopped bytes (W.contents writer.old) (W.contents writer.new))) }
 {
-    let mut input = ReaderBuilder::new()
-        .has_headers(false)
-        .flexible(true)
-        .from_reader(alloc, reader);
+    let mut input = plain_reader(alloc, reader);
     let mut session = Session::new(alloc);
     let mut row = ByteRecord::new(alloc);
     let mut line = Vec::new(alloc);
@@ -75,9 +97,7 @@ fn serve<R: Read + Drop, W: Write>(
     writer: &mut W,
 ) -> Result<(), ScriptFault>
     requires first { stage_of session.old ≡ Declaring nothing_declared }
-    requires plain { reader_trim input.old ≡ trim.None }
-    requires ready { Ready input.old }
-    requires config { reader_config input.old ≡ default_config }
+    requires plain { IsPlain input.old }
     requires start { reader_state input.old ≡ st.StartRecord }
     ensures ok { OnOk result (FromText (source_of R.remaining input.old) (λ bytes. IsAnswered bytes (W.contents writer.old) (W.contents writer.new))) }
     ensures too_long { result ≡ Err ScriptFault.TooLong → FromText (source_of R.remaining input.old) (λ bytes. IsTooLong bytes (W.contents writer.old) (W.contents writer.new)) }
@@ -88,50 +108,13 @@ fn serve<R: Read + Drop, W: Write>(
         if !read_next(input, row)? {
             return Ok(());
         }
-        answer_record(alloc, session, row, line)?;
+        session.answer(alloc, row, line)?;
         write_bytes(writer, line.as_slice())?;
     }
     if read_next(input, row)? {
         return Err(ScriptFault::TooLong);
     }
     Ok(())
-}
-
-/// Reads the next record, and returns whether there was one.
-fn read_next<R: Read + Drop>(
-    input: &mut Reader<R>,
-    row: &mut ByteRecord,
-) -> Result<bool, ScriptFault>
-    requires plain { reader_trim input.old ≡ trim.None }
-    requires ready { Ready input.old }
-    ensures reads { IfOk result (λ found. ReadRecord R.remaining input.old input.new found (fields_of row.new)) }
-    ensures ready { OnOk result (Ready input.new) }
-    ensures fault { OnErr result (result ≢ Err ScriptFault.TooLong) }
-{
-    match input.read_byte_record(row) {
-        Ok(found) => Ok(found),
-        Err(error) => Err(if error.is_io_error() {
-            ScriptFault::Read
-        } else {
-            ScriptFault::NoMemory
-        }),
-    }
-}
-
-/// Does what the record asks for, and makes `line` the line that answers it.
-fn answer_record(
-    alloc: Global,
-    session: &mut Session,
-    fields: &ByteRecord,
-    line: &mut Vec<u8>,
-) -> Result<(), ScriptFault>
-    ensures ok { OnOk result (IsTurn (stage_of session.old) (fields_of fields.now) line.new.items (stage_of session.new)) }
-    ensures fault { IfErr result (λ fault. fault ≡ ScriptFault.NoMemory) }
-{
-    match session.answer(alloc, fields, line) {
-        Ok(()) => Ok(()),
-        Err(_) => Err(ScriptFault::NoMemory),
-    }
 }
 
 /// Writes all bytes, so that after a fault what went out is a first part of them.

@@ -1,6 +1,10 @@
+use Rattle.std.proofs.Common.{◌-◌}
 use Rattle.bsi_text.proofs.Taking.{AreTaken}
 use Rattle.bsi_text.proofs.rows.take_row.Given as goal
 
 -- all records so far were bad
 abbrev pub invariant-records : goal.invariant-records
-invariant-records g l = AreTaken (g.R.Read.remaining) l.fn.layout l.initial.input l.input l.initial.tally l.tally l.passed
+invariant-records g l = AreTaken (g.R.Read.remaining) l.fn.layout l.initial.input l.input l.initial.tally l.tally
+
+abbrev pub decreases-records : goal.decreases-records
+decreases-records g l = 1000000 - l.tally.passed

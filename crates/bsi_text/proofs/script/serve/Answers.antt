@@ -1,4 +1,4 @@
-use Rattle.std.proofs.Common.{true, take, rules, subst, ◌∙◌}
+use Rattle.std.proofs.Common.{true, take, rules, subst}
 use Rattle.std.specs.Io.KnownBytes.{Appends}
 use Rattle.csv.specs.Reading.{ReadRecord, source_of}
 use Rattle.csv.specs.Records.{fields_of}
@@ -13,8 +13,6 @@ use Rattle.bsi_text.proofs.script.serve.Goals as goal
 pub records-init : goal.records-init
 records-init g c = record {
   plain = c.requires.plain;
-  ready = c.requires.ready;
-  config = c.requires.config;
   stands = λ bytes left. stands_first _ bytes _ _ (g.W.Write.contents c.args.writer.now) c.requires.first c.requires.start left;
 }
 
@@ -22,32 +20,30 @@ records-init g c = record {
 pub records-preserved : goal.records-preserved
 records-preserved g c =
     let kept = c.records.invariant in
-    let found : ReadRecord g.R.Read.remaining c.records.input c.read_next.new.input true (fields_of c.read_next.new.row) = search rules in
-    let turn : IsTurn (stage_of c.records.session) (fields_of c.read_next.new.row) c.answer_record.new.line.items (stage_of c.answer_record.new.session) = search rules in
+    let found : ReadRecord g.R.Read.remaining c.records.input c.read_next.new.input true (fields_of c.read_next.new.fields) = search rules in
+    let turn : IsTurn (stage_of c.records.session) (fields_of c.read_next.new.fields) c.answer.new.line.items (stage_of c.answer.new.self) = search rules in
     record {
-      plain = found.3 ∙ kept.plain;
-      ready = search rules;
-      config = found.2 ∙ kept.config;
+      plain = search rules;
       stands = λ bytes left.
-          stands_next g.R.Read.remaining c.records.input c.read_next.new.input (fields_of c.read_next.new.row) (stage_of c.records.session) bytes c.records.count
-          (g.W.Write.contents c.args.writer.now) (g.W.Write.contents c.records.writer) (kept.stands bytes left) kept.config
-          (stage_of c.answer_record.new.session) c.answer_record.new.line.items (g.W.Write.contents c.write_bytes.new.writer) found turn (search rules);
+          stands_next g.R.Read.remaining c.records.input c.read_next.new.input (fields_of c.read_next.new.fields) (stage_of c.records.session) bytes c.records.count
+          (g.W.Write.contents c.args.writer.now) (g.W.Write.contents c.records.writer) (kept.stands bytes left) kept.plain.config
+          (stage_of c.answer.new.self) c.answer.new.line.items (g.W.Write.contents c.write_bytes.new.writer) found turn (search rules);
     }
 
 -- a first part of the line was written
 pub returns-in_err-write_bytes-clause-fault : goal.returns-in_err-write_bytes-clause-fault
 returns-in_err-write_bytes-clause-fault g c =
     let kept = c.records.invariant in
-    let found : ReadRecord g.R.Read.remaining c.records.input c.read_next.new.input true (fields_of c.read_next.new.row) = search rules in
-    let turn : IsTurn (stage_of c.records.session) (fields_of c.read_next.new.row) c.answer_record.new.line.items (stage_of c.answer_record.new.session) = search rules in
+    let found : ReadRecord g.R.Read.remaining c.records.input c.read_next.new.input true (fields_of c.read_next.new.fields) = search rules in
+    let turn : IsTurn (stage_of c.records.session) (fields_of c.read_next.new.fields) c.answer.new.line.items (stage_of c.answer.new.self) = search rules in
     let part = c.in_err-write_bytes.ensures.part in
-    let written : Appends (g.W.Write.contents c.records.writer) (g.W.Write.contents c.write_bytes.new.writer) (take part.0 c.answer_record.new.line.items) =
+    let written : Appends (g.W.Write.contents c.records.writer) (g.W.Write.contents c.write_bytes.new.writer) (take part.0 c.answer.new.line.items) =
     subst (λ text. Appends (g.W.Write.contents c.records.writer) (g.W.Write.contents c.write_bytes.new.writer) (take part.0 text)) c.as_slice.ensures.value part.1 in
     let fault : FromText (source_of g.R.Read.remaining c.args.input.now) (λ bytes. IsBegun bytes (g.W.Write.contents c.args.writer.now) (g.W.Write.contents c.write_bytes.new.writer)) =
     λ bytes left.
-    stands_part g.R.Read.remaining c.records.input c.read_next.new.input (fields_of c.read_next.new.row) (stage_of c.records.session) bytes c.records.count
-    (g.W.Write.contents c.args.writer.now) (g.W.Write.contents c.records.writer) (kept.stands bytes left) kept.config
-    (stage_of c.answer_record.new.session) c.answer_record.new.line.items (g.W.Write.contents c.write_bytes.new.writer) part.0 found turn written in
+    stands_part g.R.Read.remaining c.records.input c.read_next.new.input (fields_of c.read_next.new.fields) (stage_of c.records.session) bytes c.records.count
+    (g.W.Write.contents c.args.writer.now) (g.W.Write.contents c.records.writer) (kept.stands bytes left) kept.plain.config
+    (stage_of c.answer.new.self) c.answer.new.line.items (g.W.Write.contents c.write_bytes.new.writer) part.0 found turn written in
     on_err c.from_residual-in_err-write_bytes.result fault
 
 -- nothing more was written
@@ -57,11 +53,11 @@ returns-in_err-read_next-clause-fault g c =
     λ bytes left. stands_cut _ bytes _ _ _ _ _ (c.records.invariant.stands bytes left) in
     on_err c.from_residual.result fault
 
-pub returns-in_err-answer_record-clause-fault : goal.returns-in_err-answer_record-clause-fault
-returns-in_err-answer_record-clause-fault g c =
+pub returns-in_err-answer-clause-fault : goal.returns-in_err-answer-clause-fault
+returns-in_err-answer-clause-fault g c =
     let fault : FromText (source_of g.R.Read.remaining c.args.input.now) (λ bytes. IsBegun bytes (g.W.Write.contents c.args.writer.now) (g.W.Write.contents c.records.writer)) =
     λ bytes left. stands_cut _ bytes _ _ _ _ _ (c.records.invariant.stands bytes left) in
-    on_err c.from_residual-in_err-answer_record.result fault
+    on_err c.from_residual-in_err-answer.result fault
 
 pub returns-in_err-read_next-2-clause-fault : goal.returns-in_err-read_next-2-clause-fault
 returns-in_err-read_next-2-clause-fault g c =
@@ -79,11 +75,11 @@ returns-in_err-read_next-clause-whole g c =
     λ bytes left. stands_stopped _ bytes _ _ _ _ _ (c.records.invariant.stands bytes left) in
     if_err fault.Write c.from_residual.result whole
 
-pub returns-in_err-answer_record-clause-whole : goal.returns-in_err-answer_record-clause-whole
-returns-in_err-answer_record-clause-whole g c =
+pub returns-in_err-answer-clause-whole : goal.returns-in_err-answer-clause-whole
+returns-in_err-answer-clause-whole g c =
     let whole : FromText (source_of g.R.Read.remaining c.args.input.now) (λ bytes. IsStopped bytes (g.W.Write.contents c.args.writer.now) (g.W.Write.contents c.records.writer)) =
     λ bytes left. stands_stopped _ bytes _ _ _ _ _ (c.records.invariant.stands bytes left) in
-    if_err fault.Write c.from_residual-in_err-answer_record.result whole
+    if_err fault.Write c.from_residual-in_err-answer.result whole
 
 pub returns-in_err-read_next-2-clause-whole : goal.returns-in_err-read_next-2-clause-whole
 returns-in_err-read_next-2-clause-whole g c =

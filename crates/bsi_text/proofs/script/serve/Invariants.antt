@@ -1,7 +1,6 @@
-use Rattle.std.proofs.Common.{◌≡◌}
-use Rattle.csv.specs.Reading.{Ready, default_config, reader_config, reader_state, reader_trim, source_of}
-use Rattle.csv.specs.declared.reader.Trim.TheVariants as trim
+use Rattle.csv.specs.Reading.{reader_state, source_of}
 use Rattle.bsi_text.specs.Sessions.{stage_of}
+use Rattle.bsi_text.specs.Sources.{IsPlain}
 use Rattle.bsi_text.specs.Texts.{FromText}
 use Rattle.bsi_text.proofs.Standing.{StandsAt}
 use Rattle.bsi_text.proofs.script.serve.Given as goal
@@ -9,9 +8,7 @@ use Rattle.bsi_text.proofs.script.serve.Given as goal
 -- so many records were read, and the lines of all of them were written
 abbrev pub invariant-records : goal.invariant-records
 invariant-records g l = record {
-  plain : reader_trim l.input ≡ trim.None;
-  ready : Ready l.input;
-  config : reader_config l.input ≡ default_config;
+  plain : IsPlain l.input;
   stands : FromText (source_of g.R.Read.remaining l.initial.input) (λ bytes.
       StandsAt (stage_of l.session) bytes (reader_state l.input) (source_of g.R.Read.remaining l.input) l.count (g.W.Write.contents l.initial.writer) (g.W.Write.contents l.writer));
 }

@@ -1,0 +1,35 @@
+//! Readers of records, and their records one after another.
+
+ghost use Rattle.std.specs.Prelude.{◌≡◌, IfOk, OnOk, option_map};
+ghost use Rattle.csv.specs.Reading.{ReadRecord, reader_state, source_of, strip_bom};
+ghost use Rattle.csv.specs.Records.{fields_of};
+ghost use Rattle.csv.specs.declared.parser.State.TheVariants as st;
+ghost use Rattle.bsi_text.specs.Sources.{IsPlain};
+
+use csv::{ByteRecord, Reader, ReaderBuilder};
+use std::alloc::Global;
+use std::io::Read;
+
+/// Makes the reader of a text, whose first record is one like the others.
+pub(crate) fn plain_reader<R: Read + Drop>(alloc: Global, reader: R) -> Reader<R>
+    ensures plain { IsPlain result }
+    ensures start { reader_state result ≡ st.StartRecord }
+    ensures source { source_of R.remaining result ≡ option_map strip_bom (R.remaining reader) }
+{
+    ReaderBuilder::new()
+        .has_headers(false)
+        .flexible(true)
+        .from_reader(alloc, reader)
+}
+
+/// Reads the next record, and returns whether there was one.
+pub(crate) fn read_next<R: Read + Drop>(
+    input: &mut Reader<R>,
+    fields: &mut ByteRecord,
+) -> Result<bool, csv::Error>
+    requires plain { IsPlain input.old }
+    ensures reads { IfOk result (λ found. ReadRecord R.remaining input.old input.new found (fields_of fields.new)) }
+    ensures plain { OnOk result (IsPlain input.new) }
+{
+    input.read_byte_record(fields)
+}
