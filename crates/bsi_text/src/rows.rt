@@ -27,7 +27,7 @@ pub enum SourceFault {
     /// The reader failed.
     #[error("read failed")]
     Read,
-    /// A record, a row or the copy of the schema found no memory.
+    /// The header, a record, a row or the copy of the schema found no memory.
     #[error("no memory")]
     NoMemory,
     /// There are more than 1,000,000 records behind the header.
@@ -106,7 +106,8 @@ impl<R: Read + Drop> Model for RowSource<R> {
 
 impl<R: Read + Drop> RowSource<R> {
     /// Reads the header. `BadHeader` is answered where it does not name each column of the schema exactly once and nothing
-    /// else, or where there is no record.
+    /// else, or where there is no record. `NoMemory` is answered where reading the header finds no memory, or where a good
+    /// header was read and the places of its fields or the copy of the schema find none: to test a header takes none.
     pub fn begin(alloc: Global, schema: &Schema, reader: R) -> Result<RowSource<R>, SourceFault>
         ensures schema { IfOk result (λ source. source.layout.schema ≡ schema.now) }
         ensures header { IfOk result (λ source. is_header schema.now source.layout.header ≡ true) }
