@@ -41,13 +41,6 @@ fn first_stored(base: u32) -> u32
     if base == 2 { 1 } else { 0 }
 }
 
-/// Says of a bit vector behind a shared reference how long it may be.
-fn know_len(bits: &Bits)
-    ensures { length bits.now.bits ≤ 2 ^ 32 }
-{
-    let _len = bits.len();
-}
-
 /// Appends to each bitmap whether the digit is its own, of which the first is `first`.
 fn push_digit(bitmaps: &mut Vec<Bits>, first: u32, digit: u32)
     requires small { first ≤ 1 }
@@ -104,7 +97,7 @@ impl EqualityComponent {
         requires same { length self.now.digits ≡ length found.now.bits }
         ensures { result ≡ count_where (is_among from to) found.now.bits self.now.digits }
     {
-        know_len(found);
+        prove!(found.len() <= 1 << 32);
         let mut rows = 0;
         'digits: for j in from..to {
             rows += self.count_eq(j, found);

@@ -7,8 +7,9 @@ use Rattle.std.proofs.Math.Bool.{or-false, or-true}
 use Rattle.std.proofs.Math.Seq.{drop-append-add}
 use Rattle.std.proofs.lemmas.Bool.{cases_Bool}
 use Rattle.std.proofs.lemmas.Bool.Decides.{nat_tests}
-use Rattle.std.proofs.lemmas.List.{append_assoc, append-nil, ext_get_or, get_or-set_other, get_or-set_same, length-set}
-use Rattle.std.proofs.lemmas.List.FromFn.{length-map-range_with_len, get_or-map-range_with_len}
+use Rattle.std.proofs.lemmas.List.{append_assoc, append-nil, get_or-set_other, get_or-set_same, length-set}
+use Rattle.std.proofs.lemmas.List.FromFn.{fill_by_all}
+use Rattle.circular_buffer.proofs.Places.{slice_get-append_right}
 use Rattle.bsi_table.specs.Rows.{Entries, FedRow}
 use Rattle.bsi_table.specs.Table.{Table}
 use Rattle.bsi_table.specs.declared.errors.AskError.{AskError}
@@ -23,7 +24,7 @@ use Rattle.bsi_load.specs.declared.event.Reply.TheVariants.{Submitted, Loaded, C
 use Rattle.bsi_load.specs.declared.event.SubmitRefused.{SubmitRefused}
 use Rattle.bsi_load.specs.Shown.{Shown, Waiting, feeder_at, no_feeder}
 use Rattle.bsi_load.specs.Runs.{rows_from, accepted, accepted_by, loads, loaded_by, indexed, loaded_row, waiting, closed, closed_by, feeder_after, shown_after}
-use Rattle.bsi_load.proofs.Composing.{feeder, same_feeder, map_range_same, map_range_reads}
+use Rattle.bsi_load.proofs.Composing.{feeder, same_feeder}
 
 -- what waits of a feeder after one event
 waiting_one : (s : Shown) (f : ℕ) (e : Event) (r : Reply) → waiting s f ((e, r) ∷ []) ≡ drop (loaded_by f e r) ((feeder_at s f).rows ++ accepted_by f e r)
@@ -52,36 +53,28 @@ module _ (s : Shown) (e : Event) (r : Reply) where
   unchanged leaves no_row =
       sym (ap₂ (λ rows feeders. record { index = record s.index { rows = rows }; feeders = feeders })
       (ap (λ more. s.index.rows ++ more) no_row ∙ append-nil s.index.rows)
-      (map_range_same (feeder_after s ((e, r) ∷ [])) (feeder_at s) (length s.feeders) no_feeder (λ f there. left s f e r (leaves f))
-      ∙ map_range_reads s.feeders no_feeder))
+      (sym (fill_by_all (feeder_after s ((e, r) ∷ [])) s.feeders (length s.feeders) no_feeder refl (λ f there. sym (left s f e r (leaves f))))))
 
   -- an event that changes one feeder
   module _ (g : ℕ) (there : g < length s.feeders) (others : (f : ℕ) → nat_eq g f ≡ false → LeavesFeeder f e r) where
     one_feeder : map (feeder_after s ((e, r) ∷ [])) (range_with_len 0 (length s.feeders)) ≡ set s.feeders g (feeder_after s ((e, r) ∷ []) g)
     one_feeder =
         let after = feeder_after s ((e, r) ∷ []) in
-        let long = length-map-range_with_len after 0 (length s.feeders) in
-        ext_get_or no_feeder (map after (range_with_len 0 (length s.feeders))) (set s.feeders g (after g)) (long ∙ sym (length-set s.feeders g (after g))) (λ f within.
-        let below : f < length s.feeders = omega (arith, within, long) in
-        let read = get_or-map-range_with_len after 0 (length s.feeders) f f no_feeder below (omega arith) in
+        sym (fill_by_all after (set s.feeders g (after g)) (length s.feeders) no_feeder (length-set s.feeders g (after g)) (λ f below.
         elim (cases_Bool (nat_eq g f)) [
           | inl same ↦
               let is : g ≡ f = grind (arith, nat_tests) in
-              read ∙ ap after (sym is) ∙ sym (get_or-set_same s.feeders g (after g) no_feeder there) ∙ ap (λ h. get_or (set s.feeders g (after g)) h no_feeder) is
+              ap (λ h. get_or (set s.feeders g (after g)) h no_feeder) (sym is) ∙ get_or-set_same s.feeders g (after g) no_feeder there ∙ ap after is
           | inr other ↦
               let not_same : f ≢ g = λ is. grind (arith, nat_tests) in
-              read ∙ left s f e r (others f other) ∙ sym (get_or-set_other s.feeders g f (after g) no_feeder not_same)
-        ])
+              get_or-set_other s.feeders g f (after g) no_feeder not_same ∙ sym (left s f e r (others f other))
+        ]))
 
     changed : (rows : List FedRow) (w : Waiting) → rows ≡ loaded_row s [] e r → w ≡ feeder_after s ((e, r) ∷ []) g
         → record { index = record s.index { rows = s.index.rows ++ rows }; feeders = set s.feeders g w } ≡ shown_after s ((e, r) ∷ [])
     unfolding shown_after indexed
     changed rows w row_is w_is =
         ap₂ (λ more feeders. record { index = record s.index { rows = s.index.rows ++ more }; feeders = feeders }) row_is (ap (set s.feeders g) w_is ∙ sym one_feeder)
-
-slice_get_seam : (rows : List Entries) (row : Entries) (rest : List Entries) → slice_get (rows ++ row ∷ rest) (length rows) ≡ Some row
-slice_get_seam [] row rest = refl
-slice_get_seam (first ∷ rows) row rest = slice_get_seam rows row rest
 
 -- ---- the four events
 
@@ -141,7 +134,7 @@ module _ (s : Shown) (g : ℕ) (there : g < length s.feeders) where
       let e = Load g in
       let r = Loaded (Ok p) in
       let w = feeder rest (feeder_at s g).closed (feeder_at s g).capacity in
-      let first = ap (λ rows. slice_get (rows_from g s.index.rows ++ rows) (length (rows_from g s.index.rows))) rows_are ∙ slice_get_seam (rows_from g s.index.rows) row rest in
+      let first = ap (λ rows. slice_get (rows_from g s.index.rows ++ rows) (length (rows_from g s.index.rows))) rows_are ∙ slice_get-append_right (rows_from g s.index.rows) (row ∷ rest) (length (rows_from g s.index.rows)) 0 (omega arith) in
       let w_is = same_feeder w (feeder_after s ((e, r) ∷ []) g)
       (sym (waiting_one s g e r ∙ ap₂ (λ b rows. drop (cond b 1 0) rows) (same_place g) (append-nil (feeder_at s g).rows ∙ rows_are)))
       (sym (or-false (feeder_at s g).closed)) refl in

@@ -4,8 +4,8 @@ use Rattle.std.specs.Prelude.{slice_get, ◌||◌}
 use Rattle.std.specs.List.{range_with_len}
 use Rattle.std.specs.Option.{option_map, option_to_list}
 use Rattle.std.proofs.Math.Seq.{drop-append_seam}
-use Rattle.std.proofs.lemmas.List.{ext_get_or, length-take-le}
-use Rattle.std.proofs.lemmas.List.FromFn.{length-map-range_with_len, get_or-map-range_with_len}
+use Rattle.std.proofs.lemmas.List.{length-take-le}
+use Rattle.std.proofs.lemmas.List.FromFn.{fill_by_all, length-map-range_with_len, get_or-map-range_with_len}
 use Rattle.bsi_table.specs.Rows.{Entries}
 use Rattle.bsi_load.specs.declared.event.Event.{Event}
 use Rattle.bsi_load.specs.declared.event.Event.TheVariants.{Submit, Load, Close, Ask}
@@ -14,21 +14,6 @@ use Rattle.bsi_load.specs.declared.event.Reply.TheVariants.{Submitted, Loaded, C
 use Rattle.bsi_load.specs.Shown.{Shown, Waiting, feeder_at, no_feeder, IsLawful}
 use Rattle.bsi_load.specs.Runs.{Done, rows_from, accepted, accepted_by, loads, loaded_by, indexed, loaded_row, waiting, closed, closed_by, feeder_after, AreLawful, shown_after}
 use Rattle.bsi_load.proofs.Balance.{balanced, conserved, loads_waiting, feeder_at-after, count_after}
-
--- two functions that agree on the numbers below n
-pub map_range_same : {X : Type 0} (g h : ℕ → X) (n : ℕ) (d : X) → ((i : ℕ) → i < n → g i ≡ h i) → map g (range_with_len 0 n) ≡ map h (range_with_len 0 n)
-map_range_same g h n d same =
-    let long = length-map-range_with_len g 0 n in
-    ext_get_or d (map g (range_with_len 0 n)) (map h (range_with_len 0 n)) (long ∙ sym (length-map-range_with_len h 0 n)) (λ i within.
-    let below : i < n = omega (arith, within, long) in
-    get_or-map-range_with_len g 0 n i i d below (omega arith) ∙ same i below ∙ sym (get_or-map-range_with_len h 0 n i i d below (omega arith)))
-
--- a list read from its start to its end
-pub map_range_reads : {X : Type 0} (xs : List X) (d : X) → map (λ i. get_or xs i d) (range_with_len 0 (length xs)) ≡ xs
-map_range_reads xs d =
-    let long = length-map-range_with_len (λ i. get_or xs i d) 0 (length xs) in
-    ext_get_or d (map (λ i. get_or xs i d) (range_with_len 0 (length xs))) xs long (λ i within.
-    get_or-map-range_with_len (λ j. get_or xs j d) 0 (length xs) i i d (omega (arith, within, long)) (omega arith))
 
 -- ---- what a feeder has, by its parts
 
@@ -53,8 +38,8 @@ pub shown_start : (s : Shown) → shown_after s [] ≡ s
 unfolding shown_after indexed closed
 shown_start s =
     ap (λ feeders. record { index = s.index; feeders = feeders })
-    (map_range_same (feeder_after s []) (feeder_at s) (length s.feeders) no_feeder (λ f there. same_feeder (feeder_after s [] f) (feeder_at s f) (waiting_start s f) refl refl)
-    ∙ map_range_reads s.feeders no_feeder)
+    (sym (fill_by_all (feeder_after s []) s.feeders (length s.feeders) no_feeder refl
+    (λ f there. sym (same_feeder (feeder_after s [] f) (feeder_at s f) (waiting_start s f) refl refl))))
 
 -- ---- one event after a run
 
@@ -100,7 +85,10 @@ module _ (s : Shown) (past : List Done) (lawful : AreLawful s past) where
   pub shown_step : (e : Event) (r : Reply) → IsLawful (shown_after s past) e r → shown_after (shown_after s past) ((e, r) ∷ []) ≡ shown_after s ((e, r) ∷ past)
   unfolding shown_after indexed
   shown_step e r next =
+      let after = feeder_after (shown_after s past) ((e, r) ∷ []) in
       ap₂ (λ row feeders. record { index = record s.index { rows = indexed s past ++ row }; feeders = feeders })
       (then_row e r next)
-      (ap (λ n. map (feeder_after (shown_after s past) ((e, r) ∷ [])) (range_with_len 0 n)) (count_after s past)
-      ∙ map_range_same (feeder_after (shown_after s past) ((e, r) ∷ [])) (feeder_after s ((e, r) ∷ past)) (length s.feeders) no_feeder (then_feeder e r next))
+      (ap (λ n. map after (range_with_len 0 n)) (count_after s past)
+      ∙ fill_by_all (feeder_after s ((e, r) ∷ past)) (map after (range_with_len 0 (length s.feeders))) (length s.feeders) no_feeder
+      (length-map-range_with_len after 0 (length s.feeders))
+      (λ f there. get_or-map-range_with_len after 0 (length s.feeders) f f no_feeder there (omega arith) ∙ then_feeder e r next f there))

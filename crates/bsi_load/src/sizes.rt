@@ -8,7 +8,7 @@ use bsi_table::{Index, IndexError, MOST_FEEDERS, Schema};
 use std::alloc::AllocError;
 
 /// The most rows of a feeder that may wait.
-const MOST_WAITING: u32 = 65_536;
+pub const MOST_WAITING: u32 = 65_536;
 
 /// Why a machine is not made, in the order of checking.
 #[derive(Clone, Copy, Debug, PartialEq, Eq)]

@@ -10,21 +10,12 @@ ghost use Rattle.bsi_records.specs.Setups.{added_after, can_begin, column_after,
 
 use crate::numbers::{read_bases, read_offset, read_within};
 use crate::records::lend;
-use bsi_load::{Core, MakeError};
-use bsi_table::{ColumnSpec, MOST_FEEDERS, Schema, SchemaError};
+use bsi_load::{Core, MOST_WAITING, MakeError};
+use bsi_table::{ColumnSpec, MOST_FEEDERS, MOST_ROWS, MOST_SLICES, Schema, SchemaError};
 use csv::ByteRecord;
 use std::alloc::{AllocError as NoMemory, Global};
 use std::marker::Model;
 use std::mem;
-
-/// The most rows of a feeder that may wait.
-const MOST_WAITING: u64 = 65_536;
-
-/// The most rows of an index, and the limit where none is declared.
-const MOST_ROWS: u64 = 1 << 32;
-
-/// The most slices of a column.
-const MOST_SLICES: u64 = 63;
 
 // ---- numbers and forms
 
@@ -65,7 +56,7 @@ fn read_form(alloc: Global, word: &[u8], text: &[u8]) -> Result<Option<ColumnSpe
 fn read_slices(text: &[u8]) -> Option<ColumnSpec>
     ensures { option_and_then form_had result ≡ option_map Slices (number_within 1 63 text.now) }
 {
-    match read_within(1, MOST_SLICES, text) {
+    match read_within(1, u64::from(MOST_SLICES), text) {
         None => None,
         Some(width) => Some(ColumnSpec::Slices(width as u32)),
     }
@@ -264,7 +255,7 @@ fn declare_feeder(capacities: &mut Vec<u32>, fields: &ByteRecord) -> Result<bool
     if capacities.len() >= MOST_FEEDERS as usize {
         return Ok(false);
     }
-    let Some(capacity) = read_only_number(fields, MOST_WAITING) else {
+    let Some(capacity) = read_only_number(fields, u64::from(MOST_WAITING)) else {
         return Ok(false);
     };
     capacities.push(capacity as u32)?;

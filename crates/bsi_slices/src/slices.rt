@@ -176,14 +176,7 @@ fn push_row(slices: &mut [Bits], present: &mut Bits, entry: Option<u64>)
 {
     push_places(slices, entry.unwrap_or(0));
     present.push_reserved(entry.is_some());
-    know_len(present);
-}
-
-/// Says of a bit vector behind a shared reference how long it may be.
-fn know_len(bits: &Bits)
-    ensures { length bits.now.bits ≤ 2 ^ 32 }
-{
-    let _len = bits.len();
+    prove!(present.len() <= 1 << 32);
 }
 
 /// Makes room for one more bit in each slice. The bits stay, whatever the result.

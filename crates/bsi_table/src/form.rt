@@ -8,7 +8,7 @@ use bsi_digits::{Bases, BasesError};
 use std::alloc::AllocError;
 
 /// The most slices of a column.
-const MOST_SLICES: u32 = 63;
+pub const MOST_SLICES: u32 = 63;
 
 /// The form that is asked for. Bases are written most significant first.
 #[derive(Debug, Drop)]

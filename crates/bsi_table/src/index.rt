@@ -18,7 +18,7 @@ use std::alloc::Global;
 use std::marker::Model;
 
 /// The most rows of an index.
-const MOST_ROWS: u64 = 1 << 32;
+pub const MOST_ROWS: u64 = 1 << 32;
 
 /// The rows of a schema that came from 1 to 64 feeders, at most so many as a limit. A row is kept as its entry in each
 /// column and the number of its feeder, a byte; no row is kept as it came.

@@ -16,8 +16,8 @@ mod totals;
 
 pub use bsi_columns::Op;
 pub use errors::{AppendError, AskError, IndexError};
-pub use form::{ColumnSpec, Form};
-pub use index::Index;
+pub use form::{ColumnSpec, Form, MOST_SLICES};
+pub use index::{Index, MOST_ROWS};
 pub use numbering::MOST_FEEDERS;
 pub use query::{Answer, Pred, Query, Total};
 pub use row::Row;

@@ -16,12 +16,7 @@ fn shown_once(
 }
 
 /// Whether a line is read as the event that is shown so; a refused growth is asked for again.
-fn gives(
-    alloc: Global,
-    schema: &Schema,
-    line: &str,
-    want: Option<&str>,
-) -> Result<bool, NoMemory> {
+fn gives(alloc: Global, schema: &Schema, line: &str, want: Option<&str>) -> Result<bool, NoMemory> {
     let fields = record(alloc, line)?;
     let event = match shown_once(alloc, schema, &fields) {
         Err(_) => shown_once(alloc, schema, &fields)?,

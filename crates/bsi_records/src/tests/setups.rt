@@ -71,7 +71,12 @@ fn a_setup_begins_once_there_are_a_column_and_a_feeder(rt: HostRuntime) -> Resul
         Some(core) => Some((core.schema().columns(), core.feeders())),
     };
     assert_eq!(rt; sizes, Some((2, 1)));
-    for (line, want) in [("begin", true), ("begin,", false), ("begins", false), ("", false)] {
+    for (line, want) in [
+        ("begin", true),
+        ("begin,", false),
+        ("begins", false),
+        ("", false),
+    ] {
         let fields = record(rt.alloc(), line)?;
         assert_eq!(rt; test_begin(&fields), want, "at {line}");
     }

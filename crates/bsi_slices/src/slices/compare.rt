@@ -10,7 +10,6 @@ ghost use Rattle.bsi_slices.specs.SliceTests.{chosen, passes, relates, IsBelowSi
 ghost use Rattle.bsi_slices.specs.Slices.{entries_in, number, slice_at, IsSliced};
 ghost use Rattle.bsi_slices.specs.declared.slices.compare.Selection.TheVariants.{Tested};
 
-use super::know_len;
 use crate::NoMemory;
 use crate::column::Op;
 use bsi_bits::{Bits, know_fits};
@@ -219,7 +218,7 @@ fn words_at(slices: &[Bits], place: usize) -> &[u64]
     ensures fits { (k : ℕ) → slice_index result.now k < 2 ^ 64 }
 {
     let slice = &slices[place];
-    know_len(slice);
+    prove!(slice.len() <= 1 << 32);
     let words = slice.words();
     know_fits(words);
     words

@@ -8,7 +8,6 @@ ghost use Rattle.bsi_bits.specs.Packed.{bits_of, IsPacked};
 ghost use Rattle.bsi_slices.specs.Blocks.{word_kept};
 ghost use Rattle.bsi_slices.specs.Totals.{numbers_at, IsRanked};
 
-use super::know_len;
 use crate::slices::Slices;
 use crate::{Column, NoMemory};
 use bsi_bits::{Bits, know_fits, lanes};
@@ -42,7 +41,7 @@ impl Slices {
         requires there { k < length (numbers_at found.now.bits self.now.entries) }
         ensures { IfOk result (IsRanked (numbers_at found.now.bits self.now.entries) k) }
     {
-        know_len(found);
+        prove!(found.len() <= 1 << 32);
         let mut chosen = found.copy()?.into_words();
         let mut last = self.present();
         let mut is_set = true;

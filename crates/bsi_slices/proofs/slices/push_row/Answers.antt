@@ -20,7 +20,7 @@ returns-clause-sliced c =
     let pushed : (k : ℕ) → k < length c.args.slices.now → slice_at c.push_places.new.slices k ≡ slice_at c.args.slices.now k ++ (bit_at (number_or_zero c.args.entry) k == 1) ∷ [] =
     λ k within. c.push_places.ensures k within ∙ (λ i. slice_at c.args.slices.now k ++ (bit_at (c.unwrap_or.ensures i) k == 1) ∷ []) in
     sliced_more c.args.present.now.bits c.push_reserved.new.self.bits c.args.slices.now c.push_places.new.slices c.args.entry c.requires.sliced c.requires.below
-    marks (omega arith) pushed c.know_len.ensures
+    marks (omega arith) pushed (omega (arith, c.len.ensures))
 
 pub returns-clause-entries : goal.returns-clause-entries
 returns-clause-entries c =

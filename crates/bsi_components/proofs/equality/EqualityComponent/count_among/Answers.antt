@@ -13,7 +13,7 @@ overflow_add-rows c =
     let found = c.args.found.now.bits in
     let next = among_next found c.args.self.now.digits c.args.from c.digits.j (omega arith) in
     let most = where_most (is_among c.args.from (c.digits.j + 1)) found c.args.self.now.digits in
-    omega (arith, next, most, c.digits.invariant, c.count_eq-rows.ensures, c.know_len.ensures)
+    omega (arith, next, most, c.digits.invariant, c.count_eq-rows.ensures, c.len.ensures)
 
 pub digits-preserved : goal.digits-preserved
 digits-preserved c =

@@ -30,7 +30,7 @@ slices-init c =
     let copy_long : length copied ≡ length present = ap length c.in_ok-copy.ensures ∙ sym even in
     let all : copied ≡ bits_of (length copied) words = shown_bits copied words c.into_words-chosen.ensures.few c.into_words-chosen.ensures.places in
     let Packed : ℕ → Type 0 = λ n. IsPacked n words in
-    let packed = shown_packed copied words c.into_words-chosen.ensures.few c.into_words-chosen.ensures.places (omega (arith, c.know_len.ensures, ap length c.in_ok-copy.ensures)) in
+    let packed = shown_packed copied words c.into_words-chosen.ensures.few c.into_words-chosen.ensures.places (omega (arith, c.len.ensures, ap length c.in_ok-copy.ensures)) in
     let rows : zip2 ◌&&◌ (bits_of (length present) words) present ≡ zip2 ◌&&◌ found (map is_some entries) =
     ap₂ (zip2 ◌&&◌) (ap (λ n. bits_of n words) (sym copy_long) ∙ sym all ∙ c.in_ok-copy.ensures) c.present-last.ensures in
     let start = place_start width found entries c.args.k (zip2 ◌&&◌ (bits_of (length present) words) present) c.width-i.ensures.below rows c.requires.there in
