@@ -1,5 +1,5 @@
 -- What one event changes of what a machine shows.
-use Rattle.std.proofs.Common.{◌≡◌, ◌≢◌, ℕ, ◌+◌, ◌<◌, true, false, cond, List, [], ◌∷◌, ◌++◌, Some, Result, Ok, Err, length, drop, get_or, set, map, inl, inr, ap, ap₂, sym, ◌∙◌, refl, arith}
+use Rattle.std.proofs.Common.{◌≡◌, ◌≢◌, ℕ, ◌+◌, ◌<◌, true, false, cond, List, [], ◌∷◌, ◌++◌, Result, Ok, Err, length, drop, get_or, set, map, inl, inr, ap, ap₂, sym, ◌∙◌, refl, arith}
 use Rattle.std.specs.Prelude.{slice_get, nat_eq, ◌||◌}
 use Rattle.std.specs.List.{range_with_len}
 use Rattle.std.specs.Option.{option_map, option_to_list}

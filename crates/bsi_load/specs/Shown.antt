@@ -1,12 +1,8 @@
 -- What a contract sees of a step machine, and the reply that it owes to an event.
 use Rattle.std.specs.Prelude.{◌≡◌, ℕ, ◌≤◌, All, IsTrue, Bool, false, not, List, [], Option, Some, None, Result, Ok, Err, ◌⊎◌, MatchOption, length, nat_le, ◌==◌, if◌then◌else◌, slice_index_or}
-use Rattle.bsi_table.specs.declared.query.Answer.{Answer}
-use Rattle.bsi_table.specs.declared.errors.AskError.{AskError}
-use Rattle.bsi_table.specs.declared.errors.AskError.TheVariants as ask
 use Rattle.bsi_table.specs.declared.errors.AppendError.{AppendError}
 use Rattle.bsi_table.specs.declared.errors.AppendError.TheVariants as append
-use Rattle.bsi_table.specs.declared.query.Query.{Query}
-use Rattle.bsi_table.specs.Answers.{IsAnswer, missing_column}
+use Rattle.bsi_table.specs.Answers.{IsReply}
 use Rattle.bsi_table.specs.Columns.{fits}
 use Rattle.bsi_table.specs.Rows.{Entries}
 use Rattle.bsi_table.specs.Table.{Table}
@@ -77,18 +73,12 @@ close_reply s f =
     else (if (feeder_at s f).closed then Err close.AlreadyClosed
     else Ok tt)
 
--- the reply to a query: the answer over the indexed rows, the column that is not there, or that there is no memory
-abbrev pub IsAskReply : Shown → Query → Result Answer AskError → Type 0
-IsAskReply s query (Ok answer) = (missing_column (length s.index.schema.columns) query ≡ None) × IsAnswer query s.index.rows answer
-IsAskReply s query (Err (ask.BadColumn c)) = missing_column (length s.index.schema.columns) query ≡ Some c
-IsAskReply s query (Err ask.NoMemory) = missing_column (length s.index.schema.columns) query ≡ None
-
 -- the reply is one that the machine may give to the event
 abbrev pub IsLawful : Shown → Event → Reply → Type 0
 IsLawful s (Submit f row) (Submitted reply) = reply ≡ submit_reply s f row
 IsLawful s (Load f) (Loaded reply) = IsLoadReply s f reply
 IsLawful s (Close f) (Closed reply) = reply ≡ close_reply s f
-IsLawful s (Ask query) (Answered reply) = IsAskReply s query reply
+IsLawful s (Ask query) (Answered reply) = IsReply s.index.schema s.index.rows query reply
 IsLawful s event reply = ⊥
 
 -- there are from 1 to 64 feeders, no more rows of each wait than may, and those that wait fit the schema

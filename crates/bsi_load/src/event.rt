@@ -18,7 +18,7 @@ pub enum Event {
 }
 
 /// Why a row is not accepted, in the order of checking. The row is handed back.
-#[derive(Debug, Drop)]
+#[derive(Debug, Drop, PartialEq, Eq)]
 pub enum SubmitRefused {
     /// There is no such feeder.
     UnknownFeeder(Row),
@@ -68,7 +68,7 @@ pub enum CloseRefused {
 }
 
 /// The reply to an event.
-#[derive(Debug, Drop)]
+#[derive(Debug, Drop, PartialEq, Eq)]
 pub enum Reply {
     /// To a submission.
     Submitted(Result<(), SubmitRefused>),

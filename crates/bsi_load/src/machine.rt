@@ -1,11 +1,12 @@
 //! The machine: a bounded queue for each feeder, over the index of a table.
 
 ghost use Rattle.std.specs.Prelude.{◌≡◌, ℕ, ◌≤◌, List, [], ◌∷◌, Option, None, Ok, Err, length, map, IfErr, IfOk, OnOk, option_map, if◌then◌else◌};
+ghost use Rattle.bsi_table.specs.Answers.{IsReply};
 ghost use Rattle.bsi_table.specs.Refusals.{IsFirstOr};
 ghost use Rattle.bsi_load.specs.declared.event.Event.TheVariants as event;
 ghost use Rattle.bsi_load.specs.declared.event.Reply.TheVariants as reply;
 ghost use Rattle.bsi_load.specs.Runs.{shown_after, past_of, past_at, AreLawful, IsConserved, StaysClosed};
-ghost use Rattle.bsi_load.specs.Shown.{submit_reply, close_reply, feeder_at, is_unknown, IsLoadReply, IsAskReply, IsLawful};
+ghost use Rattle.bsi_load.specs.Shown.{submit_reply, close_reply, feeder_at, is_unknown, IsLoadReply, IsLawful};
 ghost use Rattle.bsi_load.specs.Sizes.{new_feeder, new_machine, sizes_refusal};
 
 use crate::NoMemory;
@@ -136,7 +137,7 @@ impl Core {
 
     /// Answers a query over the indexed rows. What waits is not among them.
     pub fn ask(&self, query: &Query) -> Result<Answer, AskError>
-        ensures { IsAskReply self.now query.now result }
+        ensures { IsReply self.now.index.schema self.now.index.rows query.now result }
     {
         self.index.ask(query)
     }

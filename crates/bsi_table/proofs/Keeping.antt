@@ -1,9 +1,10 @@
 -- What the columns of a table keep, through growth, appends and copies.
-use Rattle.std.proofs.Common.{◌≡◌, ℕ, ◌+◌, ◌^◌, ◌<◌, true, ◌&&◌, List, [], ◌∷◌, Option, Some, None, length, map, ℤ, pos, neg_ℤ, ◌+ℤ◌, ◌≤ℤ◌, ◌<ℤ◌, ap, sym, subst, ◌∙◌, arith}
+use Rattle.std.proofs.Common.{◌≡◌, ℕ, ◌+◌, ◌^◌, ◌<◌, true, ◌&&◌, List, [], ◌∷◌, ◌++◌, All, Option, Some, None, length, map, ℤ, pos, neg_ℤ, ◌+ℤ◌, ◌≤ℤ◌, ◌<ℤ◌, refl, ap, sym, subst, ◌∙◌, arith}
 use Rattle.std.specs.Option.{option_map}
-use Rattle.std.specs.Prelude.{int_le, int_lt, IfSome, OnErr, Result, Ok, Err}
+use Rattle.std.specs.Prelude.{int_le, int_lt, slice_index_or, IfSome, OnErr, Result, Ok, Err}
 use Rattle.std.proofs.lemmas.Int.{ints}
-use Rattle.std.proofs.lemmas.List.{length-append}
+use Rattle.std.proofs.lemmas.List.{length-append, length-map}
+use Rattle.std.proofs.lemmas.List.Elements.{All-get_or, All-push}
 use Rattle.bsi_digits.specs.Digits.{size_of}
 use Rattle.bsi_columns.specs.declared.any.AnyColumn.{AnyColumn}
 use Rattle.bsi_columns.specs.declared.any.AnyColumn.TheVariants.{Slices as kept_slices, Equality as kept_equality, Range as kept_range}
@@ -11,9 +12,11 @@ use Rattle.bsi_columns.specs.AnyRows.{any_entries, any_size, IsSameForm}
 use Rattle.bsi_shift.specs.Shifted.{number_of, shifted_entries, shifted_size, IsInRange, OffsetColumn}
 use Rattle.bsi_table.specs.declared.form.Form.{Form}
 use Rattle.bsi_table.specs.declared.form.Form.TheVariants.{Slices, Equality, Range}
-use Rattle.bsi_table.specs.Columns.{column_at, is_taken_by, size_in, NamedColumn}
+use Rattle.bsi_table.specs.Columns.{column_at, fits, is_taken_by, size_in, NamedColumn}
 use Rattle.bsi_table.specs.Rows.{entry_at, Entries}
-use Rattle.bsi_table.specs.Table.{kept_at, AreKept, HasOneMore, IsInForm, IsSameColumn, Keeps}
+use Rattle.bsi_table.specs.Table.{kept_at, row_in, AreInRange, AreKept, AreNarrow, HasOneMore, HaveOneMore, IsInForm, IsSameColumn, Keeps}
+use Rattle.bsi_table.proofs.Fitting.{fits-at, fits-each}
+use Rattle.bsi_table.proofs.TableRows.{entry-row_in}
 
 -- what holds anyway holds after a refusal
 pub on_err : {T E : Type 0} {P : Type 0} (r : Result T E) → P → OnErr r P
@@ -21,10 +24,9 @@ on_err (Ok x) p = tt
 on_err (Err e) p = p
 
 -- a column of nothing has no rows
-pub length-shifted_nothing : (c : OffsetColumn) (stored : AnyColumn) → c.stored ≡ stored → any_entries stored ≡ [] → length (shifted_entries c) ≡ 0
+pub shifted_nothing : (c : OffsetColumn) (stored : AnyColumn) → c.stored ≡ stored → any_entries stored ≡ [] → shifted_entries c ≡ []
 unfolding shifted_entries
-length-shifted_nothing c stored is nothing =
-    ap (λ es. length (map (option_map (number_of c.offset)) es)) (ap any_entries is ∙ nothing)
+shifted_nothing c stored is nothing = ap (λ es. map (option_map (number_of c.offset)) es) (ap any_entries is ∙ nothing)
 
 -- a form is kept
 pub same_form : (form : Form) (old new : AnyColumn) → IsInForm form old → IsSameForm new old → IsInForm form new
@@ -60,7 +62,19 @@ size-IsInForm (Range bs) (kept_equality a) kept = absurd kept
 within : (low x high : ℤ) → int_le low x && int_lt x high ≡ true → (low ≤ℤ x) × (x <ℤ high)
 within low x high both = (grind (arith, ints), grind (arith, ints))
 
+both_so : (low x high : ℤ) → low ≤ℤ x → x <ℤ high → int_le low x && int_lt x high ≡ true
+both_so low x high above below = grind (arith, ints)
+
 module _ (column : NamedColumn) (old : OffsetColumn) (n : ℕ) (keeps : Keeps column old n) where
+  -- a column of the same form and offset takes the same numbers
+  in_range_of : (new : OffsetColumn) → IsSameForm new.stored old.stored → new.offset ≡ old.offset → (entries : Entries)
+      → shifted_entries new ≡ entries → All (IsInRange old.offset (shifted_size old)) entries → All (IsInRange new.offset (shifted_size new)) (shifted_entries new)
+  in_range_of new form offset entries are all =
+      let size : shifted_size new ≡ shifted_size old =
+      size-IsInForm column.form new.stored (same_form column.form old.stored new.stored keeps.form form) ∙ sym (size-IsInForm column.form old.stored keeps.form) in
+      subst (All (IsInRange new.offset (shifted_size new))) (sym are)
+      (subst (λ o. All (IsInRange o (shifted_size new)) entries) (sym offset) (subst (λ s. All (IsInRange old.offset s) entries) (sym size) all))
+
   -- the same entries
   pub keeps_same : (new : OffsetColumn) → IsSameColumn old new → Keeps column new n
   keeps_same new same = record {
@@ -69,16 +83,19 @@ module _ (column : NamedColumn) (old : OffsetColumn) (n : ℕ) (keeps : Keeps co
     rows = ap length same.entries ∙ keeps.rows;
     low = keeps.low;
     high = keeps.high;
+    range = in_range_of new same.form same.offset (shifted_entries old) same.entries keeps.range;
   }
 
   -- one more entry
-  pub keeps_more : (new : OffsetColumn) (entry : Option ℤ) → HasOneMore old new entry → Keeps column new (n + 1)
-  keeps_more new entry more = record {
+  pub keeps_more : (new : OffsetColumn) (entry : Option ℤ) → IsInRange old.offset (shifted_size old) entry → HasOneMore old new entry → Keeps column new (n + 1)
+  keeps_more new entry taken more = record {
     form = same_form column.form old.stored new.stored keeps.form more.form;
     offset = more.offset ∙ keeps.offset;
     rows = ap length more.entries ∙ omega (arith, length-append (shifted_entries old) (entry ∷ []), keeps.rows);
     low = keeps.low;
     high = keeps.high;
+    range = in_range_of new more.form more.offset (shifted_entries old ++ entry ∷ []) more.entries
+        (All-push (IsInRange old.offset (shifted_size old)) (shifted_entries old) entry keeps.range taken);
   }
 
   -- an entry that the column takes is in range
@@ -96,6 +113,18 @@ module _ (column : NamedColumn) (old : OffsetColumn) (n : ℕ) (keeps : Keeps co
       let range = within column.offset x (column.offset +ℤ pos (size_in column.form)) taken in
       (omega (arith, ints, range.0, keeps.low), omega (arith, ints, range.1, keeps.high))
 
+  -- the column takes each entry that it has
+  pub taken_at : (r : ℕ) → r < n → is_taken_by column (slice_index_or (shifted_entries old) r None) ≡ true
+  taken_at r below = by (slice_index_or (shifted_entries old) r None) (All-get_or (IsInRange old.offset (shifted_size old)) (shifted_entries old) r None (omega (arith, keeps.rows)) keeps.range)
+    where
+      by : (entry : Option ℤ) → IsInRange old.offset (shifted_size old) entry → is_taken_by column entry ≡ true
+      by None range = refl
+      by (Some x) range =
+          let here : IsInRange column.offset (size_in column.form) (Some x) =
+          subst (λ offset. IsInRange offset (size_in column.form) (Some x)) keeps.offset
+          (subst (λ size. IsInRange old.offset size (Some x)) (size-IsInForm column.form old.stored keeps.form) range) in
+          both_so column.offset x (column.offset +ℤ pos (size_in column.form)) here.0 here.1
+
 module _ (columns : List NamedColumn) (old : List OffsetColumn) (n : ℕ) (kept : AreKept columns old n) (new : List OffsetColumn) (long : length new ≡ length old) where
   pub are_kept_same : ((k : ℕ) → k < length old → IsSameColumn (kept_at old k) (kept_at new k)) → AreKept columns new n
   are_kept_same same = record {
@@ -103,8 +132,32 @@ module _ (columns : List NamedColumn) (old : List OffsetColumn) (n : ℕ) (kept 
     each = λ c within. keeps_same (column_at columns c) (kept_at old c) n (kept.each c within) (kept_at new c) (same c (omega (arith, kept.long)));
   }
 
-  pub are_kept_more : (row : Entries) → ((k : ℕ) → k < length old → HasOneMore (kept_at old k) (kept_at new k) (entry_at row k)) → AreKept columns new (n + 1)
-  are_kept_more row more = record {
+  pub are_kept_more : (row : Entries) → AreInRange old row → HaveOneMore old new row → AreKept columns new (n + 1)
+  are_kept_more row taken more = record {
     long = long ∙ kept.long;
-    each = λ c within. keeps_more (column_at columns c) (kept_at old c) n (kept.each c within) (kept_at new c) (entry_at row c) (more c (omega (arith, kept.long)));
+    each = λ c within.
+        let there : c < length old = omega (arith, kept.long) in
+        keeps_more (column_at columns c) (kept_at old c) n (kept.each c within) (kept_at new c) (entry_at row c) (taken c there) (more c there);
   }
+
+module _ (columns : List NamedColumn) (kept : List OffsetColumn) (n : ℕ) (are : AreKept columns kept n) where
+  module _ (row : Entries) (fitting : fits columns row ≡ true) where
+    -- each column takes its entry of a row that fits
+    pub row_in_range : AreInRange kept row
+    row_in_range k within =
+        let there : k < length columns = omega (arith, within, are.long) in
+        taken_in_range (column_at columns k) (kept_at kept k) n (are.each k there) (entry_at row k) (fits-at columns row k fitting there)
+
+    -- which is a null or a number of 64 bits
+    pub row_narrow : AreNarrow kept row
+    row_narrow k within =
+        let there : k < length columns = omega (arith, within, are.long) in
+        taken_narrow (column_at columns k) (kept_at kept k) n (are.each k there) (entry_at row k) (fits-at columns row k fitting there)
+
+  -- each row that is kept fits
+  pub row_in-fits : (r : ℕ) → r < n → fits columns (row_in kept r) ≡ true
+  row_in-fits r below =
+      fits-each columns (row_in kept r) (length-map kept _ ∙ are.long)
+      (λ c within.
+      ap (is_taken_by (column_at columns c)) (entry-row_in kept c r (omega (arith, within, are.long)))
+      ∙ taken_at (column_at columns c) (kept_at kept c) n (are.each c within) r below)

@@ -1,3 +1,4 @@
+pub mod CallerLemmas
 pub mod Fitting
 pub mod Keeping
 pub mod Missing

@@ -1,8 +1,9 @@
 -- The rows of a table, by the columns that keep them.
-use Rattle.std.proofs.Common.{◌≡◌, ℕ, zero, suc, ◌+◌, ◌<◌, Bool, List, [], ◌∷◌, ◌++◌, None, length, map, get_or, refl, ap, ap₂, sym, ◌∙◌, arith, zero-add}
+use Rattle.std.proofs.Common.{◌≡◌, ℕ, zero, suc, ◌+◌, ◌<◌, Bool, List, [], ◌∷◌, ◌++◌, None, All, length, map, get_or, refl, ap, ap₂, subst, sym, ◌∙◌, arith, zero-add}
 use Rattle.std.specs.Prelude.{count_by, slice_index}
 use Rattle.std.specs.List.{range_with_len}
 use Rattle.std.proofs.lemmas.List.{ext_get_or, get_or-map, get_or_append_left, length-map, map-append}
+use Rattle.std.proofs.lemmas.List.Elements.{All-from_get_or}
 use Rattle.std.proofs.lemmas.List.FromFn.{fill_by_all, get_or-map-range_with_len, length-map-range_with_len}
 use Rattle.bsi_bits.specs.BitList.{set_places}
 use Rattle.bsi_columns.specs.Orders.{values_at}
@@ -35,7 +36,7 @@ module _ (kept : List OffsetColumn) where
   length-rows_in n = length-map-range_with_len (row_in kept) 0 n
 
   -- entry c of a row is that of column c
-  entry-row_in : (c r : ℕ) → c < length kept → entry_at (row_in kept r) c ≡ get_or (shifted_entries (kept_at kept c)) r None
+  pub entry-row_in : (c r : ℕ) → c < length kept → entry_at (row_in kept r) c ≡ get_or (shifted_entries (kept_at kept c)) r None
   entry-row_in c r within = get_or-map (λ column. get_or (shifted_entries column) r None) kept c no_entries None within
 
   -- entries c of the rows are those of column c
@@ -110,6 +111,17 @@ unfolding fed_rows
 fed_rows-same sources old new long each =
     same_below (0, []) (λ r. (slice_index sources r, row_in new r)) (λ r. (slice_index sources r, row_in old r)) (length sources)
     (λ r below. ap (λ row. (slice_index sources r, row)) (rows_in-same old new r long each))
+
+-- a fact of each row, by its feeder and its entries
+pub All-fed_rows : (sources : List ℕ) (kept : List OffsetColumn) (P : FedRow → Type 0)
+    → ((r : ℕ) → r < length sources → P (slice_index sources r, row_in kept r)) → All P (fed_rows sources kept)
+unfolding fed_rows
+All-fed_rows sources kept P each =
+    let row : ℕ → FedRow = λ r. (slice_index sources r, row_in kept r) in
+    All-from_get_or P (map row (range_with_len 0 (length sources))) (0, [])
+    (λ r below.
+    let there : r < length sources = omega (arith, below, length-map-range_with_len row 0 (length sources)) in
+    subst P (sym (get_or-map-range_with_len row 0 (length sources) r r (0, []) there (omega arith))) (each r there))
 
 -- before the first there is none
 pub fed_rows-none : (sources : List ℕ) (kept : List OffsetColumn) → sources ≡ [] → fed_rows sources kept ≡ []

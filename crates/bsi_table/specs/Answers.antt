@@ -1,12 +1,15 @@
 -- What the answer to a query is.
-use Rattle.std.specs.Prelude.{◌≡◌, ℕ, List, [], ◌∷◌, ◌++◌, Option, length, map, take, find, count_by, nat_eq, nat_le, slice_index, ℤ}
+use Rattle.std.specs.Prelude.{◌≡◌, ℕ, List, [], ◌∷◌, ◌++◌, Option, Some, None, Result, Ok, Err, length, map, take, find, count_by, nat_eq, nat_le, slice_index, ℤ}
 use Rattle.bsi_shift.specs.WholeNumbers.{signed_sum, IsSignedLeastOf, IsSignedGreatestOf, IsSignedMedianOf}
+use Rattle.bsi_table.specs.declared.errors.AskError.{AskError}
+use Rattle.bsi_table.specs.declared.errors.AskError.TheVariants.{BadColumn, NoMemory}
 use Rattle.bsi_table.specs.declared.query.Answer.{Answer}
 use Rattle.bsi_table.specs.declared.query.Answer.TheVariants.{Count as count_answer, Sum as sum_answer, Value as value_answer, Rows as rows_answer}
 use Rattle.bsi_table.specs.declared.query.Pred.{Pred, All, Compare, Null, Both', Either', Not'}
 use Rattle.bsi_table.specs.declared.query.Query.{Query}
 use Rattle.bsi_table.specs.declared.query.Total.{Total}
 use Rattle.bsi_table.specs.declared.query.Total.TheVariants.{Count, Sum, Least, Greatest, Median, Rows}
+use Rattle.bsi_table.specs.Columns.{Declared}
 use Rattle.bsi_table.specs.Rows.{FedRow, feeders_of, selected, values}
 
 -- the number of row r among its feeder's, of rows from these feeders: how many before it came from the same feeder
@@ -64,3 +67,9 @@ missing_of count columns = find (λ c. nat_le count c) columns
 -- the first column that a query reads and that is not there: its total's, else the first of its predicate
 abbrev pub missing_column : ℕ → Query → Option ℕ
 missing_column count query = missing_of count (columns_of_total query.total ++ columns_of_pred query.pred)
+
+-- the reply to a query over rows of a schema: the first column that is not there, else the answer, or that there is no memory
+abbrev pub IsReply : Declared → List FedRow → Query → Result Answer AskError → Type 0
+IsReply schema rows query (Ok answer) = (missing_column (length schema.columns) query ≡ None) × IsAnswer query rows answer
+IsReply schema rows query (Err (BadColumn c)) = missing_column (length schema.columns) query ≡ Some c
+IsReply schema rows query (Err NoMemory) = missing_column (length schema.columns) query ≡ None

@@ -7,7 +7,7 @@ use Rattle.bsi_columns.specs.AnyRows.{IsSameForm}
 use Rattle.bsi_shift.specs.Shifted.{shifted_entries, shifted_room, shifted_size, IsInRange, OffsetColumn}
 use Rattle.bsi_table.specs.declared.form.Form.{Form}
 use Rattle.bsi_table.specs.declared.form.Form.TheVariants.{Slices, Equality, Range}
-use Rattle.bsi_table.specs.Columns.{column_at, size_in, Declared, NamedColumn}
+use Rattle.bsi_table.specs.Columns.{column_at, fits, size_in, Declared, NamedColumn}
 use Rattle.bsi_table.specs.Rows.{entry_at, Entries, FedRow}
 
 -- what a contract sees of an index: its schema, how many feeders there are, the most rows, and the rows
@@ -26,6 +26,18 @@ no_rows schema feeders limit = table schema feeders limit []
 -- one more row stands last
 abbrev pub with_row : Table → ℕ → Entries → Table
 with_row table feeder row = record table { rows = table.rows ++ (feeder, row) ∷ [] }
+
+-- these rows stand last, in their order
+abbrev pub with_rows : Table → List FedRow → Table
+with_rows table rows = record table { rows = table.rows ++ rows }
+
+-- each row fits the columns
+abbrev pub AreFitting : List NamedColumn → List FedRow → Type 0
+AreFitting columns rows = All (λ row. IsTrue (fits columns row.1)) rows
+
+-- each row came from one of the first so many feeders
+abbrev pub AreFrom : ℕ → List FedRow → Type 0
+AreFrom feeders rows = All (λ row. row.0 < feeders) rows
 
 -- the column is kept in this form
 abbrev pub IsInForm : Form → AnyColumn → Type 0
@@ -60,6 +72,7 @@ pub record Keeps (column : NamedColumn) (kept : OffsetColumn) (n : ℕ) : Type 0
   pub rows : length (shifted_entries kept) ≡ n
   pub low : neg_ℤ (pos (2 ^ 63)) ≤ℤ column.offset
   pub high : (column.offset +ℤ pos (size_in column.form)) ≤ℤ pos (2 ^ 63)
+  pub range : All (IsInRange kept.offset (shifted_size kept)) (shifted_entries kept)
 
 -- each column of a schema is
 pub record AreKept (columns : List NamedColumn) (kept : List OffsetColumn) (n : ℕ) : Type 0 where

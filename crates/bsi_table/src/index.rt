@@ -3,11 +3,11 @@
 ghost use Rattle.std.specs.Prelude.{◌≡◌, ℕ, ◌<◌, ◌≤◌, ◌^◌, ◌++◌, ◌∷◌, [], None, length, vec_len, vec_capacity, IfErr, IfOk, IsTrue, OnErr, OnOk};
 ghost use Rattle.std.specs.Result.{result_err};
 ghost use Rattle.bsi_shift.specs.Shifted.{shifted_entries};
-ghost use Rattle.bsi_table.specs.Answers.{missing_column, IsAnswer};
+ghost use Rattle.bsi_table.specs.Answers.{missing_column, IsAnswer, IsReply};
 ghost use Rattle.bsi_table.specs.Columns.{column_at, fits};
-ghost use Rattle.bsi_table.specs.Refusals.{ask_refusal, index_refusal, row_refusal, IsFirstOr};
+ghost use Rattle.bsi_table.specs.Refusals.{index_refusal, row_refusal, IsFirstOr};
 ghost use Rattle.bsi_table.specs.Rows.{column_of};
-ghost use Rattle.bsi_table.specs.Table.{kept_at, no_rows, with_row, AreInRange, AreNarrow, AreSameColumns, HaveOneMore, HaveRoom, IsInForm};
+ghost use Rattle.bsi_table.specs.Table.{kept_at, no_rows, with_row, AreFitting, AreFrom, AreInRange, AreNarrow, AreSameColumns, HaveOneMore, HaveRoom, IsInForm};
 
 use crate::columns::{copy_each, make_each, push_each, reserve_each};
 use crate::select::select;
@@ -109,9 +109,7 @@ impl Index {
 
     /// Answers a query over all rows.
     pub fn ask(&self, query: &Query) -> Result<Answer, AskError>
-        ensures answer { IfOk result (IsAnswer query.now self.now.rows) }
-        ensures there { OnOk result (ask_refusal self.now.schema query.now ≡ None) }
-        ensures refused { IfErr result (IsFirstOr AskError.NoMemory (ask_refusal self.now.schema query.now)) }
+        ensures { IsReply self.now.schema self.now.rows query.now result }
     {
         match query.missing_column(self.schema.columns()) {
             Some(missing) => Err(AskError::BadColumn(missing)),
@@ -155,17 +153,19 @@ impl Index {
         })
     }
 
-    /// Lends the schema.
+    /// Lends the schema, which each row fits.
     pub fn schema(&self) -> &Schema
-        ensures { result.now ≡ self.now.schema }
+        ensures schema { result.now ≡ self.now.schema }
+        ensures fitting { AreFitting self.now.schema.columns self.now.rows }
     {
         &self.schema
     }
 
-    /// Returns the number of feeders, at most 64.
+    /// Returns the number of feeders, at most 64. Each row came from one of them.
     pub fn feeders(&self) -> u32
         ensures feeders { result ≡ self.now.feeders }
         ensures within { result ≤ 64 }
+        ensures from { AreFrom self.now.feeders self.now.rows }
     {
         self.feeders
     }

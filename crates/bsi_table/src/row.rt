@@ -19,6 +19,28 @@ impl Model for Row {
     ghost view = { λ r. r.values.items };
 }
 
+// Two rows are equal where they have the same entries.
+impl PartialEq for Row {
+    ghost use Rattle.std.specs.Cmp.Lexicographic.{pointwise};
+    ghost use Rattle.std.specs.Cmp.Rules.{comparing};
+    ghost use Rattle.std.specs.Option.{option_eq};
+    ghost use Rattle.std.specs.Ordering.{int_eq};
+
+    ghost eq = { pointwise (option_eq int_eq) };
+
+    ghost laws = { Prim.search comparing };
+
+    fn eq(&self, other: &Row) -> bool {
+        self.values == other.values
+    }
+}
+
+impl Eq for Row {
+    ghost use Rattle.std.specs.Cmp.Rules.{comparing};
+
+    ghost laws = { Prim.search comparing };
+}
+
 impl Row {
     /// Makes a row of these entries.
     pub fn new(values: Vec<Option<i128>>) -> Row

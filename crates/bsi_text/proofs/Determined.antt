@@ -7,14 +7,14 @@ use Rattle.std.proofs.lemmas.List.Elements.{All-head, All-nil, All-tail}
 use Rattle.std.proofs.lemmas.Slice.Eq.{bytes_eq-Decides}
 use Rattle.bsi_load.specs.Runs.{Done, shown_after}
 use Rattle.bsi_load.specs.Runs as runs
-use Rattle.bsi_load.specs.Shown.{Shown, close_reply, load_refusal, submit_reply, IsAskReply, IsLawful}
+use Rattle.bsi_load.specs.Shown.{Shown, close_reply, load_refusal, submit_reply, IsLawful}
 use Rattle.bsi_load.specs.declared.event.Event.{Event}
 use Rattle.bsi_load.specs.declared.event.Event.TheVariants.{Submit, Load, Close, Ask}
 use Rattle.bsi_load.specs.declared.event.LoadRefused.{LoadRefused}
 use Rattle.bsi_load.specs.declared.event.LoadRefused.TheVariants as load
 use Rattle.bsi_load.specs.declared.event.Reply.{Reply}
 use Rattle.bsi_load.specs.declared.event.Reply.TheVariants.{Submitted, Loaded, Closed, Answered}
-use Rattle.bsi_table.specs.Answers.{IsAnswer, IsTotal, missing_column, numbered_at}
+use Rattle.bsi_table.specs.Answers.{IsAnswer, IsReply, IsTotal, missing_column, numbered_at}
 use Rattle.bsi_table.specs.Columns.{Declared}
 use Rattle.bsi_table.specs.Rows.{Entries, FedRow, entry_at, feeders_of, holds, row_at, selected, values}
 use Rattle.bsi_table.specs.declared.errors.AskError.{AskError}
@@ -91,7 +91,7 @@ none_is_some : {P : Type 0} (c : ℕ) → None ≡ Some c → P
 none_is_some c is = cc is
 
 -- the answer, where memory was found and the columns are there
-answered : (s : Shown) (query : Query) (r : Result Answer AskError) → missing_column (length s.index.schema.columns) query ≡ None → IsAskReply s query r → ask_line r ≢ no_memory_line
+answered : (s : Shown) (query : Query) (r : Result Answer AskError) → missing_column (length s.index.schema.columns) query ≡ None → IsReply s.index.schema s.index.rows query r → ask_line r ≢ no_memory_line
     → (answer : Answer) × (r ≡ Ok answer) × IsAnswer query s.index.rows answer
 answered s query (Ok answer) there is found = (answer, refl, is.1)
 answered s query (Err (ask.BadColumn c)) there is found = none_is_some c (sym there ∙ is)
@@ -217,7 +217,7 @@ plain_one schema fields e is = subst (λ o. IfSome o IsPlain) is (plain schema f
 same_event : (a b : Event) → Some a ≡ Some b → a ≡ b
 same_event a b is = cc is
 
-query_reply : (s : Shown) (q : Query) (r : Reply) → IsLawful s (Ask q) r → (x : Result Answer AskError) × (r ≡ Answered x) × IsAskReply s q x
+query_reply : (s : Shown) (q : Query) (r : Reply) → IsLawful s (Ask q) r → (x : Result Answer AskError) × (r ≡ Answered x) × IsReply s.index.schema s.index.rows q x
 query_reply s q (Answered x) lawful = (x, refl, lawful)
 query_reply s q (Submitted x) lawful = absurd lawful
 query_reply s q (Loaded x) lawful = absurd lawful

@@ -1,11 +1,11 @@
 use Rattle.std.proofs.Common.{◌≡◌, ◌<◌, ◌+◌, ◌++◌, ◌∷◌, [], List, All, length, ap, ap₂, sym, subst, arith, ◌∙◌}
 use Rattle.std.proofs.lemmas.List.{length-append}
 use Rattle.std.proofs.lemmas.List.Elements.{All-push}
-use Rattle.bsi_table.specs.Columns.{column_at, fits}
-use Rattle.bsi_table.specs.Rows.{entry_at, Entries, FedRow}
-use Rattle.bsi_table.specs.Table.{fed_rows, kept_at, with_row, AreKept, Table}
-use Rattle.bsi_table.proofs.Fitting.{fits-at, fits-length}
-use Rattle.bsi_table.proofs.Keeping.{are_kept_same, are_kept_more, on_err, taken_in_range, taken_narrow}
+use Rattle.bsi_table.specs.Columns.{fits}
+use Rattle.bsi_table.specs.Rows.{Entries, FedRow}
+use Rattle.bsi_table.specs.Table.{fed_rows, with_row, AreKept, Table}
+use Rattle.bsi_table.proofs.Fitting.{fits-length}
+use Rattle.bsi_table.proofs.Keeping.{are_kept_same, are_kept_more, on_err, row_in_range, row_narrow}
 use Rattle.bsi_table.proofs.TableRows.{fed_rows-more, fed_rows-same, length-fed_rows}
 use Rattle.bsi_table.proofs.index.Index.append.Goals as goal
 
@@ -37,25 +37,19 @@ pub push_row-requires-clause-range : goal.push_row-requires-clause-range
 push_row-requires-clause-range c =
     let i = c.self.inside in
     let e = c.in_ok-reserve_row.ensures in
-    let columns = i.schema.columns in
-    let grown = are_kept_same columns i.columns.items (length i.sources.items) c.self.invariant.columns_are c.reserve_row.new.columns.items e.long e.same in
-    let fit = ap (fits columns) c.values.ensures ∙ ap (λ t. fits t.schema.columns c.args.row.now) c.self.view_is ∙ c.requires.fits in
-    λ k within.
-    let there : k < length columns = omega (arith, within, grown.long) in
-    taken_in_range (column_at columns k) (kept_at c.reserve_row.new.columns.items k) (length i.sources.items) (grown.each k there)
-    (entry_at c.values.result.now k) (fits-at columns c.values.result.now k fit there)
+    let n = length i.sources.items in
+    let grown = are_kept_same i.schema.columns i.columns.items n c.self.invariant.columns_are c.reserve_row.new.columns.items e.long e.same in
+    let fit = ap (fits i.schema.columns) c.values.ensures ∙ ap (λ t. fits t.schema.columns c.args.row.now) c.self.view_is ∙ c.requires.fits in
+    row_in_range i.schema.columns c.reserve_row.new.columns.items n grown c.values.result.now fit
 
 pub push_row-requires-clause-narrow : goal.push_row-requires-clause-narrow
 push_row-requires-clause-narrow c =
     let i = c.self.inside in
     let e = c.in_ok-reserve_row.ensures in
-    let columns = i.schema.columns in
-    let grown = are_kept_same columns i.columns.items (length i.sources.items) c.self.invariant.columns_are c.reserve_row.new.columns.items e.long e.same in
-    let fit = ap (fits columns) c.values.ensures ∙ ap (λ t. fits t.schema.columns c.args.row.now) c.self.view_is ∙ c.requires.fits in
-    λ k within.
-    let there : k < length columns = omega (arith, within, grown.long) in
-    taken_narrow (column_at columns k) (kept_at c.reserve_row.new.columns.items k) (length i.sources.items) (grown.each k there)
-    (entry_at c.values.result.now k) (fits-at columns c.values.result.now k fit there)
+    let n = length i.sources.items in
+    let grown = are_kept_same i.schema.columns i.columns.items n c.self.invariant.columns_are c.reserve_row.new.columns.items e.long e.same in
+    let fit = ap (fits i.schema.columns) c.values.ensures ∙ ap (λ t. fits t.schema.columns c.args.row.now) c.self.view_is ∙ c.requires.fits in
+    row_narrow i.schema.columns c.reserve_row.new.columns.items n grown c.values.result.now fit
 
 pub invariant_of-self-2 : goal.invariant_of-self-2
 invariant_of-self-2 c =
@@ -66,12 +60,14 @@ invariant_of-self-2 c =
     let grown = are_kept_same columns i.columns.items n c.self.invariant.columns_are c.reserve_row.new.columns.items e.long e.same in
     let sources = c.push_row.ensures.sources ∙ ap (λ xs. xs ++ c.args.feeder ∷ []) e.sources in
     let rows = ap (λ t. length t.rows) (sym c.self.view_is) ∙ length-fed_rows i.sources.items i.columns.items in
+    let fit = ap (fits columns) c.values.ensures ∙ ap (λ t. fits t.schema.columns c.args.row.now) c.self.view_is ∙ c.requires.fits in
+    let taken = row_in_range columns c.reserve_row.new.columns.items n grown c.values.result.now fit in
     let one : length c.push_row.new.sources.items ≡ n + 1 = ap length sources ∙ omega (arith, length-append i.sources.items (c.args.feeder ∷ [])) in
     let from : All (λ source. source < i.feeders) (i.sources.items ++ c.args.feeder ∷ []) =
     All-push (λ source. source < i.feeders) i.sources.items c.args.feeder c.self.invariant.from (omega (arith, c.requires.feeder, ap (λ t. t.feeders) c.self.view_is)) in
     record {
       columns_are = subst (AreKept columns c.push_row.new.columns.items) (sym one)
-          (are_kept_more columns c.reserve_row.new.columns.items n grown c.push_row.new.columns.items c.push_row.ensures.long c.values.result.now c.push_row.ensures.more);
+          (are_kept_more columns c.reserve_row.new.columns.items n grown c.push_row.new.columns.items c.push_row.ensures.long c.values.result.now taken c.push_row.ensures.more);
       few = c.self.invariant.few;
       from = subst (All (λ source. source < i.feeders)) (sym sources) from;
       within = omega (arith, one, rows, ap (λ t. t.limit) c.self.view_is, c.self.invariant.within);

@@ -1,0 +1,16 @@
+use Rattle.std.proofs.Common.{subst}
+use Rattle.bsi_table.specs.Table.{AreFitting}
+use Rattle.bsi_table.proofs.Keeping.{row_in-fits}
+use Rattle.bsi_table.proofs.TableRows.{All-fed_rows}
+use Rattle.bsi_table.specs.Table.{fed_rows}
+use Rattle.std.proofs.Common.{◌≡◌, length, true}
+use Rattle.bsi_table.specs.Columns.{fits}
+use Rattle.bsi_table.proofs.index.Index.schema.Goals as goal
+
+pub returns-clause-fitting : goal.returns-clause-fitting
+returns-clause-fitting c =
+    let i = c.self.inside in
+    let rows : AreFitting i.schema.columns (fed_rows i.sources.items i.columns.items) =
+    All-fed_rows i.sources.items i.columns.items (λ row. fits i.schema.columns row.1 ≡ true)
+    (λ r below. row_in-fits i.schema.columns i.columns.items (length i.sources.items) c.self.invariant.columns_are r below) in
+    subst (λ t. AreFitting t.schema.columns t.rows) c.self.view_is rows
