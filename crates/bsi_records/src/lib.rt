@@ -10,7 +10,7 @@ mod setups;
 #[cfg(test)]
 mod tests;
 
-pub use lines::write_reply;
+pub use lines::{write_bad, write_fed, write_reply};
 pub use numbers::{read_number, read_signed, read_value};
 pub use queries::read_query;
 pub use records::{read_event, read_row};

@@ -2,7 +2,7 @@
 
 ghost use Rattle.std.specs.Prelude.{◌≡◌, ◌++◌, OnErr, OnOk, codes, decimal};
 ghost use Rattle.std.specs.Io.{StartsWith};
-ghost use Rattle.bsi_records.specs.Lines.{answer_line, ask_line, close_line, load_line, reply_line, rows_text, submit_line};
+ghost use Rattle.bsi_records.specs.Lines.{answer_line, ask_line, bad_line, close_line, fed_line, load_line, reply_line, rows_text, submit_line};
 
 use bsi_load::{CloseRefused, LoadRefused, Reply, SubmitRefused};
 use bsi_table::{Answer, AskError};
@@ -20,6 +20,43 @@ pub fn write_reply(reply: &Reply, line: &mut Vec<u8>) -> Result<(), NoMemory>
         line.truncate(length);
     }
     written
+}
+
+/// Appends the line of a record that is bad, with its line feed, whole or not at all.
+pub fn write_bad(line: &mut Vec<u8>) -> Result<(), NoMemory>
+    ensures ok { OnOk result (line.new.items ≡ line.old.items ++ bad_line) }
+    ensures err { OnErr result (line.new.items ≡ line.old.items) }
+{
+    line.extend_from_slice(b"bad\n")
+}
+
+/// Appends the line of a feeder that read a file, with its line feed, whole or not at all: its number, how many of its rows were
+/// accepted, and how many of its records were bad.
+pub fn write_fed(feeder: u32, accepted: u64, bad: u64, line: &mut Vec<u8>) -> Result<(), NoMemory>
+    ensures ok { OnOk result (line.new.items ≡ line.old.items ++ fed_line feeder accepted bad) }
+    ensures err { OnErr result (line.new.items ≡ line.old.items) }
+{
+    let before = line.len();
+    let written = write_counts(feeder, accepted, bad, line);
+    if written.is_err() {
+        line.truncate(before);
+    }
+    written
+}
+
+/// Appends the line of a feeder that read a file, or a first part of it.
+fn write_counts(feeder: u32, accepted: u64, bad: u64, line: &mut Vec<u8>) -> Result<(), NoMemory>
+    ensures ok { OnOk result (line.new.items ≡ line.old.items ++ fed_line feeder accepted bad) }
+    ensures begins { StartsWith line.new.items line.old.items }
+{
+    let mut digits = Buffer::new();
+    line.extend_from_slice(b"fed ")?;
+    line.extend_from_slice(digits.format(feeder).as_bytes())?;
+    line.extend_from_slice(b" ")?;
+    line.extend_from_slice(digits.format(accepted).as_bytes())?;
+    line.extend_from_slice(b" ")?;
+    line.extend_from_slice(digits.format(bad).as_bytes())?;
+    line.extend_from_slice(b"\n")
 }
 
 /// Appends the line of a reply, or a first part of it.

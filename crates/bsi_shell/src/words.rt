@@ -1,6 +1,6 @@
 //! The command line: the words behind the program's name, and the status that they end with.
-ghost use Rattle.std.specs.Prelude.{◌≡◌, ◌≤◌, IfSome, OnOk};
-ghost use Rattle.bsi_text.specs.Texts.{IsAnswered};
+ghost use Rattle.std.specs.Prelude.{◌≡◌, ◌≤◌, IfSome, OnErr, OnOk};
+ghost use Rattle.bsi_text.specs.Texts.{IsAnswered, IsBegun};
 
 use bsi_text::{ScriptFault, run_script};
 use clap::error::ErrorKind;
@@ -33,11 +33,14 @@ pub fn run_words<R: AllocGlobal, I: Read + Drop, O: Write, F: Write>(
 ) -> u8
     ensures status { result ≤ 2 }
 
-    // A run with no fault has answered the whole input and says nothing, and after status 2 nothing was written.
+    // A run with no fault has answered the whole input and says nothing. After status 1 what was written is a first part of the
+    // lines that answer the whole input, and after status 2 nothing was.
     ensures answered { result ≡ 0 → IfSome (I.remaining input) (λ bytes. IsAnswered bytes (O.contents output.old) (O.contents output.new)) }
+    ensures begun { result ≡ 1 → IfSome (I.remaining input) (λ bytes. IsBegun bytes (O.contents output.old) (O.contents output.new)) }
     ensures quiet { result ≡ 0 → F.contents faults.new ≡ F.contents faults.old }
     ensures wrong { result ≡ 2 → O.contents output.new ≡ O.contents output.old }
 {
+    bsi_text::laws::begun();
     match read_words(rt.alloc(), &words) {
         Request::Script => match run_to_end(rt.alloc(), input, output) {
             Ok(()) => 0,
@@ -82,8 +85,10 @@ fn run_to_end<I: Read + Drop, O: Write>(
     input: I,
     output: &mut O,
 ) -> Result<(), ScriptFault>
-    ensures { OnOk result (IfSome (I.remaining input) (λ bytes. IsAnswered bytes (O.contents output.old) (O.contents output.new))) }
+    ensures ok { OnOk result (IfSome (I.remaining input) (λ bytes. IsAnswered bytes (O.contents output.old) (O.contents output.new))) }
+    ensures fault { OnErr result (IfSome (I.remaining input) (λ bytes. IsBegun bytes (O.contents output.old) (O.contents output.new))) }
 {
+    bsi_text::laws::begun();
     let run = run_script(alloc, input, output);
     match output.flush() {
         Ok(()) => run,

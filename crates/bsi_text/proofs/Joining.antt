@@ -4,7 +4,7 @@ use Rattle.std.proofs.lemmas.List.{length-append}
 use Rattle.std.proofs.lemmas.List.Elements.{filter_map-append}
 use Rattle.std.proofs.lemmas.List.Sums.{sum_by-append}
 use Rattle.csv.specs.Machine.{next_record}
-use Rattle.csv.specs.Reading.{Reached, default_config, reader_state, source_of}
+use Rattle.csv.specs.Reading.{AreRecords, Reached, default_config, reader_state, source_of}
 use Rattle.csv.specs.declared.parser.Config.{Config}
 use Rattle.csv.specs.declared.parser.State.{State}
 use Rattle.csv.specs.declared.parser.State.TheVariants as st
@@ -12,8 +12,7 @@ use Rattle.csv.specs.declared.reader.Reader.{Reader}
 use Rattle.bsi_table.specs.Rows.{Entries}
 use Rattle.bsi_records.specs.Numbers.{Field}
 use Rattle.bsi_text.specs.RowFiles.{good_row}
-use Rattle.bsi_text.specs.Sources.{HasRead, HasTaken, IsOver, IsWhole, Layout, StandsAfter}
-use Rattle.bsi_text.specs.declared.rows.Tally.{Tally}
+use Rattle.bsi_text.specs.Sources.{HasRead, HasTaken, IsOver, IsWhole, Layout, StandsAfter, Tally}
 use Rattle.bsi_text.proofs.Taking.{bad_one}
 
 -- records and then further ones
@@ -23,8 +22,8 @@ unfolding Reached
 reach_on cfg s s1 s2 xs ys zs [] last h g = rw (h.0, h.1) g
 reach_on cfg s s1 s2 xs ys zs (r ∷ first) last h g = (h.0, h.1, h.2, reach_on cfg h.0.1 s1 s2 h.0.2 ys zs first last h.3 g)
 
-module _ {R : Type 0} (rem : R → Option (List ℕ)) (layout : Layout) (a b c : Reader R) where
-  read_both : (first last : List (List Field)) → HasRead rem a b first → HasRead rem b c last → HasRead rem a c (first ++ last)
+module _ {R : Type 0} (rem : R → Option (List ℕ)) (a b c : Reader R) where
+  pub read_both : (first last : List (List Field)) → HasRead rem a b first → HasRead rem b c last → HasRead rem a c (first ++ last)
   read_both first last = by (source_of rem a) (source_of rem b) (source_of rem c)
     where
       by : (o p q : Option (List ℕ))
@@ -36,13 +35,14 @@ module _ {R : Type 0} (rem : R → Option (List ℕ)) (layout : Layout) (a b c :
       by (Some xs) (Some ys) None h g = absurd g
       by (Some xs) (Some ys) (Some zs) h g = reach_on default_config _ _ _ xs ys zs first last h g
 
+module _ {R : Type 0} (rem : R → Option (List ℕ)) (layout : Layout) (a b c : Reader R) where
   pub taken_both : (start middle end : Tally) (xs ys : List Entries) → HasTaken rem layout a b start middle xs → HasTaken rem layout b c middle end ys
       → HasTaken rem layout a c start end (xs ++ ys)
   taken_both start middle end xs ys one two =
       let bads = sum_by-append (bad_one layout) one.records two.records in
       record {
         records = one.records ++ two.records;
-        read = read_both one.records two.records one.read two.read;
+        read = read_both rem a b c one.records two.records one.read two.read;
         good = filter_map-append (good_row layout.schema layout.header) one.records two.records ∙ ap₂ (λ p q. p ++ q) one.good two.good;
         passed = omega (arith, one.passed, two.passed, length-append {A = List Field} one.records two.records);
         bad = omega (arith, one.bad, two.bad, bads);
@@ -73,3 +73,19 @@ module _ {R : Type 0} (rem : R → Option (List ℕ)) (layout : Layout) (a b : R
             passed = taken.passed;
             bad = taken.bad;
           }
+
+-- a text that was read from its start to its end
+pub read_whole : {R : Type 0} (rem : R → Option (List ℕ)) (a b : Reader R) (text : List ℕ) (records : List (List Field)) → reader_state a ≡ st.StartRecord
+    → source_of rem a ≡ Some text → HasRead rem a b records → IsOver rem b → AreRecords default_config st.StartRecord text records
+read_whole rem a b text records start known read over =
+    by (source_of rem b) refl (subst (λ o. IfSome o (λ xs. MatchOption (source_of rem b) ⊥ (λ ys. Reached default_config (reader_state a) xs records (reader_state b) ys))) known read)
+  where
+    by : (o : Option (List ℕ)) → source_of rem b ≡ o → MatchOption o ⊥ (λ ys. Reached default_config (reader_state a) text records (reader_state b) ys)
+        → AreRecords default_config st.StartRecord text records
+    by None is reached = absurd reached
+    by (Some ys) is reached = (
+      reader_state b,
+      ys,
+      subst (λ s. Reached default_config s text records (reader_state b) ys) start reached,
+      subst (λ o. IfSome o (λ rest. next_record default_config (reader_state b) [] [] rest ≡ None)) is over,
+    )

@@ -2,6 +2,7 @@ mod AllRecords
 mod Determined
 mod Joining
 mod Layouts
+mod Left
 mod Named
 mod Pasts
 mod Standing

@@ -94,6 +94,28 @@ there_is : (cfg : Config) (s : State) (xs : List ℕ) (k : Option (List ℕ)) (f
 there_is cfg s xs None fields s2 reads = absurd reads
 there_is cfg s xs (Some ys) fields s2 reads = next_is (next_record cfg s [] [] xs) fields s2 ys reads
 
+-- all lines are a first part of themselves
+pub answered_begun : (bytes : List ℕ) (before after : Option (List ℕ)) → IsAnswered bytes before after → IsBegun bytes before after
+answered_begun bytes before after answered =
+    let lines = answered.written.0 in
+    record {
+      records = answered.records;
+      all = answered.all;
+      written = (
+        lines,
+        length (concat lines),
+        answered.written.1,
+        subst (Appends before after) (sym (take_all (length (concat lines)) (concat lines) (omega arith))) answered.written.2,
+      );
+    }
+
+-- and so are none
+pub nothing_begun : (bytes : List ℕ) (before : Option (List ℕ)) → IsBegun bytes before before
+unfolding Reached
+nothing_begun bytes before =
+    begun (Declaring nothing_declared) bytes st.StartRecord (strip_bom bytes) [] [] 0 before before (refl, refl) (no_turn (Declaring nothing_declared)) (omega arith)
+    (appends-none before)
+
 -- what was written are whole lines
 pub stands_stopped : (stage : Stage) (bytes : List ℕ) (state : State) (source : Option (List ℕ)) (count : ℕ) (before after : Option (List ℕ))
     → StandsAt stage bytes state source count before after → IsStopped bytes before after

@@ -1,13 +1,14 @@
 -- Records that a row source takes, one after another.
-use Rattle.std.proofs.Common.{◌≡◌, ℕ, ◌+◌, ◌<◌, ◌≤◌, true, false, List, [], ◌∷◌, ◌++◌, Option, Some, None, IsSome, IfSome, MatchOption, Result, Ok, Err, option_map, refl, sym, ap, ap₂, subst, ◌∙◌, arith, cond}
-use Rattle.std.specs.Prelude.{◌≢◌, IfErr, IsErrAnd}
+use Rattle.std.proofs.Common.{◌≡◌, ℕ, ◌+◌, ◌<◌, ◌≤◌, Bool, true, false, if◌then◌else◌, List, [], ◌∷◌, ◌++◌, Option, Some, None, IsSome, IfSome, MatchOption, Result, Ok, Err, option_map, refl, sym, ap, ap₂, subst, ◌∙◌, arith, cond}
+use Rattle.std.specs.Prelude.{IfErr, IsErrAnd}
 use Rattle.std.specs.List.{cons_option}
 use Rattle.std.specs.Option.{is_none}
 use Rattle.std.proofs.lemmas.List.{length-append}
 use Rattle.std.proofs.lemmas.List.Elements.{filter_map-append}
 use Rattle.std.proofs.lemmas.List.Sums.{sum_by_push}
 use Rattle.csv.proofs.ReadFacts.{rows-end, rows-more}
-use Rattle.csv.specs.Machine.{Read, next_record}
+use Rattle.csv.specs.Machine.{next_record}
+use Rattle.csv.specs.Machine as machine
 use Rattle.csv.specs.Reading.{ReadRecord, Reached, default_config, reader_config, reader_state, source_of, strip_bom}
 use Rattle.csv.specs.declared.parser.State.{State}
 use Rattle.csv.specs.declared.parser.State.TheVariants as st
@@ -16,10 +17,9 @@ use Rattle.bsi_table.specs.Columns.{Declared}
 use Rattle.bsi_table.specs.Rows.{Entries}
 use Rattle.bsi_records.specs.Numbers.{Field}
 use Rattle.bsi_text.specs.RowFiles.{bad_count, good_row, is_header}
-use Rattle.bsi_text.specs.Sources.{HasEnded, HasMore, HasRead, HasStopped, HasNoHeader, HasTaken, IsOver, IsPlain, IsTally, Layout, StandsAfter}
+use Rattle.bsi_text.specs.Sources.{HasEnded, HasMore, HasRead, HasStopped, HasNoHeader, HasTaken, IsOver, IsPlain, IsTally, Layout, StandsAfter, Tally}
 use Rattle.bsi_text.specs.declared.rows.SourceFault.{SourceFault}
-use Rattle.bsi_text.specs.declared.rows.SourceFault.TheVariants.{BadHeader, NoMemory, TooLong}
-use Rattle.bsi_text.specs.declared.rows.Tally.{Tally}
+use Rattle.bsi_text.specs.declared.rows.SourceFault.TheVariants.{NoMemory, Read, TooLong}
 
 -- no record was read
 nothing_read : (o : Option (List ℕ)) (s : State) → IfSome o (λ xs. MatchOption o ⊥ (λ rest. Reached default_config s xs [] s rest))
@@ -69,6 +69,11 @@ module _ {R : Type 0} (rem : R → Option (List ℕ)) (a b c : Reader R) (fields
       by (Some ys) e =
           let more = rows-more rem b c fields default_config (reader_state b) ys ys [] plain e (refl, refl) next in
           subst IsSome (sym more.2.1) refl
+
+-- one record was read
+pub one_read : {R : Type 0} (rem : R → Option (List ℕ)) (a b : Reader R) (fields : List Field) → reader_config a ≡ default_config → ReadRecord rem a b true fields
+    → HasRead rem a b (fields ∷ [])
+one_read rem a b fields plain next = read_more rem a a b fields plain [] (nothing_read (source_of rem a) (reader_state a)) next
 
 -- the bad ones among records
 abbrev pub bad_one : Layout → List Field → ℕ
@@ -130,9 +135,10 @@ module _ {R : Type 0} (rem : R → Option (List ℕ)) (layout : Layout) (old b :
   has_ended c fields next = record { at = b; taken = are.taken; over = is_over rem old b c fields are.plain.config next }
 
   -- a record can't be read
-  pub read_fails : {T : Type 0} (r : Result T SourceFault) → IsErrAnd r (λ fault. (fault ≢ BadHeader) × (fault ≢ TooLong)) → IfErr r (HasStopped rem layout old before after)
-  read_fails (Ok found) is = tt
-  read_fails (Err fault) is = record { at = b; taken = are.taken; later = is.0; too_long = λ long. absurd (is.1 long) }
+  pub read_fails : {T : Type 0} (io : Bool) (r : Result T SourceFault) → IsErrAnd r (λ fault. fault ≡ (if io then Read else NoMemory)) → IfErr r (HasStopped rem layout old before after)
+  read_fails io (Ok found) is = tt
+  read_fails true (Err fault) is = record { at = b; taken = are.taken; later = λ bad. cc (is, bad); too_long = λ long. cc (is, long) }
+  read_fails false (Err fault) is = record { at = b; taken = are.taken; later = λ bad. cc (is, bad); too_long = λ long. cc (is, long) }
 
   -- memory is wanted for a row
   pub memory_fails : {T : Type 0} (r : Result T SourceFault) → IsErrAnd r (λ fault. fault ≡ NoMemory) → IfErr r (HasStopped rem layout old before after)
@@ -157,7 +163,7 @@ of_text P (Some bytes) source is holds = subst (λ o. IfSome o P) is holds
 
 module _ {R : Type 0} (rem : R → Option (List ℕ)) (a b : Reader R) (fields : List Field) (plain : reader_config a ≡ default_config) (start : reader_state a ≡ st.StartRecord) where
   first_read : (text : List ℕ) → source_of rem a ≡ Some text → ReadRecord rem a b true fields
-      → (p : Read) × (next_record default_config st.StartRecord [] [] text ≡ Some p) × (fields ≡ p.0) × (reader_state b ≡ p.1) × (source_of rem b ≡ Some p.2)
+      → (p : machine.Read) × (next_record default_config st.StartRecord [] [] text ≡ Some p) × (fields ≡ p.0) × (reader_state b ≡ p.1) × (source_of rem b ≡ Some p.2)
   unfolding Reached
   first_read text known next =
       let more = rows-more rem a b fields default_config (reader_state a) text text [] plain known (refl, refl) next in

@@ -1,4 +1,5 @@
 pub mod Pasts
+pub mod RecordTexts
 pub mod RowFiles
 pub mod Scripts
 pub mod Sessions

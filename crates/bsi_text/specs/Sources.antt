@@ -1,7 +1,9 @@
 -- The source of the rows of a row file.
-use Rattle.std.specs.Prelude.{◌≡◌, ◌≢◌, ℕ, ◌+◌, ◌≤◌, List, [], ◌∷◌, Option, None, Some, IsSome, IfSome, length, false, MatchOption}
+use Rattle.std.specs.Prelude.{◌≡◌, ◌≢◌, ◌⊎◌, ℕ, ◌+◌, ◌≤◌, List, [], ◌∷◌, Option, None, Some, Result, IsSome, IsTrue, IfSome, length, false, MatchOption}
 use Rattle.csv.specs.Machine.{next_record}
-use Rattle.csv.specs.Reading.{AreRecords, Ready, Reached, default_config, reader_config, reader_state, reader_trim, source_of}
+use Rattle.csv.specs.Reading.{AreRecords, Ready, Reached, default_config, is_flexible, is_io, reader_config, reader_state, reader_trim, source_of}
+use Rattle.csv.specs.declared.error.ErrorKind.{ErrorKind}
+use Rattle.csv.specs.declared.error.ErrorKind.TheVariants as error
 use Rattle.csv.specs.declared.parser.State.TheVariants as st
 use Rattle.csv.specs.declared.reader.Reader.{Reader}
 use Rattle.csv.specs.declared.reader.Trim.TheVariants as trim
@@ -9,29 +11,44 @@ use Rattle.bsi_table.specs.Columns.{Declared}
 use Rattle.bsi_table.specs.Rows.{Entries}
 use Rattle.bsi_records.specs.Numbers.{Field}
 use Rattle.bsi_text.specs.RowFiles.{bad_count, good_rows, is_header}
-use Rattle.bsi_text.specs.declared.rows.Progress.{Progress}
 use Rattle.bsi_text.specs.declared.rows.SourceFault.{SourceFault}
 use Rattle.bsi_text.specs.declared.rows.SourceFault.TheVariants.{BadHeader, TooLong}
-use Rattle.bsi_text.specs.declared.rows.Tally.{Tally}
 
 -- the columns of a row file, and its header
 pub record Layout : Type 0 where
   pub schema : Declared
   pub header : List Field
 
+-- how many records were taken, and how many of them were bad
+pub record Tally : Type 0 where
+  pub passed : ℕ
+  pub bad : ℕ
+
+abbrev pub tally_of : ℕ → ℕ → Tally
+tally_of passed bad = record { passed = passed; bad = bad }
+
+-- how a source ended: with all that there is, or by a fault; none while there may be more
+abbrev pub End : Type 0
+End = Option (Result (Unit {0}) SourceFault)
+
 -- a row source: its file's layout, what it reads from, how many records it took behind the header and how many of these were
--- bad, and whether it goes on
+-- bad, and how it ended
 pub record Source (R : Type 0) : Type 0 where
   pub layout : Layout
   pub input : Reader R
   pub tally : Tally
-  pub progress : Progress
+  pub end : End
 
--- the reader gives one record after another, as they stand
+-- the reader gives one record after another, as they stand, each of any number of fields
 pub record IsPlain {R : Type 0} (input : Reader R) : Type 0 where
   pub trims : reader_trim input ≡ trim.None
   pub ready : Ready input
   pub config : reader_config input ≡ default_config
+  pub flexible : IsTrue (is_flexible input)
+
+-- why such a reader gives no record: what it reads from failed, or there is no memory
+abbrev pub IsReadFault : ErrorKind → Type 0
+IsReadFault kind = IsTrue (is_io kind) ⊎ (kind ≡ error.OutOfMemory)
 
 -- a reader that had these bytes left has read these records of them
 abbrev pub HasReadOf : {R : Type 0} → (R → Option (List ℕ)) → Reader R → Reader R → List (List Field) → List ℕ → Type 0
@@ -80,6 +97,30 @@ HasGiven rem layout old new before after found =
 pub record IsTally (tally : Tally) : Type 0 where
   pub few : tally.passed ≤ 1000000
   pub bad : tally.bad ≤ tally.passed
+
+-- ---- what is left of a text
+
+-- these are all records that a reader has left, of bytes that are known
+abbrev pub AreLeft : {R : Type 0} → (R → Option (List ℕ)) → Reader R → List (List Field) → Type 0
+AreLeft rem input records = MatchOption (source_of rem input) ⊥ (λ rest. AreRecords default_config (reader_state input) rest records)
+
+-- these are the rows of the good ones among them, and so many are bad
+pub record HasLeft {R : Type 0} (rem : R → Option (List ℕ)) (layout : Layout) (input : Reader R) (rows : List Entries) (bad : ℕ) : Type 0 where
+  pub records : List (List Field)
+  pub left : AreLeft rem input records
+  pub good : good_rows layout.schema layout.header records ≡ rows
+  pub others : bad_count layout.schema layout.header records ≡ bad
+
+-- the good rows that a source still has, and how many bad records: none once it has ended
+abbrev pub StillHas : {R : Type 0} → (R → Option (List ℕ)) → Source R → List Entries → ℕ → Type 0
+StillHas rem source rows bad = MatchOption source.end (HasLeft rem source.layout source.input rows bad) (λ end. (rows ≡ []) × (bad ≡ 0))
+
+-- a source gave the first row of those that it still had, and has the others now; or it had none. Bad records were counted.
+abbrev pub GivesFirst : {R : Type 0} → (R → Option (List ℕ)) → Source R → Source R → Option Entries → Type 0
+GivesFirst rem old new found =
+    (rows : List Entries) → (bad : ℕ) → StillHas rem old rows bad
+    → MatchOption found ((rows ≡ []) × (new.tally.bad ≡ old.tally.bad + bad))
+    (λ row. (rest : List Entries) × (left : ℕ) × (rows ≡ row ∷ rest) × StillHas rem new rest left × (new.tally.bad + left ≡ old.tally.bad + bad))
 
 -- a reader stands after the first record of a text, which is the header
 abbrev pub StandsAfter : {R : Type 0} → (R → Option (List ℕ)) → Layout → Reader R → List ℕ → Type 0

@@ -1,6 +1,9 @@
 //! What follows of every script run, as contracts of functions that do nothing.
 
-ghost use Rattle.std.specs.Prelude.{◌≡◌, ◌++◌, ℕ, List};
+ghost use Rattle.std.specs.Prelude.{◌≡◌, ◌+◌, ◌++◌, ◌∷◌, [], ℕ, List, Option, Some, IsSome};
+ghost use mathlib.Core.List.{IsPrefix};
+ghost use Rattle.csv.specs.Reading.{reader_state, source_of, strip_bom};
+ghost use Rattle.csv.specs.declared.parser.State.TheVariants as st;
 ghost use Rattle.csv.specs.declared.reader.Reader.{Reader};
 ghost use Rattle.bsi_load.specs.Shown.{Shown};
 ghost use Rattle.bsi_table.specs.Rows.{Entries};
@@ -8,9 +11,8 @@ ghost use Rattle.bsi_records.specs.Numbers.{Field};
 ghost use Rattle.bsi_text.specs.Pasts.{FindMemory, HasPast};
 ghost use Rattle.bsi_text.specs.Scripts.{AreTurns, Declaring, IsScriptRun, Running};
 ghost use Rattle.bsi_records.specs.Setups.{nothing_declared};
-ghost use Rattle.bsi_text.specs.Sources.{HasTaken, IsOver, IsWhole, Layout, StandsAfter};
-ghost use Rattle.bsi_text.specs.Texts.{AreAllRecords};
-ghost use Rattle.bsi_text.specs.declared.rows.Tally.{Tally};
+ghost use Rattle.bsi_text.specs.Sources.{HasLeft, HasRead, HasTaken, IsOver, IsWhole, Layout, StandsAfter, Tally};
+ghost use Rattle.bsi_text.specs.Texts.{AreAllRecords, IsAnswered, IsBegun};
 
 use std::io::Read;
 
@@ -45,4 +47,49 @@ pub fn taken_in_turn<R: Read + Drop>()
 pub fn rows_of_a_file<R: Read + Drop>()
     ensures { (layout : Layout) → (a b : Reader R) → (text : List ℕ) → (start end : Tally) → (rows : List Entries)
         → StandsAfter R.remaining layout a text → HasTaken R.remaining layout a b start end rows → IsOver R.remaining b → IsWhole layout text start end rows }
+{}
+
+/// Before the first call of a row source nothing was taken.
+pub fn none_taken<R: Read + Drop>()
+    ensures { (layout : Layout) → (input : Reader R) → (tally : Tally) → HasTaken R.remaining layout input input tally tally [] }
+{}
+
+/// A reader whose bytes are known has rows of good records left and so many bad ones, and no others.
+pub fn rows_left<R: Read + Drop>()
+    ensures some { (layout : Layout) → (input : Reader R) → IsSome (source_of R.remaining input)
+        → (rows : List Entries) × (bad : ℕ) × HasLeft R.remaining layout input rows bad }
+    ensures one { (layout : Layout) → (input : Reader R) → (xs ys : List Entries) → (m n : ℕ)
+        → HasLeft R.remaining layout input xs m → HasLeft R.remaining layout input ys n → (xs ≡ ys) × (m ≡ n) }
+{}
+
+/// Rows that were taken are the first of those that the reader had left, also without the last of them; where no record is left
+/// they are all of them, and the bad ones were counted. With the rows that are still left they are those that it had.
+pub fn taken_of_left<R: Read + Drop>()
+    ensures first { (layout : Layout) → (a b : Reader R) → (start end : Tally) → (xs rows : List Entries) → (n : ℕ)
+        → HasTaken R.remaining layout a b start end xs → HasLeft R.remaining layout a rows n → IsPrefix xs rows }
+    ensures without_last { (layout : Layout) → (a b : Reader R) → (start end : Tally) → (xs : List Entries) → (last : Entries) → (rows : List Entries) → (n : ℕ)
+        → HasTaken R.remaining layout a b start end (xs ++ last ∷ []) → HasLeft R.remaining layout a rows n → IsPrefix xs rows }
+    ensures all { (layout : Layout) → (a b : Reader R) → (start end : Tally) → (xs rows : List Entries) → (n : ℕ)
+        → HasTaken R.remaining layout a b start end xs → IsOver R.remaining b → HasLeft R.remaining layout a rows n → (xs ≡ rows) × (end.bad ≡ start.bad + n) }
+    ensures rest { (layout : Layout) → (a b : Reader R) → (start end : Tally) → (xs ys : List Entries) → (n : ℕ) → IsSome (source_of R.remaining a)
+        → HasTaken R.remaining layout a b start end xs → HasLeft R.remaining layout b ys n
+        → (m : ℕ) × HasLeft R.remaining layout a (xs ++ ys) m × (start.bad + m ≡ end.bad + n) }
+{}
+
+/// What is read call after call is read as by one call: the records of all, in their order.
+pub fn read_in_turn<R: Read + Drop>()
+    ensures { (a b c : Reader R) → (first last : List (List Field))
+        → HasRead R.remaining a b first → HasRead R.remaining b c last → HasRead R.remaining a c (first ++ last) }
+{}
+
+/// What was read from the start of a text to where no record is left are all its records.
+pub fn records_of_a_text<R: Read + Drop>()
+    ensures { (a b : Reader R) → (bytes : List ℕ) → (records : List (List Field)) → reader_state a ≡ st.StartRecord
+        → source_of R.remaining a ≡ Some (strip_bom bytes) → HasRead R.remaining a b records → IsOver R.remaining b → AreAllRecords bytes records }
+{}
+
+/// Where the lines of all records were written, or nothing was, a first part of the lines was.
+pub fn begun()
+    ensures answered { (bytes : List ℕ) → (before after : Option (List ℕ)) → IsAnswered bytes before after → IsBegun bytes before after }
+    ensures nothing { (bytes : List ℕ) → (before : Option (List ℕ)) → IsBegun bytes before before }
 {}

@@ -1,10 +1,10 @@
 //! The header of a row file, and the rows that its records give.
 
-ghost use Rattle.std.specs.Prelude.{◌≡◌, ℕ, List, [], get_or, if◌then◌else◌, nat_eq, map, not, length, count_by, Option, Some, None, is_some, IfOk};
+ghost use Rattle.std.specs.Prelude.{◌≡◌, ℕ, List, [], get_or, if◌then◌else◌, nat_eq, map, not, length, count_by, Option, Some, None, is_some, IfOk, IfSome, IsTrue};
 ghost use Rattle.std.specs.List.{list_all, prefix_len};
 ghost use Rattle.std.specs.Str.{bytes_eq};
 ghost use Rattle.csv.specs.Records.{fields_of};
-ghost use Rattle.bsi_table.specs.Columns.{position_of};
+ghost use Rattle.bsi_table.specs.Columns.{fits, position_of};
 ghost use Rattle.bsi_records.specs.Numbers.{values_in};
 ghost use Rattle.bsi_text.specs.RowFiles.{good_row, in_order, is_header, is_known, is_named_once, place_of};
 
@@ -60,7 +60,8 @@ impl Layout {
 
     /// Reads a record as a row; none where it is bad.
     pub(crate) fn read(&self, alloc: Global, fields: &ByteRecord) -> Result<Option<Row>, NoMemory>
-        ensures { IfOk result (λ read. read ≡ good_row self.now.schema self.now.header (fields_of fields.now)) }
+        ensures row { IfOk result (λ read. read ≡ good_row self.now.schema self.now.header (fields_of fields.now)) }
+        ensures fits { IfOk result (λ read. IfSome read (λ row. IsTrue (fits self.now.schema.columns row))) }
     {
         if fields.len() != self.header.len() {
             return Ok(None);

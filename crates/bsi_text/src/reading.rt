@@ -1,16 +1,16 @@
 //! Readers of records, and their records one after another.
 
-ghost use Rattle.std.specs.Prelude.{◌≡◌, IfOk, OnOk, option_map};
-ghost use Rattle.csv.specs.Reading.{ReadRecord, reader_state, source_of, strip_bom};
+ghost use Rattle.std.specs.Prelude.{◌≡◌, IfErr, IfOk, OnOk, option_map};
+ghost use Rattle.csv.specs.Reading.{ReadRecord, error_kind, reader_state, source_of, strip_bom};
 ghost use Rattle.csv.specs.Records.{fields_of};
 ghost use Rattle.csv.specs.declared.parser.State.TheVariants as st;
-ghost use Rattle.bsi_text.specs.Sources.{IsPlain};
+ghost use Rattle.bsi_text.specs.Sources.{IsPlain, IsReadFault};
 
 use csv::{ByteRecord, Reader, ReaderBuilder};
 use std::alloc::Global;
 use std::io::Read;
 
-/// Makes the reader of a text, whose first record is one like the others.
+/// Makes the reader of a text, whose first record is one like the others. Records may have any number of fields.
 pub(crate) fn plain_reader<R: Read + Drop>(alloc: Global, reader: R) -> Reader<R>
     ensures plain { IsPlain result }
     ensures start { reader_state result ≡ st.StartRecord }
@@ -30,6 +30,7 @@ pub(crate) fn read_next<R: Read + Drop>(
     requires plain { IsPlain input.old }
     ensures reads { IfOk result (λ found. ReadRecord R.remaining input.old input.new found (fields_of fields.new)) }
     ensures plain { OnOk result (IsPlain input.new) }
+    ensures fault { IfErr result (λ e. IsReadFault (error_kind e)) }
 {
     input.read_byte_record(fields)
 }

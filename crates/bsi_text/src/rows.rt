@@ -1,10 +1,11 @@
 //! The rows of a row file, one after another.
 
-ghost use Rattle.std.specs.Prelude.{◌≡◌, ◌≢◌, ◌≤◌, [], Option, Some, None, Ok, Err, true, is_some, if◌then◌else◌, IfOk, IfErr, IfSome, OnOk, OnErr};
+ghost use Rattle.std.specs.Prelude.{◌≡◌, ◌≢◌, ◌≤◌, [], Option, Some, None, Ok, Err, true, is_some, if◌then◌else◌, IfOk, IfErr, IfSome, IsTrue, OnOk, OnErr};
 ghost use Rattle.csv.specs.Reading.{reader_state, source_of, strip_bom};
 ghost use Rattle.csv.specs.declared.parser.State.TheVariants as st;
+ghost use Rattle.bsi_table.specs.Columns.{fits};
 ghost use Rattle.bsi_text.specs.RowFiles.{is_header};
-ghost use Rattle.bsi_text.specs.Sources.{HasGiven, HasNoHeader, HasStopped, IsPlain, IsTally, StandsAfter};
+ghost use Rattle.bsi_text.specs.Sources.{tally_of, GivesFirst, HasGiven, HasNoHeader, HasStopped, IsPlain, IsTally, StandsAfter};
 
 use crate::layout::Layout;
 use crate::reading::{plain_reader, read_next};
@@ -46,10 +47,11 @@ impl From<AllocError> for SourceFault {
 }
 
 impl From<csv::Error> for SourceFault {
-    ghost use Rattle.std.specs.Prelude.{◌≢◌};
-    ghost use Rattle.bsi_text.specs.declared.rows.SourceFault.TheVariants.{BadHeader, TooLong};
+    ghost use Rattle.std.specs.Prelude.{◌≡◌, if◌then◌else◌};
+    ghost use Rattle.csv.specs.Reading.{error_kind, is_io};
+    ghost use Rattle.bsi_text.specs.declared.rows.SourceFault.TheVariants.{NoMemory, Read};
 
-    ghost from_gives = { λ _ e. (e ≢ BadHeader) × (e ≢ TooLong) };
+    ghost from_gives = { λ error e. e ≡ (if is_io (error_kind error) then Read else NoMemory) };
 
     fn from(error: csv::Error) -> SourceFault {
         if error.is_io_error() {
@@ -58,24 +60,6 @@ impl From<csv::Error> for SourceFault {
             SourceFault::NoMemory
         }
     }
-}
-
-/// Whether a row source goes on.
-#[derive(Clone, Copy, Debug, PartialEq, Eq)]
-pub(crate) enum Progress {
-    /// There may be rows left.
-    Open,
-    /// All rows were given.
-    Ended,
-    /// A fault was met.
-    Failed(SourceFault),
-}
-
-/// How many records were taken behind the header, and how many of them were bad.
-#[derive(Clone, Copy, Debug, PartialEq, Eq)]
-pub(crate) struct Tally {
-    passed: u64,
-    bad: u64,
 }
 
 /// The rows of the good records of a row file, in their order.
@@ -87,21 +71,23 @@ pub struct RowSource<R: Read + Drop> {
     layout: Layout,
     input: Reader<R>,
     fields: ByteRecord,
-    tally: Tally,
-    progress: Progress,
+    // (records taken behind the header, and how many of them were bad)
+    passed: u64,
+    bad: u64,
+    // (none while there may be rows left)
+    end: Option<Result<(), SourceFault>>,
 }
 
-// Clauses see the layout, the reader, the counts, and whether the source goes on.
+// Clauses see the layout, the reader, the counts, and how the source ended.
 impl<R: Read + Drop> Model for RowSource<R> {
-    ghost use Rattle.std.specs.Prelude.{◌≡◌};
-    ghost use Rattle.bsi_text.specs.Sources.{IsPlain, IsTally, Source};
-    ghost use Rattle.bsi_text.specs.declared.rows.Progress.TheVariants.{Open};
+    ghost use Rattle.std.specs.Prelude.{◌≡◌, None};
+    ghost use Rattle.bsi_text.specs.Sources.{tally_of, IsPlain, IsTally, Source};
 
     ghost Value = { Source R };
 
-    ghost view = { λ s. record { layout = s.layout; input = s.input; tally = s.tally; progress = s.progress } };
+    ghost view = { λ s. record { layout = s.layout; input = s.input; tally = tally_of s.passed s.bad; end = s.end } };
 
-    ghost invariant = { λ s. IsTally s.tally × (s.progress ≡ Open → IsPlain s.input) };
+    ghost invariant = { λ s. IsTally (tally_of s.passed s.bad) × (s.end ≡ None → IsPlain s.input) };
 }
 
 impl<R: Read + Drop> RowSource<R> {
@@ -111,7 +97,7 @@ impl<R: Read + Drop> RowSource<R> {
     pub fn begin(alloc: Global, schema: &Schema, reader: R) -> Result<RowSource<R>, SourceFault>
         ensures schema { IfOk result (λ source. source.layout.schema ≡ schema.now) }
         ensures header { IfOk result (λ source. is_header schema.now source.layout.header ≡ true) }
-        ensures fresh { IfOk result (λ source. (source.tally ≡ record { passed = 0; bad = 0 }) × (source.progress ≡ Progress.Open)) }
+        ensures fresh { IfOk result (λ source. (source.tally ≡ record { passed = 0; bad = 0 }) × (source.end ≡ None)) }
         ensures behind { IfOk result (λ source. IfSome (R.remaining reader) (λ bytes. StandsAfter R.remaining source.layout source.input (strip_bom bytes))) }
         ensures bad_header { result ≡ Err SourceFault.BadHeader → IfSome (R.remaining reader) (λ bytes. HasNoHeader schema.now (strip_bom bytes)) }
         ensures short { result ≢ Err SourceFault.TooLong }
@@ -123,37 +109,44 @@ impl<R: Read + Drop> RowSource<R> {
             layout,
             input,
             fields: ByteRecord::new(alloc),
-            tally: Tally { passed: 0, bad: 0 },
-            progress: Progress::Open,
+            passed: 0,
+            bad: 0,
+            end: None,
         })
     }
 
     /// Returns the row of the next good record, none at the end and from then on. Bad records are passed over and counted.
-    /// After a fault each later call answers the same fault.
+    /// After a fault each later call answers the same fault. At most 1,000,000 records are taken.
     pub fn next_row(&mut self) -> Result<Option<Row>, SourceFault>
-        ensures failed { (fault : SourceFault) → self.old.progress ≡ Progress.Failed fault → (result ≡ Err fault) × (self.new ≡ self.old) }
-        ensures ended { self.old.progress ≡ Progress.Ended → (result ≡ Ok None) × (self.new ≡ self.old) }
-        ensures given { self.old.progress ≡ Progress.Open → IfOk result (HasGiven R.remaining self.old.layout self.old.input self.new.input self.old.tally self.new.tally) }
-        ensures goes_on { self.old.progress ≡ Progress.Open → IfOk result (λ found. self.new.progress ≡ (if is_some found then Progress.Open else Progress.Ended)) }
-        ensures stopped { self.old.progress ≡ Progress.Open → IfErr result (λ fault. HasStopped R.remaining self.old.layout self.old.input self.old.tally self.new.tally fault × (self.new.progress ≡ Progress.Failed fault)) }
+        ensures failed { (fault : SourceFault) → self.old.end ≡ Some (Err fault) → (result ≡ Err fault) × (self.new ≡ self.old) }
+        ensures ended { self.old.end ≡ Some (Ok tt) → (result ≡ Ok None) × (self.new ≡ self.old) }
+        ensures given { self.old.end ≡ None → IfOk result (HasGiven R.remaining self.old.layout self.old.input self.new.input self.old.tally self.new.tally) }
+        ensures goes_on { self.old.end ≡ None → IfOk result (λ found. self.new.end ≡ (if is_some found then None else Some (Ok tt))) }
+        ensures stopped { self.old.end ≡ None → IfErr result (λ fault. HasStopped R.remaining self.old.layout self.old.input self.old.tally self.new.tally fault × (self.new.end ≡ Some (Err fault))) }
         ensures same { self.new.layout ≡ self.old.layout }
+
+        // The row is the first of those that the source still had; it fits. No more records are taken than may be.
+        ensures first { IfOk result (GivesFirst R.remaining self.old self.new) }
+        ensures fits { IfOk result (λ found. IfSome found (λ row. IsTrue (fits self.old.layout.schema.columns row))) }
+        ensures few { self.new.tally.passed ≤ 1000000 }
     {
-        match self.progress {
-            Progress::Ended => return Ok(None),
-            Progress::Failed(fault) => return Err(fault),
-            Progress::Open => {}
+        match self.end {
+            Some(Ok(())) => return Ok(None),
+            Some(Err(fault)) => return Err(fault),
+            None => {}
         }
         let found = take_row(
             self.alloc,
             &self.layout,
             &mut self.input,
             &mut self.fields,
-            &mut self.tally,
+            &mut self.passed,
+            &mut self.bad,
         );
-        self.progress = match &found {
-            Ok(Some(_)) => Progress::Open,
-            Ok(None) => Progress::Ended,
-            Err(fault) => Progress::Failed(*fault),
+        self.end = match &found {
+            Ok(Some(_)) => None,
+            Ok(None) => Some(Ok(())),
+            Err(fault) => Some(Err(*fault)),
         };
         found
     }
@@ -163,7 +156,7 @@ impl<R: Read + Drop> RowSource<R> {
         ensures bad { result ≡ self.now.tally.bad }
         ensures within { result ≤ 1000000 }
     {
-        self.tally.bad
+        self.bad
     }
 }
 
@@ -198,25 +191,27 @@ fn take_row<R: Read + Drop>(
     layout: &Layout,
     input: &mut Reader<R>,
     fields: &mut ByteRecord,
-    tally: &mut Tally,
+    passed: &mut u64,
+    bad: &mut u64,
 ) -> Result<Option<Row>, SourceFault>
     requires plain { IsPlain input.old }
-    requires tally { IsTally tally.old }
-    ensures given { IfOk result (HasGiven R.remaining layout.now input.old input.new tally.old tally.new) }
-    ensures stopped { IfErr result (λ fault. HasStopped R.remaining layout.now input.old tally.old tally.new fault) }
+    requires tally { IsTally (tally_of passed.old bad.old) }
+    ensures given { IfOk result (HasGiven R.remaining layout.now input.old input.new (tally_of passed.old bad.old) (tally_of passed.new bad.new)) }
+    ensures stopped { IfErr result (λ fault. HasStopped R.remaining layout.now input.old (tally_of passed.old bad.old) (tally_of passed.new bad.new) fault) }
+    ensures fits { IfOk result (λ found. IfSome found (λ row. IsTrue (fits layout.now.schema.columns row))) }
     ensures plain { OnOk result (IsPlain input.new) }
-    ensures tally { IsTally tally.new }
+    ensures tally { IsTally (tally_of passed.new bad.new) }
 {
-    'records: while tally.passed < MAX_RECORDS {
+    'records: while *passed < MAX_RECORDS {
         if !read_next(input, fields)? {
             return Ok(None);
         }
         let found = layout.read(alloc, fields)?;
-        tally.passed += 1;
+        *passed += 1;
         if let Some(row) = found {
             return Ok(Some(row));
         }
-        tally.bad += 1;
+        *bad += 1;
     }
     if read_next(input, fields)? {
         return Err(SourceFault::TooLong);

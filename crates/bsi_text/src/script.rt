@@ -38,10 +38,11 @@ pub enum ScriptFault {
 }
 
 impl From<csv::Error> for ScriptFault {
-    ghost use Rattle.std.specs.Prelude.{◌≢◌};
-    ghost use Rattle.bsi_text.specs.declared.script.ScriptFault.TheVariants.{TooLong};
+    ghost use Rattle.std.specs.Prelude.{◌≡◌, if◌then◌else◌};
+    ghost use Rattle.csv.specs.Reading.{error_kind, is_io};
+    ghost use Rattle.bsi_text.specs.declared.script.ScriptFault.TheVariants.{NoMemory, Read};
 
-    ghost from_gives = { λ _ e. e ≢ TooLong };
+    ghost from_gives = { λ error e. e ≡ (if is_io (error_kind error) then Read else NoMemory) };
 
     fn from(error: csv::Error) -> ScriptFault {
         if error.is_io_error() {

@@ -9,7 +9,7 @@ ghost use Rattle.bsi_text.specs.Scripts.{IsTurn, Running};
 
 use crate::NoMemory;
 use bsi_load::{Core, Event, Reply};
-use bsi_records::{Setup, read_event, test_begin, write_reply};
+use bsi_records::{Setup, read_event, test_begin, write_bad, write_reply};
 use csv::ByteRecord;
 use std::alloc::Global;
 
@@ -80,12 +80,10 @@ impl Session {
 fn write_word(done: bool, line: &mut Vec<u8>) -> Result<(), NoMemory>
     ensures { OnOk result (line.new.items ≡ line.old.items ++ (if done then done_line else bad_line)) }
 {
-    let word = if done {
-        b"ok\n".as_slice()
-    } else {
-        b"bad\n".as_slice()
-    };
-    line.extend_from_slice(word)
+    if !done {
+        return write_bad(line);
+    }
+    line.extend_from_slice(b"ok\n")
 }
 
 /// Does what a record asks for of the machine, and writes the line that answers it.
@@ -99,7 +97,7 @@ fn run(
     ensures { OnOk result (IsTurn (Running core.old) (fields_of fields.now) line.new.items (Running core.new)) }
 {
     let Some(event) = read_event(alloc, core.schema(), fields)? else {
-        return write_word(false, line);
+        return write_bad(line);
     };
     let reply = step(alloc, core, event)?;
     write_reply(&reply, line)

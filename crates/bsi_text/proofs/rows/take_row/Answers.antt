@@ -8,7 +8,7 @@ pub records-init : goal.records-init
 records-init g c = record { taken = taken_none _ _ _ _; plain = c.requires.plain; tally = c.requires.tally }
 
 pub returns-in_err-read_next-clause-stopped : goal.returns-in_err-read_next-clause-stopped
-returns-in_err-read_next-clause-stopped g c = read_fails _ _ _ _ _ _ c.records.invariant c.from_residual.result c.from_residual.ensures.1
+returns-in_err-read_next-clause-stopped g c = read_fails _ _ _ _ _ _ c.records.invariant _ c.from_residual.result c.from_residual.ensures.1
 
 pub returns-then-not-branch-clause-given : goal.returns-then-not-branch-clause-given
 returns-then-not-branch-clause-given g c =
@@ -26,18 +26,18 @@ returns-in-Some-clause-given g c =
     let input = c.read_next.new.input in
     let fields = fields_of c.read_next.new.fields in
     let reads : ReadRecord g.R.Read.remaining c.records.input input true fields = search rules in
-    taken_good _ _ _ _ _ _ c.records.invariant input fields c.in-Some.row reads (sym c.in-Some.is ∙ c.in_ok-found.ensures)
+    taken_good _ _ _ _ _ _ c.records.invariant input fields c.in-Some.row reads (sym c.in-Some.is ∙ c.in_ok-found.ensures.row)
 
 pub records-preserved : goal.records-preserved
 records-preserved g c =
     let input = c.read_next.new.input in
     let fields = fields_of c.read_next.new.fields in
     let reads : ReadRecord g.R.Read.remaining c.records.input input true fields = search rules in
-    taken_bad _ _ _ _ _ _ c.records.invariant input fields reads c.in_ok-read_next.ensures.plain c.records-test.true (sym c.in_default.is ∙ c.in_ok-found.ensures)
+    taken_bad _ _ _ _ _ _ c.records.invariant input fields reads c.in_ok-read_next.ensures.plain c.records-test.true (sym c.in_default.is ∙ c.in_ok-found.ensures.row)
 
 pub returns-in_err-read_next-2-clause-stopped : goal.returns-in_err-read_next-2-clause-stopped
 returns-in_err-read_next-2-clause-stopped g c =
-    read_fails _ _ _ _ _ _ c.records.invariant c.from_residual-in_err-read_next-2.result c.from_residual-in_err-read_next-2.ensures.1
+    read_fails _ _ _ _ _ _ c.records.invariant _ c.from_residual-in_err-read_next-2.result c.from_residual-in_err-read_next-2.ensures.1
 
 pub returns-then-branch-clause-stopped : goal.returns-then-branch-clause-stopped
 returns-then-branch-clause-stopped g c =

@@ -1,10 +1,12 @@
 use Rattle.std.proofs.Common.{◌-◌}
+use Rattle.bsi_text.specs.Sources.{tally_of}
 use Rattle.bsi_text.proofs.Taking.{AreTaken}
 use Rattle.bsi_text.proofs.rows.take_row.Given as goal
 
 -- all records so far were bad
 abbrev pub invariant-records : goal.invariant-records
-invariant-records g l = AreTaken (g.R.Read.remaining) l.fn.layout l.initial.input l.input l.initial.tally l.tally
+invariant-records g l =
+    AreTaken (g.R.Read.remaining) l.fn.layout l.initial.input l.input (tally_of l.initial.passed l.initial.bad) (tally_of l.passed l.bad)
 
 abbrev pub decreases-records : goal.decreases-records
-decreases-records g l = 1000000 - l.tally.passed
+decreases-records g l = 1000000 - l.passed

@@ -1,0 +1,101 @@
+//! The records of a text, one after another.
+
+ghost use Rattle.std.specs.Prelude.{◌≡◌, ◌≤◌, Some, None, Ok, Err, false, option_map, IfErr, IfOk, OnOk};
+ghost use Rattle.csv.specs.Reading.{reader_state, source_of, strip_bom};
+ghost use Rattle.csv.specs.Records.{fields_of};
+ghost use Rattle.csv.specs.declared.parser.State.TheVariants as st;
+ghost use Rattle.bsi_text.specs.RecordTexts.{Stops, StopsAt, Takes, TakesNext};
+ghost use Rattle.bsi_text.specs.Sources.{IsPlain};
+
+use crate::reading::{plain_reader, read_next};
+use crate::rows::SourceFault;
+use csv::{ByteRecord, Reader};
+use std::alloc::Global;
+use std::io::Read;
+use std::marker::Model;
+
+/// The most records of a text.
+const MAX_RECORDS: u64 = 1_000_000;
+
+/// The records of a text, each of any number of fields. At most 1,000,000 are taken.
+#[derive(Drop)]
+pub struct RecordSource<R: Read + Drop> {
+    input: Reader<R>,
+    taken: u64,
+    // (none while there may be records left)
+    end: Option<Result<(), SourceFault>>,
+}
+
+// Clauses see the reader, how many records were taken, and how the source ended.
+impl<R: Read + Drop> Model for RecordSource<R> {
+    ghost use Rattle.std.specs.Prelude.{◌≡◌, ◌≤◌, None};
+    ghost use Rattle.bsi_text.specs.RecordTexts.{RecordText};
+    ghost use Rattle.bsi_text.specs.Sources.{IsPlain};
+
+    ghost Value = { RecordText R };
+
+    ghost view = { λ s. record { input = s.input; taken = s.taken; end = s.end } };
+
+    ghost invariant = { λ s. (s.taken ≤ 1000000) × (s.end ≡ None → IsPlain s.input) };
+}
+
+impl<R: Read + Drop> RecordSource<R> {
+    /// Makes the source of a reader's records. It takes no memory.
+    pub fn new(alloc: Global, reader: R) -> RecordSource<R>
+        ensures fresh { (result.taken ≡ 0) × (result.end ≡ None) }
+        ensures start { reader_state result.input ≡ st.StartRecord }
+        ensures source { source_of R.remaining result.input ≡ option_map strip_bom (R.remaining reader) }
+    {
+        RecordSource {
+            input: plain_reader(alloc, reader),
+            taken: 0,
+            end: None,
+        }
+    }
+
+    /// Takes the next record into `fields`, and returns whether there was one. After the last one each later call answers
+    /// `false`, and after a fault the same fault: `TooLong` where there is a record behind the first 1,000,000.
+    pub fn next_record(&mut self, fields: &mut ByteRecord) -> Result<bool, SourceFault>
+        ensures failed { (fault : SourceFault) → self.old.end ≡ Some (Err fault) → (result ≡ Err fault) × (self.new ≡ self.old) }
+        ensures ended { self.old.end ≡ Some (Ok tt) → (result ≡ Ok false) × (self.new ≡ self.old) }
+        ensures taken { self.old.end ≡ None → IfOk result (TakesNext R.remaining self.old self.new (fields_of fields.new)) }
+        ensures stopped { self.old.end ≡ None → IfErr result (StopsAt R.remaining self.old self.new) }
+        ensures few { self.new.taken ≤ 1000000 }
+    {
+        match self.end {
+            Some(Ok(())) => return Ok(false),
+            Some(Err(fault)) => return Err(fault),
+            None => {}
+        }
+        let found = take_record(&mut self.input, fields, &mut self.taken);
+        self.end = match found {
+            Ok(true) => None,
+            Ok(false) => Some(Ok(())),
+            Err(fault) => Some(Err(fault)),
+        };
+        found
+    }
+}
+
+/// Takes the next record, where it is one of the first 1,000,000.
+fn take_record<R: Read + Drop>(
+    input: &mut Reader<R>,
+    fields: &mut ByteRecord,
+    taken: &mut u64,
+) -> Result<bool, SourceFault>
+    requires plain { IsPlain input.old }
+    requires few { taken.old ≤ 1000000 }
+    ensures taken { IfOk result (Takes R.remaining input.old input.new taken.old taken.new (fields_of fields.new)) }
+    ensures stopped { IfErr result (Stops R.remaining input.old taken.old taken.new) }
+    ensures few { taken.new ≤ 1000000 }
+    ensures plain { OnOk result (IsPlain input.new) }
+{
+    if !read_next(input, fields)? {
+        return Ok(false);
+    }
+    if *taken == MAX_RECORDS {
+        return Err(SourceFault::TooLong);
+    }
+    *taken += 1;
+    Ok(true)
+}
