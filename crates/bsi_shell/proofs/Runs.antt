@@ -1,0 +1,38 @@
+-- What a run leaves in its output, whether it met a fault or not.
+use Rattle.std.proofs.Common.{ℕ, List, Option, Some, None, Result, Ok, Err, ◌∙◌}
+use Rattle.std.specs.Io.KnownBytes.{Appends, Keeps}
+use Rattle.std.specs.Prelude.{IfSome, OnErr, OnOk}
+use Rattle.bsi_text.specs.Texts.{IsBegun}
+
+-- what holds anyway holds after a refusal
+pub on_err : {T E : Type 0} {P : Type 0} (r : Result T E) → P → OnErr r P
+on_err (Ok x) p = tt
+on_err (Err e) p = p
+
+-- a fact of an input that is known
+pub if_some : {P Q : List ℕ → Type 0} (known : Option (List ℕ)) → ((bytes : List ℕ) → P bytes → Q bytes) → IfSome known P → IfSome known Q
+if_some None follows p = tt
+if_some (Some bytes) follows p = follows bytes p
+
+-- what follows of one that was answered, and holds of one that was not, holds of each
+pub of_each : {T E : Type 0} {P Q : List ℕ → Type 0} (known : Option (List ℕ)) (r : Result T E) → ((bytes : List ℕ) → P bytes → Q bytes)
+    → OnOk r (IfSome known P) → OnErr r (IfSome known Q) → IfSome known Q
+of_each known (Ok x) follows answered fault = if_some known follows answered
+of_each known (Err e) follows answered fault = fault
+
+-- bytes that were appended, and then kept
+appends_kept : (before middle after : Option (List ℕ)) (bytes : List ℕ) → Appends before middle bytes → Keeps middle after → Appends before after bytes
+appends_kept None middle after bytes appended kept = tt
+appends_kept (Some xs) None after bytes appended kept = absurd appended
+appends_kept (Some xs) (Some ys) None bytes appended kept = absurd kept
+appends_kept (Some xs) (Some ys) (Some zs) bytes appended kept = kept ∙ appended
+
+-- a first part of the lines, and then no more
+pub begun_kept : (before middle after : Option (List ℕ)) → Keeps middle after → (bytes : List ℕ) → IsBegun bytes before middle → IsBegun bytes before after
+begun_kept before middle after kept bytes begun =
+    let w = begun.written in
+    record {
+      records = begun.records;
+      all = begun.all;
+      written = (w.0, w.1, w.2, appends_kept before middle after _ w.3 kept);
+    }
