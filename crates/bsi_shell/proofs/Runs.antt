@@ -36,3 +36,8 @@ begun_kept before middle after kept bytes begun =
       all = begun.all;
       written = (w.0, w.1, w.2, appends_kept before middle after _ w.3 kept);
     }
+
+-- what is so of every input is so of one that is known
+pub of_any : {Q : List ℕ → Type 0} (known : Option (List ℕ)) → ((bytes : List ℕ) → Q bytes) → IfSome known Q
+of_any None each = tt
+of_any (Some bytes) each = each bytes
