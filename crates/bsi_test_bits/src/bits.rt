@@ -1,7 +1,7 @@
 //! Bits against plain loops over single bits. Each test tolerates one refused growth, and then makes the same call again.
 ghost use Rattle.std.specs.Prelude.{◌≤◌, ◌^◌};
 
-use super::*;
+use bsi_bits::{Bits, NoMemory, lanes};
 use std::alloc::Global;
 use std::test::Fail;
 

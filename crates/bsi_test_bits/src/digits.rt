@@ -1,5 +1,6 @@
 //! Worked lists of bases. Each test tolerates one refused growth, and then makes the same call again.
-use super::*;
+
+use bsi_digits::{Bases, BasesError, NoMemory, laws};
 use std::alloc::Global;
 use std::test::Fail;
 

@@ -2,8 +2,8 @@
 
 ghost use Rattle.std.specs.Prelude.{◌≤◌, ◌^◌};
 
-use crate::{Encoding, EqualityComponent, NoMemory, RangeComponent, RankedDigit};
 use bsi_bits::Bits;
+use bsi_components::{Encoding, EqualityComponent, NoMemory, RangeComponent, RankedDigit};
 use std::alloc::Global;
 use std::process::Abort;
 use std::test::Fail;
