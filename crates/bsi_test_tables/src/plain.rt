@@ -1,11 +1,14 @@
-//! Tables of several columns beside a plain one, which answers row by row from the definition.
+//! A plain table, which answers row by row from the definitions, and a plain machine over it.
 
-use super::*;
+use bsi_columns::{NoMemory, Op};
+use bsi_load::{CloseRefused, Event, LoadRefused, Reply, SubmitRefused};
+use bsi_table::{Answer, Pred, Query, Row, Total};
+use std::alloc::Global;
 
 /// The rows as they came, each with its feeder.
 #[derive(Drop)]
-pub(super) struct PlainTable {
-    pub(super) rows: Vec<(u32, Row)>,
+pub(crate) struct PlainTable {
+    pub(crate) rows: Vec<(u32, Row)>,
 }
 
 fn entry_at(row: &Row, c: u32) -> Option<i128> {
@@ -38,7 +41,7 @@ fn holds(pred: &Pred, row: &Row) -> bool {
 }
 
 impl PlainTable {
-    pub(super) fn new(alloc: Global) -> PlainTable {
+    pub(crate) fn new(alloc: Global) -> PlainTable {
         PlainTable {
             rows: Vec::new(alloc),
         }
@@ -80,7 +83,7 @@ impl PlainTable {
         Ok(Answer::Rows(listed))
     }
 
-    pub(super) fn answer(&self, alloc: Global, query: &Query) -> Result<Answer, NoMemory> {
+    pub(crate) fn answer(&self, alloc: Global, query: &Query) -> Result<Answer, NoMemory> {
         let pred = &query.pred;
         match query.total {
             Total::Count => {
@@ -109,137 +112,141 @@ enum Rank {
     Last,
 }
 
-/// A column of each form, of 16 numbers each, two of them with negative ones.
-const COLUMNS: [Declared<'static>; 3] = [
-    Declared {
-        name: "slices",
-        form: Form::Slices,
-        wide: WIDE,
-        offset: -8,
-    },
-    Declared {
-        name: "equality",
-        form: Form::Equality,
-        wide: WIDE,
-        offset: 0,
-    },
-    Declared {
-        name: "range",
-        form: Form::Range,
-        wide: WIDE,
-        offset: -3,
+/// What a column takes: so many numbers from the least one on.
+#[derive(Clone, Copy)]
+pub(crate) struct Domain {
+    pub(crate) least: i128,
+    pub(crate) size: u64,
+}
+
+impl Domain {
+    fn has(self, entry: Option<i128>) -> bool {
+        match entry {
+            None => true,
+            Some(number) => {
+                let above = number.wrapping_sub(self.least);
+                0 <= above && above < i128::from(self.size)
+            }
+        }
+    }
+
+    pub(crate) fn number(self, above: u64) -> i128 {
+        self.least.wrapping_add(i128::from(above))
+    }
+}
+
+/// What the columns take.
+pub(crate) const DOMAINS: [Domain; 4] = [
+    Domain { least: 0, size: 8 },
+    Domain { least: 0, size: 9 },
+    Domain { least: 0, size: 12 },
+    Domain {
+        least: -8,
+        size: 16,
     },
 ];
 
-const WIDE: Wide<'static> = Wide {
-    width: 4,
-    bases: &[2, 8],
-};
+pub(crate) const CAPACITY: usize = 3;
 
-const TOTALS: [Total; 9] = [
-    Total::Rows,
-    Total::Sum(0),
-    Total::Least(1),
-    Total::Greatest(2),
-    Total::Count,
-    Total::Median(0),
-    Total::Sum(2),
-    Total::Median(1),
-    Total::Least(0),
-];
+pub(crate) const LIMIT: usize = 30;
 
-// The entry of a column: a null now and then, else one of the column's numbers.
-fn entry_of(row: u64, column: &Declared, place: u64) -> Option<i128> {
-    match row.wrapping_mul(7).wrapping_add(place.wrapping_mul(3)) % 6 {
-        0 => None,
-        _ => {
-            let mixed = row
-                .wrapping_mul(0x9E37_79B9_7F4A_7C15)
-                .rotate_left(9 + 7 * (place % 3) as u32);
-            Some(i128::from(mixed % 16).wrapping_add(i128::from(column.offset)))
+fn all_fit(entries: &[Option<i128>]) -> bool {
+    entries
+        .iter()
+        .zip(&DOMAINS)
+        .all(|(entry, domain)| domain.has(*entry))
+}
+
+/// The rows of a feeder that wait, the oldest first, and whether it was closed.
+#[derive(Drop)]
+struct PlainFeeder {
+    rows: Vec<Row>,
+    closed: bool,
+}
+
+/// A list for each feeder, and the rows loaded with their feeders. A planted fault loads the newest row first.
+#[derive(Drop)]
+pub(crate) struct PlainMachine {
+    feeders: Vec<PlainFeeder>,
+    table: PlainTable,
+    newest_first: bool,
+}
+
+impl PlainMachine {
+    pub(crate) fn new(alloc: Global, newest_first: bool) -> Result<PlainMachine, NoMemory> {
+        let mut feeders = Vec::new(alloc);
+        for _ in 0..3 {
+            feeders.push(PlainFeeder {
+                rows: Vec::new(alloc),
+                closed: false,
+            })?;
+        }
+        Ok(PlainMachine {
+            feeders,
+            table: PlainTable::new(alloc),
+            newest_first,
+        })
+    }
+
+    fn submit(&mut self, f: u32, row: Row) -> Result<Reply, NoMemory> {
+        let Some(feeder) = self.feeders.get_mut(f as usize) else {
+            return Ok(Reply::Submitted(Err(SubmitRefused::UnknownFeeder(row))));
+        };
+        if feeder.closed {
+            return Ok(Reply::Submitted(Err(SubmitRefused::Closed(row))));
+        }
+        if row.values().len() != DOMAINS.len() || !all_fit(row.values()) {
+            return Ok(Reply::Submitted(Err(SubmitRefused::Misfit(row))));
+        }
+        if feeder.rows.len() == CAPACITY {
+            return Ok(Reply::Submitted(Err(SubmitRefused::Full(row))));
+        }
+        feeder.rows.push(row)?;
+        Ok(Reply::Submitted(Ok(())))
+    }
+
+    fn load(&mut self, f: u32) -> Result<Reply, NoMemory> {
+        let position = self.table.rows.len();
+        let Some(feeder) = self.feeders.get_mut(f as usize) else {
+            return Ok(Reply::Loaded(Err(LoadRefused::UnknownFeeder)));
+        };
+        if feeder.rows.is_empty() {
+            return Ok(Reply::Loaded(Err(if feeder.closed {
+                LoadRefused::Ended
+            } else {
+                LoadRefused::Empty
+            })));
+        }
+        if position == LIMIT {
+            return Ok(Reply::Loaded(Err(LoadRefused::IndexFull)));
+        }
+        let place = if self.newest_first {
+            feeder.rows.len() - 1
+        } else {
+            0
+        };
+        let row = feeder.rows.remove(place);
+        self.table.rows.push((f, row))?;
+        Ok(Reply::Loaded(Ok(position as u64)))
+    }
+
+    fn close(&mut self, f: u32) -> Result<(), CloseRefused> {
+        let Some(feeder) = self.feeders.get_mut(f as usize) else {
+            return Err(CloseRefused::UnknownFeeder);
+        };
+        if feeder.closed {
+            return Err(CloseRefused::AlreadyClosed);
+        }
+        feeder.closed = true;
+        Ok(())
+    }
+
+    pub(crate) fn step(&mut self, alloc: Global, event: Event) -> Result<Reply, NoMemory> {
+        match event {
+            Event::Submit(f, row) => self.submit(f, row),
+            Event::Load(f) => self.load(f),
+            Event::Close(f) => Ok(Reply::Closed(self.close(f))),
+            Event::Ask(query) => Ok(Reply::Answered(Ok(self.table.answer(alloc, &query)?))),
         }
     }
-}
-
-fn row_at(alloc: Global, row: u64) -> Result<Row, NoMemory> {
-    let [first, second, third] = &COLUMNS;
-    row_of(
-        alloc,
-        &[
-            entry_of(row, first, 0),
-            entry_of(row, second, 1),
-            entry_of(row, third, 2),
-        ],
-    )
-}
-
-// Keeps a row. A refused growth changes nothing, and the row comes back.
-fn keep(plain: &mut PlainTable, feeder: u32, row: Row) -> Result<(), NoMemory> {
-    match plain.rows.push((feeder, row)) {
-        Ok(()) => Ok(()),
-        Err(refused) => Ok(plain.rows.push(refused.value)?),
-    }
-}
-
-fn predicate_at(alloc: Global, k: u32) -> Result<Pred, NoMemory> {
-    let low = Pred::Compare(0, Op::Lt, -2);
-    let high = Pred::Compare(1, Op::Ge, 9);
-    match k {
-        0 => Ok(Pred::All),
-        1 => not(alloc, Pred::Compare(2, Op::Le, 4)),
-        2 => both(alloc, low, high),
-        3 => either(alloc, Pred::Null(1), Pred::Compare(2, Op::Ne, 0)),
-        4 => not(alloc, either(alloc, low, high)?),
-        5 => both(
-            alloc,
-            not(alloc, Pred::Null(0))?,
-            Pred::Compare(0, Op::Gt, -1 << 70),
-        ),
-        6 => Ok(Pred::Compare(0, Op::Lt, 1 << 70)),
-        7 => either(alloc, both(alloc, low, Pred::Null(2))?, not(alloc, high)?),
-        _ => Ok(Pred::Compare(2, Op::Eq, i128::from(k) - 10)),
-    }
-}
-
-fn plain_answer(plain: &PlainTable, alloc: Global, query: &Query) -> Result<Answer, NoMemory> {
-    match plain.answer(alloc, query) {
-        Err(_) => plain.answer(alloc, query),
-        answer => answer,
-    }
-}
-
-// Each predicate with three of the totals.
-fn same_answers(
-    rt: &impl Abort,
-    alloc: Global,
-    index: &Index,
-    plain: &PlainTable,
-) -> Result<(), NoMemory> {
-    for k in 0..12u32 {
-        for total in TOTALS.iter().skip(k as usize % 3).step_by(3) {
-            let query = Query {
-                total: *total,
-                pred: predicate_at(alloc, k)?,
-            };
-            let wanted = plain_answer(plain, alloc, &query)?;
-            assert_eq!(rt; asked(index, &query), Ok(wanted), "{query:?}");
-        }
-    }
-    Ok(())
-}
-
-#[test]
-fn beside_a_plain_table(rt: HostRuntime) -> Result<(), Fail> {
-    for rows in [0, 1, 65, 130] {
-        let mut index = index_of(rt.alloc(), &COLUMNS, 3, 130).expect(&rt, "columns and a limit");
-        let mut plain = PlainTable::new(rt.alloc());
-        for row in 0..rows {
-            let feeder = ((row * 7 + row / 3) % 3) as u32;
-            let entries = row_at(rt.alloc(), row)?;
-            assert_eq!(rt; append_row(&mut index, feeder, &entries), Some(Ok(row)));
-            keep(&mut plain, feeder, entries)?;
-        }
-        same_answers(&rt, rt.alloc(), &index, &plain)?;
-    }
-    Ok(())
 }

@@ -1,7 +1,14 @@
 //! The step machine beside a plain one, on a long list of events of several feeders over columns of every form.
 
-use super::super::beside::PlainTable;
-use super::*;
+use crate::machine::*;
+use crate::plain::{DOMAINS, Domain, PlainMachine};
+use crate::tables::*;
+use bsi_columns::{NoMemory, Op};
+use bsi_load::{Event, Reply};
+use bsi_table::{Pred, Query, Row, Total};
+use std::alloc::Global;
+use std::process::Abort;
+use std::test::Fail;
 
 /// A column in each form, and one with numbers below zero.
 const COLUMNS: [Declared<'static>; 4] = [
@@ -9,7 +16,11 @@ const COLUMNS: [Declared<'static>; 4] = [
     Declared {
         name: "equality",
         form: Form::Equality,
-        ..NINE
+        wide: Wide {
+            width: 4,
+            bases: &[3, 3],
+        },
+        offset: 0,
     },
     Declared {
         name: "range",
@@ -31,150 +42,11 @@ const COLUMNS: [Declared<'static>; 4] = [
     },
 ];
 
-/// What a column takes: so many numbers from the least one on.
-#[derive(Clone, Copy)]
-struct Domain {
-    least: i128,
-    size: u64,
-}
-
-/// What the columns take.
-const DOMAINS: [Domain; 4] = [
-    Domain { least: 0, size: 8 },
-    Domain { least: 0, size: 9 },
-    Domain { least: 0, size: 12 },
-    Domain {
-        least: -8,
-        size: 16,
-    },
-];
-
-const CAPACITY: usize = 3;
-
-const LIMIT: usize = 30;
-
 const THREE_FEEDERS: Machine<'static> = Machine {
     columns: &COLUMNS,
     capacities: &[3, 3, 3],
     limit: 30,
 };
-
-impl Domain {
-    fn has(self, entry: Option<i128>) -> bool {
-        match entry {
-            None => true,
-            Some(number) => {
-                let above = number.wrapping_sub(self.least);
-                0 <= above && above < i128::from(self.size)
-            }
-        }
-    }
-
-    fn number(self, above: u64) -> i128 {
-        self.least.wrapping_add(i128::from(above))
-    }
-}
-
-fn all_fit(entries: &[Option<i128>]) -> bool {
-    entries
-        .iter()
-        .zip(&DOMAINS)
-        .all(|(entry, domain)| domain.has(*entry))
-}
-
-/// The rows of a feeder that wait, the oldest first, and whether it was closed.
-#[derive(Drop)]
-struct PlainFeeder {
-    rows: Vec<Row>,
-    closed: bool,
-}
-
-/// A list for each feeder, and the rows loaded with their feeders. A planted fault loads the newest row first.
-#[derive(Drop)]
-struct PlainMachine {
-    feeders: Vec<PlainFeeder>,
-    table: PlainTable,
-    newest_first: bool,
-}
-
-impl PlainMachine {
-    fn new(alloc: Global, newest_first: bool) -> Result<PlainMachine, NoMemory> {
-        let mut feeders = Vec::new(alloc);
-        for _ in 0..3 {
-            feeders.push(PlainFeeder {
-                rows: Vec::new(alloc),
-                closed: false,
-            })?;
-        }
-        Ok(PlainMachine {
-            feeders,
-            table: PlainTable::new(alloc),
-            newest_first,
-        })
-    }
-
-    fn submit(&mut self, f: u32, row: Row) -> Result<Reply, NoMemory> {
-        let Some(feeder) = self.feeders.get_mut(f as usize) else {
-            return Ok(Reply::Submitted(Err(SubmitRefused::UnknownFeeder(row))));
-        };
-        if feeder.closed {
-            return Ok(Reply::Submitted(Err(SubmitRefused::Closed(row))));
-        }
-        if row.values().len() != DOMAINS.len() || !all_fit(row.values()) {
-            return Ok(Reply::Submitted(Err(SubmitRefused::Misfit(row))));
-        }
-        if feeder.rows.len() == CAPACITY {
-            return Ok(Reply::Submitted(Err(SubmitRefused::Full(row))));
-        }
-        feeder.rows.push(row)?;
-        Ok(Reply::Submitted(Ok(())))
-    }
-
-    fn load(&mut self, f: u32) -> Result<Reply, NoMemory> {
-        let position = self.table.rows.len();
-        let Some(feeder) = self.feeders.get_mut(f as usize) else {
-            return Ok(Reply::Loaded(Err(LoadRefused::UnknownFeeder)));
-        };
-        if feeder.rows.is_empty() {
-            return Ok(Reply::Loaded(Err(if feeder.closed {
-                LoadRefused::Ended
-            } else {
-                LoadRefused::Empty
-            })));
-        }
-        if position == LIMIT {
-            return Ok(Reply::Loaded(Err(LoadRefused::IndexFull)));
-        }
-        let place = if self.newest_first {
-            feeder.rows.len() - 1
-        } else {
-            0
-        };
-        let row = feeder.rows.remove(place);
-        self.table.rows.push((f, row))?;
-        Ok(Reply::Loaded(Ok(position as u64)))
-    }
-
-    fn close(&mut self, f: u32) -> Result<(), CloseRefused> {
-        let Some(feeder) = self.feeders.get_mut(f as usize) else {
-            return Err(CloseRefused::UnknownFeeder);
-        };
-        if feeder.closed {
-            return Err(CloseRefused::AlreadyClosed);
-        }
-        feeder.closed = true;
-        Ok(())
-    }
-
-    fn step(&mut self, alloc: Global, event: Event) -> Result<Reply, NoMemory> {
-        match event {
-            Event::Submit(f, row) => self.submit(f, row),
-            Event::Load(f) => self.load(f),
-            Event::Close(f) => Ok(Reply::Closed(self.close(f))),
-            Event::Ask(query) => Ok(Reply::Answered(Ok(self.table.answer(alloc, &query)?))),
-        }
-    }
-}
 
 // A number that differs widely from place to place.
 fn mix(k: u64) -> u64 {
@@ -285,16 +157,7 @@ fn plain_replies(alloc: Global, newest_first: bool) -> Result<Vec<Reply>, NoMemo
 fn agree_once(rt: &impl Abort, alloc: Global, newest_first: bool) -> Result<bool, NoMemory> {
     let plain = plain_replies(alloc, newest_first)?;
     let mut core = made(alloc, THREE_FEEDERS).expect(rt, "a machine");
-    let replies = core.run(events(alloc)?).map_err(|_| NoMemory)?;
-    let mut alike = replies.len() == plain.len();
-    for (reply, wanted) in replies.iter().zip(&plain) {
-        let said = told(reply);
-        if lacks_memory(&said) {
-            return Err(NoMemory);
-        }
-        alike = alike && said == told(wanted);
-    }
-    Ok(alike)
+    are_replies(&replies(&mut core, events(alloc)?)?, &plain)
 }
 
 fn agree(rt: &impl Abort, alloc: Global, newest_first: bool) -> Result<bool, NoMemory> {
