@@ -7,8 +7,6 @@ mod reading;
 mod rows;
 mod script;
 mod session;
-#[cfg(test)]
-mod tests;
 
 pub use bsi_records::{
     NoMemory, read_number, read_query, read_row, read_setup, read_signed, write_reply,

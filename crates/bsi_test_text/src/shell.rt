@@ -1,29 +1,11 @@
-use crate::run_words;
+//! How a command line ends, and how often its output is flushed.
+
+use crate::ends::{BrokenReader, buffer};
+use bsi_shell::run_words;
 use std::alloc::{AllocError, Global};
 use std::io;
-use std::io::{Read, Write};
+use std::io::Write;
 use std::test::Fail;
-
-const USAGE: &str = "usage: bsi script | bsi files --schema FILE --asks FILE CSV..\n";
-
-// Gives its text a byte at a time, and then an error.
-#[derive(Drop)]
-struct BrokenReader<'a> {
-    text: &'a [u8],
-}
-
-impl<'a> Read for BrokenReader<'a> {
-    fn read(&mut self, buf: &mut [u8]) -> io::Result<usize> {
-        match (self.text.split_first(), buf.first_mut()) {
-            (Some((byte, rest)), Some(place)) => {
-                *place = *byte;
-                self.text = rest;
-                Ok(1)
-            }
-            _ => Err(io::Error::from(io::ErrorKind::BrokenPipe)),
-        }
-    }
-}
 
 // Takes a byte a call until it has `room` no more; then it fails once, or takes nothing once. It counts its flushes.
 #[derive(Drop)]
@@ -57,14 +39,6 @@ impl Write for NarrowWriter {
             return Err(io::Error::from(io::ErrorKind::BrokenPipe));
         }
         Ok(())
-    }
-}
-
-// A buffer that a test writes to; a refused growth is asked for again.
-fn buffer(alloc: Global) -> Result<Vec<u8>, AllocError> {
-    match Vec::with_capacity(alloc, 4096) {
-        Err(_) => Vec::with_capacity(alloc, 4096),
-        made => made,
     }
 }
 
@@ -134,31 +108,6 @@ const PLAIN: Line<'static> = Line {
     room: 99,
     fails: false,
 };
-
-#[test]
-fn words_that_are_no_command_get_the_usage_line(rt: HostRuntime) -> Result<(), Fail> {
-    for words in [
-        "",
-        "--help",
-        "-h",
-        "help",
-        "--version",
-        "files",
-        "files --schema a --asks b c",
-        "other",
-        "Script",
-        "script x",
-        "script --help",
-        "script script",
-    ] {
-        let end = end_of(&rt, Line { words, ..PLAIN })?;
-        assert_eq!(rt; end.status, 2, "at {words:?}");
-        assert_eq!(rt; end.faults.as_slice(), USAGE.as_bytes(), "at {words:?}");
-        assert_eq!(rt; end.output.len(), 0, "at {words:?}");
-        assert_eq!(rt; end.flushes, 0, "at {words:?}");
-    }
-    Ok(())
-}
 
 #[test]
 fn the_script_word_runs_the_script(rt: HostRuntime) -> Result<(), Fail> {

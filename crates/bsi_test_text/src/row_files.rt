@@ -1,8 +1,8 @@
 //! The rows of row files.
 
-use crate::tests::ends::BrokenReader;
-use crate::{NoMemory, RowSource, SourceFault};
+use crate::ends::BrokenReader;
 use bsi_table::{ColumnSpec, Row, Schema, SchemaError};
+use bsi_text::{NoMemory, RowSource, SourceFault};
 use std::alloc::Global;
 use std::io;
 use std::io::Read;

@@ -1,6 +1,6 @@
 //! Readers and writers that fail.
 
-use crate::{NoMemory, ScriptFault, run_script};
+use bsi_text::{NoMemory, ScriptFault, run_script};
 use std::alloc::Global;
 use std::io;
 use std::io::{Read, Write};
@@ -8,8 +8,8 @@ use std::test::Fail;
 
 // Gives its text a byte at a time, and then an error.
 #[derive(Drop)]
-pub(super) struct BrokenReader<'a> {
-    pub(super) text: &'a [u8],
+pub(crate) struct BrokenReader<'a> {
+    pub(crate) text: &'a [u8],
 }
 
 impl<'a> Read for BrokenReader<'a> {
@@ -56,7 +56,7 @@ impl Write for NarrowWriter {
 }
 
 // A buffer that a test writes to; a refused growth is asked for again.
-pub(super) fn buffer(alloc: Global) -> Result<Vec<u8>, NoMemory> {
+pub(crate) fn buffer(alloc: Global) -> Result<Vec<u8>, NoMemory> {
     match Vec::with_capacity(alloc, 4096) {
         Err(_) => Vec::with_capacity(alloc, 4096),
         made => made,
