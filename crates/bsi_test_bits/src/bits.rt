@@ -3,6 +3,7 @@ ghost use Rattle.std.specs.Prelude.{◌≤◌, ◌^◌};
 
 use bsi_bits::{Bits, NoMemory, lanes};
 use std::alloc::Global;
+use std::process::Abort;
 use std::test::Fail;
 
 /// The lengths about the edges of a word, of four and of eight.
@@ -41,11 +42,15 @@ fn push(bits: &mut Bits, bit: bool) -> Result<bool, NoMemory> {
     Ok(stayed)
 }
 
+fn is_multiple(i: u64, step: u64) -> bool {
+    step != 0 && i % step == 0
+}
+
 // The places below `n` that are divisible by `step`.
 fn multiples(alloc: Global, n: u64, step: u64) -> Result<Bits, NoMemory> {
     let mut bits = Bits::new(alloc);
     for i in 0..n {
-        let _stayed = push(&mut bits, step != 0 && i % step == 0)?;
+        push(&mut bits, is_multiple(i, step))?;
     }
     Ok(bits)
 }
@@ -152,6 +157,13 @@ fn bits_and_columns(rt: HostRuntime) -> Result<(), Fail> {
     Ok(())
 }
 
+// How many of the places below `n` divide by 3, by 3 and 2, and by 3 and not 2.
+fn counts_of(alloc: Global, n: u64) -> Result<[Option<u64>; 3], NoMemory> {
+    let a = multiples(alloc, n, 3)?;
+    let b = multiples(alloc, n, 2)?;
+    Ok([Some(a.count()), count_and(&a, &b), count_and_not(&a, &b)])
+}
+
 #[test]
 fn lane_counts(rt: HostRuntime) -> Result<(), Fail> {
     for (n, threes, sixes, odd_threes) in [
@@ -162,26 +174,34 @@ fn lane_counts(rt: HostRuntime) -> Result<(), Fail> {
         (320, 107, 54, 53),
         (513, 171, 86, 85),
     ] {
-        let a = multiples(rt.alloc(), n, 3)?;
-        let b = multiples(rt.alloc(), n, 2)?;
-        assert_eq!(rt; a.count(), threes, "at {n}");
-        assert_eq!(rt; count_and(&a, &b), Some(sixes), "at {n}");
-        assert_eq!(rt; count_and_not(&a, &b), Some(odd_threes), "at {n}");
+        let counts = counts_of(rt.alloc(), n)?;
+        let wanted = [Some(threes), Some(sixes), Some(odd_threes)];
+        assert_eq!(rt; counts, wanted, "at {n}");
     }
     Ok(())
+}
+
+// How many of `n` bits are set: of all, none and all by flips, and of those that are filled.
+fn edge_counts(alloc: Global, n: u64) -> Result<[u64; 6], NoMemory>
+    requires { n ≤ 2 ^ 32 }
+{
+    let mut bits = multiples(alloc, n, 1)?;
+    let (len, all) = (bits.len(), bits.count());
+    bits.flip();
+    let none = bits.count();
+    bits.flip();
+    let again = bits.count();
+    let set = filled(alloc, n, true)?.count();
+    let clear = filled(alloc, n, false)?.count();
+    Ok([len, all, none, again, set, clear])
 }
 
 #[test]
 fn word_and_lane_edges(rt: HostRuntime) -> Result<(), Fail> {
     for n in LENGTHS {
-        let mut bits = multiples(rt.alloc(), n, 1)?;
-        assert_eq!(rt; (bits.len(), bits.count()), (n, n));
-        bits.flip();
-        assert_eq!(rt; bits.count(), 0, "at {n}");
-        bits.flip();
-        assert_eq!(rt; bits.count(), n, "at {n}");
-        assert_eq!(rt; filled(rt.alloc(), n, true)?.count(), n);
-        assert_eq!(rt; filled(rt.alloc(), n, false)?.count(), 0);
+        assert!(rt; n <= 513);
+        let counts = edge_counts(rt.alloc(), n)?;
+        assert_eq!(rt; counts, [n, n, 0, n, n, 0], "at {n}");
     }
     Ok(())
 }
@@ -203,34 +223,39 @@ fn stored_bits(rt: HostRuntime) -> Result<(), Fail> {
     Ok(())
 }
 
+// Whether the step does to each bit what it says, and leaves the room.
+fn does_to_each_bit(step: Step, a: &Bits, b: &Bits) -> Result<bool, NoMemory> {
+    let mut c = copied(a)?;
+    let room = c.has_room();
+    let is_done = step.apply(&mut c, b);
+    let same = (c.len(), c.has_room(), c.count()) == (a.len(), room, step.count(a, b));
+    let each = (0..a.len()).all(|i| get(&c, i) == step.of_bits(get(a, i), get(b, i)));
+    Ok(is_done && same && each)
+}
+
+fn turns_each_bit(a: &Bits) -> Result<bool, NoMemory> {
+    let mut turned = copied(a)?;
+    turned.flip();
+    let each = (0..a.len()).all(|i| get(&turned, i) != get(a, i));
+    Ok(each && ones_are_the_places_set(a) && ones_are_the_places_set(&turned))
+}
+
+fn steps_are_done(rt: &impl Abort, alloc: Global, n: u64) -> Result<(), NoMemory> {
+    let a = multiples(alloc, n, 3)?;
+    let b = multiples(alloc, n, 2)?;
+    for step in STEPS {
+        let is_done = does_to_each_bit(step, &a, &b)?;
+        assert!(rt; is_done, "{step:?} at {n}");
+    }
+    let is_turned = turns_each_bit(&a)?;
+    assert!(rt; is_turned, "at {n}");
+    Ok(())
+}
+
 #[test]
 fn calls_in_place_do_to_each_bit_what_they_say(rt: HostRuntime) -> Result<(), Fail> {
     for n in LENGTHS {
-        let a = multiples(rt.alloc(), n, 3)?;
-        let b = multiples(rt.alloc(), n, 2)?;
-        for step in STEPS {
-            let mut c = copied(&a)?;
-            let room = c.has_room();
-            assert!(rt; step.apply(&mut c, &b), "{step:?} at {n}");
-            assert_eq!(rt; (c.len(), c.has_room()), (n, room), "{step:?} at {n}");
-            assert_eq!(rt; c.count(), step.count(&a, &b), "{step:?} at {n}");
-            for i in 0..n {
-                assert_eq!(rt;
-                    get(&c, i),
-                    step.of_bits(get(&a, i), get(&b, i)),
-                    "{step:?} at {i} of {n}"
-                );
-            }
-        }
-        let mut turned = copied(&a)?;
-        turned.flip();
-        for i in 0..n {
-            assert_eq!(rt; get(&turned, i), !get(&a, i), "at {i} of {n}");
-        }
-        assert!(rt;
-            ones_are_the_places_set(&a) && ones_are_the_places_set(&turned),
-            "at {n}"
-        );
+        steps_are_done(&rt, rt.alloc(), n)?;
     }
     Ok(())
 }
@@ -262,18 +287,23 @@ fn a_refused_growth_changes_nothing(rt: HostRuntime) -> Result<(), Fail> {
     Ok(())
 }
 
+// Whether a turned vector has the room it had, and takes a bit in it.
+fn keeps_the_room(alloc: Global, n: u64) -> Result<bool, NoMemory> {
+    let mut bits = multiples(alloc, n, 1)?;
+    let room = bits.has_room();
+    bits.flip();
+    let stayed = (bits.len(), bits.has_room()) == (n, room);
+    if bits.has_room() {
+        bits.push_reserved(true);
+    }
+    Ok(stayed && bits.count() == room as u64 && get(&bits, n) == room)
+}
+
 #[test]
 fn flip_keeps_the_room(rt: HostRuntime) -> Result<(), Fail> {
     for n in [0, 63, 64, 65, 256, 513] {
-        let mut bits = multiples(rt.alloc(), n, 1)?;
-        let room = bits.has_room();
-        bits.flip();
-        assert_eq!(rt; (bits.len(), bits.has_room()), (n, room), "at {n}");
-        if bits.has_room() {
-            bits.push_reserved(true);
-        }
-        assert_eq!(rt; bits.count(), room as u64, "at {n}");
-        assert_eq!(rt; get(&bits, n), room, "at {n}");
+        let is_kept = keeps_the_room(rt.alloc(), n)?;
+        assert!(rt; is_kept, "at {n}");
     }
     Ok(())
 }

@@ -190,22 +190,38 @@ fn counted<E: Encoding>(rt: &impl Abort, alloc: Global) -> Result<Counted<E>, No
     Ok(column)
 }
 
-/// Of an encoding without calls on blocks, a comparison calls each component one to four times. A refused one calls none.
+fn calls_of_both<E: Encoding>(column: &Counted<E>) -> [u32; 2] {
+    [calls(column, 0), calls(column, 1)]
+}
+
+// The rows at most 7. A refused comparison calls no component.
+fn at_most_seven<E: Encoding>(rt: &impl Abort, column: &Counted<E>) -> Result<Bits, NoMemory> {
+    let before = calls_of_both(column);
+    match column.compare(Op::Le, 7) {
+        Err(_) => {
+            assert_eq!(rt; calls_of_both(column), before);
+            column.compare(Op::Le, 7)
+        }
+        found => found,
+    }
+}
+
+fn is_one_to_four(after: u32, before: u32) -> bool {
+    let made = after.wrapping_sub(before);
+    made >= 1 && made <= 4
+}
+
+/// Of an encoding without calls on blocks, a comparison calls each component one to four times.
 fn calls_each_component<E: Encoding>(rt: &impl Abort, alloc: Global) -> Result<(), NoMemory> {
     let column = counted::<E>(rt, alloc)?;
-    let before = [calls(&column, 0), calls(&column, 1)];
-    let found = match column.compare(Op::Le, 7) {
-        Err(_) => {
-            assert_eq!(rt; [calls(&column, 0), calls(&column, 1)], before);
-            column.compare(Op::Le, 7)?
-        }
-        Ok(found) => found,
-    };
+    let [first, second] = calls_of_both(&column);
+    let found = at_most_seven(rt, &column)?;
     assert_eq!(rt; found.len(), 100);
-    for (i, count) in [(0, before[0]), (1, before[1])] {
-        let made = calls(&column, i).wrapping_sub(count);
-        assert!(rt; made >= 1 && made <= 4, "{made} calls of component {i}");
-    }
+    let after = calls_of_both(&column);
+    assert!(rt;
+        is_one_to_four(after[0], first) && is_one_to_four(after[1], second),
+        "{after:?}"
+    );
     Ok(())
 }
 
