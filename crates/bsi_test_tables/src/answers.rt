@@ -169,23 +169,33 @@ struct Both {
     plain: PlainTable,
 }
 
+// A row of this entry is appended to both.
+fn append_to_both(
+    rt: &impl Abort,
+    alloc: Global,
+    both: &mut Both,
+    entry: Option<i128>,
+) -> Result<(), NoMemory> {
+    let row = row_of(alloc, &[entry])?;
+    let position = both.plain.rows.len() as u64;
+    assert_eq!(rt; append_row(&mut both.index, 0, &row), Some(Ok(position)));
+    keep(&mut both.plain, 0, row)
+}
+
+fn no_rows(rt: &impl Abort, alloc: Global, column: Declared) -> Both {
+    let index = index_of(alloc, &[column], 1, 10).expect(rt, "a column and a limit");
+    let plain = PlainTable::new(alloc);
+    Both { index, plain }
+}
+
 fn six_rows(rt: &impl Abort, alloc: Global, column: Declared) -> Result<Both, NoMemory> {
-    let mut index = index_of(alloc, &[column], 1, 10).expect(rt, "a column and a limit");
-    let mut plain = PlainTable::new(alloc);
-    for (position, above) in [
-        (0, Some(0)),
-        (1, None),
-        (2, Some(15)),
-        (3, Some(7)),
-        (4, Some(8)),
-        (5, Some(7)),
-    ] {
-        let entry = above.map(|above: i128| above + i128::from(column.offset));
-        let row = row_of(alloc, &[entry])?;
-        assert_eq!(rt; append_row(&mut index, 0, &row), Some(Ok(position)));
-        keep(&mut plain, 0, row)?;
+    let mut both = no_rows(rt, alloc, column);
+    let offset = i128::from(column.offset);
+    append_to_both(rt, alloc, &mut both, None)?;
+    for above in [0, 15, 7, 8, 7] {
+        append_to_both(rt, alloc, &mut both, Some(offset + above))?;
     }
-    Ok(Both { index, plain })
+    Ok(both)
 }
 
 fn same_answer(rt: &impl Abort, alloc: Global, both: &Both, query: Query) -> Result<(), NoMemory> {
