@@ -92,43 +92,83 @@ pub(crate) fn replies(core: &mut Core, events: Vec<Event>) -> Result<Vec<Reply>,
     }
 }
 
-// Two rows are submitted; then they are loaded, and a third comes after the closing.
+fn submit(alloc: Global, number: i128) -> Result<Event, NoMemory> {
+    let row = row_of(alloc, &[Some(number)])?;
+    Ok(Event::Submit(0, row))
+}
+
+// Two rows are submitted.
+fn first_events(alloc: Global) -> Result<Vec<Event>, NoMemory> {
+    let mut events = Vec::new(alloc);
+    for number in [1, 2] {
+        events.push(submit(alloc, number)?)?;
+    }
+    Ok(events)
+}
+
+// They are loaded, and a third comes after the closing.
+fn second_event(alloc: Global, k: u32) -> Result<Event, NoMemory> {
+    match k {
+        1 => Ok(Event::Close(0)),
+        2 => submit(alloc, 3),
+        5 => Ok(Event::Ask(Query {
+            total: Total::Sum(0),
+            pred: Pred::All,
+        })),
+        _ => Ok(Event::Load(0)),
+    }
+}
+
+fn second_reply(alloc: Global, k: u32) -> Result<Reply, NoMemory> {
+    match k {
+        0 => Ok(Reply::Loaded(Ok(0))),
+        1 => Ok(Reply::Closed(Ok(()))),
+        2 => {
+            let row = row_of(alloc, &[Some(3)])?;
+            Ok(Reply::Submitted(Err(SubmitRefused::Closed(row))))
+        }
+        3 => Ok(Reply::Loaded(Ok(1))),
+        4 => Ok(Reply::Loaded(Err(LoadRefused::Ended))),
+        _ => Ok(Reply::Answered(Ok(Answer::Sum(3)))),
+    }
+}
+
+fn second_events(alloc: Global) -> Result<Vec<Event>, NoMemory> {
+    let mut events = Vec::new(alloc);
+    for k in 0..6 {
+        events.push(second_event(alloc, k)?)?;
+    }
+    Ok(events)
+}
+
+fn second_replies(alloc: Global) -> Result<Vec<Reply>, NoMemory> {
+    let mut wanted = Vec::new(alloc);
+    for k in 0..6 {
+        wanted.push(second_reply(alloc, k)?)?;
+    }
+    Ok(wanted)
+}
+
+fn is_first_run(alloc: Global, core: &mut Core) -> Result<bool, NoMemory> {
+    let found = replies(core, first_events(alloc)?)?;
+    let accepted = [Reply::Submitted(Ok(())), Reply::Submitted(Ok(()))];
+    are_replies(&found, &accepted)
+}
+
+fn is_second_run(alloc: Global, core: &mut Core) -> Result<bool, NoMemory> {
+    let wanted = second_replies(alloc)?;
+    let found = replies(core, second_events(alloc)?)?;
+    are_replies(&found, &wanted)
+}
+
 fn two_runs_once(rt: &impl Abort, alloc: Global) -> Result<bool, NoMemory> {
     let mut core = made(alloc, PAIR).expect(rt, "a machine");
-    let mut first = Vec::with_capacity(alloc, 2)?;
-    for number in [1, 2] {
-        first.push(Event::Submit(0, row_of(alloc, &[Some(number)])?))?;
-    }
-    let accepted = [Reply::Submitted(Ok(())), Reply::Submitted(Ok(()))];
-    let begins = are_replies(&replies(&mut core, first)?, &accepted)?;
-    let sum = Query {
-        total: Total::Sum(0),
-        pred: Pred::All,
-    };
-    let mut second = Vec::with_capacity(alloc, 6)?;
-    second.push(Event::Load(0))?;
-    second.push(Event::Close(0))?;
-    second.push(Event::Submit(0, row_of(alloc, &[Some(3)])?))?;
-    second.push(Event::Load(0))?;
-    second.push(Event::Load(0))?;
-    second.push(Event::Ask(sum))?;
-    let third = row_of(alloc, &[Some(3)])?;
-    let wanted = [
-        Reply::Loaded(Ok(0)),
-        Reply::Closed(Ok(())),
-        Reply::Submitted(Err(SubmitRefused::Closed(third))),
-        Reply::Loaded(Ok(1)),
-        Reply::Loaded(Err(LoadRefused::Ended)),
-        Reply::Answered(Ok(Answer::Sum(3))),
-    ];
-    let ends = are_replies(&replies(&mut core, second)?, &wanted)?;
-    let shown = (
-        core.feeders(),
-        core.waiting(0),
-        core.waiting(1),
-        core.schema().columns(),
-    );
-    Ok(begins && ends && shown == (1, Some(0), None, 1))
+    let begins = is_first_run(alloc, &mut core)?;
+    let ends = is_second_run(alloc, &mut core)?;
+    let waiting = (core.feeders(), core.waiting(0), core.waiting(1));
+    assert_eq!(rt; waiting, (1, Some(0), None));
+    assert_eq!(rt; core.schema().columns(), 1);
+    Ok(begins && ends)
 }
 
 #[test]
