@@ -5,7 +5,7 @@ PROGRAM = crates/bsi/out/bsi
 BIN = $(DESTDIR)$(PREFIX)/bin
 MAN = $(DESTDIR)$(PREFIX)/share/man/man1
 
-.PHONY: build demo test install clean bench
+.PHONY: build check demo test mutants promises install clean bench
 
 build:
 	@tools/build
@@ -13,8 +13,17 @@ build:
 demo: build
 	@tools/demo examples/first.bsi
 
+check:
+	@tools/check
+
 test:
 	@tools/gate
+
+mutants:
+	@tools/mutants
+
+promises:
+	@tools/promises
 
 install: build
 	install -d "$(BIN)" "$(MAN)"

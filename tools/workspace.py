@@ -18,6 +18,9 @@ NO_KIT = (
     "Put the kit's bin folder on it, as PATH=/opt/rattle/bin:$PATH"
 )
 
+# In KiB.
+MEMORY_OF_A_CHECK = 4_000_000
+
 # How a run ended: its status (minus the signal's number where one ended it, None where its time was over), and what it wrote.
 Ran = namedtuple("Ran", "status out err")
 
@@ -78,6 +81,13 @@ def has_kit():
     if not found:
         print(NO_KIT, file=sys.stderr)
     return found
+
+
+def at_once():
+    """Returns how many checks may run side by side: one a processor, where each has the memory that most take."""
+    with open("/proc/meminfo", encoding="ascii") as file:
+        free = next(int(line.split()[1]) for line in file if line.startswith("MemAvailable:"))
+    return max(1, min(len(os.sched_getaffinity(0)), free // MEMORY_OF_A_CHECK))
 
 
 def crates():

@@ -5,8 +5,6 @@ mod bits;
 pub mod lanes;
 mod ones;
 mod packing;
-#[cfg(test)]
-mod tests;
 
 pub use bits::Bits;
 pub use ones::Ones;

@@ -6,8 +6,6 @@ pub mod blocks;
 mod encoding;
 mod equality;
 mod range;
-#[cfg(test)]
-mod tests;
 
 pub use encoding::{Encoding, RankedDigit};
 pub use equality::EqualityComponent;

@@ -5,8 +5,6 @@ mod bases;
 mod bases_error;
 mod divisor;
 pub mod laws;
-#[cfg(test)]
-mod tests;
 
 pub use bases::Bases;
 pub use bases_error::BasesError;

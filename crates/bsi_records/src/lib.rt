@@ -7,8 +7,6 @@ mod predicates;
 mod queries;
 mod records;
 mod setups;
-#[cfg(test)]
-mod tests;
 
 pub use lines::{write_bad, write_fed, write_reply};
 pub use numbers::{read_number, read_signed, read_value};

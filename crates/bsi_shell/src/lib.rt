@@ -5,6 +5,3 @@ mod words;
 
 pub use bsi_text::ScriptFault;
 pub use words::run_words;
-
-#[cfg(test)]
-mod tests;

@@ -7,12 +7,11 @@ mod reading;
 mod rows;
 mod script;
 mod session;
-#[cfg(test)]
-mod tests;
 mod texts;
 
 pub use bsi_records::{
-    NoMemory, read_number, read_query, read_row, read_setup, read_signed, write_bad, write_fed, write_reply,
+    NoMemory, read_number, read_query, read_row, read_setup, read_signed, write_bad, write_fed,
+    write_reply,
 };
 pub use rows::{RowSource, SourceFault};
 pub use script::{ScriptFault, run_script};

@@ -1,0 +1,195 @@
+//! A column as a plain list of its entries, whose calls are what their contracts say.
+
+ghost use Rattle.std.specs.Prelude.{◌≡◌, ℕ, ◌*◌, ◌^◌, ◌≤◌, ◌<◌, [], ◌∷◌, ◌++◌, All, None, false, if◌then◌else◌, map, length, slice_index_or, sum, IfOk, OnOk};
+ghost use Rattle.bsi_columns.specs.Rows.{number_or_zero, selects};
+ghost use Rattle.bsi_columns.specs.Totals.{numbers_at};
+
+use crate::NoMemory;
+use bsi_bits::Bits;
+use bsi_columns::{Column, Op};
+use std::alloc::Global;
+use std::marker::Model;
+
+/// A list of entries below a size, beside the not-null bitmap that a column lends.
+#[derive(Drop)]
+pub struct PlainColumn {
+    size: u64,
+    entries: Vec<Option<u64>>,
+    present: Bits,
+}
+
+// Clauses see the size, the entries and whether there is room for one more.
+impl Model for PlainColumn {
+    ghost use Rattle.std.specs.Prelude.{◌&&◌, nat_lt, vec_len, vec_capacity};
+    ghost use Rattle.bsi_plain.specs.Plain.{PlainRows, IsPlain};
+
+    ghost Value = { PlainRows };
+
+    ghost view = { λ c. record { size = c.size; entries = c.entries.items; room = c.present.room && nat_lt (vec_len c.entries) (vec_capacity c.entries) } };
+
+    ghost invariant = { λ c. IsPlain c.size c.entries.items c.present.bits };
+}
+
+impl PlainColumn {
+    /// A column of no entries below a size from 2 to 2^63.
+    pub fn new(alloc: Global, size: u64) -> PlainColumn
+        requires { (2 ≤ size) × (size ≤ 2 ^ 63) }
+        ensures size { result.size ≡ size }
+        ensures entries { result.entries ≡ [] }
+    {
+        PlainColumn {
+            size,
+            entries: Vec::new(alloc),
+            present: Bits::new(alloc),
+        }
+    }
+}
+
+impl Column for PlainColumn {
+    ghost size_of = { λ c. c.size };
+
+    ghost bases_of = { λ c. c.size ∷ [] };
+
+    ghost entries = { λ c. c.entries };
+
+    ghost room = { λ c. c.room };
+
+    fn size(&self) -> u64 {
+        self.size
+    }
+
+    fn len(&self) -> u64 {
+        self.present.len()
+    }
+
+    fn has_room(&self) -> bool {
+        self.present.has_room() && self.entries.len() < self.entries.capacity()
+    }
+
+    fn reserve_one(&mut self) -> Result<(), NoMemory> {
+        if self.has_room() {
+            return Ok(());
+        }
+        self.entries.reserve(1)?;
+        self.present.reserve_one()
+    }
+
+    fn push_reserved(&mut self, entry: Option<u64>) {
+        self.entries.push_reserved(entry);
+        self.present.push_reserved(entry.is_some());
+    }
+
+    fn compare(&self, op: Op, constant: u64) -> Result<Bits, NoMemory> {
+        let _rows = self.present.len();
+        let mut found = Bits::new(*self.entries.allocator());
+        select_each(&self.entries, op, constant, &mut found)?;
+        Ok(found)
+    }
+
+    fn nulls_into(&self, out: &mut Bits) {
+        out.copy_from(&self.present);
+        out.flip();
+    }
+
+    fn sum(&self, found: &Bits) -> u128 {
+        let _rows = found.len();
+        sum_each(&self.entries, found)
+    }
+
+    fn ranked(&self, found: &Bits, k: u64) -> Result<u64, NoMemory> {
+        let _rows = found.len();
+        let mut numbers = Vec::new(*self.entries.allocator());
+        gather(&self.entries, found, &mut numbers)?;
+        numbers.sort_unstable();
+        Ok(numbers[k as usize])
+    }
+
+    fn present(&self) -> &Bits {
+        &self.present
+    }
+
+    fn copy(&self) -> Result<Self, NoMemory> {
+        Ok(PlainColumn {
+            size: self.size,
+            entries: self.entries.clone()?,
+            present: self.present.copy()?,
+        })
+    }
+}
+
+/// Appends to no bits, for each entry, whether it is a number that compares so with the constant.
+fn select_each(
+    entries: &[Option<u64>],
+    op: Op,
+    constant: u64,
+    found: &mut Bits,
+) -> Result<(), NoMemory>
+    requires few { length entries.now ≤ 2 ^ 32 }
+    requires empty { found.old.bits ≡ [] }
+    ensures { OnOk result (found.new.bits ≡ map (selects op constant) entries.now) }
+{
+    for entry in entries {
+        found.reserve_one()?;
+        found.push_reserved(selected(op, constant, *entry));
+    }
+    Ok(())
+}
+
+/// Whether an entry is a number that compares so with the constant.
+fn selected(op: Op, constant: u64, entry: Option<u64>) -> bool
+    ensures { result ≡ selects op constant entry }
+{
+    match entry {
+        None => false,
+        Some(x) => match op {
+            Op::Eq => x == constant,
+            Op::Ne => x != constant,
+            Op::Lt => x < constant,
+            Op::Le => x <= constant,
+            Op::Gt => x > constant,
+            Op::Ge => x >= constant,
+        },
+    }
+}
+
+/// The sum of the numbers at the found rows.
+fn sum_each(entries: &[Option<u64>], found: &Bits) -> u128
+    requires same { length entries.now ≡ length found.now.bits }
+    requires few { length entries.now ≤ 2 ^ 32 }
+    requires below { All (λ e. number_or_zero e < 2 ^ 63) entries.now }
+    ensures sum { result ≡ sum (numbers_at found.now.bits entries.now) }
+    ensures within { result < 2 ^ 95 }
+{
+    let mut total = 0;
+    let mut row = 0;
+    for entry in entries {
+        total += u128::from(number_at(found, row, *entry).unwrap_or(0));
+        row += 1;
+    }
+    total
+}
+
+/// Appends to no numbers those at the found rows, in order of the rows.
+fn gather(entries: &[Option<u64>], found: &Bits, numbers: &mut Vec<u64>) -> Result<(), NoMemory>
+    requires same { length entries.now ≡ length found.now.bits }
+    requires few { length entries.now ≤ 2 ^ 32 }
+    requires empty { numbers.old.items ≡ [] }
+    ensures { OnOk result (numbers.new.items ≡ numbers_at found.now.bits entries.now) }
+{
+    let mut row = 0;
+    for entry in entries {
+        if let Some(number) = number_at(found, row, *entry) {
+            numbers.push(number)?;
+        }
+        row += 1;
+    }
+    Ok(())
+}
+
+/// The number of a row, where the row is found and has one.
+fn number_at(found: &Bits, row: u64, entry: Option<u64>) -> Option<u64>
+    requires { row < length found.now.bits }
+    ensures { result ≡ (if slice_index_or found.now.bits row false then entry else None) }
+{
+    if found.get(row) { entry } else { None }
+}

@@ -1,0 +1,92 @@
+//! A component that works on whole vectors alone, and counts the calls that do, and the sums.
+
+use crate::NoMemory;
+use bsi_bits::Bits;
+use bsi_columns::Encoding;
+use std::alloc::Global;
+use std::cell::Cell;
+
+/// A component of another encoding, without its calls on blocks.
+#[derive(Drop)]
+pub struct WholeVectors<E: Encoding> {
+    inner: E,
+    calls: Cell<u32>,
+    sums: Cell<u32>,
+}
+
+impl<E: Encoding> WholeVectors<E> {
+    /// How many calls wrote a whole vector so far.
+    pub fn calls(&self) -> u32 {
+        self.calls.get()
+    }
+
+    /// How many sums of digits were asked for so far.
+    pub fn sums(&self) -> u32 {
+        self.sums.get()
+    }
+
+    fn count(&self) {
+        self.calls.set(self.calls.get().saturating_add(1));
+    }
+}
+
+impl<E: Encoding> Encoding for WholeVectors<E> {
+    ghost base_of = { λ c. E.base_of c.inner };
+
+    ghost digits = { λ c. E.digits c.inner };
+
+    ghost room = { λ c. E.room c.inner };
+
+    fn make(alloc: Global, base: u32) -> Result<Self, NoMemory> {
+        let inner = E::make(alloc, base)?;
+        Ok(WholeVectors {
+            inner,
+            calls: Cell::new(0),
+            sums: Cell::new(0),
+        })
+    }
+
+    fn base(&self) -> u32 {
+        self.inner.base()
+    }
+
+    fn len(&self) -> u64 {
+        self.inner.len()
+    }
+
+    fn has_room(&self) -> bool {
+        self.inner.has_room()
+    }
+
+    fn reserve_one(&mut self) -> Result<(), NoMemory> {
+        self.inner.reserve_one()
+    }
+
+    fn push_reserved(&mut self, digit: u32) {
+        self.inner.push_reserved(digit);
+    }
+
+    fn eq_into(&self, d: u32, out: &mut Bits) {
+        self.count();
+        self.inner.eq_into(d, out);
+    }
+
+    fn le_into(&self, d: u32, out: &mut Bits) {
+        self.count();
+        self.inner.le_into(d, out);
+    }
+
+    fn digit_sum(&self, found: &Bits) -> u128 {
+        self.sums.set(self.sums.get().saturating_add(1));
+        self.inner.digit_sum(found)
+    }
+
+    fn copy(&self) -> Result<Self, NoMemory> {
+        let inner = self.inner.copy()?;
+        Ok(WholeVectors {
+            inner,
+            calls: Cell::new(0),
+            sums: Cell::new(0),
+        })
+    }
+}

@@ -1,0 +1,295 @@
+//! Comparisons, on worked rows and beside a plain column.
+
+use crate::columns::*;
+use bsi_columns::{Column, Encoding, EqualityComponent, NoMemory, Op, RangeComponent};
+use bsi_plain::{PlainColumn, WholeVectors};
+use std::alloc::Global;
+use std::process::Abort;
+use std::test::Fail;
+
+const OPERATORS: [Op; 6] = [Op::Eq, Op::Ne, Op::Lt, Op::Le, Op::Gt, Op::Ge];
+
+/// The comparisons of the entries 3, none and 2.
+const SHOWN: [(Op, u64, [bool; 3]); 7] = [
+    (Op::Lt, 3, [false, false, true]),
+    (Op::Ne, 3, [false, false, true]),
+    (Op::Gt, 2, [true, false, false]),
+    (Op::Lt, 0, [false, false, false]),
+    (Op::Ge, 0, [true, false, true]),
+    (Op::Le, 100, [true, false, true]),
+    (Op::Eq, 15, [false, false, false]),
+];
+
+fn selects_shown<C: Column>(rt: &impl Abort, column: &C) -> Result<(), NoMemory> {
+    for (op, constant, wanted) in SHOWN {
+        let found = compared(column, op, constant)?;
+        assert!(rt; shows(&found, &wanted), "{op:?} {constant}");
+    }
+    Ok(())
+}
+
+#[test]
+fn comparisons_table(rt: HostRuntime) -> Result<(), Fail> {
+    let wide = Wide {
+        width: 2,
+        bases: &[5, 3],
+    };
+    for form in FORMS {
+        let column = of(&rt, rt.alloc(), form, wide, &[Some(3), None, Some(2)])?;
+        selects_shown(&rt, &column)?;
+    }
+    Ok(())
+}
+
+fn copy_of<C: Column>(column: &C) -> Result<C, NoMemory> {
+    match column.copy() {
+        Err(_) => column.copy(),
+        made => made,
+    }
+}
+
+fn copy_selects_shown<E: Encoding>(rt: &impl Abort, alloc: Global) -> Result<(), NoMemory> {
+    let mut column = no_digits::<E>(alloc, &[5, 3])?;
+    append(rt, &mut column, &[Some(3), None, Some(2)])?;
+    selects_shown(rt, &copy_of(&column)?)
+}
+
+#[test]
+fn comparisons_table_of_copies(rt: HostRuntime) -> Result<(), Fail> {
+    copy_selects_shown::<EqualityComponent>(&rt, rt.alloc())?;
+    copy_selects_shown::<RangeComponent>(&rt, rt.alloc())?;
+    Ok(())
+}
+
+#[test]
+fn bits_and_columns(rt: HostRuntime) -> Result<(), Fail> {
+    let wide = Wide {
+        width: 3,
+        bases: &[2, 4],
+    };
+    for form in FORMS {
+        let column = of(&rt, rt.alloc(), form, wide, &[Some(5), None, Some(0)])?;
+        assert_eq!(rt; (column.len(), column.size()), (3, 8));
+        let found = compared(&column, Op::Ge, 0)?;
+        assert!(rt; shows(&found, &[true, false, true]), "{form:?}");
+    }
+    Ok(())
+}
+
+/// Whether both columns select the same rows by every operator.
+fn select_alike<A: Column, B: Column>(
+    rt: &impl Abort,
+    column: &A,
+    plain: &B,
+    constant: u64,
+) -> Result<(), NoMemory> {
+    for op in OPERATORS {
+        let found = compared(column, op, constant)?;
+        assert!(rt;
+            same(&found, &compared(plain, op, constant)?),
+            "{op:?} {constant}"
+        );
+    }
+    Ok(())
+}
+
+// The numbers about the least and the greatest digit of this weight.
+fn near(weight: u64, base: u32) -> [u64; 6] {
+    let greatest = weight.wrapping_mul(u64::from(base).wrapping_sub(1));
+    [
+        weight.wrapping_sub(1),
+        weight,
+        weight.wrapping_add(1),
+        greatest.wrapping_sub(1),
+        greatest,
+        greatest.wrapping_add(1),
+    ]
+}
+
+// The constants about the edges of each digit, of some of the many where they are more than three, and past the ends.
+fn edges(alloc: Global, list: &[u32]) -> Result<Vec<u64>, NoMemory> {
+    let bases = bases(alloc, list)?;
+    let mut constants = Vec::new(alloc);
+    constants.extend_from_slice(&[0, 1, bases.size(), u64::MAX])?;
+    let stride = bases.len() / 4 + 1;
+    for i in 0..bases.len() {
+        if i % stride != 0 && i + 1 != bases.len() {
+            continue;
+        }
+        constants.extend_from_slice(&near(bases.weight(i), bases.base(i)))?;
+    }
+    Ok(constants)
+}
+
+fn constants(alloc: Global, list: &[u32]) -> Result<Vec<u64>, NoMemory> {
+    match edges(alloc, list) {
+        Err(_) => edges(alloc, list),
+        made => made,
+    }
+}
+
+// The column beside a plain one of the same entries.
+fn alike<C: Column>(
+    rt: &impl Abort,
+    alloc: Global,
+    column: &C,
+    list: &[u32],
+    rows: u64,
+) -> Result<(), NoMemory> {
+    let plain = plain(rt, alloc, column.size(), rows)?;
+    let constants = constants(alloc, list)?;
+    for constant in constants.as_slice() {
+        select_alike(rt, column, &plain, *constant)?;
+    }
+    Ok(())
+}
+
+fn form_alike(
+    rt: &impl Abort,
+    alloc: Global,
+    form: Form,
+    wide: Wide,
+    rows: u64,
+) -> Result<(), NoMemory> {
+    let column = filled(rt, alloc, form, wide, rows)?;
+    alike(rt, alloc, &column, wide.bases, rows)
+}
+
+fn whole_vectors_alike<E: Encoding>(
+    rt: &impl Abort,
+    alloc: Global,
+    list: &[u32],
+    rows: u64,
+) -> Result<(), NoMemory> {
+    let mut column = no_digits::<WholeVectors<E>>(alloc, list)?;
+    fill(rt, &mut column, rows)?;
+    alike(rt, alloc, &column, list, rows)
+}
+
+// Every form, and components of both encodings by whole vectors.
+fn all_alike(rt: &impl Abort, alloc: Global, wide: Wide, rows: u64) -> Result<(), NoMemory> {
+    for form in FORMS {
+        form_alike(rt, alloc, form, wide, rows)?;
+    }
+    whole_vectors_alike::<RangeComponent>(rt, alloc, wide.bases, rows)?;
+    whole_vectors_alike::<EqualityComponent>(rt, alloc, wide.bases, rows)
+}
+
+#[test]
+fn few_components(rt: HostRuntime) -> Result<(), Fail> {
+    let lists: [(u32, &[u32], u64); 4] = [
+        (1, &[2], 70),
+        (4, &[5, 3], 130),
+        (4, &[3, 3], 65),
+        (3, &[2, 4], 64),
+    ];
+    for (width, bases, rows) in lists {
+        all_alike(&rt, rt.alloc(), Wide { width, bases }, rows)?;
+    }
+    Ok(())
+}
+
+#[test]
+fn wide_component(rt: HostRuntime) -> Result<(), Fail> {
+    let wide = Wide {
+        width: 10,
+        bases: &[1024],
+    };
+    all_alike(&rt, rt.alloc(), wide, 66)?;
+    Ok(())
+}
+
+#[test]
+fn sixty_three_twos(rt: HostRuntime) -> Result<(), Fail> {
+    let wide = Wide {
+        width: 63,
+        bases: &[2; 63],
+    };
+    all_alike(&rt, rt.alloc(), wide, 70)?;
+    Ok(())
+}
+
+#[test]
+fn several_blocks(rt: HostRuntime) -> Result<(), Fail> {
+    let wide = Wide {
+        width: 4,
+        bases: &[5, 3],
+    };
+    for form in FORMS {
+        form_alike(&rt, rt.alloc(), form, wide, 64 * 256 + 65)?;
+    }
+    Ok(())
+}
+
+// Slices of so many rows as stand about the edges of a word, and of a block of words.
+fn lengths_alike(rt: &impl Abort, alloc: Global, wide: Wide) -> Result<(), NoMemory> {
+    for rows in [0, 1, 63, 64, 65, 256, 257, 1100] {
+        form_alike(rt, alloc, Form::Slices, wide, rows)?;
+    }
+    Ok(())
+}
+
+#[test]
+fn few_slices_about_the_edges_of_words(rt: HostRuntime) -> Result<(), Fail> {
+    for width in [1, 2, 3] {
+        let bases = &[2; 3][..width as usize];
+        lengths_alike(&rt, rt.alloc(), Wide { width, bases })?;
+    }
+    Ok(())
+}
+
+#[test]
+fn many_slices_about_the_edges_of_words(rt: HostRuntime) -> Result<(), Fail> {
+    for width in [20, 63] {
+        let bases = &[2; 63][..width as usize];
+        lengths_alike(&rt, rt.alloc(), Wide { width, bases })?;
+    }
+    Ok(())
+}
+
+/// The entry of a row of so many slices: nulls, numbers about the edge of a place, the greatest one, and numbers far apart.
+fn about_a_place(row: u64, width: u32) -> Option<u64> {
+    let width = width.clamp(1, 63);
+    let edge = 1u64 << (row % u64::from(width));
+    let greatest = u64::MAX >> (64 - width);
+    match row % 7 {
+        0 => None,
+        1 => Some(edge),
+        2 => Some(edge.wrapping_sub(1)),
+        3 => Some(greatest),
+        _ => Some(row.wrapping_mul(0x9E37_79B9_7F4A_7C15) & greatest),
+    }
+}
+
+fn fill_about_places<C: Column>(
+    rt: &impl Abort,
+    column: &mut C,
+    width: u32,
+) -> Result<(), NoMemory> {
+    for row in 0..1100 {
+        assert!(rt; push(column, about_a_place(row, width))?, "row {row}");
+    }
+    Ok(())
+}
+
+// Slices beside a plain column, at each power of two below the size and at the number before it.
+fn places_alike(rt: &impl Abort, alloc: Global, width: u32) -> Result<(), NoMemory> {
+    let mut column = no_slices(alloc, width)?;
+    fill_about_places(rt, &mut column, width)?;
+    let mut plain = PlainColumn::new(alloc, column.size());
+    fill_about_places(rt, &mut plain, width)?;
+    for place in 0..column.width() {
+        let edge = 1u64 << place;
+        select_alike(rt, &column, &plain, edge)?;
+        select_alike(rt, &column, &plain, edge.wrapping_sub(1))?;
+    }
+    Ok(())
+}
+
+#[test]
+fn slices_about_the_edges_of_each_place(rt: HostRuntime) -> Result<(), Fail> {
+    for width in [1, 2, 3, 20, 63] {
+        places_alike(&rt, rt.alloc(), width)?;
+    }
+    Ok(())
+}

@@ -1,0 +1,240 @@
+//! Tables of several columns beside a plain one. Each test tolerates one refused growth, and then makes the same call again.
+
+use crate::plain::PlainTable;
+use crate::tables::*;
+use bsi_columns::{NoMemory, Op};
+use bsi_table::{Answer, Index, Pred, Query, Row, Total};
+use std::alloc::Global;
+use std::process::Abort;
+use std::test::Fail;
+
+/// A column of each form, of 16 numbers each, two of them with negative ones.
+const COLUMNS: [Declared<'static>; 3] = [
+    Declared {
+        name: "slices",
+        form: Form::Slices,
+        wide: WIDE,
+        offset: -8,
+    },
+    Declared {
+        name: "equality",
+        form: Form::Equality,
+        wide: WIDE,
+        offset: 0,
+    },
+    Declared {
+        name: "range",
+        form: Form::Range,
+        wide: WIDE,
+        offset: -3,
+    },
+];
+
+const WIDE: Wide<'static> = Wide {
+    width: 4,
+    bases: &[2, 8],
+};
+
+const TOTALS: [Total; 9] = [
+    Total::Rows,
+    Total::Sum(0),
+    Total::Least(1),
+    Total::Greatest(2),
+    Total::Count,
+    Total::Median(0),
+    Total::Sum(2),
+    Total::Median(1),
+    Total::Least(0),
+];
+
+// The entry of a column: a null now and then, else one of the column's numbers.
+fn entry_of(row: u64, column: &Declared, place: u64) -> Option<i128> {
+    match row.wrapping_mul(7).wrapping_add(place.wrapping_mul(3)) % 6 {
+        0 => None,
+        _ => {
+            let mixed = row
+                .wrapping_mul(0x9E37_79B9_7F4A_7C15)
+                .rotate_left(9 + 7 * (place % 3) as u32);
+            Some(i128::from(mixed % 16).wrapping_add(i128::from(column.offset)))
+        }
+    }
+}
+
+fn row_at(alloc: Global, row: u64) -> Result<Row, NoMemory> {
+    let [first, second, third] = &COLUMNS;
+    row_of(
+        alloc,
+        &[
+            entry_of(row, first, 0),
+            entry_of(row, second, 1),
+            entry_of(row, third, 2),
+        ],
+    )
+}
+
+// Keeps a row. A refused growth changes nothing, and the row comes back.
+fn keep(plain: &mut PlainTable, feeder: u32, row: Row) -> Result<(), NoMemory> {
+    match plain.rows.push((feeder, row)) {
+        Ok(()) => Ok(()),
+        Err(refused) => Ok(plain.rows.push(refused.value)?),
+    }
+}
+
+fn predicate_at(alloc: Global, k: u32) -> Result<Pred, NoMemory> {
+    let low = Pred::Compare(0, Op::Lt, -2);
+    let high = Pred::Compare(1, Op::Ge, 9);
+    match k {
+        0 => Ok(Pred::All),
+        1 => not(alloc, Pred::Compare(2, Op::Le, 4)),
+        2 => both(alloc, low, high),
+        3 => either(alloc, Pred::Null(1), Pred::Compare(2, Op::Ne, 0)),
+        4 => not(alloc, either(alloc, low, high)?),
+        5 => both(
+            alloc,
+            not(alloc, Pred::Null(0))?,
+            Pred::Compare(0, Op::Gt, -1 << 70),
+        ),
+        6 => Ok(Pred::Compare(0, Op::Lt, 1 << 70)),
+        7 => either(alloc, both(alloc, low, Pred::Null(2))?, not(alloc, high)?),
+        _ => Ok(Pred::Compare(2, Op::Eq, i128::from(k) - 10)),
+    }
+}
+
+fn plain_answer(plain: &PlainTable, alloc: Global, query: &Query) -> Result<Answer, NoMemory> {
+    match plain.answer(alloc, query) {
+        Err(_) => plain.answer(alloc, query),
+        answer => answer,
+    }
+}
+
+// Each predicate with three of the totals.
+fn same_answers(
+    rt: &impl Abort,
+    alloc: Global,
+    index: &Index,
+    plain: &PlainTable,
+) -> Result<(), NoMemory> {
+    for k in 0..12u32 {
+        for total in TOTALS.iter().skip(k as usize % 3).step_by(3) {
+            let query = Query {
+                total: *total,
+                pred: predicate_at(alloc, k)?,
+            };
+            let wanted = plain_answer(plain, alloc, &query)?;
+            assert_eq!(rt; asked(index, &query), Ok(wanted), "{query:?}");
+        }
+    }
+    Ok(())
+}
+
+#[test]
+fn beside_a_plain_table(rt: HostRuntime) -> Result<(), Fail> {
+    for rows in [0, 1, 65, 130] {
+        let mut index = index_of(rt.alloc(), &COLUMNS, 3, 130).expect(&rt, "columns and a limit");
+        let mut plain = PlainTable::new(rt.alloc());
+        for row in 0..rows {
+            let feeder = ((row * 7 + row / 3) % 3) as u32;
+            let entries = row_at(rt.alloc(), row)?;
+            assert_eq!(rt; append_row(&mut index, feeder, &entries), Some(Ok(row)));
+            keep(&mut plain, feeder, entries)?;
+        }
+        same_answers(&rt, rt.alloc(), &index, &plain)?;
+    }
+    Ok(())
+}
+
+const OPERATORS: [Op; 6] = [Op::Eq, Op::Ne, Op::Lt, Op::Le, Op::Gt, Op::Ge];
+
+/// Constants above an offset: about each end of sixteen numbers, and far from both.
+const CONSTANTS: [i128; 13] = [
+    i128::MIN / 2,
+    -(1 << 64),
+    -1,
+    0,
+    1,
+    7,
+    8,
+    14,
+    15,
+    16,
+    17,
+    1 << 64,
+    i128::MAX / 2,
+];
+
+/// A column of sixteen numbers from an offset on, in an index and as it came.
+#[derive(Drop)]
+struct Both {
+    index: Index,
+    plain: PlainTable,
+}
+
+// A row of this entry is appended to both.
+fn append_to_both(
+    rt: &impl Abort,
+    alloc: Global,
+    both: &mut Both,
+    entry: Option<i128>,
+) -> Result<(), NoMemory> {
+    let row = row_of(alloc, &[entry])?;
+    let position = both.plain.rows.len() as u64;
+    assert_eq!(rt; append_row(&mut both.index, 0, &row), Some(Ok(position)));
+    keep(&mut both.plain, 0, row)
+}
+
+fn no_rows(rt: &impl Abort, alloc: Global, column: Declared) -> Both {
+    let index = index_of(alloc, &[column], 1, 10).expect(rt, "a column and a limit");
+    let plain = PlainTable::new(alloc);
+    Both { index, plain }
+}
+
+fn six_rows(rt: &impl Abort, alloc: Global, column: Declared) -> Result<Both, NoMemory> {
+    let mut both = no_rows(rt, alloc, column);
+    let offset = i128::from(column.offset);
+    append_to_both(rt, alloc, &mut both, None)?;
+    for above in [0, 15, 7, 8, 7] {
+        append_to_both(rt, alloc, &mut both, Some(offset + above))?;
+    }
+    Ok(both)
+}
+
+fn same_answer(rt: &impl Abort, alloc: Global, both: &Both, query: Query) -> Result<(), NoMemory> {
+    let wanted = plain_answer(&both.plain, alloc, &query)?;
+    assert_eq!(rt; asked(&both.index, &query), Ok(wanted), "{query:?}");
+    Ok(())
+}
+
+// Each comparison with a constant, and each total of the rows that it selects.
+fn same_comparisons(
+    rt: &impl Abort,
+    alloc: Global,
+    both: &Both,
+    constant: i128,
+) -> Result<(), NoMemory> {
+    for op in OPERATORS {
+        for total in [
+            Total::Rows,
+            Total::Sum(0),
+            Total::Least(0),
+            Total::Greatest(0),
+            Total::Median(0),
+        ] {
+            let pred = Pred::Compare(0, op, constant);
+            same_answer(rt, alloc, both, Query { total, pred })?;
+        }
+    }
+    Ok(())
+}
+
+#[test]
+fn offsets_from_end_to_end(rt: HostRuntime) -> Result<(), Fail> {
+    for offset in [i64::MIN, -8, -1, 0, 1, 1 << 62] {
+        for column in COLUMNS {
+            let both = six_rows(&rt, rt.alloc(), Declared { offset, ..column })?;
+            for above in CONSTANTS {
+                same_comparisons(&rt, rt.alloc(), &both, i128::from(offset) + above)?;
+            }
+        }
+    }
+    Ok(())
+}

@@ -1,0 +1,286 @@
+//! Step machines: what their makers refuse, runs, and calls that find no memory.
+
+use crate::tables::*;
+use bsi_columns::NoMemory;
+use bsi_load::{
+    CloseRefused, Core, Event, LoadRefused, MakeError, Reply, RunRefused, SubmitRefused,
+};
+use bsi_table::{Answer, AskError, IndexError, Pred, Query, Row, Total};
+use std::alloc::Global;
+use std::process::Abort;
+use std::test::Fail;
+
+/// What a machine is made of.
+#[derive(Clone, Copy)]
+pub(crate) struct Machine<'a> {
+    pub(crate) columns: &'a [Declared<'a>],
+    pub(crate) capacities: &'a [u32],
+    pub(crate) limit: u64,
+}
+
+const PAIR: Machine<'static> = Machine {
+    columns: &[QTY],
+    capacities: &[2],
+    limit: 10,
+};
+
+fn core_of(alloc: Global, machine: Machine) -> Result<Core, MakeError> {
+    match schema_of(alloc, machine.columns) {
+        Err(_) => Err(MakeError::NoMemory),
+        Ok(schema) => {
+            let capacities = list(alloc, machine.capacities)?;
+            Core::new(alloc, schema, capacities, machine.limit)
+        }
+    }
+}
+
+/// A machine with no row. Where a growth is refused, the same call is made again.
+pub(crate) fn made(alloc: Global, machine: Machine) -> Result<Core, MakeError> {
+    match core_of(alloc, machine) {
+        Err(MakeError::NoMemory) => core_of(alloc, machine),
+        made => made,
+    }
+}
+
+// Whether both refuse for the same reason, and hand back the same row.
+fn same_refusal(a: &SubmitRefused, b: &SubmitRefused) -> bool {
+    match (a, b) {
+        (SubmitRefused::UnknownFeeder(a), SubmitRefused::UnknownFeeder(b))
+        | (SubmitRefused::Closed(a), SubmitRefused::Closed(b))
+        | (SubmitRefused::Misfit(a), SubmitRefused::Misfit(b))
+        | (SubmitRefused::Full(a), SubmitRefused::Full(b)) => a.values() == b.values(),
+        _ => false,
+    }
+}
+
+fn same_reply(a: &Reply, b: &Reply) -> bool {
+    match (a, b) {
+        (Reply::Submitted(Ok(())), Reply::Submitted(Ok(()))) => true,
+        (Reply::Submitted(Err(a)), Reply::Submitted(Err(b))) => same_refusal(a, b),
+        (Reply::Loaded(a), Reply::Loaded(b)) => a == b,
+        (Reply::Closed(a), Reply::Closed(b)) => a == b,
+        (Reply::Answered(a), Reply::Answered(b)) => a == b,
+        _ => false,
+    }
+}
+
+fn lacks_memory(reply: &Reply) -> bool {
+    match reply {
+        Reply::Loaded(Err(LoadRefused::NoMemory)) | Reply::Answered(Err(AskError::NoMemory)) =>
+            true,
+        _ => false,
+    }
+}
+
+/// Whether the replies are these. One that there is no memory is the refusal of the whole run.
+pub(crate) fn are_replies(replies: &[Reply], wanted: &[Reply]) -> Result<bool, NoMemory> {
+    let mut alike = replies.len() == wanted.len();
+    for (reply, wanted) in replies.iter().zip(wanted) {
+        if lacks_memory(reply) {
+            return Err(NoMemory);
+        }
+        alike = alike && same_reply(reply, wanted);
+    }
+    Ok(alike)
+}
+
+/// The replies to a run. Where their list is refused nothing was done, and the events that come back are run again.
+pub(crate) fn replies(core: &mut Core, events: Vec<Event>) -> Result<Vec<Reply>, NoMemory> {
+    match core.run(events) {
+        Ok(replies) => Ok(replies),
+        Err(RunRefused { events }) => core.run(events).map_err(|_| NoMemory),
+    }
+}
+
+fn submit(alloc: Global, number: i128) -> Result<Event, NoMemory> {
+    let row = row_of(alloc, &[Some(number)])?;
+    Ok(Event::Submit(0, row))
+}
+
+// Two rows are submitted.
+fn first_events(alloc: Global) -> Result<Vec<Event>, NoMemory> {
+    let mut events = Vec::new(alloc);
+    for number in [1, 2] {
+        events.push(submit(alloc, number)?)?;
+    }
+    Ok(events)
+}
+
+// They are loaded, and a third comes after the closing.
+fn second_event(alloc: Global, k: u32) -> Result<Event, NoMemory> {
+    match k {
+        1 => Ok(Event::Close(0)),
+        2 => submit(alloc, 3),
+        5 => Ok(Event::Ask(Query {
+            total: Total::Sum(0),
+            pred: Pred::All,
+        })),
+        _ => Ok(Event::Load(0)),
+    }
+}
+
+fn second_reply(alloc: Global, k: u32) -> Result<Reply, NoMemory> {
+    match k {
+        0 => Ok(Reply::Loaded(Ok(0))),
+        1 => Ok(Reply::Closed(Ok(()))),
+        2 => {
+            let row = row_of(alloc, &[Some(3)])?;
+            Ok(Reply::Submitted(Err(SubmitRefused::Closed(row))))
+        }
+        3 => Ok(Reply::Loaded(Ok(1))),
+        4 => Ok(Reply::Loaded(Err(LoadRefused::Ended))),
+        _ => Ok(Reply::Answered(Ok(Answer::Sum(3)))),
+    }
+}
+
+fn second_events(alloc: Global) -> Result<Vec<Event>, NoMemory> {
+    let mut events = Vec::new(alloc);
+    for k in 0..6 {
+        events.push(second_event(alloc, k)?)?;
+    }
+    Ok(events)
+}
+
+fn second_replies(alloc: Global) -> Result<Vec<Reply>, NoMemory> {
+    let mut wanted = Vec::new(alloc);
+    for k in 0..6 {
+        wanted.push(second_reply(alloc, k)?)?;
+    }
+    Ok(wanted)
+}
+
+fn is_first_run(alloc: Global, core: &mut Core) -> Result<bool, NoMemory> {
+    let found = replies(core, first_events(alloc)?)?;
+    let accepted = [Reply::Submitted(Ok(())), Reply::Submitted(Ok(()))];
+    are_replies(&found, &accepted)
+}
+
+fn is_second_run(alloc: Global, core: &mut Core) -> Result<bool, NoMemory> {
+    let wanted = second_replies(alloc)?;
+    let found = replies(core, second_events(alloc)?)?;
+    are_replies(&found, &wanted)
+}
+
+fn two_runs_once(rt: &impl Abort, alloc: Global) -> Result<bool, NoMemory> {
+    let mut core = made(alloc, PAIR).expect(rt, "a machine");
+    let begins = is_first_run(alloc, &mut core)?;
+    let ends = is_second_run(alloc, &mut core)?;
+    let waiting = (core.feeders(), core.waiting(0), core.waiting(1));
+    assert_eq!(rt; waiting, (1, Some(0), None));
+    assert_eq!(rt; core.schema().columns(), 1);
+    Ok(begins && ends)
+}
+
+#[test]
+fn two_runs(rt: HostRuntime) -> Result<(), Fail> {
+    let done = match two_runs_once(&rt, rt.alloc()) {
+        Err(_) => two_runs_once(&rt, rt.alloc())?,
+        Ok(done) => done,
+    };
+    assert!(rt; done);
+    Ok(())
+}
+
+// Why no such machine is made. It is to be checked to be so, too.
+fn refusal(rt: &impl Abort, alloc: Global, machine: Machine) -> Option<MakeError> {
+    let schema = schema_of(alloc, machine.columns).expect(rt, "columns");
+    let refused = bsi_load::check_sizes(&schema, machine.capacities, machine.limit).err();
+    assert_eq!(rt; made(alloc, machine).err(), refused);
+    refused
+}
+
+#[test]
+fn check_sizes(rt: HostRuntime) -> Result<(), Fail> {
+    let no_columns = Some(MakeError::Index(IndexError::NoColumns));
+    let no_limit = Some(MakeError::Index(IndexError::LimitOutOfRange));
+    let second = Some(MakeError::CapacityOutOfRange(1));
+    let cases: &[(&[Declared], &[u32], u64, Option<MakeError>)] = &[
+        (&[QTY], &[], 10, Some(MakeError::NoFeeders)),
+        (&[QTY], &[4; 65], 10, Some(MakeError::TooManyFeeders)),
+        (&[QTY], &[1, 0], 10, second),
+        (&[QTY], &[1, 65537], 10, second),
+        (&[QTY], &[4], 0, no_limit),
+        (&[QTY], &[4], 10, None),
+        (&[], &[4], 0, no_columns),
+    ];
+    for (columns, capacities, limit, wanted) in cases {
+        let machine = Machine {
+            columns,
+            capacities,
+            limit: *limit,
+        };
+        assert_eq!(rt;
+            refusal(&rt, rt.alloc(), machine),
+            *wanted,
+            "{capacities:?}"
+        );
+    }
+    Ok(())
+}
+
+fn asked_of(core: &Core, total: Total, pred: Pred) -> Result<Answer, AskError> {
+    let query = Query { total, pred };
+    match core.ask(&query) {
+        Err(AskError::NoMemory) => core.ask(&query),
+        answer => answer,
+    }
+}
+
+#[test]
+fn load_refused_memory(rt: HostRuntime) -> Result<(), Fail> {
+    let mut core = made(rt.alloc(), PAIR).expect(&rt, "a machine");
+    let row = row_of(rt.alloc(), &[Some(5)])?;
+    assert!(rt; core.submit(0, row).is_ok());
+    let loaded = match core.load(0) {
+        Err(LoadRefused::NoMemory) => {
+            assert_eq!(rt; core.waiting(0), Some(1));
+            let count = asked_of(&core, Total::Count, Pred::All);
+            assert_eq!(rt; count, Ok(Answer::Count(0)));
+            core.load(0)
+        }
+        loaded => loaded,
+    };
+    assert_eq!(rt; (loaded, core.waiting(0)), (Ok(0), Some(0)));
+    let sum = asked_of(&core, Total::Sum(0), Pred::All);
+    assert_eq!(rt; sum, Ok(Answer::Sum(5)));
+    Ok(())
+}
+
+/// A machine with room for two rows, and three rows of their own numbers.
+#[derive(Drop)]
+struct RoomForTwo {
+    core: Core,
+    first: Row,
+    second: Row,
+    third: Row,
+}
+
+fn room_for_two(alloc: Global) -> Result<RoomForTwo, NoMemory> {
+    Ok(RoomForTwo {
+        core: made(alloc, PAIR).map_err(|_| NoMemory)?,
+        first: row_of(alloc, &[Some(1)])?,
+        second: row_of(alloc, &[Some(2)])?,
+        third: row_of(alloc, &[Some(3)])?,
+    })
+}
+
+// From the probe on nothing asks for memory: each later growth may be refused too.
+#[test]
+fn submit_and_close_take_no_memory(rt: HostRuntime) -> Result<(), Fail> {
+    let Ok(fixture) = room_for_two(rt.alloc()) else {
+        eprintln!(rt; "gave up: no memory for the fixture")?;
+        return Ok(());
+    };
+    let mut core = fixture.core;
+    let _probe = Vec::<u8>::with_capacity(rt.alloc(), 1);
+    let first = core.submit(0, fixture.first);
+    let second = core.submit(0, fixture.second);
+    assert!(rt; first.is_ok() && second.is_ok());
+    assert_eq!(rt; (core.close(0), core.waiting(0)), (Ok(()), Some(2)));
+    match core.submit(0, fixture.third) {
+        Err(SubmitRefused::Closed(row)) => assert!(rt; row.values() == &[Some(3)][..]),
+        other => panic!(rt; "{other:?}"),
+    }
+    assert_eq!(rt; core.waiting(0), Some(2));
+    Ok(())
+}

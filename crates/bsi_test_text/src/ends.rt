@@ -1,0 +1,155 @@
+//! Readers and writers that fail.
+
+use bsi_text::{NoMemory, ScriptFault, run_script};
+use std::alloc::Global;
+use std::io;
+use std::io::{Read, Write};
+use std::test::Fail;
+
+// Gives its text a byte at a time, and then an error.
+#[derive(Drop)]
+pub(crate) struct BrokenReader<'a> {
+    pub(crate) text: &'a [u8],
+}
+
+impl<'a> Read for BrokenReader<'a> {
+    fn read(&mut self, buf: &mut [u8]) -> io::Result<usize> {
+        match (self.text.split_first(), buf.first_mut()) {
+            (Some((byte, rest)), Some(place)) => {
+                *place = *byte;
+                self.text = rest;
+                Ok(1)
+            }
+            _ => Err(io::Error::from(io::ErrorKind::BrokenPipe)),
+        }
+    }
+}
+
+// Takes a byte a call until it has `room` no more; then it fails once, or takes nothing once.
+#[derive(Drop)]
+struct NarrowWriter {
+    taken: Vec<u8>,
+    room: usize,
+    fails: bool,
+}
+
+impl Write for NarrowWriter {
+    fn write(&mut self, buf: &[u8]) -> io::Result<usize> {
+        match buf.first() {
+            Some(byte) if self.taken.len() < self.room => {
+                self.taken.push(*byte)?;
+                Ok(1)
+            }
+            _ => {
+                self.room = usize::MAX;
+                if self.fails {
+                    return Err(io::Error::from(io::ErrorKind::BrokenPipe));
+                }
+                Ok(0)
+            }
+        }
+    }
+
+    fn flush(&mut self) -> io::Result<()> {
+        Ok(())
+    }
+}
+
+// A buffer that a test writes to; a refused growth is asked for again.
+pub(crate) fn buffer(alloc: Global) -> Result<Vec<u8>, NoMemory> {
+    match Vec::with_capacity(alloc, 4096) {
+        Err(_) => Vec::with_capacity(alloc, 4096),
+        made => made,
+    }
+}
+
+// A script, and the lines that answer it.
+const SCRIPT: &str =
+    "column,qty,slices,3\nfeeder,4\nbegin\nsubmit,0,5\ncount,all\nload,0\ncount,all\nsum,qty,all\n";
+
+const LINES: &str = "ok\nok\nok\naccepted\ncount 0\nloaded 0\ncount 1\nsum 5\n";
+
+// How the script ends whose reader fails behind this text; where memory was wanted, how it ends then.
+fn read_until(alloc: Global, text: &[u8], lines: &mut Vec<u8>) -> Result<(), ScriptFault> {
+    lines.clear();
+    match run_script(alloc, BrokenReader { text }, lines) {
+        Err(ScriptFault::NoMemory) => {
+            lines.clear();
+            run_script(alloc, BrokenReader { text }, lines)
+        }
+        run => run,
+    }
+}
+
+// Whether some line says that memory was wanted.
+fn told_of_memory(lines: &[u8]) -> bool {
+    lines
+        .windows(10)
+        .any(|part| part == b"no memory\n".as_slice())
+}
+
+#[test]
+fn a_reader_fails_after_each_byte(rt: HostRuntime) -> Result<(), Fail> {
+    let mut lines = buffer(rt.alloc())?;
+    for count in 0..SCRIPT.len() {
+        let text = &SCRIPT.as_bytes()[..count];
+        let run = read_until(rt.alloc(), text, &mut lines);
+        if told_of_memory(&lines) {
+            continue;
+        }
+        let answered = text.iter().filter(|byte| **byte == b'\n').count();
+        let told = lines.iter().filter(|byte| **byte == b'\n').count();
+        assert_eq!(rt; run, Err(ScriptFault::Read), "after {count}");
+        assert_eq!(rt; told, answered, "after {count}");
+        assert!(rt;
+            LINES.as_bytes().starts_with(lines.as_slice()),
+            "after {count}"
+        );
+    }
+    Ok(())
+}
+
+// How the script ends whose writer takes a byte a call, and so many; where memory was wanted, how it ends then.
+fn write_until(
+    alloc: Global,
+    room: usize,
+    fails: bool,
+    writer: &mut NarrowWriter,
+) -> Result<(), ScriptFault> {
+    writer.taken.clear();
+    writer.room = room;
+    writer.fails = fails;
+    run_script(alloc, SCRIPT.as_bytes(), writer)
+}
+
+#[test]
+fn a_writer_fails_at_each_call(rt: HostRuntime) -> Result<(), Fail> {
+    let mut writer = NarrowWriter {
+        taken: buffer(rt.alloc())?,
+        room: 0,
+        fails: false,
+    };
+    for room in 0..LINES.len() {
+        for fails in [true, false] {
+            let mut run = write_until(rt.alloc(), room, fails, &mut writer);
+            if !LINES.as_bytes().starts_with(writer.taken.as_slice())
+                || run == Err(ScriptFault::NoMemory)
+            {
+                run = write_until(rt.alloc(), room, fails, &mut writer);
+            }
+            assert_eq!(rt; run, Err(ScriptFault::Write), "at {room}");
+            assert_eq!(rt;
+                writer.taken.as_slice(),
+                &LINES.as_bytes()[..room],
+                "at {room}"
+            );
+        }
+    }
+    let mut run = write_until(rt.alloc(), LINES.len(), true, &mut writer);
+    if run.is_err() || writer.taken.as_slice() != LINES.as_bytes() {
+        run = write_until(rt.alloc(), LINES.len(), true, &mut writer);
+    }
+    assert_eq!(rt; run, Ok(()));
+    assert_eq!(rt; writer.taken.as_slice(), LINES.as_bytes());
+    Ok(())
+}

@@ -1,0 +1,9 @@
+//! Tests of row files, of readers and writers that fail, and of the command line. No crate uses it.
+#![tactic(auto)]
+
+#[cfg(test)]
+mod ends;
+#[cfg(test)]
+mod row_files;
+#[cfg(test)]
+mod shell;

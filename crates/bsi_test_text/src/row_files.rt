@@ -1,0 +1,260 @@
+//! The rows of row files.
+
+use crate::ends::BrokenReader;
+use bsi_table::{ColumnSpec, Row, Schema, SchemaError};
+use bsi_text::{NoMemory, RowSource, SourceFault};
+use std::alloc::Global;
+use std::io;
+use std::io::Read;
+use std::test::Fail;
+
+// The column a, of numbers below 16.
+fn narrow_once(alloc: Global) -> Result<Schema, SchemaError> {
+    let mut schema = Schema::new(alloc);
+    schema.add("a", ColumnSpec::Slices(4))?;
+    Ok(schema)
+}
+
+// A refused growth is asked for again.
+fn narrow_schema(alloc: Global) -> Result<Schema, SchemaError> {
+    match narrow_once(alloc) {
+        Err(SchemaError::NoMemory) => narrow_once(alloc),
+        made => made,
+    }
+}
+
+fn schema_once(alloc: Global) -> Result<Schema, SchemaError> {
+    let mut schema = narrow_once(alloc)?;
+    let mut bases = Vec::with_capacity(alloc, 1)?;
+    bases.push_reserved(10);
+    schema.add("b", ColumnSpec::Range(bases))?;
+    Ok(schema)
+}
+
+// The columns a, of numbers below 16, and b, of numbers below 10; a refused growth is asked for again.
+fn schema_of(alloc: Global) -> Result<Schema, SchemaError> {
+    match schema_once(alloc) {
+        Err(SchemaError::NoMemory) => schema_once(alloc),
+        made => made,
+    }
+}
+
+// A row, or that there is none, or the fault; what the test waits for.
+type Given<'a> = Result<Option<&'a [Option<i128>]>, SourceFault>;
+
+fn is_given(found: &Result<Option<Row>, SourceFault>, want: Given<'_>) -> bool {
+    match (found, want) {
+        (Ok(None), Ok(None)) => true,
+        (Ok(Some(row)), Ok(Some(entries))) => row.values() == entries,
+        (Err(fault), Err(wanted)) => *fault == wanted,
+        _ => false,
+    }
+}
+
+// Whether a file gives these one after another, with so many bad records at the end. A fault for want of memory stays, and a
+// new source of the same bytes then gives them.
+fn gives_once<R: Read + Drop>(
+    alloc: Global,
+    schema: &Schema,
+    reader: R,
+    want: &[Given<'_>],
+    bad: u64,
+) -> Result<bool, SourceFault> {
+    let mut source = RowSource::begin(alloc, schema, reader)?;
+    for given in want {
+        let found = source.next_row();
+        if let Err(SourceFault::NoMemory) = found {
+            let stays = is_given(&source.next_row(), Err(SourceFault::NoMemory));
+            return if stays {
+                Err(SourceFault::NoMemory)
+            } else {
+                Ok(false)
+            };
+        }
+        if !is_given(&found, *given) {
+            return Ok(false);
+        }
+    }
+    Ok(source.bad() == bad)
+}
+
+// Whether a text gives these; where memory was wanted, whether it then does.
+fn gives(
+    alloc: Global,
+    schema: &Schema,
+    text: &str,
+    want: &[Given<'_>],
+    bad: u64,
+) -> Result<bool, SourceFault> {
+    match gives_once(alloc, schema, text.as_bytes(), want, bad) {
+        Err(SourceFault::NoMemory) => gives_once(alloc, schema, text.as_bytes(), want, bad),
+        given => given,
+    }
+}
+
+#[test]
+fn row_source_calls(rt: HostRuntime) -> Result<(), Fail> {
+    let schema = schema_of(rt.alloc())?;
+    let want: [Given<'_>; 5] = [
+        Ok(Some([Some(15), Some(3)].as_slice())),
+        Ok(Some([None, Some(9)].as_slice())),
+        Ok(Some([Some(0), Some(4)].as_slice())),
+        Ok(None),
+        Ok(None),
+    ];
+    for text in [
+        "b,a\n3,15\n9,\nx,1\n10,2\n\"4\",\"0\"\n\n7\n",
+        "\u{feff}b,a\r\n3,15\r\n9,\r\nx,1\r\n10,2\r\n\"4\",\"0\"\r\n\r\n7\r\n",
+    ] {
+        let given = gives(rt.alloc(), &schema, text, &want, 3);
+        assert_eq!(rt; given, Ok(true), "at {text:?}");
+    }
+    Ok(())
+}
+
+#[test]
+fn a_null_row_of_one_column_is_quoted(rt: HostRuntime) -> Result<(), Fail> {
+    let schema = narrow_schema(rt.alloc())?;
+    let want: [Given<'_>; 4] = [
+        Ok(Some([Some(7)].as_slice())),
+        Ok(Some([None].as_slice())),
+        Ok(Some([Some(0)].as_slice())),
+        Ok(None),
+    ];
+    let given = gives(rt.alloc(), &schema, "a\n7\n\n\"\"\n\r\n0", &want, 0);
+    assert_eq!(rt; given, Ok(true));
+    Ok(())
+}
+
+// The fault of a header, if there is one; where memory was wanted, that of the same header then.
+fn header_fault(alloc: Global, schema: &Schema, text: &str) -> Option<SourceFault> {
+    match RowSource::begin(alloc, schema, text.as_bytes()) {
+        Err(SourceFault::NoMemory) => RowSource::begin(alloc, schema, text.as_bytes()).err(),
+        made => made.err(),
+    }
+}
+
+#[test]
+fn headers(rt: HostRuntime) -> Result<(), Fail> {
+    let schema = schema_of(rt.alloc())?;
+    for text in ["a,b\n", "b,a", "\"b\",\"a\"\n1,2\n", "\n\r\na,b\n"] {
+        let fault = header_fault(rt.alloc(), &schema, text);
+        assert_eq!(rt; fault, None, "at {text:?}");
+    }
+    for text in [
+        "", "\n", "a\n", "a,a\n", "a,b,b\n", "a,b,c\n", "a,c\n", "a, b\n", "A,b\n", "a,b,\n",
+        "1,2\n",
+    ] {
+        let fault = header_fault(rt.alloc(), &schema, text);
+        assert_eq!(rt; fault, Some(SourceFault::BadHeader), "at {text:?}");
+    }
+    Ok(())
+}
+
+#[test]
+fn a_fault_stays(rt: HostRuntime) -> Result<(), Fail> {
+    let schema = schema_of(rt.alloc())?;
+    let text = "a,b\n1,2\n16,2\n3,4\n5,".as_bytes();
+    let want: [Given<'_>; 4] = [
+        Ok(Some([Some(1), Some(2)].as_slice())),
+        Ok(Some([Some(3), Some(4)].as_slice())),
+        Err(SourceFault::Read),
+        Err(SourceFault::Read),
+    ];
+    let mut given = gives_once(rt.alloc(), &schema, BrokenReader { text }, &want, 1);
+    if given == Err(SourceFault::NoMemory) {
+        given = gives_once(rt.alloc(), &schema, BrokenReader { text }, &want, 1);
+    }
+    assert_eq!(rt; given, Ok(true));
+    Ok(())
+}
+
+// Gives the header of one column, and then so many records of two fields.
+#[derive(Drop)]
+struct Rows {
+    has_begun: bool,
+    left: u64,
+}
+
+impl Read for Rows {
+    fn read(&mut self, buf: &mut [u8]) -> io::Result<usize> {
+        let [first, comma, second, end, ..] = buf else {
+            return Ok(0);
+        };
+        *first = b'a';
+        *end = b'\n';
+        if self.left == 0 && self.has_begun {
+            return Ok(0);
+        }
+        if self.has_begun {
+            self.left -= 1;
+            *comma = b',';
+            *second = b'1';
+            return Ok(4);
+        }
+        self.has_begun = true;
+        *comma = b'\n';
+        Ok(2)
+    }
+}
+
+// How many rows a source gives, how many records are bad, and its fault, which it then answers again.
+fn drain(alloc: Global, schema: &Schema, left: u64) -> (u64, u64, Option<SourceFault>) {
+    let reader = Rows {
+        has_begun: false,
+        left,
+    };
+    let mut source = match RowSource::begin(alloc, schema, reader) {
+        Err(fault) => return (0, 0, Some(fault)),
+        Ok(source) => source,
+    };
+    let mut count = 0u64;
+    for _ in 0..1_000_002u64 {
+        match source.next_row() {
+            Ok(Some(_)) => count = count.saturating_add(1),
+            Ok(None) => return (count, source.bad(), source.next_row().err()),
+            Err(fault) => {
+                let again = source.next_row().err();
+                return (count, source.bad(), again.filter(|f| *f == fault));
+            }
+        }
+    }
+    (count, source.bad(), None)
+}
+
+#[test]
+fn a_row_file_has_a_million_records(rt: HostRuntime) -> Result<(), Fail> {
+    let schema = narrow_schema(rt.alloc())?;
+    for (left, want) in [
+        (1_000_000, (0, 1_000_000, None)),
+        (1_000_001, (0, 1_000_000, Some(SourceFault::TooLong))),
+    ] {
+        let mut drained = drain(rt.alloc(), &schema, left);
+        if let (_, _, Some(SourceFault::NoMemory)) = drained {
+            drained = drain(rt.alloc(), &schema, left);
+        }
+        assert_eq!(rt; drained, want);
+    }
+    Ok(())
+}
+
+fn text_once(alloc: Global, fault: SourceFault) -> Result<String, NoMemory> {
+    format!(in alloc; "{fault}")
+}
+
+#[test]
+fn each_fault_has_its_text(rt: HostRuntime) -> Result<(), Fail> {
+    for (fault, want) in [
+        (SourceFault::BadHeader, "bad header"),
+        (SourceFault::Read, "read failed"),
+        (SourceFault::NoMemory, "no memory"),
+        (SourceFault::TooLong, "input too long"),
+    ] {
+        let text = match text_once(rt.alloc(), fault) {
+            Err(_) => text_once(rt.alloc(), fault)?,
+            Ok(text) => text,
+        };
+        assert_eq!(rt; text.as_str(), want);
+    }
+    Ok(())
+}

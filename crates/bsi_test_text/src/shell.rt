@@ -1,0 +1,144 @@
+//! How a command line ends, and how often its output is flushed.
+
+use crate::ends::{BrokenReader, buffer};
+use bsi_shell::run_words;
+use std::alloc::{AllocError, Global};
+use std::io;
+use std::io::Write;
+use std::test::Fail;
+
+// Takes a byte a call until it has `room` no more; then it fails once, or takes nothing once. It counts its flushes.
+#[derive(Drop)]
+struct NarrowWriter {
+    taken: Vec<u8>,
+    room: usize,
+    fails: bool,
+    flushes: u64,
+}
+
+impl Write for NarrowWriter {
+    fn write(&mut self, buf: &[u8]) -> io::Result<usize> {
+        match buf.first() {
+            Some(byte) if self.taken.len() < self.room => {
+                self.taken.push(*byte)?;
+                Ok(1)
+            }
+            _ => {
+                self.room = usize::MAX;
+                if self.fails {
+                    return Err(io::Error::from(io::ErrorKind::BrokenPipe));
+                }
+                Ok(0)
+            }
+        }
+    }
+
+    fn flush(&mut self) -> io::Result<()> {
+        self.flushes = self.flushes.saturating_add(1);
+        if self.fails {
+            return Err(io::Error::from(io::ErrorKind::BrokenPipe));
+        }
+        Ok(())
+    }
+}
+
+// How a command line ends: its status, what it wrote, and how often it flushed its output.
+#[derive(Drop)]
+struct Ended {
+    status: u8,
+    output: Vec<u8>,
+    faults: Vec<u8>,
+    flushes: u64,
+}
+
+// How a command line is run: its words, whether its reader fails behind the text, and how much its writer takes.
+#[derive(Clone, Copy)]
+struct Line<'a> {
+    words: &'a str,
+    text: &'a str,
+    is_broken: bool,
+    room: usize,
+    fails: bool,
+}
+
+fn words_of(alloc: Global, line: &str) -> Result<Vec<String>, AllocError> {
+    let mut list = Vec::new(alloc);
+    for word in line.split_whitespace() {
+        list.push(String::from_str(alloc, word)?)?;
+    }
+    Ok(list)
+}
+
+fn end_once<R: AllocGlobal>(rt: &R, line: Line<'_>) -> Result<Ended, AllocError> {
+    let words = words_of(rt.alloc(), line.words)?;
+    let mut output = NarrowWriter {
+        taken: buffer(rt.alloc())?,
+        room: line.room,
+        fails: line.fails,
+        flushes: 0,
+    };
+    let mut faults = buffer(rt.alloc())?;
+    let text = line.text.as_bytes();
+    let status = if line.is_broken {
+        run_words(rt, words, BrokenReader { text }, &mut output, &mut faults)
+    } else {
+        run_words(rt, words, text, &mut output, &mut faults)
+    };
+    Ok(Ended {
+        status,
+        flushes: output.flushes,
+        output: output.taken,
+        faults,
+    })
+}
+
+// How the line ends; where memory was wanted, how it ends then.
+fn end_of<R: AllocGlobal>(rt: &R, line: Line<'_>) -> Result<Ended, AllocError> {
+    match end_once(rt, line) {
+        Ok(end) if end.faults.as_slice() != b"bsi: no memory\n".as_slice() => Ok(end),
+        _ => end_once(rt, line),
+    }
+}
+
+// A line whose reader and writer do not fail.
+const PLAIN: Line<'static> = Line {
+    words: "script",
+    text: "begin\nbegin\nload,0",
+    is_broken: false,
+    room: 99,
+    fails: false,
+};
+
+#[test]
+fn the_script_word_runs_the_script(rt: HostRuntime) -> Result<(), Fail> {
+    let end = end_of(&rt, PLAIN)?;
+    assert_eq!(rt; end.status, 0);
+    assert_eq!(rt; end.output.as_slice(), b"bad\nbad\nbad\n".as_slice());
+    assert_eq!(rt; end.faults.len(), 0);
+    assert_eq!(rt; end.flushes, 1);
+    Ok(())
+}
+
+#[test]
+fn each_fault_has_its_text_and_status_one(rt: HostRuntime) -> Result<(), Fail> {
+    for (is_broken, room, fails, wrote, want) in [
+        (true, 99, false, "bad\nbad\n", "bsi: read failed\n"),
+        (true, 99, true, "bad\nbad\n", "bsi: read failed\n"),
+        (false, 6, true, "bad\nba", "bsi: write failed\n"),
+        (false, 6, false, "bad\nba", "bsi: write failed\n"),
+        (false, 99, true, "bad\nbad\nbad\n", "bsi: write failed\n"),
+    ] {
+        let line = Line {
+            is_broken,
+            room,
+            fails,
+            ..PLAIN
+        };
+        let end = end_of(&rt, line)?;
+        assert_eq!(rt; end.status, 1, "at {want}");
+        assert_eq!(rt; end.faults.as_slice(), want.as_bytes());
+        assert_eq!(rt; end.output.as_slice(), wrote.as_bytes(), "at {want}");
+        assert_eq!(rt; end.flushes, 1, "at {want}");
+    }
+    Ok(())
+}
