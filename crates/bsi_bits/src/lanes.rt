@@ -142,7 +142,7 @@ fn ones_in(words: u64x4) -> u64
     (a.count_ones() + b.count_ones() + c.count_ones() + d.count_ones()) as u64
 }
 
-/// The ones in the operation's words for each pair of words, of which there are few enough that the number fits 64 bits.
+/// Counts the ones in the operation's words for each pair of words, of which there are few enough that 64 bits hold them.
 fn count_few_combined<O: Operation>(a: &[u64], b: &[u64]) -> u64
     requires same { length a.now ≡ length b.now }
     requires few { length a.now < 2 ^ 58 }
@@ -162,7 +162,7 @@ fn count_few_combined<O: Operation>(a: &[u64], b: &[u64]) -> u64
     ones
 }
 
-/// The ones in the operation's words for each pair of words.
+/// Counts the ones in the operation's words for each pair of words.
 fn count_combined<O: Operation>(a: &[u64], b: &[u64]) -> u128
     requires { length a.now ≡ length b.now }
     ensures ones { result ≡ sum_by count_ones (zip2 O.word_of a.now b.now) }
@@ -250,7 +250,7 @@ pub fn not(a: &mut [u64])
     }
 }
 
-/// The number of ones in words of which there are few enough that it fits 64 bits. The four quarters are read side by side,
+/// Counts the ones in words of which there are few enough that 64 bits hold them. The four quarters are read side by side,
 /// since one reader alone does not ask for all that memory can give.
 fn count_few(a: &[u64]) -> u64
     requires { length a.now < 2 ^ 58 }
@@ -269,7 +269,7 @@ fn count_few(a: &[u64]) -> u64
     ones
 }
 
-/// The number of ones in `a`, at most 64 a word.
+/// Counts the ones in `a`, at most 64 a word.
 pub fn count(a: &[u64]) -> u128
     ensures ones { result ≡ sum_by count_ones a.now }
     ensures few { result ≤ 64 * length a.now }
@@ -284,7 +284,7 @@ pub fn count(a: &[u64]) -> u128
     ones
 }
 
-/// The number of bits that are set in `a` and in `b`, at most 64 a word.
+/// Counts the bits that are set in `a` and in `b`, at most 64 a word.
 pub fn count_and(a: &[u64], b: &[u64]) -> u128
     requires { length a.now ≡ length b.now }
     ensures ones { result ≡ sum_by count_ones (zip2 bit_and a.now b.now) }
@@ -293,7 +293,7 @@ pub fn count_and(a: &[u64], b: &[u64]) -> u128
     count_combined::<AndWords>(a, b)
 }
 
-/// The number of bits that are set in `a` and not in `b`, at most 64 a word.
+/// Counts the bits that are set in `a` and not in `b`, at most 64 a word.
 pub fn count_and_not(a: &[u64], b: &[u64]) -> u128
     requires { length a.now ≡ length b.now }
     ensures ones { result ≡ sum_by count_ones (zip2 (λ x y. bit_and x (bit_not w64 y)) a.now b.now) }

@@ -153,7 +153,7 @@ impl Shifted {
         sum_from(self.stored.sum(found), self.offset, numbers)
     }
 
-    /// The number of a rank in order among those at the rows of a found set, none where there is none.
+    /// Finds the number of a rank in order among those at the rows of a found set, none where there is none.
     fn of_rank(&self, found: &Bits, rank: Rank) -> Result<Option<i64>, NoMemory>
         requires { length (shifted_entries self.now) ≡ length found.now.bits }
         ensures { IfOk result (λ o. IsSignedOfRank rank (values_at found.now.bits (shifted_entries self.now)) o) }
