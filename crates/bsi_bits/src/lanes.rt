@@ -11,6 +11,9 @@ use std::simd::u64x4;
 /// The words that a kernel takes at a time.
 const LANES: usize = 4;
 
+/// The words whose ones are counted in 64 bits. No memory holds more, so a count goes over one such block.
+const MOST_COUNTED: usize = 1 << 57;
+
 /// A Boolean operation on two words, bit by bit: on single words, and on four side by side.
 trait Operation {
     /// The word that it makes of two.
@@ -139,11 +142,12 @@ fn ones_in(words: u64x4) -> u64
     (a.count_ones() + b.count_ones() + c.count_ones() + d.count_ones()) as u64
 }
 
-/// The ones in the operation's words for each pair of words.
-fn count_combined<O: Operation>(a: &[u64], b: &[u64]) -> u64
+/// Counts the ones in the operation's words for each pair of words, of which there are few enough that 64 bits hold them.
+fn count_few_combined<O: Operation>(a: &[u64], b: &[u64]) -> u64
     requires same { length a.now ≡ length b.now }
     requires few { length a.now < 2 ^ 58 }
-    ensures { result ≡ sum_by count_ones (zip2 O.word_of a.now b.now) }
+    ensures ones { result ≡ sum_by count_ones (zip2 O.word_of a.now b.now) }
+    ensures few { result ≤ 64 * length a.now }
 {
     let whole = a.len() / LANES;
     let mut ones = 0u64;
@@ -154,6 +158,22 @@ fn count_combined<O: Operation>(a: &[u64], b: &[u64]) -> u64
     }
     'rest: for i in LANES * whole..a.len() {
         ones += O::word(a[i], b[i]).count_ones() as u64;
+    }
+    ones
+}
+
+/// Counts the ones in the operation's words for each pair of words.
+fn count_combined<O: Operation>(a: &[u64], b: &[u64]) -> u128
+    requires { length a.now ≡ length b.now }
+    ensures ones { result ≡ sum_by count_ones (zip2 O.word_of a.now b.now) }
+    ensures few { result ≤ 64 * length a.now }
+{
+    let mut ones = 0;
+    let mut at = 0;
+    'parts: while at < a.len() {
+        let end = at + MOST_COUNTED.min(a.len() - at);
+        ones += count_few_combined::<O>(&a[at..end], &b[at..end]) as u128;
+        at = end;
     }
     ones
 }
@@ -230,11 +250,12 @@ pub fn not(a: &mut [u64])
     }
 }
 
-/// The number of ones in `a`, which has fewer than 2^58 words, so that the number fits. The four quarters are read side by
-/// side, since one reader alone does not ask for all that memory can give.
-pub fn count(a: &[u64]) -> u64
+/// Counts the ones in words of which there are few enough that 64 bits hold them. The four quarters are read side by side,
+/// since one reader alone does not ask for all that memory can give.
+fn count_few(a: &[u64]) -> u64
     requires { length a.now < 2 ^ 58 }
-    ensures { result ≡ sum_by count_ones a.now }
+    ensures ones { result ≡ sum_by count_ones a.now }
+    ensures few { result ≤ 64 * length a.now }
 {
     let quarter = a.len() / LANES;
     let mut ones = 0u64;
@@ -248,20 +269,35 @@ pub fn count(a: &[u64]) -> u64
     ones
 }
 
-/// The number of bits that are set in `a` and in `b`, of fewer than 2^58 words each.
-pub fn count_and(a: &[u64], b: &[u64]) -> u64
-    requires same { length a.now ≡ length b.now }
-    requires few { length a.now < 2 ^ 58 }
-    ensures { result ≡ sum_by count_ones (zip2 bit_and a.now b.now) }
+/// Counts the ones in `a`, at most 64 a word.
+pub fn count(a: &[u64]) -> u128
+    ensures ones { result ≡ sum_by count_ones a.now }
+    ensures few { result ≤ 64 * length a.now }
+{
+    let mut ones = 0;
+    let mut at = 0;
+    'parts: while at < a.len() {
+        let end = at + MOST_COUNTED.min(a.len() - at);
+        ones += count_few(&a[at..end]) as u128;
+        at = end;
+    }
+    ones
+}
+
+/// Counts the bits that are set in `a` and in `b`, at most 64 a word.
+pub fn count_and(a: &[u64], b: &[u64]) -> u128
+    requires { length a.now ≡ length b.now }
+    ensures ones { result ≡ sum_by count_ones (zip2 bit_and a.now b.now) }
+    ensures few { result ≤ 64 * length a.now }
 {
     count_combined::<AndWords>(a, b)
 }
 
-/// The number of bits that are set in `a` and not in `b`, of fewer than 2^58 words each.
-pub fn count_and_not(a: &[u64], b: &[u64]) -> u64
-    requires same { length a.now ≡ length b.now }
-    requires few { length a.now < 2 ^ 58 }
-    ensures { result ≡ sum_by count_ones (zip2 (λ x y. bit_and x (bit_not w64 y)) a.now b.now) }
+/// Counts the bits that are set in `a` and not in `b`, at most 64 a word.
+pub fn count_and_not(a: &[u64], b: &[u64]) -> u128
+    requires { length a.now ≡ length b.now }
+    ensures ones { result ≡ sum_by count_ones (zip2 (λ x y. bit_and x (bit_not w64 y)) a.now b.now) }
+    ensures few { result ≤ 64 * length a.now }
 {
     count_combined::<AndNotWords>(a, b)
 }

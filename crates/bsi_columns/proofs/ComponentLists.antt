@@ -1,11 +1,12 @@
 -- Lists of components, of which one after another is changed.
-use Rattle.std.proofs.Common.{◌≡◌, ◌≢◌, ℕ, ◌+◌, ◌*◌, ◌<◌, ◌≤◌, Bool, true, List, [], ◌∷◌, ◌++◌, length, get_or, set, map, sym, ap, ◌∙◌, inl, inr, arith}
+use Rattle.std.proofs.Common.{◌≡◌, ◌≢◌, ℕ, ◌+◌, ◌*◌, ◌<◌, ◌≤◌, Bool, true, false, List, [], ◌∷◌, ◌++◌, length, get_or, set, map, sym, ap, ◌∙◌, inl, inr, arith}
 use Rattle.std.specs.List.{list_all}
+use Rattle.std.specs.Prelude.{OnErr, Result, Ok, Err}
 use Rattle.std.proofs.lemmas.List.{length-map, get_or-map, map-set, get_or-set_same, get_or-set_other, get_or_past}
 use Rattle.std.proofs.Math.Seq.{map-set_same}
 use Rattle.std.proofs.lemmas.List.Sums.{AllPass-from_list_all, list_all-from_AllPass}
 use Rattle.std.proofs.lemmas.List.Folds.{list_all-map}
-use Rattle.std.proofs.lemmas.Bool.{cases_eq, cases_lt}
+use Rattle.std.proofs.lemmas.Bool.{true≢false, cases_eq, cases_lt, false_from_ne_true}
 use Rattle.bsi_digits.specs.Digits.{size_of, weight, IsBaseList}
 use Rattle.bsi_digits.proofs.CallerLemmas.{weight_rises, weight_le_size}
 
@@ -39,6 +40,17 @@ module _ {E : Type 0} (room : E → Bool) (cs : List E) where
     | inl within ↦ AllPass-from_list_all (λ (b : Bool). b) (map room cs) (list_all-map (λ (b : Bool). b) room cs ∙ all) k true (omega (arith, length-map cs room))
     | inr past ↦ get_or_past (map room cs) k true (omega (arith, length-map cs room))
   ]
+
+-- what holds, holds where there is an error
+pub on_err_from : {T E P : Type 0} (r : Result T E) → P → OnErr r P
+on_err_from (Ok x) p = tt
+on_err_from (Err y) p = p
+
+-- not all have room, where one that was written has none
+pub one_lacks_room : {E : Type 0} (room : E → Bool) (cs : List E) (i : ℕ) (new : E) → i < length cs → room new ≡ false → list_all room (set cs i new) ≡ false
+one_lacks_room room cs i new within lacks =
+    false_from_ne_true (list_all room (set cs i new)) (λ all.
+    true≢false (sym (room_at room (set cs i new) all i) ∙ map_written room cs i new true within ∙ lacks))
 
 -- a component that is read at its place
 module _ {E X : Type 0} (f : E → X) where

@@ -1,6 +1,6 @@
 //! A column of whichever form, chosen when the program runs.
 
-ghost use Rattle.std.specs.Prelude.{◌≡◌, ◌<◌, ◌^◌, [], ◌∷◌, ◌++◌, length, IsTrue, IsOk, IfOk, OnOk};
+ghost use Rattle.std.specs.Prelude.{◌≡◌, ◌<◌, ◌^◌, [], ◌∷◌, ◌++◌, length, IsTrue, IsOk, IfOk, OnOk, OnErr};
 ghost use Rattle.bsi_columns.specs.AnyRows.{any_size, any_bases, any_entries, any_room, IsSameForm};
 ghost use Rattle.bsi_columns.specs.Rows.{number_or_zero};
 
@@ -58,6 +58,7 @@ impl Column for AnyColumn {
         ensures bases { any_bases self.new ≡ any_bases self.old }
         ensures form { IsSameForm self.new self.old }
         ensures ok { OnOk result (IsTrue (any_room self.new)) }
+        ensures err { OnErr result (any_room self.new ≡ any_room self.old) }
         ensures succeeds { IsTrue (any_room self.old) → IsOk result }
     {
         match self {

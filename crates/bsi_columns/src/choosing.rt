@@ -4,9 +4,8 @@ ghost use Rattle.std.specs.Prelude.{◌≡◌, ℕ, ◌+◌, ◌<◌, ◌&&◌, 
 ghost use Rattle.std.specs.Simd.Lanes.{zip2};
 ghost use Rattle.bsi_components.specs.Component.{count_where};
 
-use crate::Encoding;
+use crate::{Encoding, RankedDigit};
 use bsi_bits::Bits;
-use bsi_components::RankedDigit;
 
 /// Finds the digit of the row of the rank, counted from 0 among the chosen rows in order of their digits, and leaves the
 /// chosen rows that have it.

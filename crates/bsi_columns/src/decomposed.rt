@@ -1,6 +1,6 @@
 //! A column of numbers that keeps the digits of each number under a list of bases, a component a digit.
 
-ghost use Rattle.std.specs.Prelude.{◌≡◌, ℕ, ◌+◌, ◌*◌, ◌^◌, ◌≤◌, ◌<◌, Bool, List, Option, [], ◌∷◌, ◌++◌, All, length, map, is_some, is_none, replicate, slice_index, slice_index_or, IsTrue, IfOk, OnOk};
+ghost use Rattle.std.specs.Prelude.{◌≡◌, ℕ, ◌+◌, ◌*◌, ◌^◌, ◌≤◌, ◌<◌, Bool, List, Option, [], ◌∷◌, ◌++◌, All, length, map, is_some, is_none, replicate, slice_index, slice_index_or, IsTrue, IsFalse, IfOk, OnOk, OnErr};
 ghost use Rattle.std.specs.List.{list_all};
 ghost use Rattle.bsi_digits.specs.Digits.{digit_of, size_of, IsBaseList};
 ghost use Rattle.bsi_columns.specs.Rows.{number_or_zero, selects};
@@ -163,12 +163,14 @@ fn all_have_room<E: Encoding>(components: &[E]) -> bool
     components.iter().all(|component| component.has_room())
 }
 
-/// Makes room for one more digit in each component. The digits stay, whatever the result.
+/// Makes room for one more digit in each component. The digits stay, whatever the result; where it is refused, a component
+/// has no room.
 fn reserve_each<E: Encoding>(components: &mut Vec<E>) -> Result<(), NoMemory>
     requires { All (λ c. length (E.digits c) < 2 ^ 32) components.old.items }
     ensures digits { map E.digits components.new.items ≡ map E.digits components.old.items }
     ensures bases { map E.base_of components.new.items ≡ map E.base_of components.old.items }
     ensures ok { OnOk result (IsTrue (list_all E.room components.new.items)) }
+    ensures err { OnErr result (IsFalse (list_all E.room components.new.items)) }
 {
     for i in 0..components.len() {
         components[i].reserve_one()?;

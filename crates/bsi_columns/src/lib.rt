@@ -7,7 +7,7 @@ mod choosing;
 mod decomposed;
 
 pub use any::AnyColumn;
-pub use bsi_components::{Encoding, EqualityComponent, RangeComponent};
+pub use bsi_components::{Encoding, EqualityComponent, RangeComponent, RankedDigit};
 pub use bsi_slices::{Column, Op, Rank, Slices};
 pub use decomposed::Decomposed;
 pub use std::alloc::AllocError as NoMemory;

@@ -1,6 +1,6 @@
 //! The bitmaps of a component: vectors of one length, which grow together.
 
-ghost use Rattle.std.specs.Prelude.{◌≡◌, ℕ, ◌^◌, ◌<◌, [], length, slice_index_or, IsTrue, IfOk, OnOk, IsOk};
+ghost use Rattle.std.specs.Prelude.{◌≡◌, ℕ, ◌^◌, ◌<◌, [], length, slice_index_or, IsTrue, IfOk, OnOk, OnErr, IsOk};
 ghost use Rattle.bsi_components.specs.Bitmaps.{bitmap, has_room_in};
 
 use crate::NoMemory;
@@ -26,13 +26,14 @@ pub(crate) fn have_room(bitmaps: &[Bits]) -> bool
     bitmaps.iter().all(|bitmap| bitmap.has_room())
 }
 
-/// Makes room for one more bit in each bitmap. The bits stay, whatever the result. It takes memory only where one has no
-/// room.
+/// Makes room for one more bit in each bitmap. The bits stay, whatever the result, and where it is refused so does what
+/// `have_room` says. It takes memory only where one has no room.
 pub(crate) fn reserve_each(bitmaps: &mut Vec<Bits>) -> Result<(), NoMemory>
     requires { (j : ℕ) → length (bitmap bitmaps.old.items j) < 2 ^ 32 }
     ensures count { length bitmaps.new.items ≡ length bitmaps.old.items }
     ensures bits { (j : ℕ) → bitmap bitmaps.new.items j ≡ bitmap bitmaps.old.items j }
     ensures ok { OnOk result (IsTrue (has_room_in bitmaps.new.items)) }
+    ensures err { OnErr result (has_room_in bitmaps.new.items ≡ has_room_in bitmaps.old.items) }
     ensures succeeds { IsTrue (has_room_in bitmaps.old.items) → IsOk result }
 {
     if have_room(bitmaps) {

@@ -1,6 +1,6 @@
 //! What a component is to a column: a list of digits below its base.
 
-ghost use Rattle.std.specs.Prelude.{◌≡◌, ℕ, ◌+◌, ◌*◌, ◌/◌, ◌^◌, ◌≤◌, ◌<◌, ◌==◌, ◌&&◌, Bool, List, [], ◌∷◌, ◌++◌, length, map, sum, count_by, slice_index, nat_lt, nat_le, IsTrue, IfOk, OnOk, IsOk};
+ghost use Rattle.std.specs.Prelude.{◌≡◌, ℕ, ◌+◌, ◌*◌, ◌/◌, ◌^◌, ◌≤◌, ◌<◌, ◌==◌, ◌&&◌, Bool, List, [], ◌∷◌, ◌++◌, length, map, sum, count_by, slice_index, nat_lt, nat_le, IsTrue, IfOk, OnOk, OnErr, IsOk};
 ghost use Rattle.std.specs.List.{items_where_true};
 ghost use Rattle.std.specs.Bool.{OnTrue, OnFalse};
 ghost use Rattle.std.specs.Simd.Lanes.{zip2};
@@ -49,12 +49,14 @@ pub trait Encoding: Drop {
     fn has_room(&self) -> bool
         ensures { result ≡ room self.now };
 
-    /// Makes room for one more digit. The digits stay, whatever the result. It takes memory only where there is no room.
+    /// Makes room for one more digit. The digits stay, whatever the result; where it is refused, there is no more room than
+    /// before. It takes memory only where there is no room.
     fn reserve_one(&mut self) -> Result<(), NoMemory>
         requires { length (digits self.old) < 2 ^ 32 }
         ensures digits { digits self.new ≡ digits self.old }
         ensures base { base_of self.new ≡ base_of self.old }
         ensures ok { OnOk result (IsTrue (room self.new)) }
+        ensures err { OnErr result (room self.new ≡ room self.old) }
         ensures succeeds { IsTrue (room self.old) → IsOk result };
 
     /// Appends a digit, in room that is there.

@@ -13,8 +13,11 @@ use mir.Val.{SFits}
 use Rattle.bsi_slices.proofs.CallerLemmas.{count_cons}
 use Rattle.bsi_slices.specs.Rows.{number_or_zero}
 use Rattle.bsi_slices.specs.Totals.{numbers_at, IsLeastOf, IsGreatestOf, IsMedianOf}
+use Rattle.bsi_slices.specs.Ranks.{IsOfRank}
+use Rattle.bsi_slices.specs.declared.column.Rank.{Rank}
+use Rattle.bsi_slices.specs.declared.column.Rank.TheVariants.{Least, Greatest, Median}
 use Rattle.bsi_shift.specs.Shifted.{number_of}
-use Rattle.bsi_shift.specs.WholeNumbers.{signed_sum, IsSignedLeastOf, IsSignedGreatestOf, IsSignedMedianOf}
+use Rattle.bsi_shift.specs.WholeNumbers.{signed_sum, IsSignedLeastOf, IsSignedGreatestOf, IsSignedMedianOf, IsSignedOfRank}
 
 -- ---- sums
 
@@ -62,7 +65,7 @@ module _ (offset : ℤ) where
       ∙ ap₂ (λ b k. cond b 1 0 + k) (same n) (count_from p q same numbers)
       ∙ sym (count_cons p n numbers)
 
-  pub least_from : (numbers : List ℕ) (answer : Option ℕ) → IsLeastOf numbers answer → IsSignedLeastOf (map (number_of offset) numbers) (option_map (number_of offset) answer)
+  least_from : (numbers : List ℕ) (answer : Option ℕ) → IsLeastOf numbers answer → IsSignedLeastOf (map (number_of offset) numbers) (option_map (number_of offset) answer)
   least_from numbers None none = ap (map (number_of offset)) none
   least_from numbers (Some m) is = record {
     member = member_from numbers m is.member;
@@ -70,7 +73,7 @@ module _ (offset : ℤ) where
         (All-weaker (λ n. nat_le m n ≡ true) (λ n. int_le (number_of offset m) (number_of offset n) ≡ true) (λ n le. at_most_from m n ∙ le) numbers is.none_below);
   }
 
-  pub greatest_from : (numbers : List ℕ) (answer : Option ℕ) → IsGreatestOf numbers answer → IsSignedGreatestOf (map (number_of offset) numbers) (option_map (number_of offset) answer)
+  greatest_from : (numbers : List ℕ) (answer : Option ℕ) → IsGreatestOf numbers answer → IsSignedGreatestOf (map (number_of offset) numbers) (option_map (number_of offset) answer)
   greatest_from numbers None none = ap (map (number_of offset)) none
   greatest_from numbers (Some m) is = record {
     member = member_from numbers m is.member;
@@ -78,7 +81,7 @@ module _ (offset : ℤ) where
         (All-weaker (λ n. nat_le n m ≡ true) (λ n. int_le (number_of offset n) (number_of offset m) ≡ true) (λ n le. at_most_from n m ∙ le) numbers is.none_above);
   }
 
-  pub median_from : (numbers : List ℕ) (answer : Option ℕ) → IsMedianOf numbers answer → IsSignedMedianOf (map (number_of offset) numbers) (option_map (number_of offset) answer)
+  median_from : (numbers : List ℕ) (answer : Option ℕ) → IsMedianOf numbers answer → IsSignedMedianOf (map (number_of offset) numbers) (option_map (number_of offset) answer)
   median_from numbers None none = ap (map (number_of offset)) none
   median_from numbers (Some m) is =
       let many = length-map numbers (number_of offset) in
@@ -87,6 +90,11 @@ module _ (offset : ℤ) where
         half = omega (arith, is.half, many, count_from (λ n. nat_le n m) (λ x. int_le x (number_of offset m)) (λ n. at_most_from n m) numbers);
         fewer_below = omega (arith, is.fewer_below, many, count_from (λ n. nat_lt n m) (λ x. int_lt x (number_of offset m)) (λ n. below_from n m) numbers);
       }
+
+  pub of_rank_from : (rank : Rank) (numbers : List ℕ) (answer : Option ℕ) → IsOfRank rank numbers answer → IsSignedOfRank rank (map (number_of offset) numbers) (option_map (number_of offset) answer)
+  of_rank_from Least numbers answer is = least_from numbers answer is
+  of_rank_from Greatest numbers answer is = greatest_from numbers answer is
+  of_rank_from Median numbers answer is = median_from numbers answer is
 
 -- ---- the answer is one of the numbers, so it is below the size
 
@@ -104,17 +112,22 @@ module _ (size : ℕ) where
     member_below : (m : ℕ) → Contains (numbers_at found stored) m → m < size
     member_below m there = All-contains (λ n. n < size) (numbers_at found stored) m (numbers_below found stored below) there
 
-    pub least_below : (answer : Option ℕ) → IsLeastOf (numbers_at found stored) answer → IfSome answer (λ m. m < size)
+    least_below : (answer : Option ℕ) → IsLeastOf (numbers_at found stored) answer → IfSome answer (λ m. m < size)
     least_below None none = tt
     least_below (Some m) is = member_below m is.member
 
-    pub greatest_below : (answer : Option ℕ) → IsGreatestOf (numbers_at found stored) answer → IfSome answer (λ m. m < size)
+    greatest_below : (answer : Option ℕ) → IsGreatestOf (numbers_at found stored) answer → IfSome answer (λ m. m < size)
     greatest_below None none = tt
     greatest_below (Some m) is = member_below m is.member
 
-    pub median_below : (answer : Option ℕ) → IsMedianOf (numbers_at found stored) answer → IfSome answer (λ m. m < size)
+    median_below : (answer : Option ℕ) → IsMedianOf (numbers_at found stored) answer → IfSome answer (λ m. m < size)
     median_below None none = tt
     median_below (Some m) is = member_below m is.member
+
+    pub of_rank_below : (rank : Rank) (answer : Option ℕ) → IsOfRank rank (numbers_at found stored) answer → IfSome answer (λ m. m < size)
+    of_rank_below Least answer is = least_below answer is
+    of_rank_below Greatest answer is = greatest_below answer is
+    of_rank_below Median answer is = median_below answer is
 
 -- ---- a sum of at most 2^32 numbers of 64 bits
 

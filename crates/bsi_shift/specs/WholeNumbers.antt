@@ -2,6 +2,8 @@
 use Rattle.std.specs.Prelude.{ℤ, pos, ◌+ℤ◌, Bool, List, [], ◌∷◌, Option, ◌&&◌, int_lt, int_le}
 use Rattle.bsi_slices.specs.Orders.{Order, selects_by, IsLeastBy, IsGreatestBy, IsLowerMedianBy, IsNoneOr}
 use Rattle.bsi_slices.specs.declared.column.Op.{Op}
+use Rattle.bsi_slices.specs.declared.column.Rank.{Rank}
+use Rattle.bsi_slices.specs.declared.column.Rank.TheVariants.{Least, Greatest, Median}
 
 -- the whole numbers in their order
 abbrev pub whole_order : Order ℤ
@@ -24,3 +26,9 @@ IsSignedGreatestOf = IsNoneOr (IsGreatestBy whole_order)
 
 abbrev pub IsSignedMedianOf : List ℤ → Option ℤ → Type 0
 IsSignedMedianOf = IsNoneOr (IsLowerMedianBy whole_order)
+
+-- the answer is the one of this rank, and none exactly where there is no number
+abbrev pub IsSignedOfRank : Rank → List ℤ → Option ℤ → Type 0
+IsSignedOfRank Least numbers answer = IsSignedLeastOf numbers answer
+IsSignedOfRank Greatest numbers answer = IsSignedGreatestOf numbers answer
+IsSignedOfRank Median numbers answer = IsSignedMedianOf numbers answer

@@ -1,16 +1,16 @@
 //! A column of whole numbers from an offset on, kept as the column of the numbers less the offset.
 
-ghost use Rattle.std.specs.Prelude.{◌≡◌, ℕ, ℤ, pos, neg_ℤ, ◌+ℤ◌, ◌*ℤ◌, ◌≤ℤ◌, ◌<ℤ◌, ◌<◌, ◌≤◌, ◌^◌, [], ◌∷◌, ◌++◌, All, length, map, is_none, is_some, IsTrue, IsOk, IfOk, IfSome, OnOk};
+ghost use Rattle.std.specs.Prelude.{◌≡◌, ℕ, ℤ, pos, neg_ℤ, ◌+ℤ◌, ◌*ℤ◌, ◌≤ℤ◌, ◌<ℤ◌, ◌<◌, ◌≤◌, ◌^◌, [], ◌∷◌, ◌++◌, All, length, map, is_none, is_some, IsTrue, IsOk, IfOk, IfSome, OnOk, OnErr};
 ghost use Rattle.std.specs.Option.{option_map};
 ghost use Rattle.bsi_columns.specs.AnyRows.{any_entries, any_size, any_bases, IsSameForm};
 ghost use Rattle.bsi_slices.specs.Orders.{values_at, compares_by};
 ghost use Rattle.bsi_slices.specs.Rows.{number_order};
 ghost use Rattle.bsi_shift.specs.Shifted.{OffsetColumn, shifted_entries, shifted_size, shifted_room, number_of, IsInRange};
-ghost use Rattle.bsi_shift.specs.WholeNumbers.{whole_order, signed_selects, signed_sum, IsSignedLeastOf, IsSignedGreatestOf, IsSignedMedianOf};
+ghost use Rattle.bsi_shift.specs.WholeNumbers.{whole_order, signed_selects, signed_sum, IsSignedLeastOf, IsSignedGreatestOf, IsSignedMedianOf, IsSignedOfRank};
 
 use crate::NoMemory;
 use bsi_bits::Bits;
-use bsi_columns::{AnyColumn, Column, Op};
+use bsi_columns::{AnyColumn, Column, Op, Rank};
 use std::marker::Model;
 
 /// A column of optional whole numbers, as many as the stored column's size, from its offset on.
@@ -87,7 +87,8 @@ impl Shifted {
         self.stored.has_room()
     }
 
-    /// Makes room for one more entry. The entries stay, whatever the result. It takes memory only where there is no room.
+    /// Makes room for one more entry. The entries stay, whatever the result; where it is refused, there is no more room than
+    /// before. It takes memory only where there is no room.
     pub fn reserve_one(&mut self) -> Result<(), NoMemory>
         requires { length (shifted_entries self.old) < 2 ^ 32 }
         ensures entries { shifted_entries self.new ≡ shifted_entries self.old }
@@ -96,6 +97,7 @@ impl Shifted {
         ensures bases { any_bases self.new.stored ≡ any_bases self.old.stored }
         ensures form { IsSameForm self.new.stored self.old.stored }
         ensures ok { OnOk result (IsTrue (shifted_room self.new)) }
+        ensures err { OnErr result (shifted_room self.new ≡ shifted_room self.old) }
         ensures succeeds { IsTrue (shifted_room self.old) → IsOk result }
     {
         self.stored.reserve_one()
@@ -151,13 +153,21 @@ impl Shifted {
         sum_from(self.stored.sum(found), self.offset, numbers)
     }
 
+    /// Finds the number of a rank in order among those at the rows of a found set, none where there is none.
+    fn of_rank(&self, found: &Bits, rank: Rank) -> Result<Option<i64>, NoMemory>
+        requires { length (shifted_entries self.now) ≡ length found.now.bits }
+        ensures { IfOk result (λ o. IsSignedOfRank rank (values_at found.now.bits (shifted_entries self.now)) o) }
+    {
+        let stored = self.stored.of_rank(found, rank)?;
+        Ok(number_from(self.offset, stored))
+    }
+
     /// The least number at the rows of a found set, none where there is none.
     pub fn least(&self, found: &Bits) -> Result<Option<i64>, NoMemory>
         requires { length (shifted_entries self.now) ≡ length found.now.bits }
         ensures { IfOk result (λ o. IsSignedLeastOf (values_at found.now.bits (shifted_entries self.now)) o) }
     {
-        let stored = self.stored.least(found)?;
-        Ok(number_from(self.offset, stored))
+        self.of_rank(found, Rank::Least)
     }
 
     /// The greatest number at the rows of a found set, none where there is none.
@@ -165,8 +175,7 @@ impl Shifted {
         requires { length (shifted_entries self.now) ≡ length found.now.bits }
         ensures { IfOk result (λ o. IsSignedGreatestOf (values_at found.now.bits (shifted_entries self.now)) o) }
     {
-        let stored = self.stored.greatest(found)?;
-        Ok(number_from(self.offset, stored))
+        self.of_rank(found, Rank::Greatest)
     }
 
     /// The lower median of the numbers at the rows of a found set, none where there is none.
@@ -174,8 +183,7 @@ impl Shifted {
         requires { length (shifted_entries self.now) ≡ length found.now.bits }
         ensures { IfOk result (λ o. IsSignedMedianOf (values_at found.now.bits (shifted_entries self.now)) o) }
     {
-        let stored = self.stored.median(found)?;
-        Ok(number_from(self.offset, stored))
+        self.of_rank(found, Rank::Median)
     }
 
     /// A second column of the same entries, in the same form.

@@ -1,17 +1,15 @@
 -- Words of chosen rows, narrowed by the words of a slice.
-use Rattle.std.proofs.Common.{◌≡◌, ℕ, suc, ◌+◌, ◌*◌, ◌/◌, ◌^◌, ◌<◌, ◌≤◌, Bool, true, false, not, ◌&&◌, List, [], ◌∷◌, ◌++◌, length, length-append, length-take, length-drop, get_or, take, drop, ap, ap₂, sym, ◌∙◌, refl, arith, inl, inr}
+use Rattle.std.proofs.Common.{◌≡◌, ℕ, suc, ◌+◌, ◌/◌, ◌^◌, ◌<◌, ◌≤◌, Bool, true, false, not, ◌&&◌, List, [], ◌∷◌, ◌++◌, length, length-append, length-take, length-drop, get_or, take, drop, ap, ap₂, sym, ◌∙◌, refl, arith}
 use Rattle.std.specs.Prelude.{if◌then◌else◌, sum_by, count_ones}
 use Rattle.std.specs.Int.{bit_not, w64}
 use Rattle.std.specs.Simd.Lanes.{zip2, chunk}
 use borrow.Rule.Slice.PartMut.{put_mid}
-use Rattle.std.proofs.lemmas.Bool.{cases_lt}
 use Rattle.std.proofs.lemmas.List.{get_or_past, take_all, drop-drop}
 use Rattle.std.proofs.lemmas.Slice.{take-put_mid, drop-put_mid}
 use Rattle.std.proofs.Math.Seq.{take-add}
 use Rattle.bsi_bits.proofs.Pairs.{chunk-zip2}
 use Rattle.std.proofs.lemmas.List.Sums.{sum_by-cons}
-use Rattle.std.proofs.lemmas.Nat.{and_le_l, ones-le}
-use Rattle.std.proofs.lemmas.Simd.{length-zip2, get_or-zip2}
+use Rattle.std.proofs.lemmas.Nat.{and_le_l}
 use Rattle.bsi_bits.specs.Packed.{bit_of, bits_of, IsPacked}
 use Rattle.bsi_bits.proofs.Logic.{IsBitwise, and_bitwise, and_not_bitwise}
 use Rattle.bsi_bits.proofs.Reading.{bits_are}
@@ -41,25 +39,6 @@ empty_ones [] none = refl
 empty_ones (x ∷ rows) none =
     let first : count_ones x ≡ count_ones 0 = ap count_ones (none 0) in
     sum_by-cons count_ones x rows ∙ ap₂ ◌+◌ first (empty_ones rows (λ k. none (suc k))) ∙ refl
-
--- words below 2^64 have at most 64 ones each
-pub ones_few : (xs : List ℕ) → ((k : ℕ) → get_or xs k 0 < 2 ^ 64) → sum_by count_ones xs ≤ 64 * length xs
-ones_few [] fits = omega arith
-ones_few (x ∷ xs) fits =
-    let rest = ones_few xs (λ k. fits (suc k)) in
-    omega (arith, rest, ones-le 64 x (fits 0), sum_by-cons count_ones x xs)
-
--- the words that are left of words below 2^64 are so too
-pub kept_fits : (wanted : Bool) (rows words : List ℕ) → length words ≡ length rows → ((k : ℕ) → get_or rows k 0 < 2 ^ 64)
-    → (k : ℕ) → get_or (zip2 (word_kept wanted) rows words) k 0 < 2 ^ 64
-kept_fits wanted rows words same fits k = elim (cases_lt k (length rows)) [
-  | inl inside ↦
-      let pair = get_or-zip2 (word_kept wanted) rows words k 0 0 0 inside (omega (arith, same)) in
-      omega (arith, pair, fits k, kept_less wanted (get_or rows k 0) (get_or words k 0))
-  | inr past ↦
-      let none = get_or_past (zip2 (word_kept wanted) rows words) k 0 (omega (arith, length-zip2 (word_kept wanted) rows words (sym same))) in
-      omega (arith, none)
-]
 
 -- the words that a bit vector shows
 module _ (bits : List Bool) (words : List ℕ) (few : length words ≡ (length bits + 63) / 64) (places : (i : ℕ) → bit_of words i ≡ get_or bits i false) where

@@ -1,5 +1,5 @@
 -- Comparisons and totals over whatever order, which is given by its tests of two values.
-use Rattle.std.specs.Prelude.{◌≡◌, ℕ, ◌*◌, ◌<◌, ◌≤◌, Bool, false, not, List, [], Option, Some, None, MatchOption, All, Contains, IsTrue, length, count_by}
+use Rattle.std.specs.Prelude.{◌≡◌, ◌*◌, ◌<◌, ◌≤◌, Bool, false, not, List, [], Option, Some, None, MatchOption, All, Contains, IsTrue, length, count_by}
 use Rattle.std.specs.List.{filter_map, items_where_true}
 use Rattle.bsi_slices.specs.declared.column.Op.{Op}
 use Rattle.bsi_slices.specs.declared.column.Op.TheVariants.{Eq, Ne, Lt, Le, Gt, Ge}

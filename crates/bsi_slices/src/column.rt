@@ -1,6 +1,6 @@
 //! What a column is to a table: a list of optional numbers below its size.
 
-ghost use Rattle.std.specs.Prelude.{◌≡◌, ℕ, ◌^◌, ◌≤◌, ◌<◌, Bool, List, Option, [], ◌∷◌, ◌++◌, All, length, map, is_some, is_none, sum, IsTrue, IfOk, OnOk, IsOk};
+ghost use Rattle.std.specs.Prelude.{◌≡◌, ℕ, ◌^◌, ◌≤◌, ◌<◌, Bool, List, Option, [], ◌∷◌, ◌++◌, All, length, map, is_some, is_none, sum, IsTrue, IfOk, OnOk, OnErr, IsOk};
 ghost use Rattle.bsi_slices.specs.Rows.{number_or_zero, selects};
 ghost use Rattle.bsi_slices.specs.Totals.{numbers_at, IsRanked, IsLeastOf, IsGreatestOf, IsMedianOf};
 ghost use Rattle.bsi_slices.specs.Ranks.{IsOfRank};
@@ -65,13 +65,15 @@ pub trait Column: Drop {
     fn has_room(&self) -> bool
         ensures { result ≡ room self.now };
 
-    /// Makes room for one more entry. The entries stay, whatever the result. It takes memory only where there is no room.
+    /// Makes room for one more entry. The entries stay, whatever the result; where it is refused, there is no more room than
+    /// before. It takes memory only where there is no room.
     fn reserve_one(&mut self) -> Result<(), NoMemory>
         requires { length (entries self.old) < 2 ^ 32 }
         ensures entries { entries self.new ≡ entries self.old }
         ensures size { size_of self.new ≡ size_of self.old }
         ensures bases { bases_of self.new ≡ bases_of self.old }
         ensures ok { OnOk result (IsTrue (room self.new)) }
+        ensures err { OnErr result (room self.new ≡ room self.old) }
         ensures succeeds { IsTrue (room self.old) → IsOk result };
 
     /// Appends a number below the size, or a null, in room that is there.

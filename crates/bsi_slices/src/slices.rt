@@ -1,6 +1,6 @@
 //! A column as bit slices: one bit vector for each binary place of its numbers, as O'Neil and Quass described in 1997.
 
-ghost use Rattle.std.specs.Prelude.{◌≡◌, ℕ, ◌++◌, ◌∷◌, [], All, ◌<◌, ◌≤◌, ◌^◌, ◌==◌, ◌&&◌, length, map, replicate, IfOk, IsTrue, OnOk};
+ghost use Rattle.std.specs.Prelude.{◌≡◌, ℕ, ◌++◌, ◌∷◌, [], All, ◌<◌, ◌≤◌, ◌^◌, ◌==◌, ◌&&◌, length, map, replicate, IfOk, IsTrue, IsFalse, OnOk, OnErr};
 ghost use Rattle.std.specs.Int.{bit_at};
 ghost use Rattle.bsi_slices.specs.Rows.{number_or_zero};
 ghost use Rattle.bsi_slices.specs.Slices.{entries_in, has_room_at, have_room, slice_at, IsSliced};
@@ -154,13 +154,14 @@ fn empty_slices(alloc: Global, width: u32) -> Result<Vec<Bits>, NoMemory>
     Ok(slices)
 }
 
-/// Makes room for one more row. The rows stay, whatever the result.
+/// Makes room for one more row. The rows stay, whatever the result; where it is refused, there is no room for one more.
 fn reserve_row(slices: &mut [Bits], present: &mut Bits) -> Result<(), NoMemory>
     requires sliced { IsSliced present.old.bits slices.old }
     requires below { length present.old.bits < 2 ^ 32 }
     ensures sliced { IsSliced present.new.bits slices.new }
     ensures entries { entries_in present.new.bits slices.new ≡ entries_in present.old.bits slices.old }
     ensures ok { OnOk result (IsTrue (have_room slices.new && present.new.room)) }
+    ensures err { OnErr result (IsFalse (have_room slices.new && present.new.room)) }
 {
     reserve_all(slices)?;
     present.reserve_one()
@@ -179,11 +180,12 @@ fn push_row(slices: &mut [Bits], present: &mut Bits, entry: Option<u64>)
     prove!(present.len() <= 1 << 32);
 }
 
-/// Makes room for one more bit in each slice. The bits stay, whatever the result.
+/// Makes room for one more bit in each slice. The bits stay, whatever the result; where it is refused, a slice has no room.
 fn reserve_all(slices: &mut [Bits]) -> Result<(), NoMemory>
     requires { (k : ℕ) → k < length slices.old → length (slice_at slices.old k) < 2 ^ 32 }
     ensures bits { (k : ℕ) → k < length slices.old → slice_at slices.new k ≡ slice_at slices.old k }
     ensures ok { OnOk result ((k : ℕ) → k < length slices.old → IsTrue (has_room_at slices.new k)) }
+    ensures err { OnErr result (IsFalse (have_room slices.new)) }
 {
     'slices: for place in 0..slices.len() {
         slices[place].reserve_one()?;

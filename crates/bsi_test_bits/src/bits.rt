@@ -417,11 +417,11 @@ impl Kernel {
 }
 
 // The ones in words, place by place.
-fn ones_in(words: &[u64]) -> u64 {
-    let mut ones = 0u64;
+fn ones_in(words: &[u64]) -> u128 {
+    let mut ones = 0u128;
     for i in 0..words.len() {
         for place in 0..64u32 {
-            ones = ones.saturating_add(words[i] >> place & 1);
+            ones = ones.saturating_add((words[i] >> place & 1) as u128);
         }
     }
     ones

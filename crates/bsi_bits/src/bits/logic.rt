@@ -72,7 +72,7 @@ impl Bits {
         ensures { result ≡ count_by (λ b. b) self.now.bits }
     {
         know_fits(&self.words);
-        lanes::count(&self.words)
+        lanes::count(&self.words) as u64
     }
 
     /// How many bits are set here and in `other`.
@@ -82,7 +82,7 @@ impl Bits {
     {
         know_fits(&self.words);
         know_fits(&other.words);
-        lanes::count_and(&self.words, &other.words)
+        lanes::count_and(&self.words, &other.words) as u64
     }
 
     /// How many bits are set here and not in `other`.
@@ -92,6 +92,6 @@ impl Bits {
     {
         know_fits(&self.words);
         know_fits(&other.words);
-        lanes::count_and_not(&self.words, &other.words)
+        lanes::count_and_not(&self.words, &other.words) as u64
     }
 }

@@ -142,8 +142,7 @@ fn narrow_block(chosen: &mut [u64], words: &[u64], is_set: bool, next: &[u64]) -
     } else {
         lanes::and_not(chosen, words);
     }
-    know_fits(chosen);
-    lanes::count_and_not(chosen, next)
+    lanes::count_and_not(chosen, next) as u64
 }
 
 /// Whether no bit of the words is set.

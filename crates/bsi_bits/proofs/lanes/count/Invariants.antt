@@ -1,16 +1,13 @@
-use Rattle.std.proofs.Common.{◌≡◌, ◌*◌, ◌≤◌, take}
+use Rattle.std.proofs.Common.{◌≡◌, ◌*◌, ◌-◌, ◌≤◌, length, take}
 use Rattle.std.specs.Prelude.{sum_by, count_ones}
-use Rattle.bsi_bits.proofs.Summing.{quarters}
 use Rattle.bsi_bits.proofs.lanes.count.Given as goal
 
-abbrev pub invariant-fours : goal.invariant-fours
-invariant-fours l = record {
-  counted : l.ones ≡ quarters count_ones l.a l.quarter l.k;
-  few : l.ones ≤ 256 * l.k;
+abbrev pub invariant-parts : goal.invariant-parts
+invariant-parts l = record {
+  within : l.at ≤ length l.a;
+  counted : l.ones ≡ sum_by count_ones (take l.at l.a);
+  few : l.ones ≤ 64 * l.at;
 }
 
-abbrev pub invariant-rest : goal.invariant-rest
-invariant-rest l = record {
-  counted : l.ones ≡ sum_by count_ones (take l.i l.a);
-  few : l.ones ≤ 64 * l.i;
-}
+abbrev pub decreases-parts : goal.decreases-parts
+decreases-parts l = length l.a - l.at

@@ -1,6 +1,7 @@
-use Rattle.std.proofs.Common.{◌≡◌, ◌<◌, ◌^◌, ℕ, List, [], length, get_or, ap, sym, ◌∙◌, arith}
+use Rattle.std.proofs.Common.{◌≡◌, ◌<◌, ◌^◌, ℕ, List, [], false, length, get_or, ap, sym, ◌∙◌, arith}
 use Rattle.std.proofs.lemmas.List.{get_or-map}
-use Rattle.bsi_columns.proofs.ComponentLists.{read_map, map_kept, room_more, all_have_room, length-same_map}
+use Rattle.std.proofs.lemmas.Bool.{false≢true, false_from_ne_true}
+use Rattle.bsi_columns.proofs.ComponentLists.{read_map, map_kept, room_more, all_have_room, one_lacks_room, on_err_from, length-same_map}
 use Rattle.bsi_columns.proofs.decomposed.reserve_each.Goals as goal
 
 pub reserve_one-requires : goal.reserve_one-requires
@@ -50,3 +51,13 @@ returns-clause-ok g c =
     let items = c.loop-i.components.items in
     let count : length items ≡ length c.args.components.now.items = length-same_map g.E.Encoding.digits items c.args.components.now.items c.loop-i.invariant.digits in
     all_have_room g.E.Encoding.room items c.loop-i.i (omega arith) c.loop-i.invariant.room
+
+-- the component that was refused has no more room than before
+pub returns-in_err-reserve_one-clause-err : goal.returns-in_err-reserve_one-clause-err
+returns-in_err-reserve_one-clause-err g c =
+    let room = g.E.Encoding.room in
+    let items = c.loop-i.components.items in
+    let count : length items ≡ length c.args.components.now.items = length-same_map g.E.Encoding.digits items c.args.components.now.items c.loop-i.invariant.digits in
+    let lacks : room c.reserve_one.new.self ≡ false = false_from_ne_true (room c.reserve_one.new.self) (λ has.
+    false≢true (c.in_err-reserve_one.ensures.succeeds (sym c.in_err-reserve_one.ensures.err ∙ has))) in
+    on_err_from c.from_residual.result (one_lacks_room room items c.loop-i.i c.reserve_one.new.self (omega arith) lacks)

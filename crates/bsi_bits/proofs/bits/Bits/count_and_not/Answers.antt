@@ -8,8 +8,8 @@ use Rattle.bsi_bits.proofs.Logic.{and_not_bitwise, same_words}
 use Rattle.bsi_bits.proofs.CountingPairs.{count_pairs}
 use Rattle.bsi_bits.proofs.bits.Bits.count_and_not.Goals as goal
 
-pub count_and_not-requires-clause-same : goal.count_and_not-requires-clause-same
-count_and_not-requires-clause-same c =
+pub count_and_not-requires : goal.count_and_not-requires
+count_and_not-requires c =
     let same = rw (← c.self.view_is, ← c.other.view_is) at c.requires in
     rw (c.deref-3.ensures.value, c.deref-4.ensures.value)
     (same_words c.self.inside.len c.other.inside.len c.self.inside.words.items c.other.inside.words.items c.self.invariant c.other.invariant same)
@@ -18,6 +18,6 @@ pub returns : goal.returns
 returns c =
     let same = rw (← c.self.view_is, ← c.other.view_is) at c.requires in
     rw (← c.self.view_is, ← c.other.view_is) (
-    c.count_and_not.ensures ∙ ap₂ (λ a b. sum_by count_ones (zip2 (λ x y. bit_and x (bit_not w64 y)) a b)) c.deref-3.ensures.value c.deref-4.ensures.value
+    c.count_and_not.ensures.ones ∙ ap₂ (λ a b. sum_by count_ones (zip2 (λ x y. bit_and x (bit_not w64 y)) a b)) c.deref-3.ensures.value c.deref-4.ensures.value
     ∙ count_pairs c.self.inside.len c.other.inside.len c.self.inside.words.items c.other.inside.words.items c.self.invariant c.other.invariant same
     (rw c.deref.ensures.value at c.know_fits.ensures) (λ y. y < 2 ^ 64) (λ x y. bit_and x (bit_not w64 y)) without and_not_bitwise (rw c.deref-2.ensures.value at c.know_fits-2.ensures) (λ x y. and_le_l x (bit_not w64 y)))

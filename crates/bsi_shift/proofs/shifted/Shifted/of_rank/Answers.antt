@@ -7,18 +7,18 @@ use Rattle.bsi_columns.specs.AnyRows.{any_entries}
 use Rattle.bsi_slices.specs.Orders.{values_at}
 use Rattle.bsi_slices.specs.Totals.{numbers_at}
 use Rattle.bsi_shift.specs.Shifted.{shifted_entries, number_of}
-use Rattle.bsi_shift.specs.WholeNumbers.{IsSignedLeastOf}
+use Rattle.bsi_shift.specs.WholeNumbers.{IsSignedOfRank}
 use Rattle.bsi_shift.proofs.Shifting.{length-shifted_entries, values_at-shifted_entries, fits}
-use Rattle.bsi_shift.proofs.Totals.{least_from, least_below}
-use Rattle.bsi_shift.proofs.shifted.Shifted.least.Goals as goal
+use Rattle.bsi_shift.proofs.Totals.{of_rank_from, of_rank_below}
+use Rattle.bsi_shift.proofs.shifted.Shifted.of_rank.Goals as goal
 
-pub least-requires : goal.least-requires
-least-requires c = ap (λ v. length (any_entries v.stored)) c.self.view_is ∙ sym (length-shifted_entries c.args.self.now) ∙ c.requires
+pub of_rank-requires : goal.of_rank-requires
+of_rank-requires c = ap (λ v. length (any_entries v.stored)) c.self.view_is ∙ sym (length-shifted_entries c.args.self.now) ∙ c.requires
 
 pub number_from-requires : goal.number_from-requires
 number_from-requires c =
     let inside = c.self.inside in
-    let below = least_below inside.size c.args.found.now.bits (any_entries inside.stored) c.self.invariant.below c.in_ok-stored.stored c.in_ok-stored.ensures in
+    let below = of_rank_below inside.size c.args.found.now.bits (any_entries inside.stored) c.self.invariant.below c.args.rank c.in_ok-stored.stored c.in_ok-stored.ensures in
     subst (λ o. IfSome c.in_ok-stored.stored (λ n. (n < 2 ^ 63) × (number_of o n <ℤ pos (2 ^ 63)))) (sym (to_z-of_z w64 inside.offset (search rules)))
     (fits inside.offset inside.size c.self.invariant.small c.self.invariant.within c.in_ok-stored.stored below)
 
@@ -26,8 +26,8 @@ pub returns : goal.returns
 returns c =
     let found = c.args.found.now.bits in
     let inside = c.self.inside in
-    let moved = least_from inside.offset (numbers_at found (any_entries inside.stored)) c.in_ok-stored.stored c.in_ok-stored.ensures in
+    let moved = of_rank_from inside.offset c.args.rank (numbers_at found (any_entries inside.stored)) c.in_ok-stored.stored c.in_ok-stored.ensures in
     let result_is = c.number_from.ensures ∙ ap (λ o. option_map (number_of o) c.in_ok-stored.stored) (to_z-of_z w64 inside.offset (search rules)) in
-    subst (λ v. IsSignedLeastOf (values_at found (shifted_entries v)) c.number_from.result) c.self.view_is
-    (subst (λ values. IsSignedLeastOf values c.number_from.result) (sym (values_at-shifted_entries _ found))
-    (subst (IsSignedLeastOf _) (sym result_is) moved))
+    subst (λ v. IsSignedOfRank c.args.rank (values_at found (shifted_entries v)) c.number_from.result) c.self.view_is
+    (subst (λ values. IsSignedOfRank c.args.rank values c.number_from.result) (sym (values_at-shifted_entries _ found))
+    (subst (IsSignedOfRank c.args.rank _) (sym result_is) moved))
