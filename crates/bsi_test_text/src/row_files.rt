@@ -171,9 +171,9 @@ fn a_fault_stays(rt: HostRuntime) -> Result<(), Fail> {
 
 // Gives the header of one column, and then so many records of two fields.
 #[derive(Drop)]
-struct Rows {
-    has_begun: bool,
-    left: u64,
+pub(crate) struct Rows {
+    pub(crate) has_begun: bool,
+    pub(crate) left: u64,
 }
 
 impl Read for Rows {
