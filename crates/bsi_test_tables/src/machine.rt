@@ -161,14 +161,18 @@ fn is_second_run(alloc: Global, core: &mut Core) -> Result<bool, NoMemory> {
     are_replies(&found, &wanted)
 }
 
-fn two_runs_once(rt: &impl Abort, alloc: Global) -> Result<bool, NoMemory> {
-    let mut core = made(alloc, PAIR).expect(rt, "a machine");
-    let begins = is_first_run(alloc, &mut core)?;
-    let ends = is_second_run(alloc, &mut core)?;
+fn are_two_runs(rt: &impl Abort, alloc: Global, core: &mut Core) -> Result<bool, NoMemory> {
+    let begins = is_first_run(alloc, core)?;
+    let ends = is_second_run(alloc, core)?;
     let waiting = (core.feeders(), core.waiting(0), core.waiting(1));
     assert_eq!(rt; waiting, (1, Some(0), None));
     assert_eq!(rt; core.schema().columns(), 1);
     Ok(begins && ends)
+}
+
+fn two_runs_once(rt: &impl Abort, alloc: Global) -> Result<bool, NoMemory> {
+    let mut core = made(alloc, PAIR).expect(rt, "a machine");
+    are_two_runs(rt, alloc, &mut core)
 }
 
 #[test]
@@ -218,31 +222,41 @@ fn check_sizes(rt: HostRuntime) -> Result<(), Fail> {
     Ok(())
 }
 
-fn asked_of(core: &Core, total: Total, pred: Pred) -> Result<Answer, AskError> {
-    let query = Query { total, pred };
+fn asked_of(core: &Core, total: Total) -> Result<Answer, AskError> {
+    let query = Query {
+        total,
+        pred: Pred::All,
+    };
     match core.ask(&query) {
         Err(AskError::NoMemory) => core.ask(&query),
         answer => answer,
     }
 }
 
-#[test]
-fn load_refused_memory(rt: HostRuntime) -> Result<(), Fail> {
-    let mut core = made(rt.alloc(), PAIR).expect(&rt, "a machine");
-    let row = row_of(rt.alloc(), &[Some(5)])?;
-    assert!(rt; core.submit(0, row).is_ok());
-    let loaded = match core.load(0) {
+// The load of the row that waits. One that finds no memory leaves it waiting, and is made again.
+fn load_of(rt: &impl Abort, core: &mut Core) -> Result<u64, LoadRefused> {
+    match core.load(0) {
         Err(LoadRefused::NoMemory) => {
             assert_eq!(rt; core.waiting(0), Some(1));
-            let count = asked_of(&core, Total::Count, Pred::All);
-            assert_eq!(rt; count, Ok(Answer::Count(0)));
+            assert_eq!(rt; asked_of(core, Total::Count), Ok(Answer::Count(0)));
             core.load(0)
         }
         loaded => loaded,
-    };
+    }
+}
+
+fn loads_the_row(rt: &impl Abort, core: &mut Core) {
+    let loaded = load_of(rt, core);
     assert_eq!(rt; (loaded, core.waiting(0)), (Ok(0), Some(0)));
-    let sum = asked_of(&core, Total::Sum(0), Pred::All);
-    assert_eq!(rt; sum, Ok(Answer::Sum(5)));
+    assert_eq!(rt; asked_of(core, Total::Sum(0)), Ok(Answer::Sum(5)));
+}
+
+#[test]
+fn load_refused_memory(rt: HostRuntime) -> Result<(), Fail> {
+    let row = row_of(rt.alloc(), &[Some(5)])?;
+    let mut core = made(rt.alloc(), PAIR).expect(&rt, "a machine");
+    assert!(rt; core.submit(0, row).is_ok());
+    loads_the_row(&rt, &mut core);
     Ok(())
 }
 
@@ -264,6 +278,26 @@ fn room_for_two(alloc: Global) -> Result<RoomForTwo, NoMemory> {
     })
 }
 
+fn are_accepted(rt: &impl Abort, core: &mut Core, first: Row, second: Row) {
+    let first = core.submit(0, first);
+    let second = core.submit(0, second);
+    assert!(rt; first.is_ok() && second.is_ok());
+}
+
+fn is_closed(refused: &SubmitRefused) -> bool {
+    match refused {
+        SubmitRefused::Closed(row) => row.values() == &[Some(3)][..],
+        _ => false,
+    }
+}
+
+fn comes_back_after_closing(rt: &impl Abort, core: &mut Core, third: Row) {
+    assert_eq!(rt; (core.close(0), core.waiting(0)), (Ok(()), Some(2)));
+    let refused = core.submit(0, third).err();
+    assert!(rt; refused.is_some_and(|refused| is_closed(&refused)));
+    assert_eq!(rt; core.waiting(0), Some(2));
+}
+
 // From the probe on nothing asks for memory: each later growth may be refused too.
 #[test]
 fn submit_and_close_take_no_memory(rt: HostRuntime) -> Result<(), Fail> {
@@ -273,14 +307,7 @@ fn submit_and_close_take_no_memory(rt: HostRuntime) -> Result<(), Fail> {
     };
     let mut core = fixture.core;
     let _probe = Vec::<u8>::with_capacity(rt.alloc(), 1);
-    let first = core.submit(0, fixture.first);
-    let second = core.submit(0, fixture.second);
-    assert!(rt; first.is_ok() && second.is_ok());
-    assert_eq!(rt; (core.close(0), core.waiting(0)), (Ok(()), Some(2)));
-    match core.submit(0, fixture.third) {
-        Err(SubmitRefused::Closed(row)) => assert!(rt; row.values() == &[Some(3)][..]),
-        other => panic!(rt; "{other:?}"),
-    }
-    assert_eq!(rt; core.waiting(0), Some(2));
+    are_accepted(&rt, &mut core, fixture.first, fixture.second);
+    comes_back_after_closing(&rt, &mut core, fixture.third);
     Ok(())
 }

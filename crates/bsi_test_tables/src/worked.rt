@@ -6,7 +6,7 @@ use bsi_bits::Bits;
 use bsi_columns::{AnyColumn, NoMemory, Op};
 use bsi_digits::BasesError;
 use bsi_table::{
-    Answer, AppendError, AskError, Index, IndexError, Pred, Schema, SchemaError, Total,
+    Answer, AppendError, AskError, Index, IndexError, Pred, Row, Schema, SchemaError, Total,
 };
 use std::alloc::Global;
 use std::process::Abort;
@@ -96,18 +96,33 @@ fn copied_index(rt: &impl Abort, alloc: Global, index: &Index) -> Result<Index, 
     }
 }
 
+// A row of feeder 0 stands last.
+fn append_one(rt: &impl Abort, alloc: Global, index: &mut Index) -> Result<(), NoMemory> {
+    let row = row_of(alloc, &[Some(7)])?;
+    let appended = append_row(index, 0, &row);
+    assert_eq!(rt; appended, Some(Ok(3)));
+    Ok(())
+}
+
+fn has_rows(rt: &impl Abort, index: &Index, count: u64) {
+    let counted = answer(index, Total::Count, Pred::All);
+    assert_eq!(rt; counted, Ok(Answer::Count(count)));
+}
+
+fn copy_stands_apart(rt: &impl Abort, alloc: Global, index: &Index) -> Result<(), NoMemory> {
+    let mut other = copied_index(rt, alloc, index)?;
+    three_answers(rt, alloc, &other)?;
+    append_one(rt, alloc, &mut other)?;
+    has_rows(rt, &other, 4);
+    has_rows(rt, index, 3);
+    Ok(())
+}
+
 #[test]
 fn copies_of_an_index(rt: HostRuntime) -> Result<(), Fail> {
     for form in FORMS {
         let index = three_rows(&rt, rt.alloc(), form)?;
-        let mut other = copied_index(&rt, rt.alloc(), &index)?;
-        three_answers(&rt, rt.alloc(), &other)?;
-        let row = row_of(rt.alloc(), &[Some(7)])?;
-        assert_eq!(rt; append_row(&mut other, 0, &row), Some(Ok(3)));
-        let counted = answer(&other, Total::Count, Pred::All);
-        assert_eq!(rt; counted, Ok(Answer::Count(4)));
-        let counted = answer(&index, Total::Count, Pred::All);
-        assert_eq!(rt; counted, Ok(Answer::Count(3)));
+        copy_stands_apart(&rt, rt.alloc(), &index)?;
     }
     Ok(())
 }
@@ -126,19 +141,22 @@ fn taken(rt: &impl Abort, schema: &Schema, columns: u32) {
     }
 }
 
-#[test]
-fn makers_of_a_schema(rt: HostRuntime) -> Result<(), Fail> {
-    let mut schema = Schema::new(rt.alloc());
-    assert_eq!(rt; add(rt.alloc(), &mut schema, QTY), Ok(()));
-    assert_eq!(rt;
-        add(rt.alloc(), &mut schema, QTY),
-        Err(SchemaError::NameTaken)
-    );
+fn is_refused(
+    rt: &impl Abort,
+    alloc: Global,
+    schema: &mut Schema,
+    column: Declared,
+    refusal: SchemaError,
+) {
+    let refused = add(alloc, schema, column);
+    assert_eq!(rt; refused, Err(refusal), "{}", column.name);
+}
+
+// What is refused of a schema of one column.
+fn refusals(rt: &impl Abort, alloc: Global, schema: &mut Schema) {
+    is_refused(rt, alloc, schema, QTY, SchemaError::NameTaken);
     let named = Declared { name: "Qty", ..QTY };
-    assert_eq!(rt;
-        add(rt.alloc(), &mut schema, named),
-        Err(SchemaError::BadName)
-    );
+    is_refused(rt, alloc, schema, named, SchemaError::BadName);
     let empty = Declared {
         name: "empty",
         form: Form::Range,
@@ -148,47 +166,87 @@ fn makers_of_a_schema(rt: HostRuntime) -> Result<(), Fail> {
         },
         offset: 0,
     };
-    let refused = Err(SchemaError::BadBases(BasesError::Empty));
-    assert_eq!(rt; add(rt.alloc(), &mut schema, empty), refused);
-    taken(&rt, &schema, 1);
+    let refusal = SchemaError::BadBases(BasesError::Empty);
+    is_refused(rt, alloc, schema, empty, refusal);
+}
+
+fn copy_is_taken(rt: &impl Abort, schema: &Schema) -> Result<(), NoMemory> {
     let copy = match schema.copy() {
         Err(_) => schema.copy()?,
         Ok(copy) => copy,
     };
-    taken(&rt, &copy, 1);
+    taken(rt, &copy, 1);
+    Ok(())
+}
+
+#[test]
+fn makers_of_a_schema(rt: HostRuntime) -> Result<(), Fail> {
+    let mut schema = Schema::new(rt.alloc());
+    assert_eq!(rt; add(rt.alloc(), &mut schema, QTY), Ok(()));
+    refusals(&rt, rt.alloc(), &mut schema);
+    taken(&rt, &schema, 1);
+    copy_is_taken(&rt, &schema)?;
+    Ok(())
+}
+
+fn numbered(alloc: Global, k: u32) -> Result<String, NoMemory> {
+    match format!(in alloc; "c{k}") {
+        Err(_) => format!(in alloc; "c{k}"),
+        name => name,
+    }
+}
+
+fn add_numbered(
+    rt: &impl Abort,
+    alloc: Global,
+    schema: &mut Schema,
+    k: u32,
+) -> Result<(), NoMemory> {
+    let name = numbered(alloc, k)?;
+    let column = Declared {
+        name: name.as_str(),
+        ..QTY
+    };
+    assert_eq!(rt; add(alloc, schema, column), Ok(()), "{k}");
     Ok(())
 }
 
 #[test]
 fn the_most_columns(rt: HostRuntime) -> Result<(), Fail> {
-    let letters = "abcdefghijklmnopqrstuvwxyz";
     let mut schema = Schema::new(rt.alloc());
-    for name in [
-        "a", "b", "c", "d", "e", "f", "g", "h", "i", "j", "k", "l", "m", "n", "o", "p", "q", "r",
-        "s", "t", "u", "v", "w", "x", "y", "z", "aa", "ab", "ac", "ad", "ae", "af", "ag", "ah",
-        "ai", "aj", "ak", "al", "am", "an", "ao", "ap", "aq", "ar", "at", "au", "av", "aw", "ax",
-        "ay", "az", "ba", "bb", "bc", "bd", "be", "bf", "bg", "bh", "bi", "bj", "bk", "bl", "bm",
-    ] {
-        let column = Declared { name, ..QTY };
-        assert_eq!(rt; add(rt.alloc(), &mut schema, column), Ok(()), "{name}");
+    for k in 0..64 {
+        add_numbered(&rt, rt.alloc(), &mut schema, k)?;
     }
-    let one_more = Declared {
-        name: letters,
+    let more = Declared {
+        name: "one_more",
         ..QTY
     };
-    let refused = Err(SchemaError::TooManyColumns);
-    assert_eq!(rt; add(rt.alloc(), &mut schema, one_more), refused);
-    assert_eq!(rt;
-        add(rt.alloc(), &mut schema, QTY),
-        Err(SchemaError::TooManyColumns)
+    is_refused(
+        &rt,
+        rt.alloc(),
+        &mut schema,
+        more,
+        SchemaError::TooManyColumns,
     );
-    let again = Declared { name: "bm", ..QTY };
-    assert_eq!(rt;
-        add(rt.alloc(), &mut schema, again),
-        Err(SchemaError::NameTaken)
-    );
+    let again = Declared { name: "c0", ..QTY };
+    is_refused(&rt, rt.alloc(), &mut schema, again, SchemaError::NameTaken);
     assert_eq!(rt; schema.columns(), 64);
     Ok(())
+}
+
+// An index of one row at most takes one.
+fn is_full_after_one(rt: &impl Abort, index: &mut Index, row: &Row) {
+    assert_eq!(rt; append_row(index, 0, row), Some(Ok(0)));
+    let refused = Some(Err(AppendError::IndexFull));
+    assert_eq!(rt; append_row(index, 0, row), refused);
+    assert_eq!(rt; index.len(), 1);
+}
+
+fn copied_row(row: &Row) -> Result<Row, NoMemory> {
+    match row.copy() {
+        Err(_) => row.copy(),
+        copy => copy,
+    }
 }
 
 #[test]
@@ -199,18 +257,10 @@ fn makers_of_an_index(rt: HostRuntime) -> Result<(), Fail> {
         let refused = index_of(rt.alloc(), &[QTY], 1, limit).err();
         assert_eq!(rt; refused, Some(IndexError::LimitOutOfRange), "{limit}");
     }
-    let mut index = index_of(rt.alloc(), &[QTY], 1, 1).expect(&rt, "a column and a limit");
     let row = row_of(rt.alloc(), &[Some(5)])?;
-    assert_eq!(rt; append_row(&mut index, 0, &row), Some(Ok(0)));
-    assert_eq!(rt;
-        append_row(&mut index, 0, &row),
-        Some(Err(AppendError::IndexFull))
-    );
-    assert_eq!(rt; index.len(), 1);
-    let copy = match row.copy() {
-        Err(_) => row.copy()?,
-        Ok(copy) => copy,
-    };
+    let mut index = index_of(rt.alloc(), &[QTY], 1, 1).expect(&rt, "a column and a limit");
+    is_full_after_one(&rt, &mut index, &row);
+    let copy = copied_row(&row)?;
     assert!(rt; copy.values() == &[Some(5)][..]);
     Ok(())
 }
