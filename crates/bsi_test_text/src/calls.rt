@@ -61,51 +61,85 @@ fn query(alloc: Global, schema: &Schema, line: &str) -> Result<Option<Query>, No
     }
 }
 
+// A schema of the column qty, of numbers below 8.
+fn quantities(alloc: Global) -> Result<Schema, NoMemory> {
+    let (mut schema, mut limit) = (Schema::new(alloc), 1);
+    declare(alloc, &mut schema, &mut limit, "column,qty,slices,3")?;
+    Ok(schema)
+}
+
 #[test]
-fn text_calls(rt: HostRuntime) -> Result<(), Fail> {
-    let alloc = rt.alloc();
-    let (mut schema, mut limit) = (Schema::new(alloc), 1 << 32);
-    for (line, want) in [
-        ("column,qty,slices,3", true),
-        ("limit,1", true),
-        ("limit,0", false),
-        ("begin", false),
-        ("column,qty,slices,3", false),
-    ] {
-        let done = declare(alloc, &mut schema, &mut limit, line)?;
-        assert_eq!(rt; done, want, "at {line}");
+fn setup_records(rt: HostRuntime) -> Result<(), Fail> {
+    let mut schema = quantities(rt.alloc())?;
+    let mut limit = 1 << 32;
+    for (line, want) in [("limit,1", true), ("limit,0", false), ("begin", false)] {
+        let done = declare(rt.alloc(), &mut schema, &mut limit, line)?;
+        assert_eq!(rt; (done, limit), (want, 1), "at {line}");
     }
-    assert_eq!(rt; (schema.columns(), limit), (1, 1));
-    assert_eq!(rt;
-        (read_number(b"007"), read_signed(b"-7")),
-        (Some(7), Some(-7))
-    );
-    let given = row(alloc, &schema, "submit,0,5,")?;
-    assert!(rt;
-        given
-            .as_ref()
-            .is_some_and(|row| row.values() == [Some(5), None])
-    );
-    assert!(rt; row(alloc, &schema, "submit,0,x")?.is_none());
-    let asked = query(alloc, &schema, "count,all")?;
-    assert!(rt;
-        asked
-            .as_ref()
-            .is_some_and(|query| query.total == Total::Count)
-    );
-    assert!(rt; query(alloc, &schema, "load,0")?.is_none());
     Ok(())
+}
+
+// Whether a submission's fields from place 2 on are these entries, or none.
+fn is_row(
+    alloc: Global,
+    schema: &Schema,
+    line: &str,
+    want: Option<&[Option<i128>]>,
+) -> Result<bool, NoMemory> {
+    let found = row(alloc, schema, line)?;
+    Ok(match (&found, want) {
+        (None, None) => true,
+        (Some(row), Some(entries)) => row.values() == entries,
+        _ => false,
+    })
+}
+
+#[test]
+fn rows_of_fields(rt: HostRuntime) -> Result<(), Fail> {
+    let schema = quantities(rt.alloc())?;
+    for (line, want) in [
+        ("submit,0,5,", Some([Some(5), None].as_slice())),
+        ("submit,0,x", None),
+    ] {
+        let same = is_row(rt.alloc(), &schema, line, want)?;
+        assert!(rt; same, "at {line}");
+    }
+    Ok(())
+}
+
+// What a query asks of the rows that it selects.
+fn total(alloc: Global, schema: &Schema, line: &str) -> Result<Option<Total>, NoMemory> {
+    let found = query(alloc, schema, line)?;
+    Ok(match &found {
+        None => None,
+        Some(query) => Some(query.total),
+    })
+}
+
+#[test]
+fn queries_of_fields(rt: HostRuntime) -> Result<(), Fail> {
+    let schema = quantities(rt.alloc())?;
+    for (line, want) in [("count,all", Some(Total::Count)), ("load,0", None)] {
+        let found = total(rt.alloc(), &schema, line)?;
+        assert_eq!(rt; found, want, "at {line}");
+    }
+    Ok(())
+}
+
+#[test]
+fn numbers_of_fields(rt: HostRuntime) {
+    assert_eq!(rt; read_number(b"007"), Some(7));
+    assert_eq!(rt; read_signed(b"-7"), Some(-7));
 }
 
 #[test]
 fn lines(rt: HostRuntime) -> Result<(), Fail> {
     let mut line = buffer(rt.alloc())?;
-    write_reply(&Reply::Answered(Ok(Answer::Sum(-12))), &mut line)?;
+    let reply = Reply::Answered(Ok(Answer::Sum(-12)));
+    write_reply(&reply, &mut line)?;
     write_bad(&mut line)?;
     write_fed(63, 1_000_000, 7, &mut line)?;
-    assert_eq!(rt;
-        line.as_slice(),
-        b"sum -12\nbad\nfed 63 1000000 7\n".as_slice()
-    );
+    let want = b"sum -12\nbad\nfed 63 1000000 7\n";
+    assert_eq!(rt; line.as_slice(), want.as_slice());
     Ok(())
 }
