@@ -146,21 +146,7 @@ fn beside_a_plain_table(rt: HostRuntime) -> Result<(), Fail> {
 const OPERATORS: [Op; 6] = [Op::Eq, Op::Ne, Op::Lt, Op::Le, Op::Gt, Op::Ge];
 
 /// Constants above an offset: about each end of sixteen numbers, and far from both.
-const CONSTANTS: [i128; 13] = [
-    i128::MIN / 2,
-    -(1 << 64),
-    -1,
-    0,
-    1,
-    7,
-    8,
-    14,
-    15,
-    16,
-    17,
-    1 << 64,
-    i128::MAX / 2,
-];
+const CONSTANTS: [i128; 8] = [-(1 << 64), -1, 0, 7, 8, 15, 16, 1 << 64];
 
 /// A column of sixteen numbers from an offset on, in an index and as it came.
 #[derive(Drop)]
@@ -204,7 +190,7 @@ fn same_answer(rt: &impl Abort, alloc: Global, both: &Both, query: Query) -> Res
     Ok(())
 }
 
-// Each comparison with a constant, and each total of the rows that it selects.
+// The rows that each comparison with a constant selects.
 fn same_comparisons(
     rt: &impl Abort,
     alloc: Global,
@@ -212,16 +198,23 @@ fn same_comparisons(
     constant: i128,
 ) -> Result<(), NoMemory> {
     for op in OPERATORS {
-        for total in [
-            Total::Rows,
-            Total::Sum(0),
-            Total::Least(0),
-            Total::Greatest(0),
-            Total::Median(0),
-        ] {
-            let pred = Pred::Compare(0, op, constant);
-            same_answer(rt, alloc, both, Query { total, pred })?;
-        }
+        let pred = Pred::Compare(0, op, constant);
+        let total = Total::Rows;
+        same_answer(rt, alloc, both, Query { total, pred })?;
+    }
+    Ok(())
+}
+
+// The totals of the numbers of all rows.
+fn same_totals(rt: &impl Abort, alloc: Global, both: &Both) -> Result<(), NoMemory> {
+    for total in [
+        Total::Sum(0),
+        Total::Least(0),
+        Total::Greatest(0),
+        Total::Median(0),
+    ] {
+        let pred = Pred::All;
+        same_answer(rt, alloc, both, Query { total, pred })?;
     }
     Ok(())
 }
@@ -231,6 +224,7 @@ fn offsets_from_end_to_end(rt: HostRuntime) -> Result<(), Fail> {
     for offset in [i64::MIN, -8, -1, 0, 1, 1 << 62] {
         for column in COLUMNS {
             let both = six_rows(&rt, rt.alloc(), Declared { offset, ..column })?;
+            same_totals(&rt, rt.alloc(), &both)?;
             for above in CONSTANTS {
                 same_comparisons(&rt, rt.alloc(), &both, i128::from(offset) + above)?;
             }
