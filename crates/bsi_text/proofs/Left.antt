@@ -1,16 +1,18 @@
 -- The rows that a source still has, and those that it gives of them.
-use Rattle.std.proofs.Common.{◌≡◌, ℕ, ◌+◌, List, [], ◌∷◌, ◌++◌, Option, Some, None, Result, Ok, Err, is_some, if◌then◌else◌, IsSome, IfOk, IfSome, MatchOption, refl, sym, ap, ap₂, subst, ◌∙◌, arith}
+use Rattle.std.proofs.Common.{◌≡◌, ℕ, ◌+◌, List, [], ◌∷◌, ◌++◌, Option, Some, None, Result, Ok, Err, is_some, if◌then◌else◌, IsSome, IfOk, IfSome, MatchOption, length, refl, sym, ap, ap₂, subst, ◌∙◌, arith}
 use Rattle.std.proofs.lemmas.List.{append_assoc}
 use Rattle.std.proofs.lemmas.List.Elements.{filter_map-append}
 use Rattle.std.proofs.lemmas.List.Sums.{sum_by-append}
 use mathlib.Core.List.{IsPrefix}
 use Rattle.csv.specs.Machine.{next_record}
 use Rattle.csv.specs.Reading.{AreRecords, Reached, default_config, reader_state, source_of}
+use Rattle.csv.specs.declared.parser.State.{State}
+use Rattle.csv.specs.declared.parser.State.TheVariants as st
 use Rattle.csv.specs.declared.reader.Reader.{Reader}
 use Rattle.bsi_table.specs.Rows.{Entries}
 use Rattle.bsi_records.specs.Numbers.{Field}
 use Rattle.bsi_text.specs.RowFiles.{bad_count, good_row, good_rows}
-use Rattle.bsi_text.specs.Sources.{AreLeft, GivesFirst, HasGiven, HasLeft, HasRead, HasTaken, IsOver, Layout, Source, Tally}
+use Rattle.bsi_text.specs.Sources.{AreLeft, GivesFirst, HasGiven, HasLeft, HasRead, HasTaken, IsOver, IsWhole, Layout, Source, StandsAfter, Tally, tally_of}
 use Rattle.bsi_text.specs.declared.rows.SourceFault.{SourceFault}
 use Rattle.bsi_text.proofs.AllRecords.{all_records, one_reading, records_behind}
 use Rattle.bsi_text.proofs.Taking.{bad_one}
@@ -173,3 +175,26 @@ module _ {R : Type 0} (rem : R → Option (List ℕ)) where
               (subst (λ l. HasLeft rem l new.input rest left) (sym layout_is) kept),
           both.bads,
         )
+
+    -- what is left behind the header is all of a file
+    pub left_of_file : (input : Reader R) (text : List ℕ) (rows : List Entries) (n : ℕ) → StandsAfter rem layout input text → HasLeft rem layout input rows n
+        → (m : ℕ) × IsWhole layout text (tally_of 0 0) (tally_of m n) rows
+    unfolding Reached
+    left_of_file input text rows n stands has = by (next_record default_config st.StartRecord [] [] text) refl stands
+      where
+        by : (o : Option (List (List ℕ) × State × List ℕ)) → next_record default_config st.StartRecord [] [] text ≡ o
+            → MatchOption o ⊥ (λ read. (layout.header ≡ read.0) × (reader_state input ≡ read.1) × (source_of rem input ≡ Some read.2))
+            → (m : ℕ) × IsWhole layout text (tally_of 0 0) (tally_of m n) rows
+        by None e h = absurd h
+        by (Some read) e h =
+            let left = subst (λ o. MatchOption o ⊥ (λ rest. AreRecords default_config (reader_state input) rest has.records)) h.2 has.left in
+            let there : AreRecords default_config read.1 read.2 has.records = subst (λ s. AreRecords default_config s read.2 has.records) h.1 left in (
+              length has.records,
+              record {
+                records = has.records;
+                all = (there.0, there.1, (read, e, h.0, there.2), there.3);
+                good = sym has.good;
+                passed = omega arith;
+                bad = omega (arith, has.others);
+              },
+            )

@@ -11,7 +11,7 @@ ghost use Rattle.bsi_records.specs.Numbers.{Field};
 ghost use Rattle.bsi_text.specs.Pasts.{FindMemory, HasPast};
 ghost use Rattle.bsi_text.specs.Scripts.{AreTurns, Declaring, IsScriptRun, Running};
 ghost use Rattle.bsi_records.specs.Setups.{nothing_declared};
-ghost use Rattle.bsi_text.specs.Sources.{HasLeft, HasRead, HasTaken, IsOver, IsWhole, Layout, StandsAfter, Tally};
+ghost use Rattle.bsi_text.specs.Sources.{tally_of, HasLeft, HasRead, HasTaken, IsOver, IsWhole, Layout, StandsAfter, Tally};
 ghost use Rattle.bsi_text.specs.Texts.{AreAllRecords, IsAnswered, IsBegun};
 
 use std::io::Read;
@@ -60,6 +60,14 @@ pub fn rows_left<R: Read + Drop>()
         → (rows : List Entries) × (bad : ℕ) × HasLeft R.remaining layout input rows bad }
     ensures one { (layout : Layout) → (input : Reader R) → (xs ys : List Entries) → (m n : ℕ)
         → HasLeft R.remaining layout input xs m → HasLeft R.remaining layout input ys n → (xs ≡ ys) × (m ≡ n) }
+{}
+
+/// What a reader has left that stands behind the header of a text are the rows of all good records of the text, and the number of
+/// the others.
+pub fn left_of_a_file<R: Read + Drop>()
+    ensures { (layout : Layout) → (input : Reader R) → (text : List ℕ) → (rows : List Entries) → (n : ℕ)
+        → StandsAfter R.remaining layout input text → HasLeft R.remaining layout input rows n
+        → (m : ℕ) × IsWhole layout text (tally_of 0 0) (tally_of m n) rows }
 {}
 
 /// Rows that were taken are the first of those that the reader had left, also without the last of them; where no record is left
