@@ -66,8 +66,7 @@ module _ (old : List Intake) (f : ℕ) (new : List Intake) where
   pub may_load : LooksAt old f front.Row new → MayLoad (takings_of old) f
   may_load looks =
       let i = with_seen looks.before looks.seen in
-      let is = taking_at-of old f looks.before looks.at in
-      (
+      let is = taking_at-of old f looks.before looks.at in (
         there old f looks.before looks.at,
         λ settled. unsettled i looks.found_is.0 looks.found_is.1 looks.whole looks.found_is.2 i.told refl (sym (ap (λ t. t.told) is) ∙ (settled ∙ ap (λ (t : Taking). Some t.taken) is)),
       )
@@ -99,6 +98,7 @@ module _ (intakes : List Intake) (w : Written) (is : IsLoader intakes w) where
       prefix_of : (i : Intake) (o : Option (List Entries)) → i.told ≡ o → IsWhole i → IfSome o (λ sent. IsPrefix i.taken sent)
       prefix_of i None told' whole = tt
       prefix_of i (Some sent) told' whole = (i.seen, subst (λ (t : Option (List Entries)). IfSome t (λ s. i.taken ++ i.seen ≡ s)) told' whole)
+
       by : ((i : Intake) × (f < length intakes) × (slice_get intakes f ≡ Some i) × (get_or intakes f i ≡ i)) ⊎ ((length intakes ≤ f) × (slice_get intakes f ≡ None))
           → IfSome (told (loading intakes w) f) (λ sent. IsPrefix (taken (loading intakes w) f) sent)
       by (inl at) =
@@ -141,29 +141,29 @@ loaded_balanced : (s : Loading) (f : ℕ) (row : Entries) → f < length s.takin
 loaded_balanced s f row within balanced g =
     let more = with_taken (taking_at s.takings f) row in
     let all : (b : Bool) → nat_eq f g ≡ b → rows_from g (s.published ++ (s.held ++ (f, row) ∷ [])) ≡ taken s g ++ cond b (row ∷ []) [] =
-        λ b is. ap (rows_from g) (sym (append_assoc s.published s.held ((f, row) ∷ [])))
-        ∙ (rows_from-append g (s.published ++ s.held) ((f, row) ∷ []) ∙ (ap (λ xs. xs ++ rows_from g ((f, row) ∷ [])) (balanced g) ∙ ap (λ xs. taken s g ++ xs) (rows_from-one f g row b is))) in
+    λ b is. ap (rows_from g) (sym (append_assoc s.published s.held ((f, row) ∷ [])))
+    ∙ (rows_from-append g (s.published ++ s.held) ((f, row) ∷ []) ∙ (ap (λ xs. xs ++ rows_from g ((f, row) ∷ [])) (balanced g) ∙ ap (λ xs. taken s g ++ xs) (rows_from-one f g row b is))) in
     by all (nat_eq f g) refl
-    where
-      by : ((b : Bool) → nat_eq f g ≡ b → rows_from g (s.published ++ (s.held ++ (f, row) ∷ [])) ≡ taken s g ++ cond b (row ∷ []) []) → (b : Bool) → nat_eq f g ≡ b
-          → rows_from g (s.published ++ (s.held ++ (f, row) ∷ [])) ≡ taken (loaded s f row) g
-      by all true is =
-          let same : f ≡ g = grind (arith, nat_tests) in
-          all true is ∙ subst (λ (h : ℕ). taken s h ++ row ∷ [] ≡ taken (loaded s f row) h) same
-          (ap (λ (t : Taking). t.taken) (sym (get_or-set_same s.takings f (with_taken (taking_at s.takings f) row) no_taking within)))
-      by all false is =
-          let other : g ≢ f = λ same. grind (arith, nat_tests) in
-          all false is ∙ (append-nil (taken s g) ∙ ap (λ (t : Taking). t.taken) (sym (get_or-set_other s.takings f g (with_taken (taking_at s.takings f) row) no_taking other)))
+  where
+    by : ((b : Bool) → nat_eq f g ≡ b → rows_from g (s.published ++ (s.held ++ (f, row) ∷ [])) ≡ taken s g ++ cond b (row ∷ []) []) → (b : Bool) → nat_eq f g ≡ b
+        → rows_from g (s.published ++ (s.held ++ (f, row) ∷ [])) ≡ taken (loaded s f row) g
+    by all true is =
+        let same : f ≡ g = grind (arith, nat_tests) in
+        all true is ∙ subst (λ (h : ℕ). taken s h ++ row ∷ [] ≡ taken (loaded s f row) h) same
+        (ap (λ (t : Taking). t.taken) (sym (get_or-set_same s.takings f (with_taken (taking_at s.takings f) row) no_taking within)))
+    by all false is =
+        let other : g ≢ f = λ same. grind (arith, nat_tests) in
+        all false is ∙ (append-nil (taken s g) ∙ ap (λ (t : Taking). t.taken) (sym (get_or-set_other s.takings f g (with_taken (taking_at s.takings f) row) no_taking other)))
 
 module _ (intakes : List Intake) (w : Written) (f : ℕ) (row : Entries) (new : List Intake) (next : Written) (takes : TakesAt intakes f row new) (held : next ≡ editions.with_held w f row) where
   pub takes_loads : Loads (loading intakes w) f row (loading new next)
   takes_loads =
       let after_is : taking takes.after ≡ with_taken (taking_at (takings_of intakes) f) row =
-          ap taking takes.takes.1 ∙ ap (λ (t : Taking). with_taken t row) (sym (taking_at-of intakes f takes.before takes.at)) in
+      ap taking takes.takes.1 ∙ ap (λ (t : Taking). with_taken t row) (sym (taking_at-of intakes f takes.before takes.at)) in
       let takings : takings_of new ≡ set (takings_of intakes) f (with_taken (taking_at (takings_of intakes) f) row) =
-          ap takings_of takes.now ∙ (map-set taking intakes f takes.after ∙ ap (set (takings_of intakes) f) after_is) in
+      ap takings_of takes.now ∙ (map-set taking intakes f takes.after ∙ ap (set (takings_of intakes) f) after_is) in
       let lanes : lanes_of new ≡ lanes_of intakes =
-          ap lanes_of takes.now ∙ map-set_same (λ (i : Intake). i.lane) intakes f takes.before takes.after takes.at (ap (λ (i : Intake). i.lane) takes.takes.1) in
+      ap lanes_of takes.now ∙ map-set_same (λ (i : Intake). i.lane) intakes f takes.before takes.after takes.at (ap (λ (i : Intake). i.lane) takes.takes.1) in
       ap (loading new) held
       ∙ (ap (λ (ts : List Taking). record { system = record { lanes = lanes_of new; schema = w.table.schema; limit = w.table.limit }; takings = ts; published = w.table.rows; held = w.held ++ (f, row) ∷ [] }) takings
       ∙ ap (λ (ls : List LaneName). record { system = record { lanes = ls; schema = w.table.schema; limit = w.table.limit }; takings = set (takings_of intakes) f (with_taken (taking_at (takings_of intakes) f) row); published = w.table.rows; held = w.held ++ (f, row) ∷ [] }) lanes)
@@ -178,25 +178,25 @@ module _ (intakes : List Intake) (w : Written) (f : ℕ) (row : Entries) (new : 
 
 settled_balanced : (s : Loading) (f : ℕ) (sent : List Entries) → f < length s.takings → Balanced s → Balanced (settled_as s f sent)
 settled_balanced s f sent within balanced g = balanced g ∙ by (nat_eq f g) refl
-    where
-      by : (b : Bool) → nat_eq f g ≡ b → taken s g ≡ taken (settled_as s f sent) g
-      by true is =
-          let same : f ≡ g = grind (arith, nat_tests) in
-          subst (λ (h : ℕ). taken s h ≡ taken (settled_as s f sent) h) same
-          (ap (λ (t : Taking). t.taken) (sym (get_or-set_same s.takings f (record { taken = taken s f; told = Some sent }) no_taking within)))
-      by false is =
-          let other : g ≢ f = λ same. grind (arith, nat_tests) in
-          ap (λ (t : Taking). t.taken) (sym (get_or-set_other s.takings f g (record { taken = taken s f; told = Some sent }) no_taking other))
+  where
+    by : (b : Bool) → nat_eq f g ≡ b → taken s g ≡ taken (settled_as s f sent) g
+    by true is =
+        let same : f ≡ g = grind (arith, nat_tests) in
+        subst (λ (h : ℕ). taken s h ≡ taken (settled_as s f sent) h) same
+        (ap (λ (t : Taking). t.taken) (sym (get_or-set_same s.takings f (record { taken = taken s f; told = Some sent }) no_taking within)))
+    by false is =
+        let other : g ≢ f = λ same. grind (arith, nat_tests) in
+        ap (λ (t : Taking). t.taken) (sym (get_or-set_other s.takings f g (record { taken = taken s f; told = Some sent }) no_taking other))
 
 module _ (intakes : List Intake) (w : Written) (f : ℕ) (closing : Sent) (new : List Intake) (settles : SettlesAt intakes f closing new) where
   pub settles_loading : loading new w ≡ settled_as (loading intakes w) f closing.rows
   settles_loading =
       let after_is : taking settles.after ≡ record { taken = taken (loading intakes w) f; told = Some closing.rows } =
-          ap taking settles.settles ∙ ap (λ (t : Taking). record { taken = t.taken; told = Some closing.rows }) (sym (taking_at-of intakes f settles.before settles.at)) in
+      ap taking settles.settles ∙ ap (λ (t : Taking). record { taken = t.taken; told = Some closing.rows }) (sym (taking_at-of intakes f settles.before settles.at)) in
       let takings : takings_of new ≡ set (takings_of intakes) f (record { taken = taken (loading intakes w) f; told = Some closing.rows }) =
-          ap takings_of settles.now ∙ (map-set taking intakes f settles.after ∙ ap (set (takings_of intakes) f) after_is) in
+      ap takings_of settles.now ∙ (map-set taking intakes f settles.after ∙ ap (set (takings_of intakes) f) after_is) in
       let lanes : lanes_of new ≡ lanes_of intakes =
-          ap lanes_of settles.now ∙ map-set_same (λ (i : Intake). i.lane) intakes f settles.before settles.after settles.at (ap (λ (i : Intake). i.lane) settles.settles) in
+      ap lanes_of settles.now ∙ map-set_same (λ (i : Intake). i.lane) intakes f settles.before settles.after settles.at (ap (λ (i : Intake). i.lane) settles.settles) in
       ap (λ (ts : List Taking). record { system = record { lanes = lanes_of new; schema = w.table.schema; limit = w.table.limit }; takings = ts; published = w.table.rows; held = w.held }) takings
       ∙ ap (λ (ls : List LaneName). record { system = record { lanes = ls; schema = w.table.schema; limit = w.table.limit }; takings = set (takings_of intakes) f (record { taken = taken (loading intakes w) f; told = Some closing.rows }); published = w.table.rows; held = w.held }) lanes
 

@@ -6,7 +6,7 @@ use Rattle.bsi_table.specs.Rows.{Entries, FedRow}
 use Rattle.bsi_load.specs.declared.event.LoadRefused.{LoadRefused}
 use Rattle.bsi_load.specs.declared.event.LoadRefused.TheVariants as load
 use Rattle.bsi_load.specs.Runs.{rows_from}
-use Rattle.bsi_rings.specs.Rings.{lanes_of, Intake, IsFront, IsWhole, LaneName, Sent}
+use Rattle.bsi_rings.specs.Rings.{lanes_of, Intake, IsFront, IsWhole, LaneName, Sending, Sent}
 use Rattle.bsi_versions.specs.Editions.{Written}
 
 -- which rings a system has, the schema of its rows, and the most rows of its table
@@ -95,6 +95,10 @@ Loads s f row t =
 -- the closing is of a feeder of this system
 abbrev pub IsOf : Sent → System → Type 0
 IsOf closing system = slice_get system.lanes closing.number ≡ Some closing.lane
+
+-- the feeder is one of this system
+abbrev pub IsFeederOf : Sending → System → Type 0
+IsFeederOf feeder system = slice_get system.lanes feeder.number ≡ Some feeder.lane
 
 -- the closing of the feeder was told, which carried these rows
 abbrev pub settled_as : Loading → ℕ → List Entries → Loading

@@ -11,11 +11,7 @@ use bsi_rings::{Closing, Front, Lane};
 use bsi_table::Row;
 
 /// Makes a copy of the row that is the next to be taken of a feeder. It stays in the ring.
-pub(crate) fn first_of(
-    lanes: &mut Vec<Lane>,
-    feeder: u32,
-    full: bool,
-) -> Result<Row, LoadRefused>
+pub(crate) fn first_of(lanes: &mut Vec<Lane>, feeder: u32, full: bool) -> Result<Row, LoadRefused>
     ensures reply { IsFirstReply (takings_of lanes.old.items) feeder full result }
     ensures same { AreSame lanes.old.items lanes.new.items }
     ensures first { IfOk result (IsFirstAt lanes.new.items feeder) }

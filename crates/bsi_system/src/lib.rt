@@ -3,9 +3,13 @@
 
 mod lanes;
 mod loader;
+mod opening;
+mod system;
 
 pub use bsi_load::{LoadRefused, MakeError};
 pub use bsi_rings::{Closing, Feeder, SubmitRefused};
 pub use bsi_versions::{Analyst, AnalystRefused, History, Naming, Told};
 pub use loader::{Loader, SettleRefused};
+pub use opening::open;
 pub use std::alloc::AllocError as NoMemory;
+pub use system::{OpenRefused, System};

@@ -8,7 +8,7 @@ use crate::NoMemory;
 use crate::lanes::{first_of, settle_of, take_of};
 use bsi_load::LoadRefused;
 use bsi_rings::{Closing, Lane};
-use bsi_versions::{Naming, Publisher, Told};
+use bsi_versions::{Analyst, Naming, Publisher, Told};
 use std::marker::Model;
 use std::sync::Wait;
 
@@ -139,6 +139,13 @@ impl<B: Naming> Loader<B> {
         ensures same { self.new ≡ self.old }
     {
         self.publisher.tell()
+    }
+
+    /// Makes an analyst, who knows what is published. Err where its place is not found to be free.
+    pub(crate) fn analyst(&self) -> Result<Analyst<B>, NoMemory>
+        ensures { IfOk result (λ analyst. analyst ≡ self.now.published) }
+    {
+        self.publisher.analyst()
     }
 
     /// Ends the loader. What is held or in a ring is dropped.

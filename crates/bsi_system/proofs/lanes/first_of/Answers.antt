@@ -1,4 +1,4 @@
-use Rattle.bsi_system.proofs.Takings.{first_at, looks_empty, looks_ended, looks_same, may_load}
+use Rattle.bsi_system.proofs.Takings.{first_at, looks_ended, looks_same, may_load}
 use Rattle.bsi_rings.specs.declared.lane.Front.TheVariants.{Row, Empty, Ended}
 use Rattle.bsi_system.proofs.lanes.first_of.Goals as goal
 
