@@ -59,6 +59,13 @@ impl Feeder {
         }
     }
 
+    /// Returns the feeder's number among those of its system, from 0.
+    pub fn number(&self) -> u32
+        ensures { result ≡ self.now.number }
+    {
+        self.number
+    }
+
     /// Sends a row. It takes no memory and waits for nobody.
     pub fn submit(&mut self, row: Row) -> Result<(), SubmitRefused>
         ensures reply { IsSubmitReply self.old row result }
@@ -74,7 +81,8 @@ impl Feeder {
         }
     }
 
-    /// Ends the feeder, and returns what tells the loader which rows were sent. None where the loader is gone.
+    /// Ends the feeder, and returns what tells the loader which rows were sent. None where the ring gives no such word, as where
+    /// the loader is gone.
     pub fn close(self) -> Option<Closing>
         ensures { IfSome result (Closes self) }
     {

@@ -15,7 +15,7 @@ use std::sync::Arc;
 pub enum Front {
     /// A row that fits the schema.
     Row,
-    /// No row is seen.
+    /// No row that fits is seen.
     Empty,
     /// The closing was told, and all rows that were sent are taken.
     Ended,

@@ -22,7 +22,10 @@ module _ (schema : Declared) (capacities : List ℕ) (feeders : List Sending) (i
   takings_are : takings_of intakes ≡ map (λ (lane : LaneName). no_taking) (lanes_of intakes)
   takings_are = ap takings_of opened.intakes_are ∙ takings-new (lanes_of intakes)
 
-  module _ (w : Written) (n limit : ℕ) (is : w ≡ record { table = no_rows schema n limit; held = [] }) where
+  pub opened_alike : All (λ (lane : LaneName). lane.schema ≡ schema) (lanes_of intakes)
+  opened_alike = All-map (λ (lane : LaneName). lane.schema ≡ schema) (λ (i : Intake). i.lane) intakes opened.alike
+
+  module _ (w : Written) (n limit : ℕ) (count : length capacities ≡ n) (is : w ≡ record { table = no_rows schema n limit; held = [] }) where
     pub opened_loading : loading intakes w ≡ new_loading (lanes_of intakes) schema limit
     opened_loading =
         ap (loading intakes) is
@@ -30,12 +33,11 @@ module _ (schema : Declared) (capacities : List ℕ) (feeders : List Sending) (i
 
     pub opened_loader : IsLoader intakes w
     opened_loader = subst (IsLoader intakes) (sym is) (record {
+      alike = opened_alike;
+      many = length-map intakes (λ (i : Intake). i.lane) ∙ (opened.many ∙ count);
       balanced = λ f. sym (ap (λ (ts : List Taking). (taking_at ts f).taken) takings_are ∙ taking_at-new (lanes_of intakes) f);
       whole = subst (All IsWhole) (sym opened.intakes_are) (All-map IsWhole new_intake (lanes_of intakes) (λ k d within. tt));
     })
-
-  pub opened_alike : All (λ (lane : LaneName). lane.schema ≡ schema) (lanes_of intakes)
-  opened_alike = All-map (λ (lane : LaneName). lane.schema ≡ schema) (λ (i : Intake). i.lane) intakes opened.alike
 
 -- each feeder that is made is one of the lanes
 abbrev Stands : List LaneName → Sending → Type 0

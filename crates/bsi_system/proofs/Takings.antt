@@ -1,12 +1,13 @@
 -- What a loader keeps to, from call to call.
 use Rattle.std.proofs.Common.{◌≡◌, ◌≢◌, ℕ, zero, suc, ◌+◌, ◌<◌, ◌≤◌, Bool, true, false, cond, List, [], ◌∷◌, ◌++◌, Option, None, Some, All, length, map, set, get_or, refl, sym, ◌∙◌, subst, ap, arith, append_assoc, length-append, inl, inr}
-use Rattle.std.specs.Prelude.{nat_eq, slice_get, option_map, IfSome, Result, Ok, Err, ◌⊎◌}
+use Rattle.std.specs.Prelude.{nat_eq, slice_get, option_map, IfSome, IsTrue, Result, Ok, Err, ◌⊎◌}
 use Rattle.std.proofs.lemmas.Bool.Decides.{nat_tests}
 use Rattle.std.proofs.lemmas.Bool.{cases_eq}
 use Rattle.std.proofs.lemmas.List.{append-nil, get_or-set_other, get_or-set_same, length-map, length-set, map-set, set-get_or}
 use Rattle.std.proofs.lemmas.List.Elements.{filter_map-append, All-get_or, All-set}
 use Rattle.std.proofs.lemmas.Option.{get_or_from_slice_get, slice_get_cases, slice_get-map, slice_get_read, slice_get_within}
 use mathlib.Core.List.{IsPrefix}
+use Rattle.bsi_table.specs.Columns.{fits, Declared}
 use Rattle.bsi_table.specs.Rows.{Entries, FedRow}
 use Rattle.bsi_load.specs.declared.event.LoadRefused.{LoadRefused}
 use Rattle.bsi_load.specs.declared.event.LoadRefused.TheVariants as load
@@ -113,18 +114,61 @@ module _ (intakes : List Intake) (w : Written) (is : IsLoader intakes w) where
         ∙ ap (λ (ls : List LaneName). record { system = record { lanes = ls; schema = w.table.schema; limit = w.table.limit }; takings = takings_of intakes; published = w.table.rows; held = w.held }) same.lanes
 
     pub same_loader : IsLoader new w
-    same_loader = record { balanced = subst Balanced (sym same_loading) is.balanced; whole = same.whole is.whole }
+    same_loader = record {
+      balanced = subst Balanced (sym same_loading) is.balanced;
+      whole = same.whole is.whole;
+      alike = subst (All (λ (lane : LaneName). lane.schema ≡ w.table.schema)) (sym same.lanes) is.alike;
+      many = ap length same.lanes ∙ is.many;
+    }
+
+  -- the row that stands first fits the table, and its feeder is one of the table's
+  module _ (f : ℕ) (row : Entries) (first : IsFirstAt intakes f row) where
+    pub first_fits : IsTrue (fits w.table.schema.columns row)
+    first_fits =
+        let lane = first.intake.lane in
+        let at : slice_get (lanes_of intakes) f ≡ Some lane = slice_get-map (λ (i : Intake). i.lane) intakes f ∙ ap (option_map (λ (i : Intake). i.lane)) first.at in
+        let read = get_or_from_slice_get (lanes_of intakes) f lane lane at in
+        let alike = All-get_or (λ (l : LaneName). l.schema ≡ w.table.schema) (lanes_of intakes) f lane (slice_get_within (lanes_of intakes) f lane at) is.alike in
+        subst (λ (s : Declared). IsTrue (fits s.columns row)) (ap (λ (l : LaneName). l.schema) (sym read) ∙ alike) first.fitting
+
+    pub first_there : f < w.table.feeders
+    first_there = omega (arith, slice_get_within intakes f first.intake first.at, length-map intakes (λ (i : Intake). i.lane), is.many)
 
 -- ---- one row more is taken
 
--- a copy was made of the row that stands first
-pub first_at : (old : List Intake) (f : ℕ) (found : Front) (new : List Intake) → LooksAt old f found new → (i : Intake) (row : Entries) → i ≡ get_or new f i → IsPrefix (row ∷ []) i.seen → IsFirstAt new f row
-first_at old f found new looks i row read first = record {
-  intake = i;
-  rest = first.0;
-  at = slice_get_read new (length new) f i refl (omega (arith, slice_get_within old f looks.before looks.at, ap length looks.now, length-set old f (with_seen looks.before looks.seen))) read;
-  first = sym first.1;
-}
+-- a row that fits is seen first
+pub front_at : (old : List Intake) (f : ℕ) (new : List Intake) → LooksAt old f front.Row new → (row : Entries) × IsFirstAt new f row
+front_at old f new looks =
+    let now = with_seen looks.before looks.seen in
+    let within = slice_get_within old f looks.before looks.at in
+    let read : now ≡ get_or new f now = sym (ap (λ (xs : List Intake). get_or xs f now) looks.now ∙ get_or-set_same old f now now within) in (
+      looks.found_is.0,
+      record {
+        intake = now;
+        rest = looks.found_is.1;
+        at = slice_get_read new (length new) f now refl (omega (arith, within, ap length looks.now, length-set old f now)) read;
+        first = looks.found_is.2;
+        fitting = looks.found_is.3;
+      },
+    )
+
+-- a copy was made of it
+pub first_at : (old : List Intake) (f : ℕ) (new : List Intake) → LooksAt old f front.Row new → (i : Intake) (row : Entries) → i ≡ get_or new f i → IsPrefix (row ∷ []) i.seen → IsFirstAt new f row
+first_at old f new looks i row read first =
+    let front' = front_at old f new looks in
+    let at : slice_get new f ≡ Some i =
+    slice_get_read new (length new) f i refl (omega (arith, slice_get_within old f looks.before looks.at, ap length looks.now, length-set old f (with_seen looks.before looks.seen))) read in
+    let same : i ≡ front'.1.intake = cc (at, front'.1.at) in
+    let heads : row ∷ first.0 ≡ front'.0 ∷ front'.1.rest = first.1 ∙ (ap (λ (j : Intake). j.seen) same ∙ front'.1.first) in
+    let row_is : row ≡ front'.0 = cc heads in
+    record {
+      intake = i;
+      rest = first.0;
+      at = at;
+      first = sym first.1;
+      fitting = subst (λ (r : Entries). IsTrue (fits i.lane.schema.columns r)) (sym row_is)
+          (subst (λ (j : Intake). IsTrue (fits j.lane.schema.columns front'.0)) (sym same) front'.1.fitting);
+    }
 
 -- it is the row that is taken
 pub same_row : (intakes : List Intake) (f : ℕ) (row other : Entries) (new : List Intake) → IsFirstAt intakes f row → TakesAt intakes f other new → row ≡ other
@@ -156,22 +200,27 @@ loaded_balanced s f row within balanced g =
         all false is ∙ (append-nil (taken s g) ∙ ap (λ (t : Taking). t.taken) (sym (get_or-set_other s.takings f g (with_taken (taking_at s.takings f) row) no_taking other)))
 
 module _ (intakes : List Intake) (w : Written) (f : ℕ) (row : Entries) (new : List Intake) (next : Written) (takes : TakesAt intakes f row new) (held : next ≡ editions.with_held w f row) where
+  takes_lanes : lanes_of new ≡ lanes_of intakes
+  takes_lanes =
+      ap lanes_of takes.now ∙ map-set_same (λ (i : Intake). i.lane) intakes f takes.before takes.after takes.at (ap (λ (i : Intake). i.lane) takes.takes.1)
+
   pub takes_loads : Loads (loading intakes w) f row (loading new next)
   takes_loads =
       let after_is : taking takes.after ≡ with_taken (taking_at (takings_of intakes) f) row =
       ap taking takes.takes.1 ∙ ap (λ (t : Taking). with_taken t row) (sym (taking_at-of intakes f takes.before takes.at)) in
       let takings : takings_of new ≡ set (takings_of intakes) f (with_taken (taking_at (takings_of intakes) f) row) =
       ap takings_of takes.now ∙ (map-set taking intakes f takes.after ∙ ap (set (takings_of intakes) f) after_is) in
-      let lanes : lanes_of new ≡ lanes_of intakes =
-      ap lanes_of takes.now ∙ map-set_same (λ (i : Intake). i.lane) intakes f takes.before takes.after takes.at (ap (λ (i : Intake). i.lane) takes.takes.1) in
       ap (loading new) held
       ∙ (ap (λ (ts : List Taking). record { system = record { lanes = lanes_of new; schema = w.table.schema; limit = w.table.limit }; takings = ts; published = w.table.rows; held = w.held ++ (f, row) ∷ [] }) takings
-      ∙ ap (λ (ls : List LaneName). record { system = record { lanes = ls; schema = w.table.schema; limit = w.table.limit }; takings = set (takings_of intakes) f (with_taken (taking_at (takings_of intakes) f) row); published = w.table.rows; held = w.held ++ (f, row) ∷ [] }) lanes)
+      ∙ ap (λ (ls : List LaneName). record { system = record { lanes = ls; schema = w.table.schema; limit = w.table.limit }; takings = set (takings_of intakes) f (with_taken (taking_at (takings_of intakes) f) row); published = w.table.rows; held = w.held ++ (f, row) ∷ [] }) takes_lanes)
 
   pub takes_loader : IsLoader intakes w → IsLoader new next
   takes_loader is = record {
     balanced = subst Balanced (sym takes_loads) (loaded_balanced (loading intakes w) f row (there intakes f takes.before takes.at) is.balanced);
     whole = subst (All IsWhole) (sym takes.now) (All-set IsWhole intakes f takes.after takes.whole is.whole);
+    alike = subst (λ (v : Written). All (λ (lane : LaneName). lane.schema ≡ v.table.schema) (lanes_of new)) (sym held)
+        (subst (All (λ (lane : LaneName). lane.schema ≡ w.table.schema)) (sym takes_lanes) is.alike);
+    many = ap length takes_lanes ∙ (is.many ∙ ap (λ (v : Written). v.table.feeders) (sym held));
   }
 
 -- ---- a closing is told
@@ -189,19 +238,23 @@ settled_balanced s f sent within balanced g = balanced g ∙ by (nat_eq f g) ref
         ap (λ (t : Taking). t.taken) (sym (get_or-set_other s.takings f g (record { taken = taken s f; told = Some sent }) no_taking other))
 
 module _ (intakes : List Intake) (w : Written) (f : ℕ) (closing : Sent) (new : List Intake) (settles : SettlesAt intakes f closing new) where
+  settles_lanes : lanes_of new ≡ lanes_of intakes
+  settles_lanes =
+      ap lanes_of settles.now ∙ map-set_same (λ (i : Intake). i.lane) intakes f settles.before settles.after settles.at (ap (λ (i : Intake). i.lane) settles.settles)
+
   pub settles_loading : loading new w ≡ settled_as (loading intakes w) f closing.rows
   settles_loading =
       let after_is : taking settles.after ≡ record { taken = taken (loading intakes w) f; told = Some closing.rows } =
       ap taking settles.settles ∙ ap (λ (t : Taking). record { taken = t.taken; told = Some closing.rows }) (sym (taking_at-of intakes f settles.before settles.at)) in
       let takings : takings_of new ≡ set (takings_of intakes) f (record { taken = taken (loading intakes w) f; told = Some closing.rows }) =
       ap takings_of settles.now ∙ (map-set taking intakes f settles.after ∙ ap (set (takings_of intakes) f) after_is) in
-      let lanes : lanes_of new ≡ lanes_of intakes =
-      ap lanes_of settles.now ∙ map-set_same (λ (i : Intake). i.lane) intakes f settles.before settles.after settles.at (ap (λ (i : Intake). i.lane) settles.settles) in
       ap (λ (ts : List Taking). record { system = record { lanes = lanes_of new; schema = w.table.schema; limit = w.table.limit }; takings = ts; published = w.table.rows; held = w.held }) takings
-      ∙ ap (λ (ls : List LaneName). record { system = record { lanes = ls; schema = w.table.schema; limit = w.table.limit }; takings = set (takings_of intakes) f (record { taken = taken (loading intakes w) f; told = Some closing.rows }); published = w.table.rows; held = w.held }) lanes
+      ∙ ap (λ (ls : List LaneName). record { system = record { lanes = ls; schema = w.table.schema; limit = w.table.limit }; takings = set (takings_of intakes) f (record { taken = taken (loading intakes w) f; told = Some closing.rows }); published = w.table.rows; held = w.held }) settles_lanes
 
   pub settles_loader : IsLoader intakes w → IsLoader new w
   settles_loader is = record {
     balanced = subst Balanced (sym settles_loading) (settled_balanced (loading intakes w) f closing.rows (there intakes f settles.before settles.at) is.balanced);
     whole = subst (All IsWhole) (sym settles.now) (All-set IsWhole intakes f settles.after settles.whole is.whole);
+    alike = subst (All (λ (lane : LaneName). lane.schema ≡ w.table.schema)) (sym settles_lanes) is.alike;
+    many = ap length settles_lanes ∙ is.many;
   }

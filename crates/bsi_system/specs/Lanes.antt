@@ -1,5 +1,6 @@
 -- What is done with one lane of a list of them.
-use Rattle.std.specs.Prelude.{◌≡◌, ℕ, ◌<◌, ◌≤◌, Bool, true, false, All, List, [], ◌∷◌, None, Some, Result, Ok, Err, length, slice_get, slice_set}
+use Rattle.std.specs.Prelude.{◌≡◌, ℕ, ◌<◌, ◌≤◌, ⊤, Bool, true, false, All, IsTrue, List, [], ◌∷◌, None, Some, Result, Ok, Err, length, slice_get, slice_set}
+use Rattle.bsi_table.specs.Columns.{fits}
 use Rattle.bsi_table.specs.Rows.{Entries}
 use Rattle.bsi_load.specs.declared.event.LoadRefused.{LoadRefused}
 use Rattle.bsi_load.specs.declared.event.LoadRefused.TheVariants as load
@@ -40,12 +41,19 @@ pub record AreSame (old new : List Intake) : Type 0 where
   pub lanes : lanes_of new ≡ lanes_of old
   pub whole : All IsWhole old → All IsWhole new
 
--- the row is the first that is seen of a lane
+-- the row is the first that is seen of a lane, and fits
 pub record IsFirstAt (intakes : List Intake) (f : ℕ) (row : Entries) : Type 0 where
   pub intake : Intake
   pub rest : List Entries
   pub at : slice_get intakes f ≡ Some intake
   pub first : intake.seen ≡ row ∷ rest
+  pub fitting : IsTrue (fits intake.lane.schema.columns row)
+
+-- a row is refused for want of a place or of memory only where one is seen first
+abbrev pub IsSeenWhere : List Intake → ℕ → LoadRefused → Type 0
+IsSeenWhere intakes f load.IndexFull = (row : Entries) × IsFirstAt intakes f row
+IsSeenWhere intakes f load.NoMemory = (row : Entries) × IsFirstAt intakes f row
+IsSeenWhere intakes f refused = ⊤
 
 -- the reply to the question for a copy of the first row, where the table is full or not
 abbrev pub IsFirstReply : List Taking → ℕ → Bool → Result Entries LoadRefused → Type 0

@@ -1,7 +1,7 @@
 -- What contracts see of a loader, and what its calls may answer.
-use Rattle.std.specs.Prelude.{◌≡◌, ◌≢◌, ℕ, ◌+◌, ◌<◌, ◌≤◌, Bool, true, false, All, IfSome, List, [], ◌∷◌, ◌++◌, Option, None, Some, Result, Ok, Err, length, map, slice_get, slice_index_or, slice_set}
+use Rattle.std.specs.Prelude.{◌≡◌, ◌≢◌, ℕ, ◌+◌, ◌<◌, ◌≤◌, Bool, true, false, All, IfSome, IsTrue, List, [], ◌∷◌, ◌++◌, Option, None, Some, Result, Ok, Err, length, map, slice_get, slice_index_or, slice_set}
 use mathlib.Core.List.{IsPrefix}
-use Rattle.bsi_table.specs.Columns.{Declared}
+use Rattle.bsi_table.specs.Columns.{fits, Declared}
 use Rattle.bsi_table.specs.Rows.{Entries, FedRow}
 use Rattle.bsi_load.specs.declared.event.LoadRefused.{LoadRefused}
 use Rattle.bsi_load.specs.declared.event.LoadRefused.TheVariants as load
@@ -45,6 +45,10 @@ told s f = (taking_at s.takings f).told
 -- each feeder's published rows, followed by its held rows, are the rows that were taken from its ring
 abbrev pub Balanced : Loading → Type 0
 Balanced s = (f : ℕ) → rows_from f (s.published ++ s.held) ≡ taken s f
+
+-- something is seen of each feeder of the system
+abbrev pub AreAsMany : Loading → Type 0
+AreAsMany s = length s.takings ≡ length s.system.lanes
 
 -- what was taken of a feeder that was told of begins what its closing carried
 abbrev pub WithinTold : Loading → Type 0
@@ -90,6 +94,10 @@ abbrev pub Loads : Loading → ℕ → Entries → Loading → Type 0
 Loads s f row t =
     t ≡ record s { takings = slice_set s.takings f (with_taken (taking_at s.takings f) row); held = s.held ++ (f, row) ∷ [] }
 
+-- a row that fits is loaded
+abbrev pub LoadsOne : Loading → ℕ → Loading → Type 0
+LoadsOne s f t = (row : Entries) × IsTrue (fits s.system.schema.columns row) × Loads s f row t
+
 -- ---- settling and publishing
 
 -- the closing is of a feeder of this system
@@ -124,7 +132,9 @@ loading intakes w = record {
   held = w.held;
 }
 
--- what a loader keeps to
+-- what a loader keeps to; the rings are of the table's schema, one for each of its feeders
 pub record IsLoader (intakes : List Intake) (w : Written) : Type 0 where
   pub balanced : Balanced (loading intakes w)
   pub whole : All IsWhole intakes
+  pub alike : All (λ lane. lane.schema ≡ w.table.schema) (lanes_of intakes)
+  pub many : length (lanes_of intakes) ≡ w.table.feeders

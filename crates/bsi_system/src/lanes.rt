@@ -1,10 +1,10 @@
 //! The loader's ends of all rings.
 
-ghost use Rattle.std.specs.Prelude.{◌≡◌, ◌<◌, Some, IfOk, length, slice_get};
+ghost use Rattle.std.specs.Prelude.{◌≡◌, ◌<◌, Some, IfErr, IfOk, length, slice_get};
 ghost use Rattle.bsi_table.specs.Rows.{Entries};
 ghost use Rattle.bsi_rings.specs.Rings.{lanes_of};
 ghost use Rattle.bsi_system.specs.Running.{takings_of};
-ghost use Rattle.bsi_system.specs.Lanes.{AreSame, IsFirstAt, IsFirstReply, LooksAt, SettlesAt, TakesAt};
+ghost use Rattle.bsi_system.specs.Lanes.{AreSame, IsFirstAt, IsFirstReply, IsSeenWhere, LooksAt, SettlesAt, TakesAt};
 
 use bsi_load::LoadRefused;
 use bsi_rings::{Closing, Front, Lane};
@@ -15,6 +15,7 @@ pub(crate) fn first_of(lanes: &mut Vec<Lane>, feeder: u32, full: bool) -> Result
     ensures reply { IsFirstReply (takings_of lanes.old.items) feeder full result }
     ensures same { AreSame lanes.old.items lanes.new.items }
     ensures first { IfOk result (IsFirstAt lanes.new.items feeder) }
+    ensures seen { IfErr result (IsSeenWhere lanes.new.items feeder) }
 {
     let place = feeder as usize;
     if place >= lanes.len() {

@@ -1,8 +1,7 @@
 //! The loader: it takes rows out of the feeders' rings, holds them, and publishes them.
 
-ghost use Rattle.std.specs.Prelude.{◌≡◌, ◌≢◌, IfErr, IfOk, OnErr, OnOk, length};
-ghost use Rattle.bsi_table.specs.Rows.{Entries};
-ghost use Rattle.bsi_system.specs.Running.{published_all, settled_as, Balanced, IsLoadReply, IsOf, Loads, WithinTold};
+ghost use Rattle.std.specs.Prelude.{◌≡◌, ◌≢◌, ◌+◌, ◌≤◌, IfErr, IfOk, OnErr, OnOk, length};
+ghost use Rattle.bsi_system.specs.Running.{published_all, settled_as, AreAsMany, Balanced, IsLoadReply, IsOf, LoadsOne, WithinTold};
 
 use crate::NoMemory;
 use crate::lanes::{first_of, settle_of, take_of};
@@ -42,11 +41,12 @@ impl<B: Naming> Loader<B> {
     /// nobody.
     pub fn load(&mut self, feeder: u32) -> Result<(), LoadRefused>
         ensures reply { IsLoadReply self.old feeder result }
-        ensures loaded { OnOk result ((row : Entries) × Loads self.old feeder row self.new) }
+        ensures loaded { OnOk result (LoadsOne self.old feeder self.new) }
         ensures kept { OnErr result (self.new ≡ self.old) }
         ensures system { self.new.system ≡ self.old.system }
         ensures balanced { Balanced self.new }
         ensures within { WithinTold self.new }
+        ensures many { AreAsMany self.new }
     {
         let loaded = self.load_row(feeder);
         self.show();
@@ -55,7 +55,7 @@ impl<B: Naming> Loader<B> {
 
     fn load_row(&mut self, feeder: u32) -> Result<(), LoadRefused>
         ensures reply { IsLoadReply self.old feeder result }
-        ensures loaded { OnOk result ((row : Entries) × Loads self.old feeder row self.new) }
+        ensures loaded { OnOk result (LoadsOne self.old feeder self.new) }
         ensures kept { OnErr result (self.new ≡ self.old) }
     {
         let full = self.publisher.is_full();
@@ -81,6 +81,7 @@ impl<B: Naming> Loader<B> {
         ensures system { self.new.system ≡ self.old.system }
         ensures balanced { Balanced self.new }
         ensures within { WithinTold self.new }
+        ensures many { AreAsMany self.new }
     {
         if closing.feeder() != feeder {
             self.show();
@@ -108,6 +109,7 @@ impl<B: Naming> Loader<B> {
         ensures system { self.new.system ≡ self.old.system }
         ensures balanced { Balanced self.new }
         ensures within { WithinTold self.new }
+        ensures many { AreAsMany self.new }
     {
         let published = self.publish_held(rt);
         self.show();
@@ -129,7 +131,12 @@ impl<B: Naming> Loader<B> {
     pub fn counts(&self) -> (u64, u64)
         ensures published { result.0 ≡ length self.now.published }
         ensures held { result.1 ≡ length self.now.held }
+        ensures limit { length self.now.published + length self.now.held ≤ self.now.system.limit }
+        ensures balanced { Balanced self.now }
+        ensures within { WithinTold self.now }
+        ensures many { AreAsMany self.now }
     {
+        self.show();
         self.publisher.counts()
     }
 
@@ -137,7 +144,11 @@ impl<B: Naming> Loader<B> {
     pub fn tell(&mut self) -> Told<B>
         ensures told { result ≡ self.old.published }
         ensures same { self.new ≡ self.old }
+        ensures balanced { Balanced self.new }
+        ensures within { WithinTold self.new }
+        ensures many { AreAsMany self.new }
     {
+        self.show();
         self.publisher.tell()
     }
 
@@ -159,6 +170,7 @@ impl<B: Naming> Loader<B> {
     fn show(&self)
         ensures balanced { Balanced self.now }
         ensures within { WithinTold self.now }
+        ensures many { AreAsMany self.now }
     {
         let _ = &self.lanes;
     }

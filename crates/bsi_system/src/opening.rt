@@ -33,7 +33,7 @@ pub fn open<B: Naming>(
     ensures own { IfOk result (λ s. All (λ f. IsFeederOf f s.loader.system) s.feeders.items) }
     ensures analysts { IfOk result (λ s. s.analysts.items ≡ replicate analysts []) }
     ensures taken { OnOk result (sizes_refusal schema capacities.items limit ≡ None) }
-    ensures refused { IfErr result (IsOpenRefusal (sizes_refusal schema capacities.items limit)) }
+    ensures refused { IfErr result (IsOpenRefusal (sizes_refusal schema capacities.items limit) schema limit) }
 {
     let made = System::<B>::make(alloc, history, schema, &capacities, limit, analysts);
     let mut system = match made {

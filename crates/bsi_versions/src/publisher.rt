@@ -2,6 +2,7 @@
 
 ghost use Rattle.std.specs.Prelude.{◌≡◌, ◌+◌, ◌<◌, ◌≤◌, ◌++◌, ◌∷◌, [], ◌⊎◌, IfOk, IsTrue, OnErr, OnOk, drop, fold, length, ◌↔◌};
 ghost use mathlib.Core.List.{IsPrefix};
+ghost use Rattle.bsi_table.specs.Columns.{fits};
 ghost use Rattle.bsi_versions.specs.Pages.{with_list};
 ghost use Rattle.bsi_versions.specs.Editions.{after, published_all, rows_of, with_held, Stands};
 ghost use Rattle.bsi_versions.specs.declared.operation.Operation.TheVariants.{Mark};
@@ -90,6 +91,7 @@ impl<B: Naming> Publisher<B> {
     pub fn counts(&self) -> (u64, u64)
         ensures published { result.0 ≡ length self.now.table.rows }
         ensures held { result.1 ≡ length self.now.held }
+        ensures limit { length self.now.table.rows + length self.now.held ≤ self.now.table.limit }
     {
         let index = self.copies.published().index();
         let published = index.len();
@@ -106,7 +108,9 @@ impl<B: Naming> Publisher<B> {
 
     /// Holds a row, which is visible once it is published.
     pub fn hold(&mut self, feeder: u32, row: Row) -> Result<(), NoMemory>
-        requires { length self.old.table.rows + length self.old.held < self.old.table.limit }
+        requires room { length self.old.table.rows + length self.old.held < self.old.table.limit }
+        requires fits { IsTrue (fits self.old.table.schema.columns row) }
+        requires feeder { feeder < self.old.table.feeders }
         ensures ok { OnOk result (self.new ≡ with_held self.old feeder row) }
         ensures err { OnErr result (self.new ≡ self.old) }
     {

@@ -1,4 +1,4 @@
-use Rattle.bsi_system.proofs.Takings.{first_at, looks_ended, looks_same, may_load}
+use Rattle.bsi_system.proofs.Takings.{first_at, front_at, looks_ended, looks_same, may_load}
 use Rattle.bsi_rings.specs.declared.lane.Front.TheVariants.{Row, Empty, Ended}
 use Rattle.bsi_system.proofs.lanes.first_of.Goals as goal
 
@@ -25,10 +25,16 @@ returns-in-Ok-clause-same c = looks_same c.args.lanes.now.items c.args.feeder Ro
 
 pub returns-in-Ok-clause-first : goal.returns-in-Ok-clause-first
 returns-in-Ok-clause-first c =
-    first_at c.args.lanes.now.items c.args.feeder Row c.front_of.new.lanes.items c.in-Row.ensures c.index.result.now c.in-Ok.row c.index.ensures c.in-Ok.ensures
+    first_at c.args.lanes.now.items c.args.feeder c.front_of.new.lanes.items c.in-Row.ensures c.index.result.now c.in-Ok.row c.index.ensures c.in-Ok.ensures
 
 pub returns-in-Err-clause-reply : goal.returns-in-Err-clause-reply
 returns-in-Err-clause-reply c = (may_load c.args.lanes.now.items c.args.feeder c.front_of.new.lanes.items c.in-Row.ensures, c.if-full.false)
 
 pub returns-in-Err-clause-same : goal.returns-in-Err-clause-same
 returns-in-Err-clause-same c = looks_same c.args.lanes.now.items c.args.feeder Row c.front_of.new.lanes.items c.in-Row.ensures
+
+pub returns-then-full-clause-seen : goal.returns-then-full-clause-seen
+returns-then-full-clause-seen c = front_at c.args.lanes.now.items c.args.feeder c.front_of.new.lanes.items c.in-Row.ensures
+
+pub returns-in-Err-clause-seen : goal.returns-in-Err-clause-seen
+returns-in-Err-clause-seen c = front_at c.args.lanes.now.items c.args.feeder c.front_of.new.lanes.items c.in-Row.ensures
