@@ -1,0 +1,71 @@
+//! A closing: what a feeder leaves when it ends.
+
+ghost use Rattle.std.specs.Prelude.{◌≡◌};
+
+use bsi_table::{Row, Schema};
+use rtrb::Finished;
+use std::alloc::Global;
+use std::marker::Model;
+use std::sync::Arc;
+
+/// The word of a feeder that ended, by which the loader learns all rows that were sent. It may move to the loader's thread.
+#[derive(Drop)]
+pub struct Closing {
+    number: u32,
+    schema: Arc<Schema, Global>,
+    finished: Finished<Row>,
+}
+
+// Clauses see the feeder's number, which ring it sent to, the schema, and all rows that it sent.
+impl Model for Closing {
+    ghost use Rattle.rtrb.specs.Ring.{all_sent};
+    ghost use Rattle.bsi_rings.specs.Rings.{ring_of, AllFit, Sent};
+
+    ghost Value = { Sent };
+
+    ghost view = { λ c. record {
+      number = c.number;
+      lane = record { ring = ring_of c.finished.end; schema = c.schema.value };
+      rows = all_sent c.finished;
+    } };
+
+    ghost invariant = { λ c. AllFit c.schema.value (all_sent c.finished) };
+}
+
+impl Closing {
+    ghost use Rattle.rtrb.specs.Ring.{all_sent};
+    ghost use Rattle.bsi_rings.specs.Rings.{ring_of, AllFit};
+
+    /// Makes the closing of a feeder whose rows all fit.
+    pub(crate) fn new(number: u32, schema: Arc<Schema, Global>, finished: Finished<Row>) -> Closing
+        requires { AllFit schema.value (all_sent finished) }
+        ensures { result ≡ record { number = number; lane = record { ring = ring_of finished.end; schema = schema.value }; rows = all_sent finished } }
+    {
+        Closing {
+            number,
+            schema,
+            finished,
+        }
+    }
+
+    /// Returns the number of the feeder that ended.
+    pub fn feeder(&self) -> u32
+        ensures { result ≡ self.now.number }
+    {
+        self.number
+    }
+
+    /// Gives up the closing for what is left of the feeder's end.
+    pub(crate) fn into_finished(self) -> Finished<Row>
+        ensures ring { ring_of result.end ≡ self.lane.ring }
+        ensures rows { all_sent result ≡ self.rows }
+        ensures fitting { AllFit self.lane.schema self.rows }
+    {
+        let Closing {
+            number: _,
+            schema: _schema,
+            finished,
+        } = self;
+        finished
+    }
+}

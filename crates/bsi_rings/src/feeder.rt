@@ -1,0 +1,99 @@
+//! A feeder: the producer of one ring.
+
+ghost use Rattle.std.specs.Prelude.{◌≡◌, [], IfSome, OnErr, OnOk};
+
+use crate::Closing;
+use bsi_table::{Row, Schema};
+use rtrb::{Producer, PushError};
+use std::alloc::Global;
+use std::marker::Model;
+use std::sync::Arc;
+
+/// Why a row is not sent, in the order of checking. The row is handed back.
+#[derive(Debug, Drop)]
+pub enum SubmitRefused {
+    /// The row does not fit the schema.
+    Misfit(Row),
+    /// No place of the ring is seen to be free. The loader frees one for each row that it takes.
+    Full(Row),
+}
+
+/// The end of a ring that sends rows, by which one feeder submits. It may move to a thread of its own.
+#[derive(Drop)]
+pub struct Feeder {
+    number: u32,
+    schema: Arc<Schema, Global>,
+    ring: Producer<Row>,
+}
+
+// Clauses see the feeder's number, which ring it sends to, the schema, the ring's capacity, and the rows that were sent.
+impl Model for Feeder {
+    ghost use Rattle.rtrb.specs.Ring.{sent};
+    ghost use Rattle.bsi_rings.specs.Rings.{ring_of, AllFit, Sending};
+
+    ghost Value = { Sending };
+
+    ghost view = { λ f. record {
+      number = f.number;
+      lane = record { ring = ring_of f.ring.end; schema = f.schema.value };
+      capacity = f.ring.capacity;
+      sent = sent f.ring;
+    } };
+
+    ghost invariant = { λ f. AllFit f.schema.value (sent f.ring) };
+}
+
+impl Feeder {
+    ghost use Rattle.rtrb.specs.Ring.{sent, producer_capacity};
+    ghost use Rattle.bsi_rings.specs.Rings.{new_sending, ring_of, with_sent, Closes, IsSubmitReply};
+
+    /// Makes the feeder of a ring to which nothing was sent.
+    pub(crate) fn new(number: u32, schema: Arc<Schema, Global>, ring: Producer<Row>) -> Feeder
+        requires { sent ring ≡ [] }
+        ensures { result ≡ new_sending number (record { ring = ring_of ring.end; schema = schema.value }) (producer_capacity ring) }
+    {
+        Feeder {
+            number,
+            schema,
+            ring,
+        }
+    }
+
+    /// Returns the feeder's number among those of its system, from 0.
+    pub fn number(&self) -> u32
+        ensures { result ≡ self.now.number }
+    {
+        self.number
+    }
+
+    /// Sends a row. It takes no memory and waits for nobody.
+    pub fn submit(&mut self, row: Row) -> Result<(), SubmitRefused>
+        ensures reply { IsSubmitReply self.old row result }
+        ensures sent { OnOk result (self.new ≡ with_sent self.old row) }
+        ensures kept { OnErr result (self.new ≡ self.old) }
+    {
+        if !self.schema.fits(&row) {
+            return Err(SubmitRefused::Misfit(row));
+        }
+        match self.ring.push(row) {
+            Ok(()) => Ok(()),
+            Err(PushError::Full(row)) => Err(SubmitRefused::Full(row)),
+        }
+    }
+
+    /// Ends the feeder, and returns what tells the loader which rows were sent. None where the ring gives no such word, as where
+    /// the loader is gone.
+    pub fn close(self) -> Option<Closing>
+        ensures { IfSome result (Closes self) }
+    {
+        let Feeder {
+            number,
+            schema,
+            ring,
+        } = self;
+        match ring.finish() {
+            Some(finished) => Some(Closing::new(number, schema, finished)),
+            None => None,
+        }
+    }
+}

@@ -1,0 +1,123 @@
+//! A lane: the loader's end of one ring, and what the feeder's closing told of it.
+
+ghost use Rattle.std.specs.Prelude.{◌≡◌, ◌<◌, ◌↔◌, [], ◌∷◌, IfOk, IsTrue, length};
+ghost use mathlib.Core.List.{IsPrefix};
+
+use crate::{Closing, NoMemory};
+use bsi_table::{Row, Schema};
+use rtrb::{Consumer, Finished};
+use std::alloc::Global;
+use std::marker::Model;
+use std::sync::Arc;
+
+/// What stands first in a ring.
+#[derive(Clone, Copy, Debug, PartialEq, Eq)]
+pub enum Front {
+    /// A row that fits the schema.
+    Row,
+    /// No row that fits is seen.
+    Empty,
+    /// The closing was told, and all rows that were sent are taken.
+    Ended,
+}
+
+/// The end of a ring that takes rows out, and the closing of its feeder once it was told.
+#[derive(Drop)]
+pub struct Lane {
+    schema: Arc<Schema, Global>,
+    ring: Consumer<Row>,
+    finished: Option<Finished<Row>>,
+}
+
+// Clauses see which ring it is, the rows that were taken, those that are seen in the ring, and what was told.
+impl Model for Lane {
+    ghost use Rattle.std.specs.Prelude.{option_map};
+    ghost use Rattle.rtrb.specs.Ring.{all_sent, received, known_items};
+    ghost use Rattle.bsi_rings.specs.Rings.{ring_of, Intake, IsLane};
+
+    ghost Value = { Intake };
+
+    ghost view = { λ l. record {
+      lane = record { ring = ring_of l.ring.end; schema = l.schema.value };
+      taken = received l.ring;
+      seen = known_items l.ring;
+      told = option_map all_sent l.finished;
+    } };
+
+    ghost invariant = { λ l. IsLane l.schema.value (received l.ring) (known_items l.ring) (option_map all_sent l.finished) };
+}
+
+impl Lane {
+    ghost use Rattle.rtrb.specs.Ring.{received, known_items};
+    ghost use Rattle.bsi_rings.specs.Rings.{new_intake, ring_of, with_seen, IsFront, IsWhole, Settles, Takes};
+
+    /// Makes the lane of a ring from which nothing was taken.
+    pub(crate) fn new(schema: Arc<Schema, Global>, ring: Consumer<Row>) -> Lane
+        requires { (received ring ≡ []) × (known_items ring ≡ []) }
+        ensures { result ≡ new_intake (record { ring = ring_of ring.end; schema = schema.value }) }
+    {
+        Lane {
+            schema,
+            ring,
+            finished: None,
+        }
+    }
+
+    /// Looks at what stands first in the ring. Nothing is taken.
+    pub fn front(&mut self) -> Front
+        ensures front { IsFront self.new result }
+        ensures whole { IsWhole self.new }
+        ensures kept { self.new ≡ with_seen self.old self.new.seen }
+    {
+        if self.look() {
+            if self.schema.fits(self.ring.peek_known()) {
+                return Front::Row;
+            }
+            return Front::Empty;
+        }
+        if self.finished.is_some() {
+            return Front::Ended;
+        }
+        Front::Empty
+    }
+
+    /// Returns whether a row is seen in the ring. Once the closing was told, all are seen, and the ring is not read again.
+    fn look(&mut self) -> bool
+        ensures seen { IsTrue result ↔ (0 < length self.new.seen) }
+        ensures kept { self.new ≡ with_seen self.old self.new.seen }
+    {
+        if self.finished.is_some() {
+            self.ring.cached_slots() > 0
+        } else {
+            !self.ring.is_empty()
+        }
+    }
+
+    /// Makes a copy of the row that stands first.
+    pub fn copy_first(&self) -> Result<Row, NoMemory>
+        requires { 0 < length self.now.seen }
+        ensures { IfOk result (λ row. IsPrefix (row ∷ []) self.now.seen) }
+    {
+        self.ring.peek_known().copy()
+    }
+
+    /// Takes the row that stands first out of the ring.
+    pub fn take_first(&mut self) -> Row
+        requires { 0 < length self.old.seen }
+        ensures taken { Takes self.old result self.new }
+        ensures whole { IsWhole self.new }
+    {
+        self.ring.pop_known()
+    }
+
+    /// Learns from the closing of the ring's feeder what was sent. Nothing is taken. It takes no memory.
+    pub fn settle(&mut self, closing: Closing)
+        requires { closing.lane ≡ self.old.lane }
+        ensures settled { Settles self.old closing self.new }
+        ensures whole { IsWhole self.new }
+    {
+        let mut finished = closing.into_finished();
+        self.ring.slots_after(&mut finished);
+        self.finished = Some(finished);
+    }
+}

@@ -1,0 +1,46 @@
+//! Makes the rings of a system, each with both of its ends.
+
+ghost use Rattle.std.specs.Prelude.{◌≡◌, ◌<◌, ◌^◌, IfOk, length};
+ghost use Rattle.bsi_rings.specs.Rings.{new_intake, new_sending, AreOpened};
+
+use crate::{Feeder, Lane, NoMemory};
+use bsi_table::{Row, Schema};
+use rtrb::RingBuffer;
+use std::alloc::Global;
+use std::sync::Arc;
+
+/// Makes a ring for each capacity. Each feeder has the number of its place.
+pub fn open_rings(
+    alloc: Global,
+    schema: &Arc<Schema, Global>,
+    capacities: &[u32],
+) -> Result<(Vec<Feeder>, Vec<Lane>), NoMemory>
+    requires { length capacities.now < 2 ^ 32 }
+    ensures { IfOk result (λ ends. AreOpened schema.now.value capacities.now ends.0.items ends.1.items) }
+{
+    let mut feeders = Vec::with_capacity(alloc, capacities.len())?;
+    let mut lanes = Vec::with_capacity(alloc, capacities.len())?;
+    'capacities: for (number, capacity) in capacities.iter().enumerate() {
+        let (feeder, lane) = open_ring(alloc, schema, number as u32, *capacity)?;
+        feeders.push(feeder)?;
+        lanes.push(lane)?;
+    }
+    Ok((feeders, lanes))
+}
+
+/// Makes one ring, empty.
+fn open_ring(
+    alloc: Global,
+    schema: &Arc<Schema, Global>,
+    number: u32,
+    capacity: u32,
+) -> Result<(Feeder, Lane), NoMemory>
+    ensures lane { IfOk result (λ ends. ends.1 ≡ new_intake ends.1.lane) }
+    ensures schema { IfOk result (λ ends. ends.1.lane.schema ≡ schema.now.value) }
+    ensures feeder { IfOk result (λ ends. ends.0 ≡ new_sending number ends.1.lane capacity) }
+{
+    let (producer, consumer) = RingBuffer::<Row>::new(alloc, capacity as usize)?;
+    let feeder = Feeder::new(number, Arc::try_clone(schema)?, producer);
+    let lane = Lane::new(Arc::try_clone(schema)?, consumer);
+    Ok((feeder, lane))
+}

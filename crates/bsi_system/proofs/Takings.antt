@@ -1,0 +1,260 @@
+-- What a loader keeps to, from call to call.
+use Rattle.std.proofs.Common.{◌≡◌, ◌≢◌, ℕ, zero, suc, ◌+◌, ◌<◌, ◌≤◌, Bool, true, false, cond, List, [], ◌∷◌, ◌++◌, Option, None, Some, All, length, map, set, get_or, refl, sym, ◌∙◌, subst, ap, arith, append_assoc, length-append, inl, inr}
+use Rattle.std.specs.Prelude.{nat_eq, slice_get, option_map, IfSome, IsTrue, Result, Ok, Err, ◌⊎◌}
+use Rattle.std.proofs.lemmas.Bool.Decides.{nat_tests}
+use Rattle.std.proofs.lemmas.Bool.{cases_eq}
+use Rattle.std.proofs.lemmas.List.{append-nil, get_or-set_other, get_or-set_same, length-map, length-set, map-set, set-get_or}
+use Rattle.std.proofs.lemmas.List.Elements.{filter_map-append, All-get_or, All-set}
+use Rattle.std.proofs.lemmas.Option.{get_or_from_slice_get, slice_get_cases, slice_get-map, slice_get_read, slice_get_within}
+use mathlib.Core.List.{IsPrefix}
+use Rattle.bsi_table.specs.Columns.{fits, Declared}
+use Rattle.bsi_table.specs.Rows.{Entries, FedRow}
+use Rattle.bsi_load.specs.declared.event.LoadRefused.{LoadRefused}
+use Rattle.bsi_load.specs.declared.event.LoadRefused.TheVariants as load
+use Rattle.bsi_load.specs.Runs.{rows_from}
+use Rattle.bsi_rings.specs.declared.lane.Front.{Front}
+use Rattle.bsi_rings.specs.declared.lane.Front.TheVariants as front
+use Rattle.bsi_rings.specs.Rings.{lanes_of, with_seen, Intake, IsFront, IsWhole, LaneName, Sent}
+use Rattle.bsi_versions.specs.Editions.{Written}
+use Rattle.bsi_versions.specs.Editions as editions
+use Rattle.bsi_system.specs.Lanes.{AreSame, IsFirstAt, IsFirstReply, LooksAt, SettlesAt, TakesAt}
+use Rattle.bsi_system.specs.Running.{loading, no_taking, published_all, settled_as, taken, taking, taking_at, takings_of, told, with_taken, Balanced, IsLoader, IsLoadReply, IsOf, IsSettled, Loading, Loads, MayLoad, Taking, WithinTold}
+
+-- ---- one place of a list
+
+-- where the f-values are alike, the list of them stays
+pub map-set_same : {X Y : Type 0} (f : X → Y) (xs : List X) (k : ℕ) (x y : X) → slice_get xs k ≡ Some x → f y ≡ f x → map f (set xs k y) ≡ map f xs
+map-set_same f xs k x y at same =
+    map-set f xs k y
+    ∙ (ap (set (map f xs) k) (same ∙ sym (get_or_from_slice_get (map f xs) k (f x) (f x) (slice_get-map f xs k ∙ ap (option_map f) at)))
+    ∙ set-get_or (map f xs) k (f x))
+
+pub taking_at-of : (intakes : List Intake) (f : ℕ) (i : Intake) → slice_get intakes f ≡ Some i → taking_at (takings_of intakes) f ≡ taking i
+taking_at-of intakes f i at = get_or_from_slice_get (takings_of intakes) f (taking i) no_taking (slice_get-map taking intakes f ∙ ap (option_map taking) at)
+
+pub taking_at-past : (intakes : List Intake) (f : ℕ) → length intakes ≤ f → taking_at (takings_of intakes) f ≡ no_taking
+taking_at-past [] f past = refl
+taking_at-past (i ∷ intakes) zero past = absurd (omega arith)
+taking_at-past (i ∷ intakes) (suc f) past = taking_at-past intakes f (omega arith)
+
+pub there : (intakes : List Intake) (f : ℕ) (i : Intake) → slice_get intakes f ≡ Some i → f < length (takings_of intakes)
+there intakes f i at = omega (arith, slice_get_within intakes f i at, length-map intakes taking)
+
+-- ---- looking at a lane
+
+pub looks_same : (old : List Intake) (f : ℕ) (found : Front) (new : List Intake) → LooksAt old f found new → AreSame old new
+looks_same old f found new looks = record {
+  takings = ap takings_of looks.now ∙ map-set_same taking old f looks.before (with_seen looks.before looks.seen) looks.at refl;
+  lanes = ap lanes_of looks.now ∙ map-set_same (λ (i : Intake). i.lane) old f looks.before (with_seen looks.before looks.seen) looks.at refl;
+  whole = λ all. subst (All IsWhole) (sym looks.now) (All-set IsWhole old f (with_seen looks.before looks.seen) looks.whole all);
+}
+
+pub same_self : (intakes : List Intake) → AreSame intakes intakes
+same_self intakes = record { takings = refl; lanes = refl; whole = λ all. all }
+
+not_longer : (xs rest : List Entries) (row : Entries) → xs ++ (row ∷ rest) ≢ xs
+not_longer xs rest row e = omega (arith, ap length e, length-append xs (row ∷ rest))
+
+-- a lane of which a row is seen is not settled
+unsettled : (i : Intake) (row : Entries) (rest : List Entries) → IsWhole i → i.seen ≡ row ∷ rest → (o : Option (List Entries)) → i.told ≡ o → o ≢ Some i.taken
+unsettled i row rest whole seen None is e = cc e
+unsettled i row rest whole seen (Some sent) is e =
+    let all : i.taken ++ i.seen ≡ sent = subst (λ (t : Option (List Entries)). IfSome t (λ s. i.taken ++ i.seen ≡ s)) is whole in
+    let same : sent ≡ i.taken = cc e in
+    not_longer i.taken rest row (ap (λ xs. i.taken ++ xs) (sym seen) ∙ (all ∙ same))
+
+module _ (old : List Intake) (f : ℕ) (new : List Intake) where
+  pub may_load : LooksAt old f front.Row new → MayLoad (takings_of old) f
+  may_load looks =
+      let i = with_seen looks.before looks.seen in
+      let is = taking_at-of old f looks.before looks.at in (
+        there old f looks.before looks.at,
+        λ settled. unsettled i looks.found_is.0 looks.found_is.1 looks.whole looks.found_is.2 i.told refl (sym (ap (λ t. t.told) is) ∙ (settled ∙ ap (λ (t : Taking). Some t.taken) is)),
+      )
+
+  pub looks_empty : (full : Bool) → LooksAt old f front.Empty new → IsFirstReply (takings_of old) f full (Err load.Empty)
+  looks_empty full looks = (there old f looks.before looks.at, ap (λ t. t.told) (taking_at-of old f looks.before looks.at) ∙ looks.found_is)
+
+  pub looks_ended : (full : Bool) → LooksAt old f front.Ended new → IsFirstReply (takings_of old) f full (Err load.Ended)
+  looks_ended full looks =
+      let is = taking_at-of old f looks.before looks.at in
+      (there old f looks.before looks.at, ap (λ t. t.told) is ∙ (looks.found_is ∙ sym (ap (λ (t : Taking). Some t.taken) is)))
+
+-- ---- the rows of a feeder
+
+pub rows_from-append : (f : ℕ) (xs ys : List FedRow) → rows_from f (xs ++ ys) ≡ rows_from f xs ++ rows_from f ys
+rows_from-append f xs ys = filter_map-append (λ (row : FedRow). cond (nat_eq row.0 f) (Some row.1) None) xs ys
+
+rows_from-one : (f g : ℕ) (row : Entries) (b : Bool) → nat_eq f g ≡ b → rows_from g ((f, row) ∷ []) ≡ cond b (row ∷ []) []
+rows_from-one f g row true is = rw is refl
+rows_from-one f g row false is = rw is refl
+
+-- ---- the loader
+
+module _ (intakes : List Intake) (w : Written) (is : IsLoader intakes w) where
+  -- what always holds of what is seen
+  pub within_told : WithinTold (loading intakes w)
+  within_told f = by (slice_get_cases intakes f).1
+    where
+      prefix_of : (i : Intake) (o : Option (List Entries)) → i.told ≡ o → IsWhole i → IfSome o (λ sent. IsPrefix i.taken sent)
+      prefix_of i None told' whole = tt
+      prefix_of i (Some sent) told' whole = (i.seen, subst (λ (t : Option (List Entries)). IfSome t (λ s. i.taken ++ i.seen ≡ s)) told' whole)
+
+      by : ((i : Intake) × (f < length intakes) × (slice_get intakes f ≡ Some i) × (get_or intakes f i ≡ i)) ⊎ ((length intakes ≤ f) × (slice_get intakes f ≡ None))
+          → IfSome (told (loading intakes w) f) (λ sent. IsPrefix (taken (loading intakes w) f) sent)
+      by (inl at) =
+          let whole : IsWhole at.0 = subst IsWhole at.3 (All-get_or IsWhole intakes f at.0 at.1 is.whole) in
+          subst (λ (t : Taking). IfSome t.told (λ sent. IsPrefix t.taken sent)) (sym (taking_at-of intakes f at.0 at.2)) (prefix_of at.0 at.0.told refl whole)
+      by (inr past) = subst (λ (t : Taking). IfSome t.told (λ sent. IsPrefix t.taken sent)) (sym (taking_at-past intakes f past.0)) tt
+
+  module _ (new : List Intake) (same : AreSame intakes new) where
+    pub same_loading : loading new w ≡ loading intakes w
+    same_loading =
+        ap (λ (ts : List Taking). record { system = record { lanes = lanes_of new; schema = w.table.schema; limit = w.table.limit }; takings = ts; published = w.table.rows; held = w.held }) same.takings
+        ∙ ap (λ (ls : List LaneName). record { system = record { lanes = ls; schema = w.table.schema; limit = w.table.limit }; takings = takings_of intakes; published = w.table.rows; held = w.held }) same.lanes
+
+    pub same_loader : IsLoader new w
+    same_loader = record {
+      balanced = subst Balanced (sym same_loading) is.balanced;
+      whole = same.whole is.whole;
+      alike = subst (All (λ (lane : LaneName). lane.schema ≡ w.table.schema)) (sym same.lanes) is.alike;
+      many = ap length same.lanes ∙ is.many;
+    }
+
+  -- the row that stands first fits the table, and its feeder is one of the table's
+  module _ (f : ℕ) (row : Entries) (first : IsFirstAt intakes f row) where
+    pub first_fits : IsTrue (fits w.table.schema.columns row)
+    first_fits =
+        let lane = first.intake.lane in
+        let at : slice_get (lanes_of intakes) f ≡ Some lane = slice_get-map (λ (i : Intake). i.lane) intakes f ∙ ap (option_map (λ (i : Intake). i.lane)) first.at in
+        let read = get_or_from_slice_get (lanes_of intakes) f lane lane at in
+        let alike = All-get_or (λ (l : LaneName). l.schema ≡ w.table.schema) (lanes_of intakes) f lane (slice_get_within (lanes_of intakes) f lane at) is.alike in
+        subst (λ (s : Declared). IsTrue (fits s.columns row)) (ap (λ (l : LaneName). l.schema) (sym read) ∙ alike) first.fitting
+
+    pub first_there : f < w.table.feeders
+    first_there = omega (arith, slice_get_within intakes f first.intake first.at, length-map intakes (λ (i : Intake). i.lane), is.many)
+
+-- ---- one row more is taken
+
+-- a row that fits is seen first
+pub front_at : (old : List Intake) (f : ℕ) (new : List Intake) → LooksAt old f front.Row new → (row : Entries) × IsFirstAt new f row
+front_at old f new looks =
+    let now = with_seen looks.before looks.seen in
+    let within = slice_get_within old f looks.before looks.at in
+    let read : now ≡ get_or new f now = sym (ap (λ (xs : List Intake). get_or xs f now) looks.now ∙ get_or-set_same old f now now within) in (
+      looks.found_is.0,
+      record {
+        intake = now;
+        rest = looks.found_is.1;
+        at = slice_get_read new (length new) f now refl (omega (arith, within, ap length looks.now, length-set old f now)) read;
+        first = looks.found_is.2;
+        fitting = looks.found_is.3;
+      },
+    )
+
+-- a copy was made of it
+pub first_at : (old : List Intake) (f : ℕ) (new : List Intake) → LooksAt old f front.Row new → (i : Intake) (row : Entries) → i ≡ get_or new f i → IsPrefix (row ∷ []) i.seen → IsFirstAt new f row
+first_at old f new looks i row read first =
+    let front' = front_at old f new looks in
+    let at : slice_get new f ≡ Some i =
+    slice_get_read new (length new) f i refl (omega (arith, slice_get_within old f looks.before looks.at, ap length looks.now, length-set old f (with_seen looks.before looks.seen))) read in
+    let same : i ≡ front'.1.intake = cc (at, front'.1.at) in
+    let heads : row ∷ first.0 ≡ front'.0 ∷ front'.1.rest = first.1 ∙ (ap (λ (j : Intake). j.seen) same ∙ front'.1.first) in
+    let row_is : row ≡ front'.0 = cc heads in
+    record {
+      intake = i;
+      rest = first.0;
+      at = at;
+      first = sym first.1;
+      fitting = subst (λ (r : Entries). IsTrue (fits i.lane.schema.columns r)) (sym row_is)
+          (subst (λ (j : Intake). IsTrue (fits j.lane.schema.columns front'.0)) (sym same) front'.1.fitting);
+    }
+
+-- it is the row that is taken
+pub same_row : (intakes : List Intake) (f : ℕ) (row other : Entries) (new : List Intake) → IsFirstAt intakes f row → TakesAt intakes f other new → row ≡ other
+same_row intakes f row other new first takes =
+    let same : first.intake ≡ takes.before = cc (first.at, takes.at) in
+    let heads : row ∷ first.rest ≡ other ∷ takes.after.seen = sym first.first ∙ (ap (λ (i : Intake). i.seen) same ∙ takes.takes.0) in
+    cc heads
+
+-- after one row more
+abbrev loaded : Loading → ℕ → Entries → Loading
+loaded s f row = record s { takings = set s.takings f (with_taken (taking_at s.takings f) row); held = s.held ++ (f, row) ∷ [] }
+
+loaded_balanced : (s : Loading) (f : ℕ) (row : Entries) → f < length s.takings → Balanced s → Balanced (loaded s f row)
+loaded_balanced s f row within balanced g =
+    let more = with_taken (taking_at s.takings f) row in
+    let all : (b : Bool) → nat_eq f g ≡ b → rows_from g (s.published ++ (s.held ++ (f, row) ∷ [])) ≡ taken s g ++ cond b (row ∷ []) [] =
+    λ b is. ap (rows_from g) (sym (append_assoc s.published s.held ((f, row) ∷ [])))
+    ∙ (rows_from-append g (s.published ++ s.held) ((f, row) ∷ []) ∙ (ap (λ xs. xs ++ rows_from g ((f, row) ∷ [])) (balanced g) ∙ ap (λ xs. taken s g ++ xs) (rows_from-one f g row b is))) in
+    by all (nat_eq f g) refl
+  where
+    by : ((b : Bool) → nat_eq f g ≡ b → rows_from g (s.published ++ (s.held ++ (f, row) ∷ [])) ≡ taken s g ++ cond b (row ∷ []) []) → (b : Bool) → nat_eq f g ≡ b
+        → rows_from g (s.published ++ (s.held ++ (f, row) ∷ [])) ≡ taken (loaded s f row) g
+    by all true is =
+        let same : f ≡ g = grind (arith, nat_tests) in
+        all true is ∙ subst (λ (h : ℕ). taken s h ++ row ∷ [] ≡ taken (loaded s f row) h) same
+        (ap (λ (t : Taking). t.taken) (sym (get_or-set_same s.takings f (with_taken (taking_at s.takings f) row) no_taking within)))
+    by all false is =
+        let other : g ≢ f = λ same. grind (arith, nat_tests) in
+        all false is ∙ (append-nil (taken s g) ∙ ap (λ (t : Taking). t.taken) (sym (get_or-set_other s.takings f g (with_taken (taking_at s.takings f) row) no_taking other)))
+
+module _ (intakes : List Intake) (w : Written) (f : ℕ) (row : Entries) (new : List Intake) (next : Written) (takes : TakesAt intakes f row new) (held : next ≡ editions.with_held w f row) where
+  takes_lanes : lanes_of new ≡ lanes_of intakes
+  takes_lanes =
+      ap lanes_of takes.now ∙ map-set_same (λ (i : Intake). i.lane) intakes f takes.before takes.after takes.at (ap (λ (i : Intake). i.lane) takes.takes.1)
+
+  pub takes_loads : Loads (loading intakes w) f row (loading new next)
+  takes_loads =
+      let after_is : taking takes.after ≡ with_taken (taking_at (takings_of intakes) f) row =
+      ap taking takes.takes.1 ∙ ap (λ (t : Taking). with_taken t row) (sym (taking_at-of intakes f takes.before takes.at)) in
+      let takings : takings_of new ≡ set (takings_of intakes) f (with_taken (taking_at (takings_of intakes) f) row) =
+      ap takings_of takes.now ∙ (map-set taking intakes f takes.after ∙ ap (set (takings_of intakes) f) after_is) in
+      ap (loading new) held
+      ∙ (ap (λ (ts : List Taking). record { system = record { lanes = lanes_of new; schema = w.table.schema; limit = w.table.limit }; takings = ts; published = w.table.rows; held = w.held ++ (f, row) ∷ [] }) takings
+      ∙ ap (λ (ls : List LaneName). record { system = record { lanes = ls; schema = w.table.schema; limit = w.table.limit }; takings = set (takings_of intakes) f (with_taken (taking_at (takings_of intakes) f) row); published = w.table.rows; held = w.held ++ (f, row) ∷ [] }) takes_lanes)
+
+  pub takes_loader : IsLoader intakes w → IsLoader new next
+  takes_loader is = record {
+    balanced = subst Balanced (sym takes_loads) (loaded_balanced (loading intakes w) f row (there intakes f takes.before takes.at) is.balanced);
+    whole = subst (All IsWhole) (sym takes.now) (All-set IsWhole intakes f takes.after takes.whole is.whole);
+    alike = subst (λ (v : Written). All (λ (lane : LaneName). lane.schema ≡ v.table.schema) (lanes_of new)) (sym held)
+        (subst (All (λ (lane : LaneName). lane.schema ≡ w.table.schema)) (sym takes_lanes) is.alike);
+    many = ap length takes_lanes ∙ (is.many ∙ ap (λ (v : Written). v.table.feeders) (sym held));
+  }
+
+-- ---- a closing is told
+
+settled_balanced : (s : Loading) (f : ℕ) (sent : List Entries) → f < length s.takings → Balanced s → Balanced (settled_as s f sent)
+settled_balanced s f sent within balanced g = balanced g ∙ by (nat_eq f g) refl
+  where
+    by : (b : Bool) → nat_eq f g ≡ b → taken s g ≡ taken (settled_as s f sent) g
+    by true is =
+        let same : f ≡ g = grind (arith, nat_tests) in
+        subst (λ (h : ℕ). taken s h ≡ taken (settled_as s f sent) h) same
+        (ap (λ (t : Taking). t.taken) (sym (get_or-set_same s.takings f (record { taken = taken s f; told = Some sent }) no_taking within)))
+    by false is =
+        let other : g ≢ f = λ same. grind (arith, nat_tests) in
+        ap (λ (t : Taking). t.taken) (sym (get_or-set_other s.takings f g (record { taken = taken s f; told = Some sent }) no_taking other))
+
+module _ (intakes : List Intake) (w : Written) (f : ℕ) (closing : Sent) (new : List Intake) (settles : SettlesAt intakes f closing new) where
+  settles_lanes : lanes_of new ≡ lanes_of intakes
+  settles_lanes =
+      ap lanes_of settles.now ∙ map-set_same (λ (i : Intake). i.lane) intakes f settles.before settles.after settles.at (ap (λ (i : Intake). i.lane) settles.settles)
+
+  pub settles_loading : loading new w ≡ settled_as (loading intakes w) f closing.rows
+  settles_loading =
+      let after_is : taking settles.after ≡ record { taken = taken (loading intakes w) f; told = Some closing.rows } =
+      ap taking settles.settles ∙ ap (λ (t : Taking). record { taken = t.taken; told = Some closing.rows }) (sym (taking_at-of intakes f settles.before settles.at)) in
+      let takings : takings_of new ≡ set (takings_of intakes) f (record { taken = taken (loading intakes w) f; told = Some closing.rows }) =
+      ap takings_of settles.now ∙ (map-set taking intakes f settles.after ∙ ap (set (takings_of intakes) f) after_is) in
+      ap (λ (ts : List Taking). record { system = record { lanes = lanes_of new; schema = w.table.schema; limit = w.table.limit }; takings = ts; published = w.table.rows; held = w.held }) takings
+      ∙ ap (λ (ls : List LaneName). record { system = record { lanes = ls; schema = w.table.schema; limit = w.table.limit }; takings = set (takings_of intakes) f (record { taken = taken (loading intakes w) f; told = Some closing.rows }); published = w.table.rows; held = w.held }) settles_lanes
+
+  pub settles_loader : IsLoader intakes w → IsLoader new w
+  settles_loader is = record {
+    balanced = subst Balanced (sym settles_loading) (settled_balanced (loading intakes w) f closing.rows (there intakes f settles.before settles.at) is.balanced);
+    whole = subst (All IsWhole) (sym settles.now) (All-set IsWhole intakes f settles.after settles.whole is.whole);
+    alike = subst (All (λ (lane : LaneName). lane.schema ≡ w.table.schema)) (sym settles_lanes) is.alike;
+    many = ap length settles_lanes ∙ is.many;
+  }

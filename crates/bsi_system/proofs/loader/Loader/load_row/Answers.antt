@@ -1,0 +1,46 @@
+use Rattle.std.proofs.Common.{ap, ◌∙◌, subst}
+use Rattle.std.specs.Prelude.{IsTrue}
+use Rattle.bsi_table.specs.Columns.{fits}
+use Rattle.bsi_versions.specs.Editions.{with_held}
+use Rattle.bsi_system.specs.Running.{loading, Loads}
+use Rattle.bsi_system.proofs.Takings.{first_fits, first_there, same_loader, same_loading, same_row, takes_loader, takes_loads}
+use Rattle.bsi_system.proofs.loader.Loader.load_row.Goals as goal
+
+pub invariant_of-self-2 : goal.invariant_of-self-2
+invariant_of-self-2 g c =
+    let l = c.self.inside in
+    let intakes = c.first_of.new.lanes.items in
+    let row = c.take_of.result in
+    let same = same_row intakes c.args.feeder c.in-Ok.row row c.take_of.new.lanes.items c.in-Ok.ensures.first c.take_of.ensures in
+    let held = c.in-Ok-hold.ensures.ok ∙ ap (with_held l.publisher c.args.feeder) same in
+    takes_loader intakes l.publisher c.args.feeder row c.take_of.new.lanes.items c.hold.new.self c.take_of.ensures held
+    (same_loader l.lanes.items l.publisher c.self.invariant intakes c.in-Ok.ensures.same)
+
+pub returns-clause-loaded : goal.returns-clause-loaded
+returns-clause-loaded g c =
+    let l = c.self.inside in
+    let intakes = c.first_of.new.lanes.items in
+    let row = c.take_of.result in
+    let same = same_row intakes c.args.feeder c.in-Ok.row row c.take_of.new.lanes.items c.in-Ok.ensures.first c.take_of.ensures in
+    let held = c.in-Ok-hold.ensures.ok ∙ ap (with_held l.publisher c.args.feeder) same in
+    let loader = same_loader l.lanes.items l.publisher c.self.invariant intakes c.in-Ok.ensures.same in
+    let old = same_loading l.lanes.items l.publisher c.self.invariant intakes c.in-Ok.ensures.same ∙ c.self.view_is in
+    let first = first_fits intakes l.publisher loader c.args.feeder c.in-Ok.row c.in-Ok.ensures.first in
+    let fitting = subst (λ r. IsTrue (fits l.publisher.table.schema.columns r)) same first in (
+      row,
+      subst (λ s. IsTrue (fits s.system.schema.columns row)) old fitting,
+      subst (λ s. Loads s c.args.feeder row (loading c.take_of.new.lanes.items c.hold.new.self)) old
+          (takes_loads intakes l.publisher c.args.feeder row c.take_of.new.lanes.items c.hold.new.self c.take_of.ensures held),
+    )
+
+pub hold-requires-clause-fits : goal.hold-requires-clause-fits
+hold-requires-clause-fits g c =
+    let l = c.self.inside in
+    let intakes = c.first_of.new.lanes.items in
+    first_fits intakes l.publisher (same_loader l.lanes.items l.publisher c.self.invariant intakes c.in-Ok.ensures.same) c.args.feeder c.in-Ok.row c.in-Ok.ensures.first
+
+pub hold-requires-clause-feeder : goal.hold-requires-clause-feeder
+hold-requires-clause-feeder g c =
+    let l = c.self.inside in
+    let intakes = c.first_of.new.lanes.items in
+    first_there intakes l.publisher (same_loader l.lanes.items l.publisher c.self.invariant intakes c.in-Ok.ensures.same) c.args.feeder c.in-Ok.row c.in-Ok.ensures.first

@@ -1,0 +1,65 @@
+-- What is done with one lane of a list of them.
+use Rattle.std.specs.Prelude.{◌≡◌, ℕ, ◌<◌, ◌≤◌, ⊤, Bool, true, false, All, IsTrue, List, [], ◌∷◌, None, Some, Result, Ok, Err, length, slice_get, slice_set}
+use Rattle.bsi_table.specs.Columns.{fits}
+use Rattle.bsi_table.specs.Rows.{Entries}
+use Rattle.bsi_load.specs.declared.event.LoadRefused.{LoadRefused}
+use Rattle.bsi_load.specs.declared.event.LoadRefused.TheVariants as load
+use Rattle.bsi_rings.specs.declared.lane.Front.{Front}
+use Rattle.bsi_rings.specs.Rings.{lanes_of, with_seen, Intake, IsFront, IsWhole, Sent, Settles, Takes}
+use Rattle.bsi_system.specs.Running.{taking_at, takings_of, IsSettled, MayLoad, Taking}
+
+-- one lane was looked at
+pub record LooksAt (old : List Intake) (f : ℕ) (found : Front) (new : List Intake) : Type 0 where
+  pub before : Intake
+  pub seen : List Entries
+  pub at : slice_get old f ≡ Some before
+  pub now : new ≡ slice_set old f (with_seen before seen)
+  pub found_is : IsFront (with_seen before seen) found
+  pub whole : IsWhole (with_seen before seen)
+
+-- the first row that is seen of one lane was taken
+pub record TakesAt (old : List Intake) (f : ℕ) (row : Entries) (new : List Intake) : Type 0 where
+  pub before : Intake
+  pub after : Intake
+  pub at : slice_get old f ≡ Some before
+  pub now : new ≡ slice_set old f after
+  pub takes : Takes before row after
+  pub whole : IsWhole after
+
+-- the closing of one lane was told
+pub record SettlesAt (old : List Intake) (f : ℕ) (closing : Sent) (new : List Intake) : Type 0 where
+  pub before : Intake
+  pub after : Intake
+  pub at : slice_get old f ≡ Some before
+  pub now : new ≡ slice_set old f after
+  pub settles : Settles before closing after
+  pub whole : IsWhole after
+
+-- nothing was taken or told
+pub record AreSame (old new : List Intake) : Type 0 where
+  pub takings : takings_of new ≡ takings_of old
+  pub lanes : lanes_of new ≡ lanes_of old
+  pub whole : All IsWhole old → All IsWhole new
+
+-- the row is the first that is seen of a lane, and fits
+pub record IsFirstAt (intakes : List Intake) (f : ℕ) (row : Entries) : Type 0 where
+  pub intake : Intake
+  pub rest : List Entries
+  pub at : slice_get intakes f ≡ Some intake
+  pub first : intake.seen ≡ row ∷ rest
+  pub fitting : IsTrue (fits intake.lane.schema.columns row)
+
+-- a row is refused for want of a place or of memory only where one is seen first
+abbrev pub IsSeenWhere : List Intake → ℕ → LoadRefused → Type 0
+IsSeenWhere intakes f load.IndexFull = (row : Entries) × IsFirstAt intakes f row
+IsSeenWhere intakes f load.NoMemory = (row : Entries) × IsFirstAt intakes f row
+IsSeenWhere intakes f refused = ⊤
+
+-- the reply to the question for a copy of the first row, where the table is full or not
+abbrev pub IsFirstReply : List Taking → ℕ → Bool → Result Entries LoadRefused → Type 0
+IsFirstReply takings f full (Ok row) = MayLoad takings f × (full ≡ false)
+IsFirstReply takings f full (Err load.UnknownFeeder) = length takings ≤ f
+IsFirstReply takings f full (Err load.Ended) = (f < length takings) × IsSettled takings f
+IsFirstReply takings f full (Err load.Empty) = (f < length takings) × ((taking_at takings f).told ≡ None)
+IsFirstReply takings f full (Err load.IndexFull) = MayLoad takings f × (full ≡ true)
+IsFirstReply takings f full (Err load.NoMemory) = MayLoad takings f × (full ≡ false)

@@ -1,0 +1,15 @@
+-- Why no system is opened.
+use Rattle.std.specs.Prelude.{◌≡◌, ℕ, Option, None}
+use Rattle.bsi_table.specs.Columns.{Declared}
+use Rattle.bsi_table.specs.Refusals.{IsFirstOr}
+use Rattle.bsi_load.specs.declared.sizes.MakeError.{MakeError}
+use Rattle.bsi_load.specs.declared.sizes.MakeError.TheVariants as made
+use Rattle.bsi_system.specs.Running.{new_loading}
+use Rattle.bsi_system.specs.declared.system.OpenRefused.{OpenRefused}
+use Rattle.bsi_system.specs.declared.system.OpenRefused.TheVariants.{Make, Readers}
+
+-- the refusal of the sizes or, where there is none, want of memory, or that an analyst's place was not found, with the loader that
+-- was made
+abbrev pub IsOpenRefusal : {B : Type 0} → Option MakeError → Declared → ℕ → OpenRefused B → Type 0
+IsOpenRefusal sizes schema limit (Make refused) = IsFirstOr made.NoMemory sizes refused
+IsOpenRefusal sizes schema limit (Readers loader) = (sizes ≡ None) × (loader ≡ new_loading loader.system.lanes schema limit)

@@ -1,0 +1,140 @@
+-- What contracts see of a loader, and what its calls may answer.
+use Rattle.std.specs.Prelude.{◌≡◌, ◌≢◌, ℕ, ◌+◌, ◌<◌, ◌≤◌, Bool, true, false, All, IfSome, IsTrue, List, [], ◌∷◌, ◌++◌, Option, None, Some, Result, Ok, Err, length, map, slice_get, slice_index_or, slice_set}
+use mathlib.Core.List.{IsPrefix}
+use Rattle.bsi_table.specs.Columns.{fits, Declared}
+use Rattle.bsi_table.specs.Rows.{Entries, FedRow}
+use Rattle.bsi_load.specs.declared.event.LoadRefused.{LoadRefused}
+use Rattle.bsi_load.specs.declared.event.LoadRefused.TheVariants as load
+use Rattle.bsi_load.specs.Runs.{rows_from}
+use Rattle.bsi_rings.specs.Rings.{lanes_of, Intake, IsFront, IsWhole, LaneName, Sending, Sent}
+use Rattle.bsi_versions.specs.Editions.{Written}
+
+-- which rings a system has, the schema of its rows, and the most rows of its table
+pub record System : Type 0 where
+  pub lanes : List LaneName
+  pub schema : Declared
+  pub limit : ℕ
+
+-- the rows that were taken from a feeder's ring, and what its closing carried, once that was told
+pub record Taking : Type 0 where
+  pub taken : List Entries
+  pub told : Option (List Entries)
+
+-- what is seen of a loader: its system, what was taken of each feeder, the rows that are published, and those that are held
+pub record Loading : Type 0 where
+  pub system : System
+  pub takings : List Taking
+  pub published : List FedRow
+  pub held : List FedRow
+
+-- of a feeder that is not there
+abbrev pub no_taking : Taking
+no_taking = record { taken = []; told = None }
+
+abbrev pub taking_at : List Taking → ℕ → Taking
+taking_at takings f = slice_index_or takings f no_taking
+
+abbrev pub taken : Loading → ℕ → List Entries
+taken s f = (taking_at s.takings f).taken
+
+abbrev pub told : Loading → ℕ → Option (List Entries)
+told s f = (taking_at s.takings f).told
+
+-- ---- what always holds
+
+-- each feeder's published rows, followed by its held rows, are the rows that were taken from its ring
+abbrev pub Balanced : Loading → Type 0
+Balanced s = (f : ℕ) → rows_from f (s.published ++ s.held) ≡ taken s f
+
+-- something is seen of each feeder of the system
+abbrev pub AreAsMany : Loading → Type 0
+AreAsMany s = length s.takings ≡ length s.system.lanes
+
+-- what was taken of a feeder that was told of begins what its closing carried
+abbrev pub WithinTold : Loading → Type 0
+WithinTold s = (f : ℕ) → IfSome (told s f) (λ sent. IsPrefix (taken s f) sent)
+
+-- ---- the beginning
+
+-- nothing was taken, told, published or held
+abbrev pub new_loading : List LaneName → Declared → ℕ → Loading
+new_loading lanes schema limit = record {
+  system = record { lanes = lanes; schema = schema; limit = limit };
+  takings = map (λ lane. no_taking) lanes;
+  published = [];
+  held = [];
+}
+
+-- ---- loads
+
+-- the closing of the feeder was told, and all that it carried was taken
+abbrev pub IsSettled : List Taking → ℕ → Type 0
+IsSettled takings f = (taking_at takings f).told ≡ Some (taking_at takings f).taken
+
+-- the feeder is there, and not settled
+abbrev pub MayLoad : List Taking → ℕ → Type 0
+MayLoad takings f = (f < length takings) × ((taking_at takings f).told ≢ Some (taking_at takings f).taken)
+
+-- the reply to a load: there is no such feeder; it is settled; no row was seen, and none was told of; the published and the
+-- held rows are as many as the limit; else the row is loaded, or there is no memory
+abbrev pub IsLoadReply : Loading → ℕ → Result (Unit {0}) LoadRefused → Type 0
+IsLoadReply s f (Ok done) = MayLoad s.takings f × (length s.published + length s.held < s.system.limit)
+IsLoadReply s f (Err load.UnknownFeeder) = length s.takings ≤ f
+IsLoadReply s f (Err load.Ended) = (f < length s.takings) × IsSettled s.takings f
+IsLoadReply s f (Err load.Empty) = (f < length s.takings) × (told s f ≡ None)
+IsLoadReply s f (Err load.IndexFull) = MayLoad s.takings f × (length s.published + length s.held ≡ s.system.limit)
+IsLoadReply s f (Err load.NoMemory) = MayLoad s.takings f × (length s.published + length s.held < s.system.limit)
+
+-- one row more was taken
+abbrev pub with_taken : Taking → Entries → Taking
+with_taken t row = record t { taken = t.taken ++ row ∷ [] }
+
+-- the row is the next one that is taken of the feeder, and it is held, last
+abbrev pub Loads : Loading → ℕ → Entries → Loading → Type 0
+Loads s f row t =
+    t ≡ record s { takings = slice_set s.takings f (with_taken (taking_at s.takings f) row); held = s.held ++ (f, row) ∷ [] }
+
+-- a row that fits is loaded
+abbrev pub LoadsOne : Loading → ℕ → Loading → Type 0
+LoadsOne s f t = (row : Entries) × IsTrue (fits s.system.schema.columns row) × Loads s f row t
+
+-- ---- settling and publishing
+
+-- the closing is of a feeder of this system
+abbrev pub IsOf : Sent → System → Type 0
+IsOf closing system = slice_get system.lanes closing.number ≡ Some closing.lane
+
+-- the feeder is one of this system
+abbrev pub IsFeederOf : Sending → System → Type 0
+IsFeederOf feeder system = slice_get system.lanes feeder.number ≡ Some feeder.lane
+
+-- the closing of the feeder was told, which carried these rows
+abbrev pub settled_as : Loading → ℕ → List Entries → Loading
+settled_as s f sent = record s { takings = slice_set s.takings f (record { taken = taken s f; told = Some sent }) }
+
+-- all held rows are published, in the order taken, behind those that were
+abbrev pub published_all : Loading → Loading
+published_all s = record s { published = s.published ++ s.held; held = [] }
+
+-- ---- the parts of a loader
+
+abbrev pub taking : Intake → Taking
+taking i = record { taken = i.taken; told = i.told }
+
+abbrev pub takings_of : List Intake → List Taking
+takings_of intakes = map taking intakes
+
+abbrev pub loading : List Intake → Written → Loading
+loading intakes w = record {
+  system = record { lanes = lanes_of intakes; schema = w.table.schema; limit = w.table.limit };
+  takings = takings_of intakes;
+  published = w.table.rows;
+  held = w.held;
+}
+
+-- what a loader keeps to; the rings are of the table's schema, one for each of its feeders
+pub record IsLoader (intakes : List Intake) (w : Written) : Type 0 where
+  pub balanced : Balanced (loading intakes w)
+  pub whole : All IsWhole intakes
+  pub alike : All (λ lane. lane.schema ≡ w.table.schema) (lanes_of intakes)
+  pub many : length (lanes_of intakes) ≡ w.table.feeders

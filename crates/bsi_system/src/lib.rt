@@ -1,0 +1,15 @@
+//! A running system: feeders and analysts on threads of their own, and one loader that loses nothing.
+#![tactic(auto)]
+
+mod lanes;
+mod loader;
+mod opening;
+mod system;
+
+pub use bsi_load::{LoadRefused, MakeError};
+pub use bsi_rings::{Closing, Feeder, SubmitRefused};
+pub use bsi_versions::{Analyst, AnalystRefused, History, Naming, Told};
+pub use loader::{Loader, SettleRefused};
+pub use opening::open;
+pub use std::alloc::AllocError as NoMemory;
+pub use system::{OpenRefused, System};

@@ -1,0 +1,177 @@
+//! The loader: it takes rows out of the feeders' rings, holds them, and publishes them.
+
+ghost use Rattle.std.specs.Prelude.{◌≡◌, ◌≢◌, ◌+◌, ◌≤◌, IfErr, IfOk, OnErr, OnOk, length};
+ghost use Rattle.bsi_system.specs.Running.{published_all, settled_as, AreAsMany, Balanced, IsLoadReply, IsOf, LoadsOne, WithinTold};
+
+use crate::NoMemory;
+use crate::lanes::{first_of, settle_of, take_of};
+use bsi_load::LoadRefused;
+use bsi_rings::{Closing, Lane};
+use bsi_versions::{Analyst, Naming, Publisher, Told};
+use std::marker::Model;
+use std::sync::Wait;
+
+/// Why a closing is not told.
+#[derive(Drop)]
+pub enum SettleRefused {
+    /// There is no such feeder, or the closing is another feeder's. It is handed back.
+    WrongClosing(Closing),
+}
+
+/// What loads the rows of all feeders into the table that analysts read. It is not `Drop`: end it by `end`.
+pub struct Loader<B: Naming> {
+    pub(crate) lanes: Vec<Lane>,
+    pub(crate) publisher: Publisher<B>,
+}
+
+// Clauses see which rings there are, the schema and the limit, what was taken of each feeder and what its closing told, the
+// rows that are published, and those that are held.
+impl<B: Naming> Model for Loader<B> {
+    ghost use Rattle.bsi_system.specs.Running.{loading, IsLoader, Loading};
+
+    ghost Value = { Loading };
+
+    ghost view = { λ l. loading l.lanes.items l.publisher };
+
+    ghost invariant = { λ l. IsLoader l.lanes.items l.publisher };
+}
+
+impl<B: Naming> Loader<B> {
+    /// Takes the next row out of a feeder's ring, and holds it. Where it is refused, the row stays in the ring. It waits for
+    /// nobody.
+    pub fn load(&mut self, feeder: u32) -> Result<(), LoadRefused>
+        ensures reply { IsLoadReply self.old feeder result }
+        ensures loaded { OnOk result (LoadsOne self.old feeder self.new) }
+        ensures kept { OnErr result (self.new ≡ self.old) }
+        ensures system { self.new.system ≡ self.old.system }
+        ensures balanced { Balanced self.new }
+        ensures within { WithinTold self.new }
+        ensures many { AreAsMany self.new }
+    {
+        let loaded = self.load_row(feeder);
+        self.show();
+        loaded
+    }
+
+    fn load_row(&mut self, feeder: u32) -> Result<(), LoadRefused>
+        ensures reply { IsLoadReply self.old feeder result }
+        ensures loaded { OnOk result (LoadsOne self.old feeder self.new) }
+        ensures kept { OnErr result (self.new ≡ self.old) }
+    {
+        let full = self.publisher.is_full();
+        let row = match first_of(&mut self.lanes, feeder, full) {
+            Ok(row) => row,
+            Err(refused) => return Err(refused),
+        };
+        match self.publisher.hold(feeder, row) {
+            Ok(()) => {}
+            Err(_) => return Err(LoadRefused::NoMemory),
+        }
+        take_of(&mut self.lanes, feeder);
+        Ok(())
+    }
+
+    /// Learns from a feeder's closing what it sent. From then on each of those rows can be loaded, and a load of the feeder is
+    /// refused for good once all are. It takes no row, no memory, and waits for nobody.
+    pub fn settle(&mut self, feeder: u32, closing: Closing) -> Result<(), SettleRefused>
+        requires { IsOf closing self.old.system }
+        ensures ok { OnOk result ((closing.number ≡ feeder) × (self.new ≡ settled_as self.old feeder closing.rows)) }
+        ensures wrong { IfErr result (λ e. (e ≡ SettleRefused.WrongClosing closing) × (closing.number ≢ feeder)) }
+        ensures kept { OnErr result (self.new ≡ self.old) }
+        ensures system { self.new.system ≡ self.old.system }
+        ensures balanced { Balanced self.new }
+        ensures within { WithinTold self.new }
+        ensures many { AreAsMany self.new }
+    {
+        if closing.feeder() != feeder {
+            self.show();
+            return Err(SettleRefused::WrongClosing(closing));
+        }
+        self.settle_lane(feeder, closing);
+        self.show();
+        Ok(())
+    }
+
+    fn settle_lane(&mut self, feeder: u32, closing: Closing)
+        requires closing { IsOf closing self.old.system }
+        requires feeder { closing.number ≡ feeder }
+        ensures { self.new ≡ settled_as self.old feeder closing.rows }
+    {
+        settle_of(&mut self.lanes, feeder, closing);
+    }
+
+    /// Makes all held rows visible to analysts at one step, and returns how many rows are then published. Where it is refused,
+    /// nothing changes.
+    pub fn publish<R: Wait>(&mut self, rt: &R) -> Result<u64, NoMemory>
+        ensures len { IfOk result (λ len. len ≡ length self.new.published) }
+        ensures ok { OnOk result (self.new ≡ published_all self.old) }
+        ensures err { OnErr result (self.new ≡ self.old) }
+        ensures system { self.new.system ≡ self.old.system }
+        ensures balanced { Balanced self.new }
+        ensures within { WithinTold self.new }
+        ensures many { AreAsMany self.new }
+    {
+        let published = self.publish_held(rt);
+        self.show();
+        published
+    }
+
+    fn publish_held<R: Wait>(&mut self, rt: &R) -> Result<u64, NoMemory>
+        ensures len { IfOk result (λ len. len ≡ length self.new.published) }
+        ensures ok { OnOk result (self.new ≡ published_all self.old) }
+        ensures err { OnErr result (self.new ≡ self.old) }
+    {
+        match self.publisher.publish(rt) {
+            Ok(len) => Ok(len),
+            Err(refused) => Err(refused),
+        }
+    }
+
+    /// Returns how many rows are published, and how many are held. It takes no memory.
+    pub fn counts(&self) -> (u64, u64)
+        ensures published { result.0 ≡ length self.now.published }
+        ensures held { result.1 ≡ length self.now.held }
+        ensures limit { length self.now.published + length self.now.held ≤ self.now.system.limit }
+        ensures balanced { Balanced self.now }
+        ensures within { WithinTold self.now }
+        ensures many { AreAsMany self.now }
+    {
+        self.show();
+        self.publisher.counts()
+    }
+
+    /// Tells which rows are published, for an analyst to learn. It takes no memory.
+    pub fn tell(&mut self) -> Told<B>
+        ensures told { result ≡ self.old.published }
+        ensures same { self.new ≡ self.old }
+        ensures balanced { Balanced self.new }
+        ensures within { WithinTold self.new }
+        ensures many { AreAsMany self.new }
+    {
+        self.show();
+        self.publisher.tell()
+    }
+
+    /// Makes an analyst, who knows what is published. Err where its place is not found to be free.
+    pub(crate) fn analyst(&self) -> Result<Analyst<B>, NoMemory>
+        ensures { IfOk result (λ analyst. analyst ≡ self.now.published) }
+    {
+        self.publisher.analyst()
+    }
+
+    /// Ends the loader. What is held or in a ring is dropped.
+    pub fn end<R: Wait>(self, rt: &R) {
+        let Loader { lanes, publisher } = self;
+        drop(lanes);
+        publisher.end(rt);
+    }
+
+    /// Shows what the loader keeps to.
+    fn show(&self)
+        ensures balanced { Balanced self.now }
+        ensures within { WithinTold self.now }
+        ensures many { AreAsMany self.now }
+    {
+        let _ = &self.lanes;
+    }
+}

@@ -1,0 +1,68 @@
+//! Opens a running system.
+
+ghost use Rattle.std.specs.Prelude.{◌≡◌, ◌≤◌, ◌++◌, [], All, IfErr, IfOk, None, OnOk, length, replicate};
+ghost use Rattle.bsi_table.specs.Table.{no_rows};
+ghost use Rattle.bsi_load.specs.Sizes.{sizes_refusal};
+ghost use Rattle.bsi_rings.specs.Rings.{new_feeders};
+ghost use Rattle.bsi_system.specs.Running.{new_loading, IsFeederOf};
+ghost use Rattle.bsi_system.specs.Opening.{IsOpenRefusal};
+
+use crate::system::{OpenRefused, System};
+use crate::{Loader, NoMemory};
+use bsi_table::Schema;
+use bsi_versions::{Analyst, History, Naming};
+use std::alloc::Global;
+
+/// Opens a system with a feeder for each capacity, a table of at most so many rows, and so many analysts. Nothing was sent,
+/// taken, held or published. It makes all that its ends need later.
+pub fn open<B: Naming>(
+    alloc: Global,
+    history: History,
+    schema: Schema,
+    capacities: Vec<u32>,
+    limit: u64,
+    analysts: u32,
+) -> Result<System<B>, OpenRefused<B>>
+    requires few { analysts ≤ 8 }
+    requires history { history ≡ record { book = B.book; list = [] } }
+    requires about { B.about ≡ no_rows schema (length capacities.items) limit }
+    ensures loader { IfOk result (λ s. s.loader ≡ new_loading s.loader.system.lanes schema limit) }
+    ensures lanes { IfOk result (λ s. length s.loader.system.lanes ≡ length capacities.items) }
+    ensures alike { IfOk result (λ s. All (λ lane. lane.schema ≡ schema) s.loader.system.lanes) }
+    ensures feeders { IfOk result (λ s. s.feeders.items ≡ new_feeders 0 s.loader.system.lanes capacities.items) }
+    ensures own { IfOk result (λ s. All (λ f. IsFeederOf f s.loader.system) s.feeders.items) }
+    ensures analysts { IfOk result (λ s. s.analysts.items ≡ replicate analysts []) }
+    ensures taken { OnOk result (sizes_refusal schema capacities.items limit ≡ None) }
+    ensures refused { IfErr result (IsOpenRefusal (sizes_refusal schema capacities.items limit) schema limit) }
+{
+    let made = System::<B>::make(alloc, history, schema, &capacities, limit, analysts);
+    let mut system = match made {
+        Ok(system) => system,
+        Err(refused) => return Err(OpenRefused::Make(refused)),
+    };
+    match find_analysts(&system.loader, &mut system.analysts, analysts) {
+        Ok(()) => Ok(system),
+        Err(_) => {
+            let System {
+                feeders: _feeders,
+                loader,
+                analysts: _analysts,
+            } = system;
+            Err(OpenRefused::Readers(loader))
+        }
+    }
+}
+
+/// Finds a place for each analyst.
+fn find_analysts<B: Naming>(
+    loader: &Loader<B>,
+    analysts: &mut Vec<Analyst<B>>,
+    count: u32,
+) -> Result<(), NoMemory>
+    ensures { OnOk result (analysts.new.items ≡ analysts.old.items ++ replicate count loader.now.published) }
+{
+    'analysts: for found in 0..count {
+        analysts.push(loader.analyst()?)?;
+    }
+    Ok(())
+}

@@ -1,0 +1,72 @@
+//! Opens a running system: all of its ends.
+
+ghost use Rattle.std.specs.Prelude.{◌≡◌, ◌≤◌, ◌++◌, [], All, IfErr, IfOk, None, OnOk, length, replicate};
+ghost use Rattle.bsi_table.specs.Refusals.{IsFirstOr};
+ghost use Rattle.bsi_table.specs.Table.{no_rows};
+ghost use Rattle.bsi_load.specs.Sizes.{sizes_refusal};
+ghost use Rattle.bsi_rings.specs.Rings.{new_feeders};
+ghost use Rattle.bsi_system.specs.Running.{new_loading, IsFeederOf};
+
+use crate::Loader;
+use bsi_load::{MakeError, check_sizes};
+use bsi_rings::{Feeder, open_rings};
+use bsi_table::{Index, Schema};
+use bsi_versions::{Analyst, History, Naming, Publisher};
+use std::alloc::Global;
+use std::sync::Arc;
+
+/// All ends of a running system, to be taken apart and moved to threads.
+pub struct System<B: Naming> {
+    /// An end for each feeder, in the order of the capacities.
+    pub feeders: Vec<Feeder>,
+    /// The one loader. It is to be ended by `end`.
+    pub loader: Loader<B>,
+    /// The analysts.
+    pub analysts: Vec<Analyst<B>>,
+}
+
+/// Why no system is opened, in the order of checking.
+pub enum OpenRefused<B: Naming> {
+    /// The sizes are refused, or a growth was.
+    Make(MakeError),
+    /// An analyst's place was not found. The loader that was made is handed back, to be ended.
+    Readers(Loader<B>),
+}
+
+impl<B: Naming> System<B> {
+    /// Makes all ends but the analysts, for which there is room.
+    pub(crate) fn make(
+        alloc: Global,
+        history: History,
+        schema: Schema,
+        capacities: &[u32],
+        limit: u64,
+        analysts: u32,
+    ) -> Result<System<B>, MakeError>
+        requires few { analysts ≤ 8 }
+        requires history { history ≡ record { book = B.book; list = [] } }
+        requires about { B.about ≡ no_rows schema (length capacities.now) limit }
+        ensures loader { IfOk result (λ s. s.loader ≡ new_loading s.loader.system.lanes schema limit) }
+        ensures lanes { IfOk result (λ s. length s.loader.system.lanes ≡ length capacities.now) }
+        ensures alike { IfOk result (λ s. All (λ lane. lane.schema ≡ schema) s.loader.system.lanes) }
+        ensures feeders { IfOk result (λ s. s.feeders.items ≡ new_feeders 0 s.loader.system.lanes capacities.now) }
+        ensures analysts { IfOk result (λ s. s.analysts.items ≡ []) }
+        ensures taken { OnOk result (sizes_refusal schema capacities.now limit ≡ None) }
+        ensures refused { IfErr result (IsFirstOr MakeError.NoMemory (sizes_refusal schema capacities.now limit)) }
+    {
+        check_sizes(&schema, capacities, limit)?;
+        let shared = match Arc::new(alloc, schema.copy()?) {
+            Ok(shared) => shared,
+            Err(_) => return Err(MakeError::NoMemory),
+        };
+        let (feeders, lanes) = open_rings(alloc, &shared, capacities)?;
+        let places = Vec::with_capacity(alloc, analysts as usize)?;
+        let index = Index::new(alloc, schema, capacities.len() as u32, limit)?;
+        let publisher = Publisher::new(alloc, history, index, analysts)?;
+        Ok(System {
+            feeders,
+            loader: Loader { lanes, publisher },
+            analysts: places,
+        })
+    }
+}

@@ -1,0 +1,367 @@
+//! Worked rows on a running system, in one thread. Each test tolerates one refused growth, and then makes the same call again.
+
+ghost use Rattle.std.specs.Prelude.{◌≡◌, [], length};
+ghost use Rattle.bsi_table.specs.Table.{no_rows};
+ghost use Rattle.bsi_system.specs.Running.{IsFeederOf};
+
+use bsi_system::{
+    Analyst, AnalystRefused, Feeder, History, LoadRefused, Loader, Naming, NoMemory, OpenRefused,
+    SubmitRefused, System, open,
+};
+use bsi_table::{Answer, AskError, ColumnSpec, Pred, Query, Row, Schema, Total};
+use std::alloc::Global;
+use std::marker::Brand;
+use std::process::Abort;
+use std::sync::Wait;
+use std::test::Fail;
+
+/// Which row is worked.
+#[derive(Clone, Copy)]
+enum Worked {
+    ReadBack,
+    DroppedFeeder,
+    Told,
+    RefusedMemory,
+}
+
+fn one_row(alloc: Global, n: i128) -> Result<Row, NoMemory> {
+    let mut values = Vec::new(alloc);
+    values.push(Some(n))?;
+    Ok(Row::new(values))
+}
+
+fn row(alloc: Global, n: i128) -> Result<Row, NoMemory> {
+    match one_row(alloc, n) {
+        Err(_) => one_row(alloc, n),
+        made => made,
+    }
+}
+
+fn quantities(alloc: Global) -> Result<Schema, NoMemory> {
+    let mut schema = Schema::new(alloc);
+    match schema.add("qty", ColumnSpec::Slices(3)) {
+        Ok(()) => Ok(schema),
+        Err(_) => Err(NoMemory),
+    }
+}
+
+fn capacity(alloc: Global, n: u32) -> Result<Vec<u32>, NoMemory> {
+    let mut capacities = Vec::with_capacity(alloc, 1)?;
+    capacities.push(n)?;
+    Ok(capacities)
+}
+
+fn load<B: Naming>(loader: &mut Loader<B>, feeder: u32) -> Result<(), LoadRefused>
+    ensures { loader.new.system ≡ loader.old.system }
+{
+    match loader.load(feeder) {
+        Err(LoadRefused::NoMemory) => loader.load(feeder),
+        loaded => loaded,
+    }
+}
+
+fn publish<B: Naming, R: Wait + Abort>(rt: &R, loader: &mut Loader<B>) -> Option<u64>
+    ensures { loader.new.system ≡ loader.old.system }
+{
+    let before = loader.counts();
+    match loader.publish(rt) {
+        Ok(len) => Some(len),
+        Err(_) => {
+            assert_eq!(rt; loader.counts(), before);
+            loader.publish(rt).ok()
+        }
+    }
+}
+
+fn ask<B: Naming>(analyst: &mut Analyst<B>, total: Total) -> Result<Answer, AnalystRefused> {
+    let query = Query {
+        pred: Pred::All,
+        total,
+    };
+    match analyst.ask(&query) {
+        Err(AnalystRefused::Ask(AskError::NoMemory)) => analyst.ask(&query),
+        answered => answered,
+    }
+}
+
+fn count_of<B: Naming>(analyst: &mut Analyst<B>) -> Option<u64> {
+    match ask(analyst, Total::Count) {
+        Ok(Answer::Count(count)) => Some(count),
+        _ => None,
+    }
+}
+
+fn sum_of<B: Naming>(analyst: &mut Analyst<B>) -> Option<i128> {
+    match ask(analyst, Total::Sum(0)) {
+        Ok(Answer::Sum(sum)) => Some(sum),
+        _ => None,
+    }
+}
+
+/// Two rows are sent, and one that does not fit.
+fn send<R: Abort>(rt: &R, alloc: Global, feeder: &mut Feeder) -> Result<(), Fail>
+    ensures number { feeder.new.number ≡ feeder.old.number }
+    ensures lane { feeder.new.lane ≡ feeder.old.lane }
+{
+    let five = feeder.submit(row(alloc, 5)?);
+    let six = feeder.submit(row(alloc, 6)?);
+    let misfit = match feeder.submit(row(alloc, 8)?) {
+        Err(SubmitRefused::Misfit(back)) => back.values() == &[Some(8)][..],
+        _other => false,
+    };
+    assert!(rt; five.is_ok() && six.is_ok() && misfit);
+    Ok(())
+}
+
+/// One row is held, and no analyst sees it.
+fn load_first<B: Naming, R: Abort>(rt: &R, loader: &mut Loader<B>, analyst: &mut Analyst<B>)
+    ensures { loader.new.system ≡ loader.old.system }
+{
+    let before = count_of(analyst);
+    let loaded = load(loader, 0);
+    let unknown = load(loader, 9);
+    assert!(rt; loaded == Ok(()) && unknown == Err(LoadRefused::UnknownFeeder));
+    assert!(rt; before == Some(0) && count_of(analyst) == Some(0));
+    assert_eq!(rt; loader.counts(), (0, 1));
+}
+
+/// The feeder is closed, and the loader told.
+fn settle<B: Naming>(loader: &mut Loader<B>, feeder: Feeder) -> Result<(), Fail>
+    requires { IsFeederOf feeder loader.old.system }
+    ensures { loader.new.system ≡ loader.old.system }
+{
+    let closing = feeder.close().ok_or("no closing")?;
+    match loader.settle(0, closing) {
+        Ok(()) => Ok(()),
+        Err(_) => Err(Fail::from("not settled")),
+    }
+}
+
+/// The last row of a settled feeder is loaded, and then none.
+fn load_last<B: Naming, R: Abort>(rt: &R, loader: &mut Loader<B>) {
+    let last = load(loader, 0);
+    let ended = load(loader, 0);
+    assert!(rt; last == Ok(()) && ended == Err(LoadRefused::Ended));
+}
+
+/// What an analyst is answered over the two rows.
+fn read<B: Naming, R: Abort>(rt: &R, analyst: &mut Analyst<B>) {
+    let sum = sum_of(analyst);
+    let rows = match ask(analyst, Total::Rows) {
+        Ok(Answer::Rows(rows)) => rows.as_slice() == &[(0, 0), (0, 1)][..],
+        _other => false,
+    };
+    let missing = ask(analyst, Total::Sum(1)).err();
+    assert!(rt; sum == Some(11) && rows);
+    assert_eq!(rt; missing, Some(AnalystRefused::Ask(AskError::BadColumn(1))));
+}
+
+/// Two rows are sent, held and published, and read by two analysts.
+fn read_back<B: Naming, R: Wait + Abort>(
+    rt: &R,
+    alloc: Global,
+    feeder: Feeder,
+    loader: &mut Loader<B>,
+    first: &mut Analyst<B>,
+    second: &mut Analyst<B>,
+) -> Result<(), Fail>
+    requires { IsFeederOf feeder loader.old.system }
+{
+    let mut feeder = feeder;
+    send(rt, alloc, &mut feeder)?;
+    load_first(rt, loader, first);
+    settle(loader, feeder)?;
+    load_last(rt, loader);
+    let once = publish(rt, loader);
+    let again = publish(rt, loader);
+    assert!(rt; once == Some(2) && again == Some(2));
+    second.learn(loader.tell());
+    read(rt, second);
+    Ok(())
+}
+
+/// A feeder is dropped without closing: its rows can be loaded.
+fn dropped_feeder<B: Naming, R: Wait + Abort>(
+    rt: &R,
+    alloc: Global,
+    feeder: Feeder,
+    loader: &mut Loader<B>,
+    analyst: &mut Analyst<B>,
+) -> Result<(), Fail> {
+    let mut feeder = feeder;
+    let one = feeder.submit(row(alloc, 1)?);
+    let two = feeder.submit(row(alloc, 2)?);
+    assert!(rt; one.is_ok() && two.is_ok());
+    drop(feeder);
+    assert_eq!(rt; load(loader, 0), Ok(()));
+    assert_eq!(rt; load(loader, 0), Ok(()));
+    assert_eq!(rt; load(loader, 0), Err(LoadRefused::Empty));
+    assert_eq!(rt; publish(rt, loader), Some(2));
+    assert_eq!(rt; sum_of(analyst), Some(3));
+    Ok(())
+}
+
+/// An analyst is told of two publishes, the later one first.
+fn told<B: Naming, R: Wait + Abort>(
+    rt: &R,
+    alloc: Global,
+    feeder: Feeder,
+    loader: &mut Loader<B>,
+    analyst: &mut Analyst<B>,
+) -> Result<(), Fail> {
+    let mut feeder = feeder;
+    assert!(rt; feeder.submit(row(alloc, 5)?).is_ok());
+    assert_eq!(rt; load(loader, 0), Ok(()));
+    assert_eq!(rt; publish(rt, loader), Some(1));
+    let earlier = loader.tell();
+    assert!(rt; feeder.submit(row(alloc, 6)?).is_ok());
+    assert_eq!(rt; load(loader, 0), Ok(()));
+    assert_eq!(rt; publish(rt, loader), Some(2));
+    let later = loader.tell();
+    analyst.learn(later);
+    assert_eq!(rt; count_of(analyst), Some(2));
+    analyst.learn(earlier);
+    assert_eq!(rt; count_of(analyst), Some(2));
+    assert_eq!(rt; sum_of(analyst), Some(11));
+    Ok(())
+}
+
+/// Three rows are sent.
+fn send_three<R: Abort>(rt: &R, alloc: Global, feeder: &mut Feeder) -> Result<(), Fail>
+    ensures number { feeder.new.number ≡ feeder.old.number }
+    ensures lane { feeder.new.lane ≡ feeder.old.lane }
+{
+    let one = feeder.submit(row(alloc, 1)?);
+    let two = feeder.submit(row(alloc, 2)?);
+    let three = feeder.submit(row(alloc, 3)?);
+    assert!(rt; one.is_ok() && two.is_ok() && three.is_ok());
+    Ok(())
+}
+
+/// Two rows are held, and not seen, and then published.
+fn hold_and_publish<B: Naming, R: Wait + Abort>(
+    rt: &R,
+    loader: &mut Loader<B>,
+    analyst: &mut Analyst<B>,
+)
+    ensures { loader.new.system ≡ loader.old.system }
+{
+    let one = load(loader, 0);
+    let two = load(loader, 0);
+    assert!(rt; one == Ok(()) && two == Ok(()));
+    assert_eq!(rt; loader.counts(), (0, 2));
+    assert_eq!(rt; count_of(analyst), Some(0));
+    assert_eq!(rt; publish(rt, loader), Some(2));
+    assert_eq!(rt; loader.counts(), (2, 0));
+}
+
+/// Two rows are held, and then published; a third is loaded once its feeder is settled.
+fn refused_memory<B: Naming, R: Wait + Abort>(
+    rt: &R,
+    alloc: Global,
+    feeder: Feeder,
+    loader: &mut Loader<B>,
+    analyst: &mut Analyst<B>,
+) -> Result<(), Fail>
+    requires { IsFeederOf feeder loader.old.system }
+{
+    let mut feeder = feeder;
+    send_three(rt, alloc, &mut feeder)?;
+    hold_and_publish(rt, loader, analyst);
+    settle(loader, feeder)?;
+    load_last(rt, loader);
+    assert_eq!(rt; loader.counts(), (2, 1));
+    Ok(())
+}
+
+fn play<B: Naming, R: Wait + Abort>(
+    rt: &R,
+    alloc: Global,
+    worked: Worked,
+    feeder: Feeder,
+    loader: &mut Loader<B>,
+    analysts: Vec<Analyst<B>>,
+) -> Result<(), Fail>
+    requires { IsFeederOf feeder loader.old.system }
+{
+    let mut analysts = analysts;
+    let mut second = analysts.pop().ok_or("no second analyst")?;
+    let mut first = analysts.pop().ok_or("no first analyst")?;
+    match worked {
+        Worked::ReadBack => read_back(rt, alloc, feeder, loader, &mut first, &mut second),
+        Worked::DroppedFeeder => dropped_feeder(rt, alloc, feeder, loader, &mut first),
+        Worked::Told => told(rt, alloc, feeder, loader, &mut first),
+        Worked::RefusedMemory => refused_memory(rt, alloc, feeder, loader, &mut first),
+    }
+}
+
+/// Works a row on a system of its own. None where the system found no memory.
+fn work_in<B: Naming, R: Wait + Abort>(
+    rt: &R,
+    alloc: Global,
+    worked: Worked,
+    history: History,
+    schema: Schema,
+    capacities: Vec<u32>,
+) -> Option<Result<(), Fail>>
+    requires history { history ≡ record { book = B.book; list = [] } }
+    requires about { B.about ≡ no_rows schema (length capacities.items) 10 }
+{
+    match open::<B>(alloc, history, schema, capacities, 10, 2) {
+        Ok(system) => {
+            let System {
+                mut feeders,
+                mut loader,
+                analysts,
+            } = system;
+            let played = match feeders.pop() {
+                Some(feeder) => play(rt, alloc, worked, feeder, &mut loader, analysts),
+                None => Err(Fail::from("no feeder")),
+            };
+            loader.end(rt);
+            Some(played)
+        }
+        Err(OpenRefused::Make(_)) => None,
+        Err(OpenRefused::Readers(loader)) => {
+            loader.end(rt);
+            None
+        }
+    }
+}
+
+fn work<R: Wait + Abort>(rt: &R, alloc: Global, worked: Worked) -> Option<Result<(), Fail>> {
+    let schema = quantities(alloc).ok()?;
+    let capacities = capacity(alloc, 4).ok()?;
+    work_in::<Brand, R>(rt, alloc, worked, History::new(), schema, capacities)
+}
+
+/// Works a row, once more where the first system found no memory.
+fn worked_twice<R: Wait + Abort>(rt: &R, alloc: Global, worked: Worked) -> Result<(), Fail> {
+    match work(rt, alloc, worked) {
+        Some(played) => played,
+        None => match work(rt, alloc, worked) {
+            Some(played) => played,
+            None => Err(Fail::from("no system")),
+        },
+    }
+}
+
+#[test]
+fn read_a_write_back(rt: HostRuntime) -> Result<(), Fail> {
+    worked_twice(&rt, rt.alloc(), Worked::ReadBack)
+}
+
+#[test]
+fn a_dropped_feeder(rt: HostRuntime) -> Result<(), Fail> {
+    worked_twice(&rt, rt.alloc(), Worked::DroppedFeeder)
+}
+
+#[test]
+fn told_versions(rt: HostRuntime) -> Result<(), Fail> {
+    worked_twice(&rt, rt.alloc(), Worked::Told)
+}
+
+#[test]
+fn publish_refused_memory(rt: HostRuntime) -> Result<(), Fail> {
+    worked_twice(&rt, rt.alloc(), Worked::RefusedMemory)
+}

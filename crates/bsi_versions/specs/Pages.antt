@@ -1,0 +1,45 @@
+-- The history of a table: the lists of rows that were published, each whole.
+use Rattle.std.specs.Prelude.{◌≡◌, ℕ, true, List, [], ◌∷◌, length}
+use mathlib.Core.List.{IsPrefix}
+use Rattle.logbook.specs.Pages.{Book, Cell, Named, Step, View}
+use Rattle.bsi_table.specs.Rows.{FedRow}
+use Rattle.bsi_table.specs.Table.{Table}
+
+-- a list of rows, whole
+abbrev pub Rows : Type 0
+Rows = List FedRow
+
+-- the last of these lists, or these rows where there is none
+abbrev pub latest : Rows → List Rows → Rows
+latest rows [] = rows
+latest rows (page ∷ pages) = latest page pages
+
+-- each list begins with the one before, and the first with these rows
+abbrev pub AreGrowing : Rows → List Rows → Type 0
+AreGrowing rows [] = Unit {0}
+AreGrowing rows (page ∷ pages) = IsPrefix rows page × AreGrowing page pages
+
+-- the rule: the word that is shared is the length of the last list, and the lists grow
+pub record IsKept (cells : List Cell) (pages : List Rows) : Type 0 where
+  pub words : cells ≡ (length (latest [] pages), true) ∷ (0, true) ∷ []
+  pub growing : AreGrowing [] pages
+
+abbrev pub head_of : Book → Named
+head_of b = record { tracked = true; key = 0; book = b }
+
+-- where the word was the one expected, the list that was asked for is the last one
+abbrev pub Adds : Step Rows → View Rows ℕ → ℕ → View Rows ℕ → Type 0
+Adds s v found w = found ≡ s.old → latest [] w.0 ≡ s.ask
+
+-- a list that was published, and in which history
+pub record Known : Type 0 where
+  pub book : Book
+  pub list : Rows
+
+abbrev pub with_list : Known → Rows → Known
+with_list known rows = record { book = known.book; list = rows }
+
+-- a table, and the list that its rows are where it is published
+pub record Edition : Type 0 where
+  pub table : Table
+  pub known : Known

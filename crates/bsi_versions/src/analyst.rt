@@ -1,0 +1,113 @@
+//! An analyst: a reader of the published table, who never goes back.
+
+ghost use Rattle.std.specs.Prelude.{◌≡◌, ◌⊎◌, IfSome, OnErr};
+ghost use mathlib.Core.List.{IsPrefix};
+ghost use Rattle.bsi_table.specs.Answers.{IsReply};
+
+use crate::history::Reached;
+use crate::naming::Covers;
+use crate::version::Version;
+use crate::{Naming, Told};
+use bsi_table::{Answer, AskError, Query};
+use core::mem::replace_with;
+use left_right::reader::Reader;
+use std::marker::Model;
+
+/// Why a question is not answered, in the order of checking.
+#[derive(Clone, Copy, Debug, PartialEq, Eq)]
+pub enum AnalystRefused {
+    /// No copy of the table was given, as may be once the writing end is gone.
+    Gone,
+    /// The table refused the question.
+    Ask(AskError),
+}
+
+/// What reads the published table, as one analyst. It may move to a thread of its own.
+#[derive(Drop)]
+pub struct Analyst<B: Naming> {
+    reader: Reader<Version, (), Covers<B>>,
+    known: Reached,
+}
+
+// Clauses see the longest list that the analyst knows: each list that it answered over or was told of begins it.
+impl<B: Naming> Model for Analyst<B> {
+    ghost use Rattle.std.specs.Prelude.{◌≡◌};
+    ghost use Rattle.bsi_versions.specs.Pages.{Rows};
+
+    ghost Value = { Rows };
+
+    ghost view = { λ a. a.known.list };
+
+    ghost invariant = { λ a. a.known.book ≡ B.book };
+}
+
+impl<B: Naming> Analyst<B> {
+    ghost use Rattle.bsi_versions.specs.Questions.{IsAnalystReply};
+
+    pub(crate) fn new(reader: Reader<Version, (), Covers<B>>, known: Reached) -> Analyst<B>
+        requires { known.book ≡ B.book }
+        ensures { result ≡ known.list }
+    {
+        Analyst { reader, known }
+    }
+
+    /// Answers a query over a list that was published and that begins with each list that the analyst knew. Then it knows that
+    /// list. It waits for nobody.
+    pub fn ask(&mut self, query: &Query) -> Result<Answer, AnalystRefused>
+        ensures reply { IsAnalystReply B.about.schema self.new query.now result }
+        ensures known { IsPrefix self.old self.new }
+        ensures kept { OnErr result (self.new ≡ self.old) }
+    {
+        let Some((reply, known)) = replace_with(&mut self.reader, query, |reader, query| {
+            read(reader, query)
+        }) else {
+            return Err(AnalystRefused::Gone);
+        };
+        self.known.meet(&known);
+        if known.len() < self.known.len() {
+            return Err(AnalystRefused::Gone);
+        }
+        match reply {
+            Ok(answer) => {
+                self.known = known;
+                Ok(answer)
+            }
+            Err(refused) => Err(AnalystRefused::Ask(refused)),
+        }
+    }
+
+    /// Takes in a list that it was told of: each later answer is over one that begins with it. It takes no memory.
+    pub fn learn(&mut self, told: Told<B>)
+        ensures one { (self.new ≡ self.old) ⊎ (self.new ≡ told) }
+        ensures known { IsPrefix self.old self.new }
+        ensures told { IsPrefix told self.new }
+    {
+        let told = told.into_known();
+        self.known.meet(&told);
+        if self.known.len() < told.len() {
+            self.known = told;
+        }
+    }
+}
+
+/// Asks the copy that is published, and says which list it has. None where no copy is given.
+fn read<B: Naming>(
+    reader: Reader<Version, (), Covers<B>>,
+    query: &Query,
+) -> (
+    Reader<Version, (), Covers<B>>,
+    Option<(Result<Answer, AskError>, Reached)>,
+)
+    ensures book { IfSome result.1 (λ r. r.1.book ≡ B.book) }
+    ensures reply { IfSome result.1 (λ r. IsReply B.about.schema r.1.list query.now r.0) }
+{
+    match reader.enter_as::<Covers<B>>() {
+        Ok(reading) => {
+            let version = reading.get();
+            let reply = version.index().ask(query);
+            let known = version.known().again();
+            (reading.leave(), Some((reply, known)))
+        }
+        Err(reader) => (reader, None),
+    }
+}

@@ -1,0 +1,185 @@
+//! The history of a table: each list of rows that was published. It exists in the proofs alone, but for the length of its last list.
+
+use bsi_table::Row;
+use logbook::{Gain, Offer, Plain, Play, Rule, Seen, Start, Word};
+use std::marker::Model;
+
+/// A list of rows with their feeders, whole. A contract reads an array as a list of any length; no value of it is made.
+pub(crate) type Page = [(u32, Row); 0];
+
+/// The rule of the history: each list begins with the one before.
+pub(crate) struct Law;
+
+impl Rule<Page, u64> for Law {
+    ghost use Rattle.std.specs.Prelude.{[]};
+    ghost use base.Fml.{ftrue};
+    ghost use Rattle.bsi_versions.specs.Pages.{IsKept};
+
+    ghost holds = { λ cells pages. IsKept cells pages };
+
+    ghost first = { [] };
+
+    ghost hinted = { λ n pages. Unit {0} };
+
+    ghost shows = { λ pages. [] };
+
+    ghost keeps = { λ names pages. ftrue };
+
+    ghost moves = { λ ask before after answer. Unit {0} };
+}
+
+/// Nothing is traded for a step.
+struct Nothing;
+
+impl Gain<Page, u64> for Nothing {
+    ghost use base.Fml.{ftrue};
+
+    ghost after = { λ names about answer. ftrue };
+}
+
+/// The step that adds a list.
+struct Add;
+
+impl Play<Page, u64> for Add {
+    ghost use Rattle.bsi_versions.specs.Pages.{Adds};
+
+    ghost then = { Adds };
+}
+
+/// A list that was published, and its length.
+#[derive(Drop)]
+pub(crate) struct Reached {
+    len: u64,
+    seen: Seen<Page, u64, Law>,
+}
+
+impl Model for Reached {
+    ghost use Rattle.std.specs.Prelude.{◌≡◌, [], length};
+    ghost use Rattle.bsi_versions.specs.Pages.{latest, Known};
+
+    ghost Value = { Known };
+
+    ghost view = { λ r. record { book = r.seen.book; list = latest [] r.seen.log } };
+
+    ghost invariant = { λ r. r.len ≡ length (latest [] r.seen.log) };
+}
+
+impl Reached {
+    ghost use Rattle.std.specs.Prelude.{◌≡◌, ◌≤◌, IfSome, None, length};
+    ghost use mathlib.Core.List.{IsPrefix};
+    ghost use Rattle.bsi_versions.specs.Pages.{head_of, with_list};
+
+    /// Returns the length of the list.
+    pub(crate) fn len(&self) -> u64
+        ensures { result ≡ length self.now.list }
+    {
+        self.len
+    }
+
+    /// Knows the same list.
+    pub(crate) fn again(&self) -> Reached
+        ensures { result ≡ self.now }
+    {
+        Reached {
+            len: self.len,
+            seen: self.seen.again(),
+        }
+    }
+
+    /// Shows that of two lists of one history the shorter begins the longer.
+    pub(crate) fn meet(&self, other: &Reached)
+        requires { other.now.book ≡ self.now.book }
+        ensures this { length self.now.list ≤ length other.now.list → IsPrefix self.now.list other.now.list }
+        ensures that { length other.now.list ≤ length self.now.list → IsPrefix other.now.list self.now.list }
+    {
+        let mut both = self.seen.again();
+        both.learn(&other.seen);
+    }
+
+    /// Adds a list to the history, by the word that it shares, and knows that list.
+    fn next<X, M: Plain<X, Page, u64>>(
+        &self,
+        head: &Word<Page, u64, Law>,
+        about: &X,
+        len: u64,
+    ) -> Option<Reached>
+        requires head { head.now ≡ head_of self.now.book }
+        requires begins { IsPrefix self.now.list (M.ask about.now) }
+        requires long { length (M.ask about.now) ≡ len }
+        requires fresh { M.state about.now ≡ None }
+        ensures { IfSome result (λ known. known ≡ with_list self.now (M.ask about.now)) }
+    {
+        let mut seen = self.seen.again();
+        let mut offer: Offer<Page, u64, Law, Nothing> = seen.plain::<Nothing, X, M>(about);
+        let mut pen = seen.no_pen();
+        let old = self.len;
+        let found = head.compare_exchange::<Add, Nothing>(
+            old, len, &mut seen, &mut offer, &mut pen,
+        );
+        if found == old {
+            Some(Reached { len, seen })
+        } else {
+            None
+        }
+    }
+}
+
+/// The history of one table, to which its writer alone adds. It takes no room but for two numbers.
+#[derive(Drop)]
+pub struct History {
+    head: Word<Page, u64, Law>,
+    known: Reached,
+}
+
+// Clauses see which history it is, and its last list.
+impl Model for History {
+    ghost use Rattle.std.specs.Prelude.{◌≡◌};
+    ghost use Rattle.bsi_versions.specs.Pages.{head_of, Known};
+
+    ghost Value = { Known };
+
+    ghost view = { λ h. h.known };
+
+    ghost invariant = { λ h. h.head ≡ head_of h.known.book };
+}
+
+impl History {
+    ghost use Rattle.std.specs.Prelude.{◌≡◌, ◌^◌, ◌<◌, IsTrue, None, false, length, []};
+    ghost use mathlib.Core.List.{IsPrefix};
+    ghost use Rattle.bsi_versions.specs.Pages.{with_list};
+
+    /// Makes a history in which nothing was published. It takes no memory.
+    pub fn new() -> History
+        ensures { result.list ≡ [] }
+    {
+        let (seen, mut first, _second) = Seen::open(Start::alone(), 0, 0);
+        History {
+            head: Word::tracked(0, &mut first),
+            known: Reached { len: 0, seen },
+        }
+    }
+
+    /// Knows the last list.
+    pub(crate) fn known(&self) -> Reached
+        ensures { result ≡ self.now }
+    {
+        self.known.again()
+    }
+
+    /// Adds a list, and says whether it did. Only another writer of this history could have kept it from that.
+    pub(crate) fn add<X, M: Plain<X, Page, u64>>(&mut self, about: &X, len: u64) -> bool
+        requires begins { IsPrefix self.old.list (M.ask about.now) }
+        requires long { length (M.ask about.now) ≡ len }
+        requires fresh { M.state about.now ≡ None }
+        ensures added { IsTrue result → (self.new ≡ with_list self.old (M.ask about.now)) }
+        ensures kept { result ≡ false → self.new ≡ self.old }
+    {
+        match self.known.next::<X, M>(&self.head, about, len) {
+            Some(known) => {
+                self.known = known;
+                true
+            }
+            None => false,
+        }
+    }
+}

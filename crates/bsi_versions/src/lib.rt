@@ -1,0 +1,17 @@
+//! A table that grows by publishing: a writing end whose held rows become visible at one step, and readers who never go back.
+#![tactic(auto)]
+
+mod analyst;
+mod history;
+mod naming;
+mod operation;
+mod publisher;
+mod told;
+mod version;
+
+pub use analyst::{Analyst, AnalystRefused};
+pub use history::History;
+pub use naming::Naming;
+pub use publisher::Publisher;
+pub use std::alloc::AllocError as NoMemory;
+pub use told::Told;

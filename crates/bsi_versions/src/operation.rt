@@ -1,0 +1,36 @@
+//! What waits to be published: rows, and marks in the history.
+
+use crate::NoMemory;
+use crate::history::Reached;
+use crate::version::Version;
+use bsi_table::Row;
+use left_right::Absorb;
+
+/// A pending operation of the writing end.
+#[derive(Drop)]
+pub enum Operation {
+    /// A row of a feeder.
+    Row(u32, Row),
+    /// The list in the history that the rows then are.
+    Mark(Reached),
+}
+
+impl Absorb<Operation> for Version {
+    ghost use Rattle.bsi_versions.specs.Editions.{after};
+
+    type State = Version;
+
+    ghost state = { λ version. version };
+
+    ghost applied = { after };
+
+    fn absorb_first(&mut self, operation: &Operation, _other: &Version) -> Result<(), NoMemory> {
+        match operation {
+            Operation::Row(feeder, row) => self.append(*feeder, row),
+            Operation::Mark(known) => {
+                self.mark(known);
+                Ok(())
+            }
+        }
+    }
+}

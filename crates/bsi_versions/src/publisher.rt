@@ -1,0 +1,204 @@
+//! The writing end: rows are held back, and become visible at one step.
+
+ghost use Rattle.std.specs.Prelude.{◌≡◌, ◌+◌, ◌<◌, ◌≤◌, ◌++◌, ◌∷◌, [], ◌⊎◌, IfOk, IsTrue, OnErr, OnOk, drop, fold, length, ◌↔◌};
+ghost use mathlib.Core.List.{IsPrefix};
+ghost use Rattle.bsi_table.specs.Columns.{fits};
+ghost use Rattle.bsi_versions.specs.Pages.{with_list};
+ghost use Rattle.bsi_versions.specs.Editions.{after, published_all, rows_of, with_held, Stands};
+ghost use Rattle.bsi_versions.specs.declared.operation.Operation.TheVariants.{Mark};
+
+use crate::history::{History, Page};
+use crate::naming::Covers;
+use crate::operation::Operation;
+use crate::version::Version;
+use crate::{Analyst, Naming, NoMemory, Told};
+use bsi_table::{Index, Row};
+use core::mem::replace_with;
+use left_right::writer::Writer;
+use logbook::Plain;
+use std::alloc::Global;
+use std::marker::Model;
+use std::sync::Wait;
+
+/// The two copies of the table, and the operations that are pending.
+type Copies<B> = Writer<Version, Operation, (), Covers<B>>;
+
+/// What a publish adds to the history: the rows that are shown, and then those that are held.
+struct Next;
+
+impl<B: Naming> Plain<Copies<B>, Page, u64> for Next {
+    ghost use Rattle.std.specs.Prelude.{◌++◌, None, drop};
+    ghost use Rattle.bsi_versions.specs.Editions.{rows_of};
+
+    ghost ask = { λ w. w.desk.shown.value.table.rows ++ rows_of (drop w.behind w.log.items) };
+
+    ghost state = { λ w. None };
+}
+
+/// The only writer of a table that analysts read. It is not `Drop`: end it by `end`.
+pub struct Publisher<B: Naming> {
+    copies: Copies<B>,
+    history: History,
+    /// So many rows more may be held.
+    free: u64,
+}
+
+// Clauses see the table that is published, and the rows that are held.
+impl<B: Naming> Model for Publisher<B> {
+    ghost use Rattle.std.specs.Prelude.{drop};
+    ghost use Rattle.bsi_versions.specs.Editions.{written, IsWriting, Written};
+
+    ghost Value = { Written };
+
+    ghost view = { λ p. written p.copies.desk.shown.value (drop p.copies.behind p.copies.log.items) };
+
+    ghost invariant = { λ p. IsWriting B.book B.about p.copies.desk.shown.value (drop p.copies.behind p.copies.log.items) p.history p.free };
+}
+
+impl<B: Naming> Publisher<B> {
+    /// Makes both copies of a table with no row, and room for so many analysts.
+    pub fn new(
+        alloc: Global,
+        history: History,
+        index: Index,
+        analysts: u32,
+    ) -> Result<Publisher<B>, NoMemory>
+        requires history { history ≡ record { book = B.book; list = [] } }
+        requires index { index ≡ B.about }
+        requires empty { index.rows ≡ [] }
+        requires few { analysts ≤ 8 }
+        ensures { IfOk result (λ publisher. publisher ≡ record { table = index; held = [] }) }
+    {
+        let free = index.limit();
+        let first = Version::new(index, history.known());
+        let second = first.copy()?;
+        let copies = Writer::new(alloc, first, second, (analysts as usize).max(1))?;
+        Ok(Publisher {
+            copies,
+            history,
+            free,
+        })
+    }
+
+    /// Lends the table that is published.
+    pub fn published(&self) -> &Index
+        ensures { result.now ≡ self.now.table }
+    {
+        self.copies.published().index()
+    }
+
+    /// Returns how many rows are published, and how many are held. It takes no memory.
+    pub fn counts(&self) -> (u64, u64)
+        ensures published { result.0 ≡ length self.now.table.rows }
+        ensures held { result.1 ≡ length self.now.held }
+        ensures limit { length self.now.table.rows + length self.now.held ≤ self.now.table.limit }
+    {
+        let index = self.copies.published().index();
+        let published = index.len();
+        (published, index.limit() - self.free - published)
+    }
+
+    /// Returns whether the published and the held rows together are as many as the limit.
+    pub fn is_full(&self) -> bool
+        ensures full { IsTrue result ↔ (length self.now.table.rows + length self.now.held ≡ self.now.table.limit) }
+        ensures within { length self.now.table.rows + length self.now.held ≤ self.now.table.limit }
+    {
+        self.free == 0
+    }
+
+    /// Holds a row, which is visible once it is published.
+    pub fn hold(&mut self, feeder: u32, row: Row) -> Result<(), NoMemory>
+        requires room { length self.old.table.rows + length self.old.held < self.old.table.limit }
+        requires fits { IsTrue (fits self.old.table.schema.columns row) }
+        requires feeder { feeder < self.old.table.feeders }
+        ensures ok { OnOk result (self.new ≡ with_held self.old feeder row) }
+        ensures err { OnErr result (self.new ≡ self.old) }
+    {
+        match self.copies.append(Operation::Row(feeder, row)) {
+            Ok(()) => {}
+            Err(_) => return Err(NoMemory),
+        }
+        self.free -= 1;
+        Ok(())
+    }
+
+    /// Makes all held rows visible at one step, and returns how many rows are then published. It waits for analysts that read
+    /// the copy which is not shown.
+    pub fn publish<R: Wait>(&mut self, rt: &R) -> Result<u64, NoMemory>
+        ensures len { IfOk result (λ len. len ≡ length self.new.table.rows) }
+        ensures ok { OnOk result (self.new ≡ published_all self.old) }
+        ensures err { OnErr result (self.new ≡ self.old) }
+    {
+        let len = self.copies.published().index().limit() - self.free;
+        mark(&mut self.copies, &mut self.history, len)?;
+        show(&mut self.copies, rt)?;
+        Ok(len)
+    }
+
+    /// Tells what is published, for an analyst to learn. It takes no memory.
+    pub fn tell(&mut self) -> Told<B>
+        ensures told { result ≡ self.old.table.rows }
+        ensures same { self.new ≡ self.old }
+    {
+        Told::new(self.copies.published().known().again())
+    }
+
+    /// Makes an analyst, who knows what is published. Err where its place is not found to be free.
+    pub fn analyst(&self) -> Result<Analyst<B>, NoMemory>
+        ensures { IfOk result (λ analyst. analyst ≡ self.now.table.rows) }
+    {
+        let reader = self.copies.factory().reader()?;
+        Ok(Analyst::new(reader, self.copies.published().known().again()))
+    }
+
+    /// Ends the writing end. What is held is dropped. It waits for analysts that read.
+    pub fn end<R: Wait>(self, rt: &R) {
+        let Publisher {
+            copies,
+            history: _history,
+            free: _,
+        } = self;
+        copies.take(rt);
+    }
+}
+
+/// Adds to the history what is to be shown, and appends the mark of it behind the pending rows.
+fn mark<B: Naming>(copies: &mut Copies<B>, history: &mut History, len: u64) -> Result<(), NoMemory>
+    requires begins { IsPrefix history.old.list (copies.old.desk.shown.value.table.rows ++ rows_of (drop copies.old.behind copies.old.log.items)) }
+    requires len { len ≡ length (copies.old.desk.shown.value.table.rows ++ rows_of (drop copies.old.behind copies.old.log.items)) }
+    ensures desk { copies.new.desk ≡ copies.old.desk }
+    ensures history { (history.new ≡ history.old) ⊎ (history.new ≡ with_list history.old (copies.old.desk.shown.value.table.rows ++ rows_of (drop copies.old.behind copies.old.log.items))) }
+    ensures list { OnOk result (history.new ≡ with_list history.old (copies.old.desk.shown.value.table.rows ++ rows_of (drop copies.old.behind copies.old.log.items))) }
+    ensures ok { OnOk result (drop copies.new.behind copies.new.log.items ≡ drop copies.old.behind copies.old.log.items ++ Mark history.new ∷ []) }
+    ensures err { OnErr result (drop copies.new.behind copies.new.log.items ≡ drop copies.old.behind copies.old.log.items) }
+{
+    if !history.add::<Copies<B>, Next>(copies, len) {
+        return Err(NoMemory);
+    }
+    match copies.append(Operation::Mark(history.known())) {
+        Ok(()) => Ok(()),
+        Err(_) => Err(NoMemory),
+    }
+}
+
+/// Shows the copy that has each pending operation, at one step.
+fn show<B: Naming, R: Wait>(copies: &mut Copies<B>, rt: &R) -> Result<(), NoMemory>
+    requires { Stands B.book B.about (fold after copies.old.desk.shown.value (drop copies.old.behind copies.old.log.items)) }
+    ensures shown { OnOk result (copies.new.desk.shown.value ≡ fold after copies.old.desk.shown.value (drop copies.old.behind copies.old.log.items)) }
+    ensures none { OnOk result (drop copies.new.behind copies.new.log.items ≡ []) }
+    ensures kept { OnErr result (copies.new.desk.shown.value ≡ copies.old.desk.shown.value) }
+    ensures pending { OnErr result (drop copies.new.behind copies.new.log.items ≡ drop copies.old.behind copies.old.log.items) }
+{
+    replace_with(copies, rt, turn::<B, R>)
+}
+
+/// Shows the copy that has each pending operation, of copies that are handed over.
+fn turn<B: Naming, R: Wait>(copies: Copies<B>, rt: &R) -> (Copies<B>, Result<(), NoMemory>)
+    requires { Stands B.book B.about (fold after copies.desk.shown.value (drop copies.behind copies.log.items)) }
+    ensures shown { OnOk result.1 (result.0.desk.shown.value ≡ fold after copies.desk.shown.value (drop copies.behind copies.log.items)) }
+    ensures none { OnOk result.1 (drop result.0.behind result.0.log.items ≡ []) }
+    ensures kept { OnErr result.1 (result.0.desk.shown.value ≡ copies.desk.shown.value) }
+    ensures pending { OnErr result.1 (drop result.0.behind result.0.log.items ≡ drop copies.behind copies.log.items) }
+{
+    copies.publish_as::<Covers<B>, R>(rt)
+}
