@@ -11,7 +11,7 @@ build:
 	@tools/build
 
 demo: build
-	@tools/demo examples/first.bsi
+	@tools/demo examples/first.bsi examples/weather
 
 check:
 	@tools/check

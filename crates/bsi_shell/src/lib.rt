@@ -1,7 +1,14 @@
-//! The program's shell: the command line.
+//! The program's shell: the command line, and the names of the running system.
 #![tactic(auto)]
 
+mod files;
+mod request;
 mod words;
 
+pub use bsi_files::{FeedEnd, FilesFault, Gate, Go, Which, feed, run_files};
+pub use bsi_system::{
+    Analyst, AnalystRefused, Closing, Feeder, History, LoadRefused, Loader, Naming, NoMemory, OpenRefused,
+    SettleRefused, SubmitRefused, System, Told, open,
+};
 pub use bsi_text::ScriptFault;
 pub use words::run_words;

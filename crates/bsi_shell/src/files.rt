@@ -1,0 +1,87 @@
+//! A run over files: all are opened in the order of the words, and then read.
+ghost use Rattle.std.specs.Prelude.{◌≡◌, ◌≤◌, ◌<◌, IfOk, length};
+
+use crate::request::Paths;
+use bsi_files::{FilesFault, Go, run_files};
+use std::alloc::AllocError;
+use std::fmt;
+use std::fmt::{Display, Formatter};
+use std::fs;
+use std::io::{Read, Write};
+use std::rt::Files;
+use std::sync::Wait;
+use std::thread::Threads;
+
+/// Why a run over files ended before its end.
+pub(crate) enum Failure<'a> {
+    /// The file can't be opened.
+    CannotOpen(&'a str),
+    /// The run met a fault.
+    Run(FilesFault),
+}
+
+impl Display for Failure<'_> {
+    fn fmt(&self, f: &mut Formatter<'_>) -> fmt::Result {
+        match self {
+            Failure::CannotOpen(path) => write!(f, "bsi: cannot open {path}"),
+            Failure::Run(fault) => write!(f, "{fault}"),
+        }
+    }
+}
+
+impl From<AllocError> for Failure<'_> {
+    fn from(_refused: AllocError) -> Self {
+        Failure::Run(FilesFault::NoMemory)
+    }
+}
+
+/// The files of a run, each open for reading.
+struct Opened<S: Read + Drop> {
+    schema: S,
+    asks: S,
+    rows: Vec<S>,
+}
+
+/// Opens the files, answers the questions over their rows, and flushes the output; a flush that fails counts where the run
+/// met no fault.
+pub(crate) fn run_over<
+    'a,
+    R: AllocGlobal + Files<File = S> + Threads + Wait + Sync,
+    S: Read + Drop + Send,
+    O: Write,
+>(
+    rt: &R,
+    paths: &Paths<'a>,
+    output: &mut O,
+) -> Result<(), Failure<'a>> {
+    let opened = open_all(rt, paths)?;
+    let run = run_files(rt, opened.schema, opened.asks, opened.rows, output, &Go);
+    match output.flush() {
+        Ok(()) => run.map_err(Failure::Run),
+        Err(_) => run.and(Err(FilesFault::Write)).map_err(Failure::Run),
+    }
+}
+
+/// Opens the schema, the asks and the row files, in this order.
+fn open_all<'a, R: AllocGlobal + Files<File = S>, S: Read + Drop>(
+    rt: &R,
+    paths: &Paths<'a>,
+) -> Result<Opened<S>, Failure<'a>>
+    ensures { IfOk result (λ opened. length opened.rows.items ≡ length paths.now.rows.items) }
+{
+    let schema = open_one(rt, paths.schema)?;
+    let asks = open_one(rt, paths.asks)?;
+    let mut rows = Vec::with_capacity(rt.alloc(), paths.rows.len())?;
+    for path in &paths.rows {
+        rows.push(open_one(rt, path)?)?;
+    }
+    Ok(Opened { schema, asks, rows })
+}
+
+/// Opens one file for reading.
+fn open_one<'a, R: Files<File = S>, S: Read + Drop>(
+    rt: &R,
+    path: &'a str,
+) -> Result<S, Failure<'a>> {
+    fs::open(rt, path).map_err(|_| Failure::CannotOpen(path))
+}

@@ -1,0 +1,103 @@
+//! What the words behind the program's name ask for.
+ghost use Rattle.std.specs.Prelude.{◌≡◌, ◌<◌, Some, Ok, true, IsTrue, codes, length, slice_get};
+ghost use Rattle.bsi_shell.specs.declared.request.Request.TheVariants.{Files};
+
+use clap::error::ErrorKind;
+use clap::{Arg, ArgAction, ArgMatches, Command, Error};
+use std::alloc::{AllocError, Global};
+
+/// The paths of a run over files, each as it was written.
+#[derive(Drop)]
+pub(crate) struct Paths<'a> {
+    pub(crate) schema: &'a str,
+    pub(crate) asks: &'a str,
+    pub(crate) rows: Vec<&'a str>,
+    ghost some: { 0 < length rows.items },
+}
+
+/// What the words ask for.
+#[derive(Drop)]
+pub(crate) enum Request<'a> {
+    /// Run the script on the input.
+    Script,
+    /// Run over files.
+    Files(Paths<'a>),
+    /// The words are no command.
+    Wrong,
+    /// Reading the words found no memory.
+    NoMemory,
+}
+
+/// Reads the words; a request for help is no command.
+pub(crate) fn read_words<'a>(alloc: Global, words: &'a [String]) -> Request<'a>
+    ensures files { (paths : Paths) → result ≡ Files paths → slice_get words.now 0 ≡ Some (codes "files") }
+{
+    match parse_words(alloc, words) {
+        Ok(request) => request,
+        Err(error) => {
+            if error.kind() == ErrorKind::OutOfMemory {
+                Request::NoMemory
+            } else {
+                Request::Wrong
+            }
+        }
+    }
+}
+
+/// Parses the words by the commands that there are.
+fn parse_words<'a>(alloc: Global, words: &'a [String]) -> Result<Request<'a>, Error>
+    ensures files { (paths : Paths) → result ≡ Ok (Files paths) → slice_get words.now 0 ≡ Some (codes "files") }
+{
+    let matches = commands(alloc)?.try_get_matches_from(words)?;
+    match matches.subcommand() {
+        Some(("script", _)) => Ok(Request::Script),
+        // (a command is named by the first word, since no option stands before it)
+        Some(("files", files)) if begins_with_files(words) => Ok(read_paths(alloc, files)?),
+        _ => Ok(Request::Wrong),
+    }
+}
+
+/// The commands of the program.
+fn commands(alloc: Global) -> Result<Command<'static>, AllocError> {
+    let script = Command::new(alloc, "script");
+    let files = Command::new(alloc, "files")
+        .arg(Arg::new(alloc, "schema").long("schema").required(true))?
+        .arg(Arg::new(alloc, "asks").long("asks").required(true))?
+        .arg(
+            Arg::new(alloc, "rows")
+                .required(true)
+                .num_args(1..)
+                .action(ArgAction::Append),
+        )?;
+    Command::new(alloc, "bsi")
+        .no_binary_name(true)
+        .subcommand_required(true)
+        .subcommand(script)?
+        .subcommand(files)
+}
+
+/// Whether the first word is `files`.
+fn begins_with_files(words: &[String]) -> bool
+    ensures { result ≡ true → slice_get words.now 0 ≡ Some (codes "files") }
+{
+    match words.first() {
+        Some(word) => word.as_str() == "files",
+        None => false,
+    }
+}
+
+/// Takes the paths from the matches of the command `files`.
+fn read_paths<'a>(alloc: Global, files: &ArgMatches<'a>) -> Result<Request<'a>, AllocError> {
+    let (Some(schema), Some(asks), Some(rows)) = (
+        files.get_str("schema"),
+        files.get_str("asks"),
+        files.get_strs("rows"),
+    ) else {
+        return Ok(Request::Wrong);
+    };
+    if rows.is_empty() {
+        return Ok(Request::Wrong);
+    }
+    let rows = rows.to_vec(alloc)?;
+    Ok(Request::Files(Paths { schema, asks, rows }))
+}
