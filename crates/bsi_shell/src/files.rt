@@ -1,32 +1,25 @@
 //! A run over files: all are opened in the order of the words, and then read.
 ghost use Rattle.std.specs.Prelude.{◌≡◌, ◌≤◌, ◌<◌, IfOk, length};
 
-use crate::request::Paths;
+use crate::paths::Paths;
 use bsi_files::{FilesFault, Go, run_files};
 use std::alloc::AllocError;
-use std::fmt;
-use std::fmt::{Display, Formatter};
 use std::fs;
 use std::io::{Read, Write};
 use std::rt::Files;
 use std::sync::Wait;
 use std::thread::Threads;
+use thiserror::Error;
 
 /// Why a run over files ended before its end.
+#[derive(Clone, Copy, Debug, PartialEq, Eq, Error)]
 pub(crate) enum Failure<'a> {
     /// The file can't be opened.
+    #[error("bsi: cannot open {0}")]
     CannotOpen(&'a str),
     /// The run met a fault.
-    Run(FilesFault),
-}
-
-impl Display for Failure<'_> {
-    fn fmt(&self, f: &mut Formatter<'_>) -> fmt::Result {
-        match self {
-            Failure::CannotOpen(path) => write!(f, "bsi: cannot open {path}"),
-            Failure::Run(fault) => write!(f, "{fault}"),
-        }
-    }
+    #[error("{0}")]
+    Run(#[from] FilesFault),
 }
 
 impl From<AllocError> for Failure<'_> {
@@ -54,12 +47,13 @@ pub(crate) fn run_over<
     paths: &Paths<'a>,
     output: &mut O,
 ) -> Result<(), Failure<'a>> {
-    let opened = open_all(rt, paths)?;
-    let run = run_files(rt, opened.schema, opened.asks, opened.rows, output, &Go);
+    let Opened { schema, asks, rows } = open_all(rt, paths)?;
+    let run = run_files(rt, schema, asks, rows, output, &Go);
     match output.flush() {
-        Ok(()) => run.map_err(Failure::Run),
-        Err(_) => run.and(Err(FilesFault::Write)).map_err(Failure::Run),
+        Ok(()) => run?,
+        Err(_) => run.and(Err(FilesFault::Write))?,
     }
+    Ok(())
 }
 
 /// Opens the schema, the asks and the row files, in this order.
@@ -73,7 +67,10 @@ fn open_all<'a, R: AllocGlobal + Files<File = S>, S: Read + Drop>(
     let asks = open_one(rt, paths.asks)?;
     let mut rows = Vec::with_capacity(rt.alloc(), paths.rows.len())?;
     for path in &paths.rows {
-        rows.push(open_one(rt, path)?)?;
+        let file = open_one(rt, path)?;
+        if let Err(refused) = rows.push(file) {
+            return Err(AllocError::from(refused).into());
+        }
     }
     Ok(Opened { schema, asks, rows })
 }
@@ -83,5 +80,8 @@ fn open_one<'a, R: Files<File = S>, S: Read + Drop>(
     rt: &R,
     path: &'a str,
 ) -> Result<S, Failure<'a>> {
-    fs::open(rt, path).map_err(|_| Failure::CannotOpen(path))
+    match fs::open(rt, path) {
+        Ok(file) => Ok(file),
+        Err(_) => Err(Failure::CannotOpen(path)),
+    }
 }

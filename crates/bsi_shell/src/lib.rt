@@ -2,10 +2,11 @@
 #![tactic(auto)]
 
 mod files;
+mod paths;
 mod request;
 mod words;
 
-pub use bsi_files::{FeedEnd, FilesFault, Gate, Go, Which, feed, run_files};
+pub use bsi_files::{FilesFault, Gate, Go, Which, run_files};
 pub use bsi_system::{
     Analyst, AnalystRefused, Closing, Feeder, History, LoadRefused, Loader, Naming, NoMemory, OpenRefused,
     SettleRefused, SubmitRefused, System, Told, open,

@@ -1,19 +1,12 @@
 //! What the words behind the program's name ask for.
-ghost use Rattle.std.specs.Prelude.{◌≡◌, ◌<◌, Some, Ok, true, IsTrue, codes, length, slice_get};
+ghost use Rattle.std.specs.Prelude.{◌≡◌, Ok, true};
+ghost use Rattle.bsi_shell.specs.Commands.{BeginsWithFiles};
 ghost use Rattle.bsi_shell.specs.declared.request.Request.TheVariants.{Files};
 
+use crate::paths::Paths;
 use clap::error::ErrorKind;
 use clap::{Arg, ArgAction, ArgMatches, Command, Error};
 use std::alloc::{AllocError, Global};
-
-/// The paths of a run over files, each as it was written.
-#[derive(Drop)]
-pub(crate) struct Paths<'a> {
-    pub(crate) schema: &'a str,
-    pub(crate) asks: &'a str,
-    pub(crate) rows: Vec<&'a str>,
-    ghost some: { 0 < length rows.items },
-}
 
 /// What the words ask for.
 #[derive(Drop)]
@@ -30,7 +23,7 @@ pub(crate) enum Request<'a> {
 
 /// Reads the words; a request for help is no command.
 pub(crate) fn read_words<'a>(alloc: Global, words: &'a [String]) -> Request<'a>
-    ensures files { (paths : Paths) → result ≡ Files paths → slice_get words.now 0 ≡ Some (codes "files") }
+    ensures files { (paths : Paths) → result ≡ Files paths → BeginsWithFiles words.now }
 {
     match parse_words(alloc, words) {
         Ok(request) => request,
@@ -46,7 +39,7 @@ pub(crate) fn read_words<'a>(alloc: Global, words: &'a [String]) -> Request<'a>
 
 /// Parses the words by the commands that there are.
 fn parse_words<'a>(alloc: Global, words: &'a [String]) -> Result<Request<'a>, Error>
-    ensures files { (paths : Paths) → result ≡ Ok (Files paths) → slice_get words.now 0 ≡ Some (codes "files") }
+    ensures files { (paths : Paths) → result ≡ Ok (Files paths) → BeginsWithFiles words.now }
 {
     let matches = commands(alloc)?.try_get_matches_from(words)?;
     match matches.subcommand() {
@@ -58,7 +51,7 @@ fn parse_words<'a>(alloc: Global, words: &'a [String]) -> Result<Request<'a>, Er
 }
 
 /// The commands of the program.
-fn commands(alloc: Global) -> Result<Command<'static>, AllocError> {
+fn commands<'a>(alloc: Global) -> Result<Command<'a>, AllocError> {
     let script = Command::new(alloc, "script");
     let files = Command::new(alloc, "files")
         .arg(Arg::new(alloc, "schema").long("schema").required(true))?
@@ -78,7 +71,7 @@ fn commands(alloc: Global) -> Result<Command<'static>, AllocError> {
 
 /// Whether the first word is `files`.
 fn begins_with_files(words: &[String]) -> bool
-    ensures { result ≡ true → slice_get words.now 0 ≡ Some (codes "files") }
+    ensures { result ≡ true → BeginsWithFiles words.now }
 {
     match words.first() {
         Some(word) => word.as_str() == "files",

@@ -1,5 +1,6 @@
 //! The command line: the words behind the program's name, and the status that they end with.
-ghost use Rattle.std.specs.Prelude.{◌≡◌, ◌≢◌, ◌≤◌, Some, IfSome, OnErr, OnOk, codes, slice_get};
+ghost use Rattle.std.specs.Prelude.{◌≡◌, ◌≤◌, IfSome, OnErr, OnOk};
+ghost use Rattle.bsi_shell.specs.Commands.{BeginsWithFiles};
 ghost use Rattle.bsi_text.specs.Texts.{IsAnswered, IsBegun};
 
 use crate::files::run_over;
@@ -34,8 +35,8 @@ pub fn run_words<
 
     // Where the first word is not `files`: a run with no fault has answered the whole input. After status 1 what was written is
     // a first part of the lines that answer the whole input.
-    ensures answered { result ≡ 0 → slice_get words.items 0 ≢ Some (codes "files") → IfSome (I.remaining input) (λ bytes. IsAnswered bytes (O.contents output.old) (O.contents output.new)) }
-    ensures begun { result ≡ 1 → slice_get words.items 0 ≢ Some (codes "files") → IfSome (I.remaining input) (λ bytes. IsBegun bytes (O.contents output.old) (O.contents output.new)) }
+    ensures answered { result ≡ 0 → ¬ BeginsWithFiles words.items → IfSome (I.remaining input) (λ bytes. IsAnswered bytes (O.contents output.old) (O.contents output.new)) }
+    ensures begun { result ≡ 1 → ¬ BeginsWithFiles words.items → IfSome (I.remaining input) (λ bytes. IsBegun bytes (O.contents output.old) (O.contents output.new)) }
 
     // In each case: a run with no fault says nothing, and after status 2 nothing was written.
     ensures quiet { result ≡ 0 → F.contents faults.new ≡ F.contents faults.old }

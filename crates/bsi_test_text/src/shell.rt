@@ -4,8 +4,11 @@ use crate::ends::{BrokenReader, buffer};
 use bsi_shell::run_words;
 use std::alloc::{AllocError, Global};
 use std::io;
-use std::io::Write;
+use std::io::{Read, Write};
+use std::rt::Files;
+use std::sync::Wait;
 use std::test::Fail;
+use std::thread::Threads;
 
 // Takes a byte a call until it has `room` no more; then it fails once, or takes nothing once. It counts its flushes.
 #[derive(Drop)]
@@ -69,7 +72,13 @@ fn words_of(alloc: Global, line: &str) -> Result<Vec<String>, AllocError> {
     Ok(list)
 }
 
-fn end_once<R: AllocGlobal>(rt: &R, line: Line<'_>) -> Result<Ended, AllocError> {
+fn end_once<
+    R: AllocGlobal + Files<File = S> + Threads + Wait + Sync,
+    S: Read + Drop + Send,
+>(
+    rt: &R,
+    line: Line<'_>,
+) -> Result<Ended, AllocError> {
     let words = words_of(rt.alloc(), line.words)?;
     let mut output = NarrowWriter {
         taken: buffer(rt.alloc())?,
@@ -93,7 +102,13 @@ fn end_once<R: AllocGlobal>(rt: &R, line: Line<'_>) -> Result<Ended, AllocError>
 }
 
 // How the line ends; where memory was wanted, how it ends then.
-fn end_of<R: AllocGlobal>(rt: &R, line: Line<'_>) -> Result<Ended, AllocError> {
+fn end_of<
+    R: AllocGlobal + Files<File = S> + Threads + Wait + Sync,
+    S: Read + Drop + Send,
+>(
+    rt: &R,
+    line: Line<'_>,
+) -> Result<Ended, AllocError> {
     match end_once(rt, line) {
         Ok(end) if end.faults.as_slice() != b"bsi: no memory\n".as_slice() => Ok(end),
         _ => end_once(rt, line),

@@ -3,20 +3,20 @@ use Rattle.bsi_shell.proofs.Runs.{of_any}
 use Rattle.bsi_shell.proofs.words.run_words.Goals as goal
 
 pub returns-in-Ok-clause-answered : goal.returns-in-Ok-clause-answered
-returns-in-Ok-clause-answered g c = λ zero. c.in-Ok.ensures.ok
+returns-in-Ok-clause-answered g c = λ zero other. c.in-Ok.ensures.ok
 
 pub returns-in-Ok-clause-quiet : goal.returns-in-Ok-clause-quiet
 returns-in-Ok-clause-quiet g c = λ zero. refl
 
 pub returns-in-Script-clause-answered : goal.returns-in-Script-clause-answered
-returns-in-Script-clause-answered g c = λ zero. cc (c.tell_fault.ensures, zero)
+returns-in-Script-clause-answered g c = λ zero other. cc (c.tell_fault.ensures, zero)
 
 pub returns-in-Script-clause-begun : goal.returns-in-Script-clause-begun
-returns-in-Script-clause-begun g c = λ one. c.in-Err.ensures.fault
+returns-in-Script-clause-begun g c = λ one other. c.in-Err.ensures.fault
 
 pub returns-in-Wrong-clause-wrong : goal.returns-in-Wrong-clause-wrong
 returns-in-Wrong-clause-wrong g c = λ two. refl
 
 -- no memory for the words: nothing was written
 pub returns-clause-begun : goal.returns-clause-begun
-returns-clause-begun g c = λ one. of_any (g.I.Read.remaining c.args.input) (λ bytes. c.begun.ensures.nothing bytes (g.O.Write.contents c.args.output.now))
+returns-clause-begun g c = λ one other. of_any (g.I.Read.remaining c.args.input) (λ bytes. c.begun.ensures.nothing bytes (g.O.Write.contents c.args.output.now))
