@@ -42,11 +42,7 @@ pub(crate) fn run_over<
     R: AllocGlobal + Files<File = S> + Threads + Wait + Sync,
     S: Read + Drop + Send,
     O: Write,
->(
-    rt: &R,
-    paths: &Paths<'a>,
-    output: &mut O,
-) -> Result<(), Failure<'a>> {
+>(rt: &R, paths: &Paths<'a>, output: &mut O) -> Result<(), Failure<'a>> {
     let Opened { schema, asks, rows } = open_all(rt, paths)?;
     let run = run_files(rt, schema, asks, rows, output, &Go);
     match output.flush() {

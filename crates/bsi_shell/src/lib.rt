@@ -6,10 +6,10 @@ mod paths;
 mod request;
 mod words;
 
-pub use bsi_files::{FilesFault, Gate, Go, Which, run_files};
+pub use bsi_files::{FeedEnd, FilesFault, Gate, Go, Which, feed, run_files};
 pub use bsi_system::{
-    Analyst, AnalystRefused, Closing, Feeder, History, LoadRefused, Loader, Naming, NoMemory, OpenRefused,
-    SettleRefused, SubmitRefused, System, Told, open,
+    Analyst, AnalystRefused, Closing, Feeder, History, LoadRefused, Loader, Naming, NoMemory,
+    OpenRefused, SettleRefused, SubmitRefused, System, Told, open,
 };
 pub use bsi_text::ScriptFault;
 pub use words::run_words;

@@ -24,13 +24,7 @@ pub fn run_words<
     I: Read + Drop,
     O: Write,
     F: Write,
->(
-    rt: &R,
-    words: Vec<String>,
-    input: I,
-    output: &mut O,
-    faults: &mut F,
-) -> u8
+>(rt: &R, words: Vec<String>, input: I, output: &mut O, faults: &mut F) -> u8
     ensures status { result ≤ 2 }
 
     // Where the first word is not `files`: a run with no fault has answered the whole input. After status 1 what was written is

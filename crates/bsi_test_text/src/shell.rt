@@ -72,10 +72,7 @@ fn words_of(alloc: Global, line: &str) -> Result<Vec<String>, AllocError> {
     Ok(list)
 }
 
-fn end_once<
-    R: AllocGlobal + Files<File = S> + Threads + Wait + Sync,
-    S: Read + Drop + Send,
->(
+fn end_once<R: AllocGlobal + Files<File = S> + Threads + Wait + Sync, S: Read + Drop + Send>(
     rt: &R,
     line: Line<'_>,
 ) -> Result<Ended, AllocError> {
@@ -102,10 +99,7 @@ fn end_once<
 }
 
 // How the line ends; where memory was wanted, how it ends then.
-fn end_of<
-    R: AllocGlobal + Files<File = S> + Threads + Wait + Sync,
-    S: Read + Drop + Send,
->(
+fn end_of<R: AllocGlobal + Files<File = S> + Threads + Wait + Sync, S: Read + Drop + Send>(
     rt: &R,
     line: Line<'_>,
 ) -> Result<Ended, AllocError> {
