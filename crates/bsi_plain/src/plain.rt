@@ -43,6 +43,15 @@ impl PlainColumn {
             present: Bits::new(alloc),
         }
     }
+
+    /// Whether a row is a number that compares so with the constant.
+    pub fn selects(&self, op: Op, constant: u64, row: u64) -> bool
+        requires { row < length self.now.entries }
+        ensures { result ≡ selects op constant (slice_index_or self.now.entries row None) }
+    {
+        let _rows = self.present.len();
+        selected(op, constant, self.entries[row as usize])
+    }
 }
 
 impl Column for PlainColumn {
@@ -98,7 +107,8 @@ impl Column for PlainColumn {
 
     fn ranked(&self, found: &Bits, k: u64) -> Result<u64, NoMemory> {
         let _rows = found.len();
-        let mut numbers = Vec::new(*self.entries.allocator());
+        let alloc = *self.entries.allocator();
+        let mut numbers = Vec::with_capacity(alloc, self.entries.len())?;
         gather(&self.entries, found, &mut numbers)?;
         numbers.sort_unstable();
         Ok(numbers[k as usize])

@@ -49,13 +49,9 @@ fn write_counts(feeder: u32, accepted: u64, bad: u64, line: &mut Vec<u8>) -> Res
     ensures ok { OnOk result (line.new.items ≡ line.old.items ++ fed_line feeder accepted bad) }
     ensures begins { StartsWith line.new.items line.old.items }
 {
-    let mut digits = Buffer::new();
-    line.extend_from_slice(b"fed ")?;
-    line.extend_from_slice(digits.format(feeder).as_bytes())?;
-    line.extend_from_slice(b" ")?;
-    line.extend_from_slice(digits.format(accepted).as_bytes())?;
-    line.extend_from_slice(b" ")?;
-    line.extend_from_slice(digits.format(bad).as_bytes())?;
+    write_word(b"fed ", feeder, line)?;
+    write_word(b" ", accepted, line)?;
+    write_word(b" ", bad, line)?;
     line.extend_from_slice(b"\n")
 }
 
@@ -129,14 +125,22 @@ fn write_answer(answer: &Answer, line: &mut Vec<u8>) -> Result<(), NoMemory>
     }
 }
 
+/// Appends a word and a number.
+fn write_word<I: Integer>(word: &[u8], number: I, line: &mut Vec<u8>) -> Result<(), NoMemory>
+    ensures ok { OnOk result (line.new.items ≡ line.old.items ++ (word.now ++ I.text number)) }
+    ensures begins { StartsWith line.new.items line.old.items }
+{
+    let mut digits = Buffer::new();
+    line.extend_from_slice(word)?;
+    line.extend_from_slice(digits.format(number).as_bytes())
+}
+
 /// Appends a word and a number, and the line feed.
 fn write_number<I: Integer>(word: &[u8], number: I, line: &mut Vec<u8>) -> Result<(), NoMemory>
     ensures ok { OnOk result (line.new.items ≡ line.old.items ++ (word.now ++ I.text number ++ codes "\n")) }
     ensures begins { StartsWith line.new.items line.old.items }
 {
-    let mut digits = Buffer::new();
-    line.extend_from_slice(word)?;
-    line.extend_from_slice(digits.format(number).as_bytes())?;
+    write_word(word, number, line)?;
     line.extend_from_slice(b"\n")
 }
 
@@ -166,9 +170,6 @@ fn write_row(feeder: u32, number: u64, line: &mut Vec<u8>) -> Result<(), NoMemor
     ensures ok { OnOk result (line.new.items ≡ line.old.items ++ (codes " " ++ decimal feeder ++ codes ":" ++ decimal number)) }
     ensures begins { StartsWith line.new.items line.old.items }
 {
-    let mut digits = Buffer::new();
-    line.extend_from_slice(b" ")?;
-    line.extend_from_slice(digits.format(feeder).as_bytes())?;
-    line.extend_from_slice(b":")?;
-    line.extend_from_slice(digits.format(number).as_bytes())
+    write_word(b" ", feeder, line)?;
+    write_word(b":", number, line)
 }

@@ -141,19 +141,21 @@ fn ones_are_the_places_set(bits: &Bits) -> bool {
     (next..bits.len()).all(|i| !get(bits, i))
 }
 
+// Turned bits, how many are set, and how many are in the bits before too.
+fn counts_turned(bits: &Bits) -> Result<(u64, Option<u64>), NoMemory> {
+    let mut turned = copied(bits)?;
+    turned.flip();
+    Ok((turned.count(), count_and(bits, &turned)))
+}
+
 #[test]
 fn bits_and_columns(rt: HostRuntime) -> Result<(), Fail> {
     let mut bits = filled(rt.alloc(), 65, true)?;
     assert_eq!(rt; bits.count(), 65);
-    let mut turned = copied(&bits)?;
-    turned.flip();
-    assert_eq!(rt; turned.count(), 0);
-    assert_eq!(rt; count_and(&bits, &turned), Some(0));
+    assert_eq!(rt; counts_turned(&bits)?, (0, Some(0)));
     assert!(rt; push(&mut bits, true)?);
-    assert_eq!(rt;
-        (bits.len(), bits.count(), bits.is_empty()),
-        (66, 66, false)
-    );
+    let shown = (bits.len(), bits.count(), bits.is_empty());
+    assert_eq!(rt; shown, (66, 66, false));
     Ok(())
 }
 
@@ -212,14 +214,23 @@ fn stored_bits(rt: HostRuntime) -> Result<(), Fail> {
     assert_eq!(rt; bits.words(), [18446744073709551615, 1].as_slice());
     let words = bits.into_words();
     assert_eq!(rt; words.as_slice(), [18446744073709551615, 1].as_slice());
-    let short = match [u64::MAX, u64::MAX].to_vec(rt.alloc()) {
-        Err(_) => [u64::MAX, u64::MAX].to_vec(rt.alloc())?,
-        Ok(words) => words,
-    };
-    assert_eq!(rt; short.len(), 2);
-    let cut = Bits::from_words(short, 66);
-    assert_eq!(rt; cut.words(), [18446744073709551615, 3].as_slice());
     assert!(rt; Bits::new(rt.alloc()).words().is_empty());
+    Ok(())
+}
+
+fn full_words(alloc: Global) -> Result<Vec<u64>, NoMemory> {
+    match [u64::MAX, u64::MAX].to_vec(alloc) {
+        Err(_) => [u64::MAX, u64::MAX].to_vec(alloc),
+        made => made,
+    }
+}
+
+#[test]
+fn bits_of_words(rt: HostRuntime) -> Result<(), Fail> {
+    let words = full_words(rt.alloc())?;
+    assert_eq!(rt; words.len(), 2);
+    let cut = Bits::from_words(words, 66);
+    assert_eq!(rt; cut.words(), [18446744073709551615, 3].as_slice());
     Ok(())
 }
 
@@ -260,28 +271,43 @@ fn calls_in_place_do_to_each_bit_what_they_say(rt: HostRuntime) -> Result<(), Fa
     Ok(())
 }
 
+// Appends 130 bits, of which each third is set.
+fn push_thirds(rt: &impl Abort, bits: &mut Bits) -> Result<(), NoMemory> {
+    assert!(rt; !bits.has_room() && bits.is_empty());
+    for i in 0..130 {
+        assert!(rt; push(bits, i % 3 == 0)?, "at {i}");
+    }
+    Ok(())
+}
+
+fn are_thirds(bits: &Bits) -> bool {
+    (bits.len(), bits.count()) == (130, 44)
+}
+
+fn filled_beside(rt: &impl Abort, alloc: Global, bits: &Bits) -> Result<Bits, NoMemory> {
+    let made = Bits::filled(alloc, 130, true);
+    assert!(rt; are_thirds(bits));
+    match made {
+        Err(_) => Bits::filled(alloc, 130, true),
+        made => made,
+    }
+}
+
+fn copied_beside(rt: &impl Abort, bits: &Bits) -> Result<Bits, NoMemory> {
+    let made = bits.copy();
+    assert!(rt; are_thirds(bits));
+    match made {
+        Err(_) => bits.copy(),
+        made => made,
+    }
+}
+
 #[test]
 fn a_refused_growth_changes_nothing(rt: HostRuntime) -> Result<(), Fail> {
     let mut bits = Bits::new(rt.alloc());
-    assert!(rt; !bits.has_room() && bits.is_empty());
-    for i in 0..130 {
-        assert!(rt; push(&mut bits, i % 3 == 0)?, "at {i}");
-    }
-    assert_eq!(rt; (bits.len(), bits.count()), (130, 44));
-    let all = match Bits::filled(rt.alloc(), 130, true) {
-        Err(_) => {
-            assert_eq!(rt; (bits.len(), bits.count()), (130, 44));
-            Bits::filled(rt.alloc(), 130, true)?
-        }
-        Ok(all) => all,
-    };
-    let same = match bits.copy() {
-        Err(_) => {
-            assert_eq!(rt; (bits.len(), bits.count()), (130, 44));
-            bits.copy()?
-        }
-        Ok(same) => same,
-    };
+    push_thirds(&rt, &mut bits)?;
+    let all = filled_beside(&rt, rt.alloc(), &bits)?;
+    let same = copied_beside(&rt, &bits)?;
     assert_eq!(rt; count_and(&same, &bits), Some(44));
     assert_eq!(rt; count_and_not(&all, &same), Some(86));
     Ok(())

@@ -132,15 +132,22 @@ fn component_of<E: Encoding>(
     Ok(component)
 }
 
+// Whether just these rows have the digit.
+fn eq_is<E: Encoding>(component: &E, d: u32, out: &mut Bits, expected: &[bool]) -> bool {
+    eq(component, d, out) && is(out, expected)
+}
+
+// Whether just these rows have a digit up to this one.
+fn le_is<E: Encoding>(component: &E, d: u32, out: &mut Bits, expected: &[bool]) -> bool {
+    le(component, d, out) && is(out, expected)
+}
+
 fn shows_three_digits<E: Encoding>(rt: &impl Abort, alloc: Global) -> Result<(), Fail> {
     let component = component_of::<E>(rt, alloc, 3, &[0, 2, 1])?;
     let mut out = filled(alloc, 3, false)?;
-    assert!(rt; eq(&component, 2, &mut out));
-    assert!(rt; is(&out, &[false, true, false]));
-    assert!(rt; le(&component, 1, &mut out));
-    assert!(rt; is(&out, &[true, false, true]));
-    assert!(rt; le(&component, 2, &mut out));
-    assert!(rt; is(&out, &[true, true, true]));
+    assert!(rt; eq_is(&component, 2, &mut out, &[false, true, false]));
+    assert!(rt; le_is(&component, 1, &mut out, &[true, false, true]));
+    assert!(rt; le_is(&component, 2, &mut out, &[true, true, true]));
     assert_eq!(rt; digit_sum(&component, &out), Some(3));
     Ok(())
 }
@@ -149,10 +156,8 @@ fn shows_base_two<E: Encoding>(rt: &impl Abort, alloc: Global) -> Result<(), Fai
     let component = component_of::<E>(rt, alloc, 2, &[1, 0, 1])?;
     let mut out = filled(alloc, 3, true)?;
     assert_eq!(rt; digit_sum(&component, &out), Some(2));
-    assert!(rt; eq(&component, 0, &mut out));
-    assert!(rt; is(&out, &[false, true, false]));
-    assert!(rt; le(&component, 0, &mut out));
-    assert!(rt; is(&out, &[false, true, false]));
+    assert!(rt; eq_is(&component, 0, &mut out, &[false, true, false]));
+    assert!(rt; le_is(&component, 0, &mut out, &[false, true, false]));
     assert_eq!(rt; digit_sum(&component, &out), Some(0));
     Ok(())
 }
@@ -173,9 +178,8 @@ fn widest<E: Encoding>(rt: &impl Abort, alloc: Global) -> Result<(), Fail> {
     assert_eq!(rt; digit_sum(&component, &out), Some(3068));
     assert!(rt; has(&component, &digits, &mut out));
     for d in [0, 510, 511, 512, 1022, 1023] {
-        assert!(rt; le(&component, d, &mut out));
         let expected = digits.map(|digit| digit <= d);
-        assert!(rt; is(&out, &expected), "at most {d}");
+        assert!(rt; le_is(&component, d, &mut out, &expected), "at most {d}");
     }
     Ok(())
 }
@@ -228,15 +232,31 @@ fn range_bitmap(component: &RangeComponent, j: u32) -> Option<&Bits> {
     }
 }
 
+// Whether the bitmap of a digit, of a component of these digits, is this.
+fn equality_stores(
+    rt: &impl Abort,
+    alloc: Global,
+    base: u32,
+    digits: &[u32],
+    j: u32,
+    expected: &[bool],
+) -> Result<bool, Fail>
+    requires { (2 ≤ base) × (base ≤ 1024) }
+{
+    let component = component_of::<EqualityComponent>(rt, alloc, base, digits)?;
+    Ok(match equality_bitmap(&component, j) {
+        None => false,
+        Some(bits) => is(bits, expected),
+    })
+}
+
 #[test]
 fn stored_bits(rt: HostRuntime) -> Result<(), Fail> {
-    let low = component_of::<EqualityComponent>(&rt, rt.alloc(), 3, &[0, 0, 2])?;
-    assert!(rt; equality_bitmap(&low, 2).is_some_and(|bits| is(bits, &[false, false, true])));
-    let high = component_of::<EqualityComponent>(&rt, rt.alloc(), 5, &[1, 0, 0])?;
-    assert!(rt; equality_bitmap(&high, 1).is_some_and(|bits| is(bits, &[true, false, false])));
-    let binary = component_of::<EqualityComponent>(&rt, rt.alloc(), 2, &[1, 0, 1])?;
-    assert!(rt; equality_bitmap(&binary, 1).is_some_and(|bits| is(bits, &[true, false, true])));
-    let range = component_of::<RangeComponent>(&rt, rt.alloc(), 3, &[0, 0, 2])?;
+    let alloc = rt.alloc();
+    assert!(rt; equality_stores(&rt, alloc, 3, &[0, 0, 2], 2, &[false, false, true])?);
+    assert!(rt; equality_stores(&rt, alloc, 5, &[1, 0, 0], 1, &[true, false, false])?);
+    assert!(rt; equality_stores(&rt, alloc, 2, &[1, 0, 1], 1, &[true, false, true])?);
+    let range = component_of::<RangeComponent>(&rt, alloc, 3, &[0, 0, 2])?;
     assert!(rt; range_bitmap(&range, 0).is_some_and(|bits| is(bits, &[true, true, false])));
     Ok(())
 }
@@ -347,17 +367,22 @@ fn steps<E: Encoding>(rt: &impl Abort, component: &E, step: Step, d: u32, most: 
     }
 }
 
+fn all_steps<E: Encoding>(rt: &impl Abort, component: &E) {
+    let base = component.base();
+    for d in [0, base - 2, base - 1] {
+        steps(rt, component, Step::Eq, d, 1);
+        steps(rt, component, Step::Le, d, 3);
+        steps(rt, component, Step::Eq, d, 3);
+        steps(rt, component, Step::Le, d, 1);
+    }
+}
+
 fn blocks<E: Encoding>(rt: &impl Abort, alloc: Global) -> Result<(), Fail> {
     for base in [2, 3, 10] {
         for len in LENGTHS {
             assert!(rt; base >= 2 && base <= 1024);
             let component = patterned::<E>(rt, alloc, base, len)?;
-            for d in [0, base - 2, base - 1] {
-                steps(rt, &component, Step::Eq, d, 1);
-                steps(rt, &component, Step::Le, d, 3);
-                steps(rt, &component, Step::Eq, d, 3);
-                steps(rt, &component, Step::Le, d, 1);
-            }
+            all_steps(rt, &component);
         }
     }
     Ok(())
@@ -369,34 +394,50 @@ fn blocks_of_rows(rt: HostRuntime) -> Result<(), Fail> {
     blocks::<RangeComponent>(&rt, rt.alloc())
 }
 
+// Whether a patterned component says of each row whether it has the digit.
+fn eq_is_plain<E: Encoding>(component: &E, d: u32, out: &mut Bits) -> bool {
+    let base = component.base();
+    eq(component, d, out) && (0..out.len()).all(|i| get(out, i) == (plain_digit(i, base) == d))
+}
+
+// Whether it says of each row whether it has a digit up to this one.
+fn le_is_plain<E: Encoding>(component: &E, d: u32, out: &mut Bits) -> bool {
+    let base = component.base();
+    le(component, d, out) && (0..out.len()).all(|i| get(out, i) == (plain_digit(i, base) <= d))
+}
+
+fn plain_sum(base: u32, len: u64) -> u128
+    requires { 2 ≤ base }
+{
+    let mut total = 0u128;
+    for i in 0..len {
+        total = total.saturating_add(u128::from(plain_digit(i, base)));
+    }
+    total
+}
+
+// Whole vectors, and the sum over all rows, which the last vector has.
+fn are_plain<E: Encoding>(rt: &impl Abort, component: &E, out: &mut Bits) {
+    let (base, len) = (component.base(), component.len());
+    for d in [0, base - 2, base - 1] {
+        assert!(rt; eq_is_plain(component, d, out), "{d} of {base} at {len}");
+        assert!(rt;
+            le_is_plain(component, d, out),
+            "up to {d} of {base} at {len}"
+        );
+    }
+    let sum = digit_sum(component, out);
+    assert_eq!(rt; sum, Some(plain_sum(base, len)), "{base} at {len}");
+}
+
 // The tests of whole vectors and the sum, against plain digits.
 fn lengths<E: Encoding>(rt: &impl Abort, alloc: Global) -> Result<(), Fail> {
     for base in [2, 3, 10] {
         for len in LENGTHS {
-            assert!(rt; base >= 2 && base <= 1024);
+            assert!(rt; base >= 2 && base <= 1024 && len <= 257);
             let component = patterned::<E>(rt, alloc, base, len)?;
-            assert!(rt; len <= 257);
             let mut out = filled(alloc, len, false)?;
-            for d in [0, base - 2, base - 1] {
-                assert!(rt; eq(&component, d, &mut out));
-                assert!(rt;
-                    (0..len).all(|i| get(&out, i) == (plain_digit(i, base) == d)),
-                    "{d} of {base} at {len}"
-                );
-                assert!(rt; le(&component, d, &mut out));
-                assert!(rt;
-                    (0..len).all(|i| get(&out, i) == (plain_digit(i, base) <= d)),
-                    "up to {d} of {base} at {len}"
-                );
-            }
-            let total = (0..len)
-                .map(|i| plain_digit(i, base) as u64)
-                .fold(0u64, |sum, digit| sum.wrapping_add(digit));
-            assert_eq!(rt;
-                digit_sum(&component, &out),
-                Some(total as u128),
-                "{base} at {len}"
-            );
+            are_plain(rt, &component, &mut out);
         }
     }
     Ok(())
@@ -544,15 +585,20 @@ fn counted<E: Encoding>(rt: &impl Abort, alloc: Global, component: &E) -> Result
     Ok(())
 }
 
+fn all_ranked<E: Encoding>(rt: &impl Abort, alloc: Global, component: &E) -> Result<(), Fail> {
+    let len = component.len();
+    for rank in [0, len / 3, len.saturating_sub(1) / 3 * 2, len] {
+        ranked(rt, alloc, component, rank)?;
+    }
+    counted(rt, alloc, component)
+}
+
 fn ranks<E: Encoding>(rt: &impl Abort, alloc: Global) -> Result<(), Fail> {
     for base in [2, 3, 10] {
         for len in LENGTHS {
             assert!(rt; base >= 2 && base <= 1024);
             let component = patterned::<E>(rt, alloc, base, len)?;
-            counted(rt, alloc, &component)?;
-            for rank in [0, len / 3, len.saturating_sub(1) / 3 * 2, len] {
-                ranked(rt, alloc, &component, rank)?;
-            }
+            all_ranked(rt, alloc, &component)?;
         }
     }
     Ok(())

@@ -2,6 +2,7 @@
 
 use bsi_digits::{Bases, BasesError, NoMemory, laws};
 use std::alloc::Global;
+use std::process::Abort;
 use std::test::Fail;
 
 fn list(alloc: Global, bases: &[u32]) -> Result<Vec<u32>, NoMemory> {
@@ -42,21 +43,27 @@ fn bases_refused(rt: HostRuntime) -> Result<(), Fail> {
     }
     let binary = twos(rt.alloc(), 63).map(|made| made.size());
     assert_eq!(rt; binary, Ok(9223372036854775808));
+    Ok(())
+}
 
+fn copied(rt: &impl Abort, bases: &Bases) -> Result<Bases, NoMemory> {
+    let made = bases.copy();
+    digits_of_fourteen(rt, bases);
+    match made {
+        Err(_) => bases.copy(),
+        made => made,
+    }
+}
+
+#[test]
+fn copies_have_the_same_digits(rt: HostRuntime) -> Result<(), Fail> {
     let bases = Bases::new(list(rt.alloc(), &[5, 3])?).expect(&rt, "in range");
-    digits_of_fourteen(&rt, &bases);
-    let copied = match bases.copy() {
-        Ok(copied) => copied,
-        Err(_) => {
-            digits_of_fourteen(&rt, &bases);
-            bases.copy()?
-        }
-    };
+    let copied = copied(&rt, &bases)?;
     digits_of_fourteen(&rt, &copied);
     Ok(())
 }
 
-fn digits_of_fourteen(rt: &impl std::process::Abort, bases: &Bases) {
+fn digits_of_fourteen(rt: &impl Abort, bases: &Bases) {
     assert_eq!(rt; (bases.size(), bases.len()), (15, 2));
     assert_eq!(rt; [bases.digit(14, 1), bases.digit(14, 0)], [4, 2]);
     assert_eq!(rt; [bases.weight(1), bases.weight(0)], [3, 1]);
@@ -133,21 +140,35 @@ fn seconds_of_a_day_are_hours_minutes_and_seconds(rt: HostRuntime) -> Result<(),
     Ok(())
 }
 
+fn bit_of_thirteen(bits: &Bases, i: u32) -> Option<u32> {
+    if i < bits.len() && 13 < bits.size() {
+        Some(bits.digit(13, i))
+    } else {
+        None
+    }
+}
+
+fn bits_of_thirteen(rt: &impl Abort, bits: &Bases) {
+    assert_eq!(rt; (bits.size(), bits.len()), (16, 4));
+    for (i, want) in [(0, 1), (1, 0), (2, 1), (3, 1)] {
+        let bit = bit_of_thirteen(bits, i);
+        assert_eq!(rt; bit, Some(want), "binary digit {i} of 13");
+    }
+}
+
 #[test]
 fn twos_give_binary_digits(rt: HostRuntime) -> Result<(), Fail> {
     assert_eq!(rt; twos(rt.alloc(), 0).err(), Some(BasesError::Empty));
     assert_eq!(rt; twos(rt.alloc(), 64).err(), Some(BasesError::TooMany));
     let bits = twos(rt.alloc(), 4).expect(&rt, "in range");
-    assert_eq!(rt; bits.size(), 16);
-    assert_eq!(rt; bits.len(), 4);
-    for (i, want) in [(0, 1), (1, 0), (2, 1), (3, 1)] {
-        assert!(rt; i < bits.len());
-        assert!(rt; 13 < bits.size());
-        assert_eq!(rt; bits.digit(13, i), want, "binary digit {i} of 13");
-    }
+    bits_of_thirteen(&rt, &bits);
+    Ok(())
+}
+
+#[test]
+fn laws_return(_rt: HostRuntime) {
     laws::digits_are_unique();
     laws::weighted_sum_in_any_order();
     laws::values_compare_by_digits();
     laws::refusals_are_complete();
-    Ok(())
 }

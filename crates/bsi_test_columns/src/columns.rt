@@ -140,6 +140,18 @@ pub(crate) fn filled(
     Ok(column)
 }
 
+/// A column of digits of so many rows.
+pub(crate) fn filled_digits<E: Encoding>(
+    rt: &impl Abort,
+    alloc: Global,
+    list: &[u32],
+    rows: u64,
+) -> Result<Decomposed<E>, NoMemory> {
+    let mut column = no_digits::<E>(alloc, list)?;
+    fill(rt, &mut column, rows)?;
+    Ok(column)
+}
+
 /// A plain column of so many rows.
 pub(crate) fn plain(
     rt: &impl Abort,
@@ -176,8 +188,4 @@ pub(crate) fn shows(bits: &Bits, wanted: &[bool]) -> bool {
             .iter()
             .enumerate()
             .all(|(i, bit)| get(bits, i as u64) == *bit)
-}
-
-pub(crate) fn same(a: &Bits, b: &Bits) -> bool {
-    a.len() == b.len() && a.words() == b.words()
 }

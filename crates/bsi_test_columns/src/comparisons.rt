@@ -1,7 +1,8 @@
 //! Comparisons, on worked rows and beside a plain column.
 
 use crate::columns::*;
-use bsi_columns::{Column, Encoding, EqualityComponent, NoMemory, Op, RangeComponent};
+use bsi_bits::Bits;
+use bsi_columns::{Column, Encoding, EqualityComponent, NoMemory, Op, RangeComponent, Slices};
 use bsi_plain::{PlainColumn, WholeVectors};
 use std::alloc::Global;
 use std::process::Abort;
@@ -20,10 +21,21 @@ const SHOWN: [(Op, u64, [bool; 3]); 7] = [
     (Op::Eq, 15, [false, false, false]),
 ];
 
+fn selects<C: Column>(
+    rt: &impl Abort,
+    column: &C,
+    op: Op,
+    constant: u64,
+    wanted: &[bool],
+) -> Result<(), NoMemory> {
+    let found = compared(column, op, constant)?;
+    assert!(rt; shows(&found, wanted), "{op:?} {constant}");
+    Ok(())
+}
+
 fn selects_shown<C: Column>(rt: &impl Abort, column: &C) -> Result<(), NoMemory> {
     for (op, constant, wanted) in SHOWN {
-        let found = compared(column, op, constant)?;
-        assert!(rt; shows(&found, &wanted), "{op:?} {constant}");
+        selects(rt, column, op, constant, &wanted)?;
     }
     Ok(())
 }
@@ -61,6 +73,17 @@ fn comparisons_table_of_copies(rt: HostRuntime) -> Result<(), Fail> {
     Ok(())
 }
 
+fn selects_the_numbers(
+    rt: &impl Abort,
+    alloc: Global,
+    form: Form,
+    wide: Wide,
+) -> Result<(), NoMemory> {
+    let column = of(rt, alloc, form, wide, &[Some(5), None, Some(0)])?;
+    assert_eq!(rt; (column.len(), column.size()), (3, 8), "{form:?}");
+    selects(rt, &column, Op::Ge, 0, &[true, false, true])
+}
+
 #[test]
 fn bits_and_columns(rt: HostRuntime) -> Result<(), Fail> {
     let wide = Wide {
@@ -68,55 +91,57 @@ fn bits_and_columns(rt: HostRuntime) -> Result<(), Fail> {
         bases: &[2, 4],
     };
     for form in FORMS {
-        let column = of(&rt, rt.alloc(), form, wide, &[Some(5), None, Some(0)])?;
-        assert_eq!(rt; (column.len(), column.size()), (3, 8));
-        let found = compared(&column, Op::Ge, 0)?;
-        assert!(rt; shows(&found, &[true, false, true]), "{form:?}");
+        selects_the_numbers(&rt, rt.alloc(), form, wide)?;
     }
     Ok(())
 }
 
-/// Whether both columns select the same rows by every operator.
-fn select_alike<A: Column, B: Column>(
+// Whether these are the rows that a plain column selects, with no bits set behind the last. It takes no memory.
+fn selected(plain: &PlainColumn, op: Op, constant: u64, found: &Bits) -> bool {
+    let mut count = 0u64;
+    for row in 0..plain.len() {
+        let wanted = plain.selects(op, constant, row);
+        if get(found, row) != wanted {
+            return false;
+        }
+        count = count.saturating_add(u64::from(wanted));
+    }
+    found.len() == plain.len() && found.count() == count
+}
+
+// Whether a column selects the same rows as a plain one by every operator.
+fn select_alike<C: Column>(
     rt: &impl Abort,
-    column: &A,
-    plain: &B,
+    column: &C,
+    plain: &PlainColumn,
     constant: u64,
 ) -> Result<(), NoMemory> {
     for op in OPERATORS {
         let found = compared(column, op, constant)?;
-        assert!(rt;
-            same(&found, &compared(plain, op, constant)?),
-            "{op:?} {constant}"
-        );
+        assert!(rt; selected(plain, op, constant, &found), "{op:?} {constant}");
     }
     Ok(())
 }
 
-// The numbers about the least and the greatest digit of this weight.
-fn near(weight: u64, base: u32) -> [u64; 6] {
-    let greatest = weight.wrapping_mul(u64::from(base).wrapping_sub(1));
-    [
-        weight.wrapping_sub(1),
-        weight,
-        weight.wrapping_add(1),
-        greatest.wrapping_sub(1),
-        greatest,
-        greatest.wrapping_add(1),
-    ]
+// Adds a number, and those before and after it.
+fn add_about(numbers: &mut Vec<u64>, number: u64) -> Result<(), NoMemory> {
+    numbers.extend_from_slice(&[number.saturating_sub(1), number, number.saturating_add(1)])
 }
 
 // The constants about the edges of each digit, of some of the many where they are more than three, and past the ends.
 fn edges(alloc: Global, list: &[u32]) -> Result<Vec<u64>, NoMemory> {
     let bases = bases(alloc, list)?;
-    let mut constants = Vec::new(alloc);
+    let mut constants = Vec::with_capacity(alloc, 34)?;
     constants.extend_from_slice(&[0, 1, bases.size(), u64::MAX])?;
     let stride = bases.len() / 4 + 1;
     for i in 0..bases.len() {
         if i % stride != 0 && i + 1 != bases.len() {
             continue;
         }
-        constants.extend_from_slice(&near(bases.weight(i), bases.base(i)))?;
+        let weight = bases.weight(i);
+        let last = u64::from(bases.base(i)).wrapping_sub(1);
+        add_about(&mut constants, weight)?;
+        add_about(&mut constants, weight.wrapping_mul(last))?;
     }
     Ok(constants)
 }
@@ -161,8 +186,7 @@ fn whole_vectors_alike<E: Encoding>(
     list: &[u32],
     rows: u64,
 ) -> Result<(), NoMemory> {
-    let mut column = no_digits::<WholeVectors<E>>(alloc, list)?;
-    fill(rt, &mut column, rows)?;
+    let column = filled_digits::<WholeVectors<E>>(rt, alloc, list, rows)?;
     alike(rt, alloc, &column, list, rows)
 }
 
@@ -272,16 +296,30 @@ fn fill_about_places<C: Column>(
     Ok(())
 }
 
-// Slices beside a plain column, at each power of two below the size and at the number before it.
-fn places_alike(rt: &impl Abort, alloc: Global, width: u32) -> Result<(), NoMemory> {
+fn slices_about_places(rt: &impl Abort, alloc: Global, width: u32) -> Result<Slices, NoMemory> {
     let mut column = no_slices(alloc, width)?;
     fill_about_places(rt, &mut column, width)?;
+    Ok(column)
+}
+
+fn place_alike(
+    rt: &impl Abort,
+    column: &Slices,
+    plain: &PlainColumn,
+    place: u32,
+) -> Result<(), NoMemory> {
+    let edge = 1u64 << place.min(63);
+    select_alike(rt, column, plain, edge)?;
+    select_alike(rt, column, plain, edge.wrapping_sub(1))
+}
+
+// Slices beside a plain column, at each power of two below the size and at the number before it.
+fn places_alike(rt: &impl Abort, alloc: Global, width: u32) -> Result<(), NoMemory> {
+    let column = slices_about_places(rt, alloc, width)?;
     let mut plain = PlainColumn::new(alloc, column.size());
     fill_about_places(rt, &mut plain, width)?;
     for place in 0..column.width() {
-        let edge = 1u64 << place;
-        select_alike(rt, &column, &plain, edge)?;
-        select_alike(rt, &column, &plain, edge.wrapping_sub(1))?;
+        place_alike(rt, &column, &plain, place)?;
     }
     Ok(())
 }

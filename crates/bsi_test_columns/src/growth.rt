@@ -11,14 +11,20 @@ const WIDE: Wide<'static> = Wide {
     bases: &[8, 4],
 };
 
+// Whether the row is found by a comparison with the number.
+fn equals(column: &AnyColumn, row: u64, number: u64) -> Result<bool, NoMemory> {
+    let found = compared(column, Op::Eq, number)?;
+    Ok(get(&found, row))
+}
+
 // Whether the row of the column has the entry.
 fn has(column: &AnyColumn, row: u64, entry: Option<u64>) -> Result<bool, NoMemory> {
+    if get(column.present(), row) != entry.is_some() {
+        return Ok(false);
+    }
     match entry {
-        None => Ok(!get(column.present(), row)),
-        Some(number) => {
-            let found = compared(column, Op::Eq, number)?;
-            Ok(get(column.present(), row) && get(&found, row))
-        }
+        None => Ok(true),
+        Some(number) => equals(column, row, number),
     }
 }
 
@@ -63,12 +69,16 @@ fn copied_column(rt: &impl Abort, column: &AnyColumn, rows: u64) -> Result<AnyCo
     }
 }
 
+fn push_last(rt: &impl Abort, column: &mut AnyColumn) -> Result<(), NoMemory> {
+    let stayed = push(column, entry(70, 32))?;
+    assert!(rt; stayed);
+    holds(rt, column, 71)
+}
+
 // A row is appended to the copy alone.
 fn copy_stands_apart(rt: &impl Abort, column: &AnyColumn) -> Result<(), NoMemory> {
     let mut other = copied_column(rt, column, 70)?;
-    let stayed = push(&mut other, entry(70, 32))?;
-    assert!(rt; stayed);
-    holds(rt, &other, 71)?;
+    push_last(rt, &mut other)?;
     holds(rt, column, 70)
 }
 
@@ -86,14 +96,19 @@ fn grows(column: &mut AnyColumn) -> bool {
     column.len() < 1 << 32 && column.reserve_one().is_ok()
 }
 
+fn room_comes(rt: &impl Abort, column: &mut AnyColumn) -> Result<(), NoMemory> {
+    assert!(rt; !column.has_room());
+    append(rt, column, &[Some(7)])?;
+    assert!(rt; column.has_room());
+    assert!(rt; grows(column));
+    Ok(())
+}
+
 #[test]
 fn room_comes_with_a_growth(rt: HostRuntime) -> Result<(), Fail> {
     for form in FORMS {
         let mut column = no_rows(rt.alloc(), form, WIDE)?;
-        assert!(rt; !column.has_room(), "{form:?}");
-        append(&rt, &mut column, &[Some(7)])?;
-        assert!(rt; column.has_room(), "{form:?}");
-        assert!(rt; grows(&mut column), "{form:?}");
+        room_comes(&rt, &mut column)?;
     }
     Ok(())
 }

@@ -185,9 +185,7 @@ fn sums<E: Encoding>(column: &Counted<E>, i: u32) -> u32 {
 }
 
 fn counted<E: Encoding>(rt: &impl Abort, alloc: Global) -> Result<Counted<E>, NoMemory> {
-    let mut column = no_digits::<WholeVectors<E>>(alloc, &[5, 3])?;
-    fill(rt, &mut column, 100)?;
-    Ok(column)
+    filled_digits::<WholeVectors<E>>(rt, alloc, &[5, 3], 100)
 }
 
 fn calls_of_both<E: Encoding>(column: &Counted<E>) -> [u32; 2] {
@@ -207,8 +205,7 @@ fn at_most_seven<E: Encoding>(rt: &impl Abort, column: &Counted<E>) -> Result<Bi
 }
 
 fn is_one_to_four(after: u32, before: u32) -> bool {
-    let made = after.wrapping_sub(before);
-    made >= 1 && made <= 4
+    after > before && after - before <= 4
 }
 
 /// Of an encoding without calls on blocks, a comparison calls each component one to four times.

@@ -2,4 +2,10 @@
 #![tactic(auto)]
 
 #[cfg(test)]
+mod calls;
+#[cfg(test)]
+mod crowd;
+#[cfg(test)]
+mod refusals;
+#[cfg(test)]
 mod tests;

@@ -4,11 +4,12 @@ ghost use Rattle.std.specs.Prelude.{◌≡◌, [], length};
 ghost use Rattle.bsi_table.specs.Table.{no_rows};
 ghost use Rattle.bsi_system.specs.Running.{IsFeederOf};
 
+use crate::calls::{ask, capacity, count_of, load, publish, quantities, row, sum_of};
 use bsi_system::{
-    Analyst, AnalystRefused, Feeder, History, LoadRefused, Loader, Naming, NoMemory, OpenRefused,
+    Analyst, AnalystRefused, Feeder, History, LoadRefused, Loader, Naming, OpenRefused,
     SubmitRefused, System, open,
 };
-use bsi_table::{Answer, AskError, ColumnSpec, Pred, Query, Row, Schema, Total};
+use bsi_table::{Answer, AskError, Schema, Total};
 use std::alloc::Global;
 use std::marker::Brand;
 use std::process::Abort;
@@ -22,80 +23,6 @@ enum Worked {
     DroppedFeeder,
     Told,
     RefusedMemory,
-}
-
-fn one_row(alloc: Global, n: i128) -> Result<Row, NoMemory> {
-    let mut values = Vec::new(alloc);
-    values.push(Some(n))?;
-    Ok(Row::new(values))
-}
-
-fn row(alloc: Global, n: i128) -> Result<Row, NoMemory> {
-    match one_row(alloc, n) {
-        Err(_) => one_row(alloc, n),
-        made => made,
-    }
-}
-
-fn quantities(alloc: Global) -> Result<Schema, NoMemory> {
-    let mut schema = Schema::new(alloc);
-    match schema.add("qty", ColumnSpec::Slices(3)) {
-        Ok(()) => Ok(schema),
-        Err(_) => Err(NoMemory),
-    }
-}
-
-fn capacity(alloc: Global, n: u32) -> Result<Vec<u32>, NoMemory> {
-    let mut capacities = Vec::with_capacity(alloc, 1)?;
-    capacities.push(n)?;
-    Ok(capacities)
-}
-
-fn load<B: Naming>(loader: &mut Loader<B>, feeder: u32) -> Result<(), LoadRefused>
-    ensures { loader.new.system ≡ loader.old.system }
-{
-    match loader.load(feeder) {
-        Err(LoadRefused::NoMemory) => loader.load(feeder),
-        loaded => loaded,
-    }
-}
-
-fn publish<B: Naming, R: Wait + Abort>(rt: &R, loader: &mut Loader<B>) -> Option<u64>
-    ensures { loader.new.system ≡ loader.old.system }
-{
-    let before = loader.counts();
-    match loader.publish(rt) {
-        Ok(len) => Some(len),
-        Err(_) => {
-            assert_eq!(rt; loader.counts(), before);
-            loader.publish(rt).ok()
-        }
-    }
-}
-
-fn ask<B: Naming>(analyst: &mut Analyst<B>, total: Total) -> Result<Answer, AnalystRefused> {
-    let query = Query {
-        pred: Pred::All,
-        total,
-    };
-    match analyst.ask(&query) {
-        Err(AnalystRefused::Ask(AskError::NoMemory)) => analyst.ask(&query),
-        answered => answered,
-    }
-}
-
-fn count_of<B: Naming>(analyst: &mut Analyst<B>) -> Option<u64> {
-    match ask(analyst, Total::Count) {
-        Ok(Answer::Count(count)) => Some(count),
-        _ => None,
-    }
-}
-
-fn sum_of<B: Naming>(analyst: &mut Analyst<B>) -> Option<i128> {
-    match ask(analyst, Total::Sum(0)) {
-        Ok(Answer::Sum(sum)) => Some(sum),
-        _ => None,
-    }
 }
 
 /// Two rows are sent, and one that does not fit.

@@ -1,0 +1,86 @@
+//! Calls on a running system that tolerate one refused growth: the call is then made again.
+
+ghost use Rattle.std.specs.Prelude.{◌≡◌};
+
+use bsi_system::{Analyst, AnalystRefused, LoadRefused, Loader, Naming, NoMemory};
+use bsi_table::{Answer, AskError, ColumnSpec, Pred, Query, Row, Schema, Total};
+use std::alloc::Global;
+use std::process::Abort;
+use std::sync::Wait;
+
+fn one_row(alloc: Global, n: i128) -> Result<Row, NoMemory> {
+    let mut values = Vec::new(alloc);
+    values.push(Some(n))?;
+    Ok(Row::new(values))
+}
+
+pub(crate) fn row(alloc: Global, n: i128) -> Result<Row, NoMemory> {
+    match one_row(alloc, n) {
+        Err(_) => one_row(alloc, n),
+        made => made,
+    }
+}
+
+pub(crate) fn quantities(alloc: Global) -> Result<Schema, NoMemory> {
+    let mut schema = Schema::new(alloc);
+    match schema.add("qty", ColumnSpec::Slices(3)) {
+        Ok(()) => Ok(schema),
+        Err(_) => Err(NoMemory),
+    }
+}
+
+pub(crate) fn capacity(alloc: Global, n: u32) -> Result<Vec<u32>, NoMemory> {
+    let mut capacities = Vec::with_capacity(alloc, 1)?;
+    capacities.push(n)?;
+    Ok(capacities)
+}
+
+pub(crate) fn load<B: Naming>(loader: &mut Loader<B>, feeder: u32) -> Result<(), LoadRefused>
+    ensures { loader.new.system ≡ loader.old.system }
+{
+    match loader.load(feeder) {
+        Err(LoadRefused::NoMemory) => loader.load(feeder),
+        loaded => loaded,
+    }
+}
+
+pub(crate) fn publish<B: Naming, R: Wait + Abort>(rt: &R, loader: &mut Loader<B>) -> Option<u64>
+    ensures { loader.new.system ≡ loader.old.system }
+{
+    let before = loader.counts();
+    match loader.publish(rt) {
+        Ok(len) => Some(len),
+        Err(_) => {
+            assert_eq!(rt; loader.counts(), before);
+            loader.publish(rt).ok()
+        }
+    }
+}
+
+pub(crate) fn ask<B: Naming>(
+    analyst: &mut Analyst<B>,
+    total: Total,
+) -> Result<Answer, AnalystRefused> {
+    let query = Query {
+        pred: Pred::All,
+        total,
+    };
+    match analyst.ask(&query) {
+        Err(AnalystRefused::Ask(AskError::NoMemory)) => analyst.ask(&query),
+        answered => answered,
+    }
+}
+
+pub(crate) fn count_of<B: Naming>(analyst: &mut Analyst<B>) -> Option<u64> {
+    match ask(analyst, Total::Count) {
+        Ok(Answer::Count(count)) => Some(count),
+        _ => None,
+    }
+}
+
+pub(crate) fn sum_of<B: Naming>(analyst: &mut Analyst<B>) -> Option<i128> {
+    match ask(analyst, Total::Sum(0)) {
+        Ok(Answer::Sum(sum)) => Some(sum),
+        _ => None,
+    }
+}

@@ -1,0 +1,633 @@
+//! Feeders, a loader and analysts on threads of their own.
+
+ghost use Rattle.std.specs.Prelude.{◌≡◌, ◌≤◌, [], All, IfSome, length};
+ghost use Rattle.bsi_table.specs.Table.{no_rows};
+ghost use Rattle.bsi_system.specs.Running.{IsFeederOf};
+
+use crate::calls::{count_of, load, publish};
+use bsi_system::{
+    Analyst, AnalystRefused, Closing, Feeder, History, LoadRefused, Loader, Naming, NoMemory,
+    OpenRefused, SubmitRefused, System, Told, open,
+};
+use bsi_table::{Answer, AskError, ColumnSpec, Op, Pred, Query, Row, Schema, Total};
+use std::alloc::Global;
+use std::marker::Brand;
+use std::process::Abort;
+use std::snapshot::Snapshot;
+use std::sync::atomic::{AtomicBool, AtomicU64, Ordering};
+use std::sync::{Arc, Mutex, Wait};
+use std::test::Fail;
+use std::thread;
+use std::thread::{JoinHandle, Promise, PromisedHandle, Threads};
+
+/// How many of each there are.
+#[derive(Clone, Copy)]
+struct Crowd {
+    feeders: u32,
+    rows: u32,
+    analysts: u32,
+}
+
+/// A list that was published, for an analyst to learn, and its length.
+#[derive(Drop)]
+struct Letter<B: Naming> {
+    told: Told<B>,
+    len: u64,
+}
+
+/// What the threads share.
+#[derive(Drop)]
+struct Board<B: Naming> {
+    /// So many feeders are at their end.
+    ended: AtomicU64,
+    /// Nobody is to go on.
+    over: AtomicBool,
+    /// What each analyst is to learn next.
+    letters: Vec<Mutex<Option<Letter<B>>>>,
+}
+
+fn make_board<B: Naming>(
+    alloc: Global,
+    analysts: usize,
+) -> Result<Arc<Board<B>, Global>, NoMemory> {
+    let mut letters = Vec::with_capacity(alloc, analysts)?;
+    'letters: for _ in 0..analysts {
+        letters.push(Mutex::new(None))?;
+    }
+    let board = Board {
+        ended: AtomicU64::new(0),
+        over: AtomicBool::new(false),
+        letters,
+    };
+    match Arc::new(alloc, board) {
+        Ok(board) => Ok(board),
+        Err(_) => Err(NoMemory),
+    }
+}
+
+// ---- Feeders
+
+/// That a thread's closing is the closing of the feeder that it was given.
+#[derive(Drop)]
+struct OfFeeder(Snapshot<Feeder>);
+
+impl Promise<Option<Closing>> for OfFeeder {
+    ghost kept_by = { λ promise ended. IfSome ended (λ c. (c.number ≡ promise.0.value.number) × (c.lane ≡ promise.0.value.lane)) };
+}
+
+/// A feeder's thread.
+type Sender = PromisedHandle<Option<Closing>, OfFeeder>;
+
+/// A row that tells its feeder and its place among the feeder's rows.
+fn make_row(alloc: Global, feeder: u32, place: u32) -> Result<Row, NoMemory> {
+    let mut values = Vec::with_capacity(alloc, 2)?;
+    values.push(Some(i128::from(feeder)))?;
+    values.push(Some(i128::from(place)))?;
+    Ok(Row::new(values))
+}
+
+/// Sends a row, as soon as there is room for it. False where nobody is to go on.
+fn send(feeder: &mut Feeder, row: Row, over: &AtomicBool) -> bool
+    ensures number { feeder.new.number ≡ feeder.old.number }
+    ensures lane { feeder.new.lane ≡ feeder.old.lane }
+{
+    let mut row = row;
+    'tries: for _ in 0..u64::MAX {
+        match feeder.submit(row) {
+            Ok(()) => return true,
+            Err(SubmitRefused::Full(back)) => row = back,
+            Err(SubmitRefused::Misfit(_)) => return false,
+        }
+        if over.load(Ordering::SeqCst) {
+            return false;
+        }
+        thread::yield_now();
+    }
+    false
+}
+
+/// Makes a row and sends it. A row for which no memory is found is made again.
+fn make_and_send(alloc: Global, feeder: &mut Feeder, place: u32, over: &AtomicBool) -> bool
+    ensures number { feeder.new.number ≡ feeder.old.number }
+    ensures lane { feeder.new.lane ≡ feeder.old.lane }
+{
+    let number = feeder.number();
+    let row = match make_row(alloc, number, place) {
+        Ok(row) => row,
+        Err(_) => match make_row(alloc, number, place) {
+            Ok(row) => row,
+            Err(_) => return false,
+        },
+    };
+    send(feeder, row, over)
+}
+
+/// Sends all rows of a feeder, and closes it.
+fn feed<B: Naming>(alloc: Global, feeder: Feeder, rows: u32, board: &Board<B>) -> Option<Closing>
+    ensures { IfSome result (λ c. (c.number ≡ feeder.number) × (c.lane ≡ feeder.lane)) }
+{
+    let mut feeder = feeder;
+    'rows: for place in 0..rows {
+        if !make_and_send(alloc, &mut feeder, place, &board.over) {
+            break;
+        }
+    }
+    let closing = feeder.close();
+    board.ended.fetch_add(1, Ordering::SeqCst);
+    closing
+}
+
+/// Starts the thread of a feeder. None where no thread is made.
+fn start_feeder<B: Naming + Send + Sync + 'static, R: Threads>(
+    rt: &R,
+    alloc: Global,
+    feeder: Feeder,
+    rows: u32,
+    board: &Arc<Board<B>, Global>,
+) -> Option<Sender>
+    ensures { IfSome result (λ handle. handle.promise.0.value ≡ feeder) }
+{
+    let board = Arc::try_clone(board).ok()?;
+    let promise = OfFeeder(Snapshot::of(&feeder));
+    thread::spawn_with(rt, promise, move || feed(alloc, feeder, rows, &board)).ok()
+}
+
+/// Starts the thread of one feeder more. Where none is made, nobody is to go on.
+fn start_next<B: Naming + Send + Sync + 'static, R: Threads>(
+    rt: &R,
+    alloc: Global,
+    feeder: Feeder,
+    rows: u32,
+    board: &Arc<Board<B>, Global>,
+    loader: &Loader<B>,
+    senders: &mut Vec<Sender>,
+)
+    requires feeder { IsFeederOf feeder loader.now.system }
+    requires senders { All (λ s. IsFeederOf s.promise.0.value loader.now.system) senders.old.items }
+    ensures { All (λ s. IsFeederOf s.promise.0.value loader.now.system) senders.new.items }
+{
+    let started = match start_feeder(rt, alloc, feeder, rows, board) {
+        Some(sender) => senders.push(sender).is_ok(),
+        None => false,
+    };
+    if !started {
+        board.over.store(true, Ordering::SeqCst);
+    }
+}
+
+/// Starts the threads of all feeders.
+fn start_feeders<B: Naming + Send + Sync + 'static, R: Threads>(
+    rt: &R,
+    alloc: Global,
+    feeders: Vec<Feeder>,
+    rows: u32,
+    board: &Arc<Board<B>, Global>,
+    loader: &Loader<B>,
+) -> Option<Vec<Sender>>
+    requires { All (λ f. IsFeederOf f loader.now.system) feeders.items }
+    ensures { IfSome result (λ senders. All (λ s. IsFeederOf s.promise.0.value loader.now.system) senders.items) }
+{
+    let mut senders = Vec::with_capacity(alloc, feeders.len()).ok()?;
+    'feeders: for feeder in feeders {
+        start_next(rt, alloc, feeder, rows, board, loader, &mut senders);
+    }
+    Some(senders)
+}
+
+// ---- The loader
+
+/// Loads the next row of each feeder that has one, and returns how many did.
+fn load_each<B: Naming>(loader: &mut Loader<B>, feeders: u32) -> u64
+    ensures { loader.new.system ≡ loader.old.system }
+{
+    let mut loaded = 0u64;
+    'feeders: for feeder in 0..feeders {
+        if load(loader, feeder).is_ok() {
+            loaded = loaded.saturating_add(1);
+        }
+    }
+    loaded
+}
+
+/// Tells each analyst what is published.
+fn tell_each<B: Naming, R: Wait>(rt: &R, loader: &mut Loader<B>, board: &Board<B>)
+    ensures { loader.new.system ≡ loader.old.system }
+{
+    let (len, _) = loader.counts();
+    'letters: for letter in board.letters.iter() {
+        let told = loader.tell();
+        *letter.lock(rt) = Some(Letter { told, len });
+    }
+}
+
+/// Loads, publishes and tells what is there.
+fn go_round<B: Naming, R: Wait + Abort>(
+    rt: &R,
+    loader: &mut Loader<B>,
+    feeders: u32,
+    board: &Board<B>,
+)
+    ensures { loader.new.system ≡ loader.old.system }
+{
+    if load_each(loader, feeders) == 0 {
+        thread::yield_now();
+        return;
+    }
+    assert!(rt; publish(rt, loader).is_some());
+    tell_each(rt, loader, board);
+}
+
+/// Loads and publishes while the feeders run.
+fn serve<B: Naming, R: Wait + Abort>(
+    rt: &R,
+    loader: &mut Loader<B>,
+    feeders: u32,
+    senders: u64,
+    board: &Board<B>,
+)
+    ensures { loader.new.system ≡ loader.old.system }
+{
+    'rounds: for _ in 0..u64::MAX {
+        if board.ended.load(Ordering::SeqCst) >= senders {
+            return;
+        }
+        go_round(rt, loader, feeders, board);
+    }
+}
+
+/// Learns what a feeder sent, and loads what its ring still has. False where that is not all.
+fn settle_one<B: Naming, R: Threads>(rt: &R, loader: &mut Loader<B>, sender: Sender) -> bool
+    requires { IsFeederOf sender.promise.0.value loader.old.system }
+    ensures { loader.new.system ≡ loader.old.system }
+{
+    let Some(closing) = sender.join(rt) else {
+        return false;
+    };
+    let feeder = closing.feeder();
+    loader.settle(feeder, closing).is_ok() && load_rest(loader, feeder)
+}
+
+/// Loads until the feeder has no more rows for good.
+fn load_rest<B: Naming>(loader: &mut Loader<B>, feeder: u32) -> bool
+    ensures { loader.new.system ≡ loader.old.system }
+{
+    'loads: for _ in 0..u64::MAX {
+        match load(loader, feeder) {
+            Ok(()) => {}
+            Err(refused) => return refused == LoadRefused::Ended,
+        }
+    }
+    false
+}
+
+/// Joins all feeders' threads, and loads all that they sent.
+fn settle_all<B: Naming, R: Threads>(rt: &R, loader: &mut Loader<B>, senders: Vec<Sender>) -> bool
+    requires { All (λ s. IsFeederOf s.promise.0.value loader.old.system) senders.items }
+{
+    let mut settled = true;
+    'senders: for sender in senders {
+        settled &= settle_one(rt, loader, sender);
+    }
+    settled
+}
+
+// ---- Analysts
+
+/// What an analyst's thread returns: the analyst, and whether its list never got shorter.
+#[derive(Drop)]
+struct Watched<B: Naming> {
+    analyst: Analyst<B>,
+    kept: bool,
+}
+
+fn take_letter<B: Naming>(board: &Board<B>, place: usize) -> Option<Letter<B>> {
+    board.letters.get(place)?.try_lock()?.take()
+}
+
+/// Asks, learns, and asks again. None where a list is shorter than one that was known.
+fn look<B: Naming>(analyst: &mut Analyst<B>, letter: Letter<B>, known: u64) -> Option<u64> {
+    let Letter { told, len } = letter;
+    let before = count_of(analyst)?;
+    analyst.learn(told);
+    let after = count_of(analyst)?;
+    if before < known || after < before || after < len {
+        return None;
+    }
+    Some(after)
+}
+
+/// Looks whenever a letter came, until nobody is to go on and no letter is left.
+fn watch<B: Naming>(analyst: Analyst<B>, place: usize, board: &Board<B>) -> Watched<B> {
+    let mut analyst = analyst;
+    let mut known = 0;
+    let mut kept = true;
+    'looks: for _ in 0..u64::MAX {
+        let over = board.over.load(Ordering::SeqCst);
+        match take_letter(board, place) {
+            Some(letter) => match look(&mut analyst, letter, known) {
+                Some(count) => known = count,
+                None => kept = false,
+            },
+            None if over => break,
+            None => thread::yield_now(),
+        }
+    }
+    Watched { analyst, kept }
+}
+
+fn start_analyst<B: Naming + Send + Sync + 'static, R: Threads>(
+    rt: &R,
+    analyst: Analyst<B>,
+    place: usize,
+    board: &Arc<Board<B>, Global>,
+) -> Option<JoinHandle<Watched<B>>> {
+    let board = Arc::try_clone(board).ok()?;
+    thread::spawn(rt, move || watch(analyst, place, &board)).ok()
+}
+
+/// Starts the threads of all analysts. Where one is not made, nobody is to go on.
+fn start_analysts<B: Naming + Send + Sync + 'static, R: Threads>(
+    rt: &R,
+    alloc: Global,
+    analysts: Vec<Analyst<B>>,
+    board: &Arc<Board<B>, Global>,
+) -> Option<Vec<JoinHandle<Watched<B>>>> {
+    let mut watchers = Vec::with_capacity(alloc, analysts.len()).ok()?;
+    'analysts: for (place, analyst) in analysts.into_iter().enumerate() {
+        let started = match start_analyst(rt, analyst, place, board) {
+            Some(watcher) => watchers.push(watcher).is_ok(),
+            None => false,
+        };
+        if !started {
+            board.over.store(true, Ordering::SeqCst);
+        }
+    }
+    Some(watchers)
+}
+
+/// The rows that a query over one column selects.
+fn rows_at<B: Naming>(
+    analyst: &mut Analyst<B>,
+    column: u32,
+    value: u32,
+) -> Option<Vec<(u32, u64)>> {
+    let query = Query {
+        pred: Pred::Compare(column, Op::Eq, i128::from(value)),
+        total: Total::Rows,
+    };
+    let answer = match analyst.ask(&query) {
+        Err(AnalystRefused::Ask(AskError::NoMemory)) => analyst.ask(&query),
+        answered => answered,
+    };
+    match answer {
+        Ok(Answer::Rows(rows)) => Some(rows),
+        _ => None,
+    }
+}
+
+/// Each feeder's rows are those that tell of it, in the order of its sending.
+fn feeder_has_its_rows(rows: &[(u32, u64)], feeder: u32, many: u32) -> bool {
+    let mut right = rows.len() == many as usize;
+    'rows: for (place, row) in rows.iter().enumerate() {
+        right &= *row == (feeder, place as u64);
+    }
+    right
+}
+
+/// Each row that tells this place is at this place among its feeder's rows.
+fn place_has_its_rows(rows: &[(u32, u64)], place: u32, many: u32) -> bool {
+    let mut right = rows.len() == many as usize;
+    'rows: for row in rows.iter() {
+        right &= row.1 == u64::from(place);
+    }
+    right
+}
+
+fn feeders_have_their_rows<B: Naming>(analyst: &mut Analyst<B>, crowd: Crowd) -> bool {
+    let mut right = true;
+    'feeders: for feeder in 0..crowd.feeders {
+        right &= match rows_at(analyst, 0, feeder) {
+            Some(rows) => feeder_has_its_rows(rows.as_slice(), feeder, crowd.rows),
+            None => false,
+        };
+    }
+    right
+}
+
+fn places_have_their_rows<B: Naming>(analyst: &mut Analyst<B>, crowd: Crowd) -> bool {
+    let mut right = true;
+    'places: for place in 0..crowd.rows {
+        right &= match rows_at(analyst, 1, place) {
+            Some(rows) => place_has_its_rows(rows.as_slice(), place, crowd.feeders),
+            None => false,
+        };
+    }
+    right
+}
+
+/// An analyst never went back, and is answered over all rows at the end. It is then returned.
+fn join_analyst<B: Naming, R: Threads>(
+    rt: &R,
+    watcher: JoinHandle<Watched<B>>,
+    all: u64,
+) -> Option<Analyst<B>> {
+    let Watched { analyst, kept } = watcher.join(rt);
+    let mut analyst = analyst;
+    if kept && count_of(&mut analyst) == Some(all) {
+        Some(analyst)
+    } else {
+        None
+    }
+}
+
+/// Joins all analysts' threads. None where one of them is wrong, or there is none, else the last analyst.
+fn join_analysts<B: Naming, R: Threads>(
+    rt: &R,
+    watchers: Vec<JoinHandle<Watched<B>>>,
+    all: u64,
+) -> Option<Analyst<B>> {
+    let mut right = true;
+    let mut last = None;
+    'watchers: for watcher in watchers {
+        last = join_analyst(rt, watcher, all);
+        right &= last.is_some();
+    }
+    if right { last } else { None }
+}
+
+// ---- All of them
+
+/// All threads of a run, and what they share.
+#[derive(Drop)]
+struct Started<B: Naming> {
+    board: Arc<Board<B>, Global>,
+    senders: Vec<Sender>,
+    watchers: Vec<JoinHandle<Watched<B>>>,
+}
+
+/// Starts all threads. None where no memory was found beforehand.
+fn start<B: Naming + Send + Sync + 'static, R: Threads>(
+    rt: &R,
+    alloc: Global,
+    rows: u32,
+    feeders: Vec<Feeder>,
+    analysts: Vec<Analyst<B>>,
+    loader: &Loader<B>,
+) -> Option<Started<B>>
+    requires { All (λ f. IsFeederOf f loader.now.system) feeders.items }
+    ensures { IfSome result (λ all. All (λ s. IsFeederOf s.promise.0.value loader.now.system) all.senders.items) }
+{
+    let board = make_board(alloc, analysts.len()).ok()?;
+    let senders = start_feeders(rt, alloc, feeders, rows, &board, loader)?;
+    let watchers = match start_analysts(rt, alloc, analysts, &board) {
+        Some(watchers) => watchers,
+        None => {
+            board.over.store(true, Ordering::SeqCst);
+            Vec::new(alloc)
+        }
+    };
+    Some(Started {
+        board,
+        senders,
+        watchers,
+    })
+}
+
+/// Serves the feeders to their end, and publishes all that they sent.
+fn finish<B: Naming, R: Threads + Wait + Abort>(
+    rt: &R,
+    loader: &mut Loader<B>,
+    board: &Board<B>,
+    senders: Vec<Sender>,
+    feeders: u32,
+) -> bool
+    requires { All (λ s. IsFeederOf s.promise.0.value loader.old.system) senders.items }
+{
+    serve(rt, loader, feeders, senders.len() as u64, board);
+    let settled = settle_all(rt, loader, senders);
+    let published = publish(rt, loader).is_some();
+    tell_each(rt, loader, board);
+    board.over.store(true, Ordering::SeqCst);
+    settled && published
+}
+
+/// Runs a crowd. None where no memory was found for all of its threads, else whether all went right.
+fn run<B: Naming + Send + Sync + 'static, R: Threads + Wait + Abort>(
+    rt: &R,
+    alloc: Global,
+    crowd: Crowd,
+    feeders: Vec<Feeder>,
+    analysts: Vec<Analyst<B>>,
+    loader: &mut Loader<B>,
+) -> Option<bool>
+    requires { All (λ f. IsFeederOf f loader.old.system) feeders.items }
+{
+    let all = u64::from(crowd.feeders) * u64::from(crowd.rows);
+    let Started {
+        board,
+        senders,
+        watchers,
+    } = start(rt, alloc, crowd.rows, feeders, analysts, loader)?;
+    let many = (senders.len(), watchers.len());
+    let loaded = finish(rt, loader, &board, senders, crowd.feeders);
+    let last = join_analysts(rt, watchers, all);
+    if many != (crowd.feeders as usize, crowd.analysts as usize) {
+        return None;
+    }
+    Some(loaded && has_all_rows(last, crowd))
+}
+
+fn has_all_rows<B: Naming>(analyst: Option<Analyst<B>>, crowd: Crowd) -> bool {
+    match analyst {
+        Some(analyst) => {
+            let mut analyst = analyst;
+            feeders_have_their_rows(&mut analyst, crowd)
+                && places_have_their_rows(&mut analyst, crowd)
+        }
+        None => false,
+    }
+}
+
+fn run_in<B: Naming + Send + Sync + 'static, R: Threads + Wait + Abort>(
+    rt: &R,
+    alloc: Global,
+    crowd: Crowd,
+    history: History,
+    schema: Schema,
+    capacities: Vec<u32>,
+) -> Option<bool>
+    requires few { crowd.analysts ≤ 8 }
+    requires history { history ≡ record { book = B.book; list = [] } }
+    requires about { B.about ≡ no_rows schema (length capacities.items) 1000 }
+{
+    match open::<B>(alloc, history, schema, capacities, 1000, crowd.analysts) {
+        Ok(system) => {
+            let System {
+                feeders,
+                mut loader,
+                analysts,
+            } = system;
+            let ran = run(rt, alloc, crowd, feeders, analysts, &mut loader);
+            loader.end(rt);
+            ran
+        }
+        Err(OpenRefused::Make(_)) => None,
+        Err(OpenRefused::Readers(loader)) => {
+            loader.end(rt);
+            None
+        }
+    }
+}
+
+/// Which feeder a row is of, and which of its rows it is.
+fn senders_and_places(alloc: Global) -> Option<Schema> {
+    let mut schema = Schema::new(alloc);
+    schema.add("feeder", ColumnSpec::Slices(6)).ok()?;
+    schema.add("place", ColumnSpec::Slices(6)).ok()?;
+    Some(schema)
+}
+
+/// Rings of one place and of two by turns.
+fn small_rings(alloc: Global, feeders: u32) -> Option<Vec<u32>> {
+    let mut capacities = Vec::with_capacity(alloc, feeders as usize).ok()?;
+    'feeders: for feeder in 0..feeders {
+        capacities.push(1 + feeder % 2).ok()?;
+    }
+    Some(capacities)
+}
+
+fn run_once<R: Threads + Wait + Abort>(rt: &R, alloc: Global, crowd: Crowd) -> Option<bool>
+    requires { crowd.analysts ≤ 8 }
+{
+    let schema = senders_and_places(alloc)?;
+    let capacities = small_rings(alloc, crowd.feeders)?;
+    run_in::<Brand, R>(rt, alloc, crowd, History::new(), schema, capacities)
+}
+
+#[test]
+fn counts_never_fall(rt: HostRuntime) -> Result<(), Fail> {
+    let crowd = Crowd {
+        feeders: 1,
+        rows: 20,
+        analysts: 2,
+    };
+    match run_once(&rt, rt.alloc(), crowd) {
+        Some(right) => assert!(rt; right),
+        None => eprintln!(rt; "gave up: no memory for the threads")?,
+    }
+    Ok(())
+}
+
+#[test]
+fn sixty_four_feeders_and_eight_analysts(rt: HostRuntime) -> Result<(), Fail> {
+    let crowd = Crowd {
+        feeders: 64,
+        rows: 4,
+        analysts: 8,
+    };
+    match run_once(&rt, rt.alloc(), crowd) {
+        Some(right) => assert!(rt; right),
+        None => eprintln!(rt; "gave up: no memory for the threads")?,
+    }
+    Ok(())
+}

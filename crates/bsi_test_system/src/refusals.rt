@@ -1,0 +1,275 @@
+//! What the ends of a running system refuse, and what they do with no memory. The tests run in one thread.
+
+ghost use Rattle.std.specs.Prelude.{◌≡◌, [], All, length};
+ghost use Rattle.bsi_table.specs.Table.{no_rows};
+ghost use Rattle.bsi_system.specs.Running.{IsFeederOf, IsOf};
+
+use crate::calls::{load, publish, quantities, row};
+use bsi_system::{
+    Analyst, Closing, Feeder, History, LoadRefused, Loader, Naming, NoMemory, OpenRefused,
+    SettleRefused, SubmitRefused, System, open,
+};
+use bsi_table::{Row, Schema};
+use std::alloc::Global;
+use std::marker::Brand;
+use std::process::Abort;
+use std::sync::Wait;
+use std::test::Fail;
+
+/// Which test is run.
+#[derive(Clone, Copy)]
+enum Shown {
+    Refusals,
+    NoMemory,
+}
+
+/// The first feeder's ring has one place: a second row comes back. The other feeder sends one.
+fn fill<R: Abort>(
+    rt: &R,
+    alloc: Global,
+    first: &mut Feeder,
+    second: &mut Feeder,
+) -> Result<(), NoMemory>
+    ensures number { second.new.number ≡ second.old.number }
+    ensures lane { second.new.lane ≡ second.old.lane }
+{
+    let five = first.submit(row(alloc, 5)?);
+    let full = match first.submit(row(alloc, 6)?) {
+        Err(SubmitRefused::Full(back)) => back.values() == &[Some(6)][..],
+        _other => false,
+    };
+    let seven = second.submit(row(alloc, 7)?);
+    assert!(rt; five.is_ok() && full && seven.is_ok());
+    Ok(())
+}
+
+/// The table takes one row, and refuses the other feeder's, which stays in its ring.
+fn load_to_the_limit<B: Naming, R: Abort>(rt: &R, loader: &mut Loader<B>)
+    ensures { loader.new.system ≡ loader.old.system }
+{
+    let taken = load(loader, 0);
+    let none = load(loader, 0);
+    let full = load(loader, 1);
+    assert_eq!(rt; (taken, none), (Ok(()), Err(LoadRefused::Empty)));
+    assert_eq!(rt; full, Err(LoadRefused::IndexFull));
+    assert_eq!(rt; loader.counts(), (0, 1));
+}
+
+/// A closing is handed back where it is told as another feeder's, and then told as what it is.
+fn settle_as_both<B: Naming, R: Abort>(rt: &R, loader: &mut Loader<B>, closing: Closing)
+    requires { IsOf closing loader.old.system }
+    ensures { loader.new.system ≡ loader.old.system }
+{
+    let back = match loader.settle(0, closing) {
+        Err(SettleRefused::WrongClosing(back)) => back,
+        Ok(()) => panic!(rt; "a closing of feeder 1 was told as feeder 0's"),
+    };
+    assert_eq!(rt; back.feeder(), 1);
+    assert!(rt; loader.settle(1, back).is_ok());
+}
+
+/// Nothing of the full table changes by a settle, and its one row is published.
+fn publish_the_one<B: Naming, R: Wait + Abort>(rt: &R, loader: &mut Loader<B>) {
+    assert_eq!(rt; load(loader, 1), Err(LoadRefused::IndexFull));
+    assert_eq!(rt; load(loader, 0), Err(LoadRefused::Empty));
+    assert_eq!(rt; loader.counts(), (0, 1));
+    assert_eq!(rt; publish(rt, loader), Some(1));
+    assert_eq!(rt; loader.counts(), (1, 0));
+}
+
+/// A system whose rings and whose table get full.
+fn refuse<B: Naming, R: Wait + Abort>(
+    rt: &R,
+    alloc: Global,
+    first: Feeder,
+    second: Feeder,
+    loader: &mut Loader<B>,
+) -> Option<()>
+    requires { IsFeederOf second loader.old.system }
+{
+    let mut first = first;
+    let mut second = second;
+    fill(rt, alloc, &mut first, &mut second).ok()?;
+    load_to_the_limit(rt, loader);
+    let closing = second.close()?;
+    settle_as_both(rt, loader, closing);
+    publish_the_one(rt, loader);
+    Some(())
+}
+
+/// Rows that are made beforehand.
+#[derive(Drop)]
+struct ThreeRows {
+    first: Row,
+    second: Row,
+    third: Row,
+}
+
+fn make_three(alloc: Global) -> Result<ThreeRows, NoMemory> {
+    Ok(ThreeRows {
+        first: row(alloc, 1)?,
+        second: row(alloc, 2)?,
+        third: row(alloc, 3)?,
+    })
+}
+
+/// A row is sent, loaded and published.
+fn publish_one<B: Naming, R: Wait + Abort>(
+    rt: &R,
+    alloc: Global,
+    feeder: &mut Feeder,
+    loader: &mut Loader<B>,
+) -> Result<(), NoMemory>
+    ensures number { feeder.new.number ≡ feeder.old.number }
+    ensures lane { feeder.new.lane ≡ feeder.old.lane }
+    ensures system { loader.new.system ≡ loader.old.system }
+{
+    let sent = feeder.submit(row(alloc, 5)?);
+    let loaded = load(loader, 0);
+    let published = publish(rt, loader);
+    match (sent, loaded, published) {
+        (Ok(()), Ok(()), Some(1)) => Ok(()),
+        _other => Err(NoMemory),
+    }
+}
+
+/// A ring of two places takes two rows, and hands the third back.
+fn send_three<R: Abort>(rt: &R, feeder: &mut Feeder, rows: ThreeRows)
+    ensures number { feeder.new.number ≡ feeder.old.number }
+    ensures lane { feeder.new.lane ≡ feeder.old.lane }
+{
+    let first = feeder.submit(rows.first);
+    let second = feeder.submit(rows.second);
+    let third = match feeder.submit(rows.third) {
+        Err(SubmitRefused::Full(back)) => back.values() == &[Some(3)][..],
+        _other => false,
+    };
+    assert!(rt; first.is_ok() && second.is_ok() && third);
+}
+
+/// The calls that take no memory.
+fn call_with_none<B: Naming, R: Abort>(
+    rt: &R,
+    feeder: Feeder,
+    loader: &mut Loader<B>,
+    analyst: &mut Analyst<B>,
+    rows: ThreeRows,
+)
+    requires { IsFeederOf feeder loader.old.system }
+{
+    let mut feeder = feeder;
+    send_three(rt, &mut feeder, rows);
+    match feeder.close() {
+        Some(closing) => assert!(rt; loader.settle(0, closing).is_ok()),
+        None => panic!(rt; "no closing"),
+    }
+    analyst.learn(loader.tell());
+    assert_eq!(rt; loader.counts(), (1, 0));
+}
+
+/// From the probe on nothing asks for memory: each later growth may be refused too.
+fn need_none<B: Naming, R: Wait + Abort>(
+    rt: &R,
+    alloc: Global,
+    feeder: Feeder,
+    loader: &mut Loader<B>,
+    analyst: Analyst<B>,
+) -> Option<()>
+    requires { IsFeederOf feeder loader.old.system }
+{
+    let mut feeder = feeder;
+    let mut analyst = analyst;
+    publish_one(rt, alloc, &mut feeder, loader).ok()?;
+    let rows = make_three(alloc).ok()?;
+    let _probe = Vec::<u8>::with_capacity(alloc, 1);
+    call_with_none(rt, feeder, loader, &mut analyst, rows);
+    Some(())
+}
+
+/// None where no memory was found for what the test needs.
+fn play<B: Naming, R: Wait + Abort>(
+    rt: &R,
+    alloc: Global,
+    shown: Shown,
+    feeders: Vec<Feeder>,
+    loader: &mut Loader<B>,
+    analysts: Vec<Analyst<B>>,
+) -> Option<()>
+    requires { All (λ f. IsFeederOf f loader.old.system) feeders.items }
+{
+    let mut feeders = feeders;
+    let mut analysts = analysts;
+    let last = feeders.pop()?;
+    match shown {
+        Shown::Refusals => refuse(rt, alloc, feeders.pop()?, last, loader),
+        Shown::NoMemory => need_none(rt, alloc, last, loader, analysts.pop()?),
+    }
+}
+
+fn work_in<B: Naming, R: Wait + Abort>(
+    rt: &R,
+    alloc: Global,
+    shown: Shown,
+    history: History,
+    schema: Schema,
+    capacities: Vec<u32>,
+    limit: u64,
+) -> Option<()>
+    requires history { history ≡ record { book = B.book; list = [] } }
+    requires about { B.about ≡ no_rows schema (length capacities.items) limit }
+{
+    match open::<B>(alloc, history, schema, capacities, limit, 1) {
+        Ok(system) => {
+            let System {
+                feeders,
+                mut loader,
+                analysts,
+            } = system;
+            let played = play(rt, alloc, shown, feeders, &mut loader, analysts);
+            loader.end(rt);
+            played
+        }
+        Err(OpenRefused::Make(_)) => None,
+        Err(OpenRefused::Readers(loader)) => {
+            loader.end(rt);
+            None
+        }
+    }
+}
+
+fn work<R: Wait + Abort>(
+    rt: &R,
+    alloc: Global,
+    shown: Shown,
+    capacities: Vec<u32>,
+    limit: u64,
+) -> Option<()> {
+    let schema = quantities(alloc).ok()?;
+    work_in::<Brand, R>(rt, alloc, shown, History::new(), schema, capacities, limit)
+}
+
+fn refuse_once<R: Wait + Abort>(rt: &R, alloc: Global) -> Option<()> {
+    let capacities = Vec::from_slice(alloc, &[1, 2]).ok()?;
+    work(rt, alloc, Shown::Refusals, capacities, 1)
+}
+
+fn need_none_once<R: Wait + Abort>(rt: &R, alloc: Global) -> Option<()> {
+    let capacities = Vec::from_slice(alloc, &[2]).ok()?;
+    work(rt, alloc, Shown::NoMemory, capacities, 10)
+}
+
+#[test]
+fn running_refusals(rt: HostRuntime) -> Result<(), Fail> {
+    if refuse_once(&rt, rt.alloc()).is_some() || refuse_once(&rt, rt.alloc()).is_some() {
+        return Ok(());
+    }
+    Err(Fail::from("no system"))
+}
+
+#[test]
+fn ends_take_no_memory(rt: HostRuntime) -> Result<(), Fail> {
+    if need_none_once(&rt, rt.alloc()).is_none() {
+        eprintln!(rt; "gave up: no memory for the fixture")?;
+    }
+    Ok(())
+}
