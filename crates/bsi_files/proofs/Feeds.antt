@@ -1,0 +1,57 @@
+-- What a feeder has sent so far of a source.
+use Rattle.std.proofs.Common.{◌≡◌, ℕ, ◌+◌, Bool, true, false, List, [], ◌∷◌, ◌++◌, Option, Some, None, IfSome, length, refl, sym, ap, ◌∙◌, arith, length-append}
+use Rattle.std.proofs.lemmas.List.{append_assoc, append-nil}
+use mathlib.Core.List.{IsPrefix}
+use Rattle.bsi_rings.specs.Rings.{with_sent, Closes, LaneName, Sending, Sent}
+use Rattle.bsi_table.specs.Rows.{Entries}
+use Rattle.bsi_text.specs.Sources.{GivesFirst, Source, StillHas}
+use Rattle.bsi_text.specs.declared.rows.SourceFault.{SourceFault}
+use Rattle.bsi_files.specs.Feeding.{BeginsWith, HasFed, HasOnly}
+
+-- of all good rows and all other records that a source still had, it has the rest
+pub record HasRest {R : Type 0} (rem : R → Option (List ℕ)) (old new : Source R) (rows all : List Entries) (others : ℕ) : Type 0 where
+  pub rest : List Entries
+  pub left : ℕ
+  pub parts : all ≡ rows ++ rest
+  pub still : StillHas rem new rest left
+  pub count : new.tally.bad + left ≡ old.tally.bad + others
+
+-- so many rows were sent of a source, the first ones that it still had
+pub record HasSent {R : Type 0} (rem : R → Option (List ℕ)) (feeder : Sending) (source : Source R) (n : ℕ) (now : Sending) (after : Source R) : Type 0 where
+  pub rows : List Entries
+  pub number : now.number ≡ feeder.number
+  pub lane : now.lane ≡ feeder.lane
+  pub sent : now.sent ≡ feeder.sent ++ rows
+  pub many : length rows ≡ n
+  pub gives : (all : List Entries) → (others : ℕ) → StillHas rem source all others → HasRest rem source after rows all others
+
+module _ {R : Type 0} (rem : R → Option (List ℕ)) (feeder : Sending) (source : Source R) where
+  pub sent_none : HasSent rem feeder source 0 feeder source
+  sent_none = record {
+    rows = [];
+    number = refl;
+    lane = refl;
+    sent = sym (append-nil feeder.sent);
+    many = refl;
+    gives = λ all others still. record { rest = all; left = others; parts = refl; still = still; count = refl };
+  }
+
+  pub sent_more : (n : ℕ) (now next : Sending) (after then_ : Source R) (row : Entries) → HasSent rem feeder source n now after
+      → next ≡ with_sent now row → GivesFirst rem after then_ (Some row) → HasSent rem feeder source (n + 1) next then_
+  sent_more n now next after then_ row has is first = record {
+    rows = has.rows ++ row ∷ [];
+    number = ap (λ (s : Sending). s.number) is ∙ has.number;
+    lane = ap (λ (s : Sending). s.lane) is ∙ has.lane;
+    sent = ap (λ (s : Sending). s.sent) is ∙ (ap (λ xs. xs ++ row ∷ []) has.sent ∙ append_assoc feeder.sent has.rows (row ∷ []));
+    many = omega (arith, length-append has.rows (row ∷ []), has.many);
+    gives = λ all others still.
+        let was = has.gives all others still in
+        let one = first was.rest was.left was.still in
+        record {
+          rest = one.0;
+          left = one.1;
+          parts = was.parts ∙ (ap (λ xs. has.rows ++ xs) one.2 ∙ sym (append_assoc has.rows (row ∷ []) one.0));
+          still = one.3;
+          count = one.4 ∙ was.count;
+        };
+  }

@@ -1,0 +1,49 @@
+//! The headers of the row files, which are read before any row is.
+
+ghost use Rattle.std.specs.Prelude.{◌≡◌, IfErr, true};
+ghost use Rattle.bsi_files.specs.Faults.{is_early};
+
+use crate::{FilesFault, NoMemory};
+use bsi_table::Schema;
+use bsi_text::RowSource;
+use std::alloc::Global;
+use std::io::Read;
+
+/// How many rows of a file may wait for the loader.
+const CAPACITY: u32 = 1_024;
+
+/// The number of the file at a place. There are at most 64.
+pub(crate) fn number_of(place: usize) -> u32 {
+    u32::try_from(place).unwrap_or(u32::MAX)
+}
+
+/// Reads the header of each file, in their order, and makes the sources of their rows.
+pub(crate) fn begin_all<I: Read + Drop>(
+    alloc: Global,
+    schema: &Schema,
+    readers: Vec<I>,
+) -> Result<Vec<RowSource<I>>, FilesFault>
+    ensures { IfErr result (λ fault. is_early fault ≡ true) }
+{
+    let mut sources = Vec::with_capacity(alloc, readers.len())?;
+    'files: for (file, reader) in readers.into_iter().enumerate() {
+        let source = match RowSource::begin(alloc, schema, reader) {
+            Ok(source) => source,
+            Err(fault) => return Err(FilesFault::Source(number_of(file), fault)),
+        };
+        match sources.push(source) {
+            Ok(()) => {}
+            Err(_) => return Err(FilesFault::NoMemory),
+        }
+    }
+    Ok(sources)
+}
+
+/// The capacity of each file's ring.
+pub(crate) fn capacities(alloc: Global, files: usize) -> Result<Vec<u32>, NoMemory> {
+    let mut capacities = Vec::with_capacity(alloc, files)?;
+    'files: for _ in 0..files {
+        capacities.push(CAPACITY)?;
+    }
+    Ok(capacities)
+}

@@ -1,0 +1,210 @@
+//! The loader's part of a run: beside the feeders, and for what is left when they have ended.
+
+ghost use Rattle.std.specs.Prelude.{◌≡◌, All, IfErr, IfSome, true};
+ghost use Rattle.bsi_system.specs.Running.{IsOf};
+ghost use Rattle.bsi_files.specs.Faults.{is_early};
+
+use crate::headers::number_of;
+use crate::pause::Pause;
+use crate::threads::Watch;
+use crate::{FeedEnd, FilesFault, Gate};
+use bsi_system::{Closing, LoadRefused, Loader, Naming};
+use bsi_text::SourceFault;
+use std::sync::Wait;
+
+/// How many rows of one feeder are taken before the next feeder's turn.
+const MOST_IN_TURN: u32 = 256;
+
+/// From how many held rows on they are published.
+const MOST_HELD: u64 = 4_096;
+
+/// What a feeder that read a file leaves, but for its closing.
+#[derive(Drop)]
+pub(crate) struct Fed {
+    pub(crate) accepted: u64,
+    pub(crate) bad: u64,
+    fault: Option<SourceFault>,
+    closed: bool,
+}
+
+/// Takes rows feeder by feeder until all feeders have ended. A row that is refused for another cause than that none is seen ends
+/// it, and from then on feeders whose rings are full stop.
+pub(crate) fn load_beside<B: Naming, R: Wait, G: Gate>(
+    rt: &R,
+    loader: &mut Loader<B>,
+    feeders: u32,
+    watch: &Watch<'_, G>,
+) -> Result<(), FilesFault>
+    ensures system { loader.new.system ≡ loader.old.system }
+    ensures early { IfErr result (λ fault. is_early fault ≡ true) }
+{
+    let mut pause = Pause::new();
+    'rounds: for _ in rt.forever() {
+        if watch.ended() >= u64::from(feeders) {
+            return Ok(());
+        }
+        match load_round(rt, loader, feeders) {
+            Ok(true) => pause = Pause::new(),
+            Ok(false) => pause.wait(rt),
+            Err(fault) => {
+                watch.refuse();
+                return Err(fault);
+            }
+        }
+    }
+    unreachable!()
+}
+
+/// Takes some rows of each feeder, and returns whether there was one.
+fn load_round<B: Naming, R: Wait>(
+    rt: &R,
+    loader: &mut Loader<B>,
+    feeders: u32,
+) -> Result<bool, FilesFault>
+    ensures system { loader.new.system ≡ loader.old.system }
+    ensures early { IfErr result (λ fault. is_early fault ≡ true) }
+{
+    let mut found = false;
+    'feeders: for feeder in 0..feeders {
+        if load_some(loader, feeder)? {
+            found = true;
+            publish_many(rt, loader);
+        }
+    }
+    Ok(found)
+}
+
+/// Takes some rows of a feeder, and returns whether there was one.
+fn load_some<B: Naming>(loader: &mut Loader<B>, feeder: u32) -> Result<bool, FilesFault>
+    ensures system { loader.new.system ≡ loader.old.system }
+    ensures early { IfErr result (λ fault. is_early fault ≡ true) }
+{
+    'rows: for taken in 0..MOST_IN_TURN {
+        if !load_one(loader, feeder)? {
+            return Ok(taken > 0);
+        }
+    }
+    Ok(true)
+}
+
+/// Takes the next row of a feeder, and returns whether there was one.
+fn load_one<B: Naming>(loader: &mut Loader<B>, feeder: u32) -> Result<bool, FilesFault>
+    ensures system { loader.new.system ≡ loader.old.system }
+    ensures early { IfErr result (λ fault. is_early fault ≡ true) }
+{
+    match loader.load(feeder) {
+        Ok(()) => Ok(true),
+        Err(LoadRefused::IndexFull) => Err(FilesFault::IndexFull),
+        Err(LoadRefused::NoMemory) => Err(FilesFault::NoMemory),
+        Err(_) => Ok(false),
+    }
+}
+
+/// Publishes the held rows where there are many, so that few are kept beside the two copies of the table. A refusal is left to
+/// a later publish.
+fn publish_many<B: Naming, R: Wait>(rt: &R, loader: &mut Loader<B>)
+    ensures { loader.new.system ≡ loader.old.system }
+{
+    if loader.counts().1 >= MOST_HELD {
+        let _ = loader.publish(rt);
+    }
+}
+
+/// In the feeders' order, tells the loader of each closing and takes all rows that are left. Then a fault of a source is looked
+/// for, and a feeder that left no closing.
+pub(crate) fn load_all<B: Naming, R: Wait>(
+    rt: &R,
+    loader: &mut Loader<B>,
+    ends: Vec<FeedEnd>,
+    fed: &mut Vec<Fed>,
+) -> Result<(), FilesFault>
+    requires { All (λ end. IfSome end.closing (λ closing. IsOf closing loader.old.system)) ends.items }
+    ensures early { IfErr result (λ fault. is_early fault ≡ true) }
+{
+    'ends: for end in ends {
+        let left = load_end(rt, loader, end)?;
+        match fed.push(left) {
+            Ok(()) => {}
+            Err(_) => return Err(FilesFault::NoMemory),
+        }
+    }
+    test_sources(fed.as_slice())?;
+    test_closings(fed.as_slice())
+}
+
+/// Takes all rows that a feeder left.
+fn load_end<B: Naming, R: Wait>(
+    rt: &R,
+    loader: &mut Loader<B>,
+    end: FeedEnd,
+) -> Result<Fed, FilesFault>
+    requires { IfSome end.closing (λ closing. IsOf closing loader.old.system) }
+    ensures system { loader.new.system ≡ loader.old.system }
+    ensures early { IfErr result (λ fault. is_early fault ≡ true) }
+{
+    let FeedEnd {
+        accepted,
+        bad,
+        stopped: _,
+        fault,
+        closing,
+    } = end;
+    let closed = match closing {
+        None => false,
+        Some(closing) => {
+            settle(rt, loader, closing)?;
+            true
+        }
+    };
+    Ok(Fed {
+        accepted,
+        bad,
+        fault,
+        closed,
+    })
+}
+
+/// Tells the loader of a closing, and takes the rows that are left of its feeder.
+fn settle<B: Naming, R: Wait>(
+    rt: &R,
+    loader: &mut Loader<B>,
+    closing: Closing,
+) -> Result<(), FilesFault>
+    requires { IsOf closing loader.old.system }
+    ensures system { loader.new.system ≡ loader.old.system }
+    ensures early { IfErr result (λ fault. is_early fault ≡ true) }
+{
+    let feeder = closing.feeder();
+    let _ = loader.settle(feeder, closing);
+    'rows: for _ in rt.forever() {
+        if !load_one(loader, feeder)? {
+            return Ok(());
+        }
+        publish_many(rt, loader);
+    }
+    unreachable!()
+}
+
+/// Looks for the first file whose source answered a fault.
+fn test_sources(fed: &[Fed]) -> Result<(), FilesFault>
+    ensures { IfErr result (λ fault. is_early fault ≡ true) }
+{
+    'files: for (file, end) in fed.iter().enumerate() {
+        if let Some(fault) = end.fault {
+            return Err(FilesFault::Source(number_of(file), fault));
+        }
+    }
+    Ok(())
+}
+
+/// Looks for the first feeder that left no closing.
+fn test_closings(fed: &[Fed]) -> Result<(), FilesFault>
+    ensures { IfErr result (λ fault. is_early fault ≡ true) }
+{
+    'files: for (file, end) in fed.iter().enumerate() {
+        if !end.closed {
+            return Err(FilesFault::NotClosed(number_of(file)));
+        }
+    }
+    Ok(())
+}

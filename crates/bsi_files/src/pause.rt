@@ -1,0 +1,35 @@
+//! How a thread waits that has nothing to do: it yields, and then it sleeps for short times.
+
+use std::sync::Wait;
+use std::sync::atomic::AtomicU64;
+use std::thread;
+use std::time::Duration;
+
+/// How often a thread yields before it sleeps.
+const MOST_YIELDS: u32 = 16;
+
+/// How long it sleeps each time, in microseconds.
+const SLEEP_MICROS: u64 = 100;
+
+/// The waiting of one thread since it last had something to do.
+#[derive(Clone, Copy)]
+pub(crate) struct Pause {
+    yields: u32,
+}
+
+impl Pause {
+    /// Nothing was waited for yet.
+    pub(crate) fn new() -> Pause {
+        Pause { yields: 0 }
+    }
+
+    /// Yields the processor, or sleeps for 100 microseconds where it has yielded 16 times.
+    pub(crate) fn wait<R: Wait>(&mut self, rt: &R) {
+        if self.yields < MOST_YIELDS {
+            self.yields += 1;
+            thread::yield_now();
+        } else {
+            AtomicU64::new(0).park_timeout(rt, 0, Duration::from_micros(SLEEP_MICROS));
+        }
+    }
+}

@@ -1,0 +1,223 @@
+//! A run over row files, from their headers to the answers.
+
+ghost use Rattle.std.specs.Prelude.{◌≡◌, ◌≢◌, ◌<◌, ◌↔◌, [], All, Err, IfErr, false, length, true};
+ghost use Rattle.bsi_table.specs.Table.{no_rows};
+ghost use Rattle.bsi_system.specs.Running.{IsFeederOf};
+ghost use Rattle.bsi_files.specs.Faults.{is_early, is_late};
+
+use crate::asks::answer_all;
+use crate::headers::{begin_all, capacities, number_of};
+use crate::loading::{Fed, load_all, load_beside};
+use crate::tables::read_table;
+use crate::threads::{Watch, join_all, start_all};
+use crate::{FilesFault, Gate};
+use bsi_system::{Analyst, Feeder, History, Loader, Naming, OpenRefused, System, open};
+use bsi_table::{MOST_FEEDERS, Schema};
+use bsi_text::RowSource;
+use std::alloc::Global;
+use std::io::{Read, Write};
+use std::marker::Brand;
+use std::sync::Wait;
+use std::thread;
+use std::thread::{Scope, Threads};
+
+/// Loads all rows of the files, each read by a feeder on a thread of its own, into one table, and answers the questions over it.
+pub fn run_files<
+    R: Threads + Wait + AllocGlobal + Sync,
+    S: Read + Drop,
+    A: Read + Drop,
+    I: Read + Drop + Send,
+    W: Write,
+    G: Gate + Sync,
+>(rt: &R, schema: S, asks: A, sources: Vec<I>, writer: &mut W, gate: &G) -> Result<(), FilesFault>
+    requires { 0 < length sources.items }
+    ensures files { (result ≡ Err FilesFault.TooManyFiles) ↔ (64 < length sources.items) }
+    ensures quiet { IfErr result (λ fault. is_late fault ≡ false → W.contents writer.new ≡ W.contents writer.old) }
+{
+    if sources.len() > MOST_FEEDERS as usize {
+        return Err(FilesFault::TooManyFiles);
+    }
+    let alloc = rt.alloc();
+    let (schema, limit) = read_table(alloc, schema)?;
+    let sources = begin_all(alloc, &schema, sources)?;
+    let capacities = capacities(alloc, sources.len())?;
+    let columns = schema.copy()?;
+    let run = Run {
+        schema,
+        sources,
+        asks,
+    };
+    run_in::<Brand, R, A, I, W, G>(
+        rt,
+        History::new(),
+        columns,
+        capacities,
+        limit,
+        run,
+        writer,
+        gate,
+    )
+}
+
+/// What a run reads, but for the schema file.
+#[derive(Drop)]
+struct Run<A: Drop, I: Read + Drop> {
+    schema: Schema,
+    sources: Vec<RowSource<I>>,
+    asks: A,
+}
+
+/// Opens the system of a run, and runs it.
+fn run_in<
+    B: Naming,
+    R: Threads + Wait + AllocGlobal + Sync,
+    A: Read + Drop,
+    I: Read + Drop + Send,
+    W: Write,
+    G: Gate + Sync,
+>(
+    rt: &R,
+    history: History,
+    columns: Schema,
+    capacities: Vec<u32>,
+    limit: u64,
+    run: Run<A, I>,
+    writer: &mut W,
+    gate: &G,
+) -> Result<(), FilesFault>
+    requires history { history ≡ record { book = B.book; list = [] } }
+    requires about { B.about ≡ no_rows columns (length capacities.items) limit }
+    ensures counted { IfErr result (λ fault. fault ≢ FilesFault.TooManyFiles) }
+    ensures quiet { IfErr result (λ fault. is_late fault ≡ false → W.contents writer.new ≡ W.contents writer.old) }
+{
+    match open::<B>(rt.alloc(), history, columns, capacities, limit, 1) {
+        Ok(system) => {
+            let System {
+                feeders,
+                mut loader,
+                analysts,
+            } = system;
+            let ran = run_ends(rt, &mut loader, feeders, analysts, run, writer, gate);
+            loader.end(rt);
+            ran
+        }
+        Err(OpenRefused::Make(_)) => Err(FilesFault::NoMemory),
+        Err(OpenRefused::Readers(loader)) => {
+            loader.end(rt);
+            Err(FilesFault::Readers)
+        }
+    }
+}
+
+/// Loads all rows of the files, and answers the questions.
+fn run_ends<
+    B: Naming,
+    R: Threads + Wait + AllocGlobal + Sync,
+    A: Read + Drop,
+    I: Read + Drop + Send,
+    W: Write,
+    G: Gate + Sync,
+>(
+    rt: &R,
+    loader: &mut Loader<B>,
+    feeders: Vec<Feeder>,
+    analysts: Vec<Analyst<B>>,
+    run: Run<A, I>,
+    writer: &mut W,
+    gate: &G,
+) -> Result<(), FilesFault>
+    requires { All (λ feeder. IsFeederOf feeder loader.old.system) feeders.items }
+    ensures counted { IfErr result (λ fault. fault ≢ FilesFault.TooManyFiles) }
+    ensures quiet { IfErr result (λ fault. is_late fault ≡ false → W.contents writer.new ≡ W.contents writer.old) }
+{
+    let Run {
+        schema,
+        sources,
+        asks,
+    } = run;
+    let fed = feed_files(rt, loader, feeders, sources, gate)?;
+    let mut analysts = analysts;
+    let Some(mut analyst) = analysts.pop() else {
+        return Err(FilesFault::Readers);
+    };
+    answer_all(rt.alloc(), &schema, &mut analyst, &fed, asks, writer)
+}
+
+/// Feeds the files and loads their rows, and returns what each feeder leaves. All threads have ended then.
+fn feed_files<
+    B: Naming,
+    R: Threads + Wait + AllocGlobal + Sync,
+    I: Read + Drop + Send,
+    G: Gate + Sync,
+>(
+    rt: &R,
+    loader: &mut Loader<B>,
+    feeders: Vec<Feeder>,
+    sources: Vec<RowSource<I>>,
+    gate: &G,
+) -> Result<Vec<Fed>, FilesFault>
+    requires { All (λ feeder. IsFeederOf feeder loader.old.system) feeders.items }
+    ensures { IfErr result (λ fault. is_early fault ≡ true) }
+{
+    let watch = Watch::new(gate);
+    let shared = &watch;
+    thread::scope(
+        thread::scope_env(),
+        rt,
+        move |scope| -> Result<Vec<Fed>, FilesFault>
+            requires { All (λ feeder. IsFeederOf feeder loader.now.system) feeders.items }
+            ensures { IfErr result (λ fault. is_early fault ≡ true) }
+        { feed_in(scope, rt, shared, loader, feeders, sources) },
+    )
+}
+
+/// Feeds the files by threads of a scope, and loads their rows.
+fn feed_in<
+    's,
+    E,
+    B: Naming,
+    R: Threads + Wait + AllocGlobal + Sync + 's,
+    I: Read + Drop + Send + 's,
+    G: Gate + Sync + 's,
+>(
+    scope: &Scope<'s, E>,
+    rt: &'s R,
+    watch: &'s Watch<'s, G>,
+    loader: &mut Loader<B>,
+    feeders: Vec<Feeder>,
+    sources: Vec<RowSource<I>>,
+) -> Result<Vec<Fed>, FilesFault>
+    requires { All (λ feeder. IsFeederOf feeder loader.old.system) feeders.items }
+    ensures { IfErr result (λ fault. is_early fault ≡ true) }
+{
+    let files = feeders.len();
+    let mut threads = Vec::with_capacity(rt.alloc(), files)?;
+    let mut ends = Vec::with_capacity(rt.alloc(), files)?;
+    let mut fed = Vec::with_capacity(rt.alloc(), files)?;
+    let started = start_all(scope, rt, watch, loader, feeders, sources, &mut threads);
+    let beside = load_where(rt, loader, number_of(files), watch, started);
+    let joined = join_all(rt, loader, threads, &mut ends);
+    beside?;
+    joined?;
+    load_all(rt, loader, ends, &mut fed)?;
+    loader.publish(rt)?;
+    Ok(fed)
+}
+
+/// Loads beside the feeders where all were started. Else it tells those whose rings are full to stop.
+fn load_where<B: Naming, R: Wait, G: Gate>(
+    rt: &R,
+    loader: &mut Loader<B>,
+    feeders: u32,
+    watch: &Watch<'_, G>,
+    started: bool,
+) -> Result<(), FilesFault>
+    ensures system { loader.new.system ≡ loader.old.system }
+    ensures early { IfErr result (λ fault. is_early fault ≡ true) }
+{
+    if !started {
+        watch.refuse();
+        return Err(FilesFault::NoMemory);
+    }
+    load_beside(rt, loader, feeders, watch)
+}

@@ -1,0 +1,38 @@
+//! The schema file: the columns and the row limit that it declares.
+
+ghost use Rattle.std.specs.Prelude.{◌≡◌, ◌≢◌, IfErr, IfOk, true};
+ghost use Rattle.bsi_files.specs.Faults.{is_early};
+
+use crate::{FilesFault, Which};
+use bsi_table::{MOST_ROWS, Schema};
+use bsi_text::{RecordSource, read_setup};
+use csv::ByteRecord;
+use std::alloc::Global;
+use std::io::Read;
+
+/// Reads the columns and the row limit; without a limit it is the greatest there is.
+pub(crate) fn read_table<S: Read + Drop>(
+    alloc: Global,
+    reader: S,
+) -> Result<(Schema, u64), FilesFault>
+    ensures { IfErr result (λ fault. is_early fault ≡ true) }
+{
+    let mut records = RecordSource::new(alloc, reader);
+    let mut fields = ByteRecord::new(alloc);
+    let mut schema = Schema::new(alloc);
+    let mut limit = MOST_ROWS;
+    'records: for before in 0..u64::MAX {
+        match records.next_record(&mut fields) {
+            Ok(true) => {}
+            Ok(false) => break,
+            Err(fault) => return Err(FilesFault::of_text(Which::SchemaFile, fault)),
+        }
+        if !read_setup(alloc, &mut schema, &mut limit, &fields)? {
+            return Err(FilesFault::BadSchema(before + 1));
+        }
+    }
+    if schema.columns() == 0 {
+        return Err(FilesFault::NoColumns);
+    }
+    Ok((schema, limit))
+}
