@@ -35,16 +35,11 @@ const WIDE: Wide<'static> = Wide {
     bases: &[2, 8],
 };
 
-const TOTALS: [Total; 9] = [
-    Total::Rows,
-    Total::Sum(0),
-    Total::Least(1),
-    Total::Greatest(2),
-    Total::Count,
-    Total::Median(0),
-    Total::Sum(2),
-    Total::Median(1),
-    Total::Least(0),
+/// The totals, three for each predicate in turn.
+const TOTALS: [[Total; 3]; 3] = [
+    [Total::Rows, Total::Greatest(2), Total::Sum(2)],
+    [Total::Sum(0), Total::Count, Total::Median(1)],
+    [Total::Least(1), Total::Median(0), Total::Least(0)],
 ];
 
 // The entry of a column: a null now and then, else one of the column's numbers.
@@ -107,38 +102,68 @@ fn plain_answer(plain: &PlainTable, alloc: Global, query: &Query) -> Result<Answ
     }
 }
 
-// Each predicate with three of the totals.
-fn same_answers(
-    rt: &impl Abort,
-    alloc: Global,
-    index: &Index,
-    plain: &PlainTable,
-) -> Result<(), NoMemory> {
-    for k in 0..12u32 {
-        for total in TOTALS.iter().skip(k as usize % 3).step_by(3) {
-            let query = Query {
-                total: *total,
-                pred: predicate_at(alloc, k)?,
-            };
-            let wanted = plain_answer(plain, alloc, &query)?;
-            assert_eq!(rt; asked(index, &query), Ok(wanted), "{query:?}");
-        }
+/// The same rows in an index and as they came.
+#[derive(Drop)]
+struct Both {
+    index: Index,
+    plain: PlainTable,
+}
+
+fn no_rows(rt: &impl Abort, alloc: Global, columns: &[Declared], feeders: u32, limit: u64) -> Both {
+    let index = index_of(alloc, columns, feeders, limit).expect(rt, "columns and a limit");
+    let plain = PlainTable::new(alloc);
+    Both { index, plain }
+}
+
+// A row is appended to both.
+fn append_to_both(rt: &impl Abort, both: &mut Both, feeder: u32, row: Row) -> Result<(), NoMemory> {
+    let position = both.plain.rows.len() as u64;
+    let appended = append_row(&mut both.index, feeder, &row);
+    assert_eq!(rt; appended, Some(Ok(position)));
+    keep(&mut both.plain, feeder, row)
+}
+
+fn same_answer(rt: &impl Abort, alloc: Global, both: &Both, query: Query) -> Result<(), NoMemory> {
+    let wanted = plain_answer(&both.plain, alloc, &query)?;
+    assert_eq!(rt; asked(&both.index, &query), Ok(wanted), "{query:?}");
+    Ok(())
+}
+
+// A predicate with three of the totals.
+fn three_same_answers(rt: &impl Abort, alloc: Global, both: &Both, k: u32) -> Result<(), NoMemory> {
+    for total in TOTALS[k as usize % 3] {
+        let pred = predicate_at(alloc, k)?;
+        same_answer(rt, alloc, both, Query { total, pred })?;
     }
     Ok(())
+}
+
+fn same_answers(rt: &impl Abort, alloc: Global, both: &Both) -> Result<(), NoMemory> {
+    for k in 0..12 {
+        three_same_answers(rt, alloc, both, k)?;
+    }
+    Ok(())
+}
+
+fn append_mixed(rt: &impl Abort, alloc: Global, both: &mut Both, row: u64) -> Result<(), NoMemory> {
+    let feeder = row.wrapping_mul(7).wrapping_add(row / 3) % 3;
+    let entries = row_at(alloc, row)?;
+    append_to_both(rt, both, feeder as u32, entries)
+}
+
+fn mixed_rows(rt: &impl Abort, alloc: Global, rows: u64) -> Result<Both, NoMemory> {
+    let mut both = no_rows(rt, alloc, &COLUMNS, 3, 130);
+    for row in 0..rows {
+        append_mixed(rt, alloc, &mut both, row)?;
+    }
+    Ok(both)
 }
 
 #[test]
 fn beside_a_plain_table(rt: HostRuntime) -> Result<(), Fail> {
     for rows in [0, 1, 65, 130] {
-        let mut index = index_of(rt.alloc(), &COLUMNS, 3, 130).expect(&rt, "columns and a limit");
-        let mut plain = PlainTable::new(rt.alloc());
-        for row in 0..rows {
-            let feeder = ((row * 7 + row / 3) % 3) as u32;
-            let entries = row_at(rt.alloc(), row)?;
-            assert_eq!(rt; append_row(&mut index, feeder, &entries), Some(Ok(row)));
-            keep(&mut plain, feeder, entries)?;
-        }
-        same_answers(&rt, rt.alloc(), &index, &plain)?;
+        let both = mixed_rows(&rt, rt.alloc(), rows)?;
+        same_answers(&rt, rt.alloc(), &both)?;
     }
     Ok(())
 }
@@ -148,46 +173,26 @@ const OPERATORS: [Op; 6] = [Op::Eq, Op::Ne, Op::Lt, Op::Le, Op::Gt, Op::Ge];
 /// Constants above an offset: about each end of sixteen numbers, and far from both.
 const CONSTANTS: [i128; 8] = [-(1 << 64), -1, 0, 7, 8, 15, 16, 1 << 64];
 
-/// A column of sixteen numbers from an offset on, in an index and as it came.
-#[derive(Drop)]
-struct Both {
-    index: Index,
-    plain: PlainTable,
-}
-
 // A row of this entry is appended to both.
-fn append_to_both(
+fn append_entry(
     rt: &impl Abort,
     alloc: Global,
     both: &mut Both,
     entry: Option<i128>,
 ) -> Result<(), NoMemory> {
     let row = row_of(alloc, &[entry])?;
-    let position = both.plain.rows.len() as u64;
-    assert_eq!(rt; append_row(&mut both.index, 0, &row), Some(Ok(position)));
-    keep(&mut both.plain, 0, row)
+    append_to_both(rt, both, 0, row)
 }
 
-fn no_rows(rt: &impl Abort, alloc: Global, column: Declared) -> Both {
-    let index = index_of(alloc, &[column], 1, 10).expect(rt, "a column and a limit");
-    let plain = PlainTable::new(alloc);
-    Both { index, plain }
-}
-
+// A column of sixteen numbers from an offset on.
 fn six_rows(rt: &impl Abort, alloc: Global, column: Declared) -> Result<Both, NoMemory> {
-    let mut both = no_rows(rt, alloc, column);
+    let mut both = no_rows(rt, alloc, &[column], 1, 10);
     let offset = i128::from(column.offset);
-    append_to_both(rt, alloc, &mut both, None)?;
+    append_entry(rt, alloc, &mut both, None)?;
     for above in [0, 15, 7, 8, 7] {
-        append_to_both(rt, alloc, &mut both, Some(offset + above))?;
+        append_entry(rt, alloc, &mut both, Some(offset + above))?;
     }
     Ok(both)
-}
-
-fn same_answer(rt: &impl Abort, alloc: Global, both: &Both, query: Query) -> Result<(), NoMemory> {
-    let wanted = plain_answer(&both.plain, alloc, &query)?;
-    assert_eq!(rt; asked(&both.index, &query), Ok(wanted), "{query:?}");
-    Ok(())
 }
 
 // The rows that each comparison with a constant selects.
@@ -219,15 +224,28 @@ fn same_totals(rt: &impl Abort, alloc: Global, both: &Both) -> Result<(), NoMemo
     Ok(())
 }
 
+fn same_everywhere(
+    rt: &impl Abort,
+    alloc: Global,
+    both: &Both,
+    offset: i64,
+) -> Result<(), NoMemory> {
+    for above in CONSTANTS {
+        same_comparisons(rt, alloc, both, i128::from(offset) + above)?;
+    }
+    same_totals(rt, alloc, both)
+}
+
+fn same_from(rt: &impl Abort, alloc: Global, column: Declared) -> Result<(), NoMemory> {
+    let both = six_rows(rt, alloc, column)?;
+    same_everywhere(rt, alloc, &both, column.offset)
+}
+
 #[test]
 fn offsets_from_end_to_end(rt: HostRuntime) -> Result<(), Fail> {
     for offset in [i64::MIN, -8, -1, 0, 1, 1 << 62] {
         for column in COLUMNS {
-            let both = six_rows(&rt, rt.alloc(), Declared { offset, ..column })?;
-            same_totals(&rt, rt.alloc(), &both)?;
-            for above in CONSTANTS {
-                same_comparisons(&rt, rt.alloc(), &both, i128::from(offset) + above)?;
-            }
+            same_from(&rt, rt.alloc(), Declared { offset, ..column })?;
         }
     }
     Ok(())

@@ -42,19 +42,32 @@ fn three_rows(rt: &impl Abort, alloc: Global, form: Form) -> Result<Index, NoMem
     Ok(index)
 }
 
+fn lists(rt: &impl Abort, index: &Index, pred: Pred, wanted: &[(u32, u64)]) {
+    let found = answer(index, Total::Rows, pred);
+    assert!(rt; listed(found, wanted));
+}
+
+fn answers(
+    rt: &impl Abort,
+    index: &Index,
+    total: Total,
+    pred: Pred,
+    wanted: Result<Answer, AskError>,
+) {
+    assert_eq!(rt; answer(index, total, pred), wanted);
+}
+
 // What is asked of them, and answered.
 fn three_answers(rt: &impl Abort, alloc: Global, index: &Index) -> Result<(), NoMemory> {
-    let all = answer(index, Total::Rows, Pred::All);
-    assert!(rt; listed(all, &[(1, 0), (0, 0), (0, 1)]));
-    let large = answer(index, Total::Rows, Pred::Compare(0, Op::Ge, 3));
-    assert!(rt; listed(large, &[(0, 1)]));
-    let missing = answer(index, Total::Sum(3), Pred::Null(5));
-    assert_eq!(rt; missing, Err(AskError::BadColumn(3)));
+    lists(rt, index, Pred::All, &[(1, 0), (0, 0), (0, 1)]);
+    lists(rt, index, Pred::Compare(0, Op::Ge, 3), &[(0, 1)]);
+    let missing = Err(AskError::BadColumn(3));
+    answers(rt, index, Total::Sum(3), Pred::Null(5), missing);
     let left = both(alloc, Pred::Null(4), Pred::Null(2))?;
-    let missing = answer(index, Total::Count, left);
-    assert_eq!(rt; missing, Err(AskError::BadColumn(4)));
-    let none = answer(index, Total::Count, not(alloc, Pred::All)?);
-    assert_eq!(rt; none, Ok(Answer::Count(0)));
+    let missing = Err(AskError::BadColumn(4));
+    answers(rt, index, Total::Count, left, missing);
+    let none = not(alloc, Pred::All)?;
+    answers(rt, index, Total::Count, none, Ok(Answer::Count(0)));
     Ok(())
 }
 
@@ -257,9 +270,20 @@ fn makers_of_an_index(rt: HostRuntime) -> Result<(), Fail> {
         let refused = index_of(rt.alloc(), &[QTY], 1, limit).err();
         assert_eq!(rt; refused, Some(IndexError::LimitOutOfRange), "{limit}");
     }
+    Ok(())
+}
+
+#[test]
+fn an_index_of_one_row_is_full(rt: HostRuntime) -> Result<(), Fail> {
     let row = row_of(rt.alloc(), &[Some(5)])?;
     let mut index = index_of(rt.alloc(), &[QTY], 1, 1).expect(&rt, "a column and a limit");
     is_full_after_one(&rt, &mut index, &row);
+    Ok(())
+}
+
+#[test]
+fn copies_of_a_row(rt: HostRuntime) -> Result<(), Fail> {
+    let row = row_of(rt.alloc(), &[Some(5)])?;
     let copy = copied_row(&row)?;
     assert!(rt; copy.values() == &[Some(5)][..]);
     Ok(())
