@@ -102,14 +102,7 @@ fn narrow_once<R: Threads + Wait + AllocGlobal + Sync>(
     if rows.is_empty() {
         return Err(AllocError);
     }
-    let run = run_files(
-        rt,
-        text(QUANTITIES),
-        text("x\ny\n"),
-        rows,
-        &mut writer,
-        &Go,
-    );
+    let run = run_files(rt, text(QUANTITIES), text("x\ny\n"), rows, &mut writer, &Go);
     Ok((run, writer.taken))
 }
 
