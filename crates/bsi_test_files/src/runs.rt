@@ -156,7 +156,7 @@ fn the_loader_goes_on_beside_the_feeders(rt: HostRuntime) -> Result<(), Fail> {
 }
 
 #[test]
-fn a_feeder_that_the_gate_stops_is_no_fault(rt: HostRuntime) -> Result<(), Fail> {
+fn rows_that_find_a_place_ask_no_gate(rt: HostRuntime) -> Result<(), Fail> {
     let files = Files {
         schema: text(QUANTITIES),
         asks: text("count,all\ncount,qty,=,1\n"),
