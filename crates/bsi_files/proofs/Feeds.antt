@@ -1,12 +1,9 @@
 -- What a feeder has sent so far of a source.
-use Rattle.std.proofs.Common.{◌≡◌, ℕ, ◌+◌, Bool, true, false, List, [], ◌∷◌, ◌++◌, Option, Some, None, IfSome, length, refl, sym, ap, ◌∙◌, arith, length-append}
+use Rattle.std.proofs.Common.{◌≡◌, ℕ, ◌+◌, List, [], ◌∷◌, ◌++◌, Option, Some, length, refl, sym, ap, ◌∙◌, arith, length-append}
 use Rattle.std.proofs.lemmas.List.{append_assoc, append-nil}
-use mathlib.Core.List.{IsPrefix}
-use Rattle.bsi_rings.specs.Rings.{with_sent, Closes, LaneName, Sending, Sent}
+use Rattle.bsi_rings.specs.Rings.{with_sent, Sending}
 use Rattle.bsi_table.specs.Rows.{Entries}
 use Rattle.bsi_text.specs.Sources.{GivesFirst, Source, StillHas}
-use Rattle.bsi_text.specs.declared.rows.SourceFault.{SourceFault}
-use Rattle.bsi_files.specs.Feeding.{BeginsWith, HasFed, HasOnly}
 
 -- of all good rows and all other records that a source still had, it has the rest
 pub record HasRest {R : Type 0} (rem : R → Option (List ℕ)) (old new : Source R) (rows all : List Entries) (others : ℕ) : Type 0 where

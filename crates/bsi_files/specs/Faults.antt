@@ -2,8 +2,7 @@
 use Rattle.std.specs.Prelude.{Bool, true, false}
 use Rattle.bsi_files.specs.declared.faults.FilesFault.{FilesFault}
 use Rattle.bsi_files.specs.declared.faults.FilesFault.TheVariants.{TooManyFiles, Read, TooLong, Readers, NoMemory, Write}
-use Rattle.bsi_files.specs.declared.faults.Which.{Which}
-use Rattle.bsi_files.specs.declared.faults.Which.TheVariants.{SchemaFile, AsksFile}
+use Rattle.bsi_files.specs.declared.faults.Which.TheVariants.{AsksFile}
 
 -- a fault that may be met when the files were counted and nothing is written yet
 abbrev pub is_early : FilesFault → Bool

@@ -21,7 +21,14 @@ use std::sync::Wait;
 use std::thread;
 use std::thread::{Scope, Threads};
 
-/// Loads all rows of the files, each read by a feeder on a thread of its own, into one table, and answers the questions over it.
+/// Loads the good rows of at most 64 files into one table, and answers the questions over all of them.
+///
+/// The schema file declares the columns and the most rows. Each file is read by a feeder on a thread of its own, through a ring of
+/// 1,024 rows; the calling thread takes the rows out. Then a line goes to the writer for each file, in their order, and one for each
+/// record of the questions. No line depends on how the threads ran. A feeder that the gate stops is no fault, and what it sent counts.
+///
+/// The faults are looked for in the order of `FilesFault`, but for want of memory, which is answered where it is met; a thread
+/// that can't be started is one. It keeps two copies of the table, and beside them some thousand rows.
 pub fn run_files<
     R: Threads + Wait + AllocGlobal + Sync,
     S: Read + Drop,

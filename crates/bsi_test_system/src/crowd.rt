@@ -72,7 +72,8 @@ fn make_board<B: Naming>(
 struct OfFeeder(Snapshot<Feeder>);
 
 impl Promise<Option<Closing>> for OfFeeder {
-    ghost kept_by = { λ promise ended. IfSome ended (λ c. (c.number ≡ promise.0.value.number) × (c.lane ≡ promise.0.value.lane)) };
+    ghost kept_by = { λ promise ended.
+        IfSome ended (λ c. (c.number ≡ promise.0.value.number) × (c.lane ≡ promise.0.value.lane)) };
 }
 
 /// A feeder's thread.

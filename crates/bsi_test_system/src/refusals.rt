@@ -1,4 +1,4 @@
-//! What the ends of a running system refuse, and what they do with no memory. The tests run in one thread.
+//! What the ends of a running system refuse, and what they do with no memory, in one thread.
 
 ghost use Rattle.std.specs.Prelude.{◌≡◌, [], All, length};
 ghost use Rattle.bsi_table.specs.Table.{no_rows};

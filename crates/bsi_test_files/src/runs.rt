@@ -1,0 +1,179 @@
+//! Whole runs over row files. Each tolerates one refused growth, and then runs again.
+
+use crate::gates::{Meeting, Patience};
+use crate::inputs::{Input, long, text};
+use bsi_files::{FilesFault, Gate, Go, run_files};
+use bsi_text::SourceFault;
+use std::alloc::{AllocError, Global};
+use std::sync::Wait;
+use std::test::Fail;
+use std::thread::Threads;
+
+// What a run reads.
+#[derive(Clone, Copy)]
+pub(crate) struct Files<'a> {
+    pub(crate) schema: Input,
+    pub(crate) asks: Input,
+    pub(crate) rows: &'a [Input],
+}
+
+pub(crate) fn copy_of(alloc: Global, rows: &[Input]) -> Result<Vec<Input>, AllocError> {
+    let mut all = Vec::with_capacity(alloc, rows.len())?;
+    for input in rows {
+        all.push(*input)?;
+    }
+    Ok(all)
+}
+
+// How a run ends, and what it wrote.
+#[derive(Drop)]
+pub(crate) struct Ended {
+    pub(crate) run: Result<(), FilesFault>,
+    pub(crate) output: Vec<u8>,
+}
+
+fn end_once<R: Threads + Wait + AllocGlobal + Sync, G: Gate + Sync>(
+    rt: &R,
+    files: Files<'_>,
+    gate: &G,
+) -> Result<Ended, AllocError> {
+    let mut output = Vec::with_capacity(rt.alloc(), 4096)?;
+    let rows = copy_of(rt.alloc(), files.rows)?;
+    if rows.is_empty() {
+        return Err(AllocError);
+    }
+    let run = run_files(rt, files.schema, files.asks, rows, &mut output, gate);
+    Ok(Ended { run, output })
+}
+
+// Whether the part stands somewhere in the text.
+fn is_in(part: &[u8], text: &[u8]) -> bool {
+    (0..text.len()).any(|at| text[at..].starts_with(part))
+}
+
+// Whether a run wanted memory.
+fn wants_memory(ended: &Result<Ended, AllocError>) -> bool {
+    match ended {
+        Err(_) => true,
+        Ok(ended) => match ended.run {
+            Ok(()) => is_in(b"no memory", ended.output.as_slice()),
+            Err(FilesFault::Source(_, SourceFault::NoMemory)) => true,
+            Err(fault) => fault == FilesFault::NoMemory || fault == FilesFault::Readers,
+        },
+    }
+}
+
+// How a run ends; where memory was wanted, how it ends then.
+pub(crate) fn end_of<R: Threads + Wait + AllocGlobal + Sync>(
+    rt: &R,
+    files: Files<'_>,
+) -> Result<Ended, AllocError> {
+    let ended = end_once(rt, files, &Go);
+    if wants_memory(&ended) {
+        return end_once(rt, files, &Go);
+    }
+    ended
+}
+
+const QUANTITIES: &str = "column,qty,slices,3\n";
+
+#[test]
+fn two_feeders(rt: HostRuntime) -> Result<(), Fail> {
+    let files = Files {
+        schema: text(QUANTITIES),
+        asks: text("list,all\n"),
+        rows: &[text("qty\n1\n3\n"), text("qty\n2\n")],
+    };
+    let ended = end_of(&rt, files)?;
+    assert_eq!(&rt; ended.run, Ok(()));
+    assert_eq!(&rt;
+        ended.output.as_slice(),
+        b"fed 0 2 0\nfed 1 1 0\nrows 0:0 0:1 1:0\n".as_slice()
+    );
+    Ok(())
+}
+
+#[test]
+fn a_row_file(rt: HostRuntime) -> Result<(), Fail> {
+    let files = Files {
+        schema: text("column,a,slices,4\ncolumn,b,range,10\n"),
+        asks: text("sum,b,all\ncount,a,null\nmedian,b,all\nlist,a,=,15\nload,0\n"),
+        rows: &[text("b,a\n3,15\n9,\nx,1\n10,2\n\"4\",\"0\"\n\n7\n")],
+    };
+    let want = b"fed 0 3 3\nsum 16\ncount 1\nvalue 4\nrows 0:0\nbad\n";
+    let ended = end_of(&rt, files)?;
+    assert_eq!(&rt; ended.run, Ok(()));
+    assert_eq!(&rt; ended.output.as_slice(), want.as_slice());
+    Ok(())
+}
+
+#[test]
+fn two_files_are_fed_side_by_side(rt: HostRuntime) -> Result<(), Fail> {
+    let files = Files {
+        schema: text(QUANTITIES),
+        asks: text("count,all\n"),
+        rows: &[text("qty\n1\n2\n"), text("qty\n1\n2\n")],
+    };
+    let once = Meeting::new();
+    let twice = Meeting::new();
+    let first = end_once(&rt, files, &once);
+    let (ended, gate) = if wants_memory(&first) {
+        (end_once(&rt, files, &twice)?, &twice)
+    } else {
+        (first?, &once)
+    };
+    assert_eq!(&rt; ended.run, Ok(()));
+    assert_eq!(&rt;
+        ended.output.as_slice(),
+        b"fed 0 2 0\nfed 1 2 0\ncount 4\n".as_slice()
+    );
+    assert!(&rt; !gate.is_late());
+    Ok(())
+}
+
+#[test]
+fn the_loader_goes_on_beside_the_feeders(rt: HostRuntime) -> Result<(), Fail> {
+    let files = Files {
+        schema: text(QUANTITIES),
+        asks: text("count,all\n"),
+        rows: &[long("qty\n", "1\n", 3_000)],
+    };
+    let once = Patience::new(10_000_000);
+    let twice = Patience::new(10_000_000);
+    let first = end_once(&rt, files, &once);
+    let (ended, gate) = if wants_memory(&first) {
+        (end_once(&rt, files, &twice)?, &twice)
+    } else {
+        (first?, &once)
+    };
+    assert_eq!(&rt; ended.run, Ok(()));
+    assert_eq!(&rt;
+        ended.output.as_slice(),
+        b"fed 0 3000 0\ncount 3000\n".as_slice()
+    );
+    assert_eq!(&rt; gate.passes(), 3_001);
+    Ok(())
+}
+
+#[test]
+fn rows_that_find_a_place_ask_no_gate(rt: HostRuntime) -> Result<(), Fail> {
+    let files = Files {
+        schema: text(QUANTITIES),
+        asks: text("count,all\ncount,qty,=,1\n"),
+        rows: &[text("qty\n1\n1\n")],
+    };
+    let once = Patience::new(0);
+    let twice = Patience::new(0);
+    let first = end_once(&rt, files, &once);
+    let ended = if wants_memory(&first) {
+        end_once(&rt, files, &twice)?
+    } else {
+        first?
+    };
+    assert_eq!(&rt; ended.run, Ok(()));
+    assert_eq!(&rt;
+        ended.output.as_slice(),
+        b"fed 0 2 0\ncount 2\ncount 2\n".as_slice()
+    );
+    Ok(())
+}
