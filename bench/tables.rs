@@ -1,5 +1,5 @@
-//! The peer of tables.rattle in Rust: rows in plain lists, counted by one branch-free scan, and a machine that keeps its rows in a
-//! queue and a list.
+//! The peer of tables.rattle in Rust: rows in plain lists, counted by one branch-free scan, listed by one scan that counts the rows of
+//! each feeder, and a machine that keeps its rows in a queue and a list.
 //!
 //! Built by `rustc -C opt-level=3 -C target-cpu=x86-64-v2`.
 
@@ -16,6 +16,16 @@ const KINDS: u64 = 1024;
 /// The constants of the two comparisons.
 const ABOVE: u32 = 349_526;
 const BELOW: u32 = 699_051;
+
+/// How many feeders the rows of a list come from.
+const FEEDERS: u64 = 8;
+
+/// One row of so many is rare: each of its numbers is the greatest.
+const RARE: u64 = 100_000;
+
+/// The greatest number of twenty binary digits, and one that a hundredth of them are below.
+const GREATEST: u32 = 1_048_575;
+const HUNDREDTH: u32 = 10_486;
 
 /// The value of a column of a row, of twenty binary digits.
 fn value_of(row: u64, column: u64) -> u64 {
@@ -55,6 +65,63 @@ impl Table {
         let below: u32 = self.columns[1].iter().map(|b| u32::from(*b < BELOW)).sum();
         u64::from(above) + u64::from(below)
     }
+}
+
+/// A table and the feeder of each row.
+#[derive(Default)]
+struct Fed {
+    table: Table,
+    feeders: Vec<u8>,
+}
+
+impl Fed {
+    fn found(&self) -> u64 {
+        u64::from(self.table.columns[0].iter().map(|a| u32::from(*a == GREATEST)).sum::<u32>())
+    }
+
+    fn listed(&self, test: impl Fn(u32) -> bool) -> Vec<(u32, u64)> {
+        let mut counts = [0u64; 64];
+        let mut rows = Vec::new();
+        for (a, feeder) in self.table.columns[0].iter().zip(&self.feeders) {
+            let count = &mut counts[usize::from(feeder & 63)];
+            if test(*a) {
+                rows.push((u32::from(*feeder), *count));
+            }
+            *count += 1;
+        }
+        rows
+    }
+}
+
+fn total_of(rows: &[(u32, u64)]) -> u64 {
+    rows.iter().map(|(feeder, number)| u64::from(*feeder) + number).sum()
+}
+
+fn measure_list(fed: &Fed, name: &str, test: impl Fn(u32) -> bool, samples: u32) {
+    let (mut best, mut found, mut total) = (u128::MAX, 0, 0);
+    for _ in 0..samples {
+        let start = Instant::now();
+        let rows = black_box(black_box(fed).listed(&test));
+        best = best.min(start.elapsed().as_nanos());
+        (found, total) = (rows.len(), total_of(&rows));
+    }
+    println!("{name} {} 1 {best} {found} {total}", fed.feeders.len());
+}
+
+fn measure_lists(rows: u64, samples: u32) {
+    let kinds: Vec<Row> = (0..KINDS).map(row_of).collect();
+    let rare: Row = vec![Some(i128::from(GREATEST)); 4];
+    let mut fed = Fed::default();
+    for row in 0..rows {
+        let next = if row % RARE == RARE / 2 { &rare } else { &kinds[(row % KINDS) as usize] };
+        fed.table.append(next);
+        fed.feeders.push(((row.wrapping_mul(SPREAD) >> 40) % FEEDERS) as u8);
+    }
+    let (best, found) = best_of(samples, || black_box(&fed).found());
+    println!("list.found {rows} 1 {best} {found}");
+    measure_list(&fed, "list.few", |a| a == GREATEST, samples);
+    measure_list(&fed, "list.hundredth", |a| a < HUNDREDTH, samples);
+    measure_list(&fed, "list.all", |_| true, samples / 4);
 }
 
 fn best_of(samples: u32, ask: impl Fn() -> u64) -> (u128, u64) {
@@ -112,5 +179,6 @@ fn measure_machine(rows: u64) {
 
 fn main() {
     measure_index(1_000_000, 200);
+    measure_lists(1_000_000, 200);
     measure_machine(250_000);
 }

@@ -1,4 +1,4 @@
-"""What the tools share: where things lie, a run with bytes, the kit's command, and the count of checks."""
+"""What the tools share: where things lie, a run with bytes, the kit's command, progress, and the count of checks."""
 
 import contextlib
 import hashlib
@@ -7,6 +7,7 @@ import shutil
 import subprocess
 import sys
 import threading
+import time
 from collections import namedtuple
 
 TOP = os.path.dirname(os.path.dirname(os.path.abspath(__file__)))
@@ -134,6 +135,59 @@ def is_built():
         return False
     with open(STAMP, encoding="utf-8") as file:
         return file.read() == f"{sum_of_sources()} {sum_of_program()}\n"
+
+
+class Progress:
+    """Tells how far long work is: at a terminal on one line that renews itself each second, elsewhere by a line a step."""
+
+    def __init__(self, stream):
+        self.stream = stream
+        self.begun = time.monotonic()
+        self.step = ""
+        self.width = 0
+        self.ended = threading.Event()
+        self.lock = threading.Lock()
+        if stream.isatty():
+            threading.Thread(target=self._renew, daemon=True).start()
+
+    def _renew(self):
+        while not self.ended.wait(1):
+            with self.lock:
+                self._draw(self._line())
+
+    def _line(self):
+        return f"{self.step}, {(time.monotonic() - self.begun) / 60:.1f} min" if self.step else ""
+
+    def _draw(self, text):
+        text = text[: max(1, shutil.get_terminal_size().columns - 1)]
+        self.stream.write("\r" + text.ljust(self.width) + ("" if text else "\r"))
+        self.stream.flush()
+        self.width = len(text)
+
+    def tell(self, step):
+        """Tells of a step that has begun, once."""
+        with self.lock:
+            if step == self.step:
+                return
+            self.step = step
+            if self.stream.isatty():
+                self._draw(self._line())
+            else:
+                print(self._line(), file=self.stream, flush=True)
+
+    @contextlib.contextmanager
+    def aside(self):
+        """Takes the line away while something else is written to the terminal."""
+        with self.lock:
+            if self.stream.isatty() and self.width:
+                self._draw("")
+            yield
+
+    def end(self):
+        """Takes the line away for good."""
+        self.ended.set()
+        with self.aside():
+            self.step = ""
 
 
 class Tally:

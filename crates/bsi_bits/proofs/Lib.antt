@@ -8,3 +8,4 @@ pub mod Pairs
 pub mod Places
 pub mod Pushing
 pub mod Summing
+pub mod Splicing

@@ -1,15 +1,14 @@
 -- The list of bits that words hold, place by place.
-use Rattle.std.proofs.Common.{◌≡◌, ℕ, ◌+◌, ◌-◌, ◌*◌, ◌/◌, ◌%◌, ◌^◌, ◌<◌, ◌≤◌, Bool, true, false, IsTrue, Some, List, [], ◌∷◌, ◌++◌, length, get_or, inl, inr, ap, sym, ◌∙◌, arith}
+use Rattle.std.proofs.Common.{◌≡◌, ℕ, ◌+◌, ◌-◌, ◌*◌, ◌/◌, ◌%◌, ◌^◌, ◌<◌, ◌≤◌, Bool, true, false, Some, List, [], ◌∷◌, ◌++◌, length, get_or, inl, inr, ap, sym, ◌∙◌, arith}
 use Rattle.std.proofs.lemmas.List.{get_or_past, length-replicate, get_or-replicate}
 use Rattle.std.proofs.lemmas.List.FromFn.{length-map-range_with_len, get_or-map-range_with_len, map-range_with_len_more, fill_by_all}
 use Rattle.std.proofs.lemmas.Bool.{cases_lt}
-use Rattle.std.proofs.lemmas.Bool.Decides.{nat_tests}
 use Rattle.std.proofs.lemmas.Grind.{get_or_default_zero}
 use Rattle.std.proofs.lemmas.Option.{slice_get-get_or}
 use Rattle.std.proofs.lemmas.Nat.Bits.{shr_and_one, bit_at_ones, bit_at-zero}
 use Rattle.std.specs.Int.{bit_at}
 use Rattle.std.specs.Prelude.{◌==◌, bit_and, slice_get, replicate}
-use Rattle.bsi_bits.specs.Packed.{bit_of, bits_of, IsPacked, has_room}
+use Rattle.bsi_bits.specs.Packed.{bit_of, bits_of, IsPacked}
 
 -- n words' bits are n
 pub length-bits_of : (n : ℕ) (words : List ℕ) → length (bits_of n words) ≡ n
@@ -71,7 +70,3 @@ bits_of-empty n words none = sym (bits_are n words [] (sym none) (λ i below. ab
 
 pub empty_bits_of : (n : ℕ) (words : List ℕ) → bits_of n words ≡ [] → n ≡ 0
 empty_bits_of n words none = sym (length-bits_of n words) ∙ ap length none
-
--- below the longest length, a vector with a word to spare has room
-pub room_behind : (n len capacity : ℕ) → n < 2 ^ 32 → len < capacity → IsTrue (has_room n len capacity)
-room_behind n len capacity below spare = grind (arith, nat_tests)

@@ -2,10 +2,10 @@
 use Rattle.std.specs.Prelude.{ℕ, Bool, false, List, length, filter, slice_index_or, not, ◌&&◌, if◌then◌else◌}
 use Rattle.std.specs.List.{range_with_len}
 
--- the bits from place 0 up, and whether one more can be appended with no memory
+-- the bits from place 0 up, and how many more can be appended with no memory
 pub record BitList : Type 0 where
   pub bits : List Bool
-  pub room : Bool
+  pub room : ℕ
 
 -- one of two bits is set, and the other is not
 abbrev pub differ : Bool → Bool → Bool

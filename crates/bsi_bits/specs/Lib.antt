@@ -1,2 +1,3 @@
 pub mod BitList
+pub mod BitLists
 pub mod Packed

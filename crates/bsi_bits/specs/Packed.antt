@@ -1,5 +1,5 @@
 -- A list of bits kept in words of 64.
-use Rattle.std.specs.Prelude.{◌≡◌, ℕ, ◌+◌, ◌-◌, ◌*◌, ◌/◌, ◌%◌, ◌^◌, ◌≤◌, ◌==◌, ◌&&◌, ◌||◌, Bool, false, List, length, map, filter, nat_lt, slice_index}
+use Rattle.std.specs.Prelude.{◌≡◌, ℕ, ◌+◌, ◌-◌, ◌*◌, ◌/◌, ◌%◌, ◌^◌, ◌≤◌, ◌==◌, Bool, false, List, length, map, filter, min, slice_index}
 use Rattle.std.specs.Int.{bit_at}
 use Rattle.std.specs.List.{range_with_len}
 
@@ -17,9 +17,9 @@ pub record IsPacked (n : ℕ) (words : List ℕ) : Type 0 where
   pub few : length words ≡ (n + 63) / 64
   pub clear : (i : ℕ) → n ≤ i → bit_of words i ≡ false
 
--- one more bit fits behind n bits in this many words, of which a vector of this capacity keeps `words`
-abbrev pub has_room : ℕ → ℕ → ℕ → Bool
-has_room n words capacity = nat_lt n 0x1_0000_0000 && (nat_lt n (64 * words) || nat_lt words capacity)
+-- so many more bits than n can be had in words of this capacity, of which none but the first 2^26 are filled
+abbrev pub room_behind : ℕ → ℕ → ℕ
+room_behind n capacity = 64 * min 0x400_0000 capacity - n
 
 -- the places from `at` up to the n-th that are set in the words, rising
 unfoldable pub places_from : ℕ → ℕ → List ℕ → List ℕ

@@ -1,20 +1,20 @@
 //! The packed vector of bits.
 
-ghost use Rattle.std.specs.Prelude.{◌≡◌, ◌↔◌, ℕ, ◌+◌, ◌*◌, ◌/◌, ◌%◌, ◌^◌, ◌≤◌, ◌<◌, ◌&&◌, ◌||◌, not, Some, [], ◌∷◌, ◌++◌, length, map, count_by, slice_get, slice_index_or, false, replicate, IsTrue, IsOk, IfOk, OnOk, OnErr};
+ghost use Rattle.std.specs.Prelude.{◌≡◌, ◌↔◌, ℕ, ◌+◌, ◌*◌, ◌/◌, ◌%◌, ◌^◌, ◌≤◌, ◌<◌, ◌&&◌, ◌||◌, not, Some, [], ◌∷◌, ◌++◌, length, map, count_by, nat_lt, slice_get, slice_index_or, false, replicate, IsTrue, IsOk, IfOk, OnOk, OnErr};
 ghost use Rattle.std.specs.Simd.Lanes.{zip2};
 ghost use Rattle.bsi_bits.specs.BitList.{set_places};
 ghost use Rattle.bsi_bits.specs.Packed.{bit_of, bits_of, IsPacked};
 
 use crate::NoMemory;
 use crate::ones::Ones;
-use crate::packing::{push_bit, trim};
+use crate::packing::{push_bit, push_word, trim};
 use std::alloc::Global;
 use std::marker::Model;
 
 mod logic;
 
-/// The most bits that a vector holds.
-const MAX_LEN: u64 = 1 << 32;
+/// The most words that a vector fills: those of 2^32 bits.
+const MAX_WORDS: u64 = 1 << 26;
 
 /// A vector of at most 2^32 bits, 64 to a word.
 #[derive(Drop)]
@@ -23,15 +23,15 @@ pub struct Bits {
     len: u64,
 }
 
-// Clauses see the list of bits and whether there is room for one more.
+// Clauses see the list of bits and for how many more there is room.
 impl Model for Bits {
-    ghost use Rattle.std.specs.Prelude.{vec_len, vec_capacity};
+    ghost use Rattle.std.specs.Prelude.{vec_capacity};
     ghost use Rattle.bsi_bits.specs.BitList.{BitList};
-    ghost use Rattle.bsi_bits.specs.Packed.{bits_of, has_room, IsPacked};
+    ghost use Rattle.bsi_bits.specs.Packed.{bits_of, room_behind, IsPacked};
 
     ghost Value = { BitList };
 
-    ghost view = { λ b. record { bits = bits_of b.len b.words.items; room = has_room b.len (vec_len b.words) (vec_capacity b.words) } };
+    ghost view = { λ b. record { bits = bits_of b.len b.words.items; room = room_behind b.len (vec_capacity b.words) } };
 
     ghost invariant = { λ b. IsPacked b.len b.words.items };
 }
@@ -90,7 +90,7 @@ impl Bits {
     pub fn len(&self) -> u64
         ensures len { result ≡ length self.now.bits }
         ensures within { result ≤ 2 ^ 32 }
-        ensures full { IsTrue self.now.room → length self.now.bits < 2 ^ 32 }
+        ensures full { length self.now.bits + self.now.room ≤ 2 ^ 32 }
     {
         self.len
     }
@@ -126,34 +126,69 @@ impl Bits {
         Ones::new(&self.words, self.len)
     }
 
-    /// Whether one more bit can be appended with no memory. At 2^32 bits there is no room.
-    pub fn has_room(&self) -> bool
-        ensures { result ≡ self.now.room }
+    /// How many more bits can be appended with no memory. There are never more than 2^32 in all.
+    pub fn room(&self) -> u64
+        ensures room { result ≡ self.now.room }
+        ensures within { length self.now.bits + result ≤ 2 ^ 32 }
     {
-        self.len < MAX_LEN
-            && (self.len < 64 * self.words.len() as u64 || self.words.len() < self.words.capacity())
+        64 * MAX_WORDS.min(self.words.capacity() as u64) - self.len
     }
 
-    /// Makes room for one more bit. The bits stay, whatever the result. It takes memory only where there is no room.
+    /// Whether one more bit can be appended with no memory. At 2^32 bits there is no room.
+    pub fn has_room(&self) -> bool
+        ensures { result ≡ nat_lt 0 self.now.room }
+    {
+        self.room() > 0
+    }
+
+    /// Makes room for one more bit, as `reserve` does for many.
     pub fn reserve_one(&mut self) -> Result<(), NoMemory>
         requires { length self.old.bits < 2 ^ 32 }
         ensures bits { self.new.bits ≡ self.old.bits }
-        ensures ok { OnOk result (IsTrue self.new.room) }
+        ensures ok { OnOk result (0 < self.new.room) }
+        ensures kept { self.old.room ≤ self.new.room }
         ensures err { OnErr result (self.new ≡ self.old) }
-        ensures succeeds { IsTrue self.old.room → IsOk result }
+        ensures succeeds { 0 < self.old.room → IsOk result }
     {
-        if self.has_room() {
-            return Ok(());
-        }
-        self.words.reserve(1)
+        self.reserve(1)
     }
 
-    /// Appends a bit, in room that is there. A caller asks `has_room`, or calls `reserve_one` before.
+    /// Makes room for so many more bits. The bits stay, and there is no less room than before, whatever the result. It takes
+    /// memory only where there is not room for so many; then the capacity at least doubles, as that of a `Vec`.
+    pub fn reserve(&mut self, more: u64) -> Result<(), NoMemory>
+        requires { length self.old.bits + more ≤ 2 ^ 32 }
+        ensures bits { self.new.bits ≡ self.old.bits }
+        ensures ok { OnOk result (more ≤ self.new.room) }
+        ensures kept { self.old.room ≤ self.new.room }
+        ensures err { OnErr result (self.new ≡ self.old) }
+        ensures succeeds { more ≤ self.old.room → IsOk result }
+    {
+        if more <= self.room() {
+            return Ok(());
+        }
+        let words = (self.len + more).div_ceil(64) as usize;
+        self.words.reserve(words - self.words.len())
+    }
+
+    /// Appends a bit, in room that is there.
     pub fn push_reserved(&mut self, bit: bool)
-        requires { IsTrue self.old.room }
-        ensures { self.new.bits ≡ self.old.bits ++ bit ∷ [] }
+        requires { 0 < self.old.room }
+        ensures bits { self.new.bits ≡ self.old.bits ++ bit ∷ [] }
+        ensures room { self.new.room + 1 ≡ self.old.room }
     {
         push_bit(&mut self.words, self.len, bit);
         self.len += 1;
+    }
+
+    /// Appends the first `count` binary places of a word, the least one first, in room that is there. The others are 0.
+    pub fn push_word_reserved(&mut self, word: u64, count: u64)
+        requires room { count ≤ self.old.room }
+        requires few { count ≤ 64 }
+        requires clear { word < 2 ^ count }
+        ensures bits { self.new.bits ≡ self.old.bits ++ bits_of count (word ∷ []) }
+        ensures room { self.new.room + count ≡ self.old.room }
+    {
+        push_word(&mut self.words, self.len, word, count);
+        self.len += count;
     }
 }

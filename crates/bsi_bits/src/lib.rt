@@ -1,11 +1,13 @@
 //! Packed vectors of bits: appending, Boolean operations in place, population counts, and the kernels over words below them.
 #![tactic(auto)]
 
+mod bitmaps;
 mod bits;
 pub mod lanes;
 mod ones;
 mod packing;
 
+pub use bitmaps::{Bitmaps, room_to_make};
 pub use bits::Bits;
 pub use ones::Ones;
 pub use packing::know_fits;

@@ -26,6 +26,7 @@ pub fn push_bit(words: &mut Vec<u64>, n: u64, bit: bool)
     requires room { n % 64 ≡ 0 → vec_len words.old < vec_capacity words.old }
     ensures packed { IsPacked (n + 1) words.new.items }
     ensures bits { bits_of (n + 1) words.new.items ≡ bits_of n words.old.items ++ bit ∷ [] }
+    ensures capacity { vec_capacity words.new ≡ vec_capacity words.old }
 {
     let place = n % 64;
     if place == 0 {
@@ -33,6 +34,32 @@ pub fn push_bit(words: &mut Vec<u64>, n: u64, bit: bool)
     } else {
         let last = (n / 64) as usize;
         words[last] |= (bit as u64) << place;
+    }
+}
+
+/// Appends the first `count` binary places of a word to `n` packed bits, the least one first. They end in the last word, or
+/// in one behind it.
+pub fn push_word(words: &mut Vec<u64>, n: u64, word: u64, count: u64)
+    requires within { n + count ≤ 2 ^ 32 }
+    requires few { count ≤ 64 }
+    requires clear { word < 2 ^ count }
+    requires packed { IsPacked n words.old.items }
+    requires room { n + count ≤ 64 * vec_capacity words.old }
+    ensures packed { IsPacked (n + count) words.new.items }
+    ensures bits { bits_of (n + count) words.new.items ≡ bits_of n words.old.items ++ bits_of count (word ∷ []) }
+    ensures capacity { vec_capacity words.new ≡ vec_capacity words.old }
+{
+    let place = n % 64;
+    if place == 0 {
+        if count > 0 {
+            words.push_reserved(word);
+        }
+        return;
+    }
+    let last = (n / 64) as usize;
+    words[last] |= word << place;
+    if place + count > 64 {
+        words.push_reserved(word >> (64 - place));
     }
 }
 

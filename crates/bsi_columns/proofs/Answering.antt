@@ -112,7 +112,7 @@ pub same_answers : (test other : ℕ → Bool) (wanted too : Bool) (n : ℕ) →
 same_answers test other wanted too n same es all =
     map_alike (answers test wanted) (answers other too) (λ e. number_or_zero e < n) (same_answer test other wanted too n same) es all
 
-and_false : (b : Bool) → (b && false) ≡ false
+pub and_false : (b : Bool) → (b && false) ≡ false
 and_false b = grind (arith, nat_tests)
 
 and_true : (b : Bool) → (b && true) ≡ b

@@ -31,13 +31,13 @@ module _ (from n : ℕ) (words part : List ℕ) (within : from + n ≤ length wo
   word_behind : (i : ℕ) → from + n ≤ i → get_or (put_mid from n words part) i 0 ≡ get_or words i 0
   word_behind i past = search (rules, places)
 
-  bit_before : (p : ℕ) → p < 64 * from → bit_of (put_mid from n words part) p ≡ bit_of words p
+  pub bit_before : (p : ℕ) → p < 64 * from → bit_of (put_mid from n words part) p ≡ bit_of words p
   bit_before p below = ap (λ w. bit_at w (p % 64) == 1) (word_before (p / 64) (omega arith))
 
-  bit_behind : (p : ℕ) → 64 * (from + n) ≤ p → bit_of (put_mid from n words part) p ≡ bit_of words p
+  pub bit_behind : (p : ℕ) → 64 * (from + n) ≤ p → bit_of (put_mid from n words part) p ≡ bit_of words p
   bit_behind p past = ap (λ w. bit_at w (p % 64) == 1) (word_behind (p / 64) (omega arith))
 
-  bit_inside : (p : ℕ) → p < 64 * n → bit_of (put_mid from n words part) (64 * from + p) ≡ bit_of part p
+  pub bit_inside : (p : ℕ) → p < 64 * n → bit_of (put_mid from n words part) (64 * from + p) ≡ bit_of part p
   bit_inside p below =
       let word : (64 * from + p) / 64 ≡ from + p / 64 = omega arith in
       let place : (64 * from + p) % 64 ≡ p % 64 = omega arith in

@@ -1,13 +1,13 @@
 -- The entries that a not-null bitmap and digits stand for, once the digits are known to be those of entries.
-use Rattle.std.proofs.Common.{◌≡◌, ℕ, ◌<◌, Bool, false, List, [], ◌∷◌, ◌++◌, length, get_or, map, replicate, refl, sym, ap, ap₂, ◌∙◌, subst, arith}
-use Rattle.std.specs.Prelude.{Option, Some, None, is_some, cond}
-use Rattle.std.proofs.lemmas.List.{length-map, get_or-map, map-append, length-replicate, get_or-replicate}
-use Rattle.std.proofs.lemmas.List.Elements.{All-nil, All-push}
+use Rattle.std.proofs.Common.{◌≡◌, ℕ, ◌+◌, ◌-◌, ◌<◌, ◌≤◌, Bool, false, List, [], ◌∷◌, ◌++◌, length, get_or, take, map, replicate, refl, sym, ap, ap₂, ◌∙◌, subst, arith}
+use Rattle.std.specs.Prelude.{All, Option, Some, None, is_some, cond}
+use Rattle.std.proofs.lemmas.List.{length-map, length-take-le, get_or-take, same_lists, get_or-map, map-append, length-replicate, get_or-replicate}
+use Rattle.std.proofs.lemmas.List.Elements.{All-nil, All-append}
 use Rattle.std.proofs.lemmas.List.FromFn.{fill_by_all}
 use Rattle.bsi_digits.specs.Digits.{size_of, digit_of, digits_of, components, weighted_sum}
 use Rattle.bsi_digits.proofs.CallerLemmas.{weighted_sum-digits_of}
 use Rattle.bsi_columns.specs.Rows.{number_or_zero}
-use Rattle.bsi_columns.specs.Decomposed.{digits_at, entry_at, entries_of, Decomposes}
+use Rattle.bsi_columns.specs.Decomposed.{digits_at, entry_at, entries_of, Decomposes, IsRoomy}
 
 -- an entry, from whether it is a number and from the number
 entry_of_number : (e : Option ℕ) → cond (is_some e) (Some (number_or_zero e)) None ≡ e
@@ -54,19 +54,19 @@ no_entries bs present ds none empty = record {
   below = All-nil (λ (e : Option ℕ). number_or_zero e < size_of bs);
 }
 
-module _ (bs : List ℕ) (present : List Bool) (ds more : List (List ℕ)) (entries : List (Option ℕ)) (e : Option ℕ) where
-  -- an entry more, once each component has its digit of the number
-  pub pushed_entry : Decomposes bs present ds entries → length more ≡ length bs
-      → ((i : ℕ) → i < length bs → get_or more i [] ≡ get_or ds i [] ++ digit_of bs (number_or_zero e) i ∷ [])
-      → number_or_zero e < size_of bs → Decomposes bs (present ++ is_some e ∷ []) more (entries ++ e ∷ [])
-  pushed_entry kept long each small = record {
-    count = long;
-    present_is = ap (λ ps. ps ++ is_some e ∷ []) kept.present_is ∙ sym (map-append is_some entries (e ∷ []));
-    digits_are = λ i below.
-        each i below ∙ ap (λ xs. xs ++ digit_of bs (number_or_zero e) i ∷ []) (kept.digits_are i below)
-        ∙ sym (map-append (λ (x : Option ℕ). digit_of bs (number_or_zero x) i) entries (e ∷ []));
-    below = All-push (λ (x : Option ℕ). number_or_zero x < size_of bs) entries e kept.below small;
-  }
+-- more entries, once each component has its digits of their numbers
+pub more_entries : (bs : List ℕ) (present : List Bool) (ds : List (List ℕ)) (entries block : List (Option ℕ)) (bits : List Bool) (more : List (List ℕ)) → Decomposes bs present ds entries
+    → bits ≡ present ++ map is_some block → length more ≡ length bs
+    → ((i : ℕ) → i < length bs → get_or more i [] ≡ get_or ds i [] ++ map (λ e. digit_of bs (number_or_zero e) i) block)
+    → All (λ e. number_or_zero e < size_of bs) block → Decomposes bs bits more (entries ++ block)
+more_entries bs present ds entries block bits more kept bits_are long each small = record {
+  count = long;
+  present_is = bits_are ∙ ap (λ ps. ps ++ map is_some block) kept.present_is ∙ sym (map-append is_some entries block);
+  digits_are = λ i below.
+      each i below ∙ ap (λ xs. xs ++ map (λ e. digit_of bs (number_or_zero e) i) block) (kept.digits_are i below)
+      ∙ sym (map-append (λ (x : Option ℕ). digit_of bs (number_or_zero x) i) entries block);
+  below = All-append (λ (x : Option ℕ). number_or_zero x < size_of bs) entries block kept.below small;
+}
 
 -- each component has as many digits as there are entries
 pub component_rows : {E : Type 0} (digits : E → List ℕ) (cs : List E) (bs : List ℕ) (present : List Bool) (entries : List (Option ℕ)) →
@@ -75,13 +75,23 @@ component_rows digits cs bs present entries kept k d within =
     ap length (sym (get_or-map digits cs k d [] within) ∙ kept.digits_are k (omega (arith, kept.count, length-map cs digits)))
     ∙ length-map entries (λ (e : Option ℕ). digit_of bs (number_or_zero e) k)
 
--- the same of what a column has after an entry was appended
-pub appended_entry : (bs : List ℕ) (present : List Bool) (ds : List (List ℕ)) (entries : List (Option ℕ)) (e : Option ℕ)
-    (bit : Bool) (n : ℕ) (bits : List Bool) (more : List (List ℕ)) → Decomposes bs present ds entries
-    → bit ≡ is_some e → n ≡ number_or_zero e → bits ≡ present ++ bit ∷ [] → length more ≡ length bs
-    → ((i : ℕ) → i < length bs → get_or more i [] ≡ get_or ds i [] ++ digit_of bs n i ∷ [])
-    → number_or_zero e < size_of bs → Decomposes bs bits more (entries ++ e ∷ [])
-appended_entry bs present ds entries e bit n bits more kept bit_is n_is bits_is long each small =
-    let appended : bits ≡ present ++ is_some e ∷ [] = bits_is ∙ ap (λ b. present ++ b ∷ []) bit_is in
-    subst (λ ps. Decomposes bs ps more (entries ++ e ∷ [])) (sym appended)
-    (pushed_entry bs present ds more entries e kept long (λ i below. each i below ∙ ap (λ m. get_or ds i [] ++ digit_of bs m i ∷ []) n_is) small)
+-- the digits of a block's numbers are those of its entries
+pub block_digits : (digit : ℕ → ℕ) (block : List (Option ℕ)) (numbers : List ℕ) → ((r : ℕ) → get_or numbers r 0 ≡ number_or_zero (get_or block r None)) → length block ≤ length numbers
+    → map digit (take (length block) numbers) ≡ map (λ e. digit (number_or_zero e)) block
+block_digits digit block numbers read enough =
+    let count = length block in
+    let long : length (take count numbers) ≡ count = length-take-le count numbers enough in
+    same_lists _ _ (length-map (take count numbers) digit ∙ long ∙ sym (length-map block (λ e. digit (number_or_zero e)))) (λ r d within.
+    let below : r < count = omega (arith, length-map (take count numbers) digit, long, within) in
+    get_or-map digit (take count numbers) r 0 d (omega (arith, below, long))
+    ∙ ap digit (get_or-take count numbers r 0 below ∙ read r)
+    ∙ sym (get_or-map (λ e. digit (number_or_zero e)) block r None d below))
+
+-- room that is used
+pub roomy_less : (rows room present used rows' present' : ℕ) (rooms rooms' : List ℕ) → IsRoomy rows room present rooms → used ≤ room → rows' ≡ rows + used → present' + used ≡ present
+    → length rooms' ≡ length rooms → ((k : ℕ) → get_or rooms k 0 ≤ get_or rooms' k 0 + used) → IsRoomy rows' (room - used) present' rooms'
+roomy_less rows room present used rows' present' rooms rooms' roomy enough more marks long spent = record {
+  within = omega (arith, roomy.within);
+  marks = omega (arith, roomy.marks);
+  each = λ k within. omega (arith, roomy.each k (omega (arith, long, within)), spent k);
+}

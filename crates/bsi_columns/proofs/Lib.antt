@@ -2,10 +2,14 @@ pub mod Answering
 pub mod BlockAnswers
 pub mod BlockParts
 pub mod ComponentLists
+pub mod Deciding
 pub mod DigitSums
+pub mod EndDigits
 pub mod EntriesFrom
 pub mod Rungs
 pub use Rattle.bsi_slices.proofs.Adding
 pub use Rattle.bsi_slices.proofs.CallerLemmas
+pub use Rattle.bsi_slices.proofs.EndBlocks
+pub use Rattle.bsi_slices.proofs.EndRows
 pub use Rattle.bsi_slices.proofs.Ranking
 pub use Rattle.bsi_slices.proofs.WordBlocks

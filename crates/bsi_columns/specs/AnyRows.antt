@@ -1,5 +1,5 @@
 -- What a contract sees of a column of any form.
-use Rattle.std.specs.Prelude.{ℕ, ◌≡◌, ◌^◌, Bool, List, Option, replicate}
+use Rattle.std.specs.Prelude.{ℕ, ◌≡◌, ◌^◌, List, Option, replicate}
 use Rattle.bsi_digits.specs.Digits.{size_of}
 use Rattle.bsi_columns.specs.declared.any.AnyColumn.{AnyColumn}
 use Rattle.bsi_columns.specs.declared.any.AnyColumn.TheVariants.{Slices, Equality, Range}
@@ -21,8 +21,8 @@ any_entries (Slices c) = c.entries
 any_entries (Equality c) = c.entries
 any_entries (Range c) = c.entries
 
--- whether one more entry can be appended with no memory
-abbrev pub any_room : AnyColumn → Bool
+-- how many more entries can be appended with no memory
+abbrev pub any_room : AnyColumn → ℕ
 any_room (Slices c) = c.room
 any_room (Equality c) = c.room
 any_room (Range c) = c.room

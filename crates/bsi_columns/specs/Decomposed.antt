@@ -1,15 +1,15 @@
 -- A column of numbers that keeps the digits of each number under its bases.
-use Rattle.std.specs.Prelude.{◌≡◌, ℕ, ◌<◌, Bool, false, List, [], Option, Some, None, length, map, is_some, slice_index, slice_index_or, All, if◌then◌else◌}
+use Rattle.std.specs.Prelude.{◌≡◌, ℕ, ◌+◌, ◌^◌, ◌<◌, ◌≤◌, Bool, false, List, [], Option, Some, None, length, map, is_some, slice_index, slice_index_or, All, if◌then◌else◌}
 use Rattle.std.specs.List.{range_with_len}
 use Rattle.bsi_digits.specs.Digits.{size_of, digit_of, components, weighted_sum}
 use Rattle.bsi_columns.specs.Rows.{number_or_zero}
 
--- what a contract sees of a decomposed column: its bases, least significant first, its entries, and whether one more can
+-- what a contract sees of a decomposed column: its bases, least significant first, its entries, and how many more can
 -- be appended with no memory
 pub record Decomposition : Type 0 where
   pub bases : List ℕ
   pub entries : List (Option ℕ)
-  pub room : Bool
+  pub room : ℕ
 
 -- the digits of row r, of which each component has one
 abbrev pub digits_at : List (List ℕ) → ℕ → List ℕ
@@ -31,3 +31,9 @@ pub record Decomposes (bs : List ℕ) (present : List Bool) (ds : List (List ℕ
   pub present_is : present ≡ map is_some entries
   pub digits_are : (i : ℕ) → i < length bs → slice_index_or ds i [] ≡ map (λ e. digit_of bs (number_or_zero e) i) entries
   pub below : All (λ e. number_or_zero e < size_of bs) entries
+
+-- behind so many rows the not-null bitmap and each component have room for so many more
+pub record IsRoomy (rows room present : ℕ) (rooms : List ℕ) : Type 0 where
+  pub within : rows + room ≤ 2 ^ 32
+  pub marks : room ≤ present
+  pub each : (i : ℕ) → i < length rooms → room ≤ slice_index rooms i

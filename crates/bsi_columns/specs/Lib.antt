@@ -1,11 +1,14 @@
 pub mod AnyRows
+pub mod BlockEnds
 pub mod Decomposed
 pub mod Tests
 pub use Rattle.bsi_components.specs.Bitmaps
 pub use Rattle.bsi_components.specs.Component
+pub use Rattle.bsi_components.specs.EndDigits
 pub use Rattle.bsi_components.specs.Equality
 pub use Rattle.bsi_components.specs.Range
 pub use Rattle.bsi_slices.specs.Blocks
+pub use Rattle.bsi_slices.specs.Ends
 pub use Rattle.bsi_slices.specs.Orders
 pub use Rattle.bsi_slices.specs.Ranks
 pub use Rattle.bsi_slices.specs.Rows

@@ -1,7 +1,9 @@
 -- The two tests that the digits of a number decide, from the least significant up.
-use Rattle.std.specs.Prelude.{ℕ, Bool, false, ◌&&◌, not, Option, Some, None, nat_eq, nat_le, if◌then◌else◌}
+use Rattle.std.specs.Prelude.{ℕ, Bool, true, false, ◌&&◌, ◌<◌, not, Option, Some, None, nat_eq, nat_le, if◌then◌else◌}
 use Rattle.bsi_columns.specs.declared.decomposed.compare.Relation.{Relation}
 use Rattle.bsi_columns.specs.declared.decomposed.compare.Relation.TheVariants.{Equal, AtMost}
+use Rattle.bsi_columns.specs.declared.decomposed.compare.Decision.{Decision}
+use Rattle.bsi_columns.specs.declared.decomposed.compare.Decision.TheVariants.{Nothing, Everything, Tested}
 use Rattle.bsi_components.specs.Component.{at_most_from}
 
 abbrev pub holds : Relation → ℕ → ℕ → Bool
@@ -21,3 +23,15 @@ as_wanted wanted answer = if wanted then answer else not answer
 abbrev pub answers : (ℕ → Bool) → Bool → Option ℕ → Bool
 answers test wanted None = false
 answers test wanted (Some x) = as_wanted wanted (test x)
+
+-- what a decision says of a number
+abbrev pub decides : Decision → ℕ → Bool
+decides Nothing number = false
+decides Everything number = true
+decides (Tested test) number = as_wanted test.wanted (holds test.relation number test.constant)
+
+-- a constant that is tested is below the size
+abbrev pub IsBelowSize : Decision → ℕ → Type 0
+IsBelowSize Nothing size = Unit {0}
+IsBelowSize Everything size = Unit {0}
+IsBelowSize (Tested test) size = test.constant < size

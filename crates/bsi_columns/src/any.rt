@@ -1,11 +1,13 @@
 //! A column of whichever form, chosen when the program runs.
 
-ghost use Rattle.std.specs.Prelude.{◌≡◌, ◌<◌, ◌^◌, [], ◌∷◌, ◌++◌, length, IsTrue, IsOk, IfOk, OnOk, OnErr};
+ghost use Rattle.std.specs.Prelude.{◌≡◌, ℕ, ◌+◌, ◌*◌, ◌/◌, ◌<◌, ◌≤◌, ◌^◌, ◌&&◌, [], ◌∷◌, ◌++◌, All, None, is_none, length, slice_index_or, IsOk, IfOk, OnOk, OnErr};
+ghost use Rattle.bsi_bits.specs.Packed.{bit_of};
 ghost use Rattle.bsi_columns.specs.AnyRows.{any_size, any_bases, any_entries, any_room, IsSameForm};
-ghost use Rattle.bsi_columns.specs.Rows.{number_or_zero};
+ghost use Rattle.bsi_columns.specs.Rows.{number_or_zero, selects};
 
 use crate::{Column, Decomposed, EqualityComponent, NoMemory, Op, RangeComponent, Slices};
 use bsi_bits::Bits;
+use bsi_components::blocks::drop_in;
 
 /// A column kept in one of the forms. Each call is that of the form.
 #[derive(Drop)]
@@ -18,6 +20,42 @@ pub enum AnyColumn {
     Range(Decomposed<RangeComponent>),
 }
 
+impl AnyColumn {
+    /// Keeps in a block of at most 128 words, whose first stands for the 64 rows from row `64 * at` on, the rows whose number
+    /// compares so with `constant`, which may be past the size. A null row is not kept.
+    pub fn keep_selected(
+        &self,
+        op: Op,
+        constant: u64,
+        at: usize,
+        block: &mut [u64],
+    ) -> Result<(), NoMemory>
+        requires few { length block.old ≤ 128 }
+        requires within { at + length block.old ≤ (length (any_entries self.now) + 63) / 64 }
+        ensures kept { OnErr result (block.new ≡ block.old) }
+        ensures rows { OnOk result ((p : ℕ) → p < 64 * length block.old → 64 * at + p < length (any_entries self.now) → bit_of block.new p
+            ≡ (bit_of block.old p && selects op constant (slice_index_or (any_entries self.now) (64 * at + p) None))) }
+    {
+        match self {
+            AnyColumn::Slices(column) => {
+                column.keep_selected(op, constant, at, block);
+                Ok(())
+            }
+            AnyColumn::Equality(column) => column.keep_selected(op, constant, at, block),
+            AnyColumn::Range(column) => column.keep_selected(op, constant, at, block),
+        }
+    }
+
+    /// Keeps in such a block the rows that are nulls.
+    pub fn keep_nulls(&self, at: usize, block: &mut [u64])
+        requires within { at + length block.old ≤ (length (any_entries self.now) + 63) / 64 }
+        ensures { (p : ℕ) → p < 64 * length block.old → 64 * at + p < length (any_entries self.now) → bit_of block.new p
+            ≡ (bit_of block.old p && is_none (slice_index_or (any_entries self.now) (64 * at + p) None)) }
+    {
+        drop_in(self.present(), at, block);
+    }
+}
+
 impl Column for AnyColumn {
     ghost size_of = { any_size };
 
@@ -25,7 +63,7 @@ impl Column for AnyColumn {
 
     ghost entries = { any_entries };
 
-    ghost room = { any_room };
+    ghost room_of = { any_room };
 
     fn size(&self) -> u64 {
         match self {
@@ -43,11 +81,62 @@ impl Column for AnyColumn {
         }
     }
 
-    fn has_room(&self) -> bool {
+    fn room(&self) -> u64 {
         match self {
-            AnyColumn::Slices(column) => column.has_room(),
-            AnyColumn::Equality(column) => column.has_room(),
-            AnyColumn::Range(column) => column.has_room(),
+            AnyColumn::Slices(column) => column.room(),
+            AnyColumn::Equality(column) => column.room(),
+            AnyColumn::Range(column) => column.room(),
+        }
+    }
+
+    fn reserve(&mut self, more: u64) -> Result<(), NoMemory>
+        requires { length (any_entries self.old) + more ≤ 2 ^ 32 }
+        ensures entries { any_entries self.new ≡ any_entries self.old }
+        ensures size { any_size self.new ≡ any_size self.old }
+        ensures bases { any_bases self.new ≡ any_bases self.old }
+        ensures form { IsSameForm self.new self.old }
+        ensures ok { OnOk result (more ≤ any_room self.new) }
+        ensures kept { any_room self.old ≤ any_room self.new }
+        ensures err { OnErr result (any_room self.new < more) }
+        ensures succeeds { more ≤ any_room self.old → IsOk result }
+    {
+        match self {
+            AnyColumn::Slices(column) => column.reserve(more),
+            AnyColumn::Equality(column) => column.reserve(more),
+            AnyColumn::Range(column) => column.reserve(more),
+        }
+    }
+
+    fn push_reserved(&mut self, entry: Option<u64>)
+        requires room { 0 < any_room self.old }
+        requires below { number_or_zero entry < any_size self.old }
+        ensures entries { any_entries self.new ≡ any_entries self.old ++ entry ∷ [] }
+        ensures size { any_size self.new ≡ any_size self.old }
+        ensures bases { any_bases self.new ≡ any_bases self.old }
+        ensures form { IsSameForm self.new self.old }
+        ensures room { any_room self.old ≤ any_room self.new + 1 }
+    {
+        match self {
+            AnyColumn::Slices(column) => column.push_reserved(entry),
+            AnyColumn::Equality(column) => column.push_reserved(entry),
+            AnyColumn::Range(column) => column.push_reserved(entry),
+        }
+    }
+
+    fn push_block_reserved(&mut self, block: &[Option<u64>])
+        requires few { length block.now ≤ 64 }
+        requires room { length block.now ≤ any_room self.old }
+        requires below { All (λ e. number_or_zero e < any_size self.old) block.now }
+        ensures entries { any_entries self.new ≡ any_entries self.old ++ block.now }
+        ensures size { any_size self.new ≡ any_size self.old }
+        ensures bases { any_bases self.new ≡ any_bases self.old }
+        ensures form { IsSameForm self.new self.old }
+        ensures room { any_room self.old ≤ any_room self.new + length block.now }
+    {
+        match self {
+            AnyColumn::Slices(column) => column.push_block_reserved(block),
+            AnyColumn::Equality(column) => column.push_block_reserved(block),
+            AnyColumn::Range(column) => column.push_block_reserved(block),
         }
     }
 
@@ -57,30 +146,12 @@ impl Column for AnyColumn {
         ensures size { any_size self.new ≡ any_size self.old }
         ensures bases { any_bases self.new ≡ any_bases self.old }
         ensures form { IsSameForm self.new self.old }
-        ensures ok { OnOk result (IsTrue (any_room self.new)) }
+        ensures ok { OnOk result (0 < any_room self.new) }
+        ensures kept { any_room self.old ≤ any_room self.new }
         ensures err { OnErr result (any_room self.new ≡ any_room self.old) }
-        ensures succeeds { IsTrue (any_room self.old) → IsOk result }
+        ensures succeeds { 0 < any_room self.old → IsOk result }
     {
-        match self {
-            AnyColumn::Slices(column) => column.reserve_one(),
-            AnyColumn::Equality(column) => column.reserve_one(),
-            AnyColumn::Range(column) => column.reserve_one(),
-        }
-    }
-
-    fn push_reserved(&mut self, entry: Option<u64>)
-        requires room { IsTrue (any_room self.old) }
-        requires below { number_or_zero entry < any_size self.old }
-        ensures entries { any_entries self.new ≡ any_entries self.old ++ entry ∷ [] }
-        ensures size { any_size self.new ≡ any_size self.old }
-        ensures bases { any_bases self.new ≡ any_bases self.old }
-        ensures form { IsSameForm self.new self.old }
-    {
-        match self {
-            AnyColumn::Slices(column) => column.push_reserved(entry),
-            AnyColumn::Equality(column) => column.push_reserved(entry),
-            AnyColumn::Range(column) => column.push_reserved(entry),
-        }
+        self.reserve(1)
     }
 
     fn compare(&self, op: Op, constant: u64) -> Result<Bits, NoMemory> {
@@ -104,6 +175,22 @@ impl Column for AnyColumn {
             AnyColumn::Slices(column) => column.ranked(found, k),
             AnyColumn::Equality(column) => column.ranked(found, k),
             AnyColumn::Range(column) => column.ranked(found, k),
+        }
+    }
+
+    fn least(&self, found: &Bits) -> Result<Option<u64>, NoMemory> {
+        match self {
+            AnyColumn::Slices(column) => column.least(found),
+            AnyColumn::Equality(column) => column.least(found),
+            AnyColumn::Range(column) => column.least(found),
+        }
+    }
+
+    fn greatest(&self, found: &Bits) -> Result<Option<u64>, NoMemory> {
+        match self {
+            AnyColumn::Slices(column) => column.greatest(found),
+            AnyColumn::Equality(column) => column.greatest(found),
+            AnyColumn::Range(column) => column.greatest(found),
         }
     }
 

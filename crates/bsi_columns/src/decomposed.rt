@@ -1,18 +1,22 @@
 //! A column of numbers that keeps the digits of each number under a list of bases, a component a digit.
 
 ghost use Rattle.std.specs.Prelude.{◌≡◌, ℕ, ◌+◌, ◌*◌, ◌^◌, ◌≤◌, ◌<◌, Bool, List, Option, [], ◌∷◌, ◌++◌, All, length, map, is_some, is_none, replicate, slice_index, slice_index_or, IsTrue, IsFalse, IfOk, OnOk, OnErr};
-ghost use Rattle.std.specs.List.{list_all};
 ghost use Rattle.bsi_digits.specs.Digits.{digit_of, size_of, IsBaseList};
 ghost use Rattle.bsi_columns.specs.Rows.{number_or_zero, selects};
 
-use crate::{Column, Encoding, NoMemory, Op};
-use bsi_bits::Bits;
+use crate::growth::{push_blocks, push_digits, reserve_each};
+use crate::{Column, Encoding, NoMemory, Op, Rank};
+use bsi_bits::{Bits, room_to_make};
 use bsi_digits::Bases;
+use bsi_slices::End;
+use bsi_slices::stage::{mark_present, place_numbers};
 use std::alloc::Global;
 use std::marker::Model;
 
 mod compare;
+mod ends;
 mod totals;
+mod vectors;
 
 /// A column of numbers below the product of its bases, which keeps a component for each base.
 #[derive(Drop)]
@@ -20,24 +24,25 @@ pub struct Decomposed<E: Encoding> {
     bases: Bases,
     components: Vec<E>,
     present: Bits,
+    // (neither the bitmap nor a component has less)
+    room: u64,
 }
 
-// Clauses see the bases, the entries and whether there is room for one more.
+// Clauses see the bases, the entries and for how many more there is room.
 impl<E: Encoding> Model for Decomposed<E> {
-    ghost use Rattle.std.specs.Prelude.{◌≡◌, ◌&&◌, map};
-    ghost use Rattle.std.specs.List.{list_all};
-    ghost use Rattle.bsi_columns.specs.Decomposed.{Decomposition, Decomposes, entries_of};
+    ghost use Rattle.std.specs.Prelude.{◌≡◌, length, map};
+    ghost use Rattle.bsi_columns.specs.Decomposed.{Decomposition, Decomposes, IsRoomy, entries_of};
 
     ghost Value = { Decomposition };
 
     ghost view = { λ c. record {
       bases = c.bases;
       entries = entries_of c.bases c.present.bits (map E.digits c.components.items);
-      room = c.present.room && list_all E.room c.components.items;
+      room = c.room;
     } };
 
     ghost invariant = { λ c. Decomposes c.bases c.present.bits (map E.digits c.components.items) (entries_of c.bases c.present.bits (map E.digits c.components.items))
-        × (map E.base_of c.components.items ≡ c.bases) };
+        × (map E.base_of c.components.items ≡ c.bases) × IsRoomy (length c.present.bits) c.room c.present.room (map E.room_of c.components.items) };
 }
 
 impl<E: Encoding> Decomposed<E> {
@@ -50,6 +55,7 @@ impl<E: Encoding> Decomposed<E> {
             bases,
             components,
             present: Bits::new(alloc),
+            room: 0,
         })
     }
 
@@ -80,7 +86,7 @@ impl<E: Encoding> Column for Decomposed<E> {
 
     ghost entries = { λ c. c.entries };
 
-    ghost room = { λ c. c.room };
+    ghost room_of = { λ c. c.room };
 
     fn size(&self) -> u64 {
         self.bases.size()
@@ -90,32 +96,38 @@ impl<E: Encoding> Column for Decomposed<E> {
         self.present.len()
     }
 
-    fn has_room(&self) -> bool {
-        self.present.has_room() && all_have_room(&self.components)
+    fn room(&self) -> u64 {
+        self.room
     }
 
-    fn reserve_one(&mut self) -> Result<(), NoMemory> {
-        if self.has_room() {
+    fn reserve(&mut self, more: u64) -> Result<(), NoMemory> {
+        if more <= self.room {
             return Ok(());
         }
-        self.present.reserve_one()?;
-        reserve_each(&mut self.components)
+        let wanted = room_to_make(self.present.len(), more);
+        self.present.reserve(wanted)?;
+        reserve_each(&mut self.components, wanted)?;
+        self.room = wanted;
+        Ok(())
     }
 
     fn push_reserved(&mut self, entry: Option<u64>) {
         push_digits(&mut self.components, &self.bases, entry.unwrap_or(0));
         self.present.push_reserved(entry.is_some());
+        self.room -= 1;
+    }
+
+    fn push_block_reserved(&mut self, block: &[Option<u64>]) {
+        let mut numbers = [0; 64];
+        place_numbers(block, &mut numbers);
+        push_blocks(&mut self.components, &self.bases, &numbers[..block.len()]);
+        let count = block.len() as u64;
+        self.present.push_word_reserved(mark_present(block), count);
+        self.room -= count;
     }
 
     fn compare(&self, op: Op, constant: u64) -> Result<Bits, NoMemory> {
-        match op {
-            Op::Eq => self.equal(constant, true),
-            Op::Ne => self.equal(constant, false),
-            Op::Lt => self.below(constant, true),
-            Op::Le => self.at_most(constant, true),
-            Op::Gt => self.at_most(constant, false),
-            Op::Ge => self.below(constant, false),
-        }
+        self.selected(op, constant)
     }
 
     fn sum(&self, found: &Bits) -> u128 {
@@ -124,6 +136,22 @@ impl<E: Encoding> Column for Decomposed<E> {
 
     fn ranked(&self, found: &Bits, k: u64) -> Result<u64, NoMemory> {
         self.number_of_rank(found, k)
+    }
+
+    // It passes once over the components, and takes no memory, where each works on blocks.
+    fn least(&self, found: &Bits) -> Result<Option<u64>, NoMemory> {
+        match self.end_found(found, End::Least) {
+            Some(answer) => Ok(answer),
+            None => self.of_rank(found, Rank::Least),
+        }
+    }
+
+    // It passes once over the components, and takes no memory, where each works on blocks.
+    fn greatest(&self, found: &Bits) -> Result<Option<u64>, NoMemory> {
+        match self.end_found(found, End::Greatest) {
+            Some(answer) => Ok(answer),
+            None => self.of_rank(found, Rank::Greatest),
+        }
     }
 
     fn nulls_into(&self, out: &mut Bits) {
@@ -140,6 +168,7 @@ impl<E: Encoding> Column for Decomposed<E> {
             bases: self.bases.copy()?,
             components: copy_each(&self.components)?,
             present: self.present.copy()?,
+            room: 0,
         })
     }
 }
@@ -154,42 +183,6 @@ fn make_each<E: Encoding>(alloc: Global, bases: &Bases) -> Result<Vec<E>, NoMemo
         components.push(E::make(alloc, bases.base(i))?)?;
     }
     Ok(components)
-}
-
-/// Whether each component has room for one more digit.
-fn all_have_room<E: Encoding>(components: &[E]) -> bool
-    ensures { result ≡ list_all E.room components.now }
-{
-    components.iter().all(|component| component.has_room())
-}
-
-/// Makes room for one more digit in each component. The digits stay, whatever the result; where it is refused, a component
-/// has no room.
-fn reserve_each<E: Encoding>(components: &mut Vec<E>) -> Result<(), NoMemory>
-    requires { All (λ c. length (E.digits c) < 2 ^ 32) components.old.items }
-    ensures digits { map E.digits components.new.items ≡ map E.digits components.old.items }
-    ensures bases { map E.base_of components.new.items ≡ map E.base_of components.old.items }
-    ensures ok { OnOk result (IsTrue (list_all E.room components.new.items)) }
-    ensures err { OnErr result (IsFalse (list_all E.room components.new.items)) }
-{
-    for i in 0..components.len() {
-        components[i].reserve_one()?;
-    }
-    Ok(())
-}
-
-/// Appends to each component its digit of a number, in room that is there.
-fn push_digits<E: Encoding>(components: &mut Vec<E>, bases: &Bases, number: u64)
-    requires bases { map E.base_of components.old.items ≡ bases.now }
-    requires room { IsTrue (list_all E.room components.old.items) }
-    requires below { number < size_of bases.now }
-    ensures digits { (i : ℕ) → i < length bases.now → slice_index_or (map E.digits components.new.items) i []
-        ≡ slice_index_or (map E.digits components.old.items) i [] ++ digit_of bases.now number i ∷ [] }
-    ensures bases { map E.base_of components.new.items ≡ bases.now }
-{
-    for i in 0..bases.len() {
-        components[i as usize].push_reserved(bases.digit(number, i));
-    }
 }
 
 /// A second component for each.

@@ -5,9 +5,10 @@
 mod any;
 mod choosing;
 mod decomposed;
+mod growth;
 
 pub use any::AnyColumn;
-pub use bsi_components::{Encoding, EqualityComponent, RangeComponent, RankedDigit};
+pub use bsi_components::{Encoding, EndDigit, EqualityComponent, RangeComponent, RankedDigit};
 pub use bsi_slices::{Column, Op, Rank, Slices};
 pub use decomposed::Decomposed;
 pub use std::alloc::AllocError as NoMemory;

@@ -1,11 +1,11 @@
 -- The digits that bitmaps hold are those that they were made of.
-use Rattle.std.proofs.Common.{◌≡◌, ℕ, zero, suc, ◌+◌, ◌<◌, ◌≤◌, Bool, true, false, cond, List, [], ◌∷◌, ◌++◌, length, get_or, inl, inr, ap, sym, ◌∙◌, refl, arith}
-use Rattle.std.proofs.lemmas.List.{length-map, get_or-map, map_push}
+use Rattle.std.proofs.Common.{◌≡◌, ℕ, zero, suc, ◌+◌, ◌<◌, ◌≤◌, Bool, true, false, cond, List, [], ◌∷◌, ◌++◌, length, map, get_or, inl, inr, ap, sym, ◌∙◌, refl, arith}
+use Rattle.std.proofs.lemmas.List.{length-map, get_or-map, map-append, get_or_past}
 use Rattle.std.proofs.lemmas.List.FromFn.{fill_by_all}
-use Rattle.std.proofs.lemmas.Bool.{cases_eq}
+use Rattle.std.proofs.lemmas.Bool.{cases_eq, cases_lt}
 use Rattle.bsi_bits.specs.BitList.{BitList}
 use Rattle.bsi_components.specs.Bitmaps.{bitmap, row, first_set, digits_by, IsEncoded}
-use Rattle.bsi_components.proofs.BitmapGrowth.{no_bitmap}
+use Rattle.bsi_bits.specs.BitLists.{no_bits}
 
 -- bits that are those of a test from a place on
 pub record AreTests (test : ℕ → Bool) (at : ℕ) (bits : List Bool) : Type 0 where
@@ -51,7 +51,7 @@ module _ (holds : ℕ → ℕ → Bool) (rs : List BitList) (ds : List ℕ) (enc
   row_bits k at test within same = record {
     each = λ j below.
         let in_rs : j < length rs = omega (arith, length-map rs (λ (b : BitList). get_or b.bits k false)) in
-        get_or-map (λ (b : BitList). get_or b.bits k false) rs j no_bitmap false in_rs
+        get_or-map (λ (b : BitList). get_or b.bits k false) rs j no_bits false in_rs
         ∙ ap (λ bits. get_or bits k false) (encoded.each j in_rs)
         ∙ get_or-map (holds j) ds k 0 false within ∙ same j;
   }
@@ -61,13 +61,13 @@ module _ (holds : ℕ → ℕ → Bool) (rs : List BitList) (ds : List ℕ) (enc
   unfolding digits_by
   digits_are digit some found = fill_by_all (λ k. digit (row rs k)) ds (length (bitmap rs 0)) 0 (sym (length-bitmap 0 some)) (λ k below. sym (found k (omega (arith, length-bitmap 0 some))))
 
--- bitmaps with one bit more are those of one digit more
-pub encoded_more : (holds : ℕ → ℕ → Bool) (old new : List BitList) (ds : List ℕ) (d : ℕ) → IsEncoded holds old ds → length new ≡ length old
-    → ((j : ℕ) → j < length old → bitmap new j ≡ bitmap old j ++ holds j d ∷ []) → IsEncoded holds new (ds ++ d ∷ [])
-encoded_more holds old new ds d encoded same pushed = record {
+-- bitmaps with more bits are those of more digits
+pub encoded_more : (holds : ℕ → ℕ → Bool) (old new : List BitList) (ds block : List ℕ) → IsEncoded holds old ds → length new ≡ length old
+    → ((j : ℕ) → j < length old → bitmap new j ≡ bitmap old j ++ map (holds j) block) → IsEncoded holds new (ds ++ block)
+encoded_more holds old new ds block encoded same pushed = record {
   each = λ j below.
       let in_old : j < length old = omega arith in
-      pushed j in_old ∙ ap (λ bits. bits ++ holds j d ∷ []) (encoded.each j in_old) ∙ sym (map_push (holds j) ds d);
+      pushed j in_old ∙ ap (λ bits. bits ++ map (holds j) block) (encoded.each j in_old) ∙ sym (map-append (holds j) ds block);
 }
 
 -- bitmaps of the same bits are those of the same digits
@@ -80,9 +80,11 @@ encoded_same holds old new ds encoded same bits = record {
 pub encoded_none : (holds : ℕ → ℕ → Bool) (rs : List BitList) → ((j : ℕ) → bitmap rs j ≡ []) → IsEncoded holds rs []
 encoded_none holds rs empty = record { each = λ j below. empty j }
 
--- one digit more below the base
-pub below_push : (ds : List ℕ) (d base : ℕ) → d < base → ((k : ℕ) → get_or ds k 0 < base) → (k : ℕ) → get_or (ds ++ d ∷ []) k 0 < base
-below_push [] d base new old zero = new
-below_push [] d base new old (suc k) = omega arith
-below_push (v ∷ ds) d base new old zero = old zero
-below_push (v ∷ ds) d base new old (suc k) = below_push ds d base new (λ i. old (suc i)) k
+-- more digits below the base
+pub below_more : (ds block : List ℕ) (base : ℕ) → ((k : ℕ) → k < length block → get_or block k 0 < base) → ((k : ℕ) → get_or ds k 0 < base) → (k : ℕ) → get_or (ds ++ block) k 0 < base
+below_more [] block base new old k = elim (cases_lt k (length block)) [
+  | inl within ↦ new k within
+  | inr past ↦ omega (arith, get_or_past block k 0 past, old 0)
+]
+below_more (v ∷ ds) block base new old zero = old zero
+below_more (v ∷ ds) block base new old (suc k) = below_more ds block base new (λ i. old (suc i)) k

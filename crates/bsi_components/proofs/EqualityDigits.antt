@@ -1,5 +1,5 @@
 -- The digits of an equality encoded component.
-use Rattle.std.proofs.Common.{◌≡◌, ℕ, ◌+◌, ◌<◌, ◌≤◌, true, false, List, [], ◌∷◌, ◌++◌, length, get_or, inl, inr, ap, ◌∙◌, refl, arith, subst}
+use Rattle.std.proofs.Common.{◌≡◌, ℕ, zero, suc, ◌+◌, ◌<◌, ◌≤◌, true, false, List, [], ◌∷◌, ◌++◌, length, map, get_or, inl, inr, ap, sym, ◌∙◌, refl, arith, subst}
 use Rattle.std.specs.Prelude.{◌==◌}
 use Rattle.std.proofs.lemmas.List.{length-map}
 use Rattle.std.proofs.lemmas.Bool.{cases_lt}
@@ -7,8 +7,7 @@ use Rattle.std.proofs.lemmas.Bool.Decides.{nat_tests}
 use Rattle.bsi_bits.specs.BitList.{BitList}
 use Rattle.bsi_components.specs.Bitmaps.{bitmap, row, first_set}
 use Rattle.bsi_components.specs.Equality.{equality_digits, first_digit, IsEquality}
-use Rattle.bsi_components.proofs.BitmapGrowth.{read_bitmap}
-use Rattle.bsi_components.proofs.BitmapDigits.{first_set_is, none_set_is, length-bitmap, row_bits, digits_are, encoded_none, encoded_more, encoded_same, below_push}
+use Rattle.bsi_components.proofs.BitmapDigits.{first_set_is, none_set_is, length-bitmap, row_bits, digits_are, encoded_none, encoded_more, encoded_same, below_more}
 
 other_digit : (v e : ℕ) → e < v → (v == e) ≡ false
 other_digit v e below = grind (arith, nat_tests)
@@ -54,15 +53,20 @@ equality_made base rs least most count empty = record {
   encoded = encoded_none (λ j v. v == first_digit base + j) rs empty;
 }
 
--- one digit more in bitmaps with one bit more
-pub equality_pushed : (base : ℕ) (old new : List BitList) (ds : List ℕ) (d : ℕ) → IsEquality base old ds → d < base → length new ≡ length old → ((j : ℕ) → j < length old → bitmap new j ≡ bitmap old j ++ (d == first_digit base + j) ∷ []) → IsEquality base new (ds ++ d ∷ [])
-equality_pushed base old new ds d equality below same pushed = record {
+-- more digits in bitmaps with more bits
+pub equality_more : (base : ℕ) (old new : List BitList) (ds block : List ℕ) → IsEquality base old ds → ((k : ℕ) → k < length block → get_or block k 0 < base) → length new ≡ length old
+    → ((j : ℕ) → j < length old → bitmap new j ≡ bitmap old j ++ map (λ v. v == first_digit base + j) block) → IsEquality base new (ds ++ block)
+equality_more base old new ds block equality below same pushed = record {
   count = ap (λ n. n + first_digit base) same ∙ equality.count;
   least = equality.least;
   most = equality.most;
-  below = below_push ds d base below equality.below;
-  encoded = encoded_more (λ j v. v == first_digit base + j) old new ds d equality.encoded same pushed;
+  below = below_more ds block base below equality.below;
+  encoded = encoded_more (λ j v. v == first_digit base + j) old new ds block equality.encoded same pushed;
 }
+
+pub one_below : (d base : ℕ) → d < base → (k : ℕ) → k < 1 → get_or (d ∷ []) k 0 < base
+one_below d base below zero within = below
+one_below d base below (suc k) within = absurd (omega arith)
 
 -- the same digits in bitmaps of the same bits
 pub equality_same : (base : ℕ) (old new : List BitList) (ds : List ℕ) → IsEquality base old ds → length new ≡ length old → ((j : ℕ) → bitmap new j ≡ bitmap old j) → IsEquality base new ds
@@ -74,9 +78,8 @@ equality_same base old new ds equality same bits = record {
   encoded = encoded_same (λ j v. v == first_digit base + j) old new ds equality.encoded same bits;
 }
 
--- the first bitmap, as it was read, has a bit for each digit
-pub equality_rows : (base : ℕ) (rs : List BitList) (ds : List ℕ) → IsEquality base rs ds → (r : BitList) → r ≡ get_or rs 0 r → length r.bits ≡ length ds
-equality_rows base rs ds equality r read =
+-- the first bitmap has a bit for each digit
+pub equality_rows : (base : ℕ) (rs : List BitList) (ds : List ℕ) → IsEquality base rs ds → length (bitmap rs 0) ≡ length ds
+equality_rows base rs ds equality =
     let low = first_digit_most base in
-    let some : 0 < length rs = omega (arith, equality.count, equality.least) in
-    ap (λ (s : BitList). length s.bits) (read_bitmap rs 0 r some read) ∙ length-bitmap (λ j v. v == first_digit base + j) rs ds equality.encoded 0 some
+    length-bitmap (λ j v. v == first_digit base + j) rs ds equality.encoded 0 (omega (arith, equality.count, equality.least))

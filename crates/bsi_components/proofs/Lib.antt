@@ -1,9 +1,11 @@
 pub mod BitmapDigits
 pub mod BitmapGrowth
 pub mod BlockBits
+pub mod BlockRows
 pub mod DigitCounts
 pub mod DigitMaps
 pub mod EqualityDigits
 pub mod EqualityReads
+pub mod MarkBits
 pub mod RangeDigits
 pub mod RangeReads

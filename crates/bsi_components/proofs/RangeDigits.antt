@@ -1,13 +1,12 @@
 -- The digits of a range encoded component.
-use Rattle.std.proofs.Common.{◌≡◌, ℕ, ◌+◌, ◌<◌, ◌≤◌, true, false, List, [], ◌∷◌, ◌++◌, length, get_or, ap, ◌∙◌, arith, subst}
+use Rattle.std.proofs.Common.{◌≡◌, ℕ, zero, suc, ◌+◌, ◌<◌, ◌≤◌, true, false, List, [], ◌∷◌, ◌++◌, length, map, get_or, ap, sym, ◌∙◌, arith, subst}
 use Rattle.std.specs.Prelude.{nat_le}
 use Rattle.std.proofs.lemmas.List.{length-map}
 use Rattle.std.proofs.lemmas.Bool.Decides.{nat_tests}
 use Rattle.bsi_bits.specs.BitList.{BitList}
 use Rattle.bsi_components.specs.Bitmaps.{bitmap, row, first_set}
 use Rattle.bsi_components.specs.Range.{range_digits, IsRange}
-use Rattle.bsi_components.proofs.BitmapGrowth.{read_bitmap}
-use Rattle.bsi_components.proofs.BitmapDigits.{first_set_is, length-bitmap, row_bits, digits_are, encoded_none, encoded_more, encoded_same, below_push}
+use Rattle.bsi_components.proofs.BitmapDigits.{first_set_is, length-bitmap, row_bits, digits_are, encoded_none, encoded_more, encoded_same, below_more}
 
 not_yet : (v e : ℕ) → e < v → nat_le v e ≡ false
 not_yet v e below = grind (arith, nat_tests)
@@ -40,15 +39,20 @@ range_made base rs least most count empty = record {
   encoded = encoded_none (λ j v. nat_le v j) rs empty;
 }
 
--- one digit more in bitmaps with one bit more
-pub range_pushed : (base : ℕ) (old new : List BitList) (ds : List ℕ) (d : ℕ) → IsRange base old ds → d < base → length new ≡ length old → ((j : ℕ) → j < length old → bitmap new j ≡ bitmap old j ++ nat_le d j ∷ []) → IsRange base new (ds ++ d ∷ [])
-range_pushed base old new ds d range below same pushed = record {
+-- more digits in bitmaps with more bits
+pub range_more : (base : ℕ) (old new : List BitList) (ds block : List ℕ) → IsRange base old ds → ((k : ℕ) → k < length block → get_or block k 0 < base) → length new ≡ length old
+    → ((j : ℕ) → j < length old → bitmap new j ≡ bitmap old j ++ map (λ v. nat_le v j) block) → IsRange base new (ds ++ block)
+range_more base old new ds block range below same pushed = record {
   count = ap (λ n. n + 1) same ∙ range.count;
   least = range.least;
   most = range.most;
-  below = below_push ds d base below range.below;
-  encoded = encoded_more (λ j v. nat_le v j) old new ds d range.encoded same pushed;
+  below = below_more ds block base below range.below;
+  encoded = encoded_more (λ j v. nat_le v j) old new ds block range.encoded same pushed;
 }
+
+pub one_below : (d base : ℕ) → d < base → (k : ℕ) → k < 1 → get_or (d ∷ []) k 0 < base
+one_below d base below zero within = below
+one_below d base below (suc k) within = absurd (omega arith)
 
 -- the same digits in bitmaps of the same bits
 pub range_same : (base : ℕ) (old new : List BitList) (ds : List ℕ) → IsRange base old ds → length new ≡ length old → ((j : ℕ) → bitmap new j ≡ bitmap old j) → IsRange base new ds
@@ -60,8 +64,7 @@ range_same base old new ds range same bits = record {
   encoded = encoded_same (λ j v. nat_le v j) old new ds range.encoded same bits;
 }
 
--- the first bitmap, as it was read, has a bit for each digit
-pub range_rows : (base : ℕ) (rs : List BitList) (ds : List ℕ) → IsRange base rs ds → (r : BitList) → r ≡ get_or rs 0 r → length r.bits ≡ length ds
-range_rows base rs ds range r read =
-    let some : 0 < length rs = omega (arith, range.count, range.least) in
-    ap (λ (s : BitList). length s.bits) (read_bitmap rs 0 r some read) ∙ length-bitmap (λ j v. nat_le v j) rs ds range.encoded 0 some
+-- the first bitmap has a bit for each digit
+pub range_rows : (base : ℕ) (rs : List BitList) (ds : List ℕ) → IsRange base rs ds → length (bitmap rs 0) ≡ length ds
+range_rows base rs ds range =
+    length-bitmap (λ j v. nat_le v j) rs ds range.encoded 0 (omega (arith, range.count, range.least))

@@ -1,21 +1,18 @@
 -- The bitmaps of a component, and the digits that they hold.
 use Rattle.std.specs.Prelude.{◌≡◌, ℕ, ◌+◌, ◌<◌, Bool, false, List, [], ◌∷◌, length, map, slice_index_or, if◌then◌else◌}
-use Rattle.std.specs.List.{range_with_len, list_all}
+use Rattle.std.specs.List.{range_with_len}
 use Rattle.bsi_bits.specs.BitList.{BitList}
+use Rattle.bsi_bits.specs.BitLists.{bits_at}
 
--- what a contract sees of a component: its base, its digits, and whether one more can be appended with no memory
+-- what a contract sees of a component: its base, its digits, and how many more can be appended with no memory
 pub record Component : Type 0 where
   pub base : ℕ
   pub digits : List ℕ
-  pub room : Bool
+  pub room : ℕ
 
 -- the bits of bitmap j
 abbrev pub bitmap : List BitList → ℕ → List Bool
-bitmap bitmaps j = (slice_index_or bitmaps j (record { bits = []; room = false })).bits
-
--- each bitmap has room for one more bit
-abbrev pub has_room_in : List BitList → Bool
-has_room_in bitmaps = list_all (λ b. b.room) bitmaps
+bitmap = bits_at
 
 -- the bits of row k, a bitmap each
 abbrev pub row : List BitList → ℕ → List Bool

@@ -1,7 +1,10 @@
 //! Boolean steps on a block of words, by the words of a bitmap that stand for the same rows.
 
-ghost use Rattle.std.specs.Prelude.{◌≡◌, ℕ, ◌+◌, ◌*◌, ◌/◌, ◌<◌, ◌≤◌, ◌&&◌, ◌||◌, not, false, length, slice_index_or};
+ghost use Rattle.std.specs.Prelude.{◌≡◌, ℕ, ◌+◌, ◌*◌, ◌/◌, ◌<◌, ◌≤◌, ◌&&◌, ◌||◌, not, true, false, bit_and, length, slice_index_or};
+ghost use Rattle.std.specs.Prelude.{slice_index, IsTrue, IsFalse};
+ghost use Rattle.std.specs.Int.{bit_not, w64};
 ghost use Rattle.bsi_bits.specs.Packed.{bit_of};
+ghost use Rattle.bsi_components.specs.EndDigits.{HasRow};
 
 use bsi_bits::{Bits, know_fits, lanes};
 
@@ -85,4 +88,37 @@ pub fn add_missing(bitmap: &Bits, at: usize, block: &mut [u64])
     let words = bitmap.words();
     know_fits(words);
     lanes::or_not(block, &words[at..at + block.len()]);
+}
+
+/// Whether the block has a row that the bitmap has.
+pub fn meets(bitmap: &Bits, at: usize, block: &[u64]) -> bool
+    requires { at + length block.now ≤ (length bitmap.now.bits + 63) / 64 }
+    ensures some { IsTrue result → HasRow (λ p. bit_of block.now p && slice_index_or bitmap.now.bits (64 * at + p) false) (64 * length block.now) }
+    ensures none { IsFalse result → (p : ℕ) → p < 64 * length block.now → (bit_of block.now p && slice_index_or bitmap.now.bits (64 * at + p) false) ≡ false }
+{
+    let words = bitmap.words();
+    let part = &words[at..at + block.len()];
+    know_fits(block);
+    let mut seen = 0;
+    'words: for i in 0..block.len() {
+        seen |= block[i] & part[i];
+    }
+    seen != 0
+}
+
+/// Whether the block has a row that the bitmap does not have.
+pub fn exceeds(bitmap: &Bits, at: usize, block: &[u64]) -> bool
+    requires { at + length block.now ≤ (length bitmap.now.bits + 63) / 64 }
+    ensures some { IsTrue result → HasRow (λ p. bit_of block.now p && not (slice_index_or bitmap.now.bits (64 * at + p) false)) (64 * length block.now) }
+    ensures none { IsFalse result → (p : ℕ) → p < 64 * length block.now → (bit_of block.now p && not (slice_index_or bitmap.now.bits (64 * at + p) false)) ≡ false }
+{
+    let words = bitmap.words();
+    let part = &words[at..at + block.len()];
+    know_fits(block);
+    know_fits(words);
+    let mut seen = 0;
+    'words: for i in 0..block.len() {
+        seen |= block[i] & !part[i];
+    }
+    seen != 0
 }

@@ -1,11 +1,12 @@
 //! What a component is to a column: a list of digits below its base.
 
-ghost use Rattle.std.specs.Prelude.{◌≡◌, ℕ, ◌+◌, ◌*◌, ◌/◌, ◌^◌, ◌≤◌, ◌<◌, ◌==◌, ◌&&◌, Bool, List, [], ◌∷◌, ◌++◌, length, map, sum, count_by, slice_index, nat_lt, nat_le, IsTrue, IfOk, OnOk, OnErr, IsOk};
+ghost use Rattle.std.specs.Prelude.{◌≡◌, ℕ, ◌+◌, ◌*◌, ◌/◌, ◌^◌, ◌≤◌, ◌<◌, ◌==◌, ◌&&◌, Bool, true, List, [], ◌∷◌, ◌++◌, length, map, sum, count_by, slice_index, nat_lt, nat_le, IsTrue, IfOk, OnOk, OnErr, IsOk};
 ghost use Rattle.std.specs.List.{items_where_true};
 ghost use Rattle.std.specs.Bool.{OnTrue, OnFalse};
 ghost use Rattle.std.specs.Simd.Lanes.{zip2};
 ghost use Rattle.bsi_bits.specs.Packed.{bit_of};
 ghost use Rattle.bsi_components.specs.Component.{at_most_from, count_where};
+ghost use Rattle.bsi_components.specs.EndDigits.{HasRow, AnswersLeast, AnswersGreatest};
 
 use crate::NoMemory;
 use bsi_bits::Bits;
@@ -18,6 +19,17 @@ pub struct RankedDigit {
     pub rank: u64,
 }
 
+/// What a component answers of the least or the greatest digit of some rows.
+#[derive(Clone, Copy, Debug, PartialEq, Eq)]
+pub enum EndDigit {
+    /// Nothing, since the encoding works on whole vectors alone.
+    Unanswered,
+    /// That each of the rows has a digit past the limit.
+    Past,
+    /// The digit, which is within the limit.
+    Digit(u32),
+}
+
 /// A component: the digits of one place of a column's numbers, a row each, kept as bitmaps.
 pub trait Encoding: Drop {
     /// The base.
@@ -26,8 +38,8 @@ pub trait Encoding: Drop {
     /// The digits, each below the base, in order of the rows.
     ghost digits: { Self → List ℕ };
 
-    /// Whether one more digit can be appended with no memory.
-    ghost room: { Self → Bool };
+    /// How many more digits can be appended with no memory.
+    ghost room_of: { Self → ℕ };
 
     /// An empty component of a base from 2 to 1,024.
     fn make(alloc: Global, base: u32) -> Result<Self, NoMemory>
@@ -45,26 +57,63 @@ pub trait Encoding: Drop {
         ensures len { result ≡ length (digits self.now) }
         ensures within { result ≤ 2 ^ 32 };
 
-    /// Whether one more digit can be appended with no memory.
-    fn has_room(&self) -> bool
-        ensures { result ≡ room self.now };
+    /// Returns how many more digits can be appended with no memory.
+    fn room(&self) -> u64
+        ensures room { result ≡ room_of self.now }
+        ensures within { length (digits self.now) + result ≤ 2 ^ 32 };
 
-    /// Makes room for one more digit. The digits stay, whatever the result; where it is refused, there is no more room than
-    /// before. It takes memory only where there is no room.
+    /// Makes room for so many more digits. The digits stay, and there is no less room than before, whatever the result; where
+    /// it is refused, there is still not room for so many. It takes memory only where there is not.
+    fn reserve(&mut self, more: u64) -> Result<(), NoMemory>
+        requires { length (digits self.old) + more ≤ 2 ^ 32 }
+        ensures digits { digits self.new ≡ digits self.old }
+        ensures base { base_of self.new ≡ base_of self.old }
+        ensures ok { OnOk result (more ≤ room_of self.new) }
+        ensures kept { room_of self.old ≤ room_of self.new }
+        ensures err { OnErr result (room_of self.new < more) }
+        ensures succeeds { more ≤ room_of self.old → IsOk result };
+
+    /// Appends a digit, in room that is there.
+    fn push_reserved(&mut self, digit: u32)
+        requires room { 0 < room_of self.old }
+        requires below { digit < base_of self.old }
+        ensures digits { digits self.new ≡ digits self.old ++ digit ∷ [] }
+        ensures base { base_of self.new ≡ base_of self.old }
+        ensures room { room_of self.old ≤ room_of self.new + 1 };
+
+    /// Appends a block of at most 64 digits, in room that is there. The provided body appends them one by one.
+    fn push_block_reserved(&mut self, block: &[u32])
+        requires few { length block.now ≤ 64 }
+        requires room { length block.now ≤ room_of self.old }
+        requires below { (k : ℕ) → k < length block.now → slice_index block.now k < base_of self.old }
+        ensures digits { digits self.new ≡ digits self.old ++ block.now }
+        ensures base { base_of self.new ≡ base_of self.old }
+        ensures room { room_of self.old ≤ room_of self.new + length block.now }
+    {
+        'digits: for k in 0..block.len() {
+            self.push_reserved(block[k]);
+        }
+    }
+
+    /// Returns whether one more digit can be appended with no memory.
+    fn has_room(&self) -> bool
+        ensures { result ≡ nat_lt 0 (room_of self.now) }
+    {
+        self.room() > 0
+    }
+
+    /// Makes room for one more digit, as `reserve` does for many.
     fn reserve_one(&mut self) -> Result<(), NoMemory>
         requires { length (digits self.old) < 2 ^ 32 }
         ensures digits { digits self.new ≡ digits self.old }
         ensures base { base_of self.new ≡ base_of self.old }
-        ensures ok { OnOk result (IsTrue (room self.new)) }
-        ensures err { OnErr result (room self.new ≡ room self.old) }
-        ensures succeeds { IsTrue (room self.old) → IsOk result };
-
-    /// Appends a digit, in room that is there.
-    fn push_reserved(&mut self, digit: u32)
-        requires room { IsTrue (room self.old) }
-        requires below { digit < base_of self.old }
-        ensures digits { digits self.new ≡ digits self.old ++ digit ∷ [] }
-        ensures base { base_of self.new ≡ base_of self.old };
+        ensures ok { OnOk result (0 < room_of self.new) }
+        ensures kept { room_of self.old ≤ room_of self.new }
+        ensures err { OnErr result (room_of self.new ≡ room_of self.old) }
+        ensures succeeds { 0 < room_of self.old → IsOk result }
+    {
+        self.reserve(1)
+    }
 
     /// Writes for each row whether its digit is `d`.
     fn eq_into(&self, d: u32, out: &mut Bits)
@@ -168,5 +217,29 @@ pub trait Encoding: Drop {
             bit_of block.new p ≡ at_most_from (bit_of block.old p) (slice_index (digits self.now) (64 * at + p)) d) }
     {
         false
+    }
+
+    /// Returns the least digit of the rows that a block of words has, where it is at most `limit`. The words stand for the
+    /// rows from `64 * at` on, and have none past the last.
+    fn least_in_block(&self, limit: u32, at: usize, block: &[u64]) -> EndDigit
+        requires below { limit < base_of self.now }
+        requires within { at + length block.now ≤ (length (digits self.now) + 63) / 64 }
+        requires rows { (p : ℕ) → p < 64 * length block.now → bit_of block.now p ≡ true → 64 * at + p < length (digits self.now) }
+        requires some { HasRow (bit_of block.now) (64 * length block.now) }
+        ensures { AnswersLeast limit (bit_of block.now) (λ p. slice_index (digits self.now) (64 * at + p)) (64 * length block.now) result }
+    {
+        EndDigit::Unanswered
+    }
+
+    /// Returns the greatest digit of the rows that a block of words has, where it is at least `limit`. The words stand for
+    /// the rows from `64 * at` on, and have none past the last.
+    fn greatest_in_block(&self, limit: u32, at: usize, block: &[u64]) -> EndDigit
+        requires below { limit < base_of self.now }
+        requires within { at + length block.now ≤ (length (digits self.now) + 63) / 64 }
+        requires rows { (p : ℕ) → p < 64 * length block.now → bit_of block.now p ≡ true → 64 * at + p < length (digits self.now) }
+        requires some { HasRow (bit_of block.now) (64 * length block.now) }
+        ensures { AnswersGreatest limit (bit_of block.now) (λ p. slice_index (digits self.now) (64 * at + p)) (64 * length block.now) result }
+    {
+        EndDigit::Unanswered
     }
 }

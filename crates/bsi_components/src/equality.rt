@@ -1,17 +1,18 @@
 //! The equality encoded component: a bitmap for each digit says which rows have it.
 
-ghost use Rattle.std.specs.Prelude.{◌≡◌, ◌≢◌, ℕ, ◌+◌, ◌*◌, ◌/◌, ◌^◌, ◌<◌, ◌≤◌, ◌==◌, ◌&&◌, ◌||◌, not, [], ◌∷◌, ◌++◌, length, map, nat_le, nat_lt, slice_index, IsTrue};
+ghost use Rattle.std.specs.Prelude.{◌≡◌, ◌≢◌, ℕ, ◌+◌, ◌*◌, ◌/◌, ◌^◌, ◌<◌, ◌≤◌, ◌==◌, ◌&&◌, ◌||◌, not, [], ◌∷◌, ◌++◌, length, map, nat_le, nat_lt, true, slice_index, IsTrue, IsFalse};
 ghost use Rattle.std.specs.Bool.{OnTrue, OnFalse};
 ghost use Rattle.bsi_bits.specs.Packed.{bit_of};
-ghost use Rattle.bsi_components.specs.Bitmaps.{bitmap, has_room_in};
+ghost use Rattle.bsi_components.specs.Bitmaps.{bitmap};
 ghost use Rattle.bsi_components.specs.Component.{at_most_from, count_where};
+ghost use Rattle.bsi_components.specs.EndDigits.{HasRow};
 ghost use Rattle.bsi_components.specs.Equality.{first_digit, is_among};
 
 use crate::NoMemory;
-use crate::bitmaps::{copy_each, have_room, make_empty, reserve_each};
-use crate::blocks::{add_in, add_missing, drop_in, keep_in};
-use crate::encoding::{Encoding, RankedDigit};
-use bsi_bits::Bits;
+use crate::blocks::{add_in, add_missing, drop_in, exceeds, keep_in, meets};
+use crate::encoding::{Encoding, EndDigit, RankedDigit};
+use crate::marks::{MAX_BASE, SMALL_BASE, mark};
+use bsi_bits::{Bitmaps, Bits};
 use std::alloc::Global;
 use std::marker::Model;
 
@@ -19,19 +20,19 @@ use std::marker::Model;
 #[derive(Drop)]
 pub struct EqualityComponent {
     base: u32,
-    bitmaps: Vec<Bits>,
+    bitmaps: Bitmaps,
 }
 
-// Clauses see the base, the digits and whether there is room for one more.
+// Clauses see the base, the digits and for how many more there is room.
 impl Model for EqualityComponent {
-    ghost use Rattle.bsi_components.specs.Bitmaps.{Component, has_room_in};
+    ghost use Rattle.bsi_components.specs.Bitmaps.{Component};
     ghost use Rattle.bsi_components.specs.Equality.{equality_digits, IsEquality};
 
     ghost Value = { Component };
 
-    ghost view = { λ c. record { base = c.base; digits = equality_digits c.base c.bitmaps.items; room = has_room_in c.bitmaps.items } };
+    ghost view = { λ c. record { base = c.base; digits = equality_digits c.base c.bitmaps.vectors; room = c.bitmaps.room } };
 
-    ghost invariant = { λ c. IsEquality c.base c.bitmaps.items (equality_digits c.base c.bitmaps.items) };
+    ghost invariant = { λ c. IsEquality c.base c.bitmaps.vectors (equality_digits c.base c.bitmaps.vectors) };
 }
 
 /// The first digit that has a bitmap.
@@ -41,16 +42,40 @@ fn first_stored(base: u32) -> u32
     if base == 2 { 1 } else { 0 }
 }
 
-/// Appends to each bitmap whether the digit is its own, of which the first is `first`.
-fn push_digit(bitmaps: &mut Vec<Bits>, first: u32, digit: u32)
-    requires small { first ≤ 1 }
-    requires room { IsTrue (has_room_in bitmaps.old.items) }
-    ensures count { length bitmaps.new.items ≡ length bitmaps.old.items }
-    ensures bits { (j : ℕ) → j < length bitmaps.old.items →
-        bitmap bitmaps.new.items j ≡ bitmap bitmaps.old.items j ++ (digit == first + j) ∷ [] }
+/// Appends a block of digits to the bitmaps, of which the first is that of digit `first`. There is a word for each
+/// digit below the base.
+fn push_marked(bitmaps: &mut Bitmaps, first: u32, block: &[u32], words: &mut [u64])
+    requires long { length words.old ≡ first + length bitmaps.old.vectors }
+    requires few { length block.now ≤ 64 }
+    requires room { length block.now ≤ bitmaps.old.room }
+    requires below { (k : ℕ) → k < length block.now → slice_index block.now k < length words.old }
+    ensures count { length bitmaps.new.vectors ≡ length bitmaps.old.vectors }
+    ensures bits { (j : ℕ) → j < length bitmaps.old.vectors →
+        bitmap bitmaps.new.vectors j ≡ bitmap bitmaps.old.vectors j ++ map (λ v. v == first + j) block.now }
+    ensures room { bitmaps.new.room + length block.now ≡ bitmaps.old.room }
 {
-    'bitmaps: for j in 0..bitmaps.len() {
-        bitmaps[j].push_reserved(digit as usize == first as usize + j);
+    mark(block, words);
+    bitmaps.push_words(&words[first as usize..], block.len() as u64);
+}
+
+/// Appends a block of digits below a base to the bitmaps, of which the first is that of digit `first`.
+fn push_block(bitmaps: &mut Bitmaps, first: u32, base: u32, block: &[u32])
+    requires long { base ≡ first + length bitmaps.old.vectors }
+    requires small { base ≤ 1024 }
+    requires few { length block.now ≤ 64 }
+    requires room { length block.now ≤ bitmaps.old.room }
+    requires below { (k : ℕ) → k < length block.now → slice_index block.now k < base }
+    ensures count { length bitmaps.new.vectors ≡ length bitmaps.old.vectors }
+    ensures bits { (j : ℕ) → j < length bitmaps.old.vectors →
+        bitmap bitmaps.new.vectors j ≡ bitmap bitmaps.old.vectors j ++ map (λ v. v == first + j) block.now }
+    ensures room { bitmaps.new.room + length block.now ≡ bitmaps.old.room }
+{
+    if base <= SMALL_BASE {
+        let mut words = [0; SMALL_BASE as usize];
+        push_marked(bitmaps, first, block, &mut words[..base as usize]);
+    } else {
+        let mut words = [0; MAX_BASE as usize];
+        push_marked(bitmaps, first, block, &mut words[..base as usize]);
     }
 }
 
@@ -61,7 +86,7 @@ impl EqualityComponent {
         requires stored { self.now.base ≡ 2 → j ≡ 1 }
         ensures { result.now.bits ≡ map (λ v. v == j) self.now.digits }
     {
-        &self.bitmaps[(j - first_stored(self.base)) as usize]
+        &self.bitmaps.as_slice()[(j - first_stored(self.base)) as usize]
     }
 
     /// Writes for each row whether its digit is from `from` on and below `to`.
@@ -105,6 +130,21 @@ impl EqualityComponent {
         rows
     }
 
+    /// Whether a row of a block has the digit `d`.
+    fn has_digit(&self, d: u32, at: usize, block: &[u64]) -> bool
+        requires below { d < self.now.base }
+        requires within { at + length block.now ≤ (length self.now.digits + 63) / 64 }
+        requires rows { (p : ℕ) → p < 64 * length block.now → bit_of block.now p ≡ true → 64 * at + p < length self.now.digits }
+        ensures some { IsTrue result → HasRow (λ p. bit_of block.now p && (slice_index self.now.digits (64 * at + p) == d)) (64 * length block.now) }
+        ensures none { IsFalse result → (p : ℕ) → p < 64 * length block.now → bit_of block.now p ≡ true → slice_index self.now.digits (64 * at + p) ≢ d }
+    {
+        if d == 0 && self.base() == 2 {
+            exceeds(self.bitmap(1), at, block)
+        } else {
+            meets(self.bitmap(d), at, block)
+        }
+    }
+
     /// Sets in a block the rows whose digit is from `from` on and below `to`.
     fn add_among(&self, from: u32, to: u32, at: usize, block: &mut [u64])
         requires within { (from ≤ to) × (to ≤ self.now.base) }
@@ -139,10 +179,10 @@ impl Encoding for EqualityComponent {
 
     ghost digits = { λ c. c.digits };
 
-    ghost room = { λ c. c.room };
+    ghost room_of = { λ c. c.room };
 
     fn make(alloc: Global, base: u32) -> Result<Self, NoMemory> {
-        let bitmaps = make_empty(alloc, (base - first_stored(base)) as usize)?;
+        let bitmaps = Bitmaps::new(alloc, (base - first_stored(base)) as usize)?;
         Ok(EqualityComponent { base, bitmaps })
     }
 
@@ -155,20 +195,28 @@ impl Encoding for EqualityComponent {
     }
 
     fn len(&self) -> u64 {
-        self.bitmaps[0].len()
+        self.bitmaps.len()
     }
 
-    fn has_room(&self) -> bool {
-        have_room(&self.bitmaps)
+    fn room(&self) -> u64 {
+        self.bitmaps.room()
     }
 
-    fn reserve_one(&mut self) -> Result<(), NoMemory> {
-        reserve_each(&mut self.bitmaps)
+    fn reserve(&mut self, more: u64) -> Result<(), NoMemory> {
+        self.bitmaps.reserve(more)
     }
 
     fn push_reserved(&mut self, digit: u32) {
         let first = first_stored(self.base);
-        push_digit(&mut self.bitmaps, first, digit);
+        self.bitmaps.push_each(
+            |j: usize| -> bool
+                ensures { result ≡ (digit == first + j) }
+            { digit >= first && (digit - first) as usize == j },
+        );
+    }
+
+    fn push_block_reserved(&mut self, block: &[u32]) {
+        push_block(&mut self.bitmaps, first_stored(self.base), self.base, block);
     }
 
     fn eq_into(&self, d: u32, out: &mut Bits) {
@@ -239,7 +287,7 @@ impl Encoding for EqualityComponent {
     }
 
     fn copy(&self) -> Result<Self, NoMemory> {
-        let bitmaps = copy_each(&self.bitmaps)?;
+        let bitmaps = self.bitmaps.copy()?;
         Ok(EqualityComponent {
             base: self.base,
             bitmaps,
@@ -286,5 +334,28 @@ impl Encoding for EqualityComponent {
             self.drop_among(d + 1, base, at, block);
         }
         true
+    }
+
+    // It reads the bitmaps from digit 0 up.
+    fn least_in_block(&self, limit: u32, at: usize, block: &[u64]) -> EndDigit {
+        let _base = self.base();
+        'digits: for digit in 0..limit + 1 {
+            if self.has_digit(digit, at, block) {
+                return EndDigit::Digit(digit);
+            }
+        }
+        EndDigit::Past
+    }
+
+    // It reads the bitmaps from the greatest digit down.
+    fn greatest_in_block(&self, limit: u32, at: usize, block: &[u64]) -> EndDigit {
+        let mut digit = self.base();
+        'digits: while digit > limit {
+            digit -= 1;
+            if self.has_digit(digit, at, block) {
+                return EndDigit::Digit(digit);
+            }
+        }
+        EndDigit::Past
     }
 }

@@ -1,16 +1,17 @@
 //! The range encoded component: bitmap j says of each row whether its digit is at most j (Chan and Ioannidis 1998).
 
-ghost use Rattle.std.specs.Prelude.{◌≡◌, ℕ, ◌+◌, ◌*◌, ◌/◌, ◌<◌, ◌≤◌, ◌==◌, ◌&&◌, [], ◌∷◌, ◌++◌, length, map, nat_le, slice_index, IsTrue};
+ghost use Rattle.std.specs.Prelude.{◌≡◌, ℕ, ◌+◌, ◌*◌, ◌/◌, ◌<◌, ◌≤◌, ◌==◌, ◌&&◌, [], ◌∷◌, ◌++◌, length, map, nat_le, nat_lt, true, slice_index, IsTrue, IsFalse};
 ghost use Rattle.std.specs.Bool.{OnTrue, OnFalse};
 ghost use Rattle.bsi_bits.specs.Packed.{bit_of};
-ghost use Rattle.bsi_components.specs.Bitmaps.{bitmap, has_room_in};
+ghost use Rattle.bsi_components.specs.Bitmaps.{bitmap};
 ghost use Rattle.bsi_components.specs.Component.{at_most_from};
+ghost use Rattle.bsi_components.specs.EndDigits.{HasRow};
 
 use crate::NoMemory;
-use crate::bitmaps::{copy_each, have_room, make_empty, reserve_each};
-use crate::blocks::{add_in, drop_in, keep_and_add, keep_but_drop, keep_in};
-use crate::encoding::Encoding;
-use bsi_bits::Bits;
+use crate::blocks::{add_in, drop_in, exceeds, keep_and_add, keep_but_drop, keep_in, meets};
+use crate::encoding::{Encoding, EndDigit};
+use crate::marks::{MAX_BASE, SMALL_BASE, join, mark};
+use bsi_bits::{Bitmaps, Bits};
 use std::alloc::Global;
 use std::marker::Model;
 
@@ -19,30 +20,55 @@ use std::marker::Model;
 #[derive(Drop)]
 pub struct RangeComponent {
     base: u32,
-    bitmaps: Vec<Bits>,
+    bitmaps: Bitmaps,
 }
 
-// Clauses see the base, the digits and whether there is room for one more.
+// Clauses see the base, the digits and for how many more there is room.
 impl Model for RangeComponent {
-    ghost use Rattle.bsi_components.specs.Bitmaps.{Component, has_room_in};
+    ghost use Rattle.bsi_components.specs.Bitmaps.{Component};
     ghost use Rattle.bsi_components.specs.Range.{range_digits, IsRange};
 
     ghost Value = { Component };
 
-    ghost view = { λ c. record { base = c.base; digits = range_digits c.bitmaps.items; room = has_room_in c.bitmaps.items } };
+    ghost view = { λ c. record { base = c.base; digits = range_digits c.bitmaps.vectors; room = c.bitmaps.room } };
 
-    ghost invariant = { λ c. IsRange c.base c.bitmaps.items (range_digits c.bitmaps.items) };
+    ghost invariant = { λ c. IsRange c.base c.bitmaps.vectors (range_digits c.bitmaps.vectors) };
 }
 
-/// Appends to each bitmap whether the digit is at most its place.
-fn push_digit(bitmaps: &mut Vec<Bits>, digit: u32)
-    requires { IsTrue (has_room_in bitmaps.old.items) }
-    ensures count { length bitmaps.new.items ≡ length bitmaps.old.items }
-    ensures bits { (j : ℕ) → j < length bitmaps.old.items →
-        bitmap bitmaps.new.items j ≡ bitmap bitmaps.old.items j ++ nat_le digit j ∷ [] }
+/// Appends a block of digits to the bitmaps. There is a word for each digit below the base.
+fn push_marked(bitmaps: &mut Bitmaps, block: &[u32], words: &mut [u64])
+    requires long { length words.old ≡ length bitmaps.old.vectors + 1 }
+    requires few { length block.now ≤ 64 }
+    requires room { length block.now ≤ bitmaps.old.room }
+    requires below { (k : ℕ) → k < length block.now → slice_index block.now k < length words.old }
+    ensures count { length bitmaps.new.vectors ≡ length bitmaps.old.vectors }
+    ensures bits { (j : ℕ) → j < length bitmaps.old.vectors →
+        bitmap bitmaps.new.vectors j ≡ bitmap bitmaps.old.vectors j ++ map (λ v. nat_le v j) block.now }
+    ensures room { bitmaps.new.room + length block.now ≡ bitmaps.old.room }
 {
-    'bitmaps: for j in 0..bitmaps.len() {
-        bitmaps[j].push_reserved(digit as usize <= j);
+    mark(block, words);
+    join(words);
+    bitmaps.push_words(&words[..words.len() - 1], block.len() as u64);
+}
+
+/// Appends a block of digits below a base to the bitmaps.
+fn push_block(bitmaps: &mut Bitmaps, base: u32, block: &[u32])
+    requires long { base ≡ length bitmaps.old.vectors + 1 }
+    requires small { base ≤ 1024 }
+    requires few { length block.now ≤ 64 }
+    requires room { length block.now ≤ bitmaps.old.room }
+    requires below { (k : ℕ) → k < length block.now → slice_index block.now k < base }
+    ensures count { length bitmaps.new.vectors ≡ length bitmaps.old.vectors }
+    ensures bits { (j : ℕ) → j < length bitmaps.old.vectors →
+        bitmap bitmaps.new.vectors j ≡ bitmap bitmaps.old.vectors j ++ map (λ v. nat_le v j) block.now }
+    ensures room { bitmaps.new.room + length block.now ≡ bitmaps.old.room }
+{
+    if base <= SMALL_BASE {
+        let mut words = [0; SMALL_BASE as usize];
+        push_marked(bitmaps, block, &mut words[..base as usize]);
+    } else {
+        let mut words = [0; MAX_BASE as usize];
+        push_marked(bitmaps, block, &mut words[..base as usize]);
     }
 }
 
@@ -52,7 +78,29 @@ impl RangeComponent {
         requires { j + 1 < self.now.base }
         ensures { result.now.bits ≡ map (λ v. nat_le v j) self.now.digits }
     {
-        &self.bitmaps[j as usize]
+        &self.bitmaps.as_slice()[j as usize]
+    }
+
+    /// Whether a row of a block has a digit of at most `d`.
+    fn has_upto(&self, d: u32, at: usize, block: &[u64]) -> bool
+        requires below { d + 1 < self.now.base }
+        requires within { at + length block.now ≤ (length self.now.digits + 63) / 64 }
+        requires rows { (p : ℕ) → p < 64 * length block.now → bit_of block.now p ≡ true → 64 * at + p < length self.now.digits }
+        ensures some { IsTrue result → HasRow (λ p. bit_of block.now p && nat_le (slice_index self.now.digits (64 * at + p)) d) (64 * length block.now) }
+        ensures none { IsFalse result → (p : ℕ) → p < 64 * length block.now → bit_of block.now p ≡ true → d < slice_index self.now.digits (64 * at + p) }
+    {
+        meets(self.bitmap(d), at, block)
+    }
+
+    /// Whether a row of a block has a digit above `d`.
+    fn has_above(&self, d: u32, at: usize, block: &[u64]) -> bool
+        requires below { d + 1 < self.now.base }
+        requires within { at + length block.now ≤ (length self.now.digits + 63) / 64 }
+        requires rows { (p : ℕ) → p < 64 * length block.now → bit_of block.now p ≡ true → 64 * at + p < length self.now.digits }
+        ensures some { IsTrue result → HasRow (λ p. bit_of block.now p && nat_lt d (slice_index self.now.digits (64 * at + p))) (64 * length block.now) }
+        ensures none { IsFalse result → (p : ℕ) → p < 64 * length block.now → bit_of block.now p ≡ true → slice_index self.now.digits (64 * at + p) ≤ d }
+    {
+        exceeds(self.bitmap(d), at, block)
     }
 
     /// The greatest digit.
@@ -70,10 +118,10 @@ impl Encoding for RangeComponent {
 
     ghost digits = { λ c. c.digits };
 
-    ghost room = { λ c. c.room };
+    ghost room_of = { λ c. c.room };
 
     fn make(alloc: Global, base: u32) -> Result<Self, NoMemory> {
-        let bitmaps = make_empty(alloc, base as usize - 1)?;
+        let bitmaps = Bitmaps::new(alloc, base as usize - 1)?;
         Ok(RangeComponent { base, bitmaps })
     }
 
@@ -82,19 +130,27 @@ impl Encoding for RangeComponent {
     }
 
     fn len(&self) -> u64 {
-        self.bitmaps[0].len()
+        self.bitmaps.len()
     }
 
-    fn has_room(&self) -> bool {
-        have_room(&self.bitmaps)
+    fn room(&self) -> u64 {
+        self.bitmaps.room()
     }
 
-    fn reserve_one(&mut self) -> Result<(), NoMemory> {
-        reserve_each(&mut self.bitmaps)
+    fn reserve(&mut self, more: u64) -> Result<(), NoMemory> {
+        self.bitmaps.reserve(more)
     }
 
     fn push_reserved(&mut self, digit: u32) {
-        push_digit(&mut self.bitmaps, digit);
+        self.bitmaps.push_each(
+            |j: usize| -> bool
+                ensures { result ≡ nat_le digit j }
+            { digit as usize <= j },
+        );
+    }
+
+    fn push_block_reserved(&mut self, block: &[u32]) {
+        push_block(&mut self.bitmaps, self.base, block);
     }
 
     fn eq_into(&self, d: u32, out: &mut Bits) {
@@ -149,7 +205,7 @@ impl Encoding for RangeComponent {
     }
 
     fn copy(&self) -> Result<Self, NoMemory> {
-        let bitmaps = copy_each(&self.bitmaps)?;
+        let bitmaps = self.bitmaps.copy()?;
         Ok(RangeComponent {
             base: self.base,
             bitmaps,
@@ -190,5 +246,35 @@ impl Encoding for RangeComponent {
             keep_in(self.bitmap(0), at, block);
         }
         true
+    }
+
+    // The first bitmap that it reads tells whether a digit is within the limit.
+    fn least_in_block(&self, limit: u32, at: usize, block: &[u64]) -> EndDigit {
+        if limit < self.top() && !self.has_upto(limit, at, block) {
+            return EndDigit::Past;
+        }
+        let mut digit = limit;
+        'digits: while digit > 0 {
+            if !self.has_upto(digit - 1, at, block) {
+                return EndDigit::Digit(digit);
+            }
+            digit -= 1;
+        }
+        EndDigit::Digit(0)
+    }
+
+    // The first bitmap that it reads tells whether a digit is within the limit.
+    fn greatest_in_block(&self, limit: u32, at: usize, block: &[u64]) -> EndDigit {
+        if limit > 0 && !self.has_above(limit - 1, at, block) {
+            return EndDigit::Past;
+        }
+        let mut digit = limit;
+        'digits: while digit < self.top() {
+            if !self.has_above(digit, at, block) {
+                return EndDigit::Digit(digit);
+            }
+            digit += 1;
+        }
+        EndDigit::Digit(digit)
     }
 }

@@ -6,7 +6,7 @@ use Rattle.bsi_columns.specs.Rows.{number_or_zero}
 pub record PlainRows : Type 0 where
   pub size : ℕ
   pub entries : List (Option ℕ)
-  pub room : Bool
+  pub room : ℕ
 
 -- the entries are below the size, and the bitmap says which are numbers
 pub record IsPlain (size : ℕ) (entries : List (Option ℕ)) (present : List Bool) : Type 0 where

@@ -18,14 +18,14 @@ pub struct PlainColumn {
     present: Bits,
 }
 
-// Clauses see the size, the entries and whether there is room for one more.
+// Clauses see the size, the entries and for how many more there is room.
 impl Model for PlainColumn {
-    ghost use Rattle.std.specs.Prelude.{◌&&◌, nat_lt, vec_len, vec_capacity};
+    ghost use Rattle.std.specs.Prelude.{◌-◌, min, vec_len, vec_capacity};
     ghost use Rattle.bsi_plain.specs.Plain.{PlainRows, IsPlain};
 
     ghost Value = { PlainRows };
 
-    ghost view = { λ c. record { size = c.size; entries = c.entries.items; room = c.present.room && nat_lt (vec_len c.entries) (vec_capacity c.entries) } };
+    ghost view = { λ c. record { size = c.size; entries = c.entries.items; room = min c.present.room (vec_capacity c.entries - vec_len c.entries) } };
 
     ghost invariant = { λ c. IsPlain c.size c.entries.items c.present.bits };
 }
@@ -61,7 +61,7 @@ impl Column for PlainColumn {
 
     ghost entries = { λ c. c.entries };
 
-    ghost room = { λ c. c.room };
+    ghost room_of = { λ c. c.room };
 
     fn size(&self) -> u64 {
         self.size
@@ -71,16 +71,14 @@ impl Column for PlainColumn {
         self.present.len()
     }
 
-    fn has_room(&self) -> bool {
-        self.present.has_room() && self.entries.len() < self.entries.capacity()
+    fn room(&self) -> u64 {
+        let spare = (self.entries.capacity() - self.entries.len()) as u64;
+        self.present.room().min(spare)
     }
 
-    fn reserve_one(&mut self) -> Result<(), NoMemory> {
-        if self.has_room() {
-            return Ok(());
-        }
-        self.entries.reserve(1)?;
-        self.present.reserve_one()
+    fn reserve(&mut self, more: u64) -> Result<(), NoMemory> {
+        self.entries.reserve(more as usize)?;
+        self.present.reserve(more)
     }
 
     fn push_reserved(&mut self, entry: Option<u64>) {

@@ -35,7 +35,7 @@ impl<E: Encoding> Encoding for WholeVectors<E> {
 
     ghost digits = { λ c. E.digits c.inner };
 
-    ghost room = { λ c. E.room c.inner };
+    ghost room_of = { λ c. E.room_of c.inner };
 
     fn make(alloc: Global, base: u32) -> Result<Self, NoMemory> {
         let inner = E::make(alloc, base)?;
@@ -54,12 +54,12 @@ impl<E: Encoding> Encoding for WholeVectors<E> {
         self.inner.len()
     }
 
-    fn has_room(&self) -> bool {
-        self.inner.has_room()
+    fn room(&self) -> u64 {
+        self.inner.room()
     }
 
-    fn reserve_one(&mut self) -> Result<(), NoMemory> {
-        self.inner.reserve_one()
+    fn reserve(&mut self, more: u64) -> Result<(), NoMemory> {
+        self.inner.reserve(more)
     }
 
     fn push_reserved(&mut self, digit: u32) {

@@ -1,6 +1,8 @@
 -- A number that is read digit by digit, from the left.
 use Rattle.std.proofs.Common.{◌≡◌, ℕ, ◌+◌, ◌-◌, ◌*◌, ◌^◌, ◌<◌, ◌≤◌, true, false, ◌&&◌, List, length, get_or, take, Some, None, ◌∙◌, ap, arith, lt-ltb, le-leb, le-ltb, refl, nat_lt}
 use Rattle.std.proofs.Math.Bool.{and-false}
+use Rattle.std.proofs.Math.Nat.{pow-le-pow_right}
+use Rattle.std.proofs.lemmas.Nat.{pow-add}
 use Rattle.std.proofs.lemmas.Bool.Decides.{nat_tests}
 use Rattle.std.proofs.lemmas.Int.Digits.{digits_value_more}
 use Rattle.std.proofs.lemmas.Str.Parse.{digits_value-take-le}
@@ -41,3 +43,14 @@ pub is_some : (text : List ℕ) → 0 < length text → length text ≤ 20 → l
     → digits_value 10 text < 2 ^ 64 → Some (digits_value 10 text) ≡ number_of text
 is_some text some few digits small =
     rw (lt-ltb _ _ some, le-leb _ _ few, digits, lt-ltb _ _ small) refl
+
+-- one more digit behind i of them
+pub ten_more : (i : ℕ) → 10 ^ (i + 1) ≡ 10 ^ i * 10
+ten_more i = pow-add 10 i 1
+
+-- nineteen digits write less than a `u64` holds
+pub ten_within : (i : ℕ) → i < 19 → 10 ^ i * 10 ≤ 10 ^ 19
+ten_within i few =
+    let behind : i + 1 ≤ 19 = omega arith in
+    let most : 10 ^ (i + 1) ≤ 10 ^ 19 = pow-le-pow_right {n = 10} (omega arith) {i = i + 1} {j = 19} behind in
+    omega (arith, most, ten_more i)

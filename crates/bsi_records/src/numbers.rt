@@ -1,12 +1,15 @@
 //! Numbers and values: what the bytes of a field spell.
 
-ghost use Rattle.std.specs.Prelude.{◌≡◌, ◌≤◌, option_map, pos, IfOk, IfSome};
+ghost use Rattle.std.specs.Prelude.{◌≡◌, ◌<◌, ◌≤◌, length, option_map, pos, IfOk, IfSome};
 ghost use Rattle.bsi_records.specs.Numbers.{bases_of, feeder_of, number_in, number_of, number_within, offset_of, signed_of, small_of, smalls_of, value_in};
 
 use std::alloc::{AllocError as NoMemory, Global};
 
 /// The most digits of a number: those of the greatest `u64`.
 const MAX_DIGITS: usize = 20;
+
+/// The greatest number behind which any digit gives a `u64`.
+const SMALL: u64 = (u64::MAX - 9) / 10;
 
 /// Reads a number of one to twenty digits, leading zeros among them, whose value is a `u64`. It takes no memory.
 pub fn read_number(text: &[u8]) -> Option<u64>
@@ -15,15 +18,46 @@ pub fn read_number(text: &[u8]) -> Option<u64>
     if text.is_empty() || text.len() > MAX_DIGITS {
         return None;
     }
+    if text.len() < MAX_DIGITS {
+        return read_short(text);
+    }
+    read_long(text)
+}
+
+/// Reads a number of fewer digits than the greatest `u64` has, which a `u64` holds whatever they are.
+fn read_short(text: &[u8]) -> Option<u64>
+    requires { (0 < length text.now) × (length text.now < 20) }
+    ensures { result ≡ number_of text.now }
+{
     let mut value = 0u64;
     'digits: for byte in text {
         if !byte.is_ascii_digit() {
             return None;
         }
+        value = value * 10 + u64::from(*byte - b'0');
+    }
+    Some(value)
+}
+
+/// Reads a number of as many digits as the greatest `u64` has.
+fn read_long(text: &[u8]) -> Option<u64>
+    requires { (0 < length text.now) × (length text.now ≤ 20) }
+    ensures { result ≡ number_of text.now }
+{
+    let mut value = 0u64;
+    'digits: for byte in text {
+        if !byte.is_ascii_digit() {
+            return None;
+        }
+        let digit = u64::from(*byte - b'0');
+        if value <= SMALL {
+            value = value * 10 + digit;
+            continue;
+        }
         let Some(tens) = value.checked_mul(10) else {
             return None;
         };
-        let Some(next) = tens.checked_add(u64::from(*byte - b'0')) else {
+        let Some(next) = tens.checked_add(digit) else {
             return None;
         };
         value = next;

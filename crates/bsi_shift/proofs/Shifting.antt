@@ -1,9 +1,9 @@
 -- The entries that a stored column and an offset stand for.
-use Rattle.std.proofs.Common.{◌≡◌, ℕ, ℤ, pos, ◌+ℤ◌, ◌≤ℤ◌, ◌<ℤ◌, ◌<◌, ◌≤◌, ◌^◌, Bool, true, false, List, [], ◌∷◌, ◌++◌, Option, Some, None, length, map, is_some, is_none, ap, ap₂, ◌∙◌, refl, arith}
+use Rattle.std.proofs.Common.{◌≡◌, ℕ, ℤ, pos, ◌+ℤ◌, ◌≤ℤ◌, ◌<ℤ◌, ◌<◌, ◌≤◌, ◌^◌, Bool, true, false, List, [], ◌∷◌, ◌++◌, Option, Some, None, length, get_or, take, map, is_some, is_none, ap, ap₂, ◌∙◌, refl, arith}
 use Rattle.std.specs.Prelude.{All, IfSome}
 use Rattle.std.specs.Option.{option_map}
 use Rattle.std.proofs.lemmas.Int.{ints}
-use Rattle.std.proofs.lemmas.List.{length-map, map-append}
+use Rattle.std.proofs.lemmas.List.{length-map, length-take-le, get_or-map, get_or-take, get_or_default, same_lists, map-append}
 use Rattle.std.proofs.lemmas.List.Elements.{All-head, All-tail, All-map, All-weaker}
 use Rattle.bsi_columns.specs.AnyRows.{any_entries}
 use Rattle.bsi_slices.specs.Orders.{compares_by, values_at}
@@ -50,6 +50,11 @@ in_range_from offset size stored below = All-map (IsInRange offset size) (option
 -- a comparison that agrees on each stored number selects the same rows
 module _ (offset constant : ℤ) (op stored_op : Op) (stored_constant size : ℕ)
     (agree : (n : ℕ) → n < size → compares_by number_order stored_op n stored_constant ≡ compares_by whole_order op (number_of offset n) constant) where
+  -- of one entry
+  pub selected_one : (e : Option ℕ) → number_or_zero e < size → selects stored_op stored_constant e ≡ signed_selects op constant (option_map (number_of offset) e)
+  selected_one None below = refl
+  selected_one (Some n) below = agree n below
+
   pub selected_from : (stored : List (Option ℕ)) → All (λ e. number_or_zero e < size) stored
       → map (selects stored_op stored_constant) stored ≡ map (signed_selects op constant) (entries_from offset stored)
   selected_from [] below = refl
@@ -73,3 +78,23 @@ pub fits : (offset : ℤ) (size : ℕ) → size ≤ 2 ^ 63 → (offset +ℤ pos 
     → IfSome answer (λ n. (n < 2 ^ 63) × (number_of offset n <ℤ pos (2 ^ 63)))
 fits offset size small within None below = tt
 fits offset size small within (Some n) below = (omega (arith), omega (arith, ints))
+
+-- a block of stored entries stands for the block that it was made of
+pub entries_from-block : (offset : ℤ) (stored : List (Option ℕ)) (block : List (Option ℤ)) → length block ≤ length stored
+    → ((r : ℕ) → r < length block → option_map (number_of offset) (get_or stored r None) ≡ get_or block r None) → entries_from offset (take (length block) stored) ≡ block
+entries_from-block offset stored block enough each =
+    let long : length (take (length block) stored) ≡ length block = length-take-le (length block) stored enough in
+    same_lists _ _ (length-map (take (length block) stored) (option_map (number_of offset)) ∙ long) (λ r d within.
+    let below : r < length block = omega (arith, within, long, length-map (take (length block) stored) (option_map (number_of offset))) in
+    get_or-map (option_map (number_of offset)) (take (length block) stored) r None d (omega (arith, below, long))
+    ∙ ap (option_map (number_of offset)) (get_or-take (length block) stored r None below)
+    ∙ each r below
+    ∙ get_or_default block r None d below)
+
+-- entry r is that of what is stored
+pub entry_from : (c : OffsetColumn) (r : ℕ) → r < length (any_entries c.stored) → get_or (shifted_entries c) r None ≡ option_map (number_of c.offset) (get_or (any_entries c.stored) r None)
+entry_from c r within = ap (λ es. get_or es r None) (shifted_entries-is c) ∙ get_or-map (option_map (number_of c.offset)) (any_entries c.stored) r None None within
+
+pub null_from : (offset : ℤ) (e : Option ℕ) → is_none (option_map (number_of offset) e) ≡ is_none e
+null_from offset None = refl
+null_from offset (Some n) = refl

@@ -1,5 +1,5 @@
 -- A column of whole numbers, each of which is stored less an offset.
-use Rattle.std.specs.Prelude.{◌≡◌, ℕ, ◌<◌, ◌≤◌, ◌^◌, All, ℤ, pos, ◌+ℤ◌, ◌≤ℤ◌, ◌<ℤ◌, Bool, List, Option, IfSome, map}
+use Rattle.std.specs.Prelude.{◌≡◌, ℕ, ◌<◌, ◌≤◌, ◌^◌, All, ℤ, pos, ◌+ℤ◌, ◌≤ℤ◌, ◌<ℤ◌, List, Option, IfSome, map}
 use Rattle.std.specs.Option.{option_map}
 use Rattle.bsi_columns.specs.declared.any.AnyColumn.{AnyColumn}
 use Rattle.bsi_columns.specs.AnyRows.{any_entries, any_room, any_size}
@@ -22,8 +22,8 @@ shifted_entries c = map (option_map (number_of c.offset)) (any_entries c.stored)
 abbrev pub shifted_size : OffsetColumn → ℕ
 shifted_size c = any_size c.stored
 
--- whether one more entry can be appended with no memory
-abbrev pub shifted_room : OffsetColumn → Bool
+-- how many more entries can be appended with no memory
+abbrev pub shifted_room : OffsetColumn → ℕ
 shifted_room c = any_room c.stored
 
 -- the entry is a null, or one of as many numbers as the size, from the offset on

@@ -1,10 +1,13 @@
 //! A column of whole numbers from an offset on, kept as the column of the numbers less the offset.
 
-ghost use Rattle.std.specs.Prelude.{◌≡◌, ℕ, ℤ, pos, neg_ℤ, ◌+ℤ◌, ◌*ℤ◌, ◌≤ℤ◌, ◌<ℤ◌, ◌<◌, ◌≤◌, ◌^◌, [], ◌∷◌, ◌++◌, All, length, map, is_none, is_some, IsTrue, IsOk, IfOk, IfSome, OnOk, OnErr};
+ghost use Rattle.std.specs.Prelude.{◌≡◌, ℕ, ℤ, pos, neg_ℤ, ◌+ℤ◌, ◌*ℤ◌, ◌≤ℤ◌, ◌<ℤ◌, ◌+◌, ◌*◌, ◌/◌, ◌&&◌, ◌<◌, ◌≤◌, ◌^◌, [], ◌∷◌, ◌++◌, All, length, map, None, slice_index_or, is_none, is_some, nat_lt, IsOk, IfOk, IfSome, OnOk, OnErr};
 ghost use Rattle.std.specs.Option.{option_map};
+ghost use Rattle.bsi_bits.specs.Packed.{bit_of};
 ghost use Rattle.bsi_columns.specs.AnyRows.{any_entries, any_size, any_bases, IsSameForm};
 ghost use Rattle.bsi_slices.specs.Orders.{values_at, compares_by};
+ghost use Rattle.bsi_slices.specs.Ranks.{IsOfRank};
 ghost use Rattle.bsi_slices.specs.Rows.{number_order};
+ghost use Rattle.bsi_slices.specs.Totals.{numbers_at};
 ghost use Rattle.bsi_shift.specs.Shifted.{OffsetColumn, shifted_entries, shifted_size, shifted_room, number_of, IsInRange};
 ghost use Rattle.bsi_shift.specs.WholeNumbers.{whole_order, signed_selects, signed_sum, IsSignedLeastOf, IsSignedGreatestOf, IsSignedMedianOf, IsSignedOfRank};
 
@@ -80,15 +83,39 @@ impl Shifted {
         self.stored.len()
     }
 
+    /// Returns how many more entries can be appended with no memory.
+    pub fn room(&self) -> u64
+        ensures room { result ≡ shifted_room self.now }
+        ensures within { length (shifted_entries self.now) + result ≤ 2 ^ 32 }
+    {
+        self.stored.room()
+    }
+
+    /// Makes room for so many more entries. The entries stay, and there is no less room than before, whatever the result; where
+    /// it is refused, there is still not room for so many. It takes memory only where there is not.
+    pub fn reserve(&mut self, more: u64) -> Result<(), NoMemory>
+        requires { length (shifted_entries self.old) + more ≤ 2 ^ 32 }
+        ensures entries { shifted_entries self.new ≡ shifted_entries self.old }
+        ensures offset { self.new.offset ≡ self.old.offset }
+        ensures size { shifted_size self.new ≡ shifted_size self.old }
+        ensures bases { any_bases self.new.stored ≡ any_bases self.old.stored }
+        ensures form { IsSameForm self.new.stored self.old.stored }
+        ensures ok { OnOk result (more ≤ shifted_room self.new) }
+        ensures kept { shifted_room self.old ≤ shifted_room self.new }
+        ensures err { OnErr result (shifted_room self.new < more) }
+        ensures succeeds { more ≤ shifted_room self.old → IsOk result }
+    {
+        self.stored.reserve(more)
+    }
+
     /// Whether one more entry can be appended with no memory.
     pub fn has_room(&self) -> bool
-        ensures { result ≡ shifted_room self.now }
+        ensures { result ≡ nat_lt 0 (shifted_room self.now) }
     {
         self.stored.has_room()
     }
 
-    /// Makes room for one more entry. The entries stay, whatever the result; where it is refused, there is no more room than
-    /// before. It takes memory only where there is no room.
+    /// Makes room for one more entry, as `reserve` does for many.
     pub fn reserve_one(&mut self) -> Result<(), NoMemory>
         requires { length (shifted_entries self.old) < 2 ^ 32 }
         ensures entries { shifted_entries self.new ≡ shifted_entries self.old }
@@ -96,25 +123,44 @@ impl Shifted {
         ensures size { shifted_size self.new ≡ shifted_size self.old }
         ensures bases { any_bases self.new.stored ≡ any_bases self.old.stored }
         ensures form { IsSameForm self.new.stored self.old.stored }
-        ensures ok { OnOk result (IsTrue (shifted_room self.new)) }
+        ensures ok { OnOk result (0 < shifted_room self.new) }
+        ensures kept { shifted_room self.old ≤ shifted_room self.new }
         ensures err { OnErr result (shifted_room self.new ≡ shifted_room self.old) }
-        ensures succeeds { IsTrue (shifted_room self.old) → IsOk result }
+        ensures succeeds { 0 < shifted_room self.old → IsOk result }
     {
         self.stored.reserve_one()
     }
 
     /// Appends a null, or a number from the offset on that is below the offset and the size together, in room that is there.
     pub fn push_reserved(&mut self, entry: Option<i64>)
-        requires room { IsTrue (shifted_room self.old) }
+        requires room { 0 < shifted_room self.old }
         requires range { IsInRange self.old.offset (shifted_size self.old) entry }
         ensures entries { shifted_entries self.new ≡ shifted_entries self.old ++ entry ∷ [] }
         ensures offset { self.new.offset ≡ self.old.offset }
         ensures size { shifted_size self.new ≡ shifted_size self.old }
         ensures bases { any_bases self.new.stored ≡ any_bases self.old.stored }
         ensures form { IsSameForm self.new.stored self.old.stored }
+        ensures room { shifted_room self.old ≤ shifted_room self.new + 1 }
     {
         let stored = stored_from(self.offset, entry);
         self.stored.push_reserved(stored);
+    }
+
+    /// Appends a block of at most 64 entries, in room that is there: numbers as `push_reserved` takes them, and nulls.
+    pub fn push_block_reserved(&mut self, block: &[Option<i64>])
+        requires few { length block.now ≤ 64 }
+        requires room { length block.now ≤ shifted_room self.old }
+        requires range { All (IsInRange self.old.offset (shifted_size self.old)) block.now }
+        ensures entries { shifted_entries self.new ≡ shifted_entries self.old ++ block.now }
+        ensures offset { self.new.offset ≡ self.old.offset }
+        ensures size { shifted_size self.new ≡ shifted_size self.old }
+        ensures bases { any_bases self.new.stored ≡ any_bases self.old.stored }
+        ensures form { IsSameForm self.new.stored self.old.stored }
+        ensures room { shifted_room self.old ≤ shifted_room self.new + length block.now }
+    {
+        let mut stored = [None; 64];
+        store_block(self.offset, block, &mut stored);
+        self.stored.push_block_reserved(&stored[..block.len()]);
     }
 
     /// For each row whether it is a number that compares so with `constant`, whatever that is. A null row is never selected.
@@ -132,6 +178,34 @@ impl Shifted {
         ensures room { out.new.room ≡ out.old.room }
     {
         self.stored.nulls_into(out);
+    }
+
+    /// Keeps in a block of at most 128 words, whose first stands for the 64 rows from row `64 * at` on, the rows whose number
+    /// compares so with `constant`, which may be any. A null row is not kept.
+    pub fn keep_selected(
+        &self,
+        op: Op,
+        constant: i128,
+        at: usize,
+        block: &mut [u64],
+    ) -> Result<(), NoMemory>
+        requires few { length block.old ≤ 128 }
+        requires within { at + length block.old ≤ (length (shifted_entries self.now) + 63) / 64 }
+        ensures kept { OnErr result (block.new ≡ block.old) }
+        ensures rows { OnOk result ((p : ℕ) → p < 64 * length block.old → 64 * at + p < length (shifted_entries self.now) → bit_of block.new p
+            ≡ (bit_of block.old p && signed_selects op constant (slice_index_or (shifted_entries self.now) (64 * at + p) None))) }
+    {
+        let (op, constant) = stored_comparison(op, constant, self.offset);
+        self.stored.keep_selected(op, constant, at, block)
+    }
+
+    /// Keeps in such a block the rows that are nulls. It takes no memory.
+    pub fn keep_nulls(&self, at: usize, block: &mut [u64])
+        requires { at + length block.old ≤ (length (shifted_entries self.now) + 63) / 64 }
+        ensures { (p : ℕ) → p < 64 * length block.old → 64 * at + p < length (shifted_entries self.now) → bit_of block.new p
+            ≡ (bit_of block.old p && is_none (slice_index_or (shifted_entries self.now) (64 * at + p) None)) }
+    {
+        self.stored.keep_nulls(at, block);
     }
 
     /// The not-null bitmap.
@@ -158,7 +232,7 @@ impl Shifted {
         requires { length (shifted_entries self.now) ≡ length found.now.bits }
         ensures { IfOk result (λ o. IsSignedOfRank rank (values_at found.now.bits (shifted_entries self.now)) o) }
     {
-        let stored = self.stored.of_rank(found, rank)?;
+        let stored = stored_of_rank(&self.stored, found, rank)?;
         Ok(number_from(self.offset, stored))
     }
 
@@ -202,6 +276,18 @@ impl Shifted {
     }
 }
 
+/// The stored number of a rank, by the call of the column for it: the least and the greatest are found without counts.
+fn stored_of_rank(stored: &AnyColumn, found: &Bits, rank: Rank) -> Result<Option<u64>, NoMemory>
+    requires { length (any_entries stored.now) ≡ length found.now.bits }
+    ensures { IfOk result (λ o. IsOfRank rank (numbers_at found.now.bits (any_entries stored.now)) o) }
+{
+    match rank {
+        Rank::Least => stored.least(found),
+        Rank::Greatest => stored.greatest(found),
+        Rank::Median => stored.median(found),
+    }
+}
+
 /// The comparison of stored numbers that selects those whose number less the offset is stored, and compares so with
 /// `constant`. Each stored number is below 2^63, so the greatest constant of 64 bits stands for all that are past them.
 fn stored_comparison(op: Op, constant: i128, offset: i64) -> (Op, u64)
@@ -232,6 +318,18 @@ fn stored_from(offset: i64, entry: Option<i64>) -> Option<u64>
     match entry {
         None => None,
         Some(number) => Some((number - offset) as u64),
+    }
+}
+
+/// Writes what is stored of each entry of a block.
+fn store_block(offset: i64, block: &[Option<i64>], stored: &mut [Option<u64>; 64])
+    requires few { length block.now ≤ 64 }
+    requires range { All (λ entry. IfSome entry (λ x. (offset ≤ℤ x) × (x <ℤ (offset +ℤ pos (2 ^ 63))))) block.now }
+    ensures long { length stored.new ≡ 64 }
+    ensures each { (r : ℕ) → r < length block.now → option_map (number_of offset) (slice_index_or stored.new r None) ≡ slice_index_or block.now r None }
+{
+    'entries: for r in 0..block.len() {
+        stored[r] = stored_from(offset, block[r]);
     }
 }
 

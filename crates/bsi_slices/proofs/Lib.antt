@@ -1,10 +1,16 @@
 pub mod Adding
 pub mod CallerLemmas
+pub mod EndBlocks
+pub mod EndRows
+pub mod Exchanging
 pub mod Narrowing
 pub mod Places
 pub mod Ranking
 pub mod SliceBlocks
 pub mod SliceEntries
+pub mod SliceGrowth
 pub mod SliceNumbers
 pub mod SliceSelections
+pub mod StageBits
+pub mod Turning
 pub mod WordBlocks

@@ -160,7 +160,7 @@ where_below_zero (f ∷ chosen) (v ∷ digits) =
 
 -- ---- one digit more
 
-same_parts : (x a b d : ℕ) → d < b → (nat_eq (x / b) a && nat_eq (x % b) d) ≡ nat_eq x (a * b + d)
+pub same_parts : (x a b d : ℕ) → d < b → (nat_eq (x / b) a && nat_eq (x % b) d) ≡ nat_eq x (a * b + d)
 same_parts x a b d below =
     let parts : x / b * b + x % b ≡ x = div-add-mod' x b in
     sym (two_eq b (x % b) d (x / b) a (mod_below x b (omega arith)) below) ∙ ap (λ y. nat_eq y (a * b + d)) parts

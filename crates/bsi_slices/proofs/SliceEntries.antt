@@ -1,18 +1,16 @@
 -- The entries of a column of slices, and rows that are added to them.
-use Rattle.std.proofs.Common.{◌≡◌, ℕ, zero, suc, ◌+◌, ◌*◌, ◌%◌, ◌^◌, ◌<◌, ◌≤◌, Bool, true, false, not, List, [], ◌∷◌, ◌++◌, ◌&&◌, length, get_or, take, map, All, Option, Some, None, is_some, is_none, IsTrue, inl, inr, sym, ◌∙◌, ap, refl, arith, length-append}
+use Rattle.std.proofs.Common.{◌≡◌, ℕ, zero, suc, ◌+◌, ◌*◌, ◌^◌, ◌<◌, ◌≤◌, Bool, true, false, not, List, [], ◌∷◌, ◌++◌, length, get_or, map, All, Option, Some, None, is_some, is_none, sym, ◌∙◌, ap, refl, arith}
 use Rattle.std.specs.Prelude.{◌==◌, if◌then◌else◌}
 use Rattle.std.specs.Int.{bit_at}
 use Rattle.std.specs.List.{range_with_len}
-use Rattle.std.proofs.Math.Nat.{mod-eq_of_lt}
 use Rattle.std.proofs.Math.Seq.{get_or-append_seam}
-use Rattle.std.proofs.lemmas.Bool.{cases_lt}
-use Rattle.std.proofs.lemmas.List.{get_or_append_left, take_all, length-map, get_or-map}
+use Rattle.std.proofs.lemmas.List.{get_or_append_left, length-map, get_or-map}
 use Rattle.std.proofs.lemmas.List.Elements.{All-from_get_or}
-use Rattle.std.proofs.lemmas.List.FromFn.{length-map-range_with_len, get_or-map-range_with_len, map-range_with_len_more, fill_by_all}
+use Rattle.std.proofs.lemmas.List.FromFn.{length-map-range_with_len, get_or-map-range_with_len, fill_by_all}
 use Rattle.bsi_bits.specs.BitList.{BitList}
 use Rattle.bsi_slices.specs.Rows.{number_or_zero}
-use Rattle.bsi_slices.specs.Slices.{empty_slice, slice_at, has_room_at, have_room, place_value, number, entry_at, entries_in, IsSliced}
-use Rattle.bsi_slices.proofs.SliceNumbers.{number_more, number_below, number_place, number_none, places_more}
+use Rattle.bsi_slices.specs.Slices.{empty_slice, slice_at, place_value, number, entry_at, entries_in, IsSliced}
+use Rattle.bsi_slices.proofs.SliceNumbers.{number_below, number_place}
 
 -- two functions that agree below n
 pub same_below : {X : Type 0} (default : X) (f g : ℕ → X) (n : ℕ) → ((r : ℕ) → r < n → f r ≡ g r) → map f (range_with_len 0 n) ≡ map g (range_with_len 0 n)
@@ -32,29 +30,6 @@ slice_behind slices last = ap (λ s. s.bits) (get_or-append_seam slices last [] 
 
 pub slice_before : (slices : List BitList) (last : BitList) (k : ℕ) → k < length slices → slice_at (slices ++ last ∷ []) k ≡ slice_at slices k
 slice_before slices last k below = ap (λ s. s.bits) (get_or_append_left slices (last ∷ []) empty_slice k below)
-
--- both have room
-pub room_both : (a b : Bool) → a ≡ true → b ≡ true → IsTrue (a && b)
-room_both a b first second = rw (first, second) refl
-
-pub room_first : (a b : Bool) → IsTrue (a && b) → a ≡ true
-room_first true b h = refl
-room_first false b h = h
-
-pub room_second : (a b : Bool) → IsTrue (a && b) → b ≡ true
-room_second true b h = h
-room_second false b h = absurd (cc)
-
--- where each slice has room, that one has
-pub room_at : (slices : List BitList) → IsTrue (have_room slices) → (k : ℕ) → k < length slices → IsTrue (has_room_at slices k)
-room_at [] have k within = absurd (omega arith)
-room_at (s ∷ slices) have zero within = room_first s.room (have_room slices) have
-room_at (s ∷ slices) have (suc k) within = room_at slices (room_second s.room (have_room slices) have) k (omega arith)
-
--- and the other way round
-pub room_all : (slices : List BitList) → ((k : ℕ) → k < length slices → IsTrue (has_room_at slices k)) → IsTrue (have_room slices)
-room_all [] each = refl
-room_all (s ∷ slices) each = (λ i. each 0 (omega arith) i && room_all slices (λ k within. each (suc k) (omega arith)) i)
 
 -- as many entries as there are marks
 pub length-entries_in : (present : List Bool) (slices : List BitList) → length (entries_in present slices) ≡ length present
@@ -125,7 +100,7 @@ entries_below present slices =
     of_mark false m small = omega arith
 
 -- slices that have the same bits in row r
-number_same : (old new : List BitList) (r : ℕ) → length new ≡ length old
+pub number_same : (old new : List BitList) (r : ℕ) → length new ≡ length old
     → ((k : ℕ) → k < length old → get_or (slice_at new k) r false ≡ get_or (slice_at old k) r false) → number new r ≡ number old r
 unfolding number
 number_same [] [] r long same = refl
@@ -166,89 +141,3 @@ sliced_empty present slices some few none each = record {
   even = λ k within. ap length (each k within) ∙ sym (ap length none);
   clear = λ r within null. absurd (omega (arith, ap length none));
 }
-
-module _ (old new : List BitList) (x n : ℕ) (long : length new ≡ length old)
-    (even : (k : ℕ) → k < length old → length (slice_at old k) ≡ n)
-    (pushed : (k : ℕ) → k < length old → slice_at new k ≡ slice_at old k ++ (bit_at x k == 1) ∷ []) where
-  -- the rows before the new one
-  before_new : (r : ℕ) → r < n → number new r ≡ number old r
-  before_new r below = number_same old new r long
-      (λ k within. ap (λ b. get_or b r false) (pushed k within) ∙ get_or_append_left (slice_at old k) ((bit_at x k == 1) ∷ []) false r (omega (arith, even k within)))
-
-  -- the new row's bit in one slice
-  at_new : (k : ℕ) → k < length old → get_or (slice_at new k) n false ≡ (bit_at x k == 1)
-  at_new k within =
-      ap (λ b. get_or b n false) (pushed k within)
-      ∙ ap (λ i. get_or (slice_at old k ++ (bit_at x k == 1) ∷ []) i false) (sym (even k within))
-      ∙ get_or-append_seam (slice_at old k) (bit_at x k == 1) [] false
-
-  -- the number of the new row, by its lowest places and whole
-  new_low : (i : ℕ) → i ≤ length old → number (take i new) n ≡ x % 2 ^ i
-  new_low zero within = number_none n ∙ omega arith
-  new_low (suc i) within =
-      let e : suc i ≡ i + 1 = omega arith in
-      ap (λ j. number (take j new) n) e
-      ∙ number_more new n i (omega arith)
-      ∙ (λ j. new_low i (omega arith) j + place_value (at_new i (omega arith) j) * 2 ^ i)
-      ∙ sym (places_more x i)
-      ∙ ap (λ j. x % 2 ^ j) (sym e)
-
-  new_number : x < 2 ^ length old → number new n ≡ x
-  new_number small =
-      ap (λ s. number s n) (sym (take_all (length old) new (omega arith))) ∙ new_low (length old) (omega arith) ∙ mod-eq_of_lt small
-
-module _ (present now : List Bool) (old new : List BitList) (entry : Option ℕ) (sliced : IsSliced present old) (fit : number_or_zero entry < 2 ^ length old)
-    (marks : now ≡ present ++ is_some entry ∷ []) (long : length new ≡ length old)
-    (pushed : (k : ℕ) → k < length old → slice_at new k ≡ slice_at old k ++ (bit_at (number_or_zero entry) k == 1) ∷ []) where
-  last_number : number new (length present) ≡ number_or_zero entry
-  last_number = new_number old new (number_or_zero entry) (length present) long sliced.even pushed fit
-
-  marks_long : length now ≡ length present + 1
-  marks_long = ap length marks ∙ length-append present (is_some entry ∷ [])
-
-  mark_before : (r : ℕ) → r < length present → get_or now r false ≡ get_or present r false
-  mark_before r below = ap (λ p. get_or p r false) marks ∙ get_or_append_left present (is_some entry ∷ []) false r below
-
-  last_mark : get_or now (length present) false ≡ is_some entry
-  last_mark = ap (λ p. get_or p (length present) false) marks ∙ get_or-append_seam present (is_some entry) [] false
-
-  number_before : (r : ℕ) → r < length present → number new r ≡ number old r
-  number_before = before_new old new (number_or_zero entry) (length present) long sliced.even pushed
-
-  -- one more entry
-  pub entries_more : entries_in now new ≡ entries_in present old ++ entry ∷ []
-  unfolding entries_in
-  entries_more =
-      ap (λ k. map (entry_at now new) (range_with_len 0 k)) marks_long
-      ∙ map-range_with_len_more (entry_at now new) 0 (length present) (length present) (omega arith)
-      ∙ (λ i. first i ++ last i ∷ [])
-    where
-      first : map (entry_at now new) (range_with_len 0 (length present)) ≡ map (entry_at present old) (range_with_len 0 (length present))
-      first = same_below None (entry_at now new) (entry_at present old) (length present)
-          (λ r below. (λ i. if mark_before r below i then Some (number_before r below i) else None))
-
-      as_entry : (e : Option ℕ) → (if is_some e then Some (number_or_zero e) else None) ≡ e
-      as_entry None = refl
-      as_entry (Some v) = refl
-
-      last : entry_at now new (length present) ≡ entry
-      last = (λ i. if last_mark i then Some (last_number i) else None) ∙ as_entry entry
-
-  -- the slices are a column's
-  pub sliced_more : length now ≤ 2 ^ 32 → IsSliced now new
-  sliced_more small = record {
-    some = omega (arith, sliced.some);
-    few = omega (arith, sliced.few);
-    small = small;
-    even = λ k within. ap length (pushed k (omega arith)) ∙ length-append (slice_at old k) ((bit_at (number_or_zero entry) k == 1) ∷ []) ∙ ap (λ m. m + 1) (sliced.even k (omega arith)) ∙ sym marks_long;
-    clear = λ r within null. elim (cases_lt r (length present)) [
-      | inl before ↦ number_before r before ∙ sliced.clear r before (sym (mark_before r before) ∙ null)
-      | inr past ↦
-          let is_last : r ≡ length present = omega (arith, marks_long) in
-          ap (number new) is_last ∙ last_number ∙ null_zero entry (sym last_mark ∙ ap (λ p. get_or now p false) (sym is_last) ∙ null)
-    ];
-  }
-    where
-      null_zero : (e : Option ℕ) → is_some e ≡ false → number_or_zero e ≡ 0
-      null_zero None none = refl
-      null_zero (Some v) none = absurd (cc)

@@ -1,5 +1,5 @@
 -- What a comparison selects of the rows of a column of slices.
-use Rattle.std.proofs.Common.{◌≡◌, ℕ, ◌+◌, ◌/◌, ◌^◌, ◌<◌, Bool, true, false, ◌&&◌, List, length, get_or, map, replicate, Some, None, sym, ◌∙◌, ap, refl, arith}
+use Rattle.std.proofs.Common.{◌≡◌, ℕ, ◌+◌, ◌/◌, ◌^◌, ◌<◌, Bool, true, false, ◌&&◌, List, length, get_or, map, replicate, Some, None, sym, ◌∙◌, ap, refl, arith, zero-add}
 use Rattle.std.specs.Prelude.{if◌then◌else◌}
 use Rattle.std.proofs.lemmas.List.{length-replicate, get_or-replicate}
 use Rattle.std.proofs.Math.Bool.{and-true, and-false}
@@ -14,21 +14,21 @@ use Rattle.bsi_slices.specs.declared.slices.compare.Selection.TheVariants.{Nothi
 use Rattle.bsi_slices.specs.Slices.{number, entries_in}
 use Rattle.bsi_slices.specs.Blocks.{IsKept}
 use Rattle.bsi_slices.specs.SliceTests.{chosen, passes}
-use Rattle.bsi_slices.proofs.SliceEntries.{by_entries}
+use Rattle.bsi_slices.proofs.SliceEntries.{by_entries, get_or-entries_in}
 use Rattle.bsi_slices.proofs.SliceNumbers.{number_below}
 
 module _ (present : List Bool) (slices : List BitList) (op : Op) (n size : ℕ) (size_is : size ≡ 2 ^ length slices) (choice : Selection)
     (agree : (x : ℕ) → x < size → chosen choice x ≡ compares op x n) where
+  of_mark : (there : Bool) (m : ℕ) → m < size → (there && chosen choice m) ≡ selects op n (if there then Some m else None)
+  of_mark true m small = agree m small
+  of_mark false m small = refl
+
   -- the rows that are there and chosen are those that the comparison selects
   selected : (bits : List Bool) → length bits ≡ length present → ((r : ℕ) → r < length present → get_or bits r false ≡ (get_or present r false && chosen choice (number slices r)))
       → bits ≡ map (selects op n) (entries_in present slices)
   selected bits long each =
       by_entries (selects op n) present slices false bits long
       (λ r below. each r below ∙ of_mark (get_or present r false) (number slices r) (omega (arith, size_is, number_below slices r)))
-    where
-      of_mark : (there : Bool) (m : ℕ) → m < size → (there && chosen choice m) ≡ selects op n (if there then Some m else None)
-      of_mark true m small = agree m small
-      of_mark false m small = refl
 
   pub selected_none : choice ≡ Nothing → (bits : List Bool) (count : ℕ) → count ≡ length present → bits ≡ replicate count false → bits ≡ map (selects op n) (entries_in present slices)
   selected_none is bits count long none =
@@ -43,11 +43,23 @@ module _ (present : List Bool) (slices : List BitList) (op : Op) (n size : ℕ) 
 
   pub selected_tested : (test : Test) → choice ≡ Tested test
       → (bits : List Bool) (old new : List ℕ) (count : ℕ) → count ≡ length present → length old ≡ (length present + 63) / 64 → ((r : ℕ) → bit_of old r ≡ get_or present r false)
-      → IsKept (λ r. passes test (number slices r)) 0 (length old) old new → bits ≡ bits_of count new
+      → IsKept (λ r. passes test (number slices (0 + r))) 0 (length old) old new → bits ≡ bits_of count new
       → bits ≡ map (selects op n) (entries_in present slices)
   selected_tested test is bits old new count long few places kept are =
       selected bits (ap length are ∙ length-bits_of count new ∙ long)
       (λ r below. ap (λ b. get_or b r false) are ∙ get_or-bits_of count new r false (omega arith)
       ∙ kept.inside r (omega arith) (omega arith)
-      ∙ (λ j. places r j && passes test (number slices r))
+      ∙ (λ j. places r j && passes test (number slices (zero-add r j)))
       ∙ sym (ap (λ s. get_or present r false && chosen s (number slices r)) is))
+
+  -- a row of a block that is there and chosen is one that the comparison selects
+  pub kept_chosen : (was : Bool) (r : ℕ) → r < length present → (was && (get_or present r false && chosen choice (number slices r)))
+      ≡ (was && selects op n (get_or (entries_in present slices) r None))
+  kept_chosen was r below =
+      ap (λ b. was && b)
+      (of_mark (get_or present r false) (number slices r) (omega (arith, size_is, number_below slices r))
+      ∙ ap (selects op n) (sym (get_or-entries_in present slices r None below)))
+
+pub and_assoc : (a b c : Bool) → ((a && b) && c) ≡ (a && (b && c))
+and_assoc true b c = refl
+and_assoc false b c = refl

@@ -1,4 +1,6 @@
 pub mod Blocks
+pub mod Ends
+pub mod Exchanges
 pub mod Orders
 pub mod Ranks
 pub mod Rows

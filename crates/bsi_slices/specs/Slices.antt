@@ -1,29 +1,22 @@
 -- A column as slices: bit r of slice k is binary place k of the number of row r.
 use Rattle.std.specs.Prelude.{◌≡◌, ℕ, ◌+◌, ◌*◌, ◌^◌, ◌<◌, ◌≤◌, Bool, false, if◌then◌else◌, List, [], ◌∷◌, length, map, Option, Some, None, slice_index_or}
-use Rattle.std.specs.List.{range_with_len, list_all}
+use Rattle.std.specs.List.{range_with_len}
 use Rattle.bsi_bits.specs.BitList.{BitList}
+use Rattle.bsi_bits.specs.BitLists.{no_bits}
 
--- what a contract sees of a column of slices: how many there are, its rows, and whether one more can be appended with no memory
+-- what a contract sees of a column of slices: how many there are, its rows, and how many more can be appended with no memory
 pub record SliceRows : Type 0 where
   pub width : ℕ
   pub entries : List (Option ℕ)
-  pub room : Bool
+  pub room : ℕ
 
 -- what a list of slices has past its end
 abbrev pub empty_slice : BitList
-empty_slice = record { bits = []; room = false }
+empty_slice = no_bits
 
 -- the bits of slice k
 abbrev pub slice_at : List BitList → ℕ → List Bool
 slice_at slices k = (slice_index_or slices k empty_slice).bits
-
--- slice k has room for one more bit
-abbrev pub has_room_at : List BitList → ℕ → Bool
-has_room_at slices k = (slice_index_or slices k empty_slice).room
-
--- each slice has
-abbrev pub have_room : List BitList → Bool
-have_room slices = list_all (λ s. s.room) slices
 
 -- a bit as a number
 abbrev pub place_value : Bool → ℕ

@@ -1,6 +1,6 @@
 //! What a column is to a table: a list of optional numbers below its size.
 
-ghost use Rattle.std.specs.Prelude.{◌≡◌, ℕ, ◌^◌, ◌≤◌, ◌<◌, Bool, List, Option, [], ◌∷◌, ◌++◌, All, length, map, is_some, is_none, sum, IsTrue, IfOk, OnOk, OnErr, IsOk};
+ghost use Rattle.std.specs.Prelude.{◌≡◌, ℕ, ◌^◌, ◌+◌, ◌≤◌, ◌<◌, List, Option, [], ◌∷◌, ◌++◌, All, length, map, is_some, is_none, nat_lt, sum, IfOk, OnOk, OnErr, IsOk};
 ghost use Rattle.bsi_slices.specs.Rows.{number_or_zero, selects};
 ghost use Rattle.bsi_slices.specs.Totals.{numbers_at, IsRanked, IsLeastOf, IsGreatestOf, IsMedianOf};
 ghost use Rattle.bsi_slices.specs.Ranks.{IsOfRank};
@@ -47,8 +47,8 @@ pub trait Column: Drop {
     /// The numbers and nulls, in order of the rows.
     ghost entries: { Self → List (Option ℕ) };
 
-    /// Whether one more entry can be appended with no memory.
-    ghost room: { Self → Bool };
+    /// How many more entries can be appended with no memory.
+    ghost room_of: { Self → ℕ };
 
     /// What each number is below, at most 2^63.
     fn size(&self) -> u64
@@ -61,28 +61,68 @@ pub trait Column: Drop {
         ensures len { result ≡ length (entries self.now) }
         ensures within { result ≤ 2 ^ 32 };
 
-    /// Whether one more entry can be appended with no memory.
-    fn has_room(&self) -> bool
-        ensures { result ≡ room self.now };
+    /// Returns how many more entries can be appended with no memory.
+    fn room(&self) -> u64
+        ensures room { result ≡ room_of self.now }
+        ensures within { length (entries self.now) + result ≤ 2 ^ 32 };
 
-    /// Makes room for one more entry. The entries stay, whatever the result; where it is refused, there is no more room than
-    /// before. It takes memory only where there is no room.
+    /// Makes room for so many more entries. The entries stay, and there is no less room than before, whatever the result; where
+    /// it is refused, there is still not room for so many. It takes memory only where there is not.
+    fn reserve(&mut self, more: u64) -> Result<(), NoMemory>
+        requires { length (entries self.old) + more ≤ 2 ^ 32 }
+        ensures entries { entries self.new ≡ entries self.old }
+        ensures size { size_of self.new ≡ size_of self.old }
+        ensures bases { bases_of self.new ≡ bases_of self.old }
+        ensures ok { OnOk result (more ≤ room_of self.new) }
+        ensures kept { room_of self.old ≤ room_of self.new }
+        ensures err { OnErr result (room_of self.new < more) }
+        ensures succeeds { more ≤ room_of self.old → IsOk result };
+
+    /// Appends a number below the size, or a null, in room that is there.
+    fn push_reserved(&mut self, entry: Option<u64>)
+        requires room { 0 < room_of self.old }
+        requires below { number_or_zero entry < size_of self.old }
+        ensures entries { entries self.new ≡ entries self.old ++ entry ∷ [] }
+        ensures size { size_of self.new ≡ size_of self.old }
+        ensures bases { bases_of self.new ≡ bases_of self.old }
+        ensures room { room_of self.old ≤ room_of self.new + 1 };
+
+    /// Appends a block of at most 64 entries, in room that is there: numbers below the size, and nulls. The provided body
+    /// appends them one by one.
+    fn push_block_reserved(&mut self, block: &[Option<u64>])
+        requires few { length block.now ≤ 64 }
+        requires room { length block.now ≤ room_of self.old }
+        requires below { All (λ e. number_or_zero e < size_of self.old) block.now }
+        ensures entries { entries self.new ≡ entries self.old ++ block.now }
+        ensures size { size_of self.new ≡ size_of self.old }
+        ensures bases { bases_of self.new ≡ bases_of self.old }
+        ensures room { room_of self.old ≤ room_of self.new + length block.now }
+    {
+        'entries: for k in 0..block.len() {
+            self.push_reserved(block[k]);
+        }
+    }
+
+    /// Returns whether one more entry can be appended with no memory.
+    fn has_room(&self) -> bool
+        ensures { result ≡ nat_lt 0 (room_of self.now) }
+    {
+        self.room() > 0
+    }
+
+    /// Makes room for one more entry, as `reserve` does for many.
     fn reserve_one(&mut self) -> Result<(), NoMemory>
         requires { length (entries self.old) < 2 ^ 32 }
         ensures entries { entries self.new ≡ entries self.old }
         ensures size { size_of self.new ≡ size_of self.old }
         ensures bases { bases_of self.new ≡ bases_of self.old }
-        ensures ok { OnOk result (IsTrue (room self.new)) }
-        ensures err { OnErr result (room self.new ≡ room self.old) }
-        ensures succeeds { IsTrue (room self.old) → IsOk result };
-
-    /// Appends a number below the size, or a null, in room that is there.
-    fn push_reserved(&mut self, entry: Option<u64>)
-        requires room { IsTrue (room self.old) }
-        requires below { number_or_zero entry < size_of self.old }
-        ensures entries { entries self.new ≡ entries self.old ++ entry ∷ [] }
-        ensures size { size_of self.new ≡ size_of self.old }
-        ensures bases { bases_of self.new ≡ bases_of self.old };
+        ensures ok { OnOk result (0 < room_of self.new) }
+        ensures kept { room_of self.old ≤ room_of self.new }
+        ensures err { OnErr result (room_of self.new ≡ room_of self.old) }
+        ensures succeeds { 0 < room_of self.old → IsOk result }
+    {
+        self.reserve(1)
+    }
 
     /// For each row whether it is a number that compares so with `constant`, which may be past the size. A null row is
     /// never selected.

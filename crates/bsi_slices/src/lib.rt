@@ -3,7 +3,8 @@
 
 mod column;
 mod slices;
+pub mod stage;
 
 pub use column::{Column, Op, Rank};
-pub use slices::Slices;
+pub use slices::{End, Slices};
 pub use std::alloc::AllocError as NoMemory;

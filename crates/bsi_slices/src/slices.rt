@@ -1,38 +1,44 @@
 //! A column as bit slices: one bit vector for each binary place of its numbers, as O'Neil and Quass described in 1997.
 
-ghost use Rattle.std.specs.Prelude.{◌≡◌, ℕ, ◌++◌, ◌∷◌, [], All, ◌<◌, ◌≤◌, ◌^◌, ◌==◌, ◌&&◌, length, map, replicate, IfOk, IsTrue, IsFalse, OnOk, OnErr};
+ghost use Rattle.std.specs.Prelude.{◌≡◌, ℕ, ◌++◌, ◌∷◌, [], All, ◌<◌, ◌≤◌, ◌^◌, ◌+◌, ◌*◌, ◌/◌, ◌&&◌, ◌==◌, None, slice_index_or, length, map, min, replicate, IfOk, IsOk, OnOk, OnErr};
 ghost use Rattle.std.specs.Int.{bit_at};
-ghost use Rattle.bsi_slices.specs.Rows.{number_or_zero};
-ghost use Rattle.bsi_slices.specs.Slices.{entries_in, has_room_at, have_room, slice_at, IsSliced};
+ghost use Rattle.bsi_bits.specs.Packed.{bit_of};
+ghost use Rattle.bsi_slices.specs.Rows.{number_or_zero, selects};
+ghost use Rattle.bsi_slices.specs.Slices.{entries_in, IsSliced};
+ghost use Rattle.bsi_slices.specs.Totals.{numbers_at, IsLeastOf, IsGreatestOf};
 
 use crate::NoMemory;
 use crate::column::{Column, Op};
-use bsi_bits::Bits;
-use compare::select;
+use crate::stage::{mark_present, place_numbers, transpose};
+use bsi_bits::{Bitmaps, Bits};
+use compare::{keep_selected, select};
 use std::alloc::Global;
 use std::marker::Model;
 
 mod compare;
+mod ends;
 mod totals;
+
+pub use ends::End;
 
 /// A column of optional numbers below two to the power of its width. Slice `i` is binary place `i` of the numbers, and
 /// clear where a row is null.
 #[derive(Drop)]
 pub struct Slices {
-    slices: Vec<Bits>,
+    slices: Bitmaps,
     present: Bits,
 }
 
-// Clauses see the width, the list of rows, and whether there is room for one more.
+// Clauses see the width, the list of rows, and for how many more there is room.
 impl Model for Slices {
-    ghost use Rattle.std.specs.Prelude.{◌&&◌, length};
-    ghost use Rattle.bsi_slices.specs.Slices.{SliceRows, IsSliced, entries_in, have_room};
+    ghost use Rattle.std.specs.Prelude.{length, min};
+    ghost use Rattle.bsi_slices.specs.Slices.{SliceRows, IsSliced, entries_in};
 
     ghost Value = { SliceRows };
 
-    ghost view = { λ c. record { width = length c.slices.items; entries = entries_in c.present.bits c.slices.items; room = have_room c.slices.items && c.present.room } };
+    ghost view = { λ c. record { width = length c.slices.vectors; entries = entries_in c.present.bits c.slices.vectors; room = min c.slices.room c.present.room } };
 
-    ghost invariant = { λ c. IsSliced c.present.bits c.slices.items };
+    ghost invariant = { λ c. IsSliced c.present.bits c.slices.vectors };
 }
 
 impl Slices {
@@ -42,7 +48,7 @@ impl Slices {
         ensures entries { IfOk result (λ c. c.entries ≡ []) }
         ensures width { IfOk result (λ c. c.width ≡ w) }
     {
-        let slices = empty_slices(alloc, w)?;
+        let slices = Bitmaps::new(alloc, w as usize)?;
         Ok(Slices {
             slices,
             present: Bits::new(alloc),
@@ -55,7 +61,7 @@ impl Slices {
         ensures within { (1 ≤ result) × (result ≤ 63) }
         ensures below { All (λ e. number_or_zero e < 2 ^ self.now.width) self.now.entries }
     {
-        self.slices.len() as u32
+        self.slices.as_slice().len() as u32
     }
 
     /// Slice `i`: for each row, whether binary place `i` of its number is 1. Of a null row none is.
@@ -63,7 +69,24 @@ impl Slices {
         requires { i < self.now.width }
         ensures { result.now.bits ≡ map (λ e. bit_at (number_or_zero e) i == 1) self.now.entries }
     {
-        &self.slices[i as usize]
+        &self.slices.as_slice()[i as usize]
+    }
+
+    /// Keeps in a block of words, whose first stands for the 64 rows from row `64 * at` on, the rows whose number compares so
+    /// with `constant`, which may be past the size. A null row is not kept. It takes no memory.
+    pub fn keep_selected(&self, op: Op, constant: u64, at: usize, block: &mut [u64])
+        requires { at + length block.old ≤ (length self.now.entries + 63) / 64 }
+        ensures { (p : ℕ) → p < 64 * length block.old → 64 * at + p < length self.now.entries → bit_of block.new p
+            ≡ (bit_of block.old p && selects op constant (slice_index_or self.now.entries (64 * at + p) None)) }
+    {
+        keep_selected(
+            self.slices.as_slice(),
+            &self.present,
+            op,
+            constant,
+            at,
+            block,
+        )
     }
 }
 
@@ -74,35 +97,36 @@ impl Column for Slices {
 
     ghost entries = { λ c. c.entries };
 
-    ghost room = { λ c. c.room };
+    ghost room_of = { λ c. c.room };
 
     fn size(&self) -> u64 {
-        1 << self.slices.len()
+        1 << self.slices.as_slice().len()
     }
 
     fn len(&self) -> u64 {
         self.present.len()
     }
 
-    fn has_room(&self) -> bool {
-        all_have_room(&self.slices) && self.present.has_room()
+    fn room(&self) -> u64 {
+        self.slices.room().min(self.present.room())
     }
 
-    fn reserve_one(&mut self) -> Result<(), NoMemory> {
-        if self.has_room() {
-            return Ok(());
-        }
-        reserve_row(&mut self.slices, &mut self.present)
+    fn reserve(&mut self, more: u64) -> Result<(), NoMemory> {
+        reserve_rows(&mut self.slices, &mut self.present, more)
     }
 
     fn push_reserved(&mut self, entry: Option<u64>) {
         push_row(&mut self.slices, &mut self.present, entry);
     }
 
+    fn push_block_reserved(&mut self, block: &[Option<u64>]) {
+        push_rows(&mut self.slices, &mut self.present, block);
+    }
+
     fn compare(&self, op: Op, constant: u64) -> Result<Bits, NoMemory> {
         select(
             *self.slices.allocator(),
-            &self.slices,
+            self.slices.as_slice(),
             &self.present,
             op,
             constant,
@@ -117,6 +141,24 @@ impl Column for Slices {
         self.number_of_rank(found, k)
     }
 
+    // It passes once over the slices, and takes no memory.
+    fn least(&self, found: &Bits) -> Result<Option<u64>, NoMemory>
+        requires { length self.now.entries ≡ length found.now.bits }
+        ensures least { IfOk result (λ o. IsLeastOf (numbers_at found.now.bits self.now.entries) o) }
+        ensures succeeds { IsOk result }
+    {
+        Ok(self.end_found(found, End::Least))
+    }
+
+    // It passes once over the slices, and takes no memory.
+    fn greatest(&self, found: &Bits) -> Result<Option<u64>, NoMemory>
+        requires { length self.now.entries ≡ length found.now.bits }
+        ensures greatest { IfOk result (λ o. IsGreatestOf (numbers_at found.now.bits self.now.entries) o) }
+        ensures succeeds { IsOk result }
+    {
+        Ok(self.end_found(found, End::Greatest))
+    }
+
     fn nulls_into(&self, out: &mut Bits) {
         out.copy_from(&self.present);
         out.flip();
@@ -127,7 +169,7 @@ impl Column for Slices {
     }
 
     fn copy(&self) -> Result<Slices, NoMemory> {
-        let slices = copy_all(*self.slices.allocator(), &self.slices)?;
+        let slices = self.slices.copy()?;
         Ok(Slices {
             slices,
             present: self.present.copy()?,
@@ -135,83 +177,58 @@ impl Column for Slices {
     }
 }
 
-/// Whether each slice has room for one more bit.
-fn all_have_room(slices: &[Bits]) -> bool
-    ensures { result ≡ have_room slices.now }
+/// Makes room for so many more rows. The rows stay, and there is no less room than before, whatever the result.
+fn reserve_rows(slices: &mut Bitmaps, present: &mut Bits, more: u64) -> Result<(), NoMemory>
+    requires sliced { IsSliced present.old.bits slices.old.vectors }
+    requires below { length present.old.bits + more ≤ 2 ^ 32 }
+    ensures sliced { IsSliced present.new.bits slices.new.vectors }
+    ensures width { length slices.new.vectors ≡ length slices.old.vectors }
+    ensures entries { entries_in present.new.bits slices.new.vectors ≡ entries_in present.old.bits slices.old.vectors }
+    ensures ok { OnOk result (more ≤ min slices.new.room present.new.room) }
+    ensures kept { min slices.old.room present.old.room ≤ min slices.new.room present.new.room }
+    ensures err { OnErr result (min slices.new.room present.new.room < more) }
+    ensures succeeds { more ≤ min slices.old.room present.old.room → IsOk result }
 {
-    slices.iter().all(|slice| slice.has_room())
-}
-
-/// So many empty slices.
-fn empty_slices(alloc: Global, width: u32) -> Result<Vec<Bits>, NoMemory>
-    ensures long { IfOk result (λ slices. length slices.items ≡ width) }
-    ensures empty { IfOk result (λ slices. (k : ℕ) → k < width → slice_at slices.items k ≡ []) }
-{
-    let mut slices = Vec::with_capacity(alloc, width as usize)?;
-    'slices: for _ in 0..width {
-        slices.push(Bits::new(alloc))?;
-    }
-    Ok(slices)
-}
-
-/// Makes room for one more row. The rows stay, whatever the result; where it is refused, there is no room for one more.
-fn reserve_row(slices: &mut [Bits], present: &mut Bits) -> Result<(), NoMemory>
-    requires sliced { IsSliced present.old.bits slices.old }
-    requires below { length present.old.bits < 2 ^ 32 }
-    ensures sliced { IsSliced present.new.bits slices.new }
-    ensures entries { entries_in present.new.bits slices.new ≡ entries_in present.old.bits slices.old }
-    ensures ok { OnOk result (IsTrue (have_room slices.new && present.new.room)) }
-    ensures err { OnErr result (IsFalse (have_room slices.new && present.new.room)) }
-{
-    reserve_all(slices)?;
-    present.reserve_one()
+    slices.reserve(more)?;
+    present.reserve(more)
 }
 
 /// Appends a row, in room that is there: to each slice its binary place of the number, which is 0 where the row is null.
-fn push_row(slices: &mut [Bits], present: &mut Bits, entry: Option<u64>)
-    requires sliced { IsSliced present.old.bits slices.old }
-    requires room { IsTrue (have_room slices.old && present.old.room) }
-    requires below { number_or_zero entry < 2 ^ length slices.old }
-    ensures sliced { IsSliced present.new.bits slices.new }
-    ensures entries { entries_in present.new.bits slices.new ≡ entries_in present.old.bits slices.old ++ entry ∷ [] }
+fn push_row(slices: &mut Bitmaps, present: &mut Bits, entry: Option<u64>)
+    requires sliced { IsSliced present.old.bits slices.old.vectors }
+    requires room { 0 < min slices.old.room present.old.room }
+    requires below { number_or_zero entry < 2 ^ length slices.old.vectors }
+    ensures sliced { IsSliced present.new.bits slices.new.vectors }
+    ensures width { length slices.new.vectors ≡ length slices.old.vectors }
+    ensures entries { entries_in present.new.bits slices.new.vectors ≡ entries_in present.old.bits slices.old.vectors ++ entry ∷ [] }
+    ensures room { min slices.old.room present.old.room ≤ min slices.new.room present.new.room + 1 }
 {
-    push_places(slices, entry.unwrap_or(0));
+    let number = entry.unwrap_or(0);
+    slices.push_each(
+        |place: usize| -> bool
+            ensures { place < 64 → result ≡ (bit_at number place == 1) }
+        { place < 64 && number >> place & 1 == 1 },
+    );
     present.push_reserved(entry.is_some());
     prove!(present.len() <= 1 << 32);
 }
 
-/// Makes room for one more bit in each slice. The bits stay, whatever the result; where it is refused, a slice has no room.
-fn reserve_all(slices: &mut [Bits]) -> Result<(), NoMemory>
-    requires { (k : ℕ) → k < length slices.old → length (slice_at slices.old k) < 2 ^ 32 }
-    ensures bits { (k : ℕ) → k < length slices.old → slice_at slices.new k ≡ slice_at slices.old k }
-    ensures ok { OnOk result ((k : ℕ) → k < length slices.old → IsTrue (has_room_at slices.new k)) }
-    ensures err { OnErr result (IsFalse (have_room slices.new)) }
+/// Appends a block of rows, in room that is there: to each slice the word of its binary place of the numbers.
+fn push_rows(slices: &mut Bitmaps, present: &mut Bits, block: &[Option<u64>])
+    requires sliced { IsSliced present.old.bits slices.old.vectors }
+    requires few { length block.now ≤ 64 }
+    requires room { length block.now ≤ min slices.old.room present.old.room }
+    requires below { All (λ e. number_or_zero e < 2 ^ length slices.old.vectors) block.now }
+    ensures sliced { IsSliced present.new.bits slices.new.vectors }
+    ensures width { length slices.new.vectors ≡ length slices.old.vectors }
+    ensures entries { entries_in present.new.bits slices.new.vectors ≡ entries_in present.old.bits slices.old.vectors ++ block.now }
+    ensures room { min slices.old.room present.old.room ≤ min slices.new.room present.new.room + length block.now }
 {
-    'slices: for place in 0..slices.len() {
-        slices[place].reserve_one()?;
-    }
-    Ok(())
-}
-
-/// Appends to each slice its binary place of the number.
-fn push_places(slices: &mut [Bits], number: u64)
-    requires few { length slices.old ≤ 63 }
-    requires room { (k : ℕ) → k < length slices.old → IsTrue (has_room_at slices.old k) }
-    ensures { (k : ℕ) → k < length slices.old → slice_at slices.new k ≡ slice_at slices.old k ++ (bit_at number k == 1) ∷ [] }
-{
-    'slices: for place in 0..slices.len() {
-        slices[place].push_reserved(number >> place & 1 == 1);
-    }
-}
-
-/// A second list of the same slices.
-fn copy_all(alloc: Global, slices: &[Bits]) -> Result<Vec<Bits>, NoMemory>
-    ensures long { IfOk result (λ copied. length copied.items ≡ length slices.now) }
-    ensures bits { IfOk result (λ copied. (k : ℕ) → k < length slices.now → slice_at copied.items k ≡ slice_at slices.now k) }
-{
-    let mut copied = Vec::with_capacity(alloc, slices.len())?;
-    'slices: for place in 0..slices.len() {
-        copied.push(slices[place].copy()?)?;
-    }
-    Ok(copied)
+    let mut words = [0; 64];
+    place_numbers(block, &mut words);
+    transpose(&mut words);
+    let count = block.len() as u64;
+    slices.push_words(&words[..slices.as_slice().len()], count);
+    present.push_word_reserved(mark_present(block), count);
+    prove!(present.len() <= 1 << 32);
 }

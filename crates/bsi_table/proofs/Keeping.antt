@@ -1,10 +1,10 @@
 -- What the columns of a table keep, through growth, appends and copies.
 use Rattle.std.proofs.Common.{◌≡◌, ℕ, ◌+◌, ◌^◌, ◌<◌, true, ◌&&◌, List, [], ◌∷◌, ◌++◌, All, Option, Some, None, length, map, ℤ, pos, neg_ℤ, ◌+ℤ◌, ◌≤ℤ◌, ◌<ℤ◌, refl, ap, sym, subst, ◌∙◌, arith}
 use Rattle.std.specs.Option.{option_map}
-use Rattle.std.specs.Prelude.{int_le, int_lt, slice_index_or, IfSome, OnErr, Result, Ok, Err}
+use Rattle.std.specs.Prelude.{int_le, int_lt, slice_index_or, IfSome, IsTrue, OnErr, Result, Ok, Err}
 use Rattle.std.proofs.lemmas.Int.{ints}
 use Rattle.std.proofs.lemmas.List.{length-append, length-map}
-use Rattle.std.proofs.lemmas.List.Elements.{All-get_or, All-push}
+use Rattle.std.proofs.lemmas.List.Elements.{All-append, All-cons, All-get_or, All-map, All-nil, All-weaker}
 use Rattle.bsi_digits.specs.Digits.{size_of}
 use Rattle.bsi_columns.specs.declared.any.AnyColumn.{AnyColumn}
 use Rattle.bsi_columns.specs.declared.any.AnyColumn.TheVariants.{Slices as kept_slices, Equality as kept_equality, Range as kept_range}
@@ -13,15 +13,19 @@ use Rattle.bsi_shift.specs.Shifted.{number_of, shifted_entries, shifted_size, Is
 use Rattle.bsi_table.specs.declared.form.Form.{Form}
 use Rattle.bsi_table.specs.declared.form.Form.TheVariants.{Slices, Equality, Range}
 use Rattle.bsi_table.specs.Columns.{column_at, fits, is_taken_by, size_in, NamedColumn}
-use Rattle.bsi_table.specs.Rows.{entry_at, Entries}
-use Rattle.bsi_table.specs.Table.{kept_at, row_in, AreInRange, AreKept, AreNarrow, HasOneMore, HaveOneMore, IsInForm, IsSameColumn, Keeps}
-use Rattle.bsi_table.proofs.Fitting.{fits-at, fits-each}
+use Rattle.bsi_table.specs.Rows.{column_of, entry_at, Entries, FedRow}
+use Rattle.bsi_table.specs.Table.{kept_at, row_in, AreFitting, AreInRange, AreKept, AreNarrow, HasMore, HaveMore, IsInForm, IsSameColumn, Keeps, Takes}
+use Rattle.bsi_table.proofs.Fitting.{fits-at, fits-each, fits-length}
 use Rattle.bsi_table.proofs.TableRows.{entry-row_in}
 
 -- what holds anyway holds after a refusal
 pub on_err : {T E : Type 0} {P : Type 0} (r : Result T E) → P → OnErr r P
 on_err (Ok x) p = tt
 on_err (Err e) p = p
+
+-- what holds of one holds of each of it alone
+pub All-one : {X : Type 0} (P : X → Type 0) (x : X) → P x → All P (x ∷ [])
+All-one P x holds = All-cons P x [] holds (All-nil P)
 
 -- a column of nothing has no rows
 pub shifted_nothing : (c : OffsetColumn) (stored : AnyColumn) → c.stored ≡ stored → any_entries stored ≡ [] → shifted_entries c ≡ []
@@ -86,16 +90,16 @@ module _ (column : NamedColumn) (old : OffsetColumn) (n : ℕ) (keeps : Keeps co
     range = in_range_of new same.form same.offset (shifted_entries old) same.entries keeps.range;
   }
 
-  -- one more entry
-  pub keeps_more : (new : OffsetColumn) (entry : Option ℤ) → IsInRange old.offset (shifted_size old) entry → HasOneMore old new entry → Keeps column new (n + 1)
-  keeps_more new entry taken more = record {
+  -- more entries
+  pub keeps_more : (new : OffsetColumn) (added : Entries) → All (IsInRange old.offset (shifted_size old)) added → HasMore old new added → Keeps column new (n + length added)
+  keeps_more new added taken more = record {
     form = same_form column.form old.stored new.stored keeps.form more.form;
     offset = more.offset ∙ keeps.offset;
-    rows = ap length more.entries ∙ omega (arith, length-append (shifted_entries old) (entry ∷ []), keeps.rows);
+    rows = ap length more.entries ∙ omega (arith, length-append (shifted_entries old) added, keeps.rows);
     low = keeps.low;
     high = keeps.high;
-    range = in_range_of new more.form more.offset (shifted_entries old ++ entry ∷ []) more.entries
-        (All-push (IsInRange old.offset (shifted_size old)) (shifted_entries old) entry keeps.range taken);
+    range = in_range_of new more.form more.offset (shifted_entries old ++ added) more.entries
+        (All-append (IsInRange old.offset (shifted_size old)) (shifted_entries old) added keeps.range taken);
   }
 
   -- an entry that the column takes is in range
@@ -132,12 +136,16 @@ module _ (columns : List NamedColumn) (old : List OffsetColumn) (n : ℕ) (kept 
     each = λ c within. keeps_same (column_at columns c) (kept_at old c) n (kept.each c within) (kept_at new c) (same c (omega (arith, kept.long)));
   }
 
-  pub are_kept_more : (row : Entries) → AreInRange old row → HaveOneMore old new row → AreKept columns new (n + 1)
-  are_kept_more row taken more = record {
+  pub are_kept_more : (rows : List FedRow) → All (λ row. AreInRange old row.1) rows → HaveMore old new rows → AreKept columns new (n + length rows)
+  are_kept_more rows taken more = record {
     long = long ∙ kept.long;
     each = λ c within.
         let there : c < length old = omega (arith, kept.long) in
-        keeps_more (column_at columns c) (kept_at old c) n (kept.each c within) (kept_at new c) (entry_at row c) (taken c there) (more c there);
+        let Taken : Option ℤ → Type 0 = IsInRange (kept_at old c).offset (shifted_size (kept_at old c)) in
+        let each_taken : All Taken (column_of rows c) =
+        All-map Taken (λ row. entry_at row.1 c) rows (All-weaker (λ row. AreInRange old row.1) (λ row. Taken (entry_at row.1 c)) (λ row range. range c there) rows taken) in
+        subst (λ more. Keeps (column_at columns c) (kept_at new c) (n + more)) (length-map rows (λ row. entry_at row.1 c))
+        (keeps_more (column_at columns c) (kept_at old c) n (kept.each c within) (kept_at new c) (column_of rows c) each_taken (more c there));
   }
 
 module _ (columns : List NamedColumn) (kept : List OffsetColumn) (n : ℕ) (are : AreKept columns kept n) where
@@ -153,6 +161,14 @@ module _ (columns : List NamedColumn) (kept : List OffsetColumn) (n : ℕ) (are 
     row_narrow k within =
         let there : k < length columns = omega (arith, within, are.long) in
         taken_narrow (column_at columns k) (kept_at kept k) n (are.each k there) (entry_at row k) (fits-at columns row k fitting there)
+
+    -- the columns take the row
+    pub row_taken : Takes kept row
+    row_taken = record { wide = fits-length columns row fitting ∙ sym are.long; range = row_in_range; narrow = row_narrow }
+
+  -- and rows that fit
+  pub rows_taken : (rows : List FedRow) → AreFitting columns rows → All (λ row. Takes kept row.1) rows
+  rows_taken rows fitting = All-weaker (λ row. IsTrue (fits columns row.1)) (λ row. Takes kept row.1) (λ row fit. row_taken row.1 fit) rows fitting
 
   -- each row that is kept fits
   pub row_in-fits : (r : ℕ) → r < n → fits columns (row_in kept r) ≡ true

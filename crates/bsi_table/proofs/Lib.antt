@@ -1,6 +1,7 @@
 pub mod CallerLemmas
 pub mod Fitting
 pub mod Keeping
+pub mod Marking
 pub mod Missing
 pub mod Naming
 pub mod NoNames

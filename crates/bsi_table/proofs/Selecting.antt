@@ -1,36 +1,94 @@
--- What a predicate says of rows, from what its parts say.
-use Rattle.std.proofs.Common.{◌≡◌, ℕ, ◌<◌, Bool, List, [], ◌∷◌, Option, length, map, replicate, refl, ap, sym, ◌∙◌, true}
-use Rattle.std.specs.Prelude.{ℤ, not}
-use Rattle.std.specs.Simd.Lanes.{zip2}
-use Rattle.std.proofs.lemmas.Simd.{zip2_of_maps}
+-- What a block of words keeps of the rows by a predicate, from what it keeps by its parts.
+use Rattle.std.proofs.Common.{◌≡◌, ℕ, ◌+◌, ◌*◌, ◌-◌, ◌<◌, ◌≤◌, Bool, List, ◌++◌, length, get_or, take, drop, map, refl, ap, ap₂, inl, inr, sym, ◌∙◌, true, false, arith, length-append}
+use Rattle.std.specs.Prelude.{None, bit_or, bit_xor, not, ◌&&◌, ◌||◌}
+use Rattle.std.specs.Simd.Lanes.{chunk, zip2}
+use borrow.Rule.Slice.PartMut.{put_mid}
+use Rattle.std.proofs.lemmas.Bool.{cases_lt}
+use Rattle.std.specs.List.{range_with_len}
+use Rattle.std.proofs.Math.Seq.{drop-append_seam, take-append_seam}
+use Rattle.std.proofs.lemmas.List.FromFn.{fill_by_all}
+use Rattle.bsi_bits.specs.BitList.{differ}
+use Rattle.bsi_bits.specs.Packed.{bit_of, bits_of}
+use Rattle.bsi_bits.proofs.Logic.{xor_bitwise}
+use Rattle.bsi_bits.proofs.Reading.{length-bits_of, get_or-bits_of}
+use Rattle.bsi_columns.proofs.BlockParts.{bit_before, bit_behind, bit_inside}
+use Rattle.bsi_columns.proofs.WordBlocks.{bit_of-chunk, or_bit, zipped_bit}
 use Rattle.bsi_shift.specs.Shifted.{shifted_entries, OffsetColumn}
 use Rattle.bsi_table.specs.declared.query.Pred.{Pred}
 use Rattle.bsi_table.specs.Rows.{entry_at, holds}
-use Rattle.bsi_table.specs.Table.{kept_at, rows_in}
-use Rattle.bsi_table.proofs.TableRows.{column-rows_in, length-rows_in, map_twice}
+use Rattle.bsi_table.specs.Table.{kept_at, row_in, rows_in}
+use Rattle.bsi_table.proofs.TableRows.{entry-row_in, kept_read, map_twice}
 
-pub replicate-map : {X : Type 0} (b : Bool) (xs : List X) → replicate (length xs) b ≡ map (λ x. b) xs
-replicate-map b [] = refl
-replicate-map b (x ∷ xs) = ap (λ bs. b ∷ bs) (replicate-map b xs)
+-- the words that were saved last, and those before them
+module _ (s saved spare : List ℕ) (n : ℕ) (is : spare ≡ s ++ saved) (long : n ≡ length saved) where
+  start : length spare - n ≡ length s
+  start = omega (arith, ap length is, length-append s saved)
 
-module _ (kept : List OffsetColumn) (n : ℕ) where
-  -- every row
-  pub all_rows : replicate n true ≡ map (λ row. true) (rows_in kept n)
-  all_rows = ap (λ k. replicate k true) (sym (length-rows_in kept n)) ∙ replicate-map true (rows_in kept n)
+  pub saved_last : drop (length spare - n) spare ≡ saved
+  saved_last = ap₂ drop start is ∙ drop-append_seam s saved
 
-  -- what a test says of the entries of a column
-  pub test_rows : (test : Option ℤ → Bool) (c : ℕ) → c < length kept → length (shifted_entries (kept_at kept c)) ≡ n
-      → map test (shifted_entries (kept_at kept c)) ≡ map (λ row. test (entry_at row c)) (rows_in kept n)
-  test_rows test c within even =
-      ap (map test) (sym (column-rows_in kept c n within even)) ∙ map_twice test (λ row. entry_at row c) (rows_in kept n)
+  pub saved_before : take (length spare - n) spare ≡ s
+  saved_before = ap₂ take start is ∙ take-append_seam s saved
 
-  -- the bits of two predicates, joined
-  pub joined_rows : (join : Bool → Bool → Bool) (first second : Pred) (a b : List Bool)
-      → a ≡ map (holds first) (rows_in kept n) → b ≡ map (holds second) (rows_in kept n)
-      → zip2 join a b ≡ map (λ row. join (holds first row) (holds second row)) (rows_in kept n)
-  joined_rows join first second a b left right = zip2_of_maps join (holds first) (holds second) (rows_in kept n) left right
+-- the entry of a row, by the column that was read
+module _ (kept : List OffsetColumn) (c : ℕ) (column : OffsetColumn) (within : c < length kept) (is : column ≡ get_or kept c column) where
+  pub entry_read : (r : ℕ) → get_or (shifted_entries column) r None ≡ entry_at (row_in kept r) c
+  entry_read r = ap (λ k. get_or (shifted_entries k) r None) (sym (kept_read kept c column within is)) ∙ sym (entry-row_in kept c r within)
 
-  -- the bits of a predicate, turned
-  pub turned_rows : (pred : Pred) (a : List Bool) → a ≡ map (holds pred) (rows_in kept n)
-      → map not a ≡ map (λ row. not (holds pred row)) (rows_in kept n)
-  turned_rows pred a bits = ap (map not) bits ∙ map_twice not (holds pred) (rows_in kept n)
+  pub rows_read : (count : ℕ) → ((k : ℕ) → k < length kept → length (shifted_entries (kept_at kept k)) ≡ count) → length (shifted_entries column) ≡ count
+  rows_read count even = ap (λ k. length (shifted_entries k)) (sym (kept_read kept c column within is)) ∙ even c within
+
+-- one of two tests holds of a row, where both were asked of it
+either_kept : (was first second : Bool) → ((was && second) || (was && first)) ≡ (was && (first || second))
+either_kept true true true = refl
+either_kept true true false = refl
+either_kept true false true = refl
+either_kept true false false = refl
+either_kept false first second = refl
+
+-- the rows of which a test does not hold are those that it left out
+left_out : (was test : Bool) → differ (was && test) was ≡ (was && not test)
+left_out true true = refl
+left_out true false = refl
+left_out false test = refl
+
+pub joined_bit : (old first second : List ℕ) (p : ℕ) (a b : Bool) → length second ≡ length first → p < 64 * length second
+    → bit_of first p ≡ (bit_of old p && a) → bit_of second p ≡ (bit_of old p && b) → bit_of (zip2 bit_or second first) p ≡ (bit_of old p && (a || b))
+joined_bit old first second p a b same below one other =
+    or_bit second first same p below ∙ ap₂ ◌||◌ other one ∙ either_kept (bit_of old p) a b
+
+pub turned_bit : (old kept : List ℕ) (p : ℕ) (a : Bool) → length kept ≡ length old → p < 64 * length kept
+    → bit_of kept p ≡ (bit_of old p && a) → bit_of (zip2 bit_xor kept old) p ≡ (bit_of old p && not a)
+turned_bit old kept p a same below is =
+    zipped_bit (λ _. Unit {0}) bit_xor differ xor_bitwise kept old same (λ k. tt) p below
+    ∙ ap (λ x. differ x (bit_of old p)) is ∙ left_out (bit_of old p) a
+
+-- words that have a bit for each row of which the predicate holds
+pub selected_rows : (kept : List OffsetColumn) (count : ℕ) (pred : Pred) (words : List ℕ)
+    → ((r : ℕ) → r < count → bit_of words r ≡ holds pred (row_in kept r)) → bits_of count words ≡ map (holds pred) (rows_in kept count)
+unfolding rows_in
+selected_rows kept count pred words each =
+    fill_by_all (λ r. holds pred (row_in kept r)) (bits_of count words) count false (length-bits_of count words)
+    (λ r below. get_or-bits_of count words r false below ∙ each r below)
+    ∙ sym (map_twice (holds pred) (row_in kept) (range_with_len 0 count))
+
+-- one block more of the words is narrowed
+module _ (kept : List OffsetColumn) (count : ℕ) (pred : Pred) (old words part : List ℕ) (at n : ℕ) (within : at + n ≤ length words) (long : length part ≡ n)
+    (done : (r : ℕ) → r < 64 * at → r < count → bit_of words r ≡ (bit_of old r && holds pred (row_in kept r)))
+    (rest : (r : ℕ) → 64 * at ≤ r → bit_of words r ≡ bit_of old r)
+    (narrowed : (p : ℕ) → p < 64 * n → 64 * at + p < count → bit_of part p ≡ (bit_of (chunk at n words) p && holds pred (row_in kept (64 * at + p)))) where
+  pub narrowed_more : (r : ℕ) → r < 64 * (at + n) → r < count → bit_of (put_mid at n words part) r ≡ (bit_of old r && holds pred (row_in kept r))
+  narrowed_more r below row = elim (cases_lt r (64 * at)) [
+    | inl before ↦ bit_before at n words part within long r before ∙ done r before row
+    | inr past ↦
+        let p : ℕ = r - 64 * at in
+        let place : 64 * at + p ≡ r = omega arith in
+        ap (bit_of (put_mid at n words part)) (sym place) ∙ bit_inside at n words part within long p (omega arith)
+        ∙ narrowed p (omega arith) (omega arith)
+        ∙ ap (λ b. b && holds pred (row_in kept (64 * at + p))) (bit_of-chunk at n words p (omega arith))
+        ∙ ap (λ q. bit_of words q && holds pred (row_in kept q)) place
+        ∙ ap (λ b. b && holds pred (row_in kept r)) (rest r past)
+  ]
+
+  pub narrowed_rest : (r : ℕ) → 64 * (at + n) ≤ r → bit_of (put_mid at n words part) r ≡ bit_of old r
+  narrowed_rest r past = bit_behind at n words part within long r past ∙ rest r (omega arith)

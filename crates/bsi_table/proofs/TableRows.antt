@@ -1,18 +1,18 @@
 -- The rows of a table, by the columns that keep them.
-use Rattle.std.proofs.Common.{◌≡◌, ℕ, zero, suc, ◌+◌, ◌<◌, Bool, List, [], ◌∷◌, ◌++◌, None, All, length, map, get_or, refl, ap, ap₂, subst, sym, ◌∙◌, arith, zero-add}
-use Rattle.std.specs.Prelude.{count_by, slice_index}
+use Rattle.std.proofs.Common.{◌≡◌, ℕ, zero, suc, ◌+◌, ◌-◌, ◌<◌, ◌≤◌, Bool, true, false, List, [], ◌∷◌, ◌++◌, None, All, length, map, get_or, refl, ap, ap₂, subst, sym, ◌∙◌, arith}
+use Rattle.std.specs.Prelude.{count_by, nat_lt, slice_index}
 use Rattle.std.specs.List.{range_with_len}
-use Rattle.std.proofs.lemmas.List.{ext_get_or, get_or-map, get_or_append_left, length-map, map-append}
-use Rattle.std.proofs.lemmas.List.Elements.{All-from_get_or}
+use Rattle.std.proofs.lemmas.List.{ext_get_or, get_or-append-add, get_or-map, get_or_append_left, length-append, length-map}
+use Rattle.std.proofs.lemmas.List.Elements.{All-from_get_or, All-get_or}
 use Rattle.std.proofs.lemmas.List.FromFn.{fill_by_all, get_or-map-range_with_len, length-map-range_with_len}
 use Rattle.bsi_bits.specs.BitList.{set_places}
 use Rattle.bsi_columns.specs.Orders.{values_at}
 use Rattle.bsi_shift.specs.Shifted.{shifted_entries, OffsetColumn}
 use Rattle.bsi_table.specs.declared.query.Pred.{Pred}
-use Rattle.bsi_table.specs.Rows.{column_of, entry_at, feeders_of, holds, selected, values, Entries, FedRow}
-use Rattle.bsi_table.specs.Table.{fed_rows, kept_at, no_entries, row_in, rows_in, HasOneMore}
-use Rattle.bsi_table.proofs.Selections.{length-places, range_push, set_places-map, values-places}
-use Rattle.std.proofs.Math.Seq.{get_or-append_seam}
+use Rattle.bsi_table.specs.Rows.{column_of, entry_at, feeders_of, holds, row_at, selected, values, Entries, FedRow}
+use Rattle.bsi_table.specs.Table.{fed_rows, kept_at, no_entries, row_in, rows_in, HaveMore}
+use Rattle.bsi_table.proofs.Selections.{length-places, set_places-map, values-places}
+use Rattle.std.proofs.lemmas.Bool.Decides.{nat_tests}
 
 pub map_twice : {X Y Z : Type 0} (f : Y → Z) (g : X → Y) (xs : List X) → map f (map g xs) ≡ map (λ x. f (g x)) xs
 map_twice f g [] = refl
@@ -128,46 +128,72 @@ pub fed_rows-none : (sources : List ℕ) (kept : List OffsetColumn) → sources 
 unfolding fed_rows
 fed_rows-none sources kept none = ap (λ xs. fed_rows xs kept) none
 
--- and with one more entry in each column, one more row
-pub fed_rows-more : (sources : List ℕ) (old new : List OffsetColumn) (source : ℕ) (row : Entries) → length new ≡ length old → length row ≡ length old
+-- and with more entries in each column, more rows
+pub fed_rows-more : (sources : List ℕ) (old new : List OffsetColumn) (rows : List FedRow) → length new ≡ length old
+    → All (λ row. length row.1 ≡ length old) rows
     → ((c : ℕ) → c < length old → length (shifted_entries (kept_at old c)) ≡ length sources)
-    → ((c : ℕ) → c < length old → HasOneMore (kept_at old c) (kept_at new c) (entry_at row c))
-    → fed_rows (sources ++ source ∷ []) new ≡ fed_rows sources old ++ (source, row) ∷ []
+    → HaveMore old new rows
+    → fed_rows (sources ++ feeders_of rows) new ≡ fed_rows sources old ++ rows
 unfolding fed_rows
-fed_rows-more sources old new source row long wide even more =
-    let n = length sources in
-    let now : ℕ → FedRow = λ r. (slice_index (sources ++ source ∷ []) r, row_in new r) in
-    let then : ℕ → FedRow = λ r. (slice_index sources r, row_in old r) in
-    let pair : ℕ → Entries → FedRow = λ s entries. (s, entries) in
-    ap (λ k. map now (range_with_len 0 k)) (length-push sources source)
-    ∙ ap (map now) (range_push 0 n)
-    ∙ map-append now (range_with_len 0 n) ((0 + n) ∷ [])
-    ∙ ap₂ (λ rows last. rows ++ last ∷ [])
-    (same_below (0, []) now then n
-    (λ r below. ap₂ pair (get_or_append_left sources (source ∷ []) 0 r below) (earlier r below)))
-    (ap now (zero-add n) ∙ ap₂ pair (get_or-append_seam sources source [] 0) last)
+fed_rows-more sources old new rows long wide even more =
+    sym (fill_by_all now (map then (range_with_len 0 (length sources)) ++ rows) (length (sources ++ feeders_of rows)) (0, []) longer
+    (λ r below. at r (omega (arith, below, all)) (nat_lt r (length sources)) refl))
   where
-    length-push : (xs : List ℕ) (x : ℕ) → length (xs ++ x ∷ []) ≡ suc (length xs)
-    length-push [] x = refl
-    length-push (y ∷ xs) x = ap suc (length-push xs x)
+    then : ℕ → FedRow
+    then r = (slice_index sources r, row_in old r)
 
-    entry_then : (c r : ℕ) → c < length old → entry_at (row_in new r) c ≡ get_or (shifted_entries (kept_at old c) ++ entry_at row c ∷ []) r None
+    now : ℕ → FedRow
+    now r = (slice_index (sources ++ feeders_of rows) r, row_in new r)
+
+    pair : ℕ → Entries → FedRow
+    pair s entries = (s, entries)
+
+    before : length (map then (range_with_len 0 (length sources))) ≡ length sources
+    before = length-map-range_with_len then 0 (length sources)
+
+    all : length (sources ++ feeders_of rows) ≡ length sources + length rows
+    all = length-append sources (feeders_of rows) ∙ ap (λ n. length sources + n) (length-map rows (λ row. row.0))
+
+    longer : length (map then (range_with_len 0 (length sources)) ++ rows) ≡ length (sources ++ feeders_of rows)
+    longer = length-append (map then (range_with_len 0 (length sources))) rows ∙ ap (λ n. n + length rows) before ∙ sym all
+
+    entry_then : (c r : ℕ) → c < length old → entry_at (row_in new r) c ≡ get_or (shifted_entries (kept_at old c) ++ column_of rows c) r None
     entry_then c r below = entry-row_in new c r (omega arith) ∙ ap (λ es. get_or es r None) (more c below).entries
 
     earlier : (r : ℕ) → r < length sources → row_in new r ≡ row_in old r
-    earlier r before =
+    earlier r first =
         ext_get_or None (row_in new r) (row_in old r) (length-map new _ ∙ long ∙ sym (length-map old _))
         (λ c below.
         let there : c < length old = omega (arith, length-map new (λ column. get_or (shifted_entries column) r None)) in
         entry_then c r there
-        ∙ get_or_append_left (shifted_entries (kept_at old c)) (entry_at row c ∷ []) None r (omega (arith, even c there))
+        ∙ get_or_append_left (shifted_entries (kept_at old c)) (column_of rows c) None r (omega (arith, even c there))
         ∙ sym (entry-row_in old c r there))
 
-    last : row_in new (length sources) ≡ row
-    last =
-        ext_get_or None (row_in new (length sources)) row (length-map new _ ∙ long ∙ sym wide)
+    later : (j : ℕ) → j < length rows → row_in new (length sources + j) ≡ (row_at rows j).1
+    later j within =
+        let row_wide : length (row_at rows j).1 ≡ length old = All-get_or (λ row. length row.1 ≡ length old) rows j (0, []) within wide in
+        ext_get_or None (row_in new (length sources + j)) (row_at rows j).1 (length-map new _ ∙ long ∙ sym row_wide)
         (λ c below.
-        let there : c < length old = omega (arith, length-map new (λ column. get_or (shifted_entries column) (length sources) None)) in
-        entry_then c (length sources) there
-        ∙ ap (λ r. get_or (shifted_entries (kept_at old c) ++ entry_at row c ∷ []) r None) (sym (even c there))
-        ∙ get_or-append_seam (shifted_entries (kept_at old c)) (entry_at row c) [] None)
+        let there : c < length old = omega (arith, length-map new (λ column. get_or (shifted_entries column) (length sources + j) None)) in
+        entry_then c (length sources + j) there
+        ∙ ap (λ n. get_or (shifted_entries (kept_at old c) ++ column_of rows c) (n + j) None) (sym (even c there))
+        ∙ get_or-append-add (shifted_entries (kept_at old c)) (column_of rows c) j None
+        ∙ get_or-map (λ row. entry_at row.1 c) rows j (0, []) None within)
+
+    at : (r : ℕ) → r < length sources + length rows → (b : Bool) → nat_lt r (length sources) ≡ b
+        → get_or (map then (range_with_len 0 (length sources)) ++ rows) r (0, []) ≡ now r
+    at r within true is =
+        let first : r < length sources = grind (arith, nat_tests) in
+        get_or_append_left (map then (range_with_len 0 (length sources))) rows (0, []) r (omega (arith, before, first))
+        ∙ get_or-map-range_with_len then 0 (length sources) r r (0, []) first (omega arith)
+        ∙ ap₂ pair (sym (get_or_append_left sources (feeders_of rows) 0 r first)) (sym (earlier r first))
+    at r within false is =
+        let past : length sources ≤ r = grind (arith, nat_tests) in
+        let j = r - length sources in
+        let is_j : r ≡ length sources + j = omega (arith, past) in
+        let here : j < length rows = omega (arith, within, past) in
+        ap (λ n. get_or (map then (range_with_len 0 (length sources)) ++ rows) n (0, [])) (is_j ∙ ap (λ n. n + j) (sym before))
+        ∙ get_or-append-add (map then (range_with_len 0 (length sources))) rows j (0, [])
+        ∙ ap₂ pair
+        (sym (get_or-map (λ row. row.0) rows j (0, []) 0 here) ∙ sym (get_or-append-add sources (feeders_of rows) j 0) ∙ ap (λ n. get_or (sources ++ feeders_of rows) n 0) (sym is_j))
+        (sym (later j here) ∙ ap (row_in new) (sym is_j))

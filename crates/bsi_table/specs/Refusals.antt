@@ -1,5 +1,5 @@
 -- Which refusal a call meets first.
-use Rattle.std.specs.Prelude.{◌≡◌, ◌||◌, ℕ, ◌^◌, not, ◌+ℤ◌, ℤ, pos, int_lt, List, length, Option, Some, None, is_some, option_map, nat_eq, nat_lt, nat_le, if◌then◌else◌}
+use Rattle.std.specs.Prelude.{◌≡◌, ◌||◌, ℕ, ◌+◌, ◌^◌, not, ◌+ℤ◌, ℤ, pos, int_lt, List, length, Option, Some, None, is_some, option_map, nat_eq, nat_lt, nat_le, if◌then◌else◌}
 use Rattle.std.specs.Option.{option_or}
 use Rattle.bsi_digits.specs.Refusal.{refusal}
 use Rattle.bsi_digits.specs.declared.bases_error.BasesError.{BasesError}
@@ -58,6 +58,10 @@ index_refusal schema limit =
 -- of one more row
 abbrev pub row_refusal : Table → Option AppendError
 row_refusal table = if nat_eq (length table.rows) table.limit then Some IndexFull else None
+
+-- of so many more rows
+abbrev pub rows_refusal : Table → ℕ → Option AppendError
+rows_refusal table more = if nat_lt table.limit (length table.rows + more) then Some IndexFull else None
 
 -- of a query to a table of this schema
 abbrev pub ask_refusal : Declared → Query → Option AskError

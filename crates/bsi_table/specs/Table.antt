@@ -1,5 +1,5 @@
 -- A table, and the columns that keep its rows.
-use Rattle.std.specs.Prelude.{◌≡◌, ℕ, ◌^◌, ◌<◌, ◌≤◌, false, List, [], ◌∷◌, ◌++◌, Option, None, All, length, map, slice_index, slice_index_or, ℤ, pos, neg_ℤ, ◌+ℤ◌, ◌≤ℤ◌, ◌<ℤ◌, IfSome, IsTrue}
+use Rattle.std.specs.Prelude.{◌≡◌, ℕ, ◌^◌, ◌<◌, ◌≤◌, List, [], ◌∷◌, ◌++◌, Option, None, All, length, map, slice_index, slice_index_or, ℤ, pos, neg_ℤ, ◌+ℤ◌, ◌≤ℤ◌, ◌<ℤ◌, IfSome, IsTrue}
 use Rattle.std.specs.List.{range_with_len}
 use Rattle.bsi_columns.specs.declared.any.AnyColumn.{AnyColumn}
 use Rattle.bsi_columns.specs.declared.any.AnyColumn.TheVariants.{Slices as kept_slices, Equality as kept_equality, Range as kept_range}
@@ -8,7 +8,7 @@ use Rattle.bsi_shift.specs.Shifted.{shifted_entries, shifted_room, shifted_size,
 use Rattle.bsi_table.specs.declared.form.Form.{Form}
 use Rattle.bsi_table.specs.declared.form.Form.TheVariants.{Slices, Equality, Range}
 use Rattle.bsi_table.specs.Columns.{column_at, fits, size_in, Declared, NamedColumn}
-use Rattle.bsi_table.specs.Rows.{entry_at, Entries, FedRow}
+use Rattle.bsi_table.specs.Rows.{column_of, entry_at, Entries, FedRow}
 
 -- what a contract sees of an index: its schema, how many feeders there are, the most rows, and the rows
 pub record Table : Type 0 where
@@ -48,7 +48,7 @@ IsInForm form column = ⊥
 
 -- what a list of kept columns has past its end
 abbrev pub no_entries : OffsetColumn
-no_entries = record { stored = kept_slices (record { width = 0; entries = []; room = false }); offset = pos 0 }
+no_entries = record { stored = kept_slices (record { width = 0; entries = []; room = 0 }); offset = pos 0 }
 
 abbrev pub kept_at : List OffsetColumn → ℕ → OffsetColumn
 kept_at kept c = slice_index_or kept c no_entries
@@ -94,26 +94,39 @@ pub record IsSameColumn (old new : OffsetColumn) : Type 0 where
   pub offset : new.offset ≡ old.offset
   pub form : IsSameForm new.stored old.stored
 
--- a column is another one with one more entry
-pub record HasOneMore (old new : OffsetColumn) (entry : Option ℤ) : Type 0 where
-  pub entries : shifted_entries new ≡ shifted_entries old ++ entry ∷ []
+-- a column is another one with these entries behind its own
+pub record HasMore (old new : OffsetColumn) (added : Entries) : Type 0 where
+  pub entries : shifted_entries new ≡ shifted_entries old ++ added
   pub offset : new.offset ≡ old.offset
   pub form : IsSameForm new.stored old.stored
+
+-- a column is another one with one more entry
+abbrev pub HasOneMore : OffsetColumn → OffsetColumn → Option ℤ → Type 0
+HasOneMore old new entry = HasMore old new (entry ∷ [])
 
 -- each column has n rows
 abbrev pub AreEven : List OffsetColumn → ℕ → Type 0
 AreEven kept n = (k : ℕ) → k < length kept → length (shifted_entries (kept_at kept k)) ≡ n
 
--- each of the first n columns has room for one more entry
-abbrev pub HaveRoom : List OffsetColumn → ℕ → Type 0
-HaveRoom kept n = (k : ℕ) → k < n → IsTrue (shifted_room (kept_at kept k))
+-- each of the first n columns has room for so many more entries
+abbrev pub HaveRoom : List OffsetColumn → ℕ → ℕ → Type 0
+HaveRoom kept n more = (k : ℕ) → k < n → more ≤ shifted_room (kept_at kept k)
 
 -- each column takes its entry of a row, which is a null or a number of 64 bits
 abbrev pub AreInRange : List OffsetColumn → Entries → Type 0
 AreInRange kept row = (k : ℕ) → k < length kept → IsInRange (kept_at kept k).offset (shifted_size (kept_at kept k)) (entry_at row k)
 
+abbrev pub IsNarrow : Option ℤ → Type 0
+IsNarrow entry = IfSome entry (λ x. (neg_ℤ (pos (2 ^ 63)) ≤ℤ x) × (x <ℤ pos (2 ^ 63)))
+
 abbrev pub AreNarrow : List OffsetColumn → Entries → Type 0
-AreNarrow kept row = (k : ℕ) → k < length kept → IfSome (entry_at row k) (λ x. (neg_ℤ (pos (2 ^ 63)) ≤ℤ x) × (x <ℤ pos (2 ^ 63)))
+AreNarrow kept row = (k : ℕ) → k < length kept → IsNarrow (entry_at row k)
+
+-- kept columns take a row: it has an entry for each, and each takes its own
+pub record Takes (kept : List OffsetColumn) (row : Entries) : Type 0 where
+  pub wide : length row ≡ length kept
+  pub range : AreInRange kept row
+  pub narrow : AreNarrow kept row
 
 -- each column has the entries, the offset and the form that it had
 abbrev pub AreSameColumns : List OffsetColumn → List OffsetColumn → Type 0
@@ -122,3 +135,7 @@ AreSameColumns old new = (k : ℕ) → k < length old → IsSameColumn (kept_at 
 -- each column has its entry of a row more
 abbrev pub HaveOneMore : List OffsetColumn → List OffsetColumn → Entries → Type 0
 HaveOneMore old new row = (k : ℕ) → k < length old → HasOneMore (kept_at old k) (kept_at new k) (entry_at row k)
+
+-- each column has its entries of these rows more
+abbrev pub HaveMore : List OffsetColumn → List OffsetColumn → List FedRow → Type 0
+HaveMore old new rows = (k : ℕ) → k < length old → HasMore (kept_at old k) (kept_at new k) (column_of rows k)

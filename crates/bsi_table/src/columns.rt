@@ -1,12 +1,14 @@
 //! The columns of a table, side by side: each call is done on each.
 
-ghost use Rattle.std.specs.Prelude.{◌≡◌, ℕ, ◌<◌, ◌^◌, [], length, IfOk, OnOk};
+ghost use Rattle.std.specs.Prelude.{◌≡◌, ℕ, ◌+◌, ◌<◌, ◌≤◌, ◌^◌, [], All, length, IfOk, OnOk};
 ghost use Rattle.bsi_columns.specs.AnyRows.{any_entries};
 ghost use Rattle.bsi_shift.specs.Shifted.{shifted_entries};
 ghost use Rattle.bsi_table.specs.Columns.{column_at, IsForm};
-ghost use Rattle.bsi_table.specs.Table.{kept_at, AreInRange, AreKept, AreNarrow, AreSameColumns, HaveOneMore, HaveRoom, IsInForm, Keeps};
+ghost use Rattle.bsi_table.specs.Rows.{column_of, entry_at};
+ghost use Rattle.bsi_table.specs.Table.{kept_at, AreInRange, AreKept, AreNarrow, AreSameColumns, HaveMore, HaveOneMore, HaveRoom, IsInForm, IsNarrow, Keeps, Takes};
 
-use crate::{Form, NoMemory, Schema};
+use crate::index::MOST_BLOCK_ROWS;
+use crate::{Form, NoMemory, Row, Schema};
 use bsi_columns::{AnyColumn, Decomposed, Slices};
 use bsi_shift::Shifted;
 use std::alloc::Global;
@@ -44,14 +46,14 @@ fn make_stored(alloc: Global, form: &Form) -> Result<AnyColumn, NoMemory>
     }
 }
 
-/// Makes room for one more entry in each column. The columns stay, whatever the result.
-pub(crate) fn reserve_each(columns: &mut [Shifted]) -> Result<(), NoMemory>
-    requires { (k : ℕ) → k < length columns.old → length (shifted_entries (kept_at columns.old k)) < 2 ^ 32 }
+/// Makes room for so many more entries in each column. The columns stay, whatever the result.
+pub(crate) fn reserve_each(columns: &mut [Shifted], more: u64) -> Result<(), NoMemory>
+    requires { (k : ℕ) → k < length columns.old → length (shifted_entries (kept_at columns.old k)) + more ≤ 2 ^ 32 }
     ensures same { AreSameColumns columns.old columns.new }
-    ensures ok { OnOk result (HaveRoom columns.new (length columns.old)) }
+    ensures ok { OnOk result (HaveRoom columns.new (length columns.old) more) }
 {
     'columns: for c in 0..columns.len() {
-        columns[c].reserve_one()?;
+        columns[c].reserve(more)?;
     }
     Ok(())
 }
@@ -59,17 +61,50 @@ pub(crate) fn reserve_each(columns: &mut [Shifted]) -> Result<(), NoMemory>
 /// Appends to each column its entry of a row, in room that is there.
 pub(crate) fn push_each(columns: &mut [Shifted], values: &[Option<i128>])
     requires long { length values.now ≡ length columns.old }
-    requires room { HaveRoom columns.old (length columns.old) }
+    requires room { HaveRoom columns.old (length columns.old) 1 }
     requires range { AreInRange columns.old values.now }
     requires narrow { AreNarrow columns.old values.now }
     ensures { HaveOneMore columns.old columns.new values.now }
 {
     'columns: for c in 0..columns.len() {
-        let entry = match values[c] {
-            None => None,
-            Some(number) => Some(number as i64),
-        };
-        columns[c].push_reserved(entry);
+        columns[c].push_reserved(narrowed(values[c]));
+    }
+}
+
+/// Appends to each column its entries of a block of rows, in room that is there.
+pub(crate) fn push_block_each(columns: &mut [Shifted], rows: &[(u32, Row)])
+    requires few { length rows.now ≤ 64 }
+    requires room { HaveRoom columns.old (length columns.old) (length rows.now) }
+    requires taken { All (λ row. Takes columns.old row.1) rows.now }
+    ensures { HaveMore columns.old columns.new rows.now }
+{
+    'columns: for c in 0..columns.len() {
+        let mut block = [None; MOST_BLOCK_ROWS];
+        gather(rows, c, &mut block[..rows.len()]);
+        columns[c].push_block_reserved(&block[..rows.len()]);
+    }
+}
+
+/// Writes the entry of column `c` of each row.
+fn gather(rows: &[(u32, Row)], c: usize, entries: &mut [Option<i64>])
+    requires same { length entries.old ≡ length rows.now }
+    requires wide { All (λ row. c < length row.1) rows.now }
+    requires narrow { All (λ row. IsNarrow (entry_at row.1 c)) rows.now }
+    ensures { entries.new ≡ column_of rows.now c }
+{
+    'rows: for r in 0..rows.len() {
+        entries[r] = narrowed(rows[r].1.values()[c]);
+    }
+}
+
+/// Returns the same entry, as a number of 64 bits.
+fn narrowed(entry: Option<i128>) -> Option<i64>
+    requires { IsNarrow entry }
+    ensures { result ≡ entry }
+{
+    match entry {
+        None => None,
+        Some(number) => Some(number as i64),
     }
 }
 

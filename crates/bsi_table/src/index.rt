@@ -1,15 +1,16 @@
 //! The index: rows from feeders, kept column by column, and the answers to queries over them.
 
-ghost use Rattle.std.specs.Prelude.{◌≡◌, ℕ, ◌<◌, ◌≤◌, ◌^◌, ◌++◌, ◌∷◌, [], None, length, vec_len, vec_capacity, IfErr, IfOk, IsTrue, OnErr, OnOk};
+ghost use Rattle.std.specs.Prelude.{◌≡◌, ℕ, ◌+◌, ◌<◌, ◌≤◌, ◌^◌, ◌++◌, ◌∷◌, [], All, None, length, IfErr, IfOk, IsTrue, OnErr, OnOk};
 ghost use Rattle.std.specs.Result.{result_err};
 ghost use Rattle.bsi_shift.specs.Shifted.{shifted_entries};
 ghost use Rattle.bsi_table.specs.Answers.{missing_column, IsAnswer, IsReply};
 ghost use Rattle.bsi_table.specs.Columns.{column_at, fits};
-ghost use Rattle.bsi_table.specs.Refusals.{index_refusal, row_refusal, IsFirstOr};
-ghost use Rattle.bsi_table.specs.Rows.{column_of};
-ghost use Rattle.bsi_table.specs.Table.{kept_at, no_rows, with_row, AreFitting, AreFrom, AreInRange, AreNarrow, AreSameColumns, HaveOneMore, HaveRoom, IsInForm};
+ghost use Rattle.bsi_table.specs.Refusals.{index_refusal, row_refusal, rows_refusal, IsFirstOr};
+ghost use Rattle.bsi_table.specs.Rows.{column_of, feeders_of};
+ghost use Rattle.bsi_table.specs.Table.{kept_at, no_rows, with_row, with_rows, AreFitting, AreFrom, AreInRange, AreNarrow, AreSameColumns, HaveMore, HaveOneMore, HaveRoom, IsInForm, Takes};
 
-use crate::columns::{copy_each, make_each, push_each, reserve_each};
+use crate::columns::{copy_each, make_each, push_block_each, push_each, reserve_each};
+use crate::origins::Origins;
 use crate::select::select;
 use crate::totals::answer;
 use crate::{Answer, AppendError, AskError, IndexError, NoMemory, Query, Row, Schema};
@@ -20,14 +21,17 @@ use std::marker::Model;
 /// The most rows of an index.
 pub const MOST_ROWS: u64 = 1 << 32;
 
+/// The most rows of a block that is appended at once.
+pub const MOST_BLOCK_ROWS: usize = 64;
+
 /// The rows of a schema that came from 1 to 64 feeders, at most so many as a limit. A row is kept as its entry in each
-/// column and the number of its feeder, a byte; no row is kept as it came.
+/// column and the number of its feeder, a byte; no row is kept as it came. Every 512 rows a count of 4 bytes is kept for each
+/// feeder, where there are several.
 #[derive(Drop)]
 pub struct Index {
     schema: Schema,
     columns: Vec<Shifted>,
-    sources: Vec<u8>,
-    feeders: u32,
+    origins: Origins,
     limit: u64,
 }
 
@@ -37,9 +41,9 @@ impl Model for Index {
 
     ghost Value = { Table };
 
-    ghost view = { λ i. table i.schema i.feeders i.limit (fed_rows i.sources.items i.columns.items) };
+    ghost view = { λ i. table i.schema i.origins.feeders i.limit (fed_rows i.origins.rows i.columns.items) };
 
-    ghost invariant = { λ i. IsTable i.schema.columns i.feeders i.limit i.sources.items i.columns.items };
+    ghost invariant = { λ i. IsTable i.schema.columns i.origins.feeders i.limit i.origins.rows i.columns.items };
 }
 
 impl Index {
@@ -55,8 +59,7 @@ impl Index {
         Ok(Index {
             schema,
             columns,
-            sources: Vec::new(alloc),
-            feeders,
+            origins: Origins::new(alloc, feeders),
             limit,
         })
     }
@@ -79,7 +82,7 @@ impl Index {
         ensures len { result ≡ length self.now.rows }
         ensures within { result ≤ self.now.limit }
     {
-        self.sources.len() as u64
+        self.origins.len()
     }
 
     /// Appends a row from a feeder, and returns its position: the length before. It grows first; what was refused a growth
@@ -97,14 +100,37 @@ impl Index {
         if position == self.limit() {
             return Err(AppendError::IndexFull);
         }
-        reserve_row(&mut self.columns, &mut self.sources)?;
+        reserve_rows(&mut self.columns, &mut self.origins, 1)?;
         push_row(
             &mut self.columns,
-            &mut self.sources,
+            &mut self.origins,
             feeder as u8,
             row.values(),
         );
         Ok(position)
+    }
+
+    /// Appends a block of at most 64 rows, each from its feeder, and returns the position of the first: the length before.
+    /// They stand as if they were appended one after the other, or none is appended: it grows first, for all rows at once, and
+    /// what was refused a growth stays as it was.
+    pub fn append_rows(&mut self, rows: &[(u32, Row)]) -> Result<u64, AppendError>
+        requires few { length rows.now ≤ 64 }
+        requires fits { AreFitting self.old.schema.columns rows.now }
+        requires feeders { AreFrom self.old.feeders rows.now }
+        ensures appended { OnOk result (self.new ≡ with_rows self.old rows.now) }
+        ensures position { IfOk result (λ position. position ≡ length self.old.rows) }
+        ensures taken { OnOk result (rows_refusal self.old (length rows.now) ≡ None) }
+        ensures refused { IfErr result (IsFirstOr AppendError.NoMemory (rows_refusal self.old (length rows.now))) }
+        ensures kept { OnErr result (self.new ≡ self.old) }
+    {
+        let first = self.len();
+        let more = rows.len() as u64;
+        if more > self.limit() - first {
+            return Err(AppendError::IndexFull);
+        }
+        reserve_rows(&mut self.columns, &mut self.origins, more)?;
+        push_rows(&mut self.columns, &mut self.origins, rows);
+        Ok(first)
     }
 
     /// Answers a query over all rows.
@@ -122,9 +148,9 @@ impl Index {
         requires { missing_column (length self.now.schema.columns) query.now ≡ None }
         ensures { IfOk result (IsAnswer query.now self.now.rows) }
     {
-        let alloc = *self.sources.allocator();
+        let alloc = *self.origins.allocator();
         let found = select(alloc, &self.columns, self.len(), &query.pred)?;
-        answer(alloc, &self.columns, &self.sources, &found, query)
+        answer(alloc, &self.columns, &self.origins, &found, query)
     }
 
     /// Lends column `c`: the entries of all rows there, in the form and with the offset that the schema says.
@@ -142,13 +168,12 @@ impl Index {
         ensures { IfOk result (λ index. index ≡ self.now) }
     {
         let schema = self.schema.copy()?;
-        let columns = copy_each(*self.sources.allocator(), &self.columns)?;
-        let sources = self.sources.clone()?;
+        let columns = copy_each(*self.origins.allocator(), &self.columns)?;
+        let origins = self.origins.copy()?;
         Ok(Index {
             schema,
             columns,
-            sources,
-            feeders: self.feeders,
+            origins,
             limit: self.limit,
         })
     }
@@ -167,7 +192,7 @@ impl Index {
         ensures within { result ≤ 64 }
         ensures from { AreFrom self.now.feeders self.now.rows }
     {
-        self.feeders
+        self.origins.feeders()
     }
 
     /// Returns the most rows that the index holds, at most 2^32.
@@ -179,30 +204,68 @@ impl Index {
     }
 }
 
-/// Makes room for one more row. The rows stay, whatever the result.
-fn reserve_row(columns: &mut Vec<Shifted>, sources: &mut Vec<u8>) -> Result<(), NoMemory>
-    requires { (k : ℕ) → k < length columns.old.items → length (shifted_entries (kept_at columns.old.items k)) < 2 ^ 32 }
+/// Makes room for so many more rows. The rows stay, whatever the result.
+fn reserve_rows(
+    columns: &mut Vec<Shifted>,
+    origins: &mut Origins,
+    more: u64,
+) -> Result<(), NoMemory>
+    requires short { (k : ℕ) → k < length columns.old.items → length (shifted_entries (kept_at columns.old.items k)) + more ≤ 2 ^ 32 }
+    requires few { length origins.old.rows + more ≤ 2 ^ 32 }
     ensures long { length columns.new.items ≡ length columns.old.items }
     ensures same { AreSameColumns columns.old.items columns.new.items }
-    ensures sources { sources.new.items ≡ sources.old.items }
-    ensures ok { OnOk result (HaveRoom columns.new.items (length columns.old.items)) }
-    ensures room { OnOk result (vec_len sources.new < vec_capacity sources.new) }
+    ensures sources { origins.new.rows ≡ origins.old.rows }
+    ensures feeders { origins.new.feeders ≡ origins.old.feeders }
+    ensures ok { OnOk result (HaveRoom columns.new.items (length columns.old.items) more) }
+    ensures room { OnOk result (more ≤ origins.new.room) }
 {
-    reserve_each(columns)?;
-    sources.reserve(1)
+    reserve_each(columns, more)?;
+    origins.reserve(more)
 }
 
 /// Appends a row, in room that is there.
-fn push_row(columns: &mut Vec<Shifted>, sources: &mut Vec<u8>, source: u8, values: &[Option<i128>])
+fn push_row(columns: &mut Vec<Shifted>, origins: &mut Origins, source: u8, values: &[Option<i128>])
     requires long { length values.now ≡ length columns.old.items }
-    requires room { HaveRoom columns.old.items (length columns.old.items) }
-    requires reserved { vec_len sources.old < vec_capacity sources.old }
+    requires room { HaveRoom columns.old.items (length columns.old.items) 1 }
+    requires reserved { 0 < origins.old.room }
+    requires source { source < origins.old.feeders }
     requires range { AreInRange columns.old.items values.now }
     requires narrow { AreNarrow columns.old.items values.now }
     ensures long { length columns.new.items ≡ length columns.old.items }
     ensures more { HaveOneMore columns.old.items columns.new.items values.now }
-    ensures sources { sources.new.items ≡ sources.old.items ++ source ∷ [] }
+    ensures sources { origins.new.rows ≡ origins.old.rows ++ source ∷ [] }
+    ensures feeders { origins.new.feeders ≡ origins.old.feeders }
 {
     push_each(columns, values);
-    sources.push_reserved(source);
+    origins.push_reserved(source);
+}
+
+/// Appends a block of rows, in room that is there.
+fn push_rows(columns: &mut Vec<Shifted>, origins: &mut Origins, rows: &[(u32, Row)])
+    requires few { length rows.now ≤ 64 }
+    requires room { HaveRoom columns.old.items (length columns.old.items) (length rows.now) }
+    requires reserved { length rows.now ≤ origins.old.room }
+    requires taken { All (λ row. Takes columns.old.items row.1) rows.now }
+    requires from { AreFrom origins.old.feeders rows.now }
+    requires bytes { origins.old.feeders ≤ 64 }
+    ensures long { length columns.new.items ≡ length columns.old.items }
+    ensures more { HaveMore columns.old.items columns.new.items rows.now }
+    ensures sources { origins.new.rows ≡ origins.old.rows ++ feeders_of rows.now }
+    ensures feeders { origins.new.feeders ≡ origins.old.feeders }
+{
+    push_block_each(columns, rows);
+    push_sources(origins, rows);
+}
+
+/// Appends the feeder of each row, in room that is there.
+fn push_sources(origins: &mut Origins, rows: &[(u32, Row)])
+    requires reserved { length rows.now ≤ origins.old.room }
+    requires from { AreFrom origins.old.feeders rows.now }
+    requires bytes { origins.old.feeders ≤ 64 }
+    ensures sources { origins.new.rows ≡ origins.old.rows ++ feeders_of rows.now }
+    ensures feeders { origins.new.feeders ≡ origins.old.feeders }
+{
+    'rows: for r in 0..rows.len() {
+        origins.push_reserved(rows[r].0 as u8);
+    }
 }

@@ -1,35 +1,99 @@
 //! The rows of a found set, each by its feeder and its number among the feeder's.
 
-ghost use Rattle.std.specs.Prelude.{◌≡◌, ◌<◌, ◌≤◌, ◌^◌, All, IfOk, length};
+ghost use Rattle.std.specs.Prelude.{◌≡◌, ◌<◌, ◌≤◌, IfOk, length};
 ghost use Rattle.bsi_bits.specs.BitList.{set_places};
 ghost use Rattle.bsi_table.specs.Answers.{numbered_at};
+ghost use Rattle.bsi_table.specs.Origins.{AreCounts};
 
 use crate::NoMemory;
+use crate::origins::{Counts, Origins, STRETCH};
 use bsi_bits::Bits;
 use std::alloc::Global;
 
 /// The most feeders of a table.
 pub const MOST_FEEDERS: u32 = 64;
 
-/// Returns the rows of a found set in order, where `feeders` says which feeder each row of the table came from.
+/// Where more than one row in so many was found, all rows are gone over.
+const MANY: u64 = 8;
+
+/// Returns the rows of a found set in order, where `origins` says which feeder each row of the table came from. Where few were found
+/// it reads of each stretch of 512 rows the feeders up to the last that was found, and none where none was.
 pub(crate) fn number_rows(
     alloc: Global,
     found: &Bits,
-    feeders: &[u8],
+    origins: &Origins,
 ) -> Result<Vec<(u32, u64)>, NoMemory>
-    requires same { length found.now.bits ≡ length feeders.now }
-    requires few { All (λ feeder. feeder < 64) feeders.now }
-    ensures { IfOk result (λ rows. rows.items ≡ numbered_at feeders.now (set_places found.now.bits)) }
+    requires { length found.now.bits ≡ length origins.now.rows }
+    ensures { IfOk result (λ rows. rows.items ≡ numbered_at origins.now.rows (set_places found.now.bits)) }
+{
+    if found.count() > origins.len() / MANY {
+        number_many(alloc, found, origins)
+    } else {
+        number_few(alloc, found, origins)
+    }
+}
+
+/// Numbers the found rows, from one to the next.
+fn number_few(alloc: Global, found: &Bits, origins: &Origins) -> Result<Vec<(u32, u64)>, NoMemory>
+    requires { length found.now.bits ≡ length origins.now.rows }
+    ensures { IfOk result (λ rows. rows.items ≡ numbered_at origins.now.rows (set_places found.now.bits)) }
 {
     let mut counts = [0u64; MOST_FEEDERS as usize];
+    let mut at = 0;
     let mut rows = Vec::with_capacity(alloc, found.count() as usize)?;
-    'rows: for r in 0..feeders.len() {
-        let feeder = feeders[r];
-        let count = counts[feeder as usize];
-        if found.get(r as u64) {
-            rows.push((u32::from(feeder), count))?;
-        }
-        counts[feeder as usize] = count + 1;
+    'rows: for r in found.ones() {
+        count_forward(origins, &mut counts, at, r);
+        at = r;
+        let feeder = origins.feeder(r);
+        rows.push((u32::from(feeder), counts[feeder as usize]))?;
     }
     Ok(rows)
+}
+
+/// Numbers the found rows in one pass over all rows.
+fn number_many(alloc: Global, found: &Bits, origins: &Origins) -> Result<Vec<(u32, u64)>, NoMemory>
+    requires { length found.now.bits ≡ length origins.now.rows }
+    ensures { IfOk result (λ rows. rows.items ≡ numbered_at origins.now.rows (set_places found.now.bits)) }
+{
+    let mut counts = [0u64; MOST_FEEDERS as usize];
+    let mut listed = Vec::with_capacity(alloc, found.count() as usize)?;
+    'rows: for r in 0..origins.len() {
+        let source = origins.feeder(r);
+        let count = counts[source as usize];
+        if found.get(r) {
+            listed.push((u32::from(source), count))?;
+        }
+        counts[source as usize] = count + 1;
+    }
+    Ok(listed)
+}
+
+/// Takes the counts of the rows before `from` forward to those before `to`: on from there within its stretch, and from the mark
+/// in a later one.
+fn count_forward(origins: &Origins, counts: &mut Counts, from: u64, to: u64)
+    requires forward { from ≤ to }
+    requires within { to < length origins.now.rows }
+    requires counted { AreCounts origins.now.feeders origins.now.rows from counts.old }
+    ensures { AreCounts origins.now.feeders origins.now.rows to counts.new }
+{
+    if origins.feeders() == 1 {
+        counts[0] = to;
+    } else if from / STRETCH < to / STRETCH {
+        origins.read_mark(to / STRETCH, counts);
+        count_rows(origins, counts, to / STRETCH * STRETCH, to);
+    } else {
+        count_rows(origins, counts, from, to);
+    }
+}
+
+/// Counts the rows from `from` on and before `to`, each for its feeder.
+fn count_rows(origins: &Origins, counts: &mut Counts, from: u64, to: u64)
+    requires forward { from ≤ to }
+    requires within { to ≤ length origins.now.rows }
+    requires counted { AreCounts origins.now.feeders origins.now.rows from counts.old }
+    ensures { AreCounts origins.now.feeders origins.now.rows to counts.new }
+{
+    'rows: for r in from..to {
+        counts[origins.feeder(r) as usize] += 1;
+    }
 }

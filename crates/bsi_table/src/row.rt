@@ -56,6 +56,14 @@ impl Row {
         &self.values
     }
 
+    /// Returns the entries themselves, so that a row can be filled again where it stood.
+    pub fn into_values(self) -> Vec<Option<i128>>
+        ensures { result.items ≡ self }
+    {
+        let Row { values } = self;
+        values
+    }
+
     /// Makes a second row of the same entries.
     pub fn copy(&self) -> Result<Row, NoMemory>
         ensures { IfOk result (λ r. r ≡ self.now) }

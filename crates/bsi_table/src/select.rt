@@ -1,17 +1,24 @@
-//! Which rows a predicate selects.
+//! Which rows a predicate selects, a block of rows after another.
 
-ghost use Rattle.std.specs.Prelude.{◌≡◌, ◌^◌, ◌<◌, ◌≤◌, None, length, map, IfOk};
+ghost use Rattle.std.specs.Prelude.{◌≡◌, ℕ, ◌+◌, ◌-◌, ◌/◌, ◌^◌, ◌≤◌, ◌++◌, None, bit_or, bit_xor, drop, false, length, map, take, IfOk, IsFalse, OnOk};
+ghost use Rattle.bsi_bits.specs.Packed.{bit_of};
+ghost use Rattle.std.specs.Simd.Lanes.{zip2};
 ghost use Rattle.bsi_table.specs.Answers.{columns_of_pred, missing_of};
 ghost use Rattle.bsi_table.specs.Rows.{holds};
 ghost use Rattle.bsi_table.specs.Table.{rows_in, AreEven};
+ghost use Rattle.bsi_table.specs.Blocks.{AreNarrowed};
 
 use crate::{NoMemory, Pred};
-use bsi_bits::Bits;
+use bsi_bits::{Bits, lanes};
 use bsi_shift::Shifted;
 use std::alloc::Global;
 
-/// Returns for each of `count` rows whether the predicate holds of it. It reads columns that are there alone. It calls
-/// itself for each part of the predicate, and keeps one vector of bits for each part whose other half is being read.
+/// The words of a block, which stay in the first cache while a predicate goes over them.
+const BLOCK: usize = 128;
+
+/// Returns for each of `count` rows whether the predicate holds of it. It reads columns that are there alone. It goes over the
+/// rows in blocks of 8,192, each by the whole predicate, and keeps a block or two for each `or` and `not` around the part
+/// that is being read.
 pub(crate) fn select(
     alloc: Global,
     columns: &[Shifted],
@@ -23,30 +30,115 @@ pub(crate) fn select(
     requires there { missing_of (length columns.now) (columns_of_pred pred.now) ≡ None }
     ensures { IfOk result (λ found. found.bits ≡ map (holds pred.now) (rows_in columns.now count)) }
 {
+    let mut words = Bits::filled(alloc, count, true)?.into_words();
+    narrow_each(alloc, columns, count, pred, &mut words)?;
+    Ok(Bits::from_words(words, count))
+}
+
+/// Keeps in words, which stand for all rows, the rows of which the predicate holds.
+fn narrow_each(
+    alloc: Global,
+    columns: &[Shifted],
+    count: u64,
+    pred: &Pred,
+    words: &mut [u64],
+) -> Result<(), NoMemory>
+    requires few { count ≤ 2 ^ 32 }
+    requires long { length words.old ≡ (count + 63) / 64 }
+    requires even { AreEven columns.now count }
+    requires there { missing_of (length columns.now) (columns_of_pred pred.now) ≡ None }
+    ensures { OnOk result (AreNarrowed columns.now count pred.now 0 words.old words.new) }
+{
+    let mut spare = Vec::new(alloc);
+    let len = words.len();
+    'blocks: for k in 0..len.div_ceil(BLOCK) {
+        let at = BLOCK * k;
+        let block = &mut words[at..len.min(at + BLOCK)];
+        narrow(columns, count, pred, at, block, &mut spare)?;
+    }
+    Ok(())
+}
+
+/// Keeps in a block of words, whose first stands for the 64 rows from row `64 * at` on, the rows of which the predicate
+/// holds. It calls itself for each part of the predicate. What it appends to `spare` it takes away again.
+fn narrow(
+    columns: &[Shifted],
+    count: u64,
+    pred: &Pred,
+    at: usize,
+    block: &mut [u64],
+    spare: &mut Vec<u64>,
+) -> Result<(), NoMemory>
+    requires few { length block.old ≤ 128 }
+    requires within { at + length block.old ≤ (count + 63) / 64 }
+    requires even { AreEven columns.now count }
+    requires there { missing_of (length columns.now) (columns_of_pred pred.now) ≡ None }
+    ensures rows { OnOk result (AreNarrowed columns.now count pred.now at block.old block.new) }
+    ensures spare { OnOk result (spare.new.items ≡ spare.old.items) }
+{
     match pred {
-        Pred::All => Bits::filled(alloc, count, true),
-        Pred::Compare(c, op, constant) => columns[*c as usize].compare(*op, *constant),
-        Pred::Null(c) => {
-            let mut found = Bits::filled(alloc, count, false)?;
-            columns[*c as usize].nulls_into(&mut found);
-            Ok(found)
+        Pred::All => {}
+        Pred::Compare(c, op, constant) => {
+            columns[*c as usize].keep_selected(*op, *constant, at, block)?;
         }
+        Pred::Null(c) => columns[*c as usize].keep_nulls(at, block),
         Pred::Both(first, second) => {
-            let mut found = select(alloc, columns, count, first)?;
-            let also = select(alloc, columns, count, second)?;
-            found.and_with(&also);
-            Ok(found)
+            narrow(columns, count, first, at, block, spare)?;
+            if has_row(block) {
+                narrow(columns, count, second, at, block, spare)?;
+            }
         }
         Pred::Either(first, second) => {
-            let mut found = select(alloc, columns, count, first)?;
-            let also = select(alloc, columns, count, second)?;
-            found.or_with(&also);
-            Ok(found)
+            spare.extend_from_slice(block)?;
+            narrow(columns, count, first, at, block, spare)?;
+            swap_with_last(block, spare);
+            narrow(columns, count, second, at, block, spare)?;
+            add_last(block, spare);
         }
         Pred::Not(pred) => {
-            let mut found = select(alloc, columns, count, pred)?;
-            found.flip();
-            Ok(found)
+            spare.extend_from_slice(block)?;
+            narrow(columns, count, pred, at, block, spare)?;
+            turn_among_last(block, spare);
         }
     }
+    Ok(())
+}
+
+/// Returns false only where the block has no row.
+fn has_row(block: &[u64]) -> bool
+    ensures { IsFalse result → (p : ℕ) → bit_of block.now p ≡ false }
+{
+    block.iter().any(|word| *word != 0)
+}
+
+/// Exchanges the block with as many words at the end of `spare`.
+fn swap_with_last(block: &mut [u64], spare: &mut Vec<u64>)
+    requires { length block.old ≤ length spare.old.items }
+    ensures block { block.new ≡ drop (length spare.old.items - length block.old) spare.old.items }
+    ensures spare { spare.new.items ≡ take (length spare.old.items - length block.old) spare.old.items ++ block.old }
+{
+    let start = spare.len() - block.len();
+    block.swap_with_slice(&mut spare[start..]);
+}
+
+/// Takes as many words as the block has from the end of `spare`, and sets in the block the rows that they have.
+fn add_last(block: &mut [u64], spare: &mut Vec<u64>)
+    requires { length block.old ≤ length spare.old.items }
+    ensures block { block.new ≡ zip2 bit_or block.old (drop (length spare.old.items - length block.old) spare.old.items) }
+    ensures spare { spare.new.items ≡ take (length spare.old.items - length block.old) spare.old.items }
+{
+    let start = spare.len() - block.len();
+    lanes::or(block, &spare[start..]);
+    spare.truncate(start);
+}
+
+/// Takes as many words as the block has from the end of `spare`, and turns in the block the rows that they have.
+fn turn_among_last(block: &mut [u64], spare: &mut Vec<u64>)
+    requires { length block.old ≤ length spare.old.items }
+    ensures block { block.new ≡ zip2 bit_xor block.old (drop (length spare.old.items - length block.old) spare.old.items) }
+    ensures spare { spare.new.items ≡ take (length spare.old.items - length block.old) spare.old.items }
+{
+    let start = spare.len() - block.len();
+    lanes::xor(block, &spare[start..]);
+    spare.truncate(start);
 }

@@ -1,11 +1,12 @@
 //! The total that a query asks of the rows that its predicate selects.
 
-ghost use Rattle.std.specs.Prelude.{◌≡◌, ◌<◌, All, None, length, map, IfOk};
+ghost use Rattle.std.specs.Prelude.{◌≡◌, None, length, map, IfOk};
 ghost use Rattle.bsi_table.specs.Answers.{columns_of_total, missing_of, IsAnswer};
 ghost use Rattle.bsi_table.specs.Rows.{holds};
 ghost use Rattle.bsi_table.specs.Table.{fed_rows, AreEven};
 
 use crate::numbering::number_rows;
+use crate::origins::Origins;
 use crate::{Answer, NoMemory, Query, Total};
 use bsi_bits::Bits;
 use bsi_shift::Shifted;
@@ -16,15 +17,14 @@ use std::alloc::Global;
 pub(crate) fn answer(
     alloc: Global,
     columns: &[Shifted],
-    sources: &[u8],
+    origins: &Origins,
     found: &Bits,
     query: &Query,
 ) -> Result<Answer, NoMemory>
-    requires few { All (λ source. source < 64) sources.now }
-    requires even { AreEven columns.now (length sources.now) }
-    requires found { found.now.bits ≡ map (λ row. holds query.now.pred row.1) (fed_rows sources.now columns.now) }
+    requires even { AreEven columns.now (length origins.now.rows) }
+    requires found { found.now.bits ≡ map (λ row. holds query.now.pred row.1) (fed_rows origins.now.rows columns.now) }
     requires there { missing_of (length columns.now) (columns_of_total query.now.total) ≡ None }
-    ensures { IfOk result (IsAnswer query.now (fed_rows sources.now columns.now)) }
+    ensures { IfOk result (IsAnswer query.now (fed_rows origins.now.rows columns.now)) }
 {
     match query.total {
         Total::Count => Ok(Answer::Count(found.count())),
@@ -32,6 +32,6 @@ pub(crate) fn answer(
         Total::Least(c) => Ok(Answer::Value(columns[c as usize].least(found)?)),
         Total::Greatest(c) => Ok(Answer::Value(columns[c as usize].greatest(found)?)),
         Total::Median(c) => Ok(Answer::Value(columns[c as usize].median(found)?)),
-        Total::Rows => Ok(Answer::Rows(number_rows(alloc, found, sources)?)),
+        Total::Rows => Ok(Answer::Rows(number_rows(alloc, found, origins)?)),
     }
 }

@@ -7,3 +7,5 @@ mod bits;
 mod components;
 #[cfg(test)]
 mod digits;
+#[cfg(test)]
+mod words;

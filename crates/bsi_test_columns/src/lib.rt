@@ -2,11 +2,15 @@
 #![tactic(auto)]
 
 #[cfg(test)]
+mod blocks;
+#[cfg(test)]
 mod columns;
 #[cfg(test)]
 mod comparisons;
 #[cfg(test)]
 mod growth;
+#[cfg(test)]
+mod narrowing;
 #[cfg(test)]
 mod stored;
 #[cfg(test)]

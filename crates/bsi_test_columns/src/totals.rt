@@ -185,10 +185,20 @@ enum Choice {
     None,
     All,
     EverySecond,
+    First,
     Last,
+    /// The rows from the second block of 16 words on, but for some.
+    LaterBlocks,
 }
 
-const CHOICES: [Choice; 4] = [Choice::None, Choice::All, Choice::EverySecond, Choice::Last];
+const CHOICES: [Choice; 6] = [
+    Choice::None,
+    Choice::All,
+    Choice::EverySecond,
+    Choice::First,
+    Choice::Last,
+    Choice::LaterBlocks,
+];
 
 impl Choice {
     fn has(self, row: u64, rows: u64) -> bool {
@@ -196,7 +206,9 @@ impl Choice {
             Choice::None => false,
             Choice::All => true,
             Choice::EverySecond => row % 2 == 0,
+            Choice::First => row == 0,
             Choice::Last => row == rows.saturating_sub(1),
+            Choice::LaterBlocks => row >= 1024 && row % 3 > 0,
         }
     }
 }
@@ -270,6 +282,69 @@ fn many_components(rt: HostRuntime) -> Result<(), Fail> {
     };
     for form in FORMS {
         form_alike(&rt, rt.alloc(), form, wide, 257)?;
+    }
+    Ok(())
+}
+
+// Two blocks of 16 words, and two words and a bit behind them.
+#[test]
+fn several_blocks(rt: HostRuntime) -> Result<(), Fail> {
+    for form in FORMS {
+        form_alike(&rt, rt.alloc(), form, NARROW, 2177)?;
+    }
+    let wide = Wide {
+        width: 12,
+        bases: &[16, 2, 128],
+    };
+    for form in FORMS {
+        form_alike(&rt, rt.alloc(), form, wide, 2177)?;
+    }
+    Ok(())
+}
+
+/// A number in all rows but one, the row of another number.
+#[derive(Clone, Copy)]
+struct Odd {
+    row: u64,
+    number: u64,
+}
+
+// Whether the row is found by its number among rows of 50, whichever block it is in.
+fn odd_one_found(rt: &impl Abort, alloc: Global, form: Form, odd: Odd) -> Result<(), NoMemory> {
+    let mut column = of(rt, alloc, form, TIES, &[])?;
+    for row in 0..2177 {
+        let number = if row == odd.row { odd.number } else { 50 };
+        append(rt, &mut column, &[Some(number)])?;
+    }
+    let found = chosen(alloc, Choice::All, column.len())?;
+    assert_eq!(rt;
+        least(&column, &found)?,
+        Some(odd.number.min(50)),
+        "row {}",
+        odd.row
+    );
+    assert_eq!(rt;
+        greatest(&column, &found)?,
+        Some(odd.number.max(50)),
+        "row {}",
+        odd.row
+    );
+    Ok(())
+}
+
+const TIES: Wide<'static> = Wide {
+    width: 7,
+    bases: &[10, 10],
+};
+
+#[test]
+fn least_and_greatest_in_each_block(rt: HostRuntime) -> Result<(), Fail> {
+    for form in FORMS {
+        for row in [1023, 2176] {
+            for number in [49, 51] {
+                odd_one_found(&rt, rt.alloc(), form, Odd { row, number })?;
+            }
+        }
     }
     Ok(())
 }

@@ -9,7 +9,7 @@ use std::process::Abort;
 use std::test::Fail;
 
 /// A column of each form, of 16 numbers each, two of them with negative ones.
-const COLUMNS: [Declared<'static>; 3] = [
+pub(crate) const COLUMNS: [Declared<'static>; 3] = [
     Declared {
         name: "slices",
         form: Form::Slices,
@@ -55,7 +55,7 @@ fn entry_of(row: u64, column: &Declared, place: u64) -> Option<i128> {
     }
 }
 
-fn row_at(alloc: Global, row: u64) -> Result<Row, NoMemory> {
+pub(crate) fn row_at(alloc: Global, row: u64) -> Result<Row, NoMemory> {
     let [first, second, third] = &COLUMNS;
     row_of(
         alloc,
@@ -68,7 +68,7 @@ fn row_at(alloc: Global, row: u64) -> Result<Row, NoMemory> {
 }
 
 // Keeps a row. A refused growth changes nothing, and the row comes back.
-fn keep(plain: &mut PlainTable, feeder: u32, row: Row) -> Result<(), NoMemory> {
+pub(crate) fn keep(plain: &mut PlainTable, feeder: u32, row: Row) -> Result<(), NoMemory> {
     match plain.rows.push((feeder, row)) {
         Ok(()) => Ok(()),
         Err(refused) => Ok(plain.rows.push(refused.value)?),
@@ -104,12 +104,18 @@ fn plain_answer(plain: &PlainTable, alloc: Global, query: &Query) -> Result<Answ
 
 /// The same rows in an index and as they came.
 #[derive(Drop)]
-struct Both {
-    index: Index,
-    plain: PlainTable,
+pub(crate) struct Both {
+    pub(crate) index: Index,
+    pub(crate) plain: PlainTable,
 }
 
-fn no_rows(rt: &impl Abort, alloc: Global, columns: &[Declared], feeders: u32, limit: u64) -> Both {
+pub(crate) fn no_rows(
+    rt: &impl Abort,
+    alloc: Global,
+    columns: &[Declared],
+    feeders: u32,
+    limit: u64,
+) -> Both {
     let index = index_of(alloc, columns, feeders, limit).expect(rt, "columns and a limit");
     let plain = PlainTable::new(alloc);
     Both { index, plain }
@@ -138,7 +144,7 @@ fn three_same_answers(rt: &impl Abort, alloc: Global, both: &Both, k: u32) -> Re
     Ok(())
 }
 
-fn same_answers(rt: &impl Abort, alloc: Global, both: &Both) -> Result<(), NoMemory> {
+pub(crate) fn same_answers(rt: &impl Abort, alloc: Global, both: &Both) -> Result<(), NoMemory> {
     for k in 0..12 {
         three_same_answers(rt, alloc, both, k)?;
     }

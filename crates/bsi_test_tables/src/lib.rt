@@ -4,11 +4,17 @@
 #[cfg(test)]
 mod answers;
 #[cfg(test)]
+mod blocks;
+#[cfg(test)]
+mod lists;
+#[cfg(test)]
 mod machine;
 #[cfg(test)]
 mod plain;
 #[cfg(test)]
 mod runs;
+#[cfg(test)]
+mod selections;
 #[cfg(test)]
 mod tables;
 #[cfg(test)]

@@ -78,7 +78,44 @@ fn gives_once<R: Read + Drop>(
     Ok(source.bad() == bad)
 }
 
-// Whether a text gives these; where memory was wanted, whether it then does.
+// Whether a call filled the row with these entries, or told the rest.
+fn is_filled(found: Result<bool, SourceFault>, row: &Row, want: Given<'_>) -> bool {
+    match (found, want) {
+        (Ok(false), Ok(None)) => true,
+        (Ok(true), Ok(Some(entries))) => row.values() == entries,
+        (Err(fault), Err(wanted)) => fault == wanted,
+        _ => false,
+    }
+}
+
+// The same where one row is filled again and again.
+fn fills_once<R: Read + Drop>(
+    alloc: Global,
+    schema: &Schema,
+    reader: R,
+    want: &[Given<'_>],
+    bad: u64,
+) -> Result<bool, SourceFault> {
+    let mut source = RowSource::begin(alloc, schema, reader)?;
+    let mut row = Row::new(Vec::new(alloc));
+    for given in want {
+        let found = source.next_into(&mut row);
+        if found == Err(SourceFault::NoMemory) {
+            let again = source.next_into(&mut row);
+            return if again == found {
+                Err(SourceFault::NoMemory)
+            } else {
+                Ok(false)
+            };
+        }
+        if !is_filled(found, &row, *given) {
+            return Ok(false);
+        }
+    }
+    Ok(source.bad() == bad)
+}
+
+// Whether a text gives these, by rows of their own and by one row; where memory was wanted, whether it then does.
 fn gives(
     alloc: Global,
     schema: &Schema,
@@ -86,10 +123,15 @@ fn gives(
     want: &[Given<'_>],
     bad: u64,
 ) -> Result<bool, SourceFault> {
-    match gives_once(alloc, schema, text.as_bytes(), want, bad) {
-        Err(SourceFault::NoMemory) => gives_once(alloc, schema, text.as_bytes(), want, bad),
-        given => given,
-    }
+    let own = match gives_once(alloc, schema, text.as_bytes(), want, bad) {
+        Err(SourceFault::NoMemory) => gives_once(alloc, schema, text.as_bytes(), want, bad)?,
+        given => given?,
+    };
+    let one = match fills_once(alloc, schema, text.as_bytes(), want, bad) {
+        Err(SourceFault::NoMemory) => fills_once(alloc, schema, text.as_bytes(), want, bad)?,
+        given => given?,
+    };
+    Ok(own && one)
 }
 
 #[test]
@@ -166,6 +208,11 @@ fn a_fault_stays(rt: HostRuntime) -> Result<(), Fail> {
         given = gives_once(rt.alloc(), &schema, BrokenReader { text }, &want, 1);
     }
     assert_eq!(rt; given, Ok(true));
+    let mut filled = fills_once(rt.alloc(), &schema, BrokenReader { text }, &want, 1);
+    if filled == Err(SourceFault::NoMemory) {
+        filled = fills_once(rt.alloc(), &schema, BrokenReader { text }, &want, 1);
+    }
+    assert_eq!(rt; filled, Ok(true));
     Ok(())
 }
 

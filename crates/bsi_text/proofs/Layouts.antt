@@ -8,9 +8,11 @@ use Rattle.std.proofs.lemmas.Simd.{map-map}
 use Rattle.std.proofs.lemmas.List.Folds.{list_all_more, list_all_at}
 use Rattle.std.proofs.lemmas.List.Sums.{prefix_len-drop_all}
 use Rattle.csv.specs.Records.{field_at}
-use Rattle.bsi_table.specs.Columns.{Declared}
+use Rattle.bsi_table.specs.Columns.{Declared, NamedColumn, column_at, is_taken_by, no_column}
 use Rattle.bsi_table.specs.Rows.{Entries}
 use Rattle.bsi_records.specs.Numbers.{Field, value_in, values_in}
+use Rattle.bsi_text.specs.Limits.{is_within, limits_of}
+use Rattle.bsi_text.specs.declared.limits.Limits.{Limits}
 use Rattle.bsi_text.specs.RowFiles.{in_order, place_of}
 use Rattle.bsi_records.proofs.Values.{behind, values_done, values_next, values_stop}
 
@@ -74,13 +76,12 @@ pub ordered : (schema : Declared) (header fields : List Field) (places : List �
     → fields_at fields places ≡ in_order schema header fields
 ordered schema header fields places are = ap (fields_at fields) are ∙ map-map (λ place. get_or fields place []) (λ column. place_of header column.name) schema.columns
 
--- so many of the fields were read as these values, and there is room for the others
-pub record IsRead (signed : Bool) (fields : List Field) (places : List ℕ) (i : ℕ) (values : Entries) (capacity : ℕ) : Type 0 where
+-- so many of the fields were read as these values
+pub record IsRead (signed : Bool) (fields : List Field) (places : List ℕ) (i : ℕ) (values : Entries) : Type 0 where
   pub so_far : values_in signed (fields_at fields places) ≡ behind values (values_in signed (drop i (fields_at fields places)))
   pub long : length values ≡ i
-  pub room : length places ≤ capacity
 
-module _ (signed : Bool) (fields : List Field) (places : List ℕ) (i : ℕ) (values : Entries) (capacity : ℕ) (read : IsRead signed fields places i values capacity) where
+module _ (signed : Bool) (fields : List Field) (places : List ℕ) (i : ℕ) (values : Entries) (read : IsRead signed fields places i values) where
   abbrev pub whole : Option Entries
   whole = values_in signed (fields_at fields places)
 
@@ -91,11 +92,10 @@ module _ (signed : Bool) (fields : List Field) (places : List ℕ) (i : ℕ) (va
   there within = omega (arith, length-map places (λ place. get_or fields place []))
 
   pub value_next : (value : Option ℤ) → i < length places → value_in signed (get_or fields (get_or places i 0) []) ≡ Some value
-      → IsRead signed fields places (i + 1) (values ++ value ∷ []) capacity
+      → IsRead signed fields places (i + 1) (values ++ value ∷ [])
   value_next value within this = record {
     so_far = values_next signed whole (fields_at fields places) i values read.so_far value (there within) (ap (value_in signed) (at_place_i within) ∙ this);
     long = length-append {A = Option ℤ} values (value ∷ []) ∙ ap (λ n. n + 1) read.long;
-    room = read.room;
   }
 
   pub value_stop : i < length places → value_in signed (get_or fields (get_or places i 0) []) ≡ None → None ≡ whole
@@ -105,3 +105,20 @@ module _ (signed : Bool) (fields : List Field) (places : List ℕ) (i : ℕ) (va
   pub value_done : length places ≤ i → Some values ≡ whole
   value_done all =
       values_done signed whole (fields_at fields places) i values read.so_far (omega (arith, length-map places (λ place. get_or fields place [])))
+
+-- ---- the numbers that a column takes
+
+pub taken_within : (column : NamedColumn) (entry : Option ℤ) → is_within (limits_of column) entry ≡ is_taken_by column entry
+taken_within column None = refl
+taken_within column (Some x) = refl
+
+-- the limits of column c, where they stand in a list
+module _ (columns : List NamedColumn) (limits : List Limits) (are : limits ≡ map limits_of columns) where
+  pub limits_long : length limits ≡ length columns
+  limits_long = ap length are ∙ length-map columns limits_of
+
+  pub limits_at : (c : ℕ) (d : Limits) (entry : Option ℤ) → c < length columns → is_within (get_or limits c d) entry ≡ is_taken_by (column_at columns c) entry
+  limits_at c d entry within =
+      ap (λ l. is_within (get_or l c d) entry) are
+      ∙ ap (λ l. is_within l entry) (get_or-map limits_of columns c no_column d within)
+      ∙ taken_within (column_at columns c) entry

@@ -1,5 +1,5 @@
 -- The rows that a source still has, and those that it gives of them.
-use Rattle.std.proofs.Common.{◌≡◌, ℕ, ◌+◌, List, [], ◌∷◌, ◌++◌, Option, Some, None, Result, Ok, Err, is_some, if◌then◌else◌, IsSome, IfOk, IfSome, MatchOption, length, refl, sym, ap, ap₂, subst, ◌∙◌, arith}
+use Rattle.std.proofs.Common.{◌≡◌, ℕ, ◌+◌, List, [], ◌∷◌, ◌++◌, Option, Some, None, Result, Ok, Err, is_some, if◌then◌else◌, IsSome, IfOk, IfSome, MatchOption, length, refl, sym, ap, ap₂, subst, ◌∙◌, arith, Bool, true, false}
 use Rattle.std.proofs.lemmas.List.{append_assoc}
 use Rattle.std.proofs.lemmas.List.Elements.{filter_map-append}
 use Rattle.std.proofs.lemmas.List.Sums.{sum_by-append}
@@ -11,7 +11,7 @@ use Rattle.csv.specs.declared.parser.State.TheVariants as st
 use Rattle.csv.specs.declared.reader.Reader.{Reader}
 use Rattle.bsi_table.specs.Rows.{Entries}
 use Rattle.bsi_records.specs.Numbers.{Field}
-use Rattle.bsi_text.specs.RowFiles.{bad_count, good_row, good_rows}
+use Rattle.bsi_text.specs.RowFiles.{bad_count, good_row, good_rows, given}
 use Rattle.bsi_text.specs.Sources.{AreLeft, GivesFirst, HasGiven, HasLeft, HasRead, HasTaken, IsOver, IsWhole, Layout, Source, StandsAfter, Tally, tally_of}
 use Rattle.bsi_text.specs.declared.rows.SourceFault.{SourceFault}
 use Rattle.bsi_text.proofs.AllRecords.{all_records, one_reading, records_behind}
@@ -175,6 +175,14 @@ module _ {R : Type 0} (rem : R → Option (List ℕ)) where
               (subst (λ l. HasLeft rem l new.input rest left) (sym layout_is) kept),
           both.bads,
         )
+
+    -- the same of a call that fills a row
+    pub fills_first : (old new : Source R) (r : Result Bool SourceFault) (row : Entries) → old.layout ≡ layout → old.end ≡ None → new.layout ≡ layout
+        → IfOk r (λ found. new.end ≡ (if found then None else Some (Ok tt)))
+        → IfOk r (λ found. HasGiven rem layout old.input new.input old.tally new.tally (given found row)) → IfOk r (λ found. GivesFirst rem old new (given found row))
+    fills_first old new (Err fault) row same going layout_is goes has = tt
+    fills_first old new (Ok true) row same going layout_is goes has = gives_first old new (Ok (Some row)) same going layout_is goes has
+    fills_first old new (Ok false) row same going layout_is goes has = gives_first old new (Ok None) same going layout_is goes has
 
     -- what is left behind the header is all of a file
     pub left_of_file : (input : Reader R) (text : List ℕ) (rows : List Entries) (n : ℕ) → StandsAfter rem layout input text → HasLeft rem layout input rows n

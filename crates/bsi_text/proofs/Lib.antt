@@ -10,4 +10,5 @@ mod Starting
 mod Taking
 mod Turns
 mod Unique
+mod Waiting
 mod Writes

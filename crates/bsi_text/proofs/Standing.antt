@@ -6,9 +6,8 @@ use Rattle.std.specs.List.{concat}
 use Rattle.std.proofs.lemmas.List.{append-nil, length-append, take-append-le, take_all, take_min}
 use Rattle.std.proofs.lemmas.List.Folds.{concat-append}
 use Rattle.std.proofs.lemmas.List.Elements.{All-nil}
-use Rattle.std.proofs.Math.Seq.{take-append-add}
 use Rattle.csv.proofs.ReadFacts.{rows-end, rows-more}
-use Rattle.csv.proofs.WriteFacts.{appends-more, appends-none}
+use Rattle.csv.proofs.WriteFacts.{appends-none}
 use Rattle.csv.specs.Machine.{Read, next_record}
 use Rattle.csv.specs.Reading.{NextIs, ReadRecord, ReadsNext, Reached, default_config, reader_config, reader_state, source_of, strip_bom}
 use Rattle.csv.specs.declared.parser.Config.{Config}
@@ -21,12 +20,14 @@ use Rattle.bsi_records.specs.Numbers.{Field}
 use Rattle.bsi_text.specs.Scripts.{Stage, Declaring, IsTurn, AreTurns}
 use Rattle.bsi_records.specs.Setups.{nothing_declared}
 use Rattle.bsi_text.specs.Texts.{AreFirstRecords, IsAnswered, IsBegun, IsStopped, IsTooLong}
+use Rattle.bsi_text.specs.Waiting.{IsCut, IsPut, OnceWritten, WhileWritten}
 use Rattle.bsi_text.proofs.AllRecords.{all_records, records_behind, records_end}
 use Rattle.bsi_text.proofs.Named.{turns_named}
 use Rattle.bsi_text.proofs.Turns.{extended, no_turn, one_turn, turns_behind}
+use Rattle.bsi_text.proofs.Waiting.{put_all, put_cut, put_more, put_written}
 
--- so many records were read, and the lines of all of them were written
-pub record StandsAt (stage : Stage) (bytes : List ℕ) (state : State) (source : Option (List ℕ)) (count : ℕ) (before after : Option (List ℕ)) : Type 0 where
+-- so many records were read, and of the lines of all of them a first part was written, and the rest waits
+pub record StandsAt (stage : Stage) (bytes : List ℕ) (state : State) (source : Option (List ℕ)) (count : ℕ) (before now : Option (List ℕ)) (waiting : List ℕ) : Type 0 where
   pub rest : List ℕ
   pub records : List (List Field)
   pub lines : List (List ℕ)
@@ -34,12 +35,13 @@ pub record StandsAt (stage : Stage) (bytes : List ℕ) (state : State) (source :
   pub first : AreFirstRecords bytes records state rest
   pub many : length records ≡ count
   pub run : AreTurns (Declaring nothing_declared) records lines stage
-  pub written : Appends before after (concat lines)
+  pub put : IsPut before now waiting (concat lines)
 
-pub stands_first : (stage : Stage) (bytes : List ℕ) (state : State) (source : Option (List ℕ)) (before : Option (List ℕ))
-    → stage ≡ Declaring nothing_declared → state ≡ st.StartRecord → source ≡ Some (strip_bom bytes) → StandsAt stage bytes state source 0 before before
+pub stands_first : (stage : Stage) (bytes : List ℕ) (state : State) (source : Option (List ℕ)) (before : Option (List ℕ)) (waiting : List ℕ)
+    → stage ≡ Declaring nothing_declared → state ≡ st.StartRecord → source ≡ Some (strip_bom bytes) → waiting ≡ []
+    → StandsAt stage bytes state source 0 before before waiting
 unfolding Reached
-stands_first stage bytes state source before first start left = record {
+stands_first stage bytes state source before waiting first start left none = record {
   rest = strip_bom bytes;
   records = [];
   lines = [];
@@ -47,7 +49,7 @@ stands_first stage bytes state source before first start left = record {
   first = (sym start, refl);
   many = refl;
   run = subst (AreTurns (Declaring nothing_declared) [] []) (sym first) (no_turn (Declaring nothing_declared));
-  written = appends-none before;
+  put = put_all before before [] waiting (appends-none before) none;
 }
 
 concat_one : (line : List ℕ) → concat (line ∷ []) ≡ line
@@ -77,13 +79,46 @@ begun stage bytes state rest records lines n before after first run within writt
       );
     }
 
--- no more than the lines of all records so far was written
-pub stands_cut : (stage : Stage) (bytes : List ℕ) (state : State) (source : Option (List ℕ)) (count : ℕ) (before after : Option (List ℕ))
-    → StandsAt stage bytes state source count before after → IsBegun bytes before after
-stands_cut stage bytes state source count before after stands =
-    let all = concat stands.lines in
-    begun stage bytes state stands.rest stands.records stands.lines (length all) before after stands.first stands.run (omega arith)
-    (subst (Appends before after) (sym (take_all (length all) all (omega arith))) stands.written)
+-- the same of any first part
+begun_by : (stage : Stage) (bytes : List ℕ) (state : State) (rest : List ℕ) (records : List (List Field)) (lines : List (List ℕ)) (before after : Option (List ℕ))
+    → AreFirstRecords bytes records state rest → AreTurns (Declaring nothing_declared) records lines stage → IsCut before after (concat lines) → IsBegun bytes before after
+begun_by stage bytes state rest records lines before after first run cut =
+    let m : ℕ = min cut.0 (length (concat lines)) in
+    begun stage bytes state rest records lines m before after first run (omega arith)
+    (subst (Appends before after) (sym (take_min cut.0 (concat lines))) cut.1)
+
+module _ (stage : Stage) (bytes : List ℕ) (state : State) (source : Option (List ℕ)) (count : ℕ) (before now : Option (List ℕ)) (waiting : List ℕ)
+    (stands : StandsAt stage bytes state source count before now waiting) where
+  -- whatever part of the lines that wait is written
+  pub stands_cut : WhileWritten now waiting (IsBegun bytes before)
+  stands_cut after cut =
+      begun_by stage bytes state stands.rest stands.records stands.lines before after stands.first stands.run
+      (subst (IsCut before after) (append-nil (concat stands.lines))
+      (put_cut before now after waiting (concat stands.lines) stands.put [] (subst (IsCut now after) (sym (append-nil waiting)) cut)))
+
+  -- once they are written, whole lines were
+  pub stands_stopped : OnceWritten now waiting (IsStopped bytes before)
+  stands_stopped after written = record {
+    records = stands.records;
+    state = state;
+    rest = stands.rest;
+    first = stands.first;
+    written = (stands.lines, (stage, stands.run), put_written before now after waiting (concat stands.lines) stands.put written);
+  }
+
+  -- some of them were written
+  pub stands_way : (after : Option (List ℕ)) (rest : List ℕ) → IsPut now after rest waiting → StandsAt stage bytes state source count before after rest
+  stands_way after rest put = record {
+    rest = stands.rest;
+    records = stands.records;
+    lines = stands.lines;
+    left = stands.left;
+    first = stands.first;
+    many = stands.many;
+    run = stands.run;
+    put = subst (IsPut before after rest) (append-nil (concat stands.lines))
+        (put_more before now after waiting (concat stands.lines) stands.put rest [] (subst (IsPut now after rest) (sym (append-nil waiting)) put));
+  }
 
 -- what a read that found a record says of the bytes before it
 next_is : (o : Option Read) (fields : List Field) (state : State) (rest : List ℕ) → NextIs o true fields state rest → IsSome o
@@ -116,23 +151,12 @@ nothing_begun bytes before =
     begun (Declaring nothing_declared) bytes st.StartRecord (strip_bom bytes) [] [] 0 before before (refl, refl) (no_turn (Declaring nothing_declared)) (omega arith)
     (appends-none before)
 
--- what was written are whole lines
-pub stands_stopped : (stage : Stage) (bytes : List ℕ) (state : State) (source : Option (List ℕ)) (count : ℕ) (before after : Option (List ℕ))
-    → StandsAt stage bytes state source count before after → IsStopped bytes before after
-stands_stopped stage bytes state source count before after stands = record {
-  records = stands.records;
-  state = state;
-  rest = stands.rest;
-  first = stands.first;
-  written = (stands.lines, (stage, stands.run), stands.written);
-}
-
-module _ {R : Type 0} (rem : R → Option (List ℕ)) (a b : Reader R) (fields : List Field) (stage : Stage) (bytes : List ℕ) (count : ℕ) (before middle : Option (List ℕ))
-    (stands : StandsAt stage bytes (reader_state a) (source_of rem a) count before middle) (config : reader_config a ≡ default_config) where
-  -- one more record, and its line
-  pub stands_next : (next : Stage) (line : List ℕ) (after : Option (List ℕ)) → ReadRecord rem a b true fields → IsTurn stage fields line next → Appends middle after line
-      → StandsAt next bytes (reader_state b) (source_of rem b) (count + 1) before after
-  stands_next next line after reads turn writes =
+module _ {R : Type 0} (rem : R → Option (List ℕ)) (a b : Reader R) (fields : List Field) (stage : Stage) (bytes : List ℕ) (count : ℕ) (before now : Option (List ℕ)) (waiting : List ℕ)
+    (stands : StandsAt stage bytes (reader_state a) (source_of rem a) count before now waiting) (config : reader_config a ≡ default_config) where
+  -- one more record, whose line waits or was written
+  pub stands_next : (next : Stage) (line : List ℕ) (after : Option (List ℕ)) (rest : List ℕ) → ReadRecord rem a b true fields → IsTurn stage fields line next
+      → IsPut now after rest (waiting ++ line) → StandsAt next bytes (reader_state b) (source_of rem b) (count + 1) before after rest
+  stands_next next line after rest reads turn put =
       let more = rows-more rem a b fields default_config st.StartRecord (strip_bom bytes) stands.rest stands.records config stands.left stands.first reads in
       record {
         rest = more.0;
@@ -142,45 +166,37 @@ module _ {R : Type 0} (rem : R → Option (List ℕ)) (a b : Reader R) (fields :
         first = more.2;
         many = length-append stands.records (fields ∷ []) ∙ ap (λ n. n + 1) stands.many;
         run = turns_behind (Declaring nothing_declared) stage next stands.records (fields ∷ []) stands.lines (line ∷ []) stands.run (one_turn stage fields line next turn);
-        written = subst (Appends before after) (sym (concat_more stands.lines line)) (appends-more before middle after (concat stands.lines) line stands.written writes);
+        put = subst (IsPut before after rest) (sym (concat_more stands.lines line)) (put_more before now after waiting (concat stands.lines) stands.put rest line put);
       }
 
-  -- one more record, and a first part of its line
-  pub stands_part : (next : Stage) (line : List ℕ) (after : Option (List ℕ)) (n : ℕ) → ReadRecord rem a b true fields → IsTurn stage fields line next → Appends middle after (take n line)
+  -- one more record, and a first part of what waited and of its line was written
+  pub stands_part : (next : Stage) (line : List ℕ) (after : Option (List ℕ)) → ReadRecord rem a b true fields → IsTurn stage fields line next → IsCut now after (waiting ++ line)
       → IsBegun bytes before after
-  stands_part next line after n reads turn writes =
+  stands_part next line after reads turn cut =
       let more = rows-more rem a b fields default_config st.StartRecord (strip_bom bytes) stands.rest stands.records config stands.left stands.first reads in
-      let all = concat stands.lines in
-      let m : ℕ = min n (length line) in
-      let short : take m line ≡ take n line = take_min n line in
-      let whole : concat (stands.lines ++ line ∷ []) ≡ all ++ line = concat_more stands.lines line in
-      let part : take (length all + m) (concat (stands.lines ++ line ∷ [])) ≡ all ++ take n line =
-      ap (take (length all + m)) whole ∙ take-append-add all line m ∙ ap (λ last. all ++ last) short in
-      let within : length all + m ≤ length (concat (stands.lines ++ line ∷ [])) = omega (arith, ap length whole, length-append all line) in
-      begun next bytes (reader_state b) more.0 (stands.records ++ fields ∷ []) (stands.lines ++ line ∷ []) (length all + m) before after more.2
+      begun_by next bytes (reader_state b) more.0 (stands.records ++ fields ∷ []) (stands.lines ++ line ∷ []) before after more.2
       (turns_behind (Declaring nothing_declared) stage next stands.records (fields ∷ []) stands.lines (line ∷ []) stands.run (one_turn stage fields line next turn))
-      within
-      (subst (Appends before after) (sym part) (appends-more before middle after all (take n line) stands.written writes))
+      (subst (IsCut before after) (sym (concat_more stands.lines line)) (put_cut before now after waiting (concat stands.lines) stands.put line cut))
 
   -- there is no more
-  pub stands_answered : ReadRecord rem a b false fields → count ≤ 1000000 → IsAnswered bytes before middle
-  stands_answered reads small = record {
+  pub stands_answered : ReadRecord rem a b false fields → count ≤ 1000000 → OnceWritten now waiting (IsAnswered bytes before)
+  stands_answered reads small after written = record {
     records = stands.records;
     all = records_end default_config st.StartRecord (reader_state a) (strip_bom bytes) stands.rest stands.records stands.first (rows-end rem a b fields default_config stands.rest config stands.left reads);
     few = omega (arith, stands.many, small);
-    written = (stands.lines, (stage, stands.run), stands.written);
+    written = (stands.lines, (stage, stands.run), put_written before now after waiting (concat stands.lines) stands.put written);
   }
 
   -- there is one more than may be
-  pub stands_long : ReadRecord rem a b true fields → count ≡ 1000000 → IsTooLong bytes before middle
-  stands_long reads many = record {
+  pub stands_long : ReadRecord rem a b true fields → count ≡ 1000000 → OnceWritten now waiting (IsTooLong bytes before)
+  stands_long reads many after written = record {
     records = stands.records;
     state = reader_state a;
     rest = stands.rest;
     first = stands.first;
     many = stands.many ∙ many;
     more = there_is default_config (reader_state a) stands.rest _ fields (reader_state b) (rw (config, stands.left) at reads.0);
-    written = (stands.lines, (stage, stands.run), stands.written);
+    written = (stands.lines, (stage, stands.run), put_written before now after waiting (concat stands.lines) stands.put written);
   }
 
 -- a fact that holds anyway

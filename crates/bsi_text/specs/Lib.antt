@@ -1,3 +1,4 @@
+pub mod Limits
 pub mod Pasts
 pub mod RecordTexts
 pub mod RowFiles
@@ -5,3 +6,4 @@ pub mod Scripts
 pub mod Sessions
 pub mod Sources
 pub mod Texts
+pub mod Waiting

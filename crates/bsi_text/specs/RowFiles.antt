@@ -31,6 +31,10 @@ in_order schema header fields = map (λ column. get_or fields (place_of header c
 abbrev pub fitting : Declared → Option Entries → Option Entries
 fitting schema row = option_and_then (λ entries. if fits schema.columns entries then Some entries else None) row
 
+-- the row of a call that fills one, where it says that it gave it
+abbrev pub given : Bool → Entries → Option Entries
+given found row = if found then Some row else None
+
 abbrev pub good_row : Declared → List Field → List Field → Option Entries
 good_row schema header fields =
     if nat_eq (length fields) (length header) then fitting schema (values_in schema.signed (in_order schema header fields)) else None

@@ -1,32 +1,37 @@
 //! The header of a row file, and the rows that its records give.
 
-ghost use Rattle.std.specs.Prelude.{◌≡◌, ℕ, List, [], get_or, if◌then◌else◌, nat_eq, map, not, length, count_by, Option, Some, None, is_some, IfOk, IfSome, IsTrue};
+ghost use Rattle.std.specs.Prelude.{◌≡◌, ℕ, List, [], get_or, if◌then◌else◌, nat_eq, map, not, length, count_by, Option, Some, None, is_some, true, IfOk, IsTrue, OnOk};
 ghost use Rattle.std.specs.List.{list_all, prefix_len};
 ghost use Rattle.std.specs.Str.{bytes_eq};
 ghost use Rattle.csv.specs.Records.{fields_of};
 ghost use Rattle.bsi_table.specs.Columns.{fits, position_of};
 ghost use Rattle.bsi_records.specs.Numbers.{values_in};
-ghost use Rattle.bsi_text.specs.RowFiles.{good_row, in_order, is_header, is_known, is_named_once, place_of};
+ghost use Rattle.bsi_text.specs.Limits.{limits_of};
+ghost use Rattle.bsi_text.specs.RowFiles.{given, good_row, in_order, is_header, is_known, is_named_once, place_of};
 
 use crate::NoMemory;
+use crate::limits::Limits;
 use bsi_records::read_value;
 use bsi_table::{Row, Schema};
 use csv::ByteRecord;
 use std::alloc::Global;
 use std::marker::Model;
+use std::mem;
 
-/// The columns of a row file, and for each the place of its field in a record.
+/// The columns of a row file, and for each the place of its field in a record and the numbers that it takes.
 #[derive(Drop)]
 pub(crate) struct Layout {
     schema: Schema,
     header: ByteRecord,
     places: Vec<usize>,
+    limits: Vec<Limits>,
 }
 
 // Clauses see the schema and the header.
 impl Model for Layout {
     ghost use Rattle.std.specs.Prelude.{◌≡◌, map};
     ghost use Rattle.csv.specs.Records.{fields_of};
+    ghost use Rattle.bsi_text.specs.Limits.{limits_of};
     ghost use Rattle.bsi_text.specs.RowFiles.{place_of};
     ghost use Rattle.bsi_text.specs.Sources.{Layout};
 
@@ -34,7 +39,8 @@ impl Model for Layout {
 
     ghost view = { λ l. record { schema = l.schema; header = fields_of l.header } };
 
-    ghost invariant = { λ l. l.places.items ≡ map (λ column. place_of (fields_of l.header) column.name) l.schema.columns };
+    ghost invariant = { λ l. (l.places.items ≡ map (λ column. place_of (fields_of l.header) column.name) l.schema.columns)
+        × (l.limits.items ≡ map limits_of l.schema.columns) };
 }
 
 impl Layout {
@@ -50,45 +56,83 @@ impl Layout {
             return Ok(None);
         }
         let places = places_of(alloc, schema, &header)?;
+        let limits = limits_in(alloc, schema)?;
         let schema = schema.copy()?;
         Ok(Some(Layout {
             schema,
             header,
             places,
+            limits,
         }))
     }
 
-    /// Reads a record as a row; none where it is bad.
-    pub(crate) fn read(&self, alloc: Global, fields: &ByteRecord) -> Result<Option<Row>, NoMemory>
-        ensures row { IfOk result (λ read. read ≡ good_row self.now.schema self.now.header (fields_of fields.now)) }
-        ensures fits { IfOk result (λ read. IfSome read (λ row. IsTrue (fits self.now.schema.columns row))) }
+    /// Makes a row empty, with room for an entry of each column.
+    pub(crate) fn make_room(&self, alloc: Global, row: &mut Row) -> Result<(), NoMemory>
+        ensures { OnOk result (row.new ≡ []) }
     {
-        if fields.len() != self.header.len() {
-            return Ok(None);
-        }
-        let Some(row) = self.read_values(alloc, fields)? else {
-            return Ok(None);
-        };
-        Ok(if self.schema.fits(&row) {
-            Some(row)
-        } else {
-            None
-        })
+        let mut values = mem::replace(row, Row::new(Vec::new(alloc))).into_values();
+        values.clear();
+        values.reserve(self.places.len())?;
+        *row = Row::new(values);
+        Ok(())
     }
 
-    /// Reads the fields of a record in the order of the columns; none where one is no value.
-    fn read_values(&self, alloc: Global, fields: &ByteRecord) -> Result<Option<Row>, NoMemory>
-        ensures { IfOk result (λ read. read ≡ values_in self.now.schema.signed (in_order self.now.schema self.now.header (fields_of fields.now))) }
+    /// Reads a record into a row, and returns whether it is good. It takes no memory where the row has room.
+    pub(crate) fn read(
+        &self,
+        alloc: Global,
+        fields: &ByteRecord,
+        row: &mut Row,
+    ) -> Result<bool, NoMemory>
+        ensures row { IfOk result (λ good. given good row.new ≡ good_row self.now.schema self.now.header (fields_of fields.now)) }
+        ensures fits { IfOk result (λ good. good ≡ true → IsTrue (fits self.now.schema.columns row.new)) }
+    {
+        if fields.len() != self.header.len() {
+            return Ok(false);
+        }
+        if !self.read_values(alloc, fields, row)? {
+            return Ok(false);
+        }
+        Ok(self.takes(row))
+    }
+
+    /// Returns whether a row has one entry for each column, a null or a number that the column takes.
+    fn takes(&self, row: &Row) -> bool
+        ensures { result ≡ fits self.now.schema.columns row.now }
+    {
+        let values = row.values();
+        if values.len() != self.limits.len() {
+            return false;
+        }
+        'columns: for c in 0..values.len() {
+            if !self.limits[c].take(values[c]) {
+                return false;
+            }
+        }
+        true
+    }
+
+    /// Reads the fields of a record in the order of the columns, and returns whether each is a value.
+    fn read_values(
+        &self,
+        alloc: Global,
+        fields: &ByteRecord,
+        row: &mut Row,
+    ) -> Result<bool, NoMemory>
+        ensures { IfOk result (λ read. given read row.new ≡ values_in self.now.schema.signed (in_order self.now.schema self.now.header (fields_of fields.now))) }
     {
         let signed = self.schema.signed();
-        let mut values = Vec::with_capacity(alloc, self.places.len())?;
+        let mut values = mem::replace(row, Row::new(Vec::new(alloc))).into_values();
+        values.clear();
         'places: for place in &self.places {
             let Some(value) = read_value(signed, field(fields, *place)) else {
-                return Ok(None);
+                *row = Row::new(values);
+                return Ok(false);
             };
-            values.push_reserved(value);
+            values.push(value)?;
         }
-        Ok(Some(Row::new(values)))
+        *row = Row::new(values);
+        Ok(true)
     }
 }
 
@@ -155,6 +199,17 @@ fn places_of(alloc: Global, schema: &Schema, header: &ByteRecord) -> Result<Vec<
         places.push_reserved(count_before(header, schema.name(c).as_bytes()));
     }
     Ok(places)
+}
+
+/// Returns for each column the numbers that it takes.
+fn limits_in(alloc: Global, schema: &Schema) -> Result<Vec<Limits>, NoMemory>
+    ensures { IfOk result (λ limits. limits.items ≡ map limits_of schema.now.columns) }
+{
+    let mut limits = Vec::with_capacity(alloc, schema.columns() as usize)?;
+    'columns: for c in 0..schema.columns() {
+        limits.push_reserved(Limits::of(schema, c));
+    }
+    Ok(limits)
 }
 
 /// Returns how many fields stand before the first that is this name.

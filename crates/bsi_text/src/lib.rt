@@ -3,11 +3,13 @@
 
 pub mod laws;
 mod layout;
+mod limits;
 mod reading;
 mod rows;
 mod script;
 mod session;
 mod texts;
+mod watched;
 
 pub use bsi_records::{
     NoMemory, read_number, read_query, read_row, read_setup, read_signed, write_bad, write_fed,

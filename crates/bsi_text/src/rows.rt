@@ -1,10 +1,10 @@
 //! The rows of a row file, one after another.
 
-ghost use Rattle.std.specs.Prelude.{◌≡◌, ◌≢◌, ◌≤◌, [], Option, Some, None, Ok, Err, true, is_some, if◌then◌else◌, IfOk, IfErr, IfSome, IsTrue, OnOk, OnErr};
+ghost use Rattle.std.specs.Prelude.{◌≡◌, ◌≢◌, ◌≤◌, [], Option, Some, None, Ok, Err, true, false, is_some, if◌then◌else◌, IfOk, IfErr, IfSome, IsTrue, OnOk, OnErr};
 ghost use Rattle.csv.specs.Reading.{reader_state, source_of, strip_bom};
 ghost use Rattle.csv.specs.declared.parser.State.TheVariants as st;
 ghost use Rattle.bsi_table.specs.Columns.{fits};
-ghost use Rattle.bsi_text.specs.RowFiles.{is_header};
+ghost use Rattle.bsi_text.specs.RowFiles.{given, is_header};
 ghost use Rattle.bsi_text.specs.Sources.{tally_of, GivesFirst, HasGiven, HasNoHeader, HasStopped, IsPlain, IsTally, StandsAfter};
 
 use crate::layout::Layout;
@@ -130,8 +130,30 @@ impl<R: Read + Drop> RowSource<R> {
         ensures fits { IfOk result (λ found. IfSome found (λ row. IsTrue (fits self.old.layout.schema.columns row))) }
         ensures few { self.new.tally.passed ≤ 1000000 }
     {
+        let mut row = Row::new(Vec::new(self.alloc));
+        if !self.next_into(&mut row)? {
+            return Ok(None);
+        }
+        Ok(Some(row))
+    }
+
+    /// Makes `row` the row of the next good record, and returns whether there was one: as `next_row`, but that a row which has
+    /// had as many entries before takes no memory. Where it gives none, `row` may have any entries.
+    pub fn next_into(&mut self, row: &mut Row) -> Result<bool, SourceFault>
+        ensures failed { (fault : SourceFault) → self.old.end ≡ Some (Err fault) → (result ≡ Err fault) × (self.new ≡ self.old) }
+        ensures ended { self.old.end ≡ Some (Ok tt) → (result ≡ Ok false) × (self.new ≡ self.old) }
+        ensures given { self.old.end ≡ None → IfOk result (λ found. HasGiven R.remaining self.old.layout self.old.input self.new.input self.old.tally self.new.tally (given found row.new)) }
+        ensures goes_on { self.old.end ≡ None → IfOk result (λ found. self.new.end ≡ (if found then None else Some (Ok tt))) }
+        ensures stopped { self.old.end ≡ None → IfErr result (λ fault. HasStopped R.remaining self.old.layout self.old.input self.old.tally self.new.tally fault × (self.new.end ≡ Some (Err fault))) }
+        ensures same { self.new.layout ≡ self.old.layout }
+
+        // The row is the first of those that the source still had; it fits. No more records are taken than may be.
+        ensures first { IfOk result (λ found. GivesFirst R.remaining self.old self.new (given found row.new)) }
+        ensures fits { IfOk result (λ found. found ≡ true → IsTrue (fits self.old.layout.schema.columns row.new)) }
+        ensures few { self.new.tally.passed ≤ 1000000 }
+    {
         match self.end {
-            Some(Ok(())) => return Ok(None),
+            Some(Ok(())) => return Ok(false),
             Some(Err(fault)) => return Err(fault),
             None => {}
         }
@@ -140,12 +162,13 @@ impl<R: Read + Drop> RowSource<R> {
             &self.layout,
             &mut self.input,
             &mut self.fields,
+            row,
             &mut self.passed,
             &mut self.bad,
         );
         self.end = match &found {
-            Ok(Some(_)) => None,
-            Ok(None) => Some(Ok(())),
+            Ok(true) => None,
+            Ok(false) => Some(Ok(())),
             Err(fault) => Some(Err(*fault)),
         };
         found
@@ -185,36 +208,39 @@ fn read_layout<R: Read + Drop>(
     }
 }
 
-/// Takes records until one is good, and returns its row; none where no record is left.
+/// Takes records until one is good, whose row `row` becomes, and returns whether there was one. Room for the row is asked for
+/// first, so that a bad record takes none.
 fn take_row<R: Read + Drop>(
     alloc: Global,
     layout: &Layout,
     input: &mut Reader<R>,
     fields: &mut ByteRecord,
+    row: &mut Row,
     passed: &mut u64,
     bad: &mut u64,
-) -> Result<Option<Row>, SourceFault>
+) -> Result<bool, SourceFault>
     requires plain { IsPlain input.old }
     requires tally { IsTally (tally_of passed.old bad.old) }
-    ensures given { IfOk result (HasGiven R.remaining layout.now input.old input.new (tally_of passed.old bad.old) (tally_of passed.new bad.new)) }
+    ensures given { IfOk result (λ found. HasGiven R.remaining layout.now input.old input.new (tally_of passed.old bad.old) (tally_of passed.new bad.new) (given found row.new)) }
     ensures stopped { IfErr result (λ fault. HasStopped R.remaining layout.now input.old (tally_of passed.old bad.old) (tally_of passed.new bad.new) fault) }
-    ensures fits { IfOk result (λ found. IfSome found (λ row. IsTrue (fits layout.now.schema.columns row))) }
+    ensures fits { IfOk result (λ found. found ≡ true → IsTrue (fits layout.now.schema.columns row.new)) }
     ensures plain { OnOk result (IsPlain input.new) }
     ensures tally { IsTally (tally_of passed.new bad.new) }
 {
+    layout.make_room(alloc, row)?;
     'records: while *passed < MAX_RECORDS {
         if !read_next(input, fields)? {
-            return Ok(None);
+            return Ok(false);
         }
-        let found = layout.read(alloc, fields)?;
+        let good = layout.read(alloc, fields, row)?;
         *passed += 1;
-        if let Some(row) = found {
-            return Ok(Some(row));
+        if good {
+            return Ok(true);
         }
         *bad += 1;
     }
     if read_next(input, fields)? {
         return Err(SourceFault::TooLong);
     }
-    Ok(None)
+    Ok(false)
 }

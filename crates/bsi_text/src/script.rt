@@ -1,6 +1,6 @@
 //! A script: records from a reader, and one line for each to a writer.
 
-ghost use Rattle.std.specs.Prelude.{◌≡◌, ◌≢◌, ℕ, take, Err, OnOk, OnErr, IfErr, IfOk, IfSome};
+ghost use Rattle.std.specs.Prelude.{◌≡◌, ◌≢◌, ◌++◌, [], Err, OnOk, OnErr, IfErr, IfOk, IfSome};
 ghost use Rattle.std.specs.Io.KnownBytes.{Appends};
 ghost use Rattle.csv.specs.Reading.{reader_state, source_of};
 ghost use Rattle.csv.specs.declared.parser.State.TheVariants as st;
@@ -9,9 +9,11 @@ ghost use Rattle.bsi_text.specs.Scripts.{Declaring};
 ghost use Rattle.bsi_text.specs.Sessions.{stage_of};
 ghost use Rattle.bsi_text.specs.Sources.{IsPlain};
 ghost use Rattle.bsi_text.specs.Texts.{FromText, IsAnswered, IsBegun, IsStopped, IsTooLong};
+ghost use Rattle.bsi_text.specs.Waiting.{IsCut, IsPut, OnceWritten, WhileWritten};
 
 use crate::reading::{plain_reader, read_next};
 use crate::session::Session;
+use crate::watched::{Watched, has_whole_record};
 use csv::{ByteRecord, Reader};
 use std::alloc::{AllocError, Global};
 use std::io::{Read, Write};
@@ -19,6 +21,9 @@ use thiserror::Error;
 
 /// The most records of a script.
 const MAX_RECORDS: u64 = 1_000_000;
+
+/// The most bytes of lines that wait.
+const MAX_WAITING: usize = 1 << 16;
 
 /// Why a script ends before its input does. The lines before it were written.
 #[derive(Clone, Copy, Debug, PartialEq, Eq, Error)]
@@ -63,14 +68,16 @@ impl From<AllocError> for ScriptFault {
     }
 }
 
-/// Answers each record of the reader by a line to the writer, before it reads the next record.
+/// Answers each record of the reader by a line to the writer.
 ///
 /// At the end the lines of all records were written, which are at most 1,000,000. `TooLong` comes where there are more, and
 /// the lines of the first 1,000,000 were written. After every fault what was written is a first part of the lines that answer
 /// the whole text, and only `Write` cuts a line.
 ///
-/// It keeps the script's columns, feeders and rows, the record at hand and its line. A load or a query that finds no memory is
-/// answered so; everything else that finds none is `NoMemory`.
+/// Lines wait while the next record was read whole, at most 64 KiB of them, and are written before more is asked for.
+///
+/// It keeps the script's columns, feeders and rows, the record at hand and its line, and the lines that wait. A load or a query
+/// that finds no memory is answered so; everything else that finds none is `NoMemory`.
 pub fn run_script<R: Read + Drop, W: Write>(
     alloc: Global,
     reader: R,
@@ -81,47 +88,106 @@ pub fn run_script<R: Read + Drop, W: Write>(
     ensures fault { OnErr result (IfSome (R.remaining reader) (λ bytes. IsBegun bytes (W.contents writer.old) (W.contents writer.new))) }
     ensures whole { IfErr result (λ fault. fault ≢ ScriptFault.Write → IfSome (R.remaining reader) (λ bytes. IsStopped bytes (W.contents writer.old) (W.contents writer.new))) }
 {
-    let mut input = plain_reader(alloc, reader);
+    let mut input = plain_reader(alloc, Watched::new(reader));
     let mut session = Session::new(alloc);
     let mut row = ByteRecord::new(alloc);
     let mut line = Vec::new(alloc);
-    serve(alloc, &mut session, &mut input, &mut row, &mut line, writer)
+    let mut waiting = Vec::new(alloc);
+    let ended = serve(
+        alloc,
+        &mut session,
+        &mut input,
+        &mut row,
+        &mut line,
+        &mut waiting,
+        writer,
+    );
+    write_waiting(&mut waiting, writer)?;
+    ended
 }
 
-/// Answers the records of a text, at most 1,000,000 of them.
+/// Answers the records of a text, at most 1,000,000 of them. The last lines wait; after a failed write none does.
 fn serve<R: Read + Drop, W: Write>(
     alloc: Global,
     session: &mut Session,
-    input: &mut Reader<R>,
+    input: &mut Reader<Watched<R>>,
     row: &mut ByteRecord,
     line: &mut Vec<u8>,
+    waiting: &mut Vec<u8>,
     writer: &mut W,
 ) -> Result<(), ScriptFault>
     requires first { stage_of session.old ≡ Declaring nothing_declared }
     requires plain { IsPlain input.old }
     requires start { reader_state input.old ≡ st.StartRecord }
-    ensures ok { OnOk result (FromText (source_of R.remaining input.old) (λ bytes. IsAnswered bytes (W.contents writer.old) (W.contents writer.new))) }
-    ensures too_long { result ≡ Err ScriptFault.TooLong → FromText (source_of R.remaining input.old) (λ bytes. IsTooLong bytes (W.contents writer.old) (W.contents writer.new)) }
-    ensures fault { OnErr result (FromText (source_of R.remaining input.old) (λ bytes. IsBegun bytes (W.contents writer.old) (W.contents writer.new))) }
-    ensures whole { IfErr result (λ fault. fault ≢ ScriptFault.Write → FromText (source_of R.remaining input.old) (λ bytes. IsStopped bytes (W.contents writer.old) (W.contents writer.new))) }
+    requires none { waiting.old.items ≡ [] }
+    ensures ok { OnOk result (FromText (source_of (λ w. R.remaining w.inner) input.old) (λ bytes. OnceWritten (W.contents writer.new) waiting.new.items (IsAnswered bytes (W.contents writer.old)))) }
+    ensures too_long { result ≡ Err ScriptFault.TooLong → FromText (source_of (λ w. R.remaining w.inner) input.old) (λ bytes. OnceWritten (W.contents writer.new) waiting.new.items (IsTooLong bytes (W.contents writer.old))) }
+    ensures whole { IfErr result (λ fault. fault ≢ ScriptFault.Write → FromText (source_of (λ w. R.remaining w.inner) input.old) (λ bytes. OnceWritten (W.contents writer.new) waiting.new.items (IsStopped bytes (W.contents writer.old)))) }
+    ensures part { FromText (source_of (λ w. R.remaining w.inner) input.old) (λ bytes. WhileWritten (W.contents writer.new) waiting.new.items (IsBegun bytes (W.contents writer.old))) }
 {
     'records: for count in 0..MAX_RECORDS {
+        make_way(input, waiting, writer)?;
         if !read_next(input, row)? {
             return Ok(());
         }
         session.answer(alloc, row, line)?;
-        write_bytes(writer, line.as_slice())?;
+        gather(line.as_slice(), waiting, writer)?;
     }
+    make_way(input, waiting, writer)?;
     if read_next(input, row)? {
         return Err(ScriptFault::TooLong);
     }
     Ok(())
 }
 
+/// Writes the lines that wait, unless the next record was read whole.
+fn make_way<R: Read + Drop, W: Write>(
+    input: &Reader<Watched<R>>,
+    waiting: &mut Vec<u8>,
+    writer: &mut W,
+) -> Result<(), ScriptFault>
+    ensures ok { OnOk result (IsPut (W.contents writer.old) (W.contents writer.new) waiting.new.items waiting.old.items) }
+    ensures part { OnErr result (IsCut (W.contents writer.old) (W.contents writer.new) waiting.old.items) }
+    ensures none { OnErr result (waiting.new.items ≡ []) }
+    ensures fault { IfErr result (λ fault. fault ≡ ScriptFault.Write) }
+{
+    if has_whole_record(input) {
+        return Ok(());
+    }
+    write_waiting(waiting, writer)
+}
+
+/// Lets a line wait behind the others. Where they would be too many, or there is no memory for it, all are written.
+fn gather<W: Write>(line: &[u8], waiting: &mut Vec<u8>, writer: &mut W) -> Result<(), ScriptFault>
+    ensures ok { OnOk result (IsPut (W.contents writer.old) (W.contents writer.new) waiting.new.items (waiting.old.items ++ line.now)) }
+    ensures part { OnErr result (IsCut (W.contents writer.old) (W.contents writer.new) (waiting.old.items ++ line.now)) }
+    ensures none { OnErr result (waiting.new.items ≡ []) }
+    ensures fault { IfErr result (λ fault. fault ≡ ScriptFault.Write) }
+{
+    let many = waiting.len().saturating_add(line.len()) > MAX_WAITING;
+    if !many && waiting.extend_from_slice(line).is_ok() {
+        return Ok(());
+    }
+    write_waiting(waiting, writer)?;
+    write_bytes(writer, line)
+}
+
+/// Writes the lines that wait. None waits from then on.
+fn write_waiting<W: Write>(waiting: &mut Vec<u8>, writer: &mut W) -> Result<(), ScriptFault>
+    ensures ok { OnOk result (Appends (W.contents writer.old) (W.contents writer.new) waiting.old.items) }
+    ensures part { OnErr result (IsCut (W.contents writer.old) (W.contents writer.new) waiting.old.items) }
+    ensures none { waiting.new.items ≡ [] }
+    ensures fault { IfErr result (λ fault. fault ≡ ScriptFault.Write) }
+{
+    let written = write_bytes(writer, waiting.as_slice());
+    waiting.clear();
+    written
+}
+
 /// Writes all bytes, so that after a fault what went out is a first part of them.
 fn write_bytes<W: Write>(writer: &mut W, bytes: &[u8]) -> Result<(), ScriptFault>
     ensures ok { OnOk result (Appends (W.contents writer.old) (W.contents writer.new) bytes.now) }
-    ensures part { OnErr result ((n : ℕ) × Appends (W.contents writer.old) (W.contents writer.new) (take n bytes.now)) }
+    ensures part { OnErr result (IsCut (W.contents writer.old) (W.contents writer.new) bytes.now) }
     ensures fault { IfErr result (λ fault. fault ≡ ScriptFault.Write) }
 {
     let mut at = 0;

@@ -1,5 +1,5 @@
 -- What the writing end keeps to, from step to step.
-use Rattle.std.proofs.Common.{◌≡◌, ℕ, ◌+◌, List, [], ◌∷◌, ◌++◌, length, refl, sym, ◌∙◌, subst, ap, arith, append_assoc, length-append, inl, inr}
+use Rattle.std.proofs.Common.{◌≡◌, ℕ, ◌+◌, ◌-◌, ◌<◌, List, [], ◌∷◌, ◌++◌, length, refl, sym, ◌∙◌, subst, ap, arith, append_assoc, length-append, inl, inr}
 use Rattle.std.specs.Prelude.{fold, ◌⊎◌, OnErr, Result, Ok, Err}
 use Rattle.std.proofs.lemmas.List.{append-nil}
 use mathlib.Core.List.{IsPrefix}
@@ -7,16 +7,17 @@ use Rattle.logbook.specs.Pages.{Book}
 use Rattle.bsi_table.specs.Rows.{Entries}
 use Rattle.bsi_table.specs.Table.{with_rows, Table}
 use Rattle.bsi_versions.specs.Pages.{with_list, Edition, Known, Rows}
-use Rattle.bsi_versions.specs.Editions.{after, published_all, rows_of, with_held, written, IsWriting, Stands}
+use Rattle.bsi_versions.specs.Editions.{after, published_all, rows_of, with_held, written, HasStaged, IsWriting, Stands}
 use Rattle.bsi_versions.specs.declared.operation.Operation.{Operation}
-use Rattle.bsi_versions.specs.declared.operation.Operation.TheVariants.{Row, Mark}
+use Rattle.bsi_versions.specs.declared.operation.Operation.TheVariants.{Rows as rows_operation, Mark}
 use Rattle.bsi_versions.proofs.Growing.{prefix_self, prefix_trans}
 
 -- ---- pending operations
 
 pub rows_of-append : (xs ys : List Operation) → rows_of (xs ++ ys) ≡ rows_of xs ++ rows_of ys
 rows_of-append [] ys = refl
-rows_of-append (Row feeder row ∷ xs) ys = ap (λ rows. (feeder, row) ∷ rows) (rows_of-append xs ys)
+rows_of-append (rows_operation rows ∷ xs) ys =
+    ap (λ (all : Rows). rows.items ++ all) (rows_of-append xs ys) ∙ sym (append_assoc rows.items (rows_of xs) (rows_of ys))
 rows_of-append (Mark known ∷ xs) ys = rows_of-append xs ys
 
 -- a mark is no row
@@ -26,8 +27,9 @@ rows_of-mark xs known = rows_of-append xs (Mark known ∷ []) ∙ append-nil (ro
 -- the rows of the operations stand last, in their order
 pub table_after : (e : Edition) (pending : List Operation) → (fold after e pending).table ≡ with_rows e.table (rows_of pending)
 table_after e [] = ap (λ (rows : Rows). record e.table { rows = rows }) (sym (append-nil e.table.rows))
-table_after e (Row feeder row ∷ pending) =
-    table_after (after e (Row feeder row)) pending ∙ ap (λ (rows : Rows). record e.table { rows = rows }) (append_assoc e.table.rows ((feeder, row) ∷ []) (rows_of pending))
+table_after e (rows_operation rows ∷ pending) =
+    table_after (after e (rows_operation rows)) pending
+    ∙ ap (λ (all : Rows). record e.table { rows = all }) (append_assoc e.table.rows rows.items (rows_of pending))
 table_after e (Mark known ∷ pending) = table_after (after e (Mark known)) pending
 
 fold-push : (e : Edition) (pending : List Operation) (x : Operation) → fold after e (pending ++ x ∷ []) ≡ after (fold after e pending) x
@@ -39,6 +41,31 @@ pub marked : (e : Edition) (pending : List Operation) (known : Known)
     → fold after e (pending ++ Mark known ∷ []) ≡ record { table = with_rows e.table (rows_of pending); known = known }
 marked e pending known = fold-push e pending (Mark known) ∙ ap (λ (t : Table). record { table = t; known = known }) (table_after e pending)
 
+-- ---- the stage
+
+-- nothing went into the pending operations
+pub staged_none : (pending more : List Operation) (stage left : Rows) → rows_of more ≡ rows_of pending → left ≡ stage → HasStaged pending stage more left
+staged_none pending more stage left rows same = record {
+  held = ap (λ (xs : Rows). xs ++ left) rows ∙ ap (λ (xs : Rows). rows_of pending ++ xs) same;
+  begins = subst (λ (xs : Rows). IsPrefix (rows_of pending) xs) (sym rows) (prefix_self (rows_of pending));
+}
+
+-- all rows of the stage did
+pub staged_all : (pending more : List Operation) (stage left : Rows) → rows_of more ≡ rows_of pending ++ stage → left ≡ [] → HasStaged pending stage more left
+staged_all pending more stage left rows none = record {
+  held = ap (λ (xs : Rows). rows_of more ++ xs) none ∙ append-nil (rows_of more) ∙ rows;
+  begins = (stage, sym rows);
+}
+
+-- a prefix of the front begins the whole
+front_begins : (front short long : Rows) → IsPrefix short long → IsPrefix (front ++ short) (front ++ long)
+front_begins front short long p = (p.0, append_assoc front short p.0 ∙ ap (λ (xs : Rows). front ++ xs) p.1)
+
+-- where the rows are fewer than the limit, a place is free
+pub free_place : (shown held stage : Rows) (limit free rows_len held_len most : ℕ) → length shown ≡ rows_len → length (held ++ stage) ≡ held_len → limit ≡ most
+    → length shown + length held + length stage + free ≡ limit → rows_len + held_len < most → (free - 1) + 1 ≡ free
+free_place shown held stage limit free rows_len held_len most a b c places room = omega (arith, a, b, c, places, room, length-append held stage)
+
 module _ (book : Book) (about : Table) where
   -- ---- the beginning
 
@@ -49,28 +76,40 @@ module _ (book : Book) (about : Table) where
     about_is = ap (λ (rows : Rows). record t { rows = rows }) (sym empty) ∙ same;
   }
 
-  pub first_writing : (t : Table) (known : Known) (free : ℕ) → known ≡ record { book = book; list = [] } → t ≡ about → t.rows ≡ [] → free ≡ t.limit
-      → IsWriting book about (record { table = t; known = known }) [] known free
-  first_writing t known free is same empty all = record {
+  pub first_writing : (t : Table) (known : Known) (stage : Rows) (free : ℕ) → known ≡ record { book = book; list = [] } → t ≡ about → t.rows ≡ [] → stage ≡ [] → free ≡ t.limit
+      → IsWriting book about (record { table = t; known = known }) [] stage known free
+  first_writing t known stage free is same empty none all = record {
     stands = first_stands t known is same empty;
     same_book = ap (λ k. k.book) is;
     begins = subst (λ (rows : Rows). IsPrefix rows (t.rows ++ [])) (sym (ap (λ k. k.list) is)) (t.rows ++ [], refl);
-    places = omega (arith, ap length empty, all);
+    places = omega (arith, ap length empty, ap length none, all);
   }
 
-  module _ (shown : Edition) (pending : List Operation) (history : Known) (free : ℕ) (is : IsWriting book about shown pending history free) where
+  module _ (shown : Edition) (pending : List Operation) (stage : Rows) (history : Known) (free : ℕ) (is : IsWriting book about shown pending stage history free) where
+    -- ---- rows of the stage may have become pending
+
+    pub staged_writing : (more : List Operation) (left : Rows) → HasStaged pending stage more left → IsWriting book about shown more left history free
+    staged_writing more left staged = record {
+      stands = is.stands;
+      same_book = is.same_book;
+      begins = prefix_trans history.list (shown.table.rows ++ rows_of pending) (shown.table.rows ++ rows_of more) is.begins
+          (front_begins shown.table.rows (rows_of pending) (rows_of more) staged.begins);
+      places = omega (arith, is.places, ap length staged.held, length-append (rows_of more) left, length-append (rows_of pending) stage);
+    }
+
+    -- of the same edition
+    pub staged_shown : (next : Edition) (more : List Operation) (left : Rows) → next ≡ shown → HasStaged pending stage more left → IsWriting book about next more left history free
+    staged_shown next more left same staged = subst (λ (e : Edition). IsWriting book about e more left history free) (sym same) (staged_writing more left staged)
+
     -- ---- one row more is held
 
-    pub held_writing : (feeder : ℕ) (row : Entries) (more : List Operation) (less : ℕ) → more ≡ pending ++ Row feeder row ∷ [] → less + 1 ≡ free → IsWriting book about shown more history less
-    held_writing feeder row more less grown one =
-        let rows : rows_of more ≡ rows_of pending ++ (feeder, row) ∷ [] = ap rows_of grown ∙ rows_of-append pending (Row feeder row ∷ []) in
-        record {
-          stands = is.stands;
-          same_book = is.same_book;
-          begins = prefix_trans history.list (shown.table.rows ++ rows_of pending) (shown.table.rows ++ rows_of more) is.begins
-              ((feeder, row) ∷ [], append_assoc shown.table.rows (rows_of pending) ((feeder, row) ∷ []) ∙ ap (λ (xs : Rows). shown.table.rows ++ xs) (sym rows));
-          places = omega (arith, is.places, one, ap length rows, length-append (rows_of pending) ((feeder, row) ∷ []));
-        }
+    pub held_writing : (feeder : ℕ) (row : Entries) (grown : Rows) (less : ℕ) → grown ≡ stage ++ (feeder, row) ∷ [] → less + 1 ≡ free → IsWriting book about shown pending grown history less
+    held_writing feeder row grown less more one = record {
+      stands = is.stands;
+      same_book = is.same_book;
+      begins = is.begins;
+      places = omega (arith, is.places, one, ap length more, length-append stage ((feeder, row) ∷ []));
+    }
 
     -- ---- a publish
 
@@ -78,7 +117,7 @@ module _ (book : Book) (about : Table) where
     next_list = shown.table.rows ++ rows_of pending
 
     -- where nothing is shown, the history may be longer by the list that was to be
-    pub kept_writing : (again : Known) (more : List Operation) → (again ≡ history) ⊎ (again ≡ with_list history next_list) → rows_of more ≡ rows_of pending → IsWriting book about shown more again free
+    pub kept_writing : (again : Known) (more : List Operation) → (again ≡ history) ⊎ (again ≡ with_list history next_list) → rows_of more ≡ rows_of pending → IsWriting book about shown more stage again free
     kept_writing again more (inl same) rows = record {
       stands = is.stands;
       same_book = ap (λ k. k.book) same ∙ is.same_book;
@@ -103,12 +142,12 @@ module _ (book : Book) (about : Table) where
 
     -- all held rows are shown
     pub shown_writing : (again : Known) (next : Edition) (none : List Operation) → again ≡ with_list history next_list → next ≡ fold after shown (pending ++ Mark again ∷ []) → none ≡ []
-        → IsWriting book about next none again free
+        → IsWriting book about next none stage again free
     shown_writing again next none added now nothing =
         let e : Edition = record { table = with_rows shown.table (rows_of pending); known = again } in
         let is_e : next ≡ e = now ∙ marked shown pending again in
-        subst (λ (x : Edition). IsWriting book about x none again free) (sym is_e)
-        (subst (λ (ops : List Operation). IsWriting book about e ops again free) (sym nothing)
+        subst (λ (x : Edition). IsWriting book about x none stage again free) (sym is_e)
+        (subst (λ (ops : List Operation). IsWriting book about e ops stage again free) (sym nothing)
         (record {
           stands = record { book_is = ap (λ k. k.book) added ∙ is.same_book; list_is = ap (λ k. k.list) added; about_is = is.stands.about_is };
           same_book = ap (λ k. k.book) added ∙ is.same_book;
@@ -117,23 +156,31 @@ module _ (book : Book) (about : Table) where
         }))
 
 -- what contracts see once all held rows are shown
-pub published_view : (shown : Edition) (pending : List Operation) (again : Known) (next : Edition) (none : List Operation)
-    → next ≡ fold after shown (pending ++ Mark again ∷ []) → none ≡ [] → written next none ≡ published_all (written shown pending)
-published_view shown pending again next none now nothing =
-    ap (λ (ops : List Operation). written next ops) nothing
-    ∙ ap (λ (e : Edition). written e []) (now ∙ marked shown pending again)
+pub published_view : (shown : Edition) (pending : List Operation) (stage : Rows) (again : Known) (next : Edition) (none : List Operation)
+    → next ≡ fold after shown (pending ++ Mark again ∷ []) → none ≡ [] → stage ≡ [] → written next none stage ≡ published_all (written shown pending stage)
+published_view shown pending stage again next none now nothing empty =
+    ap (λ (ops : List Operation). written next ops stage) nothing
+    ∙ ap (λ (e : Edition). written e [] stage) (now ∙ marked shown pending again)
+    ∙ ap (λ (xs : Rows). record { table = with_rows shown.table (rows_of pending); held = xs }) empty
+    ∙ ap (λ (xs : Rows). record { table = with_rows shown.table xs; held = [] }) (sym (append-nil (rows_of pending)) ∙ ap (λ (xs : Rows). rows_of pending ++ xs) (sym empty))
 
 -- what contracts see once one row more is held
-pub held_view : (shown : Edition) (pending : List Operation) (next : Edition) (more : List Operation) (feeder : ℕ) (row : Entries)
-    → next ≡ shown → more ≡ pending ++ Row feeder row ∷ [] → written next more ≡ with_held (written shown pending) feeder row
-held_view shown pending next more feeder row same grown =
-    ap (λ (e : Edition). written e more) same
-    ∙ ap (λ (rows : Rows). record { table = shown.table; held = rows }) (ap rows_of grown ∙ rows_of-append pending (Row feeder row ∷ []))
+pub held_view : (shown : Edition) (pending : List Operation) (stage grown : Rows) (feeder : ℕ) (row : Entries)
+    → grown ≡ stage ++ (feeder, row) ∷ [] → written shown pending grown ≡ with_held (written shown pending stage) feeder row
+held_view shown pending stage grown feeder row more =
+    ap (λ (xs : Rows). record { table = shown.table; held = rows_of pending ++ xs }) more
+    ∙ ap (λ (xs : Rows). record { table = shown.table; held = xs }) (sym (append_assoc (rows_of pending) stage ((feeder, row) ∷ [])))
+
+-- what contracts see where rows of the stage may have become pending
+pub staged_view : (shown : Edition) (pending : List Operation) (stage : Rows) (next : Edition) (more : List Operation) (left : Rows)
+    → next ≡ shown → HasStaged pending stage more left → written next more left ≡ written shown pending stage
+staged_view shown pending stage next more left same staged =
+    ap (λ (e : Edition). written e more left) same ∙ ap (λ (xs : Rows). record { table = shown.table; held = xs }) staged.held
 
 -- what contracts see where nothing is shown
-pub same_view : (shown : Edition) (pending : List Operation) (next : Edition) (more : List Operation) → next ≡ shown → rows_of more ≡ rows_of pending → written next more ≡ written shown pending
-same_view shown pending next more same rows =
-    ap (λ (e : Edition). written e more) same ∙ ap (λ (xs : Rows). record { table = shown.table; held = xs }) rows
+pub same_view : (shown : Edition) (pending : List Operation) (stage : Rows) (next : Edition) (more : List Operation) → next ≡ shown → rows_of more ≡ rows_of pending → written next more stage ≡ written shown pending stage
+same_view shown pending stage next more same rows =
+    ap (λ (e : Edition). written e more stage) same ∙ ap (λ (xs : Rows). record { table = shown.table; held = xs ++ stage }) rows
 
 -- what holds anyway holds after a refusal
 pub on_err : {T E : Type 0} {P : Type 0} (r : Result T E) → P → OnErr r P

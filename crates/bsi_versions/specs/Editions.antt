@@ -3,14 +3,14 @@ use Rattle.std.specs.Prelude.{◌≡◌, ℕ, ◌+◌, List, [], ◌∷◌, ◌+
 use mathlib.Core.List.{IsPrefix}
 use Rattle.logbook.specs.Pages.{Book}
 use Rattle.bsi_table.specs.Rows.{Entries}
-use Rattle.bsi_table.specs.Table.{no_rows, with_row, Table}
+use Rattle.bsi_table.specs.Table.{no_rows, with_rows, Table}
 use Rattle.bsi_versions.specs.Pages.{Edition, Known, Rows}
 use Rattle.bsi_versions.specs.declared.operation.Operation.{Operation}
-use Rattle.bsi_versions.specs.declared.operation.Operation.TheVariants.{Row, Mark}
+use Rattle.bsi_versions.specs.declared.operation.Operation.TheVariants.{Rows as rows_operation, Mark}
 
 -- the edition after a pending operation
 abbrev pub after : Edition → Operation → Edition
-after e (Row feeder row) = record e { table = with_row e.table feeder row }
+after e (rows_operation rows) = record e { table = with_rows e.table rows.items }
 after e (Mark known) = record e { known = known }
 
 -- the same table with no row
@@ -26,7 +26,7 @@ pub record Stands (book : Book) (about : Table) (e : Edition) : Type 0 where
 -- the rows of pending operations, in their order
 abbrev pub rows_of : List Operation → Rows
 rows_of [] = []
-rows_of (Row feeder row ∷ pending) = (feeder, row) ∷ rows_of pending
+rows_of (rows_operation rows ∷ pending) = rows.items ++ rows_of pending
 rows_of (Mark known ∷ pending) = rows_of pending
 
 -- what contracts see of the writing end: the table that is published, and the rows that are held, in the order taken
@@ -34,9 +34,9 @@ pub record Written : Type 0 where
   pub table : Table
   pub held : Rows
 
--- what is seen of an edition and pending operations
-abbrev pub written : Edition → List Operation → Written
-written shown pending = record { table = shown.table; held = rows_of pending }
+-- what is seen of an edition, pending operations, and the rows of the stage, which stand in none yet
+abbrev pub written : Edition → List Operation → Rows → Written
+written shown pending stage = record { table = shown.table; held = rows_of pending ++ stage }
 
 -- one more row is held, last
 abbrev pub with_held : Written → ℕ → Entries → Written
@@ -46,9 +46,16 @@ with_held w feeder row = record w { held = w.held ++ (feeder, row) ∷ [] }
 abbrev pub published_all : Written → Written
 published_all w = record { table = record w.table { rows = w.table.rows ++ w.held }; held = [] }
 
--- what the writing end keeps to, of the edition that is shown, the pending operations, the history, and the places that are free
-pub record IsWriting (book : Book) (about : Table) (shown : Edition) (pending : List Operation) (history : Known) (free : ℕ) : Type 0 where
+-- rows of the stage may have gone into the pending operations: held are the same rows, in the same order
+pub record HasStaged (pending : List Operation) (stage : Rows) (more : List Operation) (left : Rows) : Type 0 where
+  pub held : rows_of more ++ left ≡ rows_of pending ++ stage
+  pub begins : IsPrefix (rows_of pending) (rows_of more)
+
+-- what the writing end keeps to, of the edition that is shown, the pending operations, the stage, the history, and the places
+-- that are free
+pub record IsWriting (book : Book) (about : Table) (shown : Edition) (pending : List Operation) (stage : Rows) (history : Known) (free : ℕ)
+    : Type 0 where
   pub stands : Stands book about shown
   pub same_book : history.book ≡ book
   pub begins : IsPrefix history.list (shown.table.rows ++ rows_of pending)
-  pub places : length shown.table.rows + length (rows_of pending) + free ≡ shown.table.limit
+  pub places : length shown.table.rows + length (rows_of pending) + length stage + free ≡ shown.table.limit

@@ -1,4 +1,4 @@
-//! What waits to be published: rows, and marks in the history.
+//! What waits to be published: blocks of rows, and marks in the history.
 
 use crate::NoMemory;
 use crate::history::Reached;
@@ -9,8 +9,8 @@ use left_right::Absorb;
 /// A pending operation of the writing end.
 #[derive(Drop)]
 pub enum Operation {
-    /// A row of a feeder.
-    Row(u32, Row),
+    /// A block of at most 64 rows, each with its feeder.
+    Rows(Vec<(u32, Row)>),
     /// The list in the history that the rows then are.
     Mark(Reached),
 }
@@ -26,7 +26,7 @@ impl Absorb<Operation> for Version {
 
     fn absorb_first(&mut self, operation: &Operation, _other: &Version) -> Result<(), NoMemory> {
         match operation {
-            Operation::Row(feeder, row) => self.append(*feeder, row),
+            Operation::Rows(rows) => self.append(rows),
             Operation::Mark(known) => {
                 self.mark(known);
                 Ok(())

@@ -1,10 +1,10 @@
 //! The writing end: rows are held back, and become visible at one step.
 
-ghost use Rattle.std.specs.Prelude.{◌≡◌, ◌+◌, ◌<◌, ◌≤◌, ◌++◌, ◌∷◌, [], ◌⊎◌, IfOk, IsTrue, OnErr, OnOk, drop, fold, length, ◌↔◌};
+ghost use Rattle.std.specs.Prelude.{◌≡◌, ◌+◌, ◌<◌, ◌≤◌, ◌++◌, ◌∷◌, [], ◌⊎◌, IfOk, IsTrue, OnErr, OnOk, drop, fold, length, vec_capacity, vec_len, ◌↔◌};
 ghost use mathlib.Core.List.{IsPrefix};
 ghost use Rattle.bsi_table.specs.Columns.{fits};
 ghost use Rattle.bsi_versions.specs.Pages.{with_list};
-ghost use Rattle.bsi_versions.specs.Editions.{after, published_all, rows_of, with_held, Stands};
+ghost use Rattle.bsi_versions.specs.Editions.{after, published_all, rows_of, with_held, HasStaged, Stands};
 ghost use Rattle.bsi_versions.specs.declared.operation.Operation.TheVariants.{Mark};
 
 use crate::history::{History, Page};
@@ -12,8 +12,8 @@ use crate::naming::Covers;
 use crate::operation::Operation;
 use crate::version::Version;
 use crate::{Analyst, Naming, NoMemory, Told};
-use bsi_table::{Index, Row};
-use core::mem::replace_with;
+use bsi_table::{Index, MOST_BLOCK_ROWS, Row};
+use core::mem::{replace, replace_with};
 use left_right::writer::Writer;
 use logbook::Plain;
 use std::alloc::Global;
@@ -39,20 +39,22 @@ impl<B: Naming> Plain<Copies<B>, Page, u64> for Next {
 pub struct Publisher<B: Naming> {
     copies: Copies<B>,
     history: History,
+    /// Held rows that are no pending operation yet: a block that is filled.
+    stage: Vec<(u32, Row)>,
     /// So many rows more may be held.
     free: u64,
 }
 
 // Clauses see the table that is published, and the rows that are held.
 impl<B: Naming> Model for Publisher<B> {
-    ghost use Rattle.std.specs.Prelude.{drop};
+    ghost use Rattle.std.specs.Prelude.{◌≤◌, drop, vec_capacity};
     ghost use Rattle.bsi_versions.specs.Editions.{written, IsWriting, Written};
 
     ghost Value = { Written };
 
-    ghost view = { λ p. written p.copies.desk.shown.value (drop p.copies.behind p.copies.log.items) };
+    ghost view = { λ p. written p.copies.desk.shown.value (drop p.copies.behind p.copies.log.items) p.stage.items };
 
-    ghost invariant = { λ p. IsWriting B.book B.about p.copies.desk.shown.value (drop p.copies.behind p.copies.log.items) p.history p.free };
+    ghost invariant = { λ p. IsWriting B.book B.about p.copies.desk.shown.value (drop p.copies.behind p.copies.log.items) p.stage.items p.history p.free × (64 ≤ vec_capacity p.stage) };
 }
 
 impl<B: Naming> Publisher<B> {
@@ -72,10 +74,12 @@ impl<B: Naming> Publisher<B> {
         let free = index.limit();
         let first = Version::new(index, history.known());
         let second = first.copy()?;
+        let stage = Vec::with_capacity(alloc, MOST_BLOCK_ROWS)?;
         let copies = Writer::new(alloc, first, second, (analysts as usize).max(1))?;
         Ok(Publisher {
             copies,
             history,
+            stage,
             free,
         })
     }
@@ -114,22 +118,21 @@ impl<B: Naming> Publisher<B> {
         ensures ok { OnOk result (self.new ≡ with_held self.old feeder row) }
         ensures err { OnErr result (self.new ≡ self.old) }
     {
-        match self.copies.append(Operation::Row(feeder, row)) {
-            Ok(()) => {}
-            Err(_) => return Err(NoMemory),
-        }
+        make_place(&mut self.copies, &mut self.stage)?;
+        self.stage.push_reserved((feeder, row));
         self.free -= 1;
         Ok(())
     }
 
-    /// Makes all held rows visible at one step, and returns how many rows are then published. It waits for analysts that read
-    /// the copy which is not shown.
+    /// Publishes: at one step analysts see every row that was held. Returns the number of rows that they then see. It waits for
+    /// analysts that read the copy which is not shown.
     pub fn publish<R: Wait>(&mut self, rt: &R) -> Result<u64, NoMemory>
         ensures len { IfOk result (λ len. len ≡ length self.new.table.rows) }
         ensures ok { OnOk result (self.new ≡ published_all self.old) }
         ensures err { OnErr result (self.new ≡ self.old) }
     {
         let len = self.copies.published().index().limit() - self.free;
+        empty_stage(&mut self.copies, &mut self.stage)?;
         mark(&mut self.copies, &mut self.history, len)?;
         show(&mut self.copies, rt)?;
         Ok(len)
@@ -156,9 +159,68 @@ impl<B: Naming> Publisher<B> {
         let Publisher {
             copies,
             history: _history,
+            stage: _stage,
             free: _,
         } = self;
         copies.take(rt);
+    }
+}
+
+/// Makes a place for one more row in the stage: a full block goes to the pending operations.
+fn make_place<B: Naming>(
+    copies: &mut Copies<B>,
+    stage: &mut Vec<(u32, Row)>,
+) -> Result<(), NoMemory>
+    requires room { 64 ≤ vec_capacity stage.old }
+    ensures desk { copies.new.desk ≡ copies.old.desk }
+    ensures staged { HasStaged (drop copies.old.behind copies.old.log.items) stage.old.items (drop copies.new.behind copies.new.log.items) stage.new.items }
+    ensures room { 64 ≤ vec_capacity stage.new }
+    ensures ok { OnOk result (vec_len stage.new < 64) }
+{
+    if stage.len() < MOST_BLOCK_ROWS {
+        return Ok(());
+    }
+    append_stage(copies, stage)
+}
+
+/// Empties the stage: what it has goes to the pending operations, as one block.
+fn empty_stage<B: Naming>(
+    copies: &mut Copies<B>,
+    stage: &mut Vec<(u32, Row)>,
+) -> Result<(), NoMemory>
+    requires room { 64 ≤ vec_capacity stage.old }
+    ensures desk { copies.new.desk ≡ copies.old.desk }
+    ensures staged { HasStaged (drop copies.old.behind copies.old.log.items) stage.old.items (drop copies.new.behind copies.new.log.items) stage.new.items }
+    ensures room { 64 ≤ vec_capacity stage.new }
+    ensures ok { OnOk result (stage.new.items ≡ []) }
+{
+    if stage.is_empty() {
+        return Ok(());
+    }
+    append_stage(copies, stage)
+}
+
+/// Appends the rows of the stage to the pending operations. The stage is then another one, with room for as many; so memory is
+/// asked for before anything changes.
+fn append_stage<B: Naming>(
+    copies: &mut Copies<B>,
+    stage: &mut Vec<(u32, Row)>,
+) -> Result<(), NoMemory>
+    requires room { 64 ≤ vec_capacity stage.old }
+    ensures desk { copies.new.desk ≡ copies.old.desk }
+    ensures staged { HasStaged (drop copies.old.behind copies.old.log.items) stage.old.items (drop copies.new.behind copies.new.log.items) stage.new.items }
+    ensures room { 64 ≤ vec_capacity stage.new }
+    ensures ok { OnOk result (stage.new.items ≡ []) }
+    ensures len { OnOk result (vec_len stage.new ≡ 0) }
+{
+    let next = Vec::with_capacity(*stage.allocator(), MOST_BLOCK_ROWS)?;
+    match copies.append(Operation::Rows(replace(stage, next))) {
+        Ok(()) => Ok(()),
+        Err(Operation::Rows(rows)) => {
+            *stage = rows;
+            Err(NoMemory)
+        }
+        Err(Operation::Mark(_)) => Err(NoMemory),
     }
 }
 

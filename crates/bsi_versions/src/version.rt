@@ -1,8 +1,11 @@
 //! A version of the index, with the list in the history that its rows are.
 
+ghost use Rattle.std.specs.Prelude.{◌≡◌, IfOk, IsTrue, OnErr, OnOk};
+ghost use Rattle.bsi_table.specs.Table.{AreFitting, AreFrom};
+
 use crate::NoMemory;
 use crate::history::Reached;
-use bsi_table::{Index, Row};
+use bsi_table::{Index, MOST_BLOCK_ROWS, Row};
 use std::marker::Model;
 
 /// An index, and the list that its rows are where it is published.
@@ -21,8 +24,7 @@ impl Model for Version {
 }
 
 impl Version {
-    ghost use Rattle.std.specs.Prelude.{◌≡◌, IfOk, OnErr, OnOk};
-    ghost use Rattle.bsi_table.specs.Table.{with_row};
+    ghost use Rattle.bsi_table.specs.Table.{with_rows};
 
     pub(crate) fn new(index: Index, known: Reached) -> Version
         ensures { result ≡ record { table = index; known = known } }
@@ -61,17 +63,31 @@ impl Version {
         self.known = known.again();
     }
 
-    /// Appends a row. A row that does not fit, or of no feeder, is refused as if for want of memory: no pending operation has one.
-    pub(crate) fn append(&mut self, feeder: u32, row: &Row) -> Result<(), NoMemory>
-        ensures ok { OnOk result (self.new ≡ record self.old { table = with_row self.old.table feeder row.now }) }
+    /// Appends a block of rows. More than 64 are refused as if for want of memory, and so is a row that does not fit, or of no
+    /// feeder: no pending operation has such.
+    pub(crate) fn append(&mut self, rows: &[(u32, Row)]) -> Result<(), NoMemory>
+        ensures ok { OnOk result (self.new ≡ record self.old { table = with_rows self.old.table rows.now }) }
         ensures err { OnErr result (self.new ≡ self.old) }
     {
-        if feeder >= self.index.feeders() || !self.index.schema().fits(row) {
+        if rows.len() > MOST_BLOCK_ROWS || !are_fitting(&self.index, rows) {
             return Err(NoMemory);
         }
-        match self.index.append(feeder, row) {
+        match self.index.append_rows(rows) {
             Ok(_) => Ok(()),
             Err(_) => Err(NoMemory),
         }
     }
+}
+
+/// Whether each row fits, and is of one of the feeders.
+fn are_fitting(index: &Index, rows: &[(u32, Row)]) -> bool
+    ensures fits { IsTrue result → AreFitting index.now.schema.columns rows.now }
+    ensures feeders { IsTrue result → AreFrom index.now.feeders rows.now }
+{
+    'rows: for r in 0..rows.len() {
+        if rows[r].0 >= index.feeders() || !index.schema().fits(&rows[r].1) {
+            return false;
+        }
+    }
+    true
 }

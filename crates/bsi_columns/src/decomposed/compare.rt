@@ -4,17 +4,18 @@
 //! leaves nothing to ask is decided before any digit is read. What is found is cut with the not-null bitmap, so that a
 //! complement selects no null.
 
-ghost use Rattle.std.specs.Prelude.{◌≡◌, ℕ, ◌+◌, ◌*◌, ◌/◌, ◌^◌, ◌≤◌, ◌<◌, ◌&&◌, Bool, List, [], None, true, false, length, map, is_some, slice_index, slice_index_or, nat_eq, nat_lt, nat_le, IfOk, IfSome};
+ghost use Rattle.std.specs.Prelude.{◌≡◌, ℕ, ◌+◌, ◌*◌, ◌/◌, ◌^◌, ◌≤◌, ◌<◌, ◌&&◌, Bool, List, [], None, true, false, length, map, is_some, slice_index, slice_index_or, IfOk, IfSome, OnErr, OnOk};
 ghost use Rattle.std.specs.Bool.{OnTrue};
 ghost use Rattle.std.specs.Simd.Lanes.{zip2};
 ghost use Rattle.bsi_bits.specs.Packed.{bit_of};
 ghost use Rattle.bsi_digits.specs.Digits.{size_of};
-ghost use Rattle.bsi_columns.specs.Rows.{number_or_zero};
-ghost use Rattle.bsi_columns.specs.Tests.{holds, holds_from, as_wanted, answers};
+ghost use Rattle.bsi_columns.specs.Rows.{compares, number_or_zero, selects};
+ghost use Rattle.bsi_columns.specs.Tests.{answers, decides, holds, holds_from, IsBelowSize};
+ghost use Rattle.bsi_columns.specs.declared.decomposed.compare.Decision.TheVariants.{Tested};
 
 use crate::decomposed::Decomposed;
-use crate::{Encoding, NoMemory};
-use bsi_bits::Bits;
+use crate::{Encoding, NoMemory, Op};
+use bsi_bits::{Bits, lanes};
 use bsi_components::blocks::{keep_in, turn};
 
 /// The words of a block, which stays in the first cache while each component narrows it.
@@ -23,6 +24,9 @@ const BLOCK: usize = 1024;
 /// The words of a part of a block, which a component narrows by all the bitmaps that it reads before it goes on to the
 /// next, so that it reads them side by side.
 const PART: usize = 64;
+
+/// The most words of a block that is narrowed in place.
+const SHORT_BLOCK: usize = 128;
 
 /// A comparison that the digits decide.
 #[derive(Clone, Copy)]
@@ -41,59 +45,111 @@ pub struct Test {
     pub wanted: bool,
 }
 
+/// How a comparison with a constant is decided for the numbers below a size.
+#[derive(Clone, Copy)]
+pub enum Decision {
+    /// None of them compares so.
+    Nothing,
+    /// Each of them does.
+    Everything,
+    /// Those do that pass a test, or fail it, whose constant is below the size.
+    Tested(Test),
+}
+
+/// Decides a comparison for the numbers below a size.
+fn decide(op: Op, constant: u64, size: u64) -> Decision
+    ensures decided { (x : ℕ) → x < size → decides result x ≡ compares op x constant }
+    ensures below { IsBelowSize result size }
+{
+    if constant >= size {
+        return match op {
+            Op::Eq | Op::Gt | Op::Ge => Decision::Nothing,
+            Op::Ne | Op::Lt | Op::Le => Decision::Everything,
+        };
+    }
+    match op {
+        Op::Eq => tested(Relation::Equal, constant, true),
+        Op::Ne => tested(Relation::Equal, constant, false),
+        Op::Le => tested(Relation::AtMost, constant, true),
+        Op::Gt => tested(Relation::AtMost, constant, false),
+        Op::Lt if constant == 0 => Decision::Nothing,
+        Op::Ge if constant == 0 => Decision::Everything,
+        Op::Lt => tested(Relation::AtMost, constant - 1, true),
+        Op::Ge => tested(Relation::AtMost, constant - 1, false),
+    }
+}
+
+/// The numbers that pass a test or, where those are wanted, the numbers that fail it.
+fn tested(relation: Relation, constant: u64, wanted: bool) -> Decision
+    ensures { result ≡ Tested (record { relation = relation; constant = constant; wanted = wanted }) }
+{
+    Decision::Tested(Test {
+        relation,
+        constant,
+        wanted,
+    })
+}
+
 impl<E: Encoding> Decomposed<E> {
-    /// The rows whose number is `constant`, or is not.
-    pub(crate) fn equal(&self, constant: u64, wanted: bool) -> Result<Bits, NoMemory>
-        ensures { IfOk result (λ b. b.bits ≡ map (answers (λ x. nat_eq x constant) wanted) self.now.entries) }
+    /// The rows whose number compares so with `constant`. No component is read where the answer is known.
+    pub(crate) fn selected(&self, op: Op, constant: u64) -> Result<Bits, NoMemory>
+        ensures { IfOk result (λ b. b.bits ≡ map (selects op constant) self.now.entries) }
     {
-        if constant >= self.bases.size() {
-            self.decided(!wanted)
-        } else {
-            self.select(Test {
-                relation: Relation::Equal,
-                constant,
-                wanted,
-            })
+        match decide(op, constant, self.bases.size()) {
+            Decision::Nothing => {
+                Bits::filled(*self.components.allocator(), self.present.len(), false)
+            }
+            Decision::Everything => self.present.copy(),
+            Decision::Tested(test) => self.select(test),
         }
     }
 
-    /// The rows whose number is at most `constant`, or is not.
-    pub(crate) fn at_most(&self, constant: u64, wanted: bool) -> Result<Bits, NoMemory>
-        ensures { IfOk result (λ b. b.bits ≡ map (answers (λ x. nat_le x constant) wanted) self.now.entries) }
+    /// Keeps in a block of at most 128 words, whose first stands for the 64 rows from row `64 * at` on, the rows whose number
+    /// compares so with `constant`, which may be past the size. A null row is not kept. What the block has past the last row is
+    /// open. Where a component works on whole vectors alone, each call goes over all rows, and takes memory for them.
+    pub fn keep_selected(
+        &self,
+        op: Op,
+        constant: u64,
+        at: usize,
+        block: &mut [u64],
+    ) -> Result<(), NoMemory>
+        requires few { length block.old ≤ 128 }
+        requires within { at + length block.old ≤ (length self.now.entries + 63) / 64 }
+        ensures kept { OnErr result (block.new ≡ block.old) }
+        ensures rows { OnOk result ((p : ℕ) → p < 64 * length block.old → 64 * at + p < length self.now.entries → bit_of block.new p
+            ≡ (bit_of block.old p && selects op constant (slice_index_or self.now.entries (64 * at + p) None))) }
     {
-        if constant >= self.bases.size() {
-            self.decided(wanted)
-        } else {
-            self.select(Test {
-                relation: Relation::AtMost,
-                constant,
-                wanted,
-            })
+        match decide(op, constant, self.bases.size()) {
+            Decision::Nothing => {
+                block.fill(0);
+                Ok(())
+            }
+            Decision::Everything => {
+                keep_in(&self.present, at, block);
+                Ok(())
+            }
+            Decision::Tested(test) => self.keep_tested(test, at, block),
         }
     }
 
-    /// The rows whose number is below `constant`, or is not.
-    pub(crate) fn below(&self, constant: u64, wanted: bool) -> Result<Bits, NoMemory>
-        ensures { IfOk result (λ b. b.bits ≡ map (answers (λ x. nat_lt x constant) wanted) self.now.entries) }
+    /// Keeps in such a block the rows whose number passes a test with a constant that is below the size.
+    fn keep_tested(&self, test: Test, at: usize, block: &mut [u64]) -> Result<(), NoMemory>
+        requires below { test.constant < size_of self.now.bases }
+        requires few { length block.old ≤ 128 }
+        requires within { at + length block.old ≤ (length self.now.entries + 63) / 64 }
+        ensures kept { OnErr result (block.new ≡ block.old) }
+        ensures rows { OnOk result ((p : ℕ) → p < 64 * length block.old → 64 * at + p < length self.now.entries → bit_of block.new p
+            ≡ (bit_of block.old p && answers (λ x. holds test.relation x test.constant) test.wanted (slice_index_or self.now.entries (64 * at + p) None))) }
     {
-        if constant == 0 {
-            self.decided(!wanted)
-        } else if constant >= self.bases.size() {
-            self.decided(wanted)
+        let mut buffer = [0; SHORT_BLOCK];
+        let found = &mut buffer[..block.len()];
+        if self.select_block(test, at, found) {
+            lanes::and(block, found);
         } else {
-            self.at_most(constant - 1, wanted)
+            keep_in(&self.select(test)?, at, block);
         }
-    }
-
-    /// Every row that is not a null, or none.
-    fn decided(&self, every: bool) -> Result<Bits, NoMemory>
-        ensures { IfOk result (λ b. b.bits ≡ map (answers (λ x. true) every) self.now.entries) }
-    {
-        if every {
-            self.present.copy()
-        } else {
-            Bits::filled(*self.components.allocator(), self.present.len(), false)
-        }
+        Ok(())
     }
 
     /// The rows whose number passes a test with a constant that is below the size.
@@ -187,40 +243,6 @@ impl<E: Encoding> Decomposed<E> {
         }
         true
     }
-
-    /// The same rows by whole vectors, in the memory of `found` and one vector more.
-    fn select_vectors(&self, test: Test, mut found: Bits) -> Result<Bits, NoMemory>
-        requires below { test.constant < size_of self.now.bases }
-        requires same { length self.now.entries ≡ length found.bits }
-        ensures { IfOk result (λ b. b.bits ≡ map (answers (λ x. holds test.relation x test.constant) test.wanted) self.now.entries) }
-    {
-        let mut part = found.copy()?;
-        self.narrow_vectors(test, &mut part, &mut found);
-        cut(&mut found, test.wanted, &self.present);
-        Ok(found)
-    }
-
-    /// Writes for each row whether the number that its digits weigh passes the test, wanted or not.
-    fn narrow_vectors(&self, test: Test, part: &mut Bits, found: &mut Bits)
-        requires below { test.constant < size_of self.now.bases }
-        requires same_part { length self.now.entries ≡ length part.old.bits }
-        requires same { length self.now.entries ≡ length found.old.bits }
-        ensures { found.new.bits ≡ map (λ e. holds test.relation (number_or_zero e) test.constant) self.now.entries }
-    {
-        let places = self.bases.len();
-        let lowest = self.bases.digit(test.constant, 0);
-        first_into(&self.components[0], test.relation, lowest, found);
-        for i in 1..places {
-            let digit = self.bases.digit(test.constant, i);
-            narrow_into(
-                &self.components[i as usize],
-                test.relation,
-                digit,
-                part,
-                found,
-            );
-        }
-    }
 }
 
 /// Takes one digit more into the test of a block, part by part; `false` where the component works on whole vectors alone.
@@ -272,57 +294,4 @@ fn narrow_part<E: Encoding>(
         Relation::Equal => component.eq_block(digit, at, block),
         Relation::AtMost => component.le_block(digit, at, block),
     }
-}
-
-/// Writes for each row whether its lowest digit passes the test with the constant's.
-fn first_into<E: Encoding>(component: &E, relation: Relation, digit: u32, found: &mut Bits)
-    requires below { digit < E.base_of component.now }
-    requires same { length (E.digits component.now) ≡ length found.old.bits }
-    ensures { found.new.bits ≡ map (λ v. holds relation v digit) (E.digits component.now) }
-{
-    match relation {
-        Relation::Equal => component.eq_into(digit, found),
-        Relation::AtMost => component.le_into(digit, found),
-    }
-}
-
-/// Takes one digit more into the test: one call of the component for `=`, and one or two for `<=`.
-fn narrow_into<E: Encoding>(
-    component: &E,
-    relation: Relation,
-    digit: u32,
-    part: &mut Bits,
-    found: &mut Bits,
-)
-    requires below { digit < E.base_of component.now }
-    requires same_part { length (E.digits component.now) ≡ length part.old.bits }
-    requires same { length (E.digits component.now) ≡ length found.old.bits }
-    ensures found { found.new.bits ≡ zip2 (λ low v. holds_from relation low v digit) found.old.bits (E.digits component.now) }
-    ensures part { length part.new.bits ≡ length part.old.bits }
-{
-    match relation {
-        Relation::Equal => {
-            component.eq_into(digit, part);
-            found.and_with(part);
-        }
-        Relation::AtMost => {
-            component.le_into(digit, part);
-            found.and_with(part);
-            if digit > 0 {
-                component.le_into(digit - 1, part);
-                found.or_with(part);
-            }
-        }
-    }
-}
-
-/// Keeps the rows that are not nulls of those that pass a test or, as wanted, of those that fail it.
-fn cut(found: &mut Bits, wanted: bool, present: &Bits)
-    requires { length found.old.bits ≡ length present.now.bits }
-    ensures { found.new.bits ≡ zip2 (λ answer there. as_wanted wanted answer && there) found.old.bits present.now.bits }
-{
-    if !wanted {
-        found.flip();
-    }
-    found.and_with(present);
 }

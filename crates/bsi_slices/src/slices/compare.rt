@@ -1,6 +1,6 @@
 //! Comparisons of the numbers in slices with a constant, block by block and from the least significant slice up.
 
-ghost use Rattle.std.specs.Prelude.{◌≡◌, ℕ, ◌+◌, ◌*◌, ◌-◌, ◌/◌, ◌<◌, ◌≤◌, ◌^◌, ◌==◌, if◌then◌else◌, length, map, nat_lt, slice_index, slice_index_or, false, IfOk, bit_and, bit_or};
+ghost use Rattle.std.specs.Prelude.{◌≡◌, ℕ, ◌+◌, ◌*◌, ◌-◌, ◌/◌, ◌<◌, ◌≤◌, ◌^◌, ◌==◌, ◌&&◌, if◌then◌else◌, length, map, nat_lt, slice_index, slice_index_or, false, None, IfOk, bit_and, bit_or};
 ghost use Rattle.std.specs.Int.{bit_not, w64};
 ghost use Rattle.std.specs.Simd.Lanes.{zip2};
 ghost use Rattle.bsi_bits.specs.Packed.{bit_of};
@@ -12,7 +12,7 @@ ghost use Rattle.bsi_slices.specs.declared.slices.compare.Selection.TheVariants.
 
 use crate::NoMemory;
 use crate::column::Op;
-use bsi_bits::{Bits, know_fits};
+use bsi_bits::{Bits, know_fits, lanes};
 use std::alloc::Global;
 use std::simd::Simd;
 
@@ -65,10 +65,44 @@ pub fn select(
         Selection::Everything => present.copy(),
         Selection::Tested(test) => {
             let mut words = present.copy()?.into_words();
-            keep(slices, test, &mut words);
+            keep(slices, test, 0, &mut words);
             Ok(Bits::from_words(words, present.len()))
         }
     }
+}
+
+/// Keeps in a block of words, whose first stands for the 64 rows from row `64 * at` on, the rows whose number compares so with
+/// `constant`. No slice is read where the answer is known.
+pub fn keep_selected(
+    slices: &[Bits],
+    present: &Bits,
+    op: Op,
+    constant: u64,
+    at: usize,
+    block: &mut [u64],
+)
+    requires sliced { IsSliced present.now.bits slices.now }
+    requires within { at + length block.old ≤ (length present.now.bits + 63) / 64 }
+    ensures { (p : ℕ) → p < 64 * length block.old → 64 * at + p < length present.now.bits → bit_of block.new p
+        ≡ (bit_of block.old p && selects op constant (slice_index_or (entries_in present.now.bits slices.now) (64 * at + p) None)) }
+{
+    match decide(op, constant, 1 << slices.len()) {
+        Selection::Nothing => block.fill(0),
+        Selection::Everything => keep_present(present, at, block),
+        Selection::Tested(test) => {
+            keep_present(present, at, block);
+            keep(slices, test, at, block);
+        }
+    }
+}
+
+/// Keeps in a block of words the rows that are not nulls.
+fn keep_present(present: &Bits, at: usize, block: &mut [u64])
+    requires within { at + length block.old ≤ (length present.now.bits + 63) / 64 }
+    ensures { (p : ℕ) → p < 64 * length block.old → bit_of block.new p ≡ (bit_of block.old p && slice_index_or present.now.bits (64 * at + p) false) }
+{
+    let words = present.words();
+    lanes::and(block, &words[at..at + block.len()]);
 }
 
 /// The numbers below a size that a comparison with a constant selects.
@@ -105,31 +139,40 @@ fn tested(relation: Relation, constant: u64, negated: bool) -> Selection
     })
 }
 
-/// Keeps in `words` the rows whose numbers pass the test: blocks first, and single words behind them.
-fn keep(slices: &[Bits], test: Test, words: &mut [u64])
+/// Keeps in `words`, which stand for the rows from `64 * start` on, those whose numbers pass the test: blocks first, and
+/// single words behind them.
+fn keep(slices: &[Bits], test: Test, start: usize, words: &mut [u64])
     requires few { length slices.now ≤ 63 }
     requires below { test.constant < 2 ^ length slices.now }
-    requires long { (i : ℕ) → i < length slices.now → (length (slice_at slices.now i) + 63) / 64 ≡ length words.old }
-    ensures { IsKept (λ r. passes test (number slices.now r)) 0 (length words.old) words.old words.new }
+    requires small { start + length words.old ≤ 2 ^ 26 }
+    requires long { (i : ℕ) → i < length slices.now → start + length words.old ≤ (length (slice_at slices.now i) + 63) / 64 }
+    ensures { IsKept (λ r. passes test (number slices.now (64 * start + r))) 0 (length words.old) words.old words.new }
 {
     let whole = words.len() / BLOCK * BLOCK;
-    keep_blocks::<BLOCK>(slices, test, 0, words);
-    keep_blocks::<1>(slices, test, whole, words);
+    keep_blocks::<BLOCK>(slices, test, start, 0, words);
+    keep_blocks::<1>(slices, test, start, whole, words);
 }
 
 /// The same from a word on, as far as blocks of `N` words go.
-fn keep_blocks<const N: usize>(slices: &[Bits], test: Test, from: usize, words: &mut [u64])
+fn keep_blocks<const N: usize>(
+    slices: &[Bits],
+    test: Test,
+    start: usize,
+    from: usize,
+    words: &mut [u64],
+)
     requires blocks { (1 ≤ N) × (N ≤ 64) }
     requires few { length slices.now ≤ 63 }
     requires below { test.constant < 2 ^ length slices.now }
     requires within { from ≤ length words.old }
-    requires long { (i : ℕ) → i < length slices.now → (length (slice_at slices.now i) + 63) / 64 ≡ length words.old }
-    ensures { IsKept (λ r. passes test (number slices.now r)) from (from + N * ((length words.old - from) / N)) words.old words.new }
+    requires small { start + length words.old ≤ 2 ^ 26 }
+    requires long { (i : ℕ) → i < length slices.now → start + length words.old ≤ (length (slice_at slices.now i) + 63) / 64 }
+    ensures { IsKept (λ r. passes test (number slices.now (64 * start + r))) from (from + N * ((length words.old - from) / N)) words.old words.new }
 {
     let blocks = (words.len() - from) / N;
     'block: for k in 0..blocks {
         let at = from + N * k;
-        let found = related_block::<N>(slices, test.relation, test.constant, at);
+        let found = related_block::<N>(slices, test.relation, test.constant, start + at);
         let kept = Simd::<u64, N>::from_slice(&words[at..]);
         cut(kept, found, test.negated).copy_to_slice(&mut words[at..]);
     }
@@ -203,7 +246,11 @@ fn stepped<const N: usize>(above: Simd<u64, N>, lanes: Simd<u64, N>, is_one: boo
 }
 
 /// Keeps the bits that are set in `found` or, if it is negated, those that are not.
-fn cut<const N: usize>(kept: Simd<u64, N>, found: Simd<u64, N>, negated: bool) -> Simd<u64, N>
+pub(super) fn cut<const N: usize>(
+    kept: Simd<u64, N>,
+    found: Simd<u64, N>,
+    negated: bool,
+) -> Simd<u64, N>
     ensures { result ≡ (if negated then zip2 bit_and kept.entry (map (bit_not w64) found.entry) else zip2 bit_and kept.entry found.entry) }
 {
     if negated { kept & !found } else { kept & found }

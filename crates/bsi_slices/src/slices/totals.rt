@@ -146,7 +146,7 @@ fn narrow_block(chosen: &mut [u64], words: &[u64], is_set: bool, next: &[u64]) -
 }
 
 /// Whether no bit of the words is set.
-fn is_empty(words: &[u64]) -> bool
+pub(super) fn is_empty(words: &[u64]) -> bool
     ensures { IsTrue result ↔ ((k : ℕ) → slice_index words.now k ≡ 0) }
 {
     let mut seen = 0;

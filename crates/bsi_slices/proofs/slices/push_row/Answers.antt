@@ -1,32 +1,30 @@
-use Rattle.std.proofs.Common.{◌≡◌, ℕ, ◌<◌, ◌++◌, ◌∷◌, [], length, is_some, ◌∙◌, arith}
-use Rattle.std.specs.Prelude.{◌==◌}
+use Rattle.std.proofs.Common.{◌≡◌, ℕ, zero, suc, ◌<◌, ◌++◌, ◌∷◌, [], length, get_or, None, is_some, ap, ◌∙◌, arith}
+use Rattle.std.specs.Prelude.{◌==◌, Option}
 use Rattle.std.specs.Int.{bit_at}
 use Rattle.bsi_slices.specs.Rows.{number_or_zero}
-use Rattle.bsi_slices.specs.Slices.{slice_at, have_room}
-use Rattle.bsi_slices.proofs.SliceEntries.{room_at, room_first, room_second, entries_more, sliced_more}
+use Rattle.bsi_slices.specs.Slices.{slice_at}
+use Rattle.bsi_slices.proofs.SliceGrowth.{entries_more, sliced_more}
 use Rattle.bsi_slices.proofs.slices.push_row.Goals as goal
 
-pub push_places-requires-clause-room : goal.push_places-requires-clause-room
-push_places-requires-clause-room c = room_at c.args.slices.now (room_first (have_room c.args.slices.now) c.args.present.now.room c.requires.room)
-
-pub push_reserved-requires : goal.push_reserved-requires
-push_reserved-requires c = room_second (have_room c.args.slices.now) c.args.present.now.room c.requires.room
+one_fits : (entry : Option ℕ) (bound : ℕ) → number_or_zero entry < bound → (i : ℕ) → i < 1 → number_or_zero (get_or (entry ∷ []) i None) < bound
+one_fits entry bound fit zero within = fit
+one_fits entry bound fit (suc i) within = absurd (omega arith)
 
 -- each slice has its place of the number behind its bits
 pub returns-clause-sliced : goal.returns-clause-sliced
 returns-clause-sliced c =
     let marks : c.push_reserved.new.self.bits ≡ c.args.present.now.bits ++ is_some c.args.entry ∷ [] =
-    c.push_reserved.ensures ∙ (λ i. c.args.present.now.bits ++ c.is_some.ensures i ∷ []) in
-    let pushed : (k : ℕ) → k < length c.args.slices.now → slice_at c.push_places.new.slices k ≡ slice_at c.args.slices.now k ++ (bit_at (number_or_zero c.args.entry) k == 1) ∷ [] =
-    λ k within. c.push_places.ensures k within ∙ (λ i. slice_at c.args.slices.now k ++ (bit_at (c.unwrap_or.ensures i) k == 1) ∷ []) in
-    sliced_more c.args.present.now.bits c.push_reserved.new.self.bits c.args.slices.now c.push_places.new.slices c.args.entry c.requires.sliced c.requires.below
-    marks (omega arith) pushed (omega (arith, c.len.ensures))
+    c.push_reserved.ensures.bits ∙ (λ i. c.args.present.now.bits ++ c.is_some.ensures i ∷ []) in
+    let pushed : (k : ℕ) → k < length c.args.slices.now.vectors → slice_at c.push_each.new.self.vectors k ≡ slice_at c.args.slices.now.vectors k ++ (bit_at (number_or_zero c.args.entry) k == 1) ∷ [] =
+    c.push_each.ensures.bits (λ k. bit_at (number_or_zero c.args.entry) k == 1) (λ k b within said. said (omega (arith, within, c.requires.sliced.few)) ∙ ap (λ n. bit_at n k == 1) c.unwrap_or-number.ensures) in
+    sliced_more c.args.present.now.bits c.push_reserved.new.self.bits c.args.slices.now.vectors c.push_each.new.self.vectors (c.args.entry ∷ []) c.requires.sliced (one_fits c.args.entry _ c.requires.below)
+    marks c.push_each.ensures.count pushed (omega (arith, c.len.ensures))
 
 pub returns-clause-entries : goal.returns-clause-entries
 returns-clause-entries c =
     let marks : c.push_reserved.new.self.bits ≡ c.args.present.now.bits ++ is_some c.args.entry ∷ [] =
-    c.push_reserved.ensures ∙ (λ i. c.args.present.now.bits ++ c.is_some.ensures i ∷ []) in
-    let pushed : (k : ℕ) → k < length c.args.slices.now → slice_at c.push_places.new.slices k ≡ slice_at c.args.slices.now k ++ (bit_at (number_or_zero c.args.entry) k == 1) ∷ [] =
-    λ k within. c.push_places.ensures k within ∙ (λ i. slice_at c.args.slices.now k ++ (bit_at (c.unwrap_or.ensures i) k == 1) ∷ []) in
-    entries_more c.args.present.now.bits c.push_reserved.new.self.bits c.args.slices.now c.push_places.new.slices c.args.entry c.requires.sliced c.requires.below
-    marks (omega arith) pushed
+    c.push_reserved.ensures.bits ∙ (λ i. c.args.present.now.bits ++ c.is_some.ensures i ∷ []) in
+    let pushed : (k : ℕ) → k < length c.args.slices.now.vectors → slice_at c.push_each.new.self.vectors k ≡ slice_at c.args.slices.now.vectors k ++ (bit_at (number_or_zero c.args.entry) k == 1) ∷ [] =
+    c.push_each.ensures.bits (λ k. bit_at (number_or_zero c.args.entry) k == 1) (λ k b within said. said (omega (arith, within, c.requires.sliced.few)) ∙ ap (λ n. bit_at n k == 1) c.unwrap_or-number.ensures) in
+    entries_more c.args.present.now.bits c.push_reserved.new.self.bits c.args.slices.now.vectors c.push_each.new.self.vectors (c.args.entry ∷ []) c.requires.sliced (one_fits c.args.entry _ c.requires.below)
+    marks c.push_each.ensures.count pushed

@@ -1,4 +1,4 @@
-use Rattle.std.proofs.Common.{ℕ, ◌<◌, length, IsTrue}
+use Rattle.std.proofs.Common.{ℕ, ◌<◌, ◌≤◌, length}
 use Rattle.bsi_shift.specs.Shifted.{shifted_room}
 use Rattle.bsi_table.specs.Table.{kept_at, IsSameColumn}
 use Rattle.bsi_table.proofs.columns.reserve_each.Given as goal
@@ -7,5 +7,5 @@ use Rattle.bsi_table.proofs.columns.reserve_each.Given as goal
 abbrev pub invariant-columns : goal.invariant-columns
 invariant-columns l = record {
   same : (k : ℕ) → k < length l.columns → IsSameColumn (kept_at l.initial.columns k) (kept_at l.columns k);
-  room : (k : ℕ) → k < l.c → IsTrue (shifted_room (kept_at l.columns k));
+  room : (k : ℕ) → k < l.c → l.more ≤ shifted_room (kept_at l.columns k);
 }

@@ -10,22 +10,22 @@ use Rattle.bsi_table.proofs.totals.answer.Goals as goal
 
 pub returns-in-Count : goal.returns-in-Count
 returns-in-Count c =
-    let rows = fed_rows c.args.sources.now c.args.columns.now in
+    let rows = fed_rows c.args.origins.now.rows c.args.columns.now in
     subst (λ t. IsTotal t c.args.query.now.pred rows (Count c.count.result)) (sym c.in-Count.is)
-    (ap Count (c.count.ensures ∙ count-found c.args.sources.now c.args.columns.now c.args.query.now.pred c.args.found.now.bits c.requires.found c.requires.even))
+    (ap Count (c.count.ensures ∙ count-found c.args.origins.now.rows c.args.columns.now c.args.query.now.pred c.args.found.now.bits c.requires.found c.requires.even))
 
 pub sum-requires : goal.sum-requires
 sum-requires c =
     let columns = c.args.columns.now in
     let within = there (length columns) c.in-Sum.c (ap (λ t. missing_of (length columns) (columns_of_total t)) (sym c.in-Sum.is) ∙ c.requires.there) in
-    even-found c.args.sources.now columns c.args.query.now.pred c.args.found.now.bits c.requires.found c.requires.even c.in-Sum.c c.index-columns-c.result within c.index-columns-c.is
+    even-found c.args.origins.now.rows columns c.args.query.now.pred c.args.found.now.bits c.requires.found c.requires.even c.in-Sum.c c.index-columns-c.result within c.index-columns-c.is
 
 pub returns-in-Sum : goal.returns-in-Sum
 returns-in-Sum c =
     let columns = c.args.columns.now in
-    let rows = fed_rows c.args.sources.now columns in
+    let rows = fed_rows c.args.origins.now.rows columns in
     let within = there (length columns) c.in-Sum.c (ap (λ t. missing_of (length columns) (columns_of_total t)) (sym c.in-Sum.is) ∙ c.requires.there) in
-    let values = values-found c.args.sources.now c.args.columns.now c.args.query.now.pred c.args.found.now.bits c.requires.found c.requires.even c.in-Sum.c c.index-columns-c.result within c.index-columns-c.is in
+    let values = values-found c.args.origins.now.rows c.args.columns.now c.args.query.now.pred c.args.found.now.bits c.requires.found c.requires.even c.in-Sum.c c.index-columns-c.result within c.index-columns-c.is in
     let read : SFits w128 c.sum.result = search rules in
     subst (λ t. IsTotal t c.args.query.now.pred rows (Sum (to_z w128 (of_z w128 c.sum.result)))) (sym c.in-Sum.is)
     (ap Sum (to_z-of_z read ∙ c.sum.ensures.sum ∙ ap signed_sum values))
@@ -34,14 +34,14 @@ pub least-requires : goal.least-requires
 least-requires c =
     let columns = c.args.columns.now in
     let within = there (length columns) c.in-Least.c (ap (λ t. missing_of (length columns) (columns_of_total t)) (sym c.in-Least.is) ∙ c.requires.there) in
-    even-found c.args.sources.now columns c.args.query.now.pred c.args.found.now.bits c.requires.found c.requires.even c.in-Least.c c.index-columns-c-in-Least.result within c.index-columns-c-in-Least.is
+    even-found c.args.origins.now.rows columns c.args.query.now.pred c.args.found.now.bits c.requires.found c.requires.even c.in-Least.c c.index-columns-c-in-Least.result within c.index-columns-c-in-Least.is
 
 pub returns-in_ok-least-in-Least : goal.returns-in_ok-least-in-Least
 returns-in_ok-least-in-Least c =
     let columns = c.args.columns.now in
-    let rows = fed_rows c.args.sources.now columns in
+    let rows = fed_rows c.args.origins.now.rows columns in
     let within = there (length columns) c.in-Least.c (ap (λ t. missing_of (length columns) (columns_of_total t)) (sym c.in-Least.is) ∙ c.requires.there) in
-    let values = values-found c.args.sources.now c.args.columns.now c.args.query.now.pred c.args.found.now.bits c.requires.found c.requires.even c.in-Least.c c.index-columns-c-in-Least.result within c.index-columns-c-in-Least.is in
+    let values = values-found c.args.origins.now.rows c.args.columns.now c.args.query.now.pred c.args.found.now.bits c.requires.found c.requires.even c.in-Least.c c.index-columns-c-in-Least.result within c.index-columns-c-in-Least.is in
     let answer = c.in_ok-least-in-Least.field-0 in
     subst (λ t. IsTotal t c.args.query.now.pred rows (Value answer)) (sym c.in-Least.is)
     (subst (λ numbers. IsSignedLeastOf numbers answer) values c.in_ok-least-in-Least.ensures)
@@ -50,14 +50,14 @@ pub greatest-requires : goal.greatest-requires
 greatest-requires c =
     let columns = c.args.columns.now in
     let within = there (length columns) c.in-Greatest.c (ap (λ t. missing_of (length columns) (columns_of_total t)) (sym c.in-Greatest.is) ∙ c.requires.there) in
-    even-found c.args.sources.now columns c.args.query.now.pred c.args.found.now.bits c.requires.found c.requires.even c.in-Greatest.c c.index-columns-c-in-Greatest.result within c.index-columns-c-in-Greatest.is
+    even-found c.args.origins.now.rows columns c.args.query.now.pred c.args.found.now.bits c.requires.found c.requires.even c.in-Greatest.c c.index-columns-c-in-Greatest.result within c.index-columns-c-in-Greatest.is
 
 pub returns-in_ok-greatest-in-Greatest : goal.returns-in_ok-greatest-in-Greatest
 returns-in_ok-greatest-in-Greatest c =
     let columns = c.args.columns.now in
-    let rows = fed_rows c.args.sources.now columns in
+    let rows = fed_rows c.args.origins.now.rows columns in
     let within = there (length columns) c.in-Greatest.c (ap (λ t. missing_of (length columns) (columns_of_total t)) (sym c.in-Greatest.is) ∙ c.requires.there) in
-    let values = values-found c.args.sources.now c.args.columns.now c.args.query.now.pred c.args.found.now.bits c.requires.found c.requires.even c.in-Greatest.c c.index-columns-c-in-Greatest.result within c.index-columns-c-in-Greatest.is in
+    let values = values-found c.args.origins.now.rows c.args.columns.now c.args.query.now.pred c.args.found.now.bits c.requires.found c.requires.even c.in-Greatest.c c.index-columns-c-in-Greatest.result within c.index-columns-c-in-Greatest.is in
     let answer = c.in_ok-greatest-in-Greatest.field-0 in
     subst (λ t. IsTotal t c.args.query.now.pred rows (Value answer)) (sym c.in-Greatest.is)
     (subst (λ numbers. IsSignedGreatestOf numbers answer) values c.in_ok-greatest-in-Greatest.ensures)
@@ -66,24 +66,24 @@ pub median-requires : goal.median-requires
 median-requires c =
     let columns = c.args.columns.now in
     let within = there (length columns) c.in-Median.c (ap (λ t. missing_of (length columns) (columns_of_total t)) (sym c.in-Median.is) ∙ c.requires.there) in
-    even-found c.args.sources.now columns c.args.query.now.pred c.args.found.now.bits c.requires.found c.requires.even c.in-Median.c c.index-columns-c-in-Median.result within c.index-columns-c-in-Median.is
+    even-found c.args.origins.now.rows columns c.args.query.now.pred c.args.found.now.bits c.requires.found c.requires.even c.in-Median.c c.index-columns-c-in-Median.result within c.index-columns-c-in-Median.is
 
 pub returns-in_ok-median-in-Median : goal.returns-in_ok-median-in-Median
 returns-in_ok-median-in-Median c =
     let columns = c.args.columns.now in
-    let rows = fed_rows c.args.sources.now columns in
+    let rows = fed_rows c.args.origins.now.rows columns in
     let within = there (length columns) c.in-Median.c (ap (λ t. missing_of (length columns) (columns_of_total t)) (sym c.in-Median.is) ∙ c.requires.there) in
-    let values = values-found c.args.sources.now c.args.columns.now c.args.query.now.pred c.args.found.now.bits c.requires.found c.requires.even c.in-Median.c c.index-columns-c-in-Median.result within c.index-columns-c-in-Median.is in
+    let values = values-found c.args.origins.now.rows c.args.columns.now c.args.query.now.pred c.args.found.now.bits c.requires.found c.requires.even c.in-Median.c c.index-columns-c-in-Median.result within c.index-columns-c-in-Median.is in
     let answer = c.in_ok-median-in-Median.field-0 in
     subst (λ t. IsTotal t c.args.query.now.pred rows (Value answer)) (sym c.in-Median.is)
     (subst (λ numbers. IsSignedMedianOf numbers answer) values c.in_ok-median-in-Median.ensures)
 
-pub number_rows-requires-clause-same : goal.number_rows-requires-clause-same
-number_rows-requires-clause-same c = length-found c.args.sources.now c.args.columns.now c.args.query.now.pred c.args.found.now.bits c.requires.found c.requires.even
+pub number_rows-requires : goal.number_rows-requires
+number_rows-requires c = length-found c.args.origins.now.rows c.args.columns.now c.args.query.now.pred c.args.found.now.bits c.requires.found c.requires.even
 
 pub returns-in_ok-number_rows-in-Rows : goal.returns-in_ok-number_rows-in-Rows
 returns-in_ok-number_rows-in-Rows c =
-    let rows = fed_rows c.args.sources.now c.args.columns.now in
+    let rows = fed_rows c.args.origins.now.rows c.args.columns.now in
     subst (λ t. IsTotal t c.args.query.now.pred rows (Rows c.in_ok-number_rows-in-Rows.field-0)) (sym c.in-Rows.is)
     (c.in_ok-number_rows-in-Rows.ensures
-    ∙ ap₂ numbered_at (sym (feeders-fed_rows c.args.sources.now c.args.columns.now)) (set_places-found c.args.sources.now c.args.columns.now c.args.query.now.pred c.args.found.now.bits c.requires.found c.requires.even))
+    ∙ ap₂ numbered_at (sym (feeders-fed_rows c.args.origins.now.rows c.args.columns.now)) (set_places-found c.args.origins.now.rows c.args.columns.now c.args.query.now.pred c.args.found.now.bits c.requires.found c.requires.even))

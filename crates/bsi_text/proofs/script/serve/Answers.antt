@@ -1,88 +1,136 @@
-use Rattle.std.proofs.Common.{true, take, rules, subst}
-use Rattle.std.specs.Io.KnownBytes.{Appends}
-use Rattle.csv.specs.Reading.{ReadRecord, source_of}
+use Rattle.std.proofs.Common.{true, false, ◌++◌, rules}
+use Rattle.csv.specs.Reading.{ReadRecord, reader_state, source_of}
 use Rattle.csv.specs.Records.{fields_of}
 use Rattle.bsi_text.specs.Scripts.{IsTurn}
 use Rattle.bsi_text.specs.Sessions.{stage_of}
-use Rattle.bsi_text.specs.Texts.{FromText, IsBegun, IsStopped}
+use Rattle.bsi_text.specs.Texts.{FromText, IsStopped}
+use Rattle.bsi_text.specs.Waiting.{IsPut, OnceWritten}
 use Rattle.bsi_text.specs.declared.script.ScriptFault.TheVariants as fault
-use Rattle.bsi_text.proofs.Standing.{if_err, on_err, stands_cut, stands_first, stands_next, stands_part, stands_stopped}
+use Rattle.bsi_text.specs.declared.watched.Watched.{Watched}
+use Rattle.bsi_text.proofs.Standing.{if_err, stands_answered, stands_cut, stands_first, stands_long, stands_next, stands_part, stands_stopped, stands_way}
+use Rattle.bsi_text.proofs.Waiting.{cut_end}
 use Rattle.bsi_text.proofs.script.serve.Goals as goal
 
 -- nothing was read yet
 pub records-init : goal.records-init
-records-init g c = record {
-  plain = c.requires.plain;
-  stands = λ bytes left. stands_first _ bytes _ _ (g.W.Write.contents c.args.writer.now) c.requires.first c.requires.start left;
-}
+records-init g c =
+    record {
+      plain = c.requires.plain;
+      stands = λ bytes left. stands_first _ bytes _ _ (g.W.Write.contents c.args.writer.now) _ c.requires.first c.requires.start left c.requires.none;
+    }
 
--- one more record was read, and its line was written
+-- a first part of what waited was written
+pub returns-in_err-make_way-clause-part : goal.returns-in_err-make_way-clause-part
+returns-in_err-make_way-clause-part g c =
+    λ bytes left after cut.
+    stands_cut _ bytes _ _ _ _ _ _ (c.records.invariant.stands bytes left) after
+    (cut_end _ (g.W.Write.contents c.make_way.new.writer) after _ c.make_way.new.waiting.items c.in_err-make_way.ensures.part c.in_err-make_way.ensures.none cut)
+
+-- whole lines were written, or wait
+pub returns-in_err-read_next-clause-whole : goal.returns-in_err-read_next-clause-whole
+returns-in_err-read_next-clause-whole g c =
+    let whole : FromText (source_of (λ w. g.R.Read.remaining w.inner) c.args.input.now) (λ bytes. OnceWritten (g.W.Write.contents c.make_way.new.writer) c.make_way.new.waiting.items (IsStopped bytes (g.W.Write.contents c.args.writer.now))) =
+    λ bytes left. stands_stopped _ bytes _ _ _ _ _ _ (stands_way _ bytes _ _ _ _ _ _ (c.records.invariant.stands bytes left) (g.W.Write.contents c.make_way.new.writer) c.make_way.new.waiting.items c.in_ok-make_way.ensures.ok) in
+    if_err fault.Write c.from_residual-in_err-read_next.result whole
+
+-- so they are whatever part of them is written
+pub returns-in_err-read_next-clause-part : goal.returns-in_err-read_next-clause-part
+returns-in_err-read_next-clause-part g c =
+    λ bytes left. stands_cut _ bytes _ _ _ _ _ _ (stands_way _ bytes _ _ _ _ _ _ (c.records.invariant.stands bytes left) (g.W.Write.contents c.make_way.new.writer) c.make_way.new.waiting.items c.in_ok-make_way.ensures.ok)
+
+-- a first part of what waited was written
+pub returns-in_err-make_way-2-clause-part : goal.returns-in_err-make_way-2-clause-part
+returns-in_err-make_way-2-clause-part g c =
+    λ bytes left after cut.
+    stands_cut _ bytes _ _ _ _ _ _ (c.records.invariant.stands bytes left) after
+    (cut_end _ (g.W.Write.contents c.make_way-2.new.writer) after _ c.make_way-2.new.waiting.items c.in_err-make_way-2.ensures.part c.in_err-make_way-2.ensures.none cut)
+
+-- whole lines were written, or wait
+pub returns-in_err-read_next-2-clause-whole : goal.returns-in_err-read_next-2-clause-whole
+returns-in_err-read_next-2-clause-whole g c =
+    let whole : FromText (source_of (λ w. g.R.Read.remaining w.inner) c.args.input.now) (λ bytes. OnceWritten (g.W.Write.contents c.make_way-2.new.writer) c.make_way-2.new.waiting.items (IsStopped bytes (g.W.Write.contents c.args.writer.now))) =
+    λ bytes left. stands_stopped _ bytes _ _ _ _ _ _ (stands_way _ bytes _ _ _ _ _ _ (c.records.invariant.stands bytes left) (g.W.Write.contents c.make_way-2.new.writer) c.make_way-2.new.waiting.items c.in_ok-make_way-2.ensures.ok) in
+    if_err fault.Write c.from_residual-in_err-read_next-2.result whole
+
+-- so they are whatever part of them is written
+pub returns-in_err-read_next-2-clause-part : goal.returns-in_err-read_next-2-clause-part
+returns-in_err-read_next-2-clause-part g c =
+    λ bytes left. stands_cut _ bytes _ _ _ _ _ _ (stands_way _ bytes _ _ _ _ _ _ (c.records.invariant.stands bytes left) (g.W.Write.contents c.make_way-2.new.writer) c.make_way-2.new.waiting.items c.in_ok-make_way-2.ensures.ok)
+
+-- there is no more
+pub returns-then-not-branch-clause-ok : goal.returns-then-not-branch-clause-ok
+returns-then-not-branch-clause-ok g c =
+    let none : ReadRecord (λ w. g.R.Read.remaining w.inner) c.records.input c.read_next.new.input false (fields_of c.read_next.new.fields) = search rules in
+    λ bytes left.
+    stands_answered (λ (w : Watched g.row.R.Denot). g.R.Read.remaining w.inner) c.records.input c.read_next.new.input (fields_of c.read_next.new.fields) (stage_of c.records.session) bytes _ _ _ _ (stands_way _ bytes _ _ _ _ _ _ (c.records.invariant.stands bytes left) (g.W.Write.contents c.make_way.new.writer) c.make_way.new.waiting.items c.in_ok-make_way.ensures.ok) c.records.invariant.plain.config none (search rules)
+
+-- of all lines a first part is written
+pub returns-then-not-branch-clause-part : goal.returns-then-not-branch-clause-part
+returns-then-not-branch-clause-part g c =
+    λ bytes left. stands_cut _ bytes _ _ _ _ _ _ (stands_way _ bytes _ _ _ _ _ _ (c.records.invariant.stands bytes left) (g.W.Write.contents c.make_way.new.writer) c.make_way.new.waiting.items c.in_ok-make_way.ensures.ok)
+
+-- the lines before this record were written, or wait
+pub returns-in_err-answer-clause-whole : goal.returns-in_err-answer-clause-whole
+returns-in_err-answer-clause-whole g c =
+    let whole : FromText (source_of (λ w. g.R.Read.remaining w.inner) c.args.input.now) (λ bytes. OnceWritten (g.W.Write.contents c.make_way.new.writer) c.make_way.new.waiting.items (IsStopped bytes (g.W.Write.contents c.args.writer.now))) =
+    λ bytes left. stands_stopped _ bytes _ _ _ _ _ _ (stands_way _ bytes _ _ _ _ _ _ (c.records.invariant.stands bytes left) (g.W.Write.contents c.make_way.new.writer) c.make_way.new.waiting.items c.in_ok-make_way.ensures.ok) in
+    if_err fault.Write c.from_residual-in_err-answer.result whole
+
+-- so they are whatever part of them is written
+pub returns-in_err-answer-clause-part : goal.returns-in_err-answer-clause-part
+returns-in_err-answer-clause-part g c =
+    λ bytes left. stands_cut _ bytes _ _ _ _ _ _ (stands_way _ bytes _ _ _ _ _ _ (c.records.invariant.stands bytes left) (g.W.Write.contents c.make_way.new.writer) c.make_way.new.waiting.items c.in_ok-make_way.ensures.ok)
+
+-- a first part of what waited and of the line was written
+pub returns-in_err-gather-clause-part : goal.returns-in_err-gather-clause-part
+returns-in_err-gather-clause-part g c =
+    let found : ReadRecord (λ w. g.R.Read.remaining w.inner) c.records.input c.read_next.new.input true (fields_of c.read_next.new.fields) = search rules in
+    let turn : IsTurn (stage_of c.records.session) (fields_of c.read_next.new.fields) c.answer.new.line.items (stage_of c.answer.new.self) = search rules in
+    λ bytes left after cut.
+    stands_part (λ w. g.R.Read.remaining w.inner) c.records.input c.read_next.new.input (fields_of c.read_next.new.fields) (stage_of c.records.session) bytes _ _ _ _
+    (stands_way _ bytes _ _ _ _ _ _ (c.records.invariant.stands bytes left) (g.W.Write.contents c.make_way.new.writer) c.make_way.new.waiting.items c.in_ok-make_way.ensures.ok) c.records.invariant.plain.config
+    (stage_of c.answer.new.self) c.answer.new.line.items after found turn
+    (cut_end _ (g.W.Write.contents c.gather.new.writer) after _ c.gather.new.waiting.items (search rules) c.in_err-gather.ensures.none cut)
+
+-- one more record was read, and its line waits or was written
 pub records-preserved : goal.records-preserved
 records-preserved g c =
-    let kept = c.records.invariant in
-    let found : ReadRecord g.R.Read.remaining c.records.input c.read_next.new.input true (fields_of c.read_next.new.fields) = search rules in
+    let found : ReadRecord (λ w. g.R.Read.remaining w.inner) c.records.input c.read_next.new.input true (fields_of c.read_next.new.fields) = search rules in
     let turn : IsTurn (stage_of c.records.session) (fields_of c.read_next.new.fields) c.answer.new.line.items (stage_of c.answer.new.self) = search rules in
+    let put : IsPut (g.W.Write.contents c.make_way.new.writer) (g.W.Write.contents c.gather.new.writer) c.gather.new.waiting.items (c.make_way.new.waiting.items ++ c.answer.new.line.items) = search rules in
     record {
       plain = search rules;
       stands = λ bytes left.
-          stands_next g.R.Read.remaining c.records.input c.read_next.new.input (fields_of c.read_next.new.fields) (stage_of c.records.session) bytes c.records.count
-          (g.W.Write.contents c.args.writer.now) (g.W.Write.contents c.records.writer) (kept.stands bytes left) kept.plain.config
-          (stage_of c.answer.new.self) c.answer.new.line.items (g.W.Write.contents c.write_bytes.new.writer) found turn (search rules);
+          stands_next (λ w. g.R.Read.remaining w.inner) c.records.input c.read_next.new.input (fields_of c.read_next.new.fields) (stage_of c.records.session) bytes _ _ _ _
+          (stands_way _ bytes _ _ _ _ _ _ (c.records.invariant.stands bytes left) (g.W.Write.contents c.make_way.new.writer) c.make_way.new.waiting.items c.in_ok-make_way.ensures.ok) c.records.invariant.plain.config
+          (stage_of c.answer.new.self) c.answer.new.line.items (g.W.Write.contents c.gather.new.writer) c.gather.new.waiting.items found turn put;
     }
 
--- a first part of the line was written
-pub returns-in_err-write_bytes-clause-fault : goal.returns-in_err-write_bytes-clause-fault
-returns-in_err-write_bytes-clause-fault g c =
-    let kept = c.records.invariant in
-    let found : ReadRecord g.R.Read.remaining c.records.input c.read_next.new.input true (fields_of c.read_next.new.fields) = search rules in
-    let turn : IsTurn (stage_of c.records.session) (fields_of c.read_next.new.fields) c.answer.new.line.items (stage_of c.answer.new.self) = search rules in
-    let part = c.in_err-write_bytes.ensures.part in
-    let written : Appends (g.W.Write.contents c.records.writer) (g.W.Write.contents c.write_bytes.new.writer) (take part.0 c.answer.new.line.items) =
-    subst (λ text. Appends (g.W.Write.contents c.records.writer) (g.W.Write.contents c.write_bytes.new.writer) (take part.0 text)) c.as_slice.ensures.value part.1 in
-    let fault : FromText (source_of g.R.Read.remaining c.args.input.now) (λ bytes. IsBegun bytes (g.W.Write.contents c.args.writer.now) (g.W.Write.contents c.write_bytes.new.writer)) =
+-- there is one more than may be
+pub returns-then-branch-clause-too_long : goal.returns-then-branch-clause-too_long
+returns-then-branch-clause-too_long g c =
+    let found : ReadRecord (λ w. g.R.Read.remaining w.inner) c.records.input c.read_next-2.new.input true (fields_of c.read_next-2.new.fields) = search rules in
+    λ same bytes left.
+    stands_long (λ (w : Watched g.row.R.Denot). g.R.Read.remaining w.inner) c.records.input c.read_next-2.new.input (fields_of c.read_next-2.new.fields) (stage_of c.records.session) bytes _ _ _ _ (stands_way _ bytes _ _ _ _ _ _ (c.records.invariant.stands bytes left) (g.W.Write.contents c.make_way-2.new.writer) c.make_way-2.new.waiting.items c.in_ok-make_way-2.ensures.ok) c.records.invariant.plain.config found (search rules)
+
+-- the lines of those before were written, or wait
+pub returns-then-branch-clause-whole : goal.returns-then-branch-clause-whole
+returns-then-branch-clause-whole g c =
+    λ other bytes left. stands_stopped _ bytes _ _ _ _ _ _ (stands_way _ bytes _ _ _ _ _ _ (c.records.invariant.stands bytes left) (g.W.Write.contents c.make_way-2.new.writer) c.make_way-2.new.waiting.items c.in_ok-make_way-2.ensures.ok)
+
+-- so they are whatever part of them is written
+pub returns-then-branch-clause-part : goal.returns-then-branch-clause-part
+returns-then-branch-clause-part g c =
+    λ bytes left. stands_cut _ bytes _ _ _ _ _ _ (stands_way _ bytes _ _ _ _ _ _ (c.records.invariant.stands bytes left) (g.W.Write.contents c.make_way-2.new.writer) c.make_way-2.new.waiting.items c.in_ok-make_way-2.ensures.ok)
+
+-- there is no more
+pub returns-clause-ok : goal.returns-clause-ok
+returns-clause-ok g c =
+    let none : ReadRecord (λ w. g.R.Read.remaining w.inner) c.records.input c.read_next-2.new.input false (fields_of c.read_next-2.new.fields) = search rules in
     λ bytes left.
-    stands_part g.R.Read.remaining c.records.input c.read_next.new.input (fields_of c.read_next.new.fields) (stage_of c.records.session) bytes c.records.count
-    (g.W.Write.contents c.args.writer.now) (g.W.Write.contents c.records.writer) (kept.stands bytes left) kept.plain.config
-    (stage_of c.answer.new.self) c.answer.new.line.items (g.W.Write.contents c.write_bytes.new.writer) part.0 found turn written in
-    on_err c.from_residual-in_err-write_bytes.result fault
+    stands_answered (λ (w : Watched g.row.R.Denot). g.R.Read.remaining w.inner) c.records.input c.read_next-2.new.input (fields_of c.read_next-2.new.fields) (stage_of c.records.session) bytes _ _ _ _ (stands_way _ bytes _ _ _ _ _ _ (c.records.invariant.stands bytes left) (g.W.Write.contents c.make_way-2.new.writer) c.make_way-2.new.waiting.items c.in_ok-make_way-2.ensures.ok) c.records.invariant.plain.config none (search rules)
 
--- nothing more was written
-pub returns-in_err-read_next-clause-fault : goal.returns-in_err-read_next-clause-fault
-returns-in_err-read_next-clause-fault g c =
-    let fault : FromText (source_of g.R.Read.remaining c.args.input.now) (λ bytes. IsBegun bytes (g.W.Write.contents c.args.writer.now) (g.W.Write.contents c.records.writer)) =
-    λ bytes left. stands_cut _ bytes _ _ _ _ _ (c.records.invariant.stands bytes left) in
-    on_err c.from_residual.result fault
-
-pub returns-in_err-answer-clause-fault : goal.returns-in_err-answer-clause-fault
-returns-in_err-answer-clause-fault g c =
-    let fault : FromText (source_of g.R.Read.remaining c.args.input.now) (λ bytes. IsBegun bytes (g.W.Write.contents c.args.writer.now) (g.W.Write.contents c.records.writer)) =
-    λ bytes left. stands_cut _ bytes _ _ _ _ _ (c.records.invariant.stands bytes left) in
-    on_err c.from_residual-in_err-answer.result fault
-
-pub returns-in_err-read_next-2-clause-fault : goal.returns-in_err-read_next-2-clause-fault
-returns-in_err-read_next-2-clause-fault g c =
-    let fault : FromText (source_of g.R.Read.remaining c.args.input.now) (λ bytes. IsBegun bytes (g.W.Write.contents c.args.writer.now) (g.W.Write.contents c.records.writer)) =
-    λ bytes left. stands_cut _ bytes _ _ _ _ _ (c.records.invariant.stands bytes left) in
-    on_err c.from_residual-in_err-read_next-2.result fault
-
-pub returns-then-branch-clause-fault : goal.returns-then-branch-clause-fault
-returns-then-branch-clause-fault g c bytes left = stands_cut _ bytes _ _ _ _ _ (c.records.invariant.stands bytes left)
-
--- whole lines were written
-pub returns-in_err-read_next-clause-whole : goal.returns-in_err-read_next-clause-whole
-returns-in_err-read_next-clause-whole g c =
-    let whole : FromText (source_of g.R.Read.remaining c.args.input.now) (λ bytes. IsStopped bytes (g.W.Write.contents c.args.writer.now) (g.W.Write.contents c.records.writer)) =
-    λ bytes left. stands_stopped _ bytes _ _ _ _ _ (c.records.invariant.stands bytes left) in
-    if_err fault.Write c.from_residual.result whole
-
-pub returns-in_err-answer-clause-whole : goal.returns-in_err-answer-clause-whole
-returns-in_err-answer-clause-whole g c =
-    let whole : FromText (source_of g.R.Read.remaining c.args.input.now) (λ bytes. IsStopped bytes (g.W.Write.contents c.args.writer.now) (g.W.Write.contents c.records.writer)) =
-    λ bytes left. stands_stopped _ bytes _ _ _ _ _ (c.records.invariant.stands bytes left) in
-    if_err fault.Write c.from_residual-in_err-answer.result whole
-
-pub returns-in_err-read_next-2-clause-whole : goal.returns-in_err-read_next-2-clause-whole
-returns-in_err-read_next-2-clause-whole g c =
-    let whole : FromText (source_of g.R.Read.remaining c.args.input.now) (λ bytes. IsStopped bytes (g.W.Write.contents c.args.writer.now) (g.W.Write.contents c.records.writer)) =
-    λ bytes left. stands_stopped _ bytes _ _ _ _ _ (c.records.invariant.stands bytes left) in
-    if_err fault.Write c.from_residual-in_err-read_next-2.result whole
+-- of all lines a first part is written
+pub returns-clause-part : goal.returns-clause-part
+returns-clause-part g c =
+    λ bytes left. stands_cut _ bytes _ _ _ _ _ _ (stands_way _ bytes _ _ _ _ _ _ (c.records.invariant.stands bytes left) (g.W.Write.contents c.make_way-2.new.writer) c.make_way-2.new.waiting.items c.in_ok-make_way-2.ensures.ok)

@@ -5,10 +5,11 @@ use Rattle.bsi_text.specs.Texts.{FromText}
 use Rattle.bsi_text.proofs.Standing.{StandsAt}
 use Rattle.bsi_text.proofs.script.serve.Given as goal
 
--- so many records were read, and the lines of all of them were written
+-- so many records were read, and the lines of all of them were written or wait
 abbrev pub invariant-records : goal.invariant-records
 invariant-records g l = record {
   plain : IsPlain l.input;
-  stands : FromText (source_of g.R.Read.remaining l.initial.input) (λ bytes.
-      StandsAt (stage_of l.session) bytes (reader_state l.input) (source_of g.R.Read.remaining l.input) l.count (g.W.Write.contents l.initial.writer) (g.W.Write.contents l.writer));
+  stands : FromText (source_of (λ w. g.R.Read.remaining w.inner) l.initial.input) (λ bytes.
+      StandsAt (stage_of l.session) bytes (reader_state l.input) (source_of (λ w. g.R.Read.remaining w.inner) l.input) l.count
+      (g.W.Write.contents l.initial.writer) (g.W.Write.contents l.writer) l.waiting.items);
 }

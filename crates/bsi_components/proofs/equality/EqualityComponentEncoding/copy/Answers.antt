@@ -5,15 +5,15 @@ use Rattle.bsi_components.proofs.equality.EqualityComponentEncoding.copy.Goals a
 
 pub invariant_of-result : goal.invariant_of-result
 invariant_of-result c =
-    let old = c.self.inside.bitmaps.items in
-    itself_equality c.self.inside.base c.in_ok-bitmaps.bitmaps.items (equality_digits c.self.inside.base old)
-    (equality_same c.self.inside.base old c.in_ok-bitmaps.bitmaps.items (equality_digits c.self.inside.base old) c.self.invariant c.in_ok-bitmaps.ensures.count c.in_ok-bitmaps.ensures.bits)
+    let old = c.self.inside.bitmaps.vectors in
+    itself_equality c.self.inside.base c.in_ok-bitmaps.bitmaps.vectors (equality_digits c.self.inside.base old)
+    (equality_same c.self.inside.base old c.in_ok-bitmaps.bitmaps.vectors (equality_digits c.self.inside.base old) c.self.invariant c.in_ok-bitmaps.ensures.same.count c.in_ok-bitmaps.ensures.same.bits)
 
 pub returns : goal.returns
 returns c =
-    let old = c.self.inside.bitmaps.items in
+    let old = c.self.inside.bitmaps.vectors in
     rw (← c.self.view_is) (
-      sym (equality_digits_are c.self.inside.base c.in_ok-bitmaps.bitmaps.items (equality_digits c.self.inside.base old)
-          (equality_same c.self.inside.base old c.in_ok-bitmaps.bitmaps.items (equality_digits c.self.inside.base old) c.self.invariant c.in_ok-bitmaps.ensures.count c.in_ok-bitmaps.ensures.bits)),
+      sym (equality_digits_are c.self.inside.base c.in_ok-bitmaps.bitmaps.vectors (equality_digits c.self.inside.base old)
+          (equality_same c.self.inside.base old c.in_ok-bitmaps.bitmaps.vectors (equality_digits c.self.inside.base old) c.self.invariant c.in_ok-bitmaps.ensures.same.count c.in_ok-bitmaps.ensures.same.bits)),
       refl,
     )

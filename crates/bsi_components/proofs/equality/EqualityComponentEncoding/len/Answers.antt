@@ -5,4 +5,5 @@ use Rattle.bsi_components.proofs.equality.EqualityComponentEncoding.len.Goals as
 
 pub returns-clause-len : goal.returns-clause-len
 returns-clause-len c =
-    rw (← c.self.view_is) (c.len.ensures.len ∙ equality_rows c.self.inside.base c.self.inside.bitmaps.items (equality_digits c.self.inside.base c.self.inside.bitmaps.items) c.self.invariant c.index.result.now c.index.ensures)
+    let old = c.self.inside.bitmaps.vectors in
+    rw (← c.self.view_is) (c.len.ensures.first ∙ equality_rows c.self.inside.base old (equality_digits c.self.inside.base old) c.self.invariant)

@@ -5,4 +5,5 @@ use Rattle.bsi_components.proofs.range.RangeComponentEncoding.len.Goals as goal
 
 pub returns-clause-len : goal.returns-clause-len
 returns-clause-len c =
-    rw (← c.self.view_is) (c.len.ensures.len ∙ range_rows c.self.inside.base c.self.inside.bitmaps.items (range_digits c.self.inside.bitmaps.items) c.self.invariant c.index.result.now c.index.ensures)
+    let old = c.self.inside.bitmaps.vectors in
+    rw (← c.self.view_is) (c.len.ensures.first ∙ range_rows c.self.inside.base old (range_digits old) c.self.invariant)

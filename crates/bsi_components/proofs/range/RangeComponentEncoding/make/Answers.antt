@@ -4,11 +4,11 @@ use Rattle.bsi_components.proofs.range.RangeComponentEncoding.make.Goals as goal
 
 pub invariant_of-result : goal.invariant_of-result
 invariant_of-result c =
-    itself_range c.args.base c.in_ok-bitmaps.bitmaps.items []
-    (range_made c.args.base c.in_ok-bitmaps.bitmaps.items c.requires.0 c.requires.1 (omega (arith, c.in_ok-bitmaps.ensures.count, c.requires.0)) c.in_ok-bitmaps.ensures.empty)
+    itself_range c.args.base c.in_ok-bitmaps.bitmaps.vectors []
+    (range_made c.args.base c.in_ok-bitmaps.bitmaps.vectors c.requires.0 c.requires.1 (omega (arith, c.in_ok-bitmaps.ensures.count, c.requires.0)) c.in_ok-bitmaps.ensures.empty)
 
 pub returns : goal.returns
 returns c = (
-  sym (range_digits_are c.args.base c.in_ok-bitmaps.bitmaps.items [] (range_made c.args.base c.in_ok-bitmaps.bitmaps.items c.requires.0 c.requires.1 (omega (arith, c.in_ok-bitmaps.ensures.count, c.requires.0)) c.in_ok-bitmaps.ensures.empty)),
+  sym (range_digits_are c.args.base c.in_ok-bitmaps.bitmaps.vectors [] (range_made c.args.base c.in_ok-bitmaps.bitmaps.vectors c.requires.0 c.requires.1 (omega (arith, c.in_ok-bitmaps.ensures.count, c.requires.0)) c.in_ok-bitmaps.ensures.empty)),
   refl,
 )

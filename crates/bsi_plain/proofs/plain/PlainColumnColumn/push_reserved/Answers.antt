@@ -14,6 +14,6 @@ invariant_of-self c =
       least = c.self.invariant.least;
       most = c.self.invariant.most;
       below = All-push (λ (e : Option ℕ). number_or_zero e < size) entries c.args.entry c.self.invariant.below small;
-      present_is = c.push_reserved-2.ensures ∙ ap₂ (λ bits b. bits ++ b ∷ []) c.self.invariant.present_is c.is_some.ensures
+      present_is = c.push_reserved-2.ensures.bits ∙ ap₂ (λ bits b. bits ++ b ∷ []) c.self.invariant.present_is c.is_some.ensures
           ∙ sym (map-append is_some entries (c.args.entry ∷ []));
     })

@@ -12,8 +12,8 @@ use Rattle.bsi_shift.proofs.Shifting.{length-shifted_entries, values_at-shifted_
 use Rattle.bsi_shift.proofs.Totals.{of_rank_from, of_rank_below}
 use Rattle.bsi_shift.proofs.shifted.Shifted.of_rank.Goals as goal
 
-pub of_rank-requires : goal.of_rank-requires
-of_rank-requires c = ap (λ v. length (any_entries v.stored)) c.self.view_is ∙ sym (length-shifted_entries c.args.self.now) ∙ c.requires
+pub stored_of_rank-requires : goal.stored_of_rank-requires
+stored_of_rank-requires c = ap (λ v. length (any_entries v.stored)) c.self.view_is ∙ sym (length-shifted_entries c.args.self.now) ∙ c.requires
 
 pub number_from-requires : goal.number_from-requires
 number_from-requires c =

@@ -6,4 +6,4 @@ use Rattle.bsi_slices.proofs.slices.compare.keep_blocks.Given as goal
 
 -- the blocks so far are kept
 abbrev pub invariant-block : goal.invariant-block
-invariant-block g l = IsKept (λ r. passes l.test (number l.slices r)) l.from (l.from + g.row.N * l.k) l.fn.words l.words
+invariant-block g l = IsKept (λ r. passes l.test (number l.slices (64 * l.start + r))) l.from (l.from + g.row.N * l.k) l.fn.words l.words

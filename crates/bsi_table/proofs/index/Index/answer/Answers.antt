@@ -9,16 +9,15 @@ pub select-requires-clause-even : goal.select-requires-clause-even
 select-requires-clause-even c =
     let kept = c.self.inside.columns.items in
     let invariant = c.self.invariant.columns_are in
-    let rows = sym (length-fed_rows c.self.inside.sources.items kept) ∙ ap (λ t. length t.rows) c.self.view_is ∙ sym c.len.ensures.len in
+    let rows = sym (length-fed_rows c.self.inside.origins.rows kept) ∙ ap (λ t. length t.rows) c.self.view_is ∙ sym c.len.ensures.len in
     subst (λ columns. (k : ℕ) → k < length columns → length (shifted_entries (kept_at columns k)) ≡ c.len.result) (sym c.deref.ensures.value)
     (λ k within. (invariant.each k (omega (arith, within, invariant.long))).rows ∙ rows)
 
 pub answer-requires-clause-found : goal.answer-requires-clause-found
 answer-requires-clause-found c =
     let pred = c.args.query.now.pred in
-    let sources = c.deref-3.ensures.value in
     let kept = c.deref.ensures.value ∙ sym c.deref-2.ensures.value in
-    let rows = ap (λ t. length t.rows) (sym c.self.view_is) ∙ length-fed_rows c.self.inside.sources.items c.self.inside.columns.items in
+    let rows = ap (λ t. length t.rows) (sym c.self.view_is) ∙ length-fed_rows c.self.inside.origins.rows c.self.inside.columns.items in
     c.in_ok-found.ensures
-    ∙ ap₂ (λ columns n. map (holds pred) (rows_in columns n)) kept (c.len.ensures.len ∙ rows ∙ sym (ap length sources))
-    ∙ sym (map-fed_rows c.deref-3.result.now c.deref-2.result.now (holds pred))
+    ∙ ap₂ (λ columns n. map (holds pred) (rows_in columns n)) kept (c.len.ensures.len ∙ rows)
+    ∙ sym (map-fed_rows c.self.inside.origins.rows c.deref-2.result.now (holds pred))

@@ -12,5 +12,5 @@ returns-clause-entries c =
     let there : c.args.c < length c.self.inside.schema.columns = omega (arith, c.requires, columns) in
     let within : c.args.c < length kept = omega (arith, there, invariant.long) in
     ap shifted_entries (sym (kept_read kept c.args.c c.index.result.now within c.index.ensures))
-    ∙ sym (column-fed_rows c.self.inside.sources.items kept c.args.c within (invariant.each c.args.c there).rows)
+    ∙ sym (column-fed_rows c.self.inside.origins.rows kept c.args.c within (invariant.each c.args.c there).rows)
     ∙ ap (λ t. column_of t.rows c.args.c) c.self.view_is

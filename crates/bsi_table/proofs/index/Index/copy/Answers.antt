@@ -1,5 +1,4 @@
-use Rattle.std.proofs.Common.{◌≡◌, ◌<◌, ℕ, List, length, ap, ap₂, sym, subst, ◌∙◌}
-use Rattle.std.proofs.lemmas.List.Elements.{same_from_all_zip}
+use Rattle.std.proofs.Common.{◌<◌, ℕ, List, length, ap, ap₂, sym, subst, ◌∙◌}
 use Rattle.bsi_shift.specs.Shifted.{OffsetColumn}
 use Rattle.bsi_table.specs.Columns.{Declared}
 use Rattle.bsi_table.specs.Rows.{FedRow}
@@ -13,29 +12,32 @@ invariant_of-result c =
     let i = c.self.inside in
     let old = i.columns.items in
     let new = c.in_ok-columns.columns.items in
-    let sources = same_from_all_zip (λ x y. y ≡ x) i.sources.items c.in_ok-sources.sources.items c.in_ok-sources.ensures.cases.0 (λ x y e. e) in
+    let sources = c.in_ok-origins.ensures.rows in
+    let feeders = c.in_ok-origins.ensures.feeders in
     let long = c.in_ok-columns.ensures.long ∙ ap length c.deref.ensures.value in
     let same : (k : ℕ) → k < length old → IsSameColumn (kept_at old k) (kept_at new k) =
     subst (λ (columns : List OffsetColumn). (k : ℕ) → k < length columns → IsSameColumn (kept_at columns k) (kept_at new k)) c.deref.ensures.value c.in_ok-columns.ensures.same in
-    let table : IsTable i.schema.columns i.feeders i.limit i.sources.items new = record {
-      columns_are = are_kept_same i.schema.columns old (length i.sources.items) c.self.invariant.columns_are new long same;
+    let table : IsTable i.schema.columns i.origins.feeders i.limit i.origins.rows new = record {
+      columns_are = are_kept_same i.schema.columns old (length i.origins.rows) c.self.invariant.columns_are new long same;
       few = c.self.invariant.few;
       from = c.self.invariant.from;
       within = c.self.invariant.within;
       small = c.self.invariant.small;
     } in
-    subst (λ (schema : Declared). IsTable schema.columns i.feeders i.limit c.in_ok-sources.sources.items new) (sym c.in_ok-schema.ensures)
-    (subst (λ xs. IsTable i.schema.columns i.feeders i.limit xs new) (sym sources) table)
+    subst (λ (schema : Declared). IsTable schema.columns c.in_ok-origins.origins.feeders i.limit c.in_ok-origins.origins.rows new) (sym c.in_ok-schema.ensures)
+    (subst (λ n. IsTable i.schema.columns n i.limit c.in_ok-origins.origins.rows new) (sym feeders)
+    (subst (λ xs. IsTable i.schema.columns i.origins.feeders i.limit xs new) (sym sources) table))
 
 pub returns : goal.returns
 returns c =
     let i = c.self.inside in
     let old = i.columns.items in
     let new = c.in_ok-columns.columns.items in
-    let sources = same_from_all_zip (λ x y. y ≡ x) i.sources.items c.in_ok-sources.sources.items c.in_ok-sources.ensures.cases.0 (λ x y e. e) in
+    let sources = c.in_ok-origins.ensures.rows in
+    let feeders = c.in_ok-origins.ensures.feeders in
     let long = c.in_ok-columns.ensures.long ∙ ap length c.deref.ensures.value in
     let same : (k : ℕ) → k < length old → IsSameColumn (kept_at old k) (kept_at new k) =
     subst (λ (columns : List OffsetColumn). (k : ℕ) → k < length columns → IsSameColumn (kept_at columns k) (kept_at new k)) c.deref.ensures.value c.in_ok-columns.ensures.same in
-    let rows = ap (λ xs. fed_rows xs new) sources ∙ fed_rows-same i.sources.items old new long (λ k within. (same k within).entries) in
-    let table : Declared → List FedRow → Table = λ schema rows. record { schema = schema; feeders = i.feeders; limit = i.limit; rows = rows } in
-    ap₂ table c.in_ok-schema.ensures rows ∙ c.self.view_is
+    let rows = ap (λ xs. fed_rows xs new) sources ∙ fed_rows-same i.origins.rows old new long (λ k within. (same k within).entries) in
+    let table : Declared → ℕ → List FedRow → Table = λ schema n rows. record { schema = schema; feeders = n; limit = i.limit; rows = rows } in
+    ap (λ n. table c.in_ok-schema.schema n (fed_rows c.in_ok-origins.origins.rows new)) feeders ∙ ap₂ (λ schema rows. table schema i.origins.feeders rows) c.in_ok-schema.ensures rows ∙ c.self.view_is

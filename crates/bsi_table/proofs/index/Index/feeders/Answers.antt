@@ -7,7 +7,7 @@ use Rattle.bsi_table.proofs.index.Index.feeders.Goals as goal
 pub returns-clause-from : goal.returns-clause-from
 returns-clause-from c =
     let i = c.self.inside in
-    let rows : AreFrom i.feeders (fed_rows i.sources.items i.columns.items) =
-    All-fed_rows i.sources.items i.columns.items (λ row. row.0 < i.feeders)
-    (λ r below. All-get_or (λ source. source < i.feeders) i.sources.items r 0 below c.self.invariant.from) in
+    let rows : AreFrom i.origins.feeders (fed_rows i.origins.rows i.columns.items) =
+    All-fed_rows i.origins.rows i.columns.items (λ row. row.0 < i.origins.feeders)
+    (λ r below. All-get_or (λ source. source < i.origins.feeders) i.origins.rows r 0 below c.self.invariant.from) in
     subst (λ t. AreFrom t.feeders t.rows) c.self.view_is rows

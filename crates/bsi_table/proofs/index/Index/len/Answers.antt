@@ -4,5 +4,5 @@ use Rattle.bsi_table.proofs.index.Index.len.Goals as goal
 
 pub returns-clause-len : goal.returns-clause-len
 returns-clause-len c =
-    c.len.ensures ∙ c.self.inside.sources.ok.0 ∙ sym (length-fed_rows c.self.inside.sources.items c.self.inside.columns.items)
+    c.len.ensures.len ∙ sym (length-fed_rows c.self.inside.origins.rows c.self.inside.columns.items)
     ∙ ap (λ t. length t.rows) c.self.view_is

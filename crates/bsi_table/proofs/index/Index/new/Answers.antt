@@ -1,4 +1,4 @@
-use Rattle.std.proofs.Common.{ap}
+use Rattle.std.proofs.Common.{ap₂, ℕ}
 use Rattle.bsi_table.specs.Rows.{FedRow}
 use Rattle.bsi_table.specs.Table.{Table}
 use Rattle.std.specs.Prelude.{List}
@@ -7,5 +7,5 @@ use Rattle.bsi_table.proofs.index.Index.new.Goals as goal
 
 pub returns-clause-ok : goal.returns-clause-ok
 returns-clause-ok c =
-    let table : List FedRow → Table = λ rows. record { schema = c.args.schema; feeders = c.args.feeders; limit = c.args.limit; rows = rows } in
-    ap table (fed_rows-none c.new.result.items c.in_ok-columns.columns.items c.new.ensures.items)
+    let table : ℕ → List FedRow → Table = λ feeders rows. record { schema = c.args.schema; feeders = feeders; limit = c.args.limit; rows = rows } in
+    ap₂ table c.new.ensures.feeders (fed_rows-none c.new.result.rows c.in_ok-columns.columns.items c.new.ensures.rows)

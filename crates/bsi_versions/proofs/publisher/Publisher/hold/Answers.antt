@@ -1,25 +1,53 @@
 use Rattle.std.proofs.Common.{◌+◌, ◌-◌, ◌≡◌, drop, length, ap, sym, ◌∙◌, subst, arith}
-use Rattle.bsi_versions.specs.Editions.{with_held, IsWriting}
-use Rattle.bsi_versions.proofs.Writing.{held_view, held_writing}
+use Rattle.bsi_versions.specs.Editions.{rows_of, with_held, IsWriting}
+use Rattle.bsi_versions.proofs.Writing.{free_place, held_view, held_writing, on_err, staged_view, staged_writing}
 use Rattle.bsi_versions.proofs.publisher.Publisher.hold.Goals as goal
+
+-- the rows that are held stay, wherever they stand
+pub invariant_of-self : goal.invariant_of-self
+invariant_of-self g c =
+    let p = c.self.inside in
+    let more = drop c.make_place.new.copies.behind c.make_place.new.copies.log.items in
+    let left = c.make_place.new.stage.items in (
+      subst (λ e. IsWriting g.B.Naming.book g.B.Naming.about e more left p.history p.free) (ap (λ d. d.shown.value) (sym c.make_place.ensures.desk))
+          (staged_writing g.B.Naming.book g.B.Naming.about p.copies.desk.shown.value (drop p.copies.behind p.copies.log.items) p.stage.items p.history p.free c.self.invariant.0 more left c.make_place.ensures.staged),
+      c.make_place.ensures.room,
+    )
+
+pub returns-in_err-make_place-clause-err : goal.returns-in_err-make_place-clause-err
+returns-in_err-make_place-clause-err g c =
+    let p = c.self.inside in
+    let more = drop c.make_place.new.copies.behind c.make_place.new.copies.log.items in
+    on_err c.from_residual.result
+    (staged_view p.copies.desk.shown.value (drop p.copies.behind p.copies.log.items) p.stage.items c.make_place.new.copies.desk.shown.value more c.make_place.new.stage.items
+    (ap (λ d. d.shown.value) c.make_place.ensures.desk) c.make_place.ensures.staged ∙ c.self.view_is)
 
 pub invariant_of-self-2 : goal.invariant_of-self-2
 invariant_of-self-2 g c =
     let p = c.self.inside in
     let shown = p.copies.desk.shown.value in
     let pending = drop p.copies.behind p.copies.log.items in
-    let more = drop c.append.new.self.behind c.append.new.self.log.items in
+    let more = drop c.make_place.new.copies.behind c.make_place.new.copies.log.items in
+    let left = c.make_place.new.stage.items in
+    let grown = c.push_reserved.new.self.items in
     let rows = ap (λ w. length w.table.rows) c.self.view_is in
     let held = ap (λ w. length w.held) c.self.view_is in
     let limit = ap (λ w. w.table.limit) c.self.view_is in
-    let less : (p.free - 1) + 1 ≡ p.free = omega (arith, c.requires, rows, held, limit, c.self.invariant.places) in
-    subst (λ e. IsWriting g.B.Naming.book g.B.Naming.about e more p.history (p.free - 1)) (ap (λ d. d.shown.value) (sym c.append.ensures.desk))
-    (held_writing g.B.Naming.book g.B.Naming.about shown pending p.history p.free c.self.invariant c.args.feeder c.args.row more (p.free - 1) c.in-Ok.ensures.pending less)
+    let staged = staged_writing g.B.Naming.book g.B.Naming.about shown pending p.stage.items p.history p.free c.self.invariant.0 more left c.make_place.ensures.staged in
+    let less : (p.free - 1) + 1 ≡ p.free = free_place shown.table.rows (rows_of pending) p.stage.items shown.table.limit p.free _ _ _ rows held limit c.self.invariant.0.places c.requires.room in (
+      subst (λ e. IsWriting g.B.Naming.book g.B.Naming.about e more grown p.history (p.free - 1)) (ap (λ d. d.shown.value) (sym c.make_place.ensures.desk))
+          (held_writing g.B.Naming.book g.B.Naming.about shown more left p.history p.free staged c.args.feeder c.args.row grown (p.free - 1) c.push_reserved.ensures.items less),
+      omega (arith, c.push_reserved.ensures.capacity, c.make_place.ensures.room),
+    )
 
 pub returns-clause-ok : goal.returns-clause-ok
 returns-clause-ok g c =
     let p = c.self.inside in
+    let shown = p.copies.desk.shown.value in
     let pending = drop p.copies.behind p.copies.log.items in
-    let more = drop c.append.new.self.behind c.append.new.self.log.items in
-    held_view p.copies.desk.shown.value pending c.append.new.self.desk.shown.value more c.args.feeder c.args.row (ap (λ d. d.shown.value) c.append.ensures.desk) c.in-Ok.ensures.pending
-    ∙ ap (λ w. with_held w c.args.feeder c.args.row) c.self.view_is
+    let next = c.make_place.new.copies.desk.shown.value in
+    let more = drop c.make_place.new.copies.behind c.make_place.new.copies.log.items in
+    let left = c.make_place.new.stage.items in
+    held_view next more left c.push_reserved.new.self.items c.args.feeder c.args.row c.push_reserved.ensures.items
+    ∙ ap (λ w. with_held w c.args.feeder c.args.row)
+    (staged_view shown pending p.stage.items next more left (ap (λ d. d.shown.value) c.make_place.ensures.desk) c.make_place.ensures.staged ∙ c.self.view_is)

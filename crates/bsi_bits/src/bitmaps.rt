@@ -1,0 +1,185 @@
+//! Vectors of one length that grow together.
+
+ghost use Rattle.std.specs.Prelude.{◌≡◌, ℕ, ◌+◌, ◌^◌, ◌≤◌, ◌<◌, Bool, [], ◌∷◌, ◌++◌, length, slice_index, IfOk, IsOk, OnErr, OnOk};
+ghost use Rattle.bsi_bits.specs.BitLists.{bits_at, room_at, AreSame, Says};
+ghost use Rattle.bsi_bits.specs.Packed.{bits_of};
+
+use crate::NoMemory;
+use crate::bits::Bits;
+use std::alloc::Global;
+use std::marker::Model;
+
+/// The most bits that a vector holds.
+const MAX_LEN: u64 = 1 << 32;
+
+/// The bits for which there is room once a vector has grown: those of the four words that a `Vec` begins with.
+const LEAST_ROOM: u64 = 256;
+
+/// Vectors of one length that grow together: there is one test for room, and all that have none grow at once.
+#[derive(Drop)]
+pub struct Bitmaps {
+    vectors: Vec<Bits>,
+    // (no vector has less)
+    room: u64,
+}
+
+// Clauses see the vectors, and for how many more bits each has room.
+impl Model for Bitmaps {
+    ghost use Rattle.bsi_bits.specs.BitLists.{AreEven, BitLists};
+
+    ghost Value = { BitLists };
+
+    ghost view = { λ b. record { vectors = b.vectors.items; room = b.room } };
+
+    ghost invariant = { λ b. AreEven b.vectors.items b.room };
+}
+
+impl Bitmaps {
+    /// Makes so many empty vectors, at least one.
+    pub fn new(alloc: Global, count: usize) -> Result<Bitmaps, NoMemory>
+        requires { 1 ≤ count }
+        ensures count { IfOk result (λ made. length made.vectors ≡ count) }
+        ensures empty { IfOk result (λ made. (j : ℕ) → bits_at made.vectors j ≡ []) }
+    {
+        let vectors = empty_each(alloc, count)?;
+        Ok(Bitmaps { vectors, room: 0 })
+    }
+
+    /// Makes vectors of the same bits.
+    pub fn copy(&self) -> Result<Bitmaps, NoMemory>
+        ensures same { IfOk result (λ made. AreSame self.now.vectors made.vectors) }
+    {
+        let vectors = copy_each(&self.vectors)?;
+        Ok(Bitmaps { vectors, room: 0 })
+    }
+
+    /// Lends the vectors.
+    pub fn as_slice(&self) -> &[Bits]
+        ensures vectors { result.now ≡ self.now.vectors }
+        ensures some { 0 < length result.now }
+        ensures even { (j : ℕ) → j < length result.now → length (bits_at result.now j) ≡ length (bits_at result.now 0) }
+    {
+        &self.vectors
+    }
+
+    /// Returns how many bits each vector has, at most 2^32.
+    pub fn len(&self) -> u64
+        ensures len { (j : ℕ) → j < length self.now.vectors → length (bits_at self.now.vectors j) ≡ result }
+        ensures first { result ≡ length (bits_at self.now.vectors 0) }
+        ensures within { result ≤ 2 ^ 32 }
+    {
+        self.vectors[0].len()
+    }
+
+    /// Returns how many more bits each vector can take with no memory.
+    pub fn room(&self) -> u64
+        ensures room { result ≡ self.now.room }
+        ensures within { length (bits_at self.now.vectors 0) + result ≤ 2 ^ 32 }
+    {
+        self.room
+    }
+
+    /// Lends the allocator.
+    pub fn allocator(&self) -> &Global {
+        self.vectors.allocator()
+    }
+
+    /// Makes room for so many more bits in each vector. The bits stay, and there is no less room than before, whatever the
+    /// result. It takes memory only where there is not room for so many; then there is room for at least twice the bits.
+    pub fn reserve(&mut self, more: u64) -> Result<(), NoMemory>
+        requires { length (bits_at self.old.vectors 0) + more ≤ 2 ^ 32 }
+        ensures same { AreSame self.old.vectors self.new.vectors }
+        ensures ok { OnOk result (more ≤ self.new.room) }
+        ensures kept { self.old.room ≤ self.new.room }
+        ensures err { OnErr result (self.new.room ≡ self.old.room) }
+        ensures refused { OnErr result (self.new.room < more) }
+        ensures succeeds { more ≤ self.old.room → IsOk result }
+    {
+        if more <= self.room {
+            return Ok(());
+        }
+        let wanted = room_to_make(self.len(), more);
+        reserve_each(&mut self.vectors, wanted)?;
+        self.room = wanted;
+        Ok(())
+    }
+
+    /// Appends a bit to each vector, in room that is there: that which `bit_of` gives of the vector's place.
+    pub fn push_each<F: Fn(usize) -> bool>(&mut self, bit_of: F)
+        requires room { 0 < self.old.room }
+        requires callable { F.IsAlwaysCallable bit_of }
+        ensures count { length self.new.vectors ≡ length self.old.vectors }
+        ensures bits { (bit : ℕ → Bool) → Says (F.post bit_of) (length self.old.vectors) bit →
+            (j : ℕ) → j < length self.old.vectors → bits_at self.new.vectors j ≡ bits_at self.old.vectors j ++ bit j ∷ [] }
+        ensures room { self.new.room + 1 ≡ self.old.room }
+    {
+        'vectors: for j in 0..self.vectors.len() {
+            self.vectors[j].push_reserved(bit_of(j));
+        }
+        self.room -= 1;
+    }
+
+    /// Appends to each vector the first `count` binary places of its word, the least one first, in room that is there. The
+    /// others are 0.
+    pub fn push_words(&mut self, words: &[u64], count: u64)
+        requires long { length words.now ≡ length self.old.vectors }
+        requires room { count ≤ self.old.room }
+        requires few { count ≤ 64 }
+        requires clear { (j : ℕ) → slice_index words.now j < 2 ^ count }
+        ensures count { length self.new.vectors ≡ length self.old.vectors }
+        ensures bits { (j : ℕ) → j < length self.old.vectors →
+            bits_at self.new.vectors j ≡ bits_at self.old.vectors j ++ bits_of count (slice_index words.now j ∷ []) }
+        ensures room { self.new.room + count ≡ self.old.room }
+    {
+        'vectors: for j in 0..self.vectors.len() {
+            self.vectors[j].push_word_reserved(words[j], count);
+        }
+        self.room -= count;
+    }
+}
+
+/// Returns for how many more bits to make room behind `len` bits, where so many are needed: as many as there are bits, so that
+/// they double, or the least room, if that is more, and never more than 2^32 in all.
+pub fn room_to_make(len: u64, more: u64) -> u64
+    requires { len + more ≤ 2 ^ 32 }
+    ensures enough { more ≤ result }
+    ensures within { len + result ≤ 2 ^ 32 }
+{
+    more.max(len).max(LEAST_ROOM).min(MAX_LEN - len)
+}
+
+/// Makes so many empty vectors.
+fn empty_each(alloc: Global, count: usize) -> Result<Vec<Bits>, NoMemory>
+    ensures count { IfOk result (λ made. length made.items ≡ count) }
+    ensures empty { IfOk result (λ made. (j : ℕ) → bits_at made.items j ≡ []) }
+{
+    let mut made = Vec::with_capacity(alloc, count)?;
+    'vectors: for _ in 0..count {
+        made.push_reserved(Bits::new(alloc));
+    }
+    Ok(made)
+}
+
+/// Makes room for so many more bits in each vector. The bits stay, and no room gets less, whatever the result.
+fn reserve_each(vectors: &mut [Bits], more: u64) -> Result<(), NoMemory>
+    requires { (j : ℕ) → j < length vectors.old → length (bits_at vectors.old j) + more ≤ 2 ^ 32 }
+    ensures same { AreSame vectors.old vectors.new }
+    ensures kept { (j : ℕ) → room_at vectors.old j ≤ room_at vectors.new j }
+    ensures ok { OnOk result ((j : ℕ) → j < length vectors.old → more ≤ room_at vectors.new j) }
+{
+    'vectors: for j in 0..vectors.len() {
+        vectors[j].reserve(more)?;
+    }
+    Ok(())
+}
+
+/// Makes vectors of the same bits.
+fn copy_each(vectors: &Vec<Bits>) -> Result<Vec<Bits>, NoMemory>
+    ensures { IfOk result (λ made. AreSame vectors.now.items made.items) }
+{
+    let mut made = Vec::with_capacity(*vectors.allocator(), vectors.len())?;
+    'vectors: for vector in vectors {
+        made.push_reserved(vector.copy()?);
+    }
+    Ok(made)
+}

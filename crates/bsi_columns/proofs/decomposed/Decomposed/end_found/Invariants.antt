@@ -1,0 +1,8 @@
+use Rattle.std.proofs.Common.{◌*◌}
+use Rattle.std.specs.Prelude.{min}
+use Rattle.bsi_columns.specs.Ends.{IsEndUpto}
+use Rattle.bsi_columns.proofs.decomposed.Decomposed.end_found.Given as goal
+
+-- the best one of the blocks so far
+abbrev pub invariant-block : goal.invariant-block
+invariant-block g l = IsEndUpto l.end l.found.bits l.self.entries (64 * min (16 * l.k) l.len) l.best

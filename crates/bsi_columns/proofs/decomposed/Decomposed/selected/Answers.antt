@@ -1,0 +1,51 @@
+use Rattle.std.proofs.Common.{◌≡◌, ◌<◌, ℕ, false, replicate, map, ap, ◌∙◌, arith}
+use Rattle.std.specs.Prelude.{is_some}
+use Rattle.bsi_bits.specs.BitList.{BitList}
+use Rattle.bsi_digits.specs.Digits.{size_of}
+use Rattle.bsi_columns.specs.Rows.{compares, selects}
+use Rattle.bsi_columns.specs.Tests.{answers, decides, holds}
+use Rattle.bsi_columns.specs.Decomposed.{entries_of}
+use Rattle.bsi_columns.proofs.EntriesFrom.{rows_of}
+use Rattle.bsi_columns.proofs.Answering.{IfOk-same_bits}
+use Rattle.bsi_columns.proofs.Deciding.{rows_none, rows_all, rows_tested}
+use Rattle.bsi_columns.proofs.decomposed.Decomposed.selected.Goals as goal
+
+-- no number
+pub returns-in-Nothing : goal.returns-in-Nothing
+returns-in-Nothing g c =
+    let bs = c.self.inside.bases in
+    let present = c.self.inside.present.bits in
+    let ds = map g.E.Encoding.digits c.self.inside.components.items in
+    let entries = entries_of bs present ds in
+    let agree : (x : ℕ) → x < size_of bs → decides c.decide.result x ≡ compares c.args.op x c.args.constant = λ x below. c.decide.ensures.decided x (omega (arith, c.size.ensures.size)) in
+    rw (← c.self.view_is)
+    (IfOk-same_bits c.filled.result (λ (b : BitList). b.bits) (replicate c.len.result false) (map (selects c.args.op c.args.constant) entries)
+    (ap (λ n. replicate n false) (c.len.ensures.len ∙ rows_of bs present ds entries c.self.invariant.0)
+    ∙ rows_none c.args.op c.args.constant (size_of bs) c.decide.result agree c.in-Nothing.is entries c.self.invariant.0.below)
+    c.filled.ensures)
+
+-- each number
+pub returns-in-Everything : goal.returns-in-Everything
+returns-in-Everything g c =
+    let bs = c.self.inside.bases in
+    let present = c.self.inside.present.bits in
+    let ds = map g.E.Encoding.digits c.self.inside.components.items in
+    let entries = entries_of bs present ds in
+    let agree : (x : ℕ) → x < size_of bs → decides c.decide.result x ≡ compares c.args.op x c.args.constant = λ x below. c.decide.ensures.decided x (omega (arith, c.size.ensures.size)) in
+    rw (← c.self.view_is)
+    (IfOk-same_bits c.copy.result (λ (b : BitList). b.bits) present (map (selects c.args.op c.args.constant) entries)
+    (c.self.invariant.0.present_is ∙ rows_all c.args.op c.args.constant (size_of bs) c.decide.result agree c.in-Everything.is entries c.self.invariant.0.below)
+    c.copy.ensures)
+
+-- the numbers that pass a test, or fail it
+pub returns-in-Tested : goal.returns-in-Tested
+returns-in-Tested g c =
+    let bs = c.self.inside.bases in
+    let entries = entries_of bs c.self.inside.present.bits (map g.E.Encoding.digits c.self.inside.components.items) in
+    let test = c.in-Tested.test in
+    let agree : (x : ℕ) → x < size_of bs → decides c.decide.result x ≡ compares c.args.op x c.args.constant = λ x below. c.decide.ensures.decided x (omega (arith, c.size.ensures.size)) in
+    let tested = rw (← c.self.view_is) at c.select.ensures in
+    rw (← c.self.view_is)
+    (IfOk-same_bits c.select.result (λ (b : BitList). b.bits) (map (answers (λ x. holds test.relation x test.constant) test.wanted) entries) (map (selects c.args.op c.args.constant) entries)
+    (rows_tested c.args.op c.args.constant (size_of bs) c.decide.result agree test c.in-Tested.is entries c.self.invariant.0.below)
+    tested)

@@ -1,0 +1,37 @@
+use Rattle.std.proofs.Common.{◌≡◌, length, ap, ap₂, sym, ◌∙◌}
+use Rattle.std.specs.Prelude.{◌&&◌, ◌||◌}
+use Rattle.std.specs.Simd.Lanes.{zip2}
+use Rattle.std.proofs.lemmas.List.{length-map}
+use Rattle.std.proofs.lemmas.Simd.{length-zip2}
+use Rattle.bsi_columns.proofs.Answering.{narrowed_equal, narrowed_by_one, narrowed_by_two}
+use Rattle.bsi_columns.proofs.decomposed.vectors.narrow_into.Goals as goal
+
+pub or_with-requires : goal.or_with-requires
+or_with-requires g c =
+    let found = c.args.found.now.bits in
+    let part = c.le_into.new.out.bits in
+    let ds = g.E.Encoding.digits c.args.component.now in
+    let long : length part ≡ length ds = ap length c.le_into.ensures.bits ∙ length-map ds _ in
+    let long_after : length c.le_into-then-digit-gt0.new.out.bits ≡ length ds = ap length c.le_into-then-digit-gt0.ensures.bits ∙ length-map ds _ in
+    let same : length found ≡ length part = sym c.requires.same ∙ sym long in
+    ap length c.and_with-in-AtMost.ensures.bits ∙ length-zip2 ◌&&◌ found part same ∙ sym c.requires.same ∙ sym long_after
+
+pub returns-in-Equal-clause-found : goal.returns-in-Equal-clause-found
+returns-in-Equal-clause-found g c =
+    let found = c.args.found.now.bits in
+    rw c.in-Equal.is
+    (c.and_with.ensures.bits ∙ ap (zip2 ◌&&◌ found) c.eq_into.ensures.bits ∙ narrowed_equal found (g.E.Encoding.digits c.args.component.now) c.args.digit)
+
+pub returns-then-digit-gt0-clause-found : goal.returns-then-digit-gt0-clause-found
+returns-then-digit-gt0-clause-found g c =
+    let found = c.args.found.now.bits in
+    let ds = g.E.Encoding.digits c.args.component.now in
+    let both = ap₂ (zip2 ◌||◌) (c.and_with-in-AtMost.ensures.bits ∙ ap (zip2 ◌&&◌ found) c.le_into.ensures.bits) c.le_into-then-digit-gt0.ensures.bits in
+    rw c.in-AtMost.is (c.or_with.ensures.bits ∙ both ∙ narrowed_by_two found ds c.args.digit c.if-digit-gt0.true)
+
+pub returns-else-digit-gt0-clause-found : goal.returns-else-digit-gt0-clause-found
+returns-else-digit-gt0-clause-found g c =
+    let found = c.args.found.now.bits in
+    rw c.in-AtMost.is
+    (c.and_with-in-AtMost.ensures.bits ∙ ap (zip2 ◌&&◌ found) c.le_into.ensures.bits
+    ∙ narrowed_by_one found (g.E.Encoding.digits c.args.component.now) c.args.digit c.if-digit-gt0.false)

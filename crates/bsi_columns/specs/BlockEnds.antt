@@ -1,0 +1,30 @@
+-- The digit at an end of those of a block's rows.
+use Rattle.std.specs.Prelude.{◌≡◌, ℕ, ◌<◌, ◌&&◌, Bool, true, nat_eq}
+use Rattle.bsi_slices.specs.Ends.{comes_first, HasMarked}
+use Rattle.bsi_slices.specs.declared.slices.ends.End.{End}
+use Rattle.bsi_slices.specs.declared.slices.ends.End.TheVariants.{Least, Greatest}
+use Rattle.bsi_components.specs.EndDigits.{AnswersLeast, AnswersGreatest}
+use Rattle.bsi_components.specs.declared.encoding.EndDigit.{EndDigit}
+use Rattle.bsi_components.specs.declared.encoding.EndDigit.TheVariants.{Unanswered, Past, Digit}
+
+-- the digit is farther from the end than the limit
+abbrev pub IsPast : End → ℕ → ℕ → Type 0
+IsPast Least limit digit = limit < digit
+IsPast Greatest limit digit = digit < limit
+
+-- the answer is the digit at this end
+abbrev pub AnswersEnd : End → ℕ → (ℕ → Bool) → (ℕ → ℕ) → ℕ → EndDigit → Type 0
+AnswersEnd Least = AnswersLeast
+AnswersEnd Greatest = AnswersGreatest
+
+-- of the rows that were marked those are whose digit is d, which comes first
+pub record IsNarrowedTo (end : End) (old new : ℕ → Bool) (digit : ℕ → ℕ) (n d : ℕ) : Type 0 where
+  pub kept : (p : ℕ) → p < n → new p ≡ (old p && nat_eq (digit p) d)
+  pub some : HasMarked new n
+  pub first : (p : ℕ) → p < n → old p ≡ true → comes_first end d (digit p)
+
+-- the rows are those of the digit that is answered; or each of them has one past the limit; or nothing is answered
+abbrev pub KeepsNearest : End → ℕ → (ℕ → Bool) → (ℕ → Bool) → (ℕ → ℕ) → ℕ → EndDigit → Type 0
+KeepsNearest end limit old new digit n Unanswered = Unit {0}
+KeepsNearest end limit old new digit n Past = (p : ℕ) → p < n → old p ≡ true → IsPast end limit (digit p)
+KeepsNearest end limit old new digit n (Digit d) = IsNarrowedTo end old new digit n d

@@ -1,0 +1,155 @@
+//! The least and the greatest number of a found set in one pass over the column, block by block and from the most
+//! significant component down.
+//!
+//! A block is left as soon as none of its rows can come before the number that was found so far, which most blocks show
+//! at their first component.
+
+ghost use Rattle.std.specs.Prelude.{◌≡◌, ℕ, ◌+◌, ◌*◌, ◌/◌, ◌<◌, ◌≤◌, ◌&&◌, true, false, length, slice_index, slice_index_or, is_some, None, IfSome};
+ghost use Rattle.bsi_bits.specs.Packed.{bit_of};
+ghost use Rattle.bsi_columns.specs.BlockEnds.{AnswersEnd, IsPast, KeepsNearest};
+ghost use Rattle.bsi_columns.specs.Ends.{comes_first, leads, number_at, HasMarked, IsBetterIn, IsEndOf};
+ghost use Rattle.bsi_columns.specs.Totals.{numbers_at};
+
+use crate::decomposed::Decomposed;
+use crate::{Column, Encoding, EndDigit};
+use bsi_bits::Bits;
+use bsi_components::blocks::{keep_in, meets};
+use bsi_slices::End;
+
+/// The words of a block.
+const BLOCK: usize = 16;
+
+impl<E: Encoding> Decomposed<E> {
+    /// The number at an end of those at the rows of a found set, none where there is none. Nothing is answered where a
+    /// component works on whole vectors alone.
+    pub(crate) fn end_found(&self, found: &Bits, end: End) -> Option<Option<u64>>
+        requires { length self.now.entries ≡ length found.now.bits }
+        ensures { IfSome result (IsEndOf end (numbers_at found.now.bits self.now.entries)) }
+    {
+        prove!(found.len() <= 1 << 32);
+        let len = found.words().len();
+        let mut buffer = [0; BLOCK];
+        let mut best = None;
+        'block: for k in 0..len.div_ceil(BLOCK) {
+            let at = BLOCK * k;
+            let block = &mut buffer[..BLOCK.min(len - at)];
+            rows_into(found, self.present(), at, block);
+            let better = self.better_in_block(end, best, at, block)?;
+            best = better.or(best);
+        }
+        Some(best)
+    }
+
+    /// The number at an end of the rows of a block, none where none of them comes before the best one so far. What the
+    /// block is left with is left open.
+    fn better_in_block(
+        &self,
+        end: End,
+        best: Option<u64>,
+        at: usize,
+        block: &mut [u64],
+    ) -> Option<Option<u64>>
+        requires within { at + length block.old ≤ (length self.now.entries + 63) / 64 }
+        requires rows { (p : ℕ) → p < 64 * length block.old → bit_of block.old p ≡ true → is_some (slice_index_or self.now.entries (64 * at + p) None) ≡ true }
+        ensures { IfSome result (IsBetterIn end (bit_of block.old) (λ p. number_at self.now.entries (64 * at + p)) (64 * length block.old) best) }
+    {
+        let present = self.present();
+        if !meets(present, at, block) {
+            return Some(None);
+        }
+        let bases = self.bases();
+        let mut number = 0;
+        let mut i = bases.len();
+        'components: while i > 0 {
+            i -= 1;
+            let (base, weight) = (bases.base(i), bases.weight(i));
+            let above = number * u64::from(base);
+            let limit = limit_of(end, best, above, base, weight);
+            match keep_nearest(self.component(i), present, end, limit, at, block) {
+                EndDigit::Unanswered => return None,
+                EndDigit::Past => return Some(None),
+                EndDigit::Digit(digit) => number = above + u64::from(digit),
+            }
+            if end.leads_all(best, number, weight) {
+                return Some(None);
+            }
+        }
+        Some(Some(number))
+    }
+}
+
+/// Writes the rows of a block that are found and are not nulls.
+fn rows_into(found: &Bits, present: &Bits, at: usize, block: &mut [u64])
+    requires found { at + length block.old ≤ (length found.now.bits + 63) / 64 }
+    requires present { at + length block.old ≤ (length present.now.bits + 63) / 64 }
+    ensures len { length block.new ≡ length block.old }
+    ensures bits { (p : ℕ) → p < 64 * length block.old → bit_of block.new p
+        ≡ (slice_index_or found.now.bits (64 * at + p) false && slice_index_or present.now.bits (64 * at + p) false) }
+{
+    block.fill(u64::MAX);
+    keep_in(found, at, block);
+    keep_in(present, at, block);
+}
+
+/// The digit past which no number can come before the best one so far, where `above` is what the digits before weigh.
+fn limit_of(end: End, best: Option<u64>, above: u64, base: u32, weight: u64) -> u32
+    requires some { 1 ≤ weight }
+    requires base { 1 ≤ base }
+    ensures below { result < base }
+    ensures past { (d x : ℕ) → d < base → IsPast end result d → comes_first end (above + d) (x / weight) → leads end best x }
+{
+    match best {
+        None => match end {
+            End::Least => base - 1,
+            End::Greatest => 0,
+        },
+        Some(best) => (best / weight)
+            .saturating_sub(above)
+            .min(u64::from(base) - 1) as u32,
+    }
+}
+
+/// The digit at an end of those of a block's rows, where it is within a limit.
+fn end_digit<E: Encoding>(component: &E, end: End, limit: u32, at: usize, block: &[u64]) -> EndDigit
+    requires below { limit < E.base_of component.now }
+    requires within { at + length block.now ≤ (length (E.digits component.now) + 63) / 64 }
+    requires rows { (p : ℕ) → p < 64 * length block.now → bit_of block.now p ≡ true → 64 * at + p < length (E.digits component.now) }
+    requires some { HasMarked (bit_of block.now) (64 * length block.now) }
+    ensures { AnswersEnd end limit (bit_of block.now) (λ p. slice_index (E.digits component.now) (64 * at + p)) (64 * length block.now) result }
+{
+    match end {
+        End::Least => component.least_in_block(limit, at, block),
+        End::Greatest => component.greatest_in_block(limit, at, block),
+    }
+}
+
+/// Keeps of a block's rows, which are no nulls, those whose digit is at an end, where it is within a limit.
+fn keep_nearest<E: Encoding>(
+    component: &E,
+    present: &Bits,
+    end: End,
+    limit: u32,
+    at: usize,
+    block: &mut [u64],
+) -> EndDigit
+    requires below { limit < E.base_of component.now }
+    requires within { at + length block.old ≤ (length (E.digits component.now) + 63) / 64 }
+    requires same { length present.now.bits ≡ length (E.digits component.now) }
+    requires rows { (p : ℕ) → p < 64 * length block.old → bit_of block.old p ≡ true → slice_index_or present.now.bits (64 * at + p) false ≡ true }
+    requires some { HasMarked (bit_of block.old) (64 * length block.old) }
+    ensures len { length block.new ≡ length block.old }
+    ensures digit { KeepsNearest end limit (bit_of block.old) (bit_of block.new) (λ p. slice_index (E.digits component.now) (64 * at + p)) (64 * length block.old) result }
+{
+    let _base = component.base();
+    match end_digit(component, end, limit, at, block) {
+        EndDigit::Digit(digit) => {
+            if !component.eq_block(digit, at, block) {
+                return EndDigit::Unanswered;
+            }
+            keep_in(present, at, block);
+            EndDigit::Digit(digit)
+        }
+        EndDigit::Past => EndDigit::Past,
+        EndDigit::Unanswered => EndDigit::Unanswered,
+    }
+}

@@ -1,0 +1,101 @@
+//! Comparisons by whole vectors, for a component that does not work on a block of words.
+
+ghost use Rattle.std.specs.Prelude.{◌≡◌, ◌<◌, ◌&&◌, length, map, IfOk};
+ghost use Rattle.std.specs.Simd.Lanes.{zip2};
+ghost use Rattle.bsi_digits.specs.Digits.{size_of};
+ghost use Rattle.bsi_columns.specs.Rows.{number_or_zero};
+ghost use Rattle.bsi_columns.specs.Tests.{holds, holds_from, as_wanted, answers};
+
+use crate::decomposed::Decomposed;
+use crate::decomposed::compare::{Relation, Test};
+use crate::{Encoding, NoMemory};
+use bsi_bits::Bits;
+
+impl<E: Encoding> Decomposed<E> {
+    /// The rows whose number passes a test, by whole vectors, in the memory of `found` and one vector more.
+    pub(crate) fn select_vectors(&self, test: Test, mut found: Bits) -> Result<Bits, NoMemory>
+        requires below { test.constant < size_of self.now.bases }
+        requires same { length self.now.entries ≡ length found.bits }
+        ensures { IfOk result (λ b. b.bits ≡ map (answers (λ x. holds test.relation x test.constant) test.wanted) self.now.entries) }
+    {
+        let mut part = found.copy()?;
+        self.narrow_vectors(test, &mut part, &mut found);
+        cut(&mut found, test.wanted, &self.present);
+        Ok(found)
+    }
+
+    /// Writes for each row whether the number that its digits weigh passes the test, wanted or not.
+    fn narrow_vectors(&self, test: Test, part: &mut Bits, found: &mut Bits)
+        requires below { test.constant < size_of self.now.bases }
+        requires same_part { length self.now.entries ≡ length part.old.bits }
+        requires same { length self.now.entries ≡ length found.old.bits }
+        ensures { found.new.bits ≡ map (λ e. holds test.relation (number_or_zero e) test.constant) self.now.entries }
+    {
+        let places = self.bases.len();
+        let lowest = self.bases.digit(test.constant, 0);
+        first_into(&self.components[0], test.relation, lowest, found);
+        for i in 1..places {
+            let digit = self.bases.digit(test.constant, i);
+            narrow_into(
+                &self.components[i as usize],
+                test.relation,
+                digit,
+                part,
+                found,
+            );
+        }
+    }
+}
+
+/// Writes for each row whether its lowest digit passes the test with the constant's.
+fn first_into<E: Encoding>(component: &E, relation: Relation, digit: u32, found: &mut Bits)
+    requires below { digit < E.base_of component.now }
+    requires same { length (E.digits component.now) ≡ length found.old.bits }
+    ensures { found.new.bits ≡ map (λ v. holds relation v digit) (E.digits component.now) }
+{
+    match relation {
+        Relation::Equal => component.eq_into(digit, found),
+        Relation::AtMost => component.le_into(digit, found),
+    }
+}
+
+/// Takes one digit more into the test: one call of the component for `=`, and one or two for `<=`.
+fn narrow_into<E: Encoding>(
+    component: &E,
+    relation: Relation,
+    digit: u32,
+    part: &mut Bits,
+    found: &mut Bits,
+)
+    requires below { digit < E.base_of component.now }
+    requires same_part { length (E.digits component.now) ≡ length part.old.bits }
+    requires same { length (E.digits component.now) ≡ length found.old.bits }
+    ensures found { found.new.bits ≡ zip2 (λ low v. holds_from relation low v digit) found.old.bits (E.digits component.now) }
+    ensures part { length part.new.bits ≡ length part.old.bits }
+{
+    match relation {
+        Relation::Equal => {
+            component.eq_into(digit, part);
+            found.and_with(part);
+        }
+        Relation::AtMost => {
+            component.le_into(digit, part);
+            found.and_with(part);
+            if digit > 0 {
+                component.le_into(digit - 1, part);
+                found.or_with(part);
+            }
+        }
+    }
+}
+
+/// Keeps the rows that are not nulls of those that pass a test or, as wanted, of those that fail it.
+fn cut(found: &mut Bits, wanted: bool, present: &Bits)
+    requires { length found.old.bits ≡ length present.now.bits }
+    ensures { found.new.bits ≡ zip2 (λ answer there. as_wanted wanted answer && there) found.old.bits present.now.bits }
+{
+    if !wanted {
+        found.flip();
+    }
+    found.and_with(present);
+}

@@ -1,0 +1,152 @@
+-- The bits of words that digits mark.
+use Rattle.std.proofs.Common.{◌≡◌, ◌≢◌, ℕ, zero, suc, ◌+◌, ◌*◌, ◌/◌, ◌%◌, ◌^◌, ◌<◌, ◌≤◌, Bool, true, false, List, [], ◌∷◌, length, take, map, get_or, set, inl, inr, ap, ap₂, sym, ◌∙◌, refl, arith, length-set}
+use Rattle.std.specs.Prelude.{◌==◌, ◌&&◌, ◌||◌, bit_or, max, nat_le, nat_lt, nat_eq}
+use Rattle.std.specs.Int.{bit_at, w64}
+use Rattle.std.proofs.lemmas.Nat.{pow_pos}
+use Rattle.std.proofs.lemmas.Nat.Bits.{bit_at-zero, bit_at-lt, bit_at_or, bit_at_above, bit_at_set_same, bit_at_set_other}
+use Rattle.std.proofs.lemmas.List.{length-map, length-take, get_or-take, get_or-map, get_or_past, get_or-set_same, get_or-set_other}
+use Rattle.std.proofs.lemmas.Bool.{cases_eq, cases_lt}
+use Rattle.std.proofs.lemmas.Bool.Decides.{nat_tests}
+use Rattle.std.proofs.lemmas.Grind.{get_or_default_zero}
+use Rattle.bsi_bits.specs.Packed.{bits_of}
+use Rattle.bsi_bits.proofs.Reading.{bits_are, get_or-bits_of}
+use Rattle.bsi_bits.proofs.Splicing.{below_power, one_word}
+use Rattle.bsi_components.specs.Marks.{joined, AreMarks}
+
+-- bit p of word j says of each of the first n digits whether it holds there; the bits behind them are off
+pub record Marked (holds : ℕ → ℕ → Bool) (n : ℕ) (block words : List ℕ) : Type 0 where
+  pub each : (j p : ℕ) → j < length words → (bit_at (get_or words j 0) p == 1) ≡ (nat_lt p n && holds j (get_or block p 0))
+
+off_at : (b : ℕ) → b < 2 → (b == 1) ≡ false → b ≡ 0
+off_at b below is_off = grind (arith, nat_tests)
+
+lt_test : (p n : ℕ) (b : Bool) → p < n → (nat_lt p n && b) ≡ b
+lt_test p n b below = grind (arith, nat_tests)
+
+ge_test : (p n : ℕ) (b : Bool) → n ≤ p → (nat_lt p n && b) ≡ false
+ge_test p n b from = grind (arith, nat_tests)
+
+-- so marked by the whole block
+pub marks_of : (holds : ℕ → ℕ → Bool) (n : ℕ) (block words : List ℕ) → n ≡ length block → n ≤ 64 → Marked holds n block words → AreMarks holds block words
+marks_of holds n block words all few marked = record {
+  each = λ j within.
+      sym (bits_are (length block) (get_or words j 0 ∷ []) (map (holds j) block) (length-map block (holds j)) (λ p below.
+      get_or-map (holds j) block p 0 false below
+      ∙ sym (one_word (get_or words j 0) p (omega arith) ∙ marked.each j p within ∙ lt_test p n (holds j (get_or block p 0)) (omega arith))));
+  clear = λ j. elim (cases_lt j (length words)) [
+    | inl within ↦ below_power (get_or words j 0) (length block) (λ p from.
+        off_at (bit_at (get_or words j 0) p) (bit_at-lt (get_or words j 0) p) (marked.each j p within ∙ ge_test p n (holds j (get_or block p 0)) (omega arith)))
+    | inr past ↦ omega (arith, get_or_past words j 0 past, pow_pos (length block))
+  ];
+}
+
+-- no digit marks nothing
+pub marked_none : (block words : List ℕ) → ((j : ℕ) → get_or words j 0 ≡ 0) → Marked (λ j v. v == j) 0 block words
+marked_none block words clear = record {
+  each = λ j p within.
+      ap (λ w. bit_at w p == 1) (clear j) ∙ ap (λ b. b == 1) (bit_at-zero p) ∙ sym (ge_test p 0 (get_or block p 0 == j) (omega arith));
+}
+
+more_same : (p d j : ℕ) → d ≡ j → true ≡ (nat_lt p (p + 1) && (d == j))
+more_same p d j same = grind (arith, nat_tests)
+
+more_apart : (p d j : ℕ) → d ≢ j → (nat_lt p p && (d == j)) ≡ (nat_lt p (p + 1) && (d == j))
+more_apart p d j apart = grind (arith, nat_tests)
+
+other_place : (p n : ℕ) (b : Bool) → p ≢ n → (nat_lt p n && b) ≡ (nat_lt p (n + 1) && b)
+other_place p n b apart = grind (arith, nat_tests)
+
+-- one digit more
+pub marked_more : (n d x : ℕ) (block words : List ℕ) → n < 64 → d < length words → d ≡ get_or block n 0 → x ≡ get_or words d 0 → Marked (λ j v. v == j) n block words
+    → Marked (λ j v. v == j) (n + 1) block (set words d (bit_or x (1 * 2 ^ n % 2 ^ 64)))
+marked_more n d x block words near inside digit word marked =
+    let marker = bit_or x (1 * 2 ^ n % 2 ^ 64) in
+    record {
+      each = λ j p within.
+          let in_words : j < length words = omega (arith, length-set words d marker) in
+          elim (cases_eq j d) [
+            | inl same ↦
+                ap (λ k. bit_at (get_or (set words d marker) k 0) p == 1) same
+                ∙ ap (λ w. bit_at w p == 1) (get_or-set_same words d marker 0 inside)
+                ∙ elim (cases_eq p n) [
+                  | inl here ↦
+                      ap (λ k. bit_at marker k == 1) here
+                      ∙ ap (λ b. b == 1) (bit_at_set_same w64 x n near)
+                      ∙ more_same n (get_or block n 0) j (omega arith)
+                      ∙ ap (λ k. nat_lt k (n + 1) && (get_or block k 0 == j)) (sym here)
+                  | inr there ↦
+                      ap (λ b. b == 1) (bit_at_set_other w64 x n near p there)
+                      ∙ ap (λ w. bit_at w p == 1) (word ∙ ap (λ k. get_or words k 0) (sym same))
+                      ∙ marked.each j p in_words
+                      ∙ other_place p n (get_or block p 0 == j) there
+                ]
+            | inr apart ↦
+                ap (λ w. bit_at w p == 1) (get_or-set_other words d j marker 0 apart)
+                ∙ marked.each j p in_words
+                ∙ elim (cases_eq p n) [
+                  | inl here ↦
+                      ap (λ k. nat_lt k n && (get_or block k 0 == j)) here
+                      ∙ more_apart n (get_or block n 0) j (omega arith)
+                      ∙ ap (λ k. nat_lt k (n + 1) && (get_or block k 0 == j)) (sym here)
+                  | inr there ↦ other_place p n (get_or block p 0 == j) there
+                ]
+          ];
+    }
+
+or_one : (a b : ℕ) → a < 2 → b < 2 → (max a b == 1) ≡ ((a == 1) || (b == 1))
+or_one a b first second = grind (arith, nat_tests)
+
+first_digit_joined : (c : Bool) (d : ℕ) → (c && (d == 0)) ≡ (c && nat_le d 0)
+first_digit_joined c d = grind (arith, nat_tests)
+
+next_digit_joined : (c : Bool) (d j : ℕ) → ((c && (d == suc j)) || (c && nat_le d j)) ≡ (c && nat_le d (suc j))
+next_digit_joined true d j = grind (arith, nat_tests)
+next_digit_joined false d j = refl
+
+-- the words up to word j, joined, have the digits up to j
+pub joined_marks : (n : ℕ) (block words : List ℕ) → Marked (λ j v. v == j) n block words → (j p : ℕ) → j < length words → (bit_at (joined words j) p == 1) ≡ (nat_lt p n && nat_le (get_or block p 0) j)
+joined_marks n block words marked zero p within = marked.each 0 p within ∙ first_digit_joined (nat_lt p n) (get_or block p 0)
+joined_marks n block words marked (suc j) p within =
+    ap (λ b. b == 1) (bit_at_or (get_or words (suc j) 0) (joined words j) p)
+    ∙ or_one (bit_at (get_or words (suc j) 0) p) (bit_at (joined words j) p) (bit_at-lt (get_or words (suc j) 0) p) (bit_at-lt (joined words j) p)
+    ∙ ap₂ ◌||◌ (marked.each (suc j) p within) (joined_marks n block words marked j p (omega arith))
+    ∙ next_digit_joined (nat_lt p n) (get_or block p 0) j
+
+pub marked_joined : (n : ℕ) (block words new : List ℕ) → Marked (λ j v. v == j) n block words → length new ≡ length words → ((j : ℕ) → j < length words → get_or new j 0 ≡ joined words j) → Marked (λ j v. nat_le v j) n block new
+marked_joined n block words new marked long each = record {
+  each = λ j p within.
+      let in_words : j < length words = omega arith in
+      ap (λ w. bit_at w p == 1) (each j in_words) ∙ joined_marks n block words marked j p in_words;
+}
+
+-- words that are marks are so marked
+pub marks_marked : (holds : ℕ → ℕ → Bool) (block words : List ℕ) → length block ≤ 64 → AreMarks holds block words → Marked holds (length block) block words
+marks_marked holds block words few marks = record {
+  each = λ j p within. elim (cases_lt p (length block)) [
+    | inl below ↦
+        sym (one_word (get_or words j 0) p (omega arith))
+        ∙ sym (get_or-bits_of (length block) (get_or words j 0 ∷ []) p false below)
+        ∙ ap (λ bits. get_or bits p false) (marks.each j within)
+        ∙ get_or-map (holds j) block p 0 false below
+        ∙ sym (lt_test p (length block) (holds j (get_or block p 0)) below)
+    | inr past ↦
+        ap (λ b. b == 1) (bit_at_above (get_or words j 0) (length block) p (marks.clear j) past)
+        ∙ sym (ge_test p (length block) (holds j (get_or block p 0)) past)
+  ];
+}
+
+-- the words joined are marks of the digits up to each
+pub marks_joined : (block words new : List ℕ) → length block ≤ 64 → AreMarks (λ j v. v == j) block words → length new ≡ length words → ((j : ℕ) → j < length words → get_or new j 0 ≡ joined words j) → AreMarks (λ j v. nat_le v j) block new
+marks_joined block words new few marks long each =
+    marks_of (λ j v. nat_le v j) (length block) block new refl few
+    (marked_joined (length block) block words new (marks_marked (λ j v. v == j) block words few marks) long each)
+
+-- the first words of some, and of those that are 0
+pub first_word : (words : List ℕ) (n j : ℕ) → j < n → get_or (take n words) j 0 ≡ get_or words j 0
+first_word words n j below = get_or-take n words j 0 below
+
+pub first_clear : (words : List ℕ) (n bound : ℕ) → 0 < bound → ((j : ℕ) → get_or words j 0 < bound) → (j : ℕ) → get_or (take n words) j 0 < bound
+first_clear words n bound some clear j = elim (cases_lt j n) [
+  | inl below ↦ omega (arith, first_word words n j below, clear j)
+  | inr past ↦ omega (arith, get_or_past (take n words) j 0 (omega (arith, length-take n words)), some)
+]

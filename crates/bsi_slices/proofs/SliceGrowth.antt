@@ -1,0 +1,103 @@
+-- Rows that are added to a column of slices.
+use Rattle.std.proofs.Common.{◌≡◌, ℕ, zero, suc, ◌+◌, ◌-◌, ◌*◌, ◌%◌, ◌^◌, ◌<◌, ◌≤◌, Bool, false, List, ◌++◌, length, get_or, take, map, Option, Some, None, is_some, inl, inr, sym, ◌∙◌, ap, refl, arith, length-append}
+use Rattle.std.specs.Prelude.{◌==◌, if◌then◌else◌}
+use Rattle.std.specs.Int.{bit_at}
+use Rattle.std.proofs.Math.Nat.{mod-eq_of_lt}
+use Rattle.std.proofs.lemmas.Bool.{cases_lt}
+use Rattle.std.proofs.lemmas.List.{get_or_append_left, get_or-append_right, take_all, length-map, get_or-map}
+use Rattle.std.proofs.lemmas.List.FromFn.{fill_by_all}
+use Rattle.bsi_bits.specs.BitList.{BitList}
+use Rattle.bsi_slices.specs.Rows.{number_or_zero}
+use Rattle.bsi_slices.specs.Slices.{slice_at, place_value, number, entry_at, entries_in, IsSliced}
+use Rattle.bsi_slices.proofs.SliceNumbers.{number_more, number_none, places_more}
+use Rattle.bsi_slices.proofs.SliceEntries.{number_same, length-entries_in, get_or-entries_in}
+
+-- the number of a row whose bit in each slice is the binary place of x
+module _ (slices : List BitList) (x r : ℕ) (placed : (k : ℕ) → k < length slices → get_or (slice_at slices k) r false ≡ (bit_at x k == 1)) where
+  number_low : (i : ℕ) → i ≤ length slices → number (take i slices) r ≡ x % 2 ^ i
+  number_low zero within = number_none r ∙ omega arith
+  number_low (suc i) within =
+      let e : suc i ≡ i + 1 = omega arith in
+      ap (λ j. number (take j slices) r) e
+      ∙ number_more slices r i (omega arith)
+      ∙ (λ j. number_low i (omega arith) j + place_value (placed i (omega arith) j) * 2 ^ i)
+      ∙ sym (places_more x i)
+      ∙ ap (λ j. x % 2 ^ j) (sym e)
+
+  pub placed_number : x < 2 ^ length slices → number slices r ≡ x
+  placed_number small =
+      ap (λ s. number s r) (sym (take_all (length slices) slices (omega arith))) ∙ number_low (length slices) (omega arith) ∙ mod-eq_of_lt small
+
+module _ (present now : List Bool) (old new : List BitList) (block : List (Option ℕ)) (sliced : IsSliced present old) (fit : (i : ℕ) → i < length block → number_or_zero (get_or block i None) < 2 ^ length old)
+    (marks : now ≡ present ++ map is_some block) (long : length new ≡ length old)
+    (pushed : (k : ℕ) → k < length old → slice_at new k ≡ slice_at old k ++ map (λ e. bit_at (number_or_zero e) k == 1) block) where
+  marks_long : length now ≡ length present + length block
+  marks_long = ap length marks ∙ length-append present (map is_some block) ∙ ap (λ n. length present + n) (length-map block is_some)
+
+  -- the rows before the new ones
+  mark_before : (r : ℕ) → r < length present → get_or now r false ≡ get_or present r false
+  mark_before r below = ap (λ p. get_or p r false) marks ∙ get_or_append_left present (map is_some block) false r below
+
+  number_before : (r : ℕ) → r < length present → number new r ≡ number old r
+  number_before r below = number_same old new r long (λ k within.
+      ap (λ b. get_or b r false) (pushed k within) ∙ get_or_append_left (slice_at old k) (map (λ e. bit_at (number_or_zero e) k == 1) block) false r (omega (arith, sliced.even k within)))
+
+  -- and the new ones
+  mark_of : (r : ℕ) → length present ≤ r → r < length now → get_or now r false ≡ is_some (get_or block (r - length present) None)
+  mark_of r from within =
+      ap (λ p. get_or p r false) marks
+      ∙ get_or-append_right present (map is_some block) (length present) r false refl from
+      ∙ get_or-map is_some block (r - length present) None false (omega (arith, marks_long))
+
+  number_of : (r : ℕ) → length present ≤ r → r < length now → number new r ≡ number_or_zero (get_or block (r - length present) None)
+  number_of r from within =
+      let i = r - length present in
+      placed_number new (number_or_zero (get_or block i None)) r (λ k below.
+      let in_old : k < length old = omega (arith, long) in
+      ap (λ b. get_or b r false) (pushed k in_old)
+      ∙ get_or-append_right (slice_at old k) (map (λ e. bit_at (number_or_zero e) k == 1) block) (length present) r false (sliced.even k in_old) from
+      ∙ get_or-map (λ e. bit_at (number_or_zero e) k == 1) block i None false (omega (arith, marks_long)))
+      (rw long (fit i (omega (arith, marks_long))))
+
+  as_entry : (e : Option ℕ) → (if is_some e then Some (number_or_zero e) else None) ≡ e
+  as_entry None = refl
+  as_entry (Some v) = refl
+
+  -- the entries are the old ones and the new ones
+  pub entries_more : entries_in now new ≡ entries_in present old ++ block
+  unfolding entries_in
+  entries_more =
+      let long_old = length-entries_in present old in
+      sym (fill_by_all (entry_at now new) (entries_in present old ++ block) (length now) None
+      (length-append (entries_in present old) block ∙ ap (λ n. n + length block) long_old ∙ sym marks_long)
+      (λ r below. elim (cases_lt r (length present)) [
+        | inl before ↦
+            get_or_append_left (entries_in present old) block None r (omega (arith, long_old))
+            ∙ get_or-entries_in present old r None before
+            ∙ sym (λ i. if mark_before r before i then Some (number_before r before i) else None)
+        | inr from ↦
+            get_or-append_right (entries_in present old) block (length present) r None long_old from
+            ∙ sym (as_entry (get_or block (r - length present) None))
+            ∙ sym (λ i. if mark_of r from below i then Some (number_of r from below i) else None)
+      ]))
+
+  null_zero : (e : Option ℕ) → is_some e ≡ false → number_or_zero e ≡ 0
+  null_zero None none = refl
+  null_zero (Some v) none = absurd (cc)
+
+  -- the slices are a column's
+  pub sliced_more : length now ≤ 2 ^ 32 → IsSliced now new
+  sliced_more small = record {
+    some = omega (arith, sliced.some);
+    few = omega (arith, sliced.few);
+    small = small;
+    even = λ k within.
+        let in_old : k < length old = omega arith in
+        ap length (pushed k in_old)
+        ∙ length-append (slice_at old k) (map (λ e. bit_at (number_or_zero e) k == 1) block)
+        ∙ omega (arith, sliced.even k in_old, length-map block (λ e. bit_at (number_or_zero e) k == 1), marks_long);
+    clear = λ r within null. elim (cases_lt r (length present)) [
+      | inl before ↦ number_before r before ∙ sliced.clear r before (sym (mark_before r before) ∙ null)
+      | inr from ↦ number_of r from within ∙ null_zero (get_or block (r - length present) None) (sym (mark_of r from within) ∙ null)
+    ];
+  }

@@ -1,0 +1,5 @@
+use Rattle.bsi_slices.proofs.Exchanging.{Runs}
+use Rattle.bsi_slices.proofs.stage.exchange.Given as goal
+
+abbrev pub invariant-runs : goal.invariant-runs
+invariant-runs l = Runs l.s l.p l.fn.words l.words

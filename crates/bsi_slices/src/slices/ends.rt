@@ -1,0 +1,164 @@
+//! The least and the greatest number of a found set in one pass over the column, block by block and from the most
+//! significant slice down.
+//!
+//! A block is left as soon as none of its rows can come before the number that was found so far, which most blocks show
+//! at their first slices.
+
+ghost use Rattle.std.specs.Prelude.{◌≡◌, ℕ, ◌+◌, ◌*◌, ◌-◌, ◌/◌, ◌^◌, ◌<◌, ◌≤◌, ◌==◌, ◌&&◌, Some, None, false, if◌then◌else◌, length, slice_index, slice_index_or, IsTrue, IsFalse};
+ghost use Rattle.bsi_bits.specs.Packed.{bit_of};
+ghost use Rattle.bsi_slices.specs.Ends.{comes_first, leads, yields, IsBetterIn, IsEndUpto, IsEndOf, HasMarked, first_is_clear, nearest_place, number_at};
+ghost use Rattle.bsi_slices.specs.Totals.{numbers_at};
+
+use crate::Column;
+use crate::slices::Slices;
+use crate::slices::compare::cut;
+use crate::slices::totals::is_empty;
+use bsi_bits::{Bits, know_fits};
+use std::simd::Simd;
+
+/// The words of a block, which is kept in half of a processor's 16 registers of two words.
+const BLOCK: usize = 16;
+
+/// An end of some numbers in order.
+#[derive(Clone, Copy)]
+pub enum End {
+    /// The least one.
+    Least,
+    /// The greatest one.
+    Greatest,
+}
+
+impl End {
+    /// Whether the best number so far comes first of all numbers whose places from the given weight on make `number`, or
+    /// one behind it.
+    pub fn leads_all(self, best: Option<u64>, number: u64, weight: u64) -> bool
+        requires small { number * weight + weight ≤ 2 ^ 63 }
+        requires some { 1 ≤ weight }
+        ensures leads { IsTrue result → (x : ℕ) → comes_first self number (x / weight) → leads self best x }
+        ensures yields { IsFalse result → weight ≡ 1 → yields self number best }
+    {
+        match (self, best) {
+            (_, None) => false,
+            (End::Least, Some(least)) => least <= number * weight,
+            (End::Greatest, Some(greatest)) => number * weight + (weight - 1) <= greatest,
+        }
+    }
+}
+
+impl Slices {
+    /// The number at an end of those at the rows of a found set, none where there is none.
+    pub(crate) fn end_found(&self, found: &Bits, end: End) -> Option<u64>
+        requires { length self.now.entries ≡ length found.now.bits }
+        ensures { IsEndOf end (numbers_at found.now.bits self.now.entries) result }
+    {
+        let whole = found.words().len() / BLOCK * BLOCK;
+        let best = self.end_upto::<BLOCK>(found, end, 0, None);
+        self.end_upto::<1>(found, end, whole, best)
+    }
+
+    /// The number at an end of the rows before a word and of those from there on, as far as blocks of `N` words go.
+    fn end_upto<const N: usize>(
+        &self,
+        found: &Bits,
+        end: End,
+        from: usize,
+        before: Option<u64>,
+    ) -> Option<u64>
+        requires blocks { (1 ≤ N) × (N ≤ 64) }
+        requires same { length self.now.entries ≡ length found.now.bits }
+        requires within { from ≤ (length found.now.bits + 63) / 64 }
+        requires before { IsEndUpto end found.now.bits self.now.entries (64 * from) before }
+        ensures { IsEndUpto end found.now.bits self.now.entries (64 * (from + N * (((length found.now.bits + 63) / 64 - from) / N))) result }
+    {
+        prove!(found.len() <= 1 << 32);
+        let mut best = before;
+        'block: for k in 0..(found.words().len() - from) / N {
+            let at = from + N * k;
+            let rows = block_at::<N>(found, at) & block_at::<N>(self.present(), at);
+            best = self.better_in_block(rows, end, at, best).or(best);
+        }
+        best
+    }
+
+    /// The number at an end of some rows of a block, none where none of them comes before the best one so far.
+    fn better_in_block<const N: usize>(
+        &self,
+        rows: Simd<u64, N>,
+        end: End,
+        at: usize,
+        best: Option<u64>,
+    ) -> Option<u64>
+        requires blocks { (1 ≤ N) × (N ≤ 64) }
+        requires within { at + N ≤ (length self.now.entries + 63) / 64 }
+        ensures { IsBetterIn end (bit_of rows.entry) (λ p. number_at self.now.entries (64 * at + p)) (64 * N) best result }
+    {
+        let mut kept = rows;
+        if !has_row(kept) {
+            return None;
+        }
+        let mut number = 0;
+        let mut place = self.width();
+        'slices: while place > 0 {
+            place -= 1;
+            let slice = block_at::<N>(self.slice(place), at);
+            let first = cut(kept, slice, is_least(end));
+            let is_met = has_row(first);
+            kept = either(is_met, first, kept);
+            number = number * 2 + place_of(end, is_met);
+            if end.leads_all(best, number, 1 << place) {
+                return None;
+            }
+        }
+        Some(number)
+    }
+}
+
+/// Whether a row of a block is set.
+fn has_row<const N: usize>(block: Simd<u64, N>) -> bool
+    ensures some { IsTrue result → HasMarked (bit_of block.entry) (64 * N) }
+    ensures none { IsFalse result → (p : ℕ) → bit_of block.entry p ≡ false }
+{
+    let words = block.as_array();
+    know_fits(words);
+    !is_empty(words)
+}
+
+/// Whether the least number is asked for, whose first places are clear.
+fn is_least(end: End) -> bool
+    ensures { result ≡ first_is_clear end }
+{
+    match end {
+        End::Least => true,
+        End::Greatest => false,
+    }
+}
+
+/// The binary place that is nearest to an end in some rows, by whether one of them has the place that comes first there.
+fn place_of(end: End, is_met: bool) -> u64
+    ensures { result ≡ nearest_place end is_met }
+{
+    match end {
+        End::Least => u64::from(!is_met),
+        End::Greatest => u64::from(is_met),
+    }
+}
+
+/// The first block or the second, as wanted.
+fn either<const N: usize>(wanted: bool, first: Simd<u64, N>, second: Simd<u64, N>) -> Simd<u64, N>
+    ensures { result ≡ (if wanted then first.entry else second.entry) }
+{
+    if wanted { first } else { second }
+}
+
+/// A block of the words of a vector.
+fn block_at<const N: usize>(bits: &Bits, at: usize) -> Simd<u64, N>
+    requires { at + N ≤ (length bits.now.bits + 63) / 64 }
+    ensures long { length result ≡ N }
+    ensures fits { (k : ℕ) → slice_index result k < 2 ^ 64 }
+    ensures places { (p : ℕ) → p < 64 * N → bit_of result p ≡ slice_index_or bits.now.bits (64 * at + p) false }
+{
+    prove!(bits.len() <= 1 << 32);
+    let words = bits.words();
+    know_fits(words);
+    Simd::<u64, N>::from_slice(&words[at..])
+}

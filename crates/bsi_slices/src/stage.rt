@@ -1,0 +1,83 @@
+//! A block of at most 64 entries, turned into words: one for each binary place.
+
+ghost use Rattle.std.specs.Prelude.{◌≡◌, ℕ, ◌+◌, ◌-◌, ◌*◌, ◌/◌, ◌%◌, ◌<◌, ◌≤◌, ◌^◌, ◌==◌, [], ◌∷◌, length, map, is_some, None, slice_index, slice_index_or};
+ghost use Rattle.std.specs.Int.{bit_at};
+ghost use Rattle.bsi_bits.specs.Packed.{bits_of};
+ghost use Rattle.bsi_slices.specs.Exchanges.{across, IsLow};
+ghost use Rattle.bsi_slices.specs.Rows.{number_or_zero};
+
+use bsi_bits::know_fits;
+
+/// Writes the numbers of a block of entries, a 0 for a null and behind the last one.
+pub fn place_numbers(block: &[Option<u64>], numbers: &mut [u64; 64])
+    requires { length block.now ≤ 64 }
+    ensures long { length numbers.new ≡ 64 }
+    ensures numbers { (r : ℕ) → slice_index numbers.new r ≡ number_or_zero (slice_index_or block.now r None) }
+{
+    numbers.fill(0);
+    'entries: for r in 0..block.len() {
+        numbers[r] = block[r].unwrap_or(0);
+    }
+}
+
+/// Returns the word whose bit `r` says whether entry `r` of a block is a number.
+pub fn mark_present(block: &[Option<u64>]) -> u64
+    requires { length block.now ≤ 64 }
+    ensures marks { bits_of (length block.now) (result ∷ []) ≡ map is_some block.now }
+    ensures clear { result < 2 ^ length block.now }
+{
+    let mut word = 0;
+    'entries: for r in 0..block.len() {
+        word |= (block[r].is_some() as u64) << r;
+    }
+    word
+}
+
+/// Exchanges rows and places of 64 words: place `k` of word `r` becomes place `r` of word `k`. A row and a place have six
+/// binary places each; a step exchanges those of one weight.
+pub(crate) fn transpose(words: &mut [u64; 64])
+    ensures long { length words.new ≡ 64 }
+    ensures fits { (k : ℕ) → slice_index words.new k < 2 ^ 64 }
+    ensures turned { (k r : ℕ) → k < 64 → r < 64 → bit_at (slice_index words.new k) r ≡ bit_at (slice_index words.old r) k }
+{
+    exchange(words, 32, 0x0000_0000_ffff_ffff);
+    exchange(words, 16, 0x0000_ffff_0000_ffff);
+    exchange(words, 8, 0x00ff_00ff_00ff_00ff);
+    exchange(words, 4, 0x0f0f_0f0f_0f0f_0f0f);
+    exchange(words, 2, 0x3333_3333_3333_3333);
+    exchange(words, 1, 0x5555_5555_5555_5555);
+    know_fits(words);
+}
+
+/// Exchanges the binary place of weight `s` of row and place. The places in which it is 0 are set in `low`.
+fn exchange(words: &mut [u64; 64], s: usize, low: u64)
+    requires weight { (1 ≤ s) × (s ≤ 32) × (2 * s * (32 / s) ≡ 64) }
+    requires low { IsLow s low }
+    ensures long { length words.new ≡ 64 }
+    ensures exchanged { (k r : ℕ) → k < 64 → r < 64 →
+        bit_at (slice_index words.new k) r ≡ bit_at (slice_index words.old (across s k r)) (across s r k) }
+{
+    'runs: for p in 0..32 / s {
+        exchange_run(words, 2 * s * p, s, low);
+    }
+}
+
+/// Does so for the `s` rows from `from` on, in which that place is 0, and the `s` rows behind them, in which it is 1.
+fn exchange_run(words: &mut [u64; 64], from: usize, s: usize, low: u64)
+    requires within { (1 ≤ s) × (from + 2 * s ≤ 64) }
+    requires low { IsLow s low }
+    ensures long { length words.new ≡ 64 }
+    ensures first { (q r : ℕ) → q < s → r < 64 →
+        bit_at (slice_index words.new (from + q)) r ≡ bit_at (slice_index words.old (from + q + s * (r / s % 2))) (r - s * (r / s % 2)) }
+    ensures second { (q r : ℕ) → q < s → r < 64 →
+        bit_at (slice_index words.new (from + s + q)) r ≡ bit_at (slice_index words.old (from + q + s * (r / s % 2))) (r - s * (r / s % 2) + s) }
+    ensures before { (k : ℕ) → k < from → slice_index words.new k ≡ slice_index words.old k }
+    ensures behind { (k : ℕ) → from + 2 * s ≤ k → slice_index words.new k ≡ slice_index words.old k }
+{
+    'rows: for k in from..from + s {
+        let (first, second) = (words[k], words[k + s]);
+        let turned = (first >> s ^ second) & low;
+        words[k] = first ^ turned << s;
+        words[k + s] = second ^ turned;
+    }
+}

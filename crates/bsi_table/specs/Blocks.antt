@@ -1,0 +1,12 @@
+-- Blocks of words that a predicate narrows.
+use Rattle.std.specs.Prelude.{◌≡◌, ℕ, ◌+◌, ◌*◌, ◌<◌, ◌&&◌, List, length}
+use Rattle.bsi_bits.specs.Packed.{bit_of}
+use Rattle.bsi_shift.specs.Shifted.{OffsetColumn}
+use Rattle.bsi_table.specs.declared.query.Pred.{Pred}
+use Rattle.bsi_table.specs.Rows.{holds}
+use Rattle.bsi_table.specs.Table.{row_in}
+
+-- of the rows that the words from `at` on stand for those are kept of which the predicate holds
+abbrev pub AreNarrowed : List OffsetColumn → ℕ → Pred → ℕ → List ℕ → List ℕ → Type 0
+AreNarrowed kept count pred at old now =
+    (p : ℕ) → p < 64 * length old → 64 * at + p < count → bit_of now p ≡ (bit_of old p && holds pred (row_in kept (64 * at + p)))

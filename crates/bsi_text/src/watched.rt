@@ -1,0 +1,65 @@
+//! A reader of which it is known whether a whole record was read from it that is not yet taken.
+
+ghost use Rattle.std.specs.Prelude.{◌≡◌};
+
+use csv::Reader;
+use std::io;
+use std::io::Read;
+
+/// A reader that notes how far the lines reach that were read from it whole.
+#[derive(Drop)]
+pub(crate) struct Watched<R: Read + Drop> {
+    inner: R,
+    // (how many bytes were read, and how many of them stand up to the end of the last line that is surely that of a record)
+    read: u64,
+    whole: u64,
+}
+
+impl<R: Read + Drop> Read for Watched<R> {
+    ghost remaining = { λ w. R.remaining w.inner };
+
+    fn read(&mut self, buf: &mut [u8]) -> io::Result<usize> {
+        let count = self.inner.read(buf)?;
+        self.whole = self.read.saturating_add(whole_lines(&buf[..count]) as u64);
+        self.read = self.read.saturating_add(count as u64);
+        Ok(count)
+    }
+}
+
+impl<R: Read + Drop> Watched<R> {
+    /// Makes the reader of which no byte was read.
+    pub(crate) fn new(inner: R) -> Watched<R>
+        ensures { result.inner ≡ inner }
+    {
+        Watched {
+            inner,
+            read: 0,
+            whole: 0,
+        }
+    }
+}
+
+/// Returns whether the next record was read whole, so that it can be taken without asking for more bytes. A record with quotes
+/// may be said not to be.
+pub(crate) fn has_whole_record<R: Read + Drop>(input: &Reader<Watched<R>>) -> bool {
+    input.position().byte() < input.get_ref().whole
+}
+
+/// Returns how many of the bytes stand up to the end of the last line that has bytes before its end. None where there is a
+/// quote, within which a record goes on past the end of a line.
+fn whole_lines(bytes: &[u8]) -> usize {
+    if bytes.contains(&b'"') {
+        return 0;
+    }
+    'bytes: for at in (1..bytes.len()).rev() {
+        if is_line_end(bytes[at]) && !is_line_end(bytes[at - 1]) {
+            return at + 1;
+        }
+    }
+    0
+}
+
+/// Returns whether a byte ends a line.
+fn is_line_end(byte: u8) -> bool {
+    byte == b'\n' || byte == b'\r'
+}

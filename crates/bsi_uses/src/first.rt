@@ -1,0 +1,27 @@
+//! An index over prices, and a question about them.
+
+use crate::refused::Refused;
+use bsi_columns::Op;
+use bsi_table::{Answer, AskError, ColumnSpec, Index, Pred, Query, Row, Schema, Total};
+use std::alloc::Global;
+
+/// Indexes the prices that fit: nulls, and numbers below 1,000.
+pub(crate) fn index_prices(alloc: Global, prices: &[Option<i128>]) -> Result<Index, Refused> {
+    let mut schema = Schema::new(alloc);
+    schema.add("price", ColumnSpec::Range(vec![in alloc; 10, 10, 10]?))?;
+    let mut index = Index::new(alloc, schema, 1, 1_000_000)?;
+    'prices: for price in prices {
+        let row = Row::new(vec![in alloc; *price]?);
+        if index.schema().fits(&row) {
+            index.append(0, &row)?;
+        }
+    }
+    Ok(index)
+}
+
+/// Finds the lower median of the prices below a bound.
+pub(crate) fn find_median(index: &Index, bound: i128) -> Result<Answer, AskError> {
+    let total = Total::Median(0);
+    let pred = Pred::Compare(0, Op::Lt, bound);
+    index.ask(&Query { total, pred })
+}

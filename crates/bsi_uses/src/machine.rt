@@ -1,0 +1,43 @@
+//! The step machine with two feeders: what waits is not asked for, and none of it is lost.
+
+use crate::refused::Refused;
+use bsi_load::Core;
+use bsi_table::{Answer, ColumnSpec, Pred, Query, Row, Schema, Total};
+use std::alloc::Global;
+
+/// Makes a machine of two feeders, of each of which four rows may wait.
+pub(crate) fn make_machine(alloc: Global) -> Result<Core, Refused> {
+    let mut schema = Schema::new(alloc);
+    schema.add("qty", ColumnSpec::Slices(7))?;
+    let capacities = vec![in alloc; 4, 4]?;
+    Ok(Core::new(alloc, schema, capacities, 1_000)?)
+}
+
+/// Submits a row of one quantity.
+pub(crate) fn submit(
+    alloc: Global,
+    core: &mut Core,
+    feeder: u32,
+    quantity: i128,
+) -> Result<(), Refused> {
+    let row = Row::new(vec![in alloc; Some(quantity)]?);
+    Ok(core.submit(feeder, row)?)
+}
+
+/// Sums the quantities that are indexed.
+pub(crate) fn sum(core: &Core) -> Result<Answer, Refused> {
+    let total = Total::Sum(0);
+    let pred = Pred::All;
+    Ok(core.ask(&Query { total, pred })?)
+}
+
+/// Submits two rows of feeder 0 and one of feeder 1, loads one of each, and returns the sum of what is indexed.
+pub(crate) fn load_one_of_each(alloc: Global) -> Result<(Answer, Option<u32>), Refused> {
+    let mut core = make_machine(alloc)?;
+    submit(alloc, &mut core, 0, 5)?;
+    submit(alloc, &mut core, 0, 2)?;
+    submit(alloc, &mut core, 1, 40)?;
+    core.load(0)?;
+    core.load(1)?;
+    Ok((sum(&core)?, core.waiting(0)))
+}

@@ -1,0 +1,187 @@
+#!/usr/bin/env python3
+"""Holds the documents to what they speak of: links, the version, lines of Rattle, the examples, and what runs print.
+
+- A link to a file of the repository leads to one, and behind a # to a heading; so does each name docs/X.md.
+- The version in VERSION is that of the manual page, whose date is that of the newest heading of CHANGELOG.md, of that
+  heading, and of README.md.
+- The lines of a block ```rust stand so, one below the other, in a file of crates/bsi_uses/src.
+- examples/README.md names each file and folder of examples/.
+- A line `$ COMMAND` of a block ```console, run in examples/ with the program on the path, prints the lines below it.
+
+usage: tools/documents.py
+"""
+
+import sys
+
+sys.dont_write_bytecode = True
+
+import glob
+import os
+import re
+import textwrap
+
+import workspace
+
+LINK = re.compile(r"\]\(([^)\s]+)\)|(?:src|href)=\"([^\"]+)\"")
+NAMED = re.compile(r"\bdocs/[A-Z_-]+\.md\b")
+BLOCK = re.compile(r"^```(\w*)\n(.*?)^```$", re.MULTILINE | re.DOTALL)
+HEADING = re.compile(r"^#+ (.*)$", re.MULTILINE)
+VERSION = re.compile(r"\d+\.\d+\.\d+")
+SECONDS = 60
+
+
+def text_of(path):
+    with open(path, encoding="utf-8") as file:
+        return file.read()
+
+
+def documents(top):
+    """Returns the path of each document below the folder, from there."""
+    found = [path for pattern in ("*.md", "docs/*.md", "examples/*.md") for path in glob.glob(os.path.join(top, pattern))]
+    return sorted(os.path.relpath(path, top) for path in found)
+
+
+def blocks(top, language):
+    """Returns each block of that language, with the document that it stands in."""
+    for document in documents(top):
+        for found, text in BLOCK.findall(text_of(os.path.join(top, document))):
+            if found == language:
+                yield document, text
+
+
+# ---- Links ----
+
+
+def anchors(path):
+    """Returns the names of a document's headings in links."""
+    heads = HEADING.findall(BLOCK.sub("", text_of(path)))
+    return {re.sub(r"[^\w\- ]", "", head.lower()).replace(" ", "-") for head in heads}
+
+
+def leads(top, document, link):
+    """Returns whether a link of a document leads somewhere."""
+    target, _, anchor = link.partition("#")
+    path = os.path.normpath(os.path.join(top, os.path.dirname(document), target)) if target else os.path.join(top, document)
+    is_there = os.path.exists(path) and (path + os.sep).startswith(os.path.abspath(top) + os.sep)
+    return is_there and (not anchor or os.path.isfile(path) and anchor in anchors(path))
+
+
+def fault_in_links(top):
+    """Returns which link of a document leads nowhere, or None."""
+    for document in documents(top):
+        text = BLOCK.sub("", text_of(os.path.join(top, document)))
+        links = [first or second for first, second in LINK.findall(text)]
+        for link in links:
+            if not re.match(r"[a-z]+:", link) and not leads(top, document, link):
+                return f"{document}: the link {link} leads nowhere"
+        for name in NAMED.findall(text):
+            if not os.path.isfile(os.path.join(top, name)):
+                return f"{document}: there is no {name}"
+    return None
+
+
+# ---- The version ----
+
+
+def fault_in_version(top):
+    """Returns which file tells another version or date, or None."""
+    version = text_of(os.path.join(top, "VERSION")).strip()
+    if not VERSION.fullmatch(version):
+        return f"VERSION is {version!r}"
+    newest = re.search(r"^## (.*)$", text_of(os.path.join(top, "CHANGELOG.md")), re.MULTILINE)
+    told, _, date = newest.group(1).partition(", ") if newest else ("", "", "")
+    if told != version:
+        return f"CHANGELOG.md begins with {told!r}, and VERSION is {version}"
+    head = f'.TH BSI 1 {date} "bsi {version}"'
+    if head not in text_of(os.path.join(top, "man", "bsi.1")):
+        return f"man/bsi.1 has no head {head}"
+    if f"bsi {version}" not in text_of(os.path.join(top, "README.md")):
+        return f"README.md does not say bsi {version}"
+    return None
+
+
+# ---- Lines of Rattle ----
+
+
+def stand_in(lines, source):
+    """Returns whether the lines stand in the source, one below the other, whatever their common margin."""
+    wanted = textwrap.dedent("".join(lines)).rstrip()
+    all_lines = source.splitlines(keepends=True)
+    places = range(len(all_lines) - len(lines) + 1)
+    return any(textwrap.dedent("".join(all_lines[at : at + len(lines)])).rstrip() == wanted for at in places)
+
+
+def fault_in_rattle(top):
+    """Returns which lines of Rattle are those of no proved use, or None."""
+    sources = [text_of(path) for path in glob.glob(os.path.join(top, "crates", "bsi_uses", "src", "*.rt"))]
+    found = list(blocks(top, "rust"))
+    if not any(document == "README.md" for document, _ in found):
+        return "README.md has no lines of Rattle"
+    for document, text in found:
+        lines = text.splitlines(keepends=True)
+        if not any(stand_in(lines, source) for source in sources):
+            return f"{document}: the lines from {lines[0].strip()!r} on stand in no file of crates/bsi_uses/src"
+    return None
+
+
+# ---- The examples ----
+
+
+def fault_in_names(top):
+    """Returns which example is not named in their README, or None."""
+    folder = os.path.join(top, "examples")
+    text = text_of(os.path.join(folder, "README.md"))
+    for name in sorted(os.listdir(folder)):
+        if name != "README.md" and f"`{name}`" not in text:
+            return f"examples/README.md does not name `{name}`"
+    return None
+
+
+def runs_of(text):
+    """Returns each command of a block, and the lines that it is to print."""
+    commands = []
+    for line in text.splitlines(keepends=True):
+        if line.startswith("$ "):
+            commands.append((line[2:].strip(), []))
+        elif commands:
+            commands[-1][1].append(line)
+    return [(command, "".join(lines)) for command, lines in commands]
+
+
+def fault_in_runs(top, program):
+    """Returns which command of a document prints something else, or None."""
+    path = os.pathsep.join([os.path.dirname(program), os.environ.get("PATH", "")])
+    found = [(document, run) for document, text in blocks(top, "console") for run in runs_of(text)]
+    if not os.path.isfile(program):
+        return f"the program is not built: {program}"
+    if not found:
+        return "no document runs an example"
+    for document, (command, wanted) in found:
+        ran = workspace.run(["sh", "-c", command], b"", {"PATH": path}, os.path.join(top, "examples"), SECONDS)
+        printed = ran.out.decode(errors="replace")
+        if ran.status or printed != wanted:
+            pairs = zip(printed.splitlines() + [""], wanted.splitlines() + [""])
+            differ = next((f"{a!r} in place of {b!r}" for a, b in pairs if a != b), workspace.ending(ran.status))
+            return f"{document}: {command}: {differ}"
+    return None
+
+
+CHECKS = (
+    ("links within the repository", fault_in_links),
+    ("the version", fault_in_version),
+    ("lines of Rattle", fault_in_rattle),
+    ("names of examples", fault_in_names),
+    ("runs of examples", lambda top: fault_in_runs(top, workspace.PROGRAM)),
+)
+
+
+def check_all(tally, top):
+    """Counts each check of the documents below the folder."""
+    for name, fault_in in CHECKS:
+        tally.check(f"documents: {name}", fault_in(top))
+
+
+if __name__ == "__main__":
+    counted = workspace.Tally()
+    check_all(counted, workspace.TOP)
+    sys.exit(counted.close())
