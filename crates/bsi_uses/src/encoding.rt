@@ -16,7 +16,7 @@ const WIDEST_RANGE: u32 = 16;
 
 /// A component that is range encoded under a small base, and equality encoded under a large one.
 #[derive(Drop)]
-pub(crate) enum ByBase {
+pub enum ByBase {
     Range(RangeComponent),
     Equality(EqualityComponent),
 }

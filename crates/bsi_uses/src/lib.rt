@@ -1,15 +1,15 @@
 //! Uses of the libraries, as a caller writes them. The gate proves and runs them, and no crate uses this one.
 #![tactic(auto)]
 
-#[cfg(test)]
 mod encoding;
 #[cfg(test)]
 mod first;
 #[cfg(test)]
 mod machine;
-#[cfg(test)]
 mod refused;
 #[cfg(test)]
 mod tests;
 #[cfg(test)]
 mod threads;
+
+pub use encoding::ByBase;
