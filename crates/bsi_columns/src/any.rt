@@ -21,7 +21,7 @@ pub enum AnyColumn {
 }
 
 impl AnyColumn {
-    /// Keeps in a block of at most 128 words, whose first stands for the 64 rows from row `64 * at` on, the rows whose number
+    /// Keeps in a block of at most 1,024 words, whose first stands for the 64 rows from row `64 * at` on, the rows whose number
     /// compares so with `constant`, which may be past the size. A null row is not kept.
     pub fn keep_selected(
         &self,
@@ -30,7 +30,7 @@ impl AnyColumn {
         at: usize,
         block: &mut [u64],
     ) -> Result<(), NoMemory>
-        requires few { length block.old ≤ 128 }
+        requires few { length block.old ≤ 1024 }
         requires within { at + length block.old ≤ (length (any_entries self.now) + 63) / 64 }
         ensures kept { OnErr result (block.new ≡ block.old) }
         ensures rows { OnOk result ((p : ℕ) → p < 64 * length block.old → 64 * at + p < length (any_entries self.now) → bit_of block.new p

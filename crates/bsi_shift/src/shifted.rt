@@ -180,7 +180,7 @@ impl Shifted {
         self.stored.nulls_into(out);
     }
 
-    /// Keeps in a block of at most 128 words, whose first stands for the 64 rows from row `64 * at` on, the rows whose number
+    /// Keeps in a block of at most 1,024 words, whose first stands for the 64 rows from row `64 * at` on, the rows whose number
     /// compares so with `constant`, which may be any. A null row is not kept.
     pub fn keep_selected(
         &self,
@@ -189,7 +189,7 @@ impl Shifted {
         at: usize,
         block: &mut [u64],
     ) -> Result<(), NoMemory>
-        requires few { length block.old ≤ 128 }
+        requires few { length block.old ≤ 1024 }
         requires within { at + length block.old ≤ (length (shifted_entries self.now) + 63) / 64 }
         ensures kept { OnErr result (block.new ≡ block.old) }
         ensures rows { OnOk result ((p : ℕ) → p < 64 * length block.old → 64 * at + p < length (shifted_entries self.now) → bit_of block.new p

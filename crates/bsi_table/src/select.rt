@@ -14,10 +14,10 @@ use bsi_shift::Shifted;
 use std::alloc::Global;
 
 /// The words of a block, which stay in the first cache while a predicate goes over them.
-const BLOCK: usize = 128;
+const BLOCK: usize = 1024;
 
 /// Returns for each of `count` rows whether the predicate holds of it. It reads columns that are there alone. It goes over the
-/// rows in blocks of 8,192, each by the whole predicate, and keeps a block or two for each `or` and `not` around the part
+/// rows in blocks of 65,536, each by the whole predicate, and keeps a block or two for each `or` and `not` around the part
 /// that is being read.
 pub(crate) fn select(
     alloc: Global,
@@ -69,7 +69,7 @@ fn narrow(
     block: &mut [u64],
     spare: &mut Vec<u64>,
 ) -> Result<(), NoMemory>
-    requires few { length block.old ≤ 128 }
+    requires few { length block.old ≤ 1024 }
     requires within { at + length block.old ≤ (count + 63) / 64 }
     requires even { AreEven columns.now count }
     requires there { missing_of (length columns.now) (columns_of_pred pred.now) ≡ None }

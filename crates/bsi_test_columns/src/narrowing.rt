@@ -41,7 +41,7 @@ fn compares(op: Op, number: u64, constant: u64) -> bool {
 
 // Whether a block of so many words from there on is one of the column's.
 fn is_within<C: Column>(column: &C, at: usize, words: usize) -> bool
-    ensures few { IsTrue result → words ≤ 128 }
+    ensures few { IsTrue result → words ≤ 1024 }
     ensures within { IsTrue result → at + words ≤ (length (C.entries column.now) + 63) / 64 }
 {
     if at > 3 || words > 3 {

@@ -1,4 +1,4 @@
-//! Predicates over more rows than one block has, which is 8,192. Each test tolerates one refused growth, and then makes the
+//! Predicates over more rows than one block has, which is 65,536. Each test tolerates one refused growth, and then makes the
 //! same call again.
 
 use crate::tables::*;
@@ -8,8 +8,8 @@ use std::alloc::Global;
 use std::process::Abort;
 use std::test::Fail;
 
-/// The lengths at which is asked: none, about a word, and about the first and the second block.
-const LENGTHS: [u64; 8] = [0, 1, 64, 8191, 8192, 8193, 16384, 16400];
+/// The lengths at which is asked: none, about a word, about a block, and a word past it.
+const LENGTHS: [u64; 7] = [0, 1, 64, 65_535, 65_536, 65_537, 65_600];
 
 const WIDE: Wide<'static> = Wide {
     width: 4,
@@ -165,7 +165,7 @@ fn grow(rt: &impl Abort, index: &mut Index, kinds: &[Row], rows: u64) {
 #[test]
 fn predicates_over_several_blocks(rt: HostRuntime) -> Result<(), Fail> {
     let kinds = kinds_again(rt.alloc())?;
-    let mut index = index_of(rt.alloc(), &COLUMNS, 1, 20_000).expect(&rt, "columns and a limit");
+    let mut index = index_of(rt.alloc(), &COLUMNS, 1, 70_000).expect(&rt, "columns and a limit");
     for rows in LENGTHS {
         grow(&rt, &mut index, &kinds, rows);
         same_counts(&rt, rt.alloc(), &index)?;

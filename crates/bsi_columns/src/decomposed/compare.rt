@@ -26,7 +26,7 @@ const BLOCK: usize = 1024;
 const PART: usize = 64;
 
 /// The most words of a block that is narrowed in place.
-const SHORT_BLOCK: usize = 128;
+const SHORT_BLOCK: usize = 1024;
 
 /// A comparison that the digits decide.
 #[derive(Clone, Copy)]
@@ -104,7 +104,7 @@ impl<E: Encoding> Decomposed<E> {
         }
     }
 
-    /// Keeps in a block of at most 128 words, whose first stands for the 64 rows from row `64 * at` on, the rows whose number
+    /// Keeps in a block of at most 1,024 words, whose first stands for the 64 rows from row `64 * at` on, the rows whose number
     /// compares so with `constant`, which may be past the size. A null row is not kept. What the block has past the last row is
     /// open. Where a component works on whole vectors alone, each call goes over all rows, and takes memory for them.
     pub fn keep_selected(
@@ -114,7 +114,7 @@ impl<E: Encoding> Decomposed<E> {
         at: usize,
         block: &mut [u64],
     ) -> Result<(), NoMemory>
-        requires few { length block.old ≤ 128 }
+        requires few { length block.old ≤ 1024 }
         requires within { at + length block.old ≤ (length self.now.entries + 63) / 64 }
         ensures kept { OnErr result (block.new ≡ block.old) }
         ensures rows { OnOk result ((p : ℕ) → p < 64 * length block.old → 64 * at + p < length self.now.entries → bit_of block.new p
@@ -136,7 +136,7 @@ impl<E: Encoding> Decomposed<E> {
     /// Keeps in such a block the rows whose number passes a test with a constant that is below the size.
     fn keep_tested(&self, test: Test, at: usize, block: &mut [u64]) -> Result<(), NoMemory>
         requires below { test.constant < size_of self.now.bases }
-        requires few { length block.old ≤ 128 }
+        requires few { length block.old ≤ 1024 }
         requires within { at + length block.old ≤ (length self.now.entries + 63) / 64 }
         ensures kept { OnErr result (block.new ≡ block.old) }
         ensures rows { OnOk result ((p : ℕ) → p < 64 * length block.old → 64 * at + p < length self.now.entries → bit_of block.new p

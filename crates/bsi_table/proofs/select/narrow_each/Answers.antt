@@ -7,7 +7,7 @@ use Rattle.bsi_table.proofs.select.narrow_each.Goals as goal
 -- one block more
 pub blocks-2-preserved : goal.blocks-2-preserved
 blocks-2-preserved c =
-    let at : ℕ = 128 * c.blocks-2.k in
+    let at : ℕ = 1024 * c.blocks-2.k in
     let n : ℕ = c.min.result - at in
     let words = c.blocks-2.words in
     let within : at + n ≤ length words = omega (arith, c.min.ensures, c.blocks-2.auto.words, c.blocks-2-test.true, c.div_ceil-k-end.ensures) in

@@ -8,6 +8,6 @@ use Rattle.bsi_table.proofs.select.narrow_each.Given as goal
 -- the blocks so far are narrowed, and the others are as they were
 abbrev pub invariant-blocks-2 : goal.invariant-blocks-2
 invariant-blocks-2 l = record {
-  done : (r : ℕ) → r < 64 * (128 * l.k) → r < l.count → bit_of l.words r ≡ (bit_of l.fn.words r && holds l.pred (row_in l.columns r));
-  rest : (r : ℕ) → 64 * (128 * l.k) ≤ r → bit_of l.words r ≡ bit_of l.fn.words r;
+  done : (r : ℕ) → r < 64 * (1024 * l.k) → r < l.count → bit_of l.words r ≡ (bit_of l.fn.words r && holds l.pred (row_in l.columns r));
+  rest : (r : ℕ) → 64 * (1024 * l.k) ≤ r → bit_of l.words r ≡ bit_of l.fn.words r;
 }

@@ -12,7 +12,7 @@ returns-then-select_block-clause-rows g c = λ p below row.
     let r = 64 * c.args.at + p in
     let entries = c.args.self.now.entries in
     let size : length c.select_block.new.block ≡ length c.args.block.now =
-    omega (arith, c.select_block.auto.block, c.requires.few, length-take {A = ℕ} (length c.args.block.now) (replicate 128 0)) in
+    omega (arith, c.select_block.auto.block, c.requires.few, length-take {A = ℕ} (length c.args.block.now) (replicate 1024 0)) in
     ap (λ ws. bit_of ws p) c.and.ensures ∙ and_bit c.args.block.now c.select_block.new.block (sym size) p below
     ∙ ap (◌&&◌ (bit_of c.args.block.now p))
     (c.if-select_block.ensures p (omega (arith, size, below)) row
