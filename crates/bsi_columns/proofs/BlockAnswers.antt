@@ -1,9 +1,10 @@
 -- What the bits of a block of words say of the rows that it stands for.
 use Rattle.std.proofs.Common.{◌≡◌, ℕ, ◌+◌, ◌-◌, ◌*◌, ◌/◌, ◌%◌, ◌<◌, Bool, true, false, List, ◌++◌, length, get_or, map, refl, sym, ap, ap₂, ◌∙◌, inl, inr, arith}
-use Rattle.std.specs.Prelude.{Option, None, not, is_some, ◌&&◌, ◌==◌, All}
+use Rattle.std.specs.Prelude.{Option, None, not, is_some, ◌&&◌, ◌||◌, ◌==◌, nat_eq, All}
 use Rattle.std.specs.Int.{bit_at}
 use Rattle.std.proofs.lemmas.List.{length-map, get_or-map, get_or_append_left, get_or-append_right, length-append}
 use Rattle.std.proofs.lemmas.Bool.{cases_lt}
+use Rattle.std.proofs.lemmas.Bool.Decides.{nat_tests}
 use Rattle.bsi_bits.specs.Packed.{bit_of}
 use Rattle.bsi_digits.specs.Digits.{size_of, weight, digit_of, IsBaseList}
 use Rattle.bsi_digits.proofs.CallerLemmas.{low_all}
@@ -12,23 +13,26 @@ use Rattle.bsi_columns.specs.Rows.{number_or_zero}
 use Rattle.bsi_columns.specs.Tests.{holds, holds_from, as_wanted, answers}
 use Rattle.bsi_columns.proofs.Answering.{holds_more, nothing_below, cut_answer}
 
--- each bit says whether the digits below component i pass the test
+-- each bit says whether the digits below component i pass the test; below the first there are none, whatever the bits are
 pub record IsNarrowed (bs : List ℕ) (relation : Relation) (n : ℕ) (es : List (Option ℕ)) (at i : ℕ) (block : List ℕ) : Type 0 where
   pub bits : (p : ℕ) → p < 64 * length block → 64 * at + p < length es
-      → bit_of block p ≡ holds relation (number_or_zero (get_or es (64 * at + p) None) % weight bs i) (n % weight bs i)
+      → (nat_eq i 0 || bit_of block p) ≡ holds relation (number_or_zero (get_or es (64 * at + p) None) % weight bs i) (n % weight bs i)
+
+behind_first : (i : ℕ) (b : Bool) → 0 < i → (nat_eq i 0 || b) ≡ b
+behind_first i b some = grind (arith, nat_tests)
 
 module _ {bs : List ℕ} (valid : IsBaseList bs) (relation : Relation) (n : ℕ) (es : List (Option ℕ)) (at : ℕ) where
-  pub narrowed_start : (block : List ℕ) → ((p : ℕ) → p < 64 * length block → bit_of block p ≡ true) → IsNarrowed bs relation n es at 0 block
-  narrowed_start block ones =
+  pub narrowed_start : (block : List ℕ) → IsNarrowed bs relation n es at 0 block
+  narrowed_start block =
       let none : (x : ℕ) → 0 ≡ x % 1 = λ x. omega arith in
       record {
         bits = λ p below row.
-            ones p below ∙ sym (nothing_below relation) ∙ ap₂ (holds relation) (none (number_or_zero (get_or es (64 * at + p) None))) (none n);
+            sym (nothing_below relation) ∙ ap₂ (holds relation) (none (number_or_zero (get_or es (64 * at + p) None))) (none n);
       }
 
   pub narrowed_more : (i d : ℕ) (block after ds : List ℕ) → i < length bs → d ≡ digit_of bs n i → ds ≡ map (λ e. digit_of bs (number_or_zero e) i) es
       → length after ≡ length block → IsNarrowed bs relation n es at i block
-      → ((p : ℕ) → p < 64 * length block → 64 * at + p < length ds → bit_of after p ≡ holds_from relation (bit_of block p) (get_or ds (64 * at + p) 0) d)
+      → ((p : ℕ) → p < 64 * length block → 64 * at + p < length ds → bit_of after p ≡ holds_from relation (nat_eq i 0 || bit_of block p) (get_or ds (64 * at + p) 0) d)
       → IsNarrowed bs relation n es at (i + 1) after
   narrowed_more i d block after ds within d_is ds_is same before step = record {
     bits = λ p below row.
@@ -37,7 +41,8 @@ module _ {bs : List ℕ} (valid : IsBaseList bs) (relation : Relation) (n : ℕ)
         let number : ℕ = number_or_zero (get_or es (64 * at + p) None) in
         let digit : get_or ds (64 * at + p) 0 ≡ digit_of bs number i =
         ap (λ xs. get_or xs (64 * at + p) 0) ds_is ∙ get_or-map (λ (e : Option ℕ). digit_of bs (number_or_zero e) i) es (64 * at + p) None 0 row in
-        step p in_block (omega (arith, rows))
+        behind_first (i + 1) (bit_of after p) (omega arith)
+        ∙ step p in_block (omega (arith, rows))
         ∙ ap (λ low. holds_from relation low (get_or ds (64 * at + p) 0) d) (before.bits p in_block row)
         ∙ ap₂ (holds_from relation (holds relation (number % weight bs i) (n % weight bs i))) digit d_is
         ∙ sym (holds_more valid relation number n i within);
@@ -46,7 +51,7 @@ module _ {bs : List ℕ} (valid : IsBaseList bs) (relation : Relation) (n : ℕ)
   pub narrowed_all : (block : List ℕ) → n < size_of bs → All (λ e. number_or_zero e < size_of bs) es → IsNarrowed bs relation n es at (length bs) block
       → (p : ℕ) → p < 64 * length block → 64 * at + p < length es → bit_of block p ≡ holds relation (number_or_zero (get_or es (64 * at + p) None)) n
   narrowed_all block small all narrowed p below row =
-      narrowed.bits p below row ∙ ap₂ (holds relation) (low_all bs (number_or_zero (get_or es (64 * at + p) None)) (all (64 * at + p) None row)) (low_all bs n small)
+      sym (behind_first (length bs) (bit_of block p) valid.some) ∙ narrowed.bits p below row ∙ ap₂ (holds relation) (low_all bs (number_or_zero (get_or es (64 * at + p) None)) (all (64 * at + p) None row)) (low_all bs n small)
 
 -- the words that begin a list, and those appended to it
 module _ (P : ℕ → Bool) (n at : ℕ) (words block : List ℕ) (long : length words ≡ at) where

@@ -8,7 +8,7 @@ use crate::growth::{push_blocks, push_digits, reserve_each};
 use crate::{Column, Encoding, NoMemory, Op, Rank};
 use bsi_bits::{Bits, room_to_make};
 use bsi_digits::Bases;
-use bsi_slices::End;
+use bsi_slices::{End, NotNull};
 use bsi_slices::stage::{mark_present, place_numbers};
 use std::alloc::Global;
 use std::marker::Model;
@@ -23,7 +23,7 @@ mod vectors;
 pub struct Decomposed<E: Encoding> {
     bases: Bases,
     components: Vec<E>,
-    present: Bits,
+    present: NotNull,
     // (neither the bitmap nor a component has less)
     room: u64,
 }
@@ -54,7 +54,7 @@ impl<E: Encoding> Decomposed<E> {
         Ok(Decomposed {
             bases,
             components,
-            present: Bits::new(alloc),
+            present: NotNull::new(alloc),
             room: 0,
         })
     }
@@ -155,12 +155,12 @@ impl<E: Encoding> Column for Decomposed<E> {
     }
 
     fn nulls_into(&self, out: &mut Bits) {
-        out.copy_from(&self.present);
+        out.copy_from(self.present.bits());
         out.flip();
     }
 
     fn present(&self) -> &Bits {
-        &self.present
+        self.present.bits()
     }
 
     fn copy(&self) -> Result<Self, NoMemory> {

@@ -1,13 +1,23 @@
 -- Steps on a block of words, bit by bit, by the words of a bitmap.
-use Rattle.std.proofs.Common.{◌≡◌, ℕ, ◌+◌, ◌-◌, ◌*◌, ◌/◌, ◌%◌, ◌^◌, ◌<◌, ◌≤◌, Bool, not, List, length, get_or, map, ap, ap₂, sym, ◌∙◌, arith}
-use Rattle.std.specs.Prelude.{◌==◌, ◌||◌, bit_or, max}
+use Rattle.std.proofs.Common.{◌≡◌, ℕ, ◌+◌, ◌-◌, ◌*◌, ◌/◌, ◌%◌, ◌^◌, ◌<◌, ◌≤◌, Bool, true, not, List, length, get_or, map, replicate, ap, ap₂, sym, ◌∙◌, arith}
+use Rattle.std.specs.Prelude.{◌==◌, ◌||◌, bit_or, max, nat_le}
 use Rattle.std.specs.Int.{bit_at, bit_not, w64}
 use Rattle.std.specs.Simd.Lanes.{zip2, chunk}
 use Rattle.std.proofs.lemmas.Simd.{get_or-zip2, get_or-chunk, length-chunk, length-zip2}
-use Rattle.std.proofs.lemmas.List.{get_or-map}
+use Rattle.std.proofs.lemmas.List.{get_or-map, get_or-replicate}
 use Rattle.std.proofs.lemmas.Nat.Bits.{bit_at_or, bit_at_not, bit_at-lt}
 use Rattle.bsi_bits.specs.Packed.{bit_of}
+use Rattle.bsi_bits.proofs.Reading.{all_set}
+use Rattle.bsi_components.specs.Component.{at_most_from}
 use Rattle.std.proofs.lemmas.Bool.Decides.{nat_tests}
+
+-- a place of words of ones
+pub ones_bit : (n p : ℕ) → p < 64 * n → bit_of (replicate n (2 ^ 64 - 1)) p ≡ true
+ones_bit n p within = ap (λ w. bit_at w (p % 64) == 1) (get_or-replicate n (p / 64) (2 ^ 64 - 1) 0 (omega arith)) ∙ all_set (p % 64) (omega arith)
+
+-- where no digit stands below, a digit alone decides
+pub at_most_first : (v d : ℕ) → at_most_from true v d ≡ nat_le v d
+at_most_first v d = grind (arith, nat_tests)
 
 -- a place of the words from `at` on
 pub bit_of-chunk : (at n : ℕ) (words : List ℕ) (p : ℕ) → p < 64 * n → bit_of (chunk at n words) p ≡ bit_of words (64 * at + p)

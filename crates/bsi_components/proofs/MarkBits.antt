@@ -1,14 +1,12 @@
 -- The bits of words that digits mark.
-use Rattle.std.proofs.Common.{◌≡◌, ◌≢◌, ℕ, zero, suc, ◌+◌, ◌*◌, ◌/◌, ◌%◌, ◌^◌, ◌<◌, ◌≤◌, Bool, true, false, List, [], ◌∷◌, length, take, map, get_or, set, inl, inr, ap, ap₂, sym, ◌∙◌, refl, arith, length-set}
-use Rattle.std.specs.Prelude.{◌==◌, ◌&&◌, ◌||◌, bit_or, max, nat_le, nat_lt, nat_eq}
+use Rattle.std.proofs.Common.{◌≡◌, ◌≢◌, ℕ, zero, suc, ◌+◌, ◌*◌, ◌%◌, ◌^◌, ◌<◌, ◌≤◌, Bool, true, false, List, [], ◌∷◌, length, take, map, get_or, set, inl, inr, ap, ap₂, sym, ◌∙◌, refl, arith, length-set}
+use Rattle.std.specs.Prelude.{◌==◌, ◌&&◌, ◌||◌, bit_or, max, nat_le, nat_lt}
 use Rattle.std.specs.Int.{bit_at, w64}
 use Rattle.std.proofs.lemmas.Nat.{pow_pos}
 use Rattle.std.proofs.lemmas.Nat.Bits.{bit_at-zero, bit_at-lt, bit_at_or, bit_at_above, bit_at_set_same, bit_at_set_other}
 use Rattle.std.proofs.lemmas.List.{length-map, length-take, get_or-take, get_or-map, get_or_past, get_or-set_same, get_or-set_other}
 use Rattle.std.proofs.lemmas.Bool.{cases_eq, cases_lt}
 use Rattle.std.proofs.lemmas.Bool.Decides.{nat_tests}
-use Rattle.std.proofs.lemmas.Grind.{get_or_default_zero}
-use Rattle.bsi_bits.specs.Packed.{bits_of}
 use Rattle.bsi_bits.proofs.Reading.{bits_are, get_or-bits_of}
 use Rattle.bsi_bits.proofs.Splicing.{below_power, one_word}
 use Rattle.bsi_components.specs.Marks.{joined, AreMarks}

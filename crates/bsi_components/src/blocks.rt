@@ -19,6 +19,16 @@ pub fn keep_in(bitmap: &Bits, at: usize, block: &mut [u64])
     lanes::and(block, &words[at..at + block.len()]);
 }
 
+/// Writes in the block the rows that the bitmap has.
+pub fn copy_in(bitmap: &Bits, at: usize, block: &mut [u64])
+    requires { at + length block.old ≤ (length bitmap.now.bits + 63) / 64 }
+    ensures len { length block.new ≡ length block.old }
+    ensures bits { (p : ℕ) → p < 64 * length block.old → bit_of block.new p ≡ slice_index_or bitmap.now.bits (64 * at + p) false }
+{
+    let words = bitmap.words();
+    block.copy_from_slice(&words[at..at + block.len()]);
+}
+
 /// Clears in the block the rows that the bitmap has.
 pub fn drop_in(bitmap: &Bits, at: usize, block: &mut [u64])
     requires { at + length block.old ≤ (length bitmap.now.bits + 63) / 64 }

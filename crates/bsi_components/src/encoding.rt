@@ -219,6 +219,19 @@ pub trait Encoding: Drop {
         false
     }
 
+    /// Writes in a block of words, which stand for the rows from `64 * at` on, whether the digit of each row is at most `d`. Returns
+    /// `false` where the encoding works on whole vectors alone; what the block is left with is then left open. The provided
+    /// body lets `le_block` step a block of ones.
+    fn le_block_into(&self, d: u32, at: usize, block: &mut [u64]) -> bool
+        requires below { d < base_of self.now }
+        requires within { at + length block.old ≤ (length (digits self.now) + 63) / 64 }
+        ensures bits { OnTrue result ((p : ℕ) → p < 64 * length block.old → 64 * at + p < length (digits self.now) →
+            bit_of block.new p ≡ nat_le (slice_index (digits self.now) (64 * at + p)) d) }
+    {
+        block.fill(u64::MAX);
+        self.le_block(d, at, block)
+    }
+
     /// Returns the least digit of the rows that a block of words has, where it is at most `limit`. The words stand for the
     /// rows from `64 * at` on, and have none past the last.
     fn least_in_block(&self, limit: u32, at: usize, block: &[u64]) -> EndDigit

@@ -8,7 +8,7 @@ ghost use Rattle.bsi_components.specs.Component.{at_most_from};
 ghost use Rattle.bsi_components.specs.EndDigits.{HasRow};
 
 use crate::NoMemory;
-use crate::blocks::{add_in, drop_in, exceeds, keep_and_add, keep_but_drop, keep_in, meets};
+use crate::blocks::{add_in, copy_in, drop_in, exceeds, keep_and_add, keep_but_drop, keep_in, meets};
 use crate::encoding::{Encoding, EndDigit};
 use crate::marks::{MAX_BASE, SMALL_BASE, join, mark};
 use bsi_bits::{Bitmaps, Bits};
@@ -244,6 +244,22 @@ impl Encoding for RangeComponent {
             keep_and_add(self.bitmap(d), self.bitmap(d - 1), at, block);
         } else {
             keep_in(self.bitmap(0), at, block);
+        }
+        true
+    }
+
+    // It reads one bitmap, where `le_block` may read two.
+    fn le_block_into(&self, d: u32, at: usize, block: &mut [u64]) -> bool
+        requires below { d < self.now.base }
+        requires within { at + length block.old ≤ (length self.now.digits + 63) / 64 }
+        ensures done { IsTrue result }
+        ensures bits { OnTrue result ((p : ℕ) → p < 64 * length block.old → 64 * at + p < length self.now.digits →
+            bit_of block.new p ≡ nat_le (slice_index self.now.digits (64 * at + p)) d) }
+    {
+        if d == self.top() {
+            block.fill(u64::MAX);
+        } else {
+            copy_in(self.bitmap(d), at, block);
         }
         true
     }

@@ -1,6 +1,7 @@
 pub mod Blocks
 pub mod Ends
 pub mod Exchanges
+pub mod NotNull
 pub mod Orders
 pub mod Ranks
 pub mod Rows

@@ -9,6 +9,7 @@ ghost use Rattle.bsi_slices.specs.Totals.{numbers_at, IsLeastOf, IsGreatestOf};
 
 use crate::NoMemory;
 use crate::column::{Column, Op};
+use crate::not_null::NotNull;
 use crate::stage::{mark_present, place_numbers, transpose};
 use bsi_bits::{Bitmaps, Bits};
 use compare::{keep_selected, select};
@@ -26,7 +27,7 @@ pub use ends::End;
 #[derive(Drop)]
 pub struct Slices {
     slices: Bitmaps,
-    present: Bits,
+    present: NotNull,
 }
 
 // Clauses see the width, the list of rows, and for how many more there is room.
@@ -51,7 +52,7 @@ impl Slices {
         let slices = Bitmaps::new(alloc, w as usize)?;
         Ok(Slices {
             slices,
-            present: Bits::new(alloc),
+            present: NotNull::new(alloc),
         })
     }
 
@@ -127,7 +128,7 @@ impl Column for Slices {
         select(
             *self.slices.allocator(),
             self.slices.as_slice(),
-            &self.present,
+            self.present.bits(),
             op,
             constant,
         )
@@ -160,12 +161,12 @@ impl Column for Slices {
     }
 
     fn nulls_into(&self, out: &mut Bits) {
-        out.copy_from(&self.present);
+        out.copy_from(self.present.bits());
         out.flip();
     }
 
     fn present(&self) -> &Bits {
-        &self.present
+        self.present.bits()
     }
 
     fn copy(&self) -> Result<Slices, NoMemory> {
@@ -178,7 +179,7 @@ impl Column for Slices {
 }
 
 /// Makes room for so many more rows. The rows stay, and there is no less room than before, whatever the result.
-fn reserve_rows(slices: &mut Bitmaps, present: &mut Bits, more: u64) -> Result<(), NoMemory>
+fn reserve_rows(slices: &mut Bitmaps, present: &mut NotNull, more: u64) -> Result<(), NoMemory>
     requires sliced { IsSliced present.old.bits slices.old.vectors }
     requires below { length present.old.bits + more ≤ 2 ^ 32 }
     ensures sliced { IsSliced present.new.bits slices.new.vectors }
@@ -194,7 +195,7 @@ fn reserve_rows(slices: &mut Bitmaps, present: &mut Bits, more: u64) -> Result<(
 }
 
 /// Appends a row, in room that is there: to each slice its binary place of the number, which is 0 where the row is null.
-fn push_row(slices: &mut Bitmaps, present: &mut Bits, entry: Option<u64>)
+fn push_row(slices: &mut Bitmaps, present: &mut NotNull, entry: Option<u64>)
     requires sliced { IsSliced present.old.bits slices.old.vectors }
     requires room { 0 < min slices.old.room present.old.room }
     requires below { number_or_zero entry < 2 ^ length slices.old.vectors }
@@ -214,7 +215,7 @@ fn push_row(slices: &mut Bitmaps, present: &mut Bits, entry: Option<u64>)
 }
 
 /// Appends a block of rows, in room that is there: to each slice the word of its binary place of the numbers.
-fn push_rows(slices: &mut Bitmaps, present: &mut Bits, block: &[Option<u64>])
+fn push_rows(slices: &mut Bitmaps, present: &mut NotNull, block: &[Option<u64>])
     requires sliced { IsSliced present.old.bits slices.old.vectors }
     requires few { length block.now ≤ 64 }
     requires room { length block.now ≤ min slices.old.room present.old.room }

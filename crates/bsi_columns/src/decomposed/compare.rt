@@ -4,7 +4,7 @@
 //! leaves nothing to ask is decided before any digit is read. What is found is cut with the not-null bitmap, so that a
 //! complement selects no null.
 
-ghost use Rattle.std.specs.Prelude.{◌≡◌, ℕ, ◌+◌, ◌*◌, ◌/◌, ◌^◌, ◌≤◌, ◌<◌, ◌&&◌, Bool, List, [], None, true, false, length, map, is_some, slice_index, slice_index_or, IfOk, IfSome, OnErr, OnOk};
+ghost use Rattle.std.specs.Prelude.{◌≡◌, ℕ, ◌+◌, ◌*◌, ◌/◌, ◌^◌, ◌≤◌, ◌<◌, ◌&&◌, ◌||◌, Bool, List, [], None, true, false, length, map, is_some, slice_index, slice_index_or, IfOk, IfSome, OnErr, OnOk};
 ghost use Rattle.std.specs.Bool.{OnTrue};
 ghost use Rattle.std.specs.Simd.Lanes.{zip2};
 ghost use Rattle.bsi_bits.specs.Packed.{bit_of};
@@ -99,7 +99,7 @@ impl<E: Encoding> Decomposed<E> {
             Decision::Nothing => {
                 Bits::filled(*self.components.allocator(), self.present.len(), false)
             }
-            Decision::Everything => self.present.copy(),
+            Decision::Everything => self.present.bits().copy(),
             Decision::Tested(test) => self.select(test),
         }
     }
@@ -126,7 +126,7 @@ impl<E: Encoding> Decomposed<E> {
                 Ok(())
             }
             Decision::Everything => {
-                keep_in(&self.present, at, block);
+                self.present.keep_in(at, block);
                 Ok(())
             }
             Decision::Tested(test) => self.keep_tested(test, at, block),
@@ -160,7 +160,7 @@ impl<E: Encoding> Decomposed<E> {
         match self.select_words(test)? {
             Some(words) => Ok(Bits::from_words(words, self.present.len())),
             None => {
-                let found = self.present.copy()?;
+                let found = self.present.bits().copy()?;
                 self.select_vectors(test, found)
             }
         }
@@ -173,7 +173,7 @@ impl<E: Encoding> Decomposed<E> {
         ensures bits { IfOk result (λ o. IfSome o (λ words. (p : ℕ) → p < length self.now.entries → bit_of words.items p
             ≡ slice_index_or (map (answers (λ x. holds test.relation x test.constant) test.wanted) self.now.entries) p false)) }
     {
-        let len = self.present.words().len();
+        let len = self.present.bits().words().len();
         let mut words = Vec::with_capacity(*self.components.allocator(), len)?;
         if self.select_blocks(test, len, &mut words)? {
             Ok(Some(words))
@@ -210,22 +210,20 @@ impl<E: Encoding> Decomposed<E> {
         ensures { OnTrue result ((p : ℕ) → p < 64 * length block.old → 64 * at + p < length self.now.entries → bit_of block.new p
             ≡ slice_index_or (map (answers (λ x. holds test.relation x test.constant) test.wanted) self.now.entries) (64 * at + p) false) }
     {
-        block.fill(u64::MAX);
-        if !self.narrow_block(test, at, block) {
+        if !self.find_block(test, at, block) {
             return false;
         }
         if !test.wanted {
             turn(block);
         }
-        keep_in(&self.present, at, block);
+        self.present.keep_in(at, block);
         true
     }
 
-    /// Clears in a block of ones the rows whose number, as its digits weigh it, fails the test.
-    fn narrow_block(&self, test: Test, at: usize, block: &mut [u64]) -> bool
+    /// Writes in a block the rows whose number, as its digits weigh it, passes the test.
+    fn find_block(&self, test: Test, at: usize, block: &mut [u64]) -> bool
         requires below { test.constant < size_of self.now.bases }
         requires within { at + length block.old ≤ (length self.now.entries + 63) / 64 }
-        requires ones { (p : ℕ) → p < 64 * length block.old → bit_of block.old p ≡ true }
         ensures { OnTrue result ((p : ℕ) → p < 64 * length block.old → 64 * at + p < length self.now.entries → bit_of block.new p
             ≡ holds test.relation (number_or_zero (slice_index_or self.now.entries (64 * at + p) None)) test.constant) }
     {
@@ -235,6 +233,7 @@ impl<E: Encoding> Decomposed<E> {
                 &self.components[i as usize],
                 test.relation,
                 digit,
+                i == 0,
                 at,
                 block,
             ) {
@@ -245,25 +244,27 @@ impl<E: Encoding> Decomposed<E> {
     }
 }
 
-/// Takes one digit more into the test of a block, part by part; `false` where the component works on whole vectors alone.
+/// Takes one digit more into the test of a block, part by part. Of the lowest digit nothing is known before, whatever the block
+/// has. Returns `false` where the component works on whole vectors alone.
 fn narrow_digit<E: Encoding>(
     component: &E,
     relation: Relation,
     digit: u32,
+    is_lowest: bool,
     at: usize,
     block: &mut [u64],
 ) -> bool
     requires below { digit < E.base_of component.now }
     requires within { at + length block.old ≤ (length (E.digits component.now) + 63) / 64 }
     ensures { OnTrue result ((p : ℕ) → p < 64 * length block.old → 64 * at + p < length (E.digits component.now) → bit_of block.new p
-        ≡ holds_from relation (bit_of block.old p) (slice_index (E.digits component.now) (64 * at + p)) digit) }
+        ≡ holds_from relation (is_lowest || bit_of block.old p) (slice_index (E.digits component.now) (64 * at + p)) digit) }
 {
     know_rows(component);
     let len = block.len();
     'parts: for k in 0..len.div_ceil(PART) {
         let from = PART * k;
         let part = &mut block[from..from + PART.min(len - from)];
-        if !narrow_part(component, relation, digit, at + from, part) {
+        if !narrow_part(component, relation, digit, is_lowest, at + from, part) {
             return false;
         }
     }
@@ -282,16 +283,22 @@ fn narrow_part<E: Encoding>(
     component: &E,
     relation: Relation,
     digit: u32,
+    is_lowest: bool,
     at: usize,
     block: &mut [u64],
 ) -> bool
     requires below { digit < E.base_of component.now }
     requires within { at + length block.old ≤ (length (E.digits component.now) + 63) / 64 }
     ensures { OnTrue result ((p : ℕ) → p < 64 * length block.old → 64 * at + p < length (E.digits component.now) → bit_of block.new p
-        ≡ holds_from relation (bit_of block.old p) (slice_index (E.digits component.now) (64 * at + p)) digit) }
+        ≡ holds_from relation (is_lowest || bit_of block.old p) (slice_index (E.digits component.now) (64 * at + p)) digit) }
 {
     match relation {
+        Relation::Equal if is_lowest => {
+            block.fill(u64::MAX);
+            component.eq_block(digit, at, block)
+        }
         Relation::Equal => component.eq_block(digit, at, block),
+        Relation::AtMost if is_lowest => component.le_block_into(digit, at, block),
         Relation::AtMost => component.le_block(digit, at, block),
     }
 }

@@ -20,7 +20,7 @@ impl<E: Encoding> Decomposed<E> {
     {
         let mut part = found.copy()?;
         self.narrow_vectors(test, &mut part, &mut found);
-        cut(&mut found, test.wanted, &self.present);
+        cut(&mut found, test.wanted, self.present.bits());
         Ok(found)
     }
 

@@ -12,7 +12,8 @@ ghost use Rattle.bsi_slices.specs.declared.slices.compare.Selection.TheVariants.
 
 use crate::NoMemory;
 use crate::column::Op;
-use bsi_bits::{Bits, know_fits, lanes};
+use crate::not_null::NotNull;
+use bsi_bits::{Bits, know_fits};
 use std::alloc::Global;
 use std::simd::Simd;
 
@@ -75,7 +76,7 @@ pub fn select(
 /// `constant`. No slice is read where the answer is known.
 pub fn keep_selected(
     slices: &[Bits],
-    present: &Bits,
+    present: &NotNull,
     op: Op,
     constant: u64,
     at: usize,
@@ -88,21 +89,12 @@ pub fn keep_selected(
 {
     match decide(op, constant, 1 << slices.len()) {
         Selection::Nothing => block.fill(0),
-        Selection::Everything => keep_present(present, at, block),
+        Selection::Everything => present.keep_in(at, block),
         Selection::Tested(test) => {
-            keep_present(present, at, block);
+            present.keep_in(at, block);
             keep(slices, test, at, block);
         }
     }
-}
-
-/// Keeps in a block of words the rows that are not nulls.
-fn keep_present(present: &Bits, at: usize, block: &mut [u64])
-    requires within { at + length block.old ≤ (length present.now.bits + 63) / 64 }
-    ensures { (p : ℕ) → p < 64 * length block.old → bit_of block.new p ≡ (bit_of block.old p && slice_index_or present.now.bits (64 * at + p) false) }
-{
-    let words = present.words();
-    lanes::and(block, &words[at..at + block.len()]);
 }
 
 /// The numbers below a size that a comparison with a constant selects.

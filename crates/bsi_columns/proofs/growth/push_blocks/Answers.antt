@@ -1,6 +1,6 @@
-use Rattle.std.proofs.Common.{◌≡◌, ◌+◌, ◌<◌, ◌≤◌, ℕ, List, [], ◌∷◌, ◌++◌, length, map, get_or, ap, sym, ◌∙◌, refl, arith}
+use Rattle.std.proofs.Common.{◌≡◌, ◌<◌, ℕ, List, length, map, ◌∙◌, refl, arith}
 use Rattle.bsi_digits.specs.Digits.{digit_of}
-use Rattle.bsi_columns.proofs.ComponentLists.{read_map, map_kept, digits_more, rest_after, room_of_old, room_spent, room_after, length-map_is}
+use Rattle.bsi_columns.proofs.ComponentLists.{map_kept, digits_more, rest_after, room_of_old, room_spent, room_after, length-map_is}
 use Rattle.bsi_columns.proofs.growth.push_blocks.Goals as goal
 
 pub loop-i-init : goal.loop-i-init

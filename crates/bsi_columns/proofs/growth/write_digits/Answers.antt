@@ -1,4 +1,4 @@
-use Rattle.std.proofs.Common.{ℕ, length, map, get_or, ◌∙◌, sym, arith}
+use Rattle.std.proofs.Common.{ℕ, ◌∙◌, sym, arith}
 use Rattle.std.proofs.lemmas.List.{length-map, get_or-map, same_lists}
 use Rattle.std.proofs.lemmas.Grind.{get_or_default_zero}
 use Rattle.bsi_digits.specs.Digits.{digit_of}

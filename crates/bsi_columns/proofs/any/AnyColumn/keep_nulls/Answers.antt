@@ -1,4 +1,4 @@
-use Rattle.std.proofs.Common.{◌≡◌, ◌+◌, ◌*◌, ◌&&◌, ℕ, Bool, true, false, not, get_or, refl, ap, ◌∙◌}
+use Rattle.std.proofs.Common.{◌≡◌, ◌+◌, ◌*◌, ◌&&◌, ℕ, false, not, get_or, refl, ap, ◌∙◌}
 use Rattle.std.specs.Prelude.{None, Option, Some, is_none, is_some}
 use Rattle.std.proofs.lemmas.List.{get_or-map}
 use Rattle.bsi_bits.specs.Packed.{bit_of}

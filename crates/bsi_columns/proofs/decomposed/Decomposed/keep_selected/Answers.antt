@@ -1,13 +1,13 @@
 use Rattle.std.proofs.Common.{◌≡◌, ◌<◌, ◌+◌, ◌*◌, ◌&&◌, ℕ, false, length, get_or, map, replicate, sym, ap, ◌∙◌, arith}
-use Rattle.std.specs.Prelude.{All, None, Option, is_some}
-use Rattle.std.proofs.lemmas.List.{get_or-map}
+use Rattle.std.specs.Prelude.{None, Option, is_some}
+use Rattle.std.proofs.lemmas.List.{get_or-map, length-map}
 use Rattle.std.proofs.lemmas.List.Elements.{All-get_or}
 use Rattle.std.proofs.lemmas.Result.{on_ok_weaker}
 use Rattle.bsi_bits.specs.Packed.{bit_of}
 use Rattle.bsi_bits.proofs.Reading.{none_set}
 use Rattle.bsi_digits.specs.Digits.{size_of}
-use Rattle.bsi_columns.specs.Rows.{compares, number_or_zero, selects}
-use Rattle.bsi_columns.specs.Tests.{answers, decides, holds}
+use Rattle.bsi_columns.specs.Rows.{compares, number_or_zero}
+use Rattle.bsi_columns.specs.Tests.{decides}
 use Rattle.bsi_columns.specs.Decomposed.{entries_of}
 use Rattle.bsi_columns.proofs.WordBlocks.{replicate_bit}
 use Rattle.bsi_columns.proofs.Answering.{and_false}
@@ -40,7 +40,8 @@ returns-in-Everything-clause-rows g c =
     let r = 64 * c.args.at + p in
     let e : Option ℕ = get_or entries r None in
     let small : number_or_zero e < size_of bs = All-get_or (λ e. number_or_zero e < size_of bs) entries r None row c.self.invariant.0.below in
-    c.keep_in.ensures.bits p below
+    let rows : length c.self.inside.present.bits ≡ length entries = ap length c.self.invariant.0.present_is ∙ length-map entries is_some in
+    c.keep_in.ensures.bits p below (omega (arith, rows, row))
     ∙ ap (◌&&◌ (bit_of c.args.block.now p))
     (ap (λ bits. get_or bits r false) c.self.invariant.0.present_is ∙ get_or-map is_some entries r None false row
     ∙ entry_all c.args.op c.args.constant (size_of bs) c.decide.result agree c.in-Everything.is e small))

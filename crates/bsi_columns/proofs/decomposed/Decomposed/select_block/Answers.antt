@@ -1,19 +1,13 @@
-use Rattle.std.proofs.Common.{◌≡◌, ◌<◌, ◌+◌, ◌-◌, ◌*◌, ◌^◌, ℕ, true, false, not, length, get_or, map, replicate, ap, ◌∙◌, arith}
+use Rattle.std.proofs.Common.{◌≡◌, ◌<◌, ◌+◌, ◌*◌, ℕ, false, not, length, get_or, map, ap, ◌∙◌, arith}
 use Rattle.std.specs.Prelude.{None, is_some}
+use Rattle.std.proofs.lemmas.List.{length-map}
 use Rattle.bsi_bits.specs.Packed.{bit_of}
-use Rattle.bsi_bits.proofs.Reading.{all_set}
 use Rattle.bsi_columns.specs.Rows.{number_or_zero}
 use Rattle.bsi_columns.specs.Tests.{holds, as_wanted}
 use Rattle.bsi_columns.specs.Decomposed.{entries_of}
-use Rattle.bsi_columns.proofs.WordBlocks.{replicate_bit}
 use Rattle.bsi_columns.proofs.BlockAnswers.{row_answer, answer_turned, answer_kept}
 use Rattle.bsi_columns.proofs.decomposed.Decomposed.select_block.Goals as goal
 use Rattle.bsi_columns.proofs.decomposed.Decomposed.select_block.Goals.{then-not-test, else-not-test}
-
-pub narrow_block-requires-clause-ones : goal.narrow_block-requires-clause-ones
-narrow_block-requires-clause-ones g c = λ p below.
-    let filled : c.fill.new.self ≡ replicate (length c.args.block.now) (2 ^ 64 - 1) = c.fill.ensures.after (λ y same. same) in
-    ap (λ ws. bit_of ws p) filled ∙ replicate_bit (length c.args.block.now) (2 ^ 64 - 1) true all_set p (omega (arith, c.fill.ensures.len))
 
 pub returns : goal.returns
 returns g c = λ p below row.
@@ -24,17 +18,18 @@ returns g c = λ p below row.
     let test = λ (x : ℕ). holds c.args.test.relation x c.args.test.constant in
     let in_row : 64 * at + p < length entries = rw (← c.self.view_is) at row in
     let number : ℕ = number_or_zero (get_or entries (64 * at + p) None) in
-    let narrowed : bit_of c.narrow_block.new.block p ≡ test number = rw (← c.self.view_is) at (c.if-not-narrow_block.ensures p (omega (arith, c.fill.ensures.len)) row) in
+    let narrowed : bit_of c.find_block.new.block p ≡ test number = rw (← c.self.view_is) at (c.if-not-find_block.ensures p below row) in
     let found : bit_of c.if-not-test.block p ≡ as_wanted c.args.test.wanted (test number) =
     elim c.if-not-test.branch [
       | then-not-test w ↦
           answer_turned c.args.test.wanted (bit_of c.if-not-test.block p) (test number) w.if-not-test.true
-          (ap (λ ws. bit_of ws p) w.block-is ∙ w.turn.ensures.bits p (omega (arith, c.fill.ensures.len, c.narrow_block.auto.block)) ∙ ap not narrowed)
+          (ap (λ ws. bit_of ws p) w.block-is ∙ w.turn.ensures.bits p (omega (arith, c.find_block.auto.block)) ∙ ap not narrowed)
       | else-not-test w ↦
           answer_kept c.args.test.wanted (bit_of c.if-not-test.block p) (test number) w.if-not-test.false
           (ap (λ ws. bit_of ws p) w.block-is ∙ narrowed)
     ] in
+    let rows : length present ≡ length entries = ap length c.self.invariant.0.present_is ∙ length-map entries is_some in
     let there : get_or present (64 * at + p) false ≡ get_or (map is_some entries) (64 * at + p) false = ap (λ bits. get_or bits (64 * at + p) false) c.self.invariant.0.present_is in
     rw (← c.self.view_is)
-    (c.keep_in.ensures.bits p (omega (arith, c.if-not-test.auto.block))
+    (c.keep_in.ensures.bits p (omega (arith, c.if-not-test.auto.block)) (omega (arith, rows, in_row))
     ∙ row_answer test c.args.test.wanted entries (64 * at + p) (bit_of c.if-not-test.block p) (get_or present (64 * at + p) false) in_row found there)

@@ -1,6 +1,7 @@
-use Rattle.std.proofs.Common.{◌≡◌, ℕ, map, ◌∙◌}
+use Rattle.std.proofs.Common.{◌≡◌, ℕ, ◌&&◌, map, ap, ◌∙◌}
 use Rattle.bsi_columns.specs.Rows.{number_or_zero}
-use Rattle.bsi_columns.specs.Tests.{holds}
+use Rattle.std.specs.Simd.Lanes.{zip2}
+use Rattle.bsi_columns.specs.Tests.{holds, as_wanted}
 use Rattle.bsi_columns.specs.Decomposed.{entries_of}
 use Rattle.bsi_columns.proofs.Answering.{cut_answers}
 use Rattle.bsi_columns.proofs.decomposed.Decomposed.select_vectors.Goals as goal
@@ -12,4 +13,5 @@ returns g c =
     let entries = entries_of inside.bases present (map g.E.Encoding.digits inside.components.items) in
     let test = λ (x : ℕ). holds c.args.test.relation x c.args.test.constant in
     let found : c.narrow_vectors.new.found.bits ≡ map (λ e. test (number_or_zero e)) entries = rw (← c.self.view_is) at c.narrow_vectors.ensures in
-    rw (← c.self.view_is) (c.cut.ensures ∙ cut_answers test c.args.test.wanted entries c.narrow_vectors.new.found.bits present found c.self.invariant.0.present_is)
+    rw (← c.self.view_is) (c.cut.ensures ∙ ap (λ b. zip2 (λ answer there. as_wanted c.args.test.wanted answer && there) c.narrow_vectors.new.found.bits b.bits) c.bits.ensures
+    ∙ cut_answers test c.args.test.wanted entries c.narrow_vectors.new.found.bits present found c.self.invariant.0.present_is)

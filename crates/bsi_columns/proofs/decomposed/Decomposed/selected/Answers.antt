@@ -1,5 +1,4 @@
 use Rattle.std.proofs.Common.{◌≡◌, ◌<◌, ℕ, false, replicate, map, ap, ◌∙◌, arith}
-use Rattle.std.specs.Prelude.{is_some}
 use Rattle.bsi_bits.specs.BitList.{BitList}
 use Rattle.bsi_digits.specs.Digits.{size_of}
 use Rattle.bsi_columns.specs.Rows.{compares, selects}
@@ -33,8 +32,8 @@ returns-in-Everything g c =
     let entries = entries_of bs present ds in
     let agree : (x : ℕ) → x < size_of bs → decides c.decide.result x ≡ compares c.args.op x c.args.constant = λ x below. c.decide.ensures.decided x (omega (arith, c.size.ensures.size)) in
     rw (← c.self.view_is)
-    (IfOk-same_bits c.copy.result (λ (b : BitList). b.bits) present (map (selects c.args.op c.args.constant) entries)
-    (c.self.invariant.0.present_is ∙ rows_all c.args.op c.args.constant (size_of bs) c.decide.result agree c.in-Everything.is entries c.self.invariant.0.below)
+    (IfOk-same_bits c.copy.result (λ (b : BitList). b.bits) c.bits.result.now.bits (map (selects c.args.op c.args.constant) entries)
+    (ap (λ b. b.bits) c.bits.ensures ∙ c.self.invariant.0.present_is ∙ rows_all c.args.op c.args.constant (size_of bs) c.decide.result agree c.in-Everything.is entries c.self.invariant.0.below)
     c.copy.ensures)
 
 -- the numbers that pass a test, or fail it

@@ -8,4 +8,4 @@ pub returns-clause-bits : goal.returns-clause-bits
 returns-clause-bits g c =
     let entries = entries_of c.self.inside.bases c.self.inside.present.bits (map g.E.Encoding.digits c.self.inside.components.items) in
     rw (← c.self.view_is)
-    (c.flip.ensures.bits ∙ ap (map not) (c.copy_from.ensures.bits ∙ c.self.invariant.0.present_is) ∙ nulls_are entries)
+    (c.flip.ensures.bits ∙ ap (map not) (c.copy_from.ensures.bits ∙ ap (λ b. b.bits) c.bits.ensures ∙ c.self.invariant.0.present_is) ∙ nulls_are entries)

@@ -1,11 +1,11 @@
-use Rattle.std.proofs.Common.{◌≡◌, ◌+◌, ◌<◌, ◌≤◌, ◌∷◌, ◌++◌, [], ℕ, length, take, map, get_or, is_some, ap, ◌∙◌, sym, arith, length-append}
+use Rattle.std.proofs.Common.{◌≡◌, ◌+◌, ◌<◌, ◌≤◌, ◌∷◌, ◌++◌, [], ℕ, length, map, get_or, is_some, ap, ◌∙◌, sym, length-append}
 use Rattle.std.specs.Prelude.{All}
 use Rattle.std.proofs.lemmas.List.{length-map}
 use Rattle.std.proofs.lemmas.List.Elements.{All-nil, All-push}
 use Rattle.bsi_digits.specs.Digits.{digit_of, size_of}
 use Rattle.bsi_columns.specs.Rows.{number_or_zero}
 use Rattle.bsi_columns.specs.Decomposed.{entries_of, Decomposes}
-use Rattle.bsi_columns.proofs.EntriesFrom.{more_entries, entries_from, kept_itself, block_digits, roomy_less}
+use Rattle.bsi_columns.proofs.EntriesFrom.{more_entries, entries_from, kept_itself, roomy_less}
 use Rattle.bsi_columns.proofs.ComponentLists.{length-map_is}
 use Rattle.bsi_columns.proofs.decomposed.DecomposedColumn.push_reserved.Goals as goal
 

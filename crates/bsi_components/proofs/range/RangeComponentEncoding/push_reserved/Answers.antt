@@ -1,4 +1,4 @@
-use Rattle.std.proofs.Common.{◌∷◌, [], ◌++◌, ◌+◌, sym}
+use Rattle.std.proofs.Common.{◌∷◌, [], ◌++◌, sym}
 use Rattle.std.specs.Prelude.{nat_le}
 use Rattle.bsi_components.specs.Range.{range_digits}
 use Rattle.bsi_components.proofs.RangeDigits.{range_more, range_digits_are, itself_range, one_below}

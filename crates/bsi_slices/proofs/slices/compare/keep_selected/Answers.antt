@@ -30,7 +30,7 @@ returns-in-Everything c = λ p below row.
     let r : ℕ = 64 * c.args.at + p in
     let was = bit_of c.args.block.now p in
     let present = c.args.present.now.bits in
-    c.keep_present.ensures p below
+    c.keep_in.ensures.bits p below row
     ∙ ap (λ b. was && b) (sym (ap (λ s. get_or present r false && chosen s (number c.args.slices.now r)) c.in-Everything.is ∙ and-true (get_or present r false)))
     ∙ kept_chosen present c.args.slices.now c.args.op c.args.constant (1 * 2 ^ length c.args.slices.now % 2 ^ 64) size_is c.decide.result c.decide.ensures.chosen was r row
 
@@ -42,9 +42,9 @@ returns-in-Tested c = λ p below row.
     let r : ℕ = 64 * c.args.at + p in
     let was = bit_of c.args.block.now p in
     let present = c.args.present.now.bits in
-    let long = c.keep_present-in-Tested.auto.block in
+    let long = c.keep_in-in-Tested.auto.block in
     c.keep.ensures.inside p (omega arith) (omega (arith, below, long))
-    ∙ ap (λ b. b && passes c.in-Tested.test (number c.args.slices.now r)) (c.keep_present-in-Tested.ensures p below)
+    ∙ ap (λ b. b && passes c.in-Tested.test (number c.args.slices.now r)) (c.keep_in-in-Tested.ensures.bits p below row)
     ∙ and_assoc was (get_or present r false) (passes c.in-Tested.test (number c.args.slices.now r))
     ∙ ap (λ b. was && b) (sym (ap (λ s. get_or present r false && chosen s (number c.args.slices.now r)) c.in-Tested.is))
     ∙ kept_chosen present c.args.slices.now c.args.op c.args.constant (1 * 2 ^ length c.args.slices.now % 2 ^ 64) size_is c.decide.result c.decide.ensures.chosen was r row

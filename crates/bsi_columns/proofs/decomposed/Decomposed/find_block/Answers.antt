@@ -5,13 +5,13 @@ use Rattle.bsi_columns.specs.Rows.{number_or_zero}
 use Rattle.bsi_columns.specs.Decomposed.{entries_of}
 use Rattle.bsi_columns.proofs.ComponentLists.{read_map}
 use Rattle.bsi_columns.proofs.BlockAnswers.{IsNarrowed, narrowed_start, narrowed_more, narrowed_all}
-use Rattle.bsi_columns.proofs.decomposed.Decomposed.narrow_block.Goals as goal
+use Rattle.bsi_columns.proofs.decomposed.Decomposed.find_block.Goals as goal
 
 pub loop-i-init : goal.loop-i-init
 loop-i-init g c =
     let inside = c.self.inside in
     let entries = entries_of inside.bases inside.present.bits (map g.E.Encoding.digits inside.components.items) in
-    rw (← c.self.view_is) (narrowed_start c.len-i-end.ensures.valid c.args.test.relation c.args.test.constant entries c.args.at c.args.block.now c.requires.ones)
+    rw (← c.self.view_is) (narrowed_start c.len-i-end.ensures.valid c.args.test.relation c.args.test.constant entries c.args.at c.args.block.now)
 
 pub narrow_digit-requires-clause-within : goal.narrow_digit-requires-clause-within
 narrow_digit-requires-clause-within g c =

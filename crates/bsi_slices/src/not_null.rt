@@ -1,0 +1,137 @@
+//! The not-null bitmap of a column, which knows whether a row is null at all.
+
+ghost use Rattle.std.specs.Prelude.{◌≡◌, ℕ, ◌+◌, ◌*◌, ◌/◌, ◌^◌, ◌≤◌, ◌<◌, ◌&&◌, [], ◌∷◌, ◌++◌, length, false, slice_index_or, IsTrue, IfOk, IsOk, OnOk, OnErr};
+ghost use Rattle.std.specs.Int.{bit_at};
+ghost use Rattle.bsi_bits.specs.Packed.{bit_of, bits_of};
+
+use crate::NoMemory;
+use bsi_bits::{Bits, lanes};
+use std::alloc::Global;
+use std::marker::Model;
+
+/// The bitmap of the rows that have a number. Where each row has one, questions do not read it.
+#[derive(Drop)]
+pub struct NotNull {
+    bits: Bits,
+    // (clear only where no row is null)
+    has_null: bool,
+}
+
+// Clauses see the bits and for how many more there is room.
+impl Model for NotNull {
+    ghost use Rattle.bsi_bits.specs.BitList.{BitList};
+    ghost use Rattle.bsi_slices.specs.NotNull.{TellsNulls};
+
+    ghost Value = { BitList };
+
+    ghost view = { λ n. n.bits };
+
+    ghost invariant = { λ n. TellsNulls n.has_null n.bits.bits };
+}
+
+impl NotNull {
+    /// Makes the bitmap of no rows, which takes no memory until it grows.
+    pub fn new(alloc: Global) -> NotNull
+        ensures { result.bits ≡ [] }
+    {
+        NotNull {
+            bits: Bits::new(alloc),
+            has_null: false,
+        }
+    }
+
+    /// Returns the bits, one a row.
+    pub fn bits(&self) -> &Bits
+        ensures { result.now ≡ self.now }
+    {
+        &self.bits
+    }
+
+    /// Returns the number of rows, at most 2^32. At that length there is no room for one more.
+    pub fn len(&self) -> u64
+        ensures len { result ≡ length self.now.bits }
+        ensures within { result ≤ 2 ^ 32 }
+        ensures full { length self.now.bits + self.now.room ≤ 2 ^ 32 }
+    {
+        self.bits.len()
+    }
+
+    /// Returns for how many more rows there is room. There are never more than 2^32 in all.
+    pub fn room(&self) -> u64
+        ensures room { result ≡ self.now.room }
+        ensures within { length self.now.bits + result ≤ 2 ^ 32 }
+    {
+        self.bits.room()
+    }
+
+    /// Makes room for so many more rows, as `Bits::reserve` does for bits.
+    pub fn reserve(&mut self, more: u64) -> Result<(), NoMemory>
+        requires { length self.old.bits + more ≤ 2 ^ 32 }
+        ensures bits { self.new.bits ≡ self.old.bits }
+        ensures ok { OnOk result (more ≤ self.new.room) }
+        ensures kept { self.old.room ≤ self.new.room }
+        ensures err { OnErr result (self.new ≡ self.old) }
+        ensures succeeds { more ≤ self.old.room → IsOk result }
+    {
+        self.bits.reserve(more)
+    }
+
+    /// Appends a row, which has a number or not, in room that is there.
+    pub fn push_reserved(&mut self, is_number: bool)
+        requires { 0 < self.old.room }
+        ensures bits { self.new.bits ≡ self.old.bits ++ is_number ∷ [] }
+        ensures room { self.new.room + 1 ≡ self.old.room }
+    {
+        self.bits.push_reserved(is_number);
+        if !is_number {
+            self.has_null = true;
+        }
+    }
+
+    /// Appends a row for each of the first `count` binary places of a word, the least one first, in room that is there. The
+    /// other places are 0.
+    pub fn push_word_reserved(&mut self, word: u64, count: u64)
+        requires room { count ≤ self.old.room }
+        requires few { count ≤ 64 }
+        requires clear { word < 2 ^ count }
+        ensures bits { self.new.bits ≡ self.old.bits ++ bits_of count (word ∷ []) }
+        ensures room { self.new.room + count ≡ self.old.room }
+    {
+        self.bits.push_word_reserved(word, count);
+        if !begins_with_ones(word, count) {
+            self.has_null = true;
+        }
+    }
+
+    /// Returns a second bitmap of the same rows.
+    pub fn copy(&self) -> Result<NotNull, NoMemory>
+        ensures { IfOk result (λ n. n.bits ≡ self.now.bits) }
+    {
+        Ok(NotNull {
+            bits: self.bits.copy()?,
+            has_null: self.has_null,
+        })
+    }
+
+    /// Keeps in a block of words, whose first stands for the 64 rows from row `64 * at` on, the rows that have a number. What the
+    /// block has past the last row is open. It reads nothing where no row is null.
+    pub fn keep_in(&self, at: usize, block: &mut [u64])
+        requires { at + length block.old ≤ (length self.now.bits + 63) / 64 }
+        ensures len { length block.new ≡ length block.old }
+        ensures bits { (p : ℕ) → p < 64 * length block.old → 64 * at + p < length self.now.bits →
+            bit_of block.new p ≡ (bit_of block.old p && slice_index_or self.now.bits (64 * at + p) false) }
+    {
+        if self.has_null {
+            let words = self.bits.words();
+            lanes::and(block, &words[at..at + block.len()]);
+        }
+    }
+}
+
+/// Returns true only where the first `count` binary places of a word are all 1.
+fn begins_with_ones(word: u64, count: u64) -> bool
+    requires { count ≤ 64 }
+    ensures { IsTrue result → (i : ℕ) → i < count → bit_at word i ≡ 1 }
+{
+    word == u64::MAX || word.trailing_ones() as u64 >= count
+}
