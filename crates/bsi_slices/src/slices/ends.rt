@@ -29,8 +29,9 @@ pub enum End {
 }
 
 impl End {
-    /// Returns whether the best number so far comes before or equals every number whose quotient by `weight` is
-    /// `number` or comes behind `number`.
+    /// Returns true only if the best number so far comes before or equals every number whose quotient by `weight` is
+    /// `number` or comes behind `number`. If it returns false at weight 1, `number` comes before or equals the best
+    /// number so far.
     pub fn leads_all(self, best: Option<u64>, number: u64, weight: u64) -> bool
         requires small { number * weight + weight ≤ 2 ^ 63 }
         requires some { 1 ≤ weight }
