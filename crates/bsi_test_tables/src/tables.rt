@@ -104,7 +104,7 @@ pub(crate) fn index_once(
     }
 }
 
-/// An index of no rows.
+/// Makes an index of no rows. If memory is refused, it makes the same call again.
 pub(crate) fn index_of(
     alloc: Global,
     columns: &[Declared],
