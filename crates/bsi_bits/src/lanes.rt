@@ -195,7 +195,7 @@ pub fn or(a: &mut [u64], b: &[u64])
     combine::<OrWords>(a, b)
 }
 
-/// Inverts, in `a`, the bits that are set in `b`.
+/// Inverts in `a` the bits that are set in `b`.
 pub fn xor(a: &mut [u64], b: &[u64])
     requires { length a.old ≡ length b.now }
     ensures { a.new ≡ zip2 bit_xor a.old b.now }

@@ -21,7 +21,7 @@ pub enum AnyColumn {
 }
 
 impl AnyColumn {
-    /// Keeps, in a block of at most 1,024 words, the rows whose number satisfies the comparison `op` with `constant`,
+    /// Keeps in a block of at most 1,024 words the rows whose number satisfies the comparison `op` with `constant`,
     /// which may be past the size. The first word stands for the 64 rows from row `64 * at` on. A null row is not kept.
     pub fn keep_selected(
         &self,
@@ -46,7 +46,7 @@ impl AnyColumn {
         }
     }
 
-    /// Keeps, in a block of words, the rows that are null. The first word stands for the 64 rows from row `64 * at` on.
+    /// Keeps in a block of words the rows that are null. The first word stands for the 64 rows from row `64 * at` on.
     pub fn keep_nulls(&self, at: usize, block: &mut [u64])
         requires within { at + length block.old ≤ (length (any_entries self.now) + 63) / 64 }
         ensures { (p : ℕ) → p < 64 * length block.old → 64 * at + p < length (any_entries self.now) → bit_of block.new p

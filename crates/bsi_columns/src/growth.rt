@@ -68,7 +68,7 @@ fn push_block<E: Encoding>(component: &mut E, bases: &Bases, i: u32, numbers: &[
     component.push_block_reserved(&digits[..numbers.len()]);
 }
 
-/// Writes, for each number, its digit of component `i`.
+/// Writes for each number its digit of component `i`.
 fn write_digits(bases: &Bases, i: u32, numbers: &[u64], digits: &mut [u32])
     requires within { i < length bases.now }
     requires same { length digits.old ≡ length numbers.now }

@@ -8,7 +8,7 @@ ghost use Rattle.bsi_components.specs.EndDigits.{HasRow};
 
 use bsi_bits::{Bits, know_fits, lanes};
 
-/// Keeps, in the block, the rows that the bitmap has.
+/// Keeps in the block the rows that the bitmap has.
 pub fn keep_in(bitmap: &Bits, at: usize, block: &mut [u64])
     requires { at + length block.old ≤ (length bitmap.now.bits + 63) / 64 }
     ensures len { length block.new ≡ length block.old }
@@ -19,7 +19,7 @@ pub fn keep_in(bitmap: &Bits, at: usize, block: &mut [u64])
     lanes::and(block, &words[at..at + block.len()]);
 }
 
-/// Clears, in the block, the rows that the bitmap has.
+/// Clears in the block the rows that the bitmap has.
 pub fn drop_in(bitmap: &Bits, at: usize, block: &mut [u64])
     requires { at + length block.old ≤ (length bitmap.now.bits + 63) / 64 }
     ensures len { length block.new ≡ length block.old }
@@ -31,7 +31,7 @@ pub fn drop_in(bitmap: &Bits, at: usize, block: &mut [u64])
     lanes::and_not(block, &words[at..at + block.len()]);
 }
 
-/// Sets, in the block, the rows that the bitmap has.
+/// Sets in the block the rows that the bitmap has.
 pub fn add_in(bitmap: &Bits, at: usize, block: &mut [u64])
     requires { at + length block.old ≤ (length bitmap.now.bits + 63) / 64 }
     ensures len { length block.new ≡ length block.old }
@@ -42,7 +42,7 @@ pub fn add_in(bitmap: &Bits, at: usize, block: &mut [u64])
     lanes::or(block, &words[at..at + block.len()]);
 }
 
-/// Keeps, in the block, the rows that `kept` has, and then sets those that `added` has, in one pass.
+/// Keeps in the block the rows that `kept` has, and then sets those that `added` has, in one pass.
 pub fn keep_and_add(kept: &Bits, added: &Bits, at: usize, block: &mut [u64])
     requires kept { at + length block.old ≤ (length kept.now.bits + 63) / 64 }
     requires added { at + length block.old ≤ (length added.now.bits + 63) / 64 }
@@ -55,7 +55,7 @@ pub fn keep_and_add(kept: &Bits, added: &Bits, at: usize, block: &mut [u64])
     lanes::and_or(block, &first[at..end], &second[at..end]);
 }
 
-/// Keeps, in the block, the rows that `kept` has and `dropped` does not have, in one pass.
+/// Keeps in the block the rows that `kept` has and `dropped` does not have, in one pass.
 pub fn keep_but_drop(kept: &Bits, dropped: &Bits, at: usize, block: &mut [u64])
     requires kept { at + length block.old ≤ (length kept.now.bits + 63) / 64 }
     requires dropped { at + length block.old ≤ (length dropped.now.bits + 63) / 64 }
@@ -78,7 +78,7 @@ pub fn turn(block: &mut [u64])
     lanes::not(block);
 }
 
-/// Sets, in the block, the rows that the bitmap does not have.
+/// Sets in the block the rows that the bitmap does not have.
 pub fn add_missing(bitmap: &Bits, at: usize, block: &mut [u64])
     requires { at + length block.old ≤ (length bitmap.now.bits + 63) / 64 }
     ensures len { length block.new ≡ length block.old }

@@ -9,7 +9,7 @@ pub const MAX_BASE: u32 = 1024;
 /// The most digits for which a small array of words is enough.
 pub const SMALL_BASE: u32 = 64;
 
-/// Sets, in word `j`, the bit of each digit that is `j`, and no other bit. For each digit it looks at one word.
+/// Sets in word `j` the bit of each digit that is `j`, and no other bit. For each digit it looks at one word.
 pub fn mark(block: &[u32], words: &mut [u64])
     requires few { length block.now ≤ 64 }
     requires below { (k : ℕ) → k < length block.now → slice_index block.now k < length words.old }
@@ -22,7 +22,7 @@ pub fn mark(block: &[u32], words: &mut [u64])
     }
 }
 
-/// Sets, in each word, the bits of the words before it.
+/// Sets in each word the bits of the words before it.
 pub fn join(words: &mut [u64])
     ensures long { length words.new ≡ length words.old }
     ensures joined { (j : ℕ) → j < length words.old → slice_index words.new j ≡ joined words.old j }

@@ -166,8 +166,8 @@ impl Shifted {
         self.stored.push_block_reserved(&stored[..block.len()]);
     }
 
-    /// Returns, for each row, whether it is a number that satisfies the comparison `op` with `constant`, which may be
-    /// any number. A null row is never selected.
+    /// Returns for each row whether it is a number that satisfies the comparison `op` with `constant`, which may be any
+    /// number. A null row is never selected.
     pub fn compare(&self, op: Op, constant: i128) -> Result<Bits, NoMemory>
         ensures { IfOk result (λ b. b.bits ≡ map (signed_selects op constant) (shifted_entries self.now)) }
     {
@@ -175,7 +175,7 @@ impl Shifted {
         self.stored.compare(op, constant)
     }
 
-    /// Writes, for each row, whether it is null.
+    /// Writes for each row whether it is null.
     pub fn nulls_into(&self, out: &mut Bits)
         requires { length (shifted_entries self.now) ≡ length out.old.bits }
         ensures bits { out.new.bits ≡ map is_none (shifted_entries self.now) }
@@ -184,7 +184,7 @@ impl Shifted {
         self.stored.nulls_into(out);
     }
 
-    /// Keeps, in a block of at most 1,024 words, the rows whose number satisfies the comparison `op` with `constant`,
+    /// Keeps in a block of at most 1,024 words the rows whose number satisfies the comparison `op` with `constant`,
     /// which may be any number. The first word stands for the 64 rows from row `64 * at` on. A null row is not kept.
     pub fn keep_selected(
         &self,
@@ -203,7 +203,7 @@ impl Shifted {
         self.stored.keep_selected(op, constant, at, block)
     }
 
-    /// Keeps, in a block of words, the rows that are null. The first word stands for the 64 rows from row `64 * at` on.
+    /// Keeps in a block of words the rows that are null. The first word stands for the 64 rows from row `64 * at` on.
     /// It allocates no memory.
     pub fn keep_nulls(&self, at: usize, block: &mut [u64])
         requires { at + length block.old ≤ (length (shifted_entries self.now) + 63) / 64 }

@@ -125,12 +125,12 @@ pub trait Column: Drop {
         self.reserve(1)
     }
 
-    /// Returns, for each row, whether it is a number that satisfies the comparison `op` with `constant`, which may be
+    /// Returns for each row whether it is a number that satisfies the comparison `op` with `constant`, which may be
     /// past the size. A null row is never selected.
     fn compare(&self, op: Op, constant: u64) -> Result<Bits, NoMemory>
         ensures { IfOk result (λ b. b.bits ≡ map (selects op constant) (entries self.now)) };
 
-    /// Writes, for each row, whether it is null.
+    /// Writes for each row whether it is null.
     fn nulls_into(&self, out: &mut Bits)
         requires { length (entries self.now) ≡ length out.old.bits }
         ensures bits { out.new.bits ≡ map is_none (entries self.now) }

@@ -72,9 +72,9 @@ impl Slices {
         &self.slices.as_slice()[i as usize]
     }
 
-    /// Keeps, in a block of words, the rows whose number satisfies the comparison `op` with `constant`, which may be
-    /// past the size. The first word stands for the 64 rows from row `64 * at` on. A null row is not kept. It allocates
-    /// no memory.
+    /// Keeps in a block of words the rows whose number satisfies the comparison `op` with `constant`, which may be past
+    /// the size. The first word stands for the 64 rows from row `64 * at` on. A null row is not kept. It allocates no
+    /// memory.
     pub fn keep_selected(&self, op: Op, constant: u64, at: usize, block: &mut [u64])
         requires { at + length block.old ≤ (length self.now.entries + 63) / 64 }
         ensures { (p : ℕ) → p < 64 * length block.old → 64 * at + p < length self.now.entries → bit_of block.new p

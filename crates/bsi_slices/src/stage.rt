@@ -63,8 +63,8 @@ fn exchange(words: &mut [u64; 64], s: usize, low: u64)
     }
 }
 
-/// Exchanges, as `exchange` does, the `s` rows from `from` on, whose number has a 0 at that place, and the `s` rows
-/// behind them, whose number has a 1 there.
+/// Exchanges that place, as `exchange` does, for the `s` rows from `from` on, whose number has a 0 there, and for the
+/// `s` rows behind them, whose number has a 1 there.
 fn exchange_run(words: &mut [u64; 64], from: usize, s: usize, low: u64)
     requires within { (1 ≤ s) × (from + 2 * s ≤ 64) }
     requires low { IsLow s low }

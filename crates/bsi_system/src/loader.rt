@@ -167,7 +167,7 @@ impl<B: Naming> Loader<B> {
         publisher.end(rt);
     }
 
-    /// Shows, to the prover, the invariants of the loader.
+    /// Shows the prover the invariants of the loader.
     fn show(&self)
         ensures balanced { Balanced self.now }
         ensures within { WithinTold self.now }

@@ -85,7 +85,7 @@ pub(crate) fn push_block_each(columns: &mut [Shifted], rows: &[(u32, Row)])
     }
 }
 
-/// Writes, for each row, its entry of column `c`.
+/// Writes for each row its entry of column `c`.
 fn gather(rows: &[(u32, Row)], c: usize, entries: &mut [Option<i64>])
     requires same { length entries.old ≡ length rows.now }
     requires wide { All (λ row. c < length row.1) rows.now }

@@ -16,9 +16,9 @@ use std::alloc::Global;
 /// The number of words in a block. They stay in the first cache while a predicate goes over them.
 const BLOCK: usize = 1024;
 
-/// Returns, for each of `count` rows, whether the predicate holds of it. Each column that it reads is there. It goes
-/// over the rows in blocks of 65,536, each by the whole predicate. It keeps one or two blocks for each `or` and `not`
-/// around the part that it is reading.
+/// Returns for each of `count` rows whether the predicate holds of it. Each column that it reads is there. It goes over
+/// the rows in blocks of 65,536, each by the whole predicate. It keeps one or two blocks for each `or` and `not` around
+/// the part that it is reading.
 pub(crate) fn select(
     alloc: Global,
     columns: &[Shifted],
@@ -35,7 +35,7 @@ pub(crate) fn select(
     Ok(Bits::from_words(words, count))
 }
 
-/// Keeps, in words that stand for all rows, the rows of which the predicate holds.
+/// Keeps the rows of which the predicate holds, in words that stand for all rows.
 fn narrow_each(
     alloc: Global,
     columns: &[Shifted],
@@ -59,8 +59,8 @@ fn narrow_each(
     Ok(())
 }
 
-/// Keeps, in a block of words, the rows of which the predicate holds. The first word stands for the 64 rows from row
-/// `64 * at` on. It calls itself for each part of the predicate. What it appends to `spare` it takes away again.
+/// Keeps in a block of words the rows of which the predicate holds. The first word stands for the 64 rows from row `64
+/// * at` on. It calls itself for each part of the predicate. What it appends to `spare` it takes away again.
 fn narrow(
     columns: &[Shifted],
     count: u64,

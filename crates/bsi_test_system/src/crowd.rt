@@ -306,7 +306,7 @@ fn take_letter<B: Naming>(board: &Board<B>, place: usize) -> Option<Letter<B>> {
     board.letters.get(place)?.try_lock()?.take()
 }
 
-/// Asks, learns, and asks again. It returns none if a list is shorter than one that the analyst knew.
+/// Asks and learns, and asks again. It returns none if a list is shorter than one that the analyst knew.
 fn look<B: Naming>(analyst: &mut Analyst<B>, letter: Letter<B>, known: u64) -> Option<u64> {
     let Letter { told, len } = letter;
     let before = count_of(analyst)?;

@@ -56,7 +56,7 @@ fn load_to_the_limit<B: Naming, R: Abort>(rt: &R, loader: &mut Loader<B>)
     assert_eq!(rt; loader.counts(), (0, 1));
 }
 
-/// Tells a closing as another feeder's, which hands it back, and then as what it is.
+/// Tells a closing as another feeder's, gets it back, and then tells it as what it is.
 fn settle_as_both<B: Naming, R: Abort>(rt: &R, loader: &mut Loader<B>, closing: Closing)
     requires { IsOf closing loader.old.system }
     ensures { loader.new.system ≡ loader.old.system }

@@ -190,7 +190,7 @@ fn test_fields(schema: &Schema, header: &ByteRecord) -> bool
     true
 }
 
-/// Returns, for each column, how many fields stand before its name.
+/// Returns for each column how many fields stand before its name.
 fn places_of(alloc: Global, schema: &Schema, header: &ByteRecord) -> Result<Vec<usize>, NoMemory>
     ensures { IfOk result (λ places. places.items ≡ map (λ column. place_of (fields_of header.now) column.name) schema.now.columns) }
 {
@@ -201,7 +201,7 @@ fn places_of(alloc: Global, schema: &Schema, header: &ByteRecord) -> Result<Vec<
     Ok(places)
 }
 
-/// Returns, for each column, the numbers that it takes.
+/// Returns for each column the numbers that it takes.
 fn limits_in(alloc: Global, schema: &Schema) -> Result<Vec<Limits>, NoMemory>
     ensures { IfOk result (λ limits. limits.items ≡ map limits_of schema.now.columns) }
 {

@@ -243,7 +243,7 @@ fn mark<B: Naming>(copies: &mut Copies<B>, history: &mut History, len: u64) -> R
     }
 }
 
-/// Shows, at one step, the copy that has every pending operation.
+/// Shows at one step the copy that has every pending operation.
 fn show<B: Naming, R: Wait>(copies: &mut Copies<B>, rt: &R) -> Result<(), NoMemory>
     requires { Stands B.book B.about (fold after copies.old.desk.shown.value (drop copies.old.behind copies.old.log.items)) }
     ensures shown { OnOk result (copies.new.desk.shown.value ≡ fold after copies.old.desk.shown.value (drop copies.old.behind copies.old.log.items)) }

@@ -125,8 +125,7 @@ fn end_digit<E: Encoding>(component: &E, end: End, limit: u32, at: usize, block:
     }
 }
 
-/// Keeps, of the rows of a block, none of which is null, those whose digit is at an end, if this digit is within a
-/// limit.
+/// Keeps those rows of a block, none of which is null, whose digit is at an end, if this digit is within a limit.
 fn keep_nearest<E: Encoding>(
     component: &E,
     present: &Bits,

@@ -25,8 +25,8 @@ impl<E: Encoding> Decomposed<E> {
         Ok(found)
     }
 
-    /// Writes, for each row, whether its number is in the test's relation to the constant, be that wanted or not. A
-    /// null row counts as 0.
+    /// Writes for each row whether its number is in the test's relation to the constant, be that wanted or not. A null
+    /// row counts as 0.
     fn narrow_vectors(&self, test: Test, part: &mut Bits, found: &mut Bits)
         requires below { test.constant < size_of self.now.bases }
         requires same_part { length self.now.entries ≡ length part.old.bits }
@@ -49,7 +49,7 @@ impl<E: Encoding> Decomposed<E> {
     }
 }
 
-/// Writes, for each row, whether its least significant digit is in the relation to the constant's digit.
+/// Writes for each row whether its least significant digit is in the relation to the constant's digit.
 fn first_into<E: Encoding>(component: &E, relation: Relation, digit: u32, found: &mut Bits)
     requires below { digit < E.base_of component.now }
     requires same { length (E.digits component.now) ≡ length found.old.bits }
@@ -91,7 +91,7 @@ fn narrow_into<E: Encoding>(
     }
 }
 
-/// Keeps, of the rows that pass a test or, as wanted, of those that fail it, those that are not null.
+/// Keeps the rows that are not null among those that pass a test or, as wanted, among those that fail it.
 fn cut(found: &mut Bits, wanted: bool, present: &Bits)
     requires { length found.old.bits ≡ length present.now.bits }
     ensures { found.new.bits ≡ zip2 (λ answer there. as_wanted wanted answer && there) found.old.bits present.now.bits }

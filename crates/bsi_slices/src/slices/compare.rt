@@ -49,8 +49,8 @@ struct Test {
     negated: bool,
 }
 
-/// Returns, for each row, whether it is a number that satisfies the comparison `op` with `constant`. It reads no slice
-/// if the answer is already known.
+/// Returns for each row whether it is a number that satisfies the comparison `op` with `constant`. It reads no slice if
+/// the answer is already known.
 pub fn select(
     alloc: Global,
     slices: &[Bits],
@@ -72,8 +72,8 @@ pub fn select(
     }
 }
 
-/// Keeps, in a block of words, the rows whose number satisfies the comparison `op` with `constant`. The first word
-/// stands for the 64 rows from row `64 * at` on. It reads no slice if the answer is already known.
+/// Keeps in a block of words the rows whose number satisfies the comparison `op` with `constant`. The first word stands
+/// for the 64 rows from row `64 * at` on. It reads no slice if the answer is already known.
 pub fn keep_selected(
     slices: &[Bits],
     present: &Bits,
@@ -97,7 +97,7 @@ pub fn keep_selected(
     }
 }
 
-/// Keeps, in a block of words, the rows that are not null. The first word stands for the 64 rows from row `64 * at` on.
+/// Keeps in a block of words the rows that are not null. The first word stands for the 64 rows from row `64 * at` on.
 fn keep_present(present: &Bits, at: usize, block: &mut [u64])
     requires within { at + length block.old ≤ (length present.now.bits + 63) / 64 }
     ensures { (p : ℕ) → p < 64 * length block.old → bit_of block.new p ≡ (bit_of block.old p && slice_index_or present.now.bits (64 * at + p) false) }
@@ -140,7 +140,7 @@ fn tested(relation: Relation, constant: u64, negated: bool) -> Selection
     })
 }
 
-/// Keeps, in `words`, the rows whose numbers pass the test. The first word stands for the 64 rows from row `64 * start`
+/// Keeps in `words` the rows whose numbers pass the test. The first word stands for the 64 rows from row `64 * start`
 /// on. It works on whole blocks first, and on single words behind them.
 fn keep(slices: &[Bits], test: Test, start: usize, words: &mut [u64])
     requires few { length slices.now ≤ 63 }
@@ -179,7 +179,7 @@ fn keep_blocks<const N: usize>(
     }
 }
 
-/// Returns, for the rows of a block, whether their numbers are in the relation to the constant.
+/// Returns for the rows of a block whether their numbers are in the relation to the constant.
 fn related_block<const N: usize>(
     slices: &[Bits],
     relation: Relation,
@@ -200,9 +200,9 @@ fn related_block<const N: usize>(
     }
 }
 
-/// Returns, for the rows of a block, whether their numbers are above the constant. It goes through the binary places
-/// from the least significant up. At a place that is 1 in the constant, a row stays above only if its slice is 1 too.
-/// At a place that is 0 in the constant, each row whose slice is 1 is above.
+/// Returns for the rows of a block whether their numbers are above the constant. It goes through the binary places from
+/// the least significant up. At a place that is 1 in the constant, a row stays above only if its slice is 1 too. At a
+/// place that is 0 in the constant, each row whose slice is 1 is above.
 fn above_block<const N: usize>(slices: &[Bits], constant: u64, at: usize) -> Simd<u64, N>
     requires blocks { (1 ≤ N) × (N ≤ 64) }
     requires few { length slices.now ≤ 63 }
@@ -221,7 +221,7 @@ fn above_block<const N: usize>(slices: &[Bits], constant: u64, at: usize) -> Sim
     above
 }
 
-/// Returns, for the rows of a block, whether their numbers equal the constant.
+/// Returns for the rows of a block whether their numbers equal the constant.
 fn equal_block<const N: usize>(slices: &[Bits], constant: u64, at: usize) -> Simd<u64, N>
     requires blocks { (1 ≤ N) × (N ≤ 64) }
     requires few { length slices.now ≤ 63 }

@@ -87,7 +87,7 @@ fn choose(rank: u64, clear: u64) -> Choice
     }
 }
 
-/// Keeps, of the chosen rows, those that are set in a slice or, as wanted, those that are clear there. Returns how many
+/// Keeps those of the chosen rows that are set in a slice or, as wanted, those that are clear there. Returns how many
 /// of them are clear in the next slice.
 fn narrow(chosen: &mut [u64], slice: &Bits, is_set: bool, next: &Bits) -> u64
     requires packed { IsPacked (length slice.now.bits) chosen.old }
