@@ -12,10 +12,11 @@ use std::marker::Model;
 /// The most bits that a vector holds.
 const MAX_LEN: u64 = 1 << 32;
 
-/// The bits for which there is room once a vector has grown: those of the four words that a `Vec` begins with.
+/// The least room for bits that a vector has once it has grown: that of the four words that a `Vec` begins with.
 const LEAST_ROOM: u64 = 256;
 
-/// Vectors of one length that grow together: there is one test for room, and all that have none grow at once.
+/// Vectors of one length that grow together: a single test tells whether there is room, and if there is none, all grow
+/// at once.
 #[derive(Drop)]
 pub struct Bitmaps {
     vectors: Vec<Bits>,

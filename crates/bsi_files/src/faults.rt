@@ -50,7 +50,7 @@ pub enum FilesFault {
     /// No place was found for a reader of the table, or no copy of it was given.
     #[error("bsi: no reader")]
     Readers,
-    /// Memory was refused, other than that of an answer, or a thread could not be started.
+    /// Memory other than that of an answer was refused, or a thread could not be started.
     #[error("bsi: no memory")]
     NoMemory,
     /// The writer failed, or took no byte.

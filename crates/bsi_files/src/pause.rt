@@ -8,7 +8,7 @@ use std::time::Duration;
 /// How often a thread yields before it sleeps.
 const MOST_YIELDS: u32 = 16;
 
-/// How long it sleeps each time, in microseconds.
+/// How long a thread sleeps each time, in microseconds.
 const SLEEP_MICROS: u64 = 100;
 
 /// How long one thread has waited since it last had something to do.

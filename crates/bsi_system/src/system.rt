@@ -1,4 +1,4 @@
-//! Opens a running system: all of its ends.
+//! The ends of a running system, and how all but the analysts are made.
 
 ghost use Rattle.std.specs.Prelude.{◌≡◌, ◌≤◌, ◌++◌, [], All, IfErr, IfOk, None, OnOk, length, replicate};
 ghost use Rattle.bsi_table.specs.Refusals.{IsFirstOr};

@@ -257,7 +257,7 @@ fn push_rows(columns: &mut Vec<Shifted>, origins: &mut Origins, rows: &[(u32, Ro
     push_sources(origins, rows);
 }
 
-/// Appends the feeder of each row, in room that is there.
+/// Appends the feeder of each row, into room that is already there.
 fn push_sources(origins: &mut Origins, rows: &[(u32, Row)])
     requires reserved { length rows.now ≤ origins.old.room }
     requires from { AreFrom origins.old.feeders rows.now }

@@ -1,4 +1,4 @@
-//! Columns of every form with given rows, and what the tests ask of them. A refused growth is asked for again.
+//! Columns of every form with given rows, and what the tests ask of them. A refused allocation is tried again.
 
 use bsi_bits::Bits;
 use bsi_columns::{AnyColumn, Column, Decomposed, Encoding, NoMemory, Op, Slices};
@@ -20,7 +20,7 @@ pub(crate) enum Form {
 
 pub(crate) const FORMS: [Form; 3] = [Form::Slices, Form::Equality, Form::Range];
 
-/// How wide a column is: in slices, and in bases, the most significant first.
+/// How wide a column is: in slices, and in bases, most significant first.
 #[derive(Clone, Copy)]
 pub(crate) struct Wide<'a> {
     pub(crate) width: u32,

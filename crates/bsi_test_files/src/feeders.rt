@@ -1,4 +1,5 @@
-//! Feeders that read row files, on systems of their own. Each test tolerates one refused growth, and then makes a new system.
+//! Feeders that read row files, on systems of their own. Each test tolerates one refused allocation, and then makes a
+//! new system.
 
 ghost use Rattle.std.specs.Prelude.{◌≡◌, [], length};
 ghost use Rattle.bsi_table.specs.Table.{no_rows};

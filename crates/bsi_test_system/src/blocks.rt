@@ -1,4 +1,5 @@
-//! Held rows that go into the copies of the table in blocks of 64, in one thread. Each test tolerates one refused growth.
+//! Held rows that go into the copies of the table in blocks of 64, in one thread. Each test tolerates one refused
+//! allocation.
 
 ghost use Rattle.std.specs.Prelude.{◌≡◌, [], length};
 ghost use Rattle.bsi_table.specs.Table.{no_rows};

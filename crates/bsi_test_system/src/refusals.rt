@@ -16,7 +16,7 @@ use std::process::Abort;
 use std::sync::Wait;
 use std::test::Fail;
 
-/// Which test is run.
+/// Which test is played.
 #[derive(Clone, Copy)]
 enum Shown {
     Refusals,

@@ -1,4 +1,4 @@
-//! Worked rows on a running system, in one thread. Each test tolerates one refused growth.
+//! Worked rows on a running system, in one thread. Each test tolerates one refused allocation.
 
 ghost use Rattle.std.specs.Prelude.{◌≡◌, [], length};
 ghost use Rattle.bsi_table.specs.Table.{no_rows};

@@ -1,4 +1,4 @@
-//! Step machines: what their makers refuse, runs, and calls that find no memory.
+//! Step machines: what their makers refuse, runs, and calls that are refused memory.
 
 use crate::tables::*;
 use bsi_columns::NoMemory;

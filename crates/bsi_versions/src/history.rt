@@ -127,7 +127,7 @@ impl Reached {
     }
 }
 
-/// The history of one table, to which only its writer adds.
+/// The history of one table, to which only its writer adds. It takes no room except for two numbers.
 #[derive(Drop)]
 pub struct History {
     head: Word<Page, u64, Law>,
