@@ -27,8 +27,8 @@ pub enum AppendError {
 /// The refusals of a query, in the order in which they are checked.
 #[derive(Clone, Copy, Debug, PartialEq, Eq)]
 pub enum AskError {
-    /// There is no column of this number. It is the one that the total reads, or else the first one in the predicate,
-    /// from left to right.
+    /// There is no column of this number. It is the total's column if that is missing, or else the first missing column
+    /// of the predicate, from left to right.
     BadColumn(u32),
     /// Memory was refused.
     NoMemory,
