@@ -1,4 +1,5 @@
-//! The program: hands its words and the standard streams to the shell, and ends with the status that it answers.
+//! The program: it hands its words and the standard streams to the shell, and ends with the status that the shell
+//! returns.
 #![tactic(auto)]
 
 use bsi_shell::{ScriptFault, run_words};
@@ -19,7 +20,7 @@ fn main(rt: HostRuntime) -> ExitCode {
     ExitCode::from(status)
 }
 
-/// Reads the words behind the program's name. A word that is no text makes the words no command, as no word at all.
+/// Reads the words behind the program's name. If one of them is not text, it returns no words, which are not a command.
 fn read_words<R: Env + AllocGlobal>(rt: &R) -> io::Result<Vec<String>> {
     match env::args(rt) {
         Ok(words) => Ok(words.skip(1).collect(rt.alloc())?),

@@ -12,10 +12,11 @@ use std::marker::Model;
 /// The most bits that a vector holds.
 const MAX_LEN: u64 = 1 << 32;
 
-/// The bits for which there is room once a vector has grown: those of the four words that a `Vec` begins with.
+/// The least room for bits that a vector has once it has grown: that of the four words that a `Vec` begins with.
 const LEAST_ROOM: u64 = 256;
 
-/// Vectors of one length that grow together: there is one test for room, and all that have none grow at once.
+/// Vectors of one length that grow together: a single test tells whether there is room, and if there is none, all grow
+/// at once.
 #[derive(Drop)]
 pub struct Bitmaps {
     vectors: Vec<Bits>,
@@ -35,7 +36,7 @@ impl Model for Bitmaps {
 }
 
 impl Bitmaps {
-    /// Makes so many empty vectors, at least one.
+    /// Makes `count` empty vectors, at least one.
     pub fn new(alloc: Global, count: usize) -> Result<Bitmaps, NoMemory>
         requires { 1 ≤ count }
         ensures count { IfOk result (λ made. length made.vectors ≡ count) }
@@ -45,7 +46,7 @@ impl Bitmaps {
         Ok(Bitmaps { vectors, room: 0 })
     }
 
-    /// Makes vectors of the same bits.
+    /// Makes a second list of vectors with the same bits.
     pub fn copy(&self) -> Result<Bitmaps, NoMemory>
         ensures same { IfOk result (λ made. AreSame self.now.vectors made.vectors) }
     {
@@ -71,7 +72,7 @@ impl Bitmaps {
         self.vectors[0].len()
     }
 
-    /// Returns how many more bits each vector can take with no memory.
+    /// Returns how many more bits can be appended to each vector without allocating memory.
     pub fn room(&self) -> u64
         ensures room { result ≡ self.now.room }
         ensures within { length (bits_at self.now.vectors 0) + result ≤ 2 ^ 32 }
@@ -84,8 +85,9 @@ impl Bitmaps {
         self.vectors.allocator()
     }
 
-    /// Makes room for so many more bits in each vector. The bits stay, and there is no less room than before, whatever the
-    /// result. It takes memory only where there is not room for so many; then there is room for at least twice the bits.
+    /// Makes room for `more` further bits in each vector. Whatever the result, the bits stay and there is no less room
+    /// than before. It allocates memory only if there is not enough room already; then there is room for at least twice
+    /// the bits, within 2^32.
     pub fn reserve(&mut self, more: u64) -> Result<(), NoMemory>
         requires { length (bits_at self.old.vectors 0) + more ≤ 2 ^ 32 }
         ensures same { AreSame self.old.vectors self.new.vectors }
@@ -104,7 +106,8 @@ impl Bitmaps {
         Ok(())
     }
 
-    /// Appends a bit to each vector, in room that is there: that which `bit_of` gives of the vector's place.
+    /// Appends a bit to each vector, into room that is already there: the bit that `bit_of` gives for the place of the
+    /// vector.
     pub fn push_each<F: Fn(usize) -> bool>(&mut self, bit_of: F)
         requires room { 0 < self.old.room }
         requires callable { F.IsAlwaysCallable bit_of }
@@ -119,8 +122,8 @@ impl Bitmaps {
         self.room -= 1;
     }
 
-    /// Appends to each vector the first `count` binary places of its word, the least one first, in room that is there. The
-    /// others are 0.
+    /// Appends the first `count` binary places of its word to each vector, least significant first, into room that is
+    /// already there. The other places of the word are 0.
     pub fn push_words(&mut self, words: &[u64], count: u64)
         requires long { length words.now ≡ length self.old.vectors }
         requires room { count ≤ self.old.room }
@@ -138,8 +141,8 @@ impl Bitmaps {
     }
 }
 
-/// Returns for how many more bits to make room behind `len` bits, where so many are needed: as many as there are bits, so that
-/// they double, or the least room, if that is more, and never more than 2^32 in all.
+/// Returns for how many more bits to make room behind `len` bits if `more` are needed: as many as there are bits, so
+/// that they double, or the least room if that is more. There are never more than 2^32 in all.
 pub fn room_to_make(len: u64, more: u64) -> u64
     requires { len + more ≤ 2 ^ 32 }
     ensures enough { more ≤ result }
@@ -148,7 +151,7 @@ pub fn room_to_make(len: u64, more: u64) -> u64
     more.max(len).max(LEAST_ROOM).min(MAX_LEN - len)
 }
 
-/// Makes so many empty vectors.
+/// Makes `count` empty vectors.
 fn empty_each(alloc: Global, count: usize) -> Result<Vec<Bits>, NoMemory>
     ensures count { IfOk result (λ made. length made.items ≡ count) }
     ensures empty { IfOk result (λ made. (j : ℕ) → bits_at made.items j ≡ []) }
@@ -160,7 +163,8 @@ fn empty_each(alloc: Global, count: usize) -> Result<Vec<Bits>, NoMemory>
     Ok(made)
 }
 
-/// Makes room for so many more bits in each vector. The bits stay, and no room gets less, whatever the result.
+/// Makes room for `more` further bits in each vector. Whatever the result, the bits stay and no vector has less room
+/// than before.
 fn reserve_each(vectors: &mut [Bits], more: u64) -> Result<(), NoMemory>
     requires { (j : ℕ) → j < length vectors.old → length (bits_at vectors.old j) + more ≤ 2 ^ 32 }
     ensures same { AreSame vectors.old vectors.new }
@@ -173,7 +177,7 @@ fn reserve_each(vectors: &mut [Bits], more: u64) -> Result<(), NoMemory>
     Ok(())
 }
 
-/// Makes vectors of the same bits.
+/// Makes a second list of vectors with the same bits.
 fn copy_each(vectors: &Vec<Bits>) -> Result<Vec<Bits>, NoMemory>
     ensures { IfOk result (λ made. AreSame vectors.now.items made.items) }
 {

@@ -37,7 +37,7 @@ impl Model for Bits {
 }
 
 impl Bits {
-    /// The empty vector. It takes no memory until it grows.
+    /// Makes the empty vector. It allocates no memory until it grows.
     pub fn new(alloc: Global) -> Bits
         ensures { result.bits ≡ [] }
     {
@@ -47,7 +47,7 @@ impl Bits {
         }
     }
 
-    /// A vector of `n` bits, at most 2^32, each of them `bit`.
+    /// Makes a vector of `n` bits, at most 2^32, each of them `bit`.
     pub fn filled(alloc: Global, n: u64, bit: bool) -> Result<Bits, NoMemory>
         requires { n ≤ 2 ^ 32 }
         ensures { IfOk result (λ b. b.bits ≡ replicate n bit) }
@@ -57,7 +57,8 @@ impl Bits {
         Ok(Bits::from_words(words, n))
     }
 
-    /// A vector of the first `n` bits of `words`, which are as few as hold them. Places past the last bit are cleared.
+    /// Makes a vector of the first `n` bits of `words`, which are as few as hold them. It clears the places past the
+    /// last bit.
     pub fn from_words(mut words: Vec<u64>, n: u64) -> Bits
         requires within { n ≤ 2 ^ 32 }
         requires few { length words.items ≡ (n + 63) / 64 }
@@ -67,7 +68,7 @@ impl Bits {
         Bits { words, len: n }
     }
 
-    /// Gives up the vector for its words, as `words` shows them.
+    /// Gives up the vector and returns its words, as `words` shows them.
     pub fn into_words(self) -> Vec<u64>
         ensures few { length result.items ≡ (length self.bits + 63) / 64 }
         ensures places { (i : ℕ) → bit_of result.items i ≡ slice_index_or self.bits i false }
@@ -76,7 +77,7 @@ impl Bits {
         words
     }
 
-    /// A vector of the same bits.
+    /// Makes a second vector of the same bits.
     pub fn copy(&self) -> Result<Bits, NoMemory>
         ensures { IfOk result (λ b. b.bits ≡ self.now.bits) }
     {
@@ -86,7 +87,7 @@ impl Bits {
         })
     }
 
-    /// The number of bits, at most 2^32. At that length there is no room for one more.
+    /// Returns the number of bits, at most 2^32. At that length there is no room for one more.
     pub fn len(&self) -> u64
         ensures len { result ≡ length self.now.bits }
         ensures within { result ≤ 2 ^ 32 }
@@ -95,14 +96,14 @@ impl Bits {
         self.len
     }
 
-    /// Whether there is no bit.
+    /// Returns whether there is no bit.
     pub fn is_empty(&self) -> bool
         ensures { IsTrue result ↔ (self.now.bits ≡ []) }
     {
         self.len == 0
     }
 
-    /// The bit at place `i`.
+    /// Returns the bit at place `i`.
     pub fn get(&self, i: u64) -> bool
         requires { i < length self.now.bits }
         ensures { slice_get self.now.bits i ≡ Some result }
@@ -110,8 +111,8 @@ impl Bits {
         self.words[(i / 64) as usize] >> (i % 64) & 1 == 1
     }
 
-    /// The words: bit `i` is binary place `i % 64` of word `i / 64`. They are as few as hold the bits, and the places past
-    /// the last bit are 0.
+    /// Returns the words: bit `i` is binary place `i % 64` of word `i / 64`. They are as few as hold the bits, and the
+    /// places past the last bit are 0.
     pub fn words(&self) -> &[u64]
         ensures few { length result.now ≡ (length self.now.bits + 63) / 64 }
         ensures places { (i : ℕ) → bit_of result.now i ≡ slice_index_or self.now.bits i false }
@@ -119,14 +120,15 @@ impl Bits {
         &self.words
     }
 
-    /// The places of the bits that are set, rising.
+    /// Returns an iterator over the places of the bits that are set, in rising order.
     pub fn ones(&self) -> Ones<'_>
         ensures { result ≡ set_places self.now.bits }
     {
         Ones::new(&self.words, self.len)
     }
 
-    /// How many more bits can be appended with no memory. There are never more than 2^32 in all.
+    /// Returns how many more bits can be appended without allocating memory. There are never more than 2^32 bits in
+    /// all.
     pub fn room(&self) -> u64
         ensures room { result ≡ self.now.room }
         ensures within { length self.now.bits + result ≤ 2 ^ 32 }
@@ -134,7 +136,7 @@ impl Bits {
         64 * MAX_WORDS.min(self.words.capacity() as u64) - self.len
     }
 
-    /// Whether one more bit can be appended with no memory. At 2^32 bits there is no room.
+    /// Returns whether one more bit can be appended without allocating memory. At 2^32 bits there is no room.
     pub fn has_room(&self) -> bool
         ensures { result ≡ nat_lt 0 self.now.room }
     {
@@ -153,8 +155,9 @@ impl Bits {
         self.reserve(1)
     }
 
-    /// Makes room for so many more bits. The bits stay, and there is no less room than before, whatever the result. It takes
-    /// memory only where there is not room for so many; then the capacity at least doubles, as that of a `Vec`.
+    /// Makes room for `more` further bits. Whatever the result, the bits stay and there is no less room than before. It
+    /// allocates memory only if there is not enough room already; then the capacity at least doubles, as that of a
+    /// `Vec` does.
     pub fn reserve(&mut self, more: u64) -> Result<(), NoMemory>
         requires { length self.old.bits + more ≤ 2 ^ 32 }
         ensures bits { self.new.bits ≡ self.old.bits }
@@ -170,7 +173,7 @@ impl Bits {
         self.words.reserve(words - self.words.len())
     }
 
-    /// Appends a bit, in room that is there.
+    /// Appends a bit into room that is already there.
     pub fn push_reserved(&mut self, bit: bool)
         requires { 0 < self.old.room }
         ensures bits { self.new.bits ≡ self.old.bits ++ bit ∷ [] }
@@ -180,7 +183,8 @@ impl Bits {
         self.len += 1;
     }
 
-    /// Appends the first `count` binary places of a word, the least one first, in room that is there. The others are 0.
+    /// Appends the first `count` binary places of a word, least significant first, into room that is already there. The
+    /// other places of the word are 0.
     pub fn push_word_reserved(&mut self, word: u64, count: u64)
         requires room { count ≤ self.old.room }
         requires few { count ≤ 64 }

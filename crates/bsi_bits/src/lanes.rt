@@ -1,6 +1,6 @@
 //! Kernels over slices of words: Boolean operations in place and population counts, four words at a time.
 //!
-//! A kernel of two slices takes slices of one length. None takes memory, and each passes over its words once.
+//! The slices of one call have the same length. No kernel allocates memory, and each passes over its words once.
 
 ghost use Rattle.std.specs.Prelude.{◌≡◌, ℕ, ◌+◌, ◌*◌, ◌^◌, ◌≤◌, ◌<◌, length, map, sum_by, bit_and, bit_or, bit_xor, count_ones};
 ghost use Rattle.std.specs.Int.{bit_not, w64};
@@ -8,10 +8,10 @@ ghost use Rattle.std.specs.Simd.Lanes.{zip2};
 
 use std::simd::u64x4;
 
-/// The words that a kernel takes at a time.
+/// The number of words that a kernel takes at a time.
 const LANES: usize = 4;
 
-/// The words whose ones are counted in 64 bits. No memory holds more, so a count goes over one such block.
+/// The most words whose ones are counted in 64 bits. No memory holds more, so a count goes over a single such block.
 const MOST_COUNTED: usize = 1 << 57;
 
 /// A Boolean operation on two words, bit by bit: on single words, and on four side by side.
@@ -133,7 +133,7 @@ fn combine_twice<O: Operation, P: Operation>(a: &mut [u64], b: &[u64], c: &[u64]
     }
 }
 
-/// The ones in four words.
+/// Returns the number of ones in four words.
 fn ones_in(words: u64x4) -> u64
     ensures ones { result ≡ sum_by count_ones words }
     ensures few { result ≤ 256 }
@@ -142,7 +142,8 @@ fn ones_in(words: u64x4) -> u64
     (a.count_ones() + b.count_ones() + c.count_ones() + d.count_ones()) as u64
 }
 
-/// Counts the ones in the operation's words for each pair of words, of which there are few enough that 64 bits hold them.
+/// Counts the ones in the operation's words for each pair of words. There are few enough pairs that 64 bits hold the
+/// count.
 fn count_few_combined<O: Operation>(a: &[u64], b: &[u64]) -> u64
     requires same { length a.now ≡ length b.now }
     requires few { length a.now < 2 ^ 58 }
@@ -194,7 +195,7 @@ pub fn or(a: &mut [u64], b: &[u64])
     combine::<OrWords>(a, b)
 }
 
-/// Turns in `a` the bits that are set in `b`.
+/// Inverts in `a` the bits that are set in `b`.
 pub fn xor(a: &mut [u64], b: &[u64])
     requires { length a.old ≡ length b.now }
     ensures { a.new ≡ zip2 bit_xor a.old b.now }
@@ -218,7 +219,7 @@ pub fn or_not(a: &mut [u64], b: &[u64])
     combine::<OrNotWords>(a, b)
 }
 
-/// Keeps in `a` the bits that are set in `b` too, and sets those of `c`, in one pass: `a AND b OR c`.
+/// Keeps in `a` the bits that are set in `b` too, and then sets those of `c`, in one pass: `a AND b OR c`.
 pub fn and_or(a: &mut [u64], b: &[u64], c: &[u64])
     requires first { length a.old ≡ length b.now }
     requires second { length a.old ≡ length c.now }
@@ -227,7 +228,7 @@ pub fn and_or(a: &mut [u64], b: &[u64], c: &[u64])
     combine_twice::<AndWords, OrWords>(a, b, c)
 }
 
-/// Keeps in `a` the bits that are set in `b` too and not in `c`, in one pass: `a AND b AND NOT c`.
+/// Keeps in `a` the bits that are set in `b` too and clear in `c`, in one pass: `a AND b AND NOT c`.
 pub fn and_and_not(a: &mut [u64], b: &[u64], c: &[u64])
     requires first { length a.old ≡ length b.now }
     requires second { length a.old ≡ length c.now }
@@ -236,7 +237,7 @@ pub fn and_and_not(a: &mut [u64], b: &[u64], c: &[u64])
     combine_twice::<AndWords, AndNotWords>(a, b, c)
 }
 
-/// Turns each bit of `a`.
+/// Inverts each bit of `a`.
 pub fn not(a: &mut [u64])
     ensures { a.new ≡ map (bit_not w64) a.old }
 {
@@ -250,8 +251,8 @@ pub fn not(a: &mut [u64])
     }
 }
 
-/// Counts the ones in words of which there are few enough that 64 bits hold them. The four quarters are read side by side,
-/// since one reader alone does not ask for all that memory can give.
+/// Counts the ones in few enough words that 64 bits hold the count. It reads four quarters side by side, since one
+/// reader alone does not ask for all that memory can deliver.
 fn count_few(a: &[u64]) -> u64
     requires { length a.now < 2 ^ 58 }
     ensures ones { result ≡ sum_by count_ones a.now }
@@ -269,7 +270,7 @@ fn count_few(a: &[u64]) -> u64
     ones
 }
 
-/// Counts the ones in `a`, at most 64 a word.
+/// Counts the ones in `a`, at most 64 per word.
 pub fn count(a: &[u64]) -> u128
     ensures ones { result ≡ sum_by count_ones a.now }
     ensures few { result ≤ 64 * length a.now }
@@ -284,7 +285,7 @@ pub fn count(a: &[u64]) -> u128
     ones
 }
 
-/// Counts the bits that are set in `a` and in `b`, at most 64 a word.
+/// Counts the bits that are set in both `a` and `b`, at most 64 per word.
 pub fn count_and(a: &[u64], b: &[u64]) -> u128
     requires { length a.now ≡ length b.now }
     ensures ones { result ≡ sum_by count_ones (zip2 bit_and a.now b.now) }
@@ -293,7 +294,7 @@ pub fn count_and(a: &[u64], b: &[u64]) -> u128
     count_combined::<AndWords>(a, b)
 }
 
-/// Counts the bits that are set in `a` and not in `b`, at most 64 a word.
+/// Counts the bits that are set in `a` and clear in `b`, at most 64 per word.
 pub fn count_and_not(a: &[u64], b: &[u64]) -> u128
     requires { length a.now ≡ length b.now }
     ensures ones { result ≡ sum_by count_ones (zip2 (λ x y. bit_and x (bit_not w64 y)) a.now b.now) }

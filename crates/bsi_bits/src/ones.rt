@@ -7,7 +7,7 @@ ghost use Rattle.bsi_bits.specs.Packed.{places_from, IsPacked};
 use crate::packing::know_fits;
 use std::marker::Model;
 
-/// Yields the places of the bits that are set, rising. A word with no bit left costs one step.
+/// Yields the places of the bits that are set, in rising order. A word with no bit left costs one step.
 #[derive(Drop)]
 pub struct Ones<'a> {
     words: &'a [u64],
@@ -25,7 +25,7 @@ impl<'a> Model for Ones<'a> {
 }
 
 impl<'a> Ones<'a> {
-    /// All places of the first `len` bits of words that are packed.
+    /// Makes the iterator over the set places among the first `len` bits of packed words.
     pub(crate) fn new(words: &'a [u64], len: u64) -> Ones<'a>
         requires { IsPacked len words.now }
         ensures { result ≡ places_from 0 len words.now }

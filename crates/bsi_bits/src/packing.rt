@@ -37,8 +37,8 @@ pub fn push_bit(words: &mut Vec<u64>, n: u64, bit: bool)
     }
 }
 
-/// Appends the first `count` binary places of a word to `n` packed bits, the least one first. They end in the last word, or
-/// in one behind it.
+/// Appends the first `count` binary places of a word to `n` packed bits, least significant first. They end in the last
+/// word, or in one behind it.
 pub fn push_word(words: &mut Vec<u64>, n: u64, word: u64, count: u64)
     requires within { n + count ≤ 2 ^ 32 }
     requires few { count ≤ 64 }
@@ -63,7 +63,8 @@ pub fn push_word(words: &mut Vec<u64>, n: u64, word: u64, count: u64)
     }
 }
 
-/// Says of words behind a shared reference what their type does: each is below 2^64. It does nothing when it runs.
+/// Tells the prover, of words behind a shared reference, what their type says: each is below 2^64. It does nothing at
+/// run time.
 pub fn know_fits(words: &[u64])
     ensures { (k : ℕ) → slice_index words.now k < 2 ^ 64 }
 {}

@@ -9,7 +9,7 @@ use crate::{Column, Decomposed, EqualityComponent, NoMemory, Op, RangeComponent,
 use bsi_bits::Bits;
 use bsi_components::blocks::drop_in;
 
-/// A column kept in one of the forms. Each call is that of the form.
+/// A column stored in one of the forms. Each call is that of the form.
 #[derive(Drop)]
 pub enum AnyColumn {
     /// A bit slice for each binary place.
@@ -21,8 +21,8 @@ pub enum AnyColumn {
 }
 
 impl AnyColumn {
-    /// Keeps in a block of at most 1,024 words, whose first stands for the 64 rows from row `64 * at` on, the rows whose number
-    /// compares so with `constant`, which may be past the size. A null row is not kept.
+    /// Keeps in a block of at most 1,024 words the rows whose number satisfies the comparison `op` with `constant`,
+    /// which may be past the size. The first word stands for the 64 rows from row `64 * at` on. A null row is not kept.
     pub fn keep_selected(
         &self,
         op: Op,
@@ -46,7 +46,7 @@ impl AnyColumn {
         }
     }
 
-    /// Keeps in such a block the rows that are nulls.
+    /// Keeps in a block of words the rows that are null. The first word stands for the 64 rows from row `64 * at` on.
     pub fn keep_nulls(&self, at: usize, block: &mut [u64])
         requires within { at + length block.old ≤ (length (any_entries self.now) + 63) / 64 }
         ensures { (p : ℕ) → p < 64 * length block.old → 64 * at + p < length (any_entries self.now) → bit_of block.new p

@@ -1,4 +1,4 @@
-//! The digit that a rank falls on: one step of the way from the most significant component down.
+//! The digit that a rank falls on: one step on the way from the most significant component down.
 
 ghost use Rattle.std.specs.Prelude.{◌≡◌, ℕ, ◌+◌, ◌<◌, ◌&&◌, length, count_by, nat_eq, nat_lt};
 ghost use Rattle.std.specs.Simd.Lanes.{zip2};
@@ -7,8 +7,8 @@ ghost use Rattle.bsi_components.specs.Component.{count_where};
 use crate::{Encoding, RankedDigit};
 use bsi_bits::Bits;
 
-/// Finds the digit of the row of the rank, counted from 0 among the chosen rows in order of their digits, and leaves the
-/// chosen rows that have it.
+/// Finds the digit of the row of a rank, counted from 0 among the chosen rows in order of their digits. It leaves
+/// chosen those rows that have this digit.
 pub fn choose<E: Encoding>(
     component: &E,
     rank: u64,

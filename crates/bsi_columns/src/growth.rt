@@ -6,8 +6,8 @@ ghost use Rattle.bsi_digits.specs.Digits.{digit_of, size_of};
 use crate::{Encoding, NoMemory};
 use bsi_digits::Bases;
 
-/// Makes room for so many more digits in each component. The digits stay, and none has less room than before, whatever the
-/// result.
+/// Makes room for `more` further digits in each component. Whatever the result, the digits stay and no component has
+/// less room than before.
 pub(crate) fn reserve_each<E: Encoding>(components: &mut Vec<E>, more: u64) -> Result<(), NoMemory>
     requires { All (λ c. length (E.digits c) + more ≤ 2 ^ 32) components.old.items }
     ensures digits { map E.digits components.new.items ≡ map E.digits components.old.items }
@@ -21,7 +21,7 @@ pub(crate) fn reserve_each<E: Encoding>(components: &mut Vec<E>, more: u64) -> R
     Ok(())
 }
 
-/// Appends to each component its digit of a number, in room that is there.
+/// Appends to each component its digit of a number, into room that is already there.
 pub(crate) fn push_digits<E: Encoding>(components: &mut Vec<E>, bases: &Bases, number: u64)
     requires bases { map E.base_of components.old.items ≡ bases.now }
     requires room { (i : ℕ) → i < length components.old.items → 0 < slice_index (map E.room_of components.old.items) i }
@@ -36,7 +36,7 @@ pub(crate) fn push_digits<E: Encoding>(components: &mut Vec<E>, bases: &Bases, n
     }
 }
 
-/// Appends to each component its digits of a block of numbers, at most 64, in room that is there.
+/// Appends to each component its digits of a block of at most 64 numbers, into room that is already there.
 pub(crate) fn push_blocks<E: Encoding>(components: &mut Vec<E>, bases: &Bases, numbers: &[u64])
     requires bases { map E.base_of components.old.items ≡ bases.now }
     requires few { length numbers.now ≤ 64 }
@@ -52,7 +52,7 @@ pub(crate) fn push_blocks<E: Encoding>(components: &mut Vec<E>, bases: &Bases, n
     }
 }
 
-/// Appends to a component its digits of a block of numbers, at most 64, in room that is there.
+/// Appends to a component its digits of a block of at most 64 numbers, into room that is already there.
 fn push_block<E: Encoding>(component: &mut E, bases: &Bases, i: u32, numbers: &[u64])
     requires within { i < length bases.now }
     requires base { E.base_of component.old ≡ slice_index bases.now i }

@@ -1,5 +1,5 @@
-//! Columns of optional numbers, kept as bit vectors: components under a list of bases, or bit slices; every comparison and
-//! total over them.
+//! Columns of optional numbers, stored as bit vectors: components under a list of bases, or bit slices. Every
+//! comparison and total works over them.
 #![tactic(auto)]
 
 mod any;

@@ -52,7 +52,7 @@ pub fn add_in(bitmap: &Bits, at: usize, block: &mut [u64])
     lanes::or(block, &words[at..at + block.len()]);
 }
 
-/// Keeps in the block the rows that `kept` has, and sets those that `added` has, in one pass.
+/// Keeps in the block the rows that `kept` has, and then sets those that `added` has, in one pass.
 pub fn keep_and_add(kept: &Bits, added: &Bits, at: usize, block: &mut [u64])
     requires kept { at + length block.old ≤ (length kept.now.bits + 63) / 64 }
     requires added { at + length block.old ≤ (length added.now.bits + 63) / 64 }
@@ -65,7 +65,7 @@ pub fn keep_and_add(kept: &Bits, added: &Bits, at: usize, block: &mut [u64])
     lanes::and_or(block, &first[at..end], &second[at..end]);
 }
 
-/// Keeps in the block the rows that `kept` has and `dropped` has not, in one pass.
+/// Keeps in the block the rows that `kept` has and `dropped` does not have, in one pass.
 pub fn keep_but_drop(kept: &Bits, dropped: &Bits, at: usize, block: &mut [u64])
     requires kept { at + length block.old ≤ (length kept.now.bits + 63) / 64 }
     requires dropped { at + length block.old ≤ (length dropped.now.bits + 63) / 64 }
@@ -79,7 +79,7 @@ pub fn keep_but_drop(kept: &Bits, dropped: &Bits, at: usize, block: &mut [u64])
     lanes::and_and_not(block, &first[at..end], &second[at..end]);
 }
 
-/// Turns each row of the block.
+/// Inverts the bit of each row of the block.
 pub fn turn(block: &mut [u64])
     ensures len { length block.new ≡ length block.old }
     ensures bits { (p : ℕ) → p < 64 * length block.old → bit_of block.new p ≡ not (bit_of block.old p) }
@@ -100,7 +100,7 @@ pub fn add_missing(bitmap: &Bits, at: usize, block: &mut [u64])
     lanes::or_not(block, &words[at..at + block.len()]);
 }
 
-/// Whether the block has a row that the bitmap has.
+/// Returns whether the block has a row that the bitmap has.
 pub fn meets(bitmap: &Bits, at: usize, block: &[u64]) -> bool
     requires { at + length block.now ≤ (length bitmap.now.bits + 63) / 64 }
     ensures some { IsTrue result → HasRow (λ p. bit_of block.now p && slice_index_or bitmap.now.bits (64 * at + p) false) (64 * length block.now) }
@@ -116,7 +116,7 @@ pub fn meets(bitmap: &Bits, at: usize, block: &[u64]) -> bool
     seen != 0
 }
 
-/// Whether the block has a row that the bitmap does not have.
+/// Returns whether the block has a row that the bitmap does not have.
 pub fn exceeds(bitmap: &Bits, at: usize, block: &[u64]) -> bool
     requires { at + length block.now ≤ (length bitmap.now.bits + 63) / 64 }
     ensures some { IsTrue result → HasRow (λ p. bit_of block.now p && not (slice_index_or bitmap.now.bits (64 * at + p) false)) (64 * length block.now) }

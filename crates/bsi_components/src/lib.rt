@@ -1,4 +1,4 @@
-//! Components: the digits of one place of a column's numbers, a row each, kept as bitmaps, equality or range encoded.
+//! Components: each stores one digit of the numbers of a column, row by row, as bitmaps, equality or range encoded.
 #![tactic(auto)]
 
 pub mod blocks;

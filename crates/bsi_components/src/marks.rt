@@ -1,4 +1,4 @@
-//! A block of digits as words: bit `k` of word `j` says something of digit `k`.
+//! A block of digits as words: bit `k` of word `j` tells something of digit `k`.
 
 ghost use Rattle.std.specs.Prelude.{◌≡◌, ℕ, ◌<◌, ◌≤◌, ◌==◌, length, slice_index};
 ghost use Rattle.bsi_components.specs.Marks.{joined, AreMarks};
@@ -6,10 +6,10 @@ ghost use Rattle.bsi_components.specs.Marks.{joined, AreMarks};
 /// The most digits of a component.
 pub const MAX_BASE: u32 = 1024;
 
-/// The most digits for which a small array of words will do.
+/// The most digits for which a small array of words is enough.
 pub const SMALL_BASE: u32 = 64;
 
-/// Sets in word `j` the bit of each digit that is `j`, and no other: for a digit one word is looked at.
+/// Sets in word `j` the bit of each digit that is `j`, and no other bit. For each digit it looks at one word.
 pub fn mark(block: &[u32], words: &mut [u64])
     requires few { length block.now ≤ 64 }
     requires below { (k : ℕ) → k < length block.now → slice_index block.now k < length words.old }

@@ -1,4 +1,4 @@
-//! A list of bases, which turns a number into its digits.
+//! A list of bases, under which a number has its digits.
 ghost use Rattle.std.specs.Prelude.{◌≡◌, ℕ, ◌^◌, ◌<◌, ◌≤◌, ◌↔◌, length, slice_index, position, sum, reverse, replicate, EachIndex, IsNone, IfNone, IfOk, IfErr, IfSome, IsErrOf};
 ghost use Rattle.std.specs.Result.{result_err};
 ghost use Rattle.bsi_digits.specs.Digits.{product, size_of, weight, digit_of, IsBase, IsBaseList};
@@ -21,7 +21,7 @@ const WIDEST: u64 = 4096;
 const LARGEST_SIZE: u64 = 1 << 63;
 
 /// A list of 1 to 63 bases. A contract sees the bases least significant first, as the components are numbered:
-/// component 0 is the least significant, and is the last base of the list as written.
+/// component 0 is the least significant, and has the last base of the list as written.
 #[derive(Debug, Drop)]
 pub struct Bases {
     bases: Vec<u32>,
@@ -41,7 +41,7 @@ impl Model for Bases {
 }
 
 impl Bases {
-    /// Takes a list of bases, written most significant first. Takes no memory; a list that is refused is dropped.
+    /// Takes a list of bases, written most significant first. It allocates no memory, and drops a list that it refuses.
     pub fn new(mut bases: Vec<u32>) -> Result<Bases, BasesError>
         ensures refused { result_err result ≡ refusal bases.items }
         ensures ok { IfOk result (λ b. b ≡ reverse bases.items) }
@@ -65,8 +65,8 @@ impl Bases {
         }
     }
 
-    /// Makes `w` bases of 2, from 1 to 63, under which the digits of a number are its binary digits. Another `w` is refused
-    /// as `new` refuses that list, before memory is asked for.
+    /// Makes `w` bases of 2, from 1 to 63, under which the digits of a number are its binary digits. It refuses any
+    /// other `w` as `new` refuses that list, before it asks for memory.
     pub fn twos(alloc: Global, w: u32) -> Result<Bases, BasesError>
         ensures empty { IsErrOf result BasesError.Empty ↔ (w ≡ 0) }
         ensures too_many { IsErrOf result BasesError.TooMany ↔ (63 < w) }
@@ -93,7 +93,7 @@ impl Bases {
         })
     }
 
-    /// Returns how many values the bases tell apart: the product of all of them.
+    /// Returns how many values the bases tell apart, at most 2^63: the product of all bases.
     pub fn size(&self) -> u64
         ensures size { result ≡ size_of self.now }
         ensures within { result ≤ 2 ^ 63 }
@@ -102,7 +102,7 @@ impl Bases {
         self.divisor(self.bases.len()).value()
     }
 
-    /// Returns the number of components, 1 to 63.
+    /// Returns the number of components, from 1 to 63.
     pub fn len(&self) -> u32
         ensures len { result ≡ length self.now }
         ensures within { (1 ≤ result) × (result ≤ 63) }
@@ -120,7 +120,7 @@ impl Bases {
         self.bases[i as usize]
     }
 
-    /// Returns the digit of component `i` of `v`. Costs no division.
+    /// Returns the digit of component `i` of `v`. It costs no division.
     pub fn digit(&self, v: u64, i: u32) -> u32
         requires within { i < length self.now }
         requires below { v < size_of self.now }
@@ -141,7 +141,7 @@ impl Bases {
         self.divisor(i as usize).value()
     }
 
-    /// Returns the weight of the component at `place`, or the size behind the last.
+    /// Returns the weight of the component at `place` or, behind the last component, the size.
     fn divisor(&self, place: usize) -> &Divisor
         requires { place ≤ length self.now }
         ensures weight { result.now ≡ weight self.now place }
@@ -152,7 +152,7 @@ impl Bases {
     }
 }
 
-/// Returns the first place of a base that is out of range.
+/// Returns the first place whose base is out of range.
 fn bad_place(bases: &[u32]) -> Option<usize>
     ensures place { result ≡ position is_bad_base bases.now }
     ensures within { IfSome result (λ place. place < length bases.now) }
@@ -171,8 +171,8 @@ fn width(bases: &[u32]) -> u64
     bases.iter().map(|base| u64::from(*base)).sum()
 }
 
-/// Returns the weight of each component and, behind the last, the product of all bases, which are least significant
-/// first; `None` where the product is over the largest size.
+/// Returns the weight of each component and, behind the last one, the product of all bases. The bases are least
+/// significant first. It returns `None` if the product is over the largest size.
 fn weights(bases: &[u32]) -> Option<[Divisor; 64]>
     requires few { length bases.now ≤ 63 }
     requires each { EachIndex bases.now (λ i. 1 ≤ slice_index bases.now i) }

@@ -10,13 +10,14 @@ pub enum BasesError {
     Empty,
     /// There are more than 63 bases.
     TooMany,
-    /// The base at this place of the list as written, counted from 0, is not from 2 to 1,024; it is the first such place.
+    /// The base at this place of the list as written, counted from 0, is not from 2 to 1,024. It is the first such
+    /// place.
     BaseOutOfRange(u32),
     /// The bases add up to more than 4,096.
     TooWide,
     /// The bases multiply to more than 2^63.
     ProductTooLarge,
-    /// A growth was refused.
+    /// Memory was refused.
     NoMemory,
 }
 

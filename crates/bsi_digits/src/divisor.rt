@@ -1,9 +1,9 @@
-//! A divisor that is kept with its reciprocal, so that a quotient is a multiplication and a shift.
+//! A divisor that is stored with its reciprocal, so that a quotient is a multiplication and a shift.
 ghost use Rattle.std.specs.Prelude.{◌≡◌, ℕ, ◌/◌, ◌^◌, ◌<◌, ◌≤◌};
 
 use std::marker::Model;
 
-/// A divisor of 1 to 2^63.
+/// A divisor from 1 to 2^63.
 #[derive(Clone, Copy, Debug)]
 pub struct Divisor {
     divisor: u64,
@@ -28,7 +28,7 @@ impl Model for Divisor {
 }
 
 impl Divisor {
-    /// Keeps a divisor with its reciprocal. Costs a division.
+    /// Makes a divisor with its reciprocal. It costs a division.
     pub fn new(divisor: u64) -> Divisor
         requires { (1 ≤ divisor) × (divisor ≤ 2 ^ 63) }
         ensures { result ≡ divisor }
@@ -50,7 +50,7 @@ impl Divisor {
         self.divisor
     }
 
-    /// Returns the quotient of `v`, rounded down. Costs no division.
+    /// Returns the quotient of `v`, rounded down. It costs no division.
     pub fn quotient(&self, v: u64) -> u64
         requires { v < 2 ^ 63 }
         ensures { result ≡ v / self.now }

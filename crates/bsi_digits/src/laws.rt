@@ -5,26 +5,26 @@ ghost use Rattle.std.specs.Cmp.Lexicographic.{slice_cmp};
 ghost use Rattle.bsi_digits.specs.Digits.{size_of, components, weighted_sum, digits_of, IsDigits, IsBaseList};
 ghost use Rattle.bsi_digits.specs.Refusal.{refusal};
 
-/// A value below the size has exactly one list of digits.
+/// States that a value below the size has exactly one list of digits.
 pub fn digits_are_unique()
     ensures exist { (bs : List ℕ) (v : ℕ) → IsBaseList bs → v < size_of bs →
         IsDigits bs v (digits_of bs v) }
     ensures unique { (bs ds : List ℕ) (v : ℕ) → IsDigits bs v ds → ds ≡ digits_of bs v }
 {}
 
-/// The digits times their weights add up to the value in whatever order of the components they are added.
+/// States that the digits times their weights add up to the value, in whatever order of the components they are added.
 pub fn weighted_sum_in_any_order()
     ensures { (bs ds order : List ℕ) (v : ℕ) → IsDigits bs v ds → IsPermutation (components bs) order →
         weighted_sum bs ds order ≡ v }
 {}
 
-/// Two values compare as their lists of digits do from the most significant digit down.
+/// States that two values compare as their lists of digits do, from the most significant digit down.
 pub fn values_compare_by_digits()
     ensures { (bs : List ℕ) (u v : ℕ) → IsBaseList bs → u < size_of bs → v < size_of bs →
         slice_cmp nat_cmp (reverse (digits_of bs u)) (reverse (digits_of bs v)) ≡ nat_cmp u v }
 {}
 
-/// A list of bases as written is refused exactly where, least significant first, it is no list of bases.
+/// States that a list of bases as written is refused exactly if, least significant first, it is no list of bases.
 pub fn refusals_are_complete()
     ensures { (bs : List ℕ) → (refusal bs ≡ None) ↔ IsBaseList (reverse bs) }
 {}

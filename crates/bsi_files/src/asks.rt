@@ -14,7 +14,8 @@ use csv::ByteRecord;
 use std::alloc::Global;
 use std::io::{Read, Write};
 
-/// Writes a line for each feeder, and then a line for each record of the text: the answer to its question, or that it is bad.
+/// Writes a line for each feeder, and then a line for each record of the text: the answer to its question, or that it
+/// is bad.
 pub(crate) fn answer_all<B: Naming, A: Read + Drop, W: Write>(
     alloc: Global,
     schema: &Schema,
@@ -73,7 +74,7 @@ fn answer<B: Naming>(
     Ok(())
 }
 
-/// Asks the analyst. Rows are answered in order of feeder, and then of their numbers.
+/// Asks the analyst. It answers rows in order of feeder, and then of their numbers.
 fn ask<B: Naming>(analyst: &mut Analyst<B>, query: &Query) -> Result<Reply, FilesFault>
     ensures { IfErr result (λ fault. is_late fault ≡ true) }
 {

@@ -1,4 +1,4 @@
-//! Why a run over row files ends before its answers do.
+//! Why a run over row files ends early.
 
 ghost use Rattle.std.specs.Prelude.{◌≡◌, true};
 ghost use Rattle.bsi_files.specs.Faults.{is_early, is_late};
@@ -7,7 +7,7 @@ use bsi_text::SourceFault;
 use std::alloc::AllocError;
 use thiserror::Error;
 
-/// Which text beside the row files.
+/// One of the two texts beside the row files.
 #[derive(Clone, Copy, Debug, PartialEq, Eq, Error)]
 pub enum Which {
     /// The file that declares the columns and the row limit.
@@ -18,8 +18,8 @@ pub enum Which {
     AsksFile,
 }
 
-/// Why a run over row files ends before its answers do, in the order of looking. The last ones may come after some lines
-/// were written; before the others nothing was.
+/// Why a run over row files ends early, in the order in which the causes are checked. The last ones may come after some
+/// lines were written; before the others, nothing was written.
 #[derive(Clone, Copy, Debug, PartialEq, Eq, Error)]
 pub enum FilesFault {
     /// There are more than 64 row files.
@@ -31,13 +31,14 @@ pub enum FilesFault {
     /// The text has more than 1,000,000 records.
     #[error("bsi: {0}: input too long")]
     TooLong(Which),
-    /// The schema's record of this number, from 1, declares neither a column nor the row limit, or can't be done.
+    /// The schema's record of this number, from 1, declares neither a column nor the row limit, or cannot be carried
+    /// out.
     #[error("bsi: schema: bad record {0}")]
     BadSchema(u64),
     /// The schema declares no column.
     #[error("bsi: schema: no columns")]
     NoColumns,
-    /// The row file of this number, from 0, gave no more rows.
+    /// The row file of this number, from 0, gives no more rows.
     #[error("bsi: file {0}: {1}")]
     Source(u32, SourceFault),
     /// There are more good rows than the row limit.
@@ -49,7 +50,7 @@ pub enum FilesFault {
     /// No place was found for a reader of the table, or no copy of it was given.
     #[error("bsi: no reader")]
     Readers,
-    /// A growth was refused, other than that of an answer, or a thread could not be started.
+    /// Memory other than that of an answer was refused, or a thread could not be started.
     #[error("bsi: no memory")]
     NoMemory,
     /// The writer failed, or took no byte.
@@ -68,7 +69,7 @@ impl From<AllocError> for FilesFault {
 }
 
 impl FilesFault {
-    /// The fault of a text whose records were not all read.
+    /// Returns the fault of a run for a text whose records were not all read.
     pub(crate) fn of_text(which: Which, fault: SourceFault) -> FilesFault
         ensures schema { which ≡ Which.SchemaFile → is_early result ≡ true }
         ensures asks { which ≡ Which.AsksFile → is_late result ≡ true }

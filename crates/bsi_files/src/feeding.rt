@@ -19,15 +19,16 @@ pub struct FeedEnd {
     pub accepted: u64,
     /// How many records of the source were bad.
     pub bad: u64,
-    /// Whether a row was not sent: the gate said so, or it does not fit the feeder's schema.
+    /// Whether a row was not sent, because the gate stopped the feeder or because the row does not fit the feeder's
+    /// schema.
     pub stopped: bool,
     /// The fault that the source answered.
     pub fault: Option<SourceFault>,
-    /// The feeder's closing, none where its ring gave none.
+    /// The feeder's closing, or none if its ring gave none.
     pub closing: Option<Closing>,
 }
 
-/// What came of one turn of a feeder.
+/// The result of one turn of a feeder.
 pub(crate) enum Turn {
     /// The next row was sent.
     Sent,
@@ -39,9 +40,9 @@ pub(crate) enum Turn {
     Failed(SourceFault),
 }
 
-/// Sends the rows of a source in their order, trying each until it is accepted, and closes the feeder. It stops at a fault of
-/// the source, at a row that does not fit the feeder's schema, and where the gate says so after a try that found no place in the
-/// ring; it waits between two tries. The feeder is closed in each case.
+/// Sends the rows of a source in their order, trying each until it is accepted, and closes the feeder. It waits between
+/// two tries of a row. It stops at a fault of the source, at a row that does not fit the feeder's schema, and where the
+/// gate tells it to, after a try that found no place in the ring. It closes the feeder in each case.
 pub fn feed<R: Wait, I: Read + Drop, G: Gate>(
     rt: &R,
     feeder: Feeder,
@@ -70,7 +71,7 @@ pub fn feed<R: Wait, I: Read + Drop, G: Gate>(
     finish(rt, feeder, source, gate, u64::MAX, true, None)
 }
 
-/// Takes the next row of the source and sends it.
+/// Takes the next row of the source, and sends it.
 fn feed_one<R: Wait, I: Read + Drop, G: Gate>(
     rt: &R,
     feeder: &mut Feeder,
@@ -93,7 +94,7 @@ fn feed_one<R: Wait, I: Read + Drop, G: Gate>(
     }
 }
 
-/// Tries a row until it is accepted, and returns whether it was.
+/// Tries to send a row until it is accepted or the feeder stops, and returns whether it was accepted.
 fn send<R: Wait, G: Gate>(rt: &R, feeder: &mut Feeder, row: Row, gate: &G, point: u64) -> bool
     ensures sent { result ≡ true → feeder.new ≡ with_sent feeder.old row }
     ensures kept { result ≡ false → feeder.new ≡ feeder.old }
@@ -116,7 +117,7 @@ fn send<R: Wait, G: Gate>(rt: &R, feeder: &mut Feeder, row: Row, gate: &G, point
     unreachable!()
 }
 
-/// Closes a feeder of which so many rows were accepted.
+/// Closes a feeder that had `accepted` rows accepted.
 fn finish<R: Wait, I: Read + Drop, G: Gate>(
     rt: &R,
     feeder: Feeder,

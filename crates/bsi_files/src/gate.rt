@@ -1,14 +1,16 @@
-//! A gate: where a feeder that reads a file may be held up, or told to stop.
+//! A gate: it may hold up a feeder that reads a file, or tell it to stop.
 
 use std::sync::Wait;
 
-/// What a feeder calls as it reads a file, so that a test can say which thread goes on, and when.
+/// What a feeder calls while it reads a file, so that a test can decide which thread goes on, and when.
 pub trait Gate {
-    /// Is called by feeder `who` before its first try of a row, where `point` rows were accepted before it; and once more at
-    /// the end, before the feeder is closed, where `point` rows were accepted in all.
+    /// Holds feeder `who` up for as long as it likes. The feeder calls it before its first try of a row, when `point`
+    /// rows were accepted before this one. It calls it once more before it is closed, when `point` rows were accepted
+    /// in all.
     fn pass<R: Wait>(&self, rt: &R, who: u32, point: u64);
 
-    /// Is called by feeder `who` after each try of a row for which its ring had no place, and returns whether to try again.
+    /// Returns whether feeder `who` is to try a row again. The feeder calls it after each try that found no place in
+    /// the ring.
     fn again<R: Wait>(&self, rt: &R, who: u32, point: u64) -> bool;
 }
 

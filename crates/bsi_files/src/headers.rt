@@ -9,10 +9,10 @@ use bsi_text::RowSource;
 use std::alloc::Global;
 use std::io::Read;
 
-/// How many rows of a file may wait for the loader.
+/// How many rows of one file may wait for the loader.
 const CAPACITY: u32 = 1_024;
 
-/// The number of the file at a place. There are at most 64.
+/// Returns the number of the file at a place. There are at most 64 files.
 pub(crate) fn number_of(place: usize) -> u32 {
     u32::try_from(place).unwrap_or(u32::MAX)
 }
@@ -39,7 +39,7 @@ pub(crate) fn begin_all<I: Read + Drop>(
     Ok(sources)
 }
 
-/// The capacity of each file's ring.
+/// Returns the capacity of each file's ring.
 pub(crate) fn capacities(alloc: Global, files: usize) -> Result<Vec<u32>, NoMemory> {
     let mut capacities = Vec::with_capacity(alloc, files)?;
     'files: for _ in 0..files {

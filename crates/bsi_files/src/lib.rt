@@ -1,4 +1,5 @@
-//! Row files by threads: a feeder a file, one loader beside them, and the answers to questions about all of their rows.
+//! Row files by threads: one feeder for each file, one loader beside them, and the answers to questions about all their
+//! rows.
 #![tactic(auto)]
 
 mod asks;

@@ -15,10 +15,10 @@ use std::sync::Wait;
 /// How many rows of one feeder are taken before the next feeder's turn.
 const MOST_IN_TURN: u32 = 256;
 
-/// From how many held rows on they are published.
+/// The number of held rows from which on they are published.
 const MOST_HELD: u64 = 4_096;
 
-/// What a feeder that read a file leaves, but for its closing.
+/// What a feeder that read a file leaves, except for its closing.
 #[derive(Drop)]
 pub(crate) struct Fed {
     pub(crate) accepted: u64,
@@ -27,8 +27,8 @@ pub(crate) struct Fed {
     closed: bool,
 }
 
-/// Takes rows feeder by feeder until all feeders have ended. A row that is refused for another cause than that none is seen ends
-/// it, and from then on feeders whose rings are full stop.
+/// Takes rows, feeder by feeder, until all feeders have ended. It stops at a row that is refused, unless the cause is
+/// that no row is seen. From then on, feeders whose rings are full stop.
 pub(crate) fn load_beside<B: Naming, R: Wait, G: Gate>(
     rt: &R,
     loader: &mut Loader<B>,
@@ -100,8 +100,8 @@ fn load_one<B: Naming>(loader: &mut Loader<B>, feeder: u32) -> Result<bool, File
     }
 }
 
-/// Publishes the held rows where there are many, so that few are kept beside the two copies of the table. A refusal is left to
-/// a later publish.
+/// Publishes the held rows if there are many, so that few are kept beside the two copies of the table. It leaves a
+/// refusal to a later publish.
 fn publish_many<B: Naming, R: Wait>(rt: &R, loader: &mut Loader<B>)
     ensures { loader.new.system ≡ loader.old.system }
 {
@@ -110,8 +110,8 @@ fn publish_many<B: Naming, R: Wait>(rt: &R, loader: &mut Loader<B>)
     }
 }
 
-/// In the feeders' order, tells the loader of each closing and takes all rows that are left. Then a fault of a source is looked
-/// for, and a feeder that left no closing.
+/// Tells the loader of each closing, in the order of the feeders, and takes all rows that are left. Then it looks for a
+/// fault of a source, and for a feeder that left no closing.
 pub(crate) fn load_all<B: Naming, R: Wait>(
     rt: &R,
     loader: &mut Loader<B>,
@@ -185,7 +185,7 @@ fn settle<B: Naming, R: Wait>(
     unreachable!()
 }
 
-/// Looks for the first file whose source answered a fault.
+/// Looks for the first file whose source answered a fault, and answers this fault.
 fn test_sources(fed: &[Fed]) -> Result<(), FilesFault>
     ensures { IfErr result (λ fault. is_early fault ≡ true) }
 {
@@ -197,7 +197,7 @@ fn test_sources(fed: &[Fed]) -> Result<(), FilesFault>
     Ok(())
 }
 
-/// Looks for the first feeder that left no closing.
+/// Looks for the first feeder that left no closing, and answers this fault.
 fn test_closings(fed: &[Fed]) -> Result<(), FilesFault>
     ensures { IfErr result (λ fault. is_early fault ≡ true) }
 {

@@ -1,4 +1,4 @@
-//! How a thread waits that has nothing to do: it yields, and then it sleeps for short times.
+//! How a thread waits that has nothing to do: it yields at first, and then it sleeps for short times.
 
 use std::sync::Wait;
 use std::sync::atomic::AtomicU64;
@@ -8,22 +8,22 @@ use std::time::Duration;
 /// How often a thread yields before it sleeps.
 const MOST_YIELDS: u32 = 16;
 
-/// How long it sleeps each time, in microseconds.
+/// How long a thread sleeps each time, in microseconds.
 const SLEEP_MICROS: u64 = 100;
 
-/// The waiting of one thread since it last had something to do.
+/// How long one thread has waited since it last had something to do.
 #[derive(Clone, Copy)]
 pub(crate) struct Pause {
     yields: u32,
 }
 
 impl Pause {
-    /// Nothing was waited for yet.
+    /// Makes the state of a thread that has not waited yet.
     pub(crate) fn new() -> Pause {
         Pause { yields: 0 }
     }
 
-    /// Yields the processor, or sleeps for 100 microseconds where it has yielded 16 times.
+    /// Yields the processor or, once it has yielded 16 times, sleeps for 100 microseconds.
     pub(crate) fn wait<R: Wait>(&mut self, rt: &R) {
         if self.yields < MOST_YIELDS {
             self.yields += 1;

@@ -23,12 +23,13 @@ use std::thread::{Scope, Threads};
 
 /// Loads the good rows of at most 64 files into one table, and answers the questions over all of them.
 ///
-/// The schema file declares the columns and the most rows. Each file is read by a feeder on a thread of its own, through a ring of
-/// 1,024 rows; the calling thread takes the rows out. Then a line goes to the writer for each file, in their order, and one for each
-/// record of the questions. No line depends on how the threads ran. A feeder that the gate stops is no fault, and what it sent counts.
+/// The schema file declares the columns and the most rows. A feeder on a thread of its own reads each file, and sends
+/// its rows through a ring of 1,024 rows; the calling thread takes the rows out. Then it writes one line for each file,
+/// in their order, and one line for each record of the questions. No line depends on how the threads ran. A feeder that
+/// the gate stops is no fault, and the rows that it sent count.
 ///
-/// The faults are looked for in the order of `FilesFault`, but for want of memory, which is answered where it is met; a thread
-/// that can't be started is one. It keeps two copies of the table, and beside them some thousand rows.
+/// It checks for the faults in the order of `FilesFault`. Only refused memory is answered where it is met, and so is a
+/// thread that cannot be started. It keeps two copies of the table, and beside them some thousand rows.
 pub fn run_files<
     R: Threads + Wait + AllocGlobal + Sync,
     S: Read + Drop,
@@ -66,7 +67,7 @@ pub fn run_files<
     )
 }
 
-/// What a run reads, but for the schema file.
+/// What a run reads, except for the schema file.
 #[derive(Drop)]
 struct Run<A: Drop, I: Read + Drop> {
     schema: Schema,
@@ -150,7 +151,7 @@ fn run_ends<
     answer_all(rt.alloc(), &schema, &mut analyst, &fed, asks, writer)
 }
 
-/// Feeds the files and loads their rows, and returns what each feeder leaves. All threads have ended then.
+/// Feeds the files, loads their rows, and returns what each feeder leaves. When it returns, all threads have ended.
 fn feed_files<
     B: Naming,
     R: Threads + Wait + AllocGlobal + Sync,
@@ -178,7 +179,7 @@ fn feed_files<
     )
 }
 
-/// Feeds the files by threads of a scope, and loads their rows.
+/// Feeds the files by threads of a scope, loads their rows, and returns what each feeder leaves.
 fn feed_in<
     's,
     E,
@@ -211,7 +212,7 @@ fn feed_in<
     Ok(fed)
 }
 
-/// Loads beside the feeders where all were started. Else it tells those whose rings are full to stop.
+/// Loads beside the feeders if all of them were started. Otherwise it tells those whose rings are full to stop.
 fn load_where<B: Naming, R: Wait, G: Gate>(
     rt: &R,
     loader: &mut Loader<B>,

@@ -10,7 +10,7 @@ use csv::ByteRecord;
 use std::alloc::Global;
 use std::io::Read;
 
-/// Reads the columns and the row limit; without a limit it is the greatest there is.
+/// Reads the columns and the row limit. Without a limit in the file, the limit is the greatest there is.
 pub(crate) fn read_table<S: Read + Drop>(
     alloc: Global,
     reader: S,

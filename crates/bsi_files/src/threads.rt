@@ -1,4 +1,4 @@
-//! The feeders' threads: one a file, each started with the promise on its closing.
+//! The feeders' threads: one for each file, started with the promise that its closing keeps.
 
 ghost use Rattle.std.specs.Prelude.{◌≡◌, All, IfOk, IfSome};
 ghost use Rattle.bsi_system.specs.Running.{IsFeederOf, IsOf};
@@ -12,8 +12,8 @@ use std::sync::Wait;
 use std::sync::atomic::{AtomicBool, AtomicU64, Ordering};
 use std::thread::{Promise, PromisedHandle, Scope, Threads};
 
-/// What the feeders' threads and the loader share: the gate of the run, whether the loader goes on, and how many feeders have
-/// ended. Of these two nothing is claimed.
+/// What the feeders' threads and the loader share: the gate of the run, whether the loader goes on, and how many
+/// feeders have ended. Nothing is proved of the latter two.
 #[derive(Drop)]
 pub(crate) struct Watch<'g, G> {
     gate: &'g G,
@@ -22,7 +22,7 @@ pub(crate) struct Watch<'g, G> {
 }
 
 impl<'g, G: Gate> Watch<'g, G> {
-    /// The loader goes on, and no feeder has ended.
+    /// Makes the state in which the loader goes on and no feeder has ended.
     pub(crate) fn new(gate: &'g G) -> Watch<'g, G> {
         Watch {
             gate,
@@ -31,7 +31,7 @@ impl<'g, G: Gate> Watch<'g, G> {
         }
     }
 
-    /// Says that the loader takes no rows any more.
+    /// Notes that the loader takes no more rows.
     pub(crate) fn refuse(&self) {
         self.refused.store(true, Ordering::SeqCst);
     }
@@ -41,7 +41,7 @@ impl<'g, G: Gate> Watch<'g, G> {
         self.ended.load(Ordering::SeqCst)
     }
 
-    /// Feeds a file, and counts that its feeder has ended.
+    /// Feeds a file, and then counts its feeder as ended.
     fn feed<R: Wait, I: Read + Drop>(&self, rt: &R, feeder: Feeder, source: RowSource<I>) -> FeedEnd
         ensures number { IfSome result.closing (λ closing. closing.number ≡ feeder.number) }
         ensures lane { IfSome result.closing (λ closing. closing.lane ≡ feeder.lane) }
@@ -62,7 +62,7 @@ impl<'g, G: Gate> Gate for Watch<'g, G> {
     }
 }
 
-/// The promise of a feeder's thread: a closing is of that feeder.
+/// The promise of a feeder's thread: its closing is that of this feeder.
 #[derive(Drop)]
 pub(crate) struct OfFeeder(Snapshot<Feeder>);
 
@@ -75,7 +75,7 @@ impl Promise<FeedEnd> for OfFeeder {
 /// A feeder's thread.
 pub(crate) type Thread = PromisedHandle<FeedEnd, OfFeeder>;
 
-/// Starts a thread that feeds a file; none where no thread can be made.
+/// Starts a thread that feeds a file, or returns none if no thread can be made.
 fn start<'s, E, R: Wait + Sync + 's, I: Read + Drop + Send + 's, G: Gate + Sync + 's>(
     scope: &Scope<'s, E>,
     rt: &'s R,

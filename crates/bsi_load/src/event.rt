@@ -7,41 +7,41 @@ use bsi_table::{Answer, AppendError, AskError, Query, Row};
 /// One step of a machine. Feeders go by their places, from 0.
 #[derive(Debug, Drop)]
 pub enum Event {
-    /// A row of this feeder is to wait.
+    /// Adds a row to those of this feeder that wait.
     Submit(u32, Row),
-    /// The row of this feeder that waits longest is to be indexed.
+    /// Indexes the row of this feeder that has waited longest.
     Load(u32),
-    /// This feeder ends.
+    /// Ends this feeder.
     Close(u32),
-    /// A query over the indexed rows.
+    /// Asks a query over the indexed rows.
     Ask(Query),
 }
 
-/// Why a row is not accepted, in the order of checking. The row is handed back.
+/// Why a row is not accepted, in the order in which it is checked. The row is handed back.
 #[derive(Debug, Drop, PartialEq, Eq)]
 pub enum SubmitRefused {
     /// There is no such feeder.
     UnknownFeeder(Row),
-    /// The feeder was closed.
+    /// The feeder is closed.
     Closed(Row),
     /// The row does not fit the schema.
     Misfit(Row),
-    /// As many rows of the feeder wait as its capacity.
+    /// As many rows of the feeder wait as its queue can hold.
     Full(Row),
 }
 
-/// Why no row is loaded, in the order of checking.
+/// Why no row is loaded, in the order in which it is checked.
 #[derive(Clone, Copy, Debug, PartialEq, Eq)]
 pub enum LoadRefused {
     /// There is no such feeder.
     UnknownFeeder,
-    /// No row of the feeder waits, and it was closed.
+    /// No row of the feeder waits, and the feeder is closed.
     Ended,
     /// No row of the feeder waits.
     Empty,
     /// The index has as many rows as its limit. The row still waits.
     IndexFull,
-    /// The index found no memory. The row still waits.
+    /// The index was refused memory. The row still waits.
     NoMemory,
 }
 
@@ -58,12 +58,12 @@ impl From<AppendError> for LoadRefused {
     }
 }
 
-/// Why a feeder is not closed, in the order of checking.
+/// Why a feeder is not closed, in the order in which it is checked.
 #[derive(Clone, Copy, Debug, PartialEq, Eq)]
 pub enum CloseRefused {
     /// There is no such feeder.
     UnknownFeeder,
-    /// The feeder was closed before.
+    /// The feeder is already closed.
     AlreadyClosed,
 }
 
@@ -80,7 +80,7 @@ pub enum Reply {
     Answered(Result<Answer, AskError>),
 }
 
-/// A run that did not begin, since the list of its replies found no memory. None of its events was done.
+/// A run that did not begin, since memory was refused for the list of its replies. None of its events took place.
 #[derive(Debug, Drop)]
 pub struct RunRefused {
     /// The events, as they were given.

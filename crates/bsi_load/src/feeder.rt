@@ -7,7 +7,7 @@ use bsi_table::Row;
 use circular_buffer::HeapCircularBuffer;
 use std::marker::Model;
 
-/// The rows of a feeder that wait, at most as many as the queue's capacity, and whether the feeder was closed.
+/// The waiting rows of a feeder, at most as many as the queue's capacity, and whether the feeder is closed.
 #[derive(Drop)]
 pub(crate) struct Feeder {
     pub(crate) queue: HeapCircularBuffer<Row>,
@@ -26,7 +26,7 @@ impl Model for Feeder {
 }
 
 impl Feeder {
-    /// Returns why no row is loaded where none waits.
+    /// Returns why no row is loaded if none waits.
     pub(crate) fn end(&self) -> LoadRefused
         ensures { result ≡ (if self.now.closed then LoadRefused.Ended else LoadRefused.Empty) }
     {

@@ -1,4 +1,4 @@
-//! What follows of every lawful run, as contracts of functions that do nothing.
+//! What follows for every lawful run, as contracts of functions that do nothing.
 
 ghost use Rattle.std.specs.Prelude.{◌≡◌, List, [], ◌∷◌};
 ghost use Rattle.bsi_load.specs.declared.event.Event.{Event};
@@ -6,18 +6,19 @@ ghost use Rattle.bsi_load.specs.declared.event.Reply.{Reply};
 ghost use Rattle.bsi_load.specs.Shown.{Shown, IsLawful};
 ghost use Rattle.bsi_load.specs.Runs.{Done, AreLawful, IsConserved, StaysClosed, past_of, shown_after};
 
-/// In every run whose replies are lawful, each feeder's indexed rows followed by its waiting rows are its accepted rows.
+/// States that, in every run whose replies are lawful, each feeder's indexed rows followed by its waiting rows are its
+/// accepted rows.
 pub fn nothing_is_lost()
     ensures { (s : Shown) → (past : List Done) → AreLawful s past → IsConserved s past }
 {}
 
-/// One event after a run is one event more of it.
+/// States that a lawful run followed by one more lawful event is again one run, with one event more.
 pub fn runs_compose()
     ensures { (s : Shown) → (past : List Done) → (e : Event) → (r : Reply) → AreLawful s past → IsLawful (shown_after s past) e r
         → shown_after (shown_after s past) ((e, r) ∷ []) ≡ shown_after s ((e, r) ∷ past) }
 {}
 
-/// In a lawful run a row that is submitted where its feeder is closed adds nothing.
+/// States that, in a lawful run, a row that is submitted to a closed feeder adds nothing.
 pub fn closed_stays_closed()
     ensures { (s : Shown) → (events : List Event) → (replies : List Reply) → AreLawful s (past_of events replies) → StaysClosed s events replies }
 {}

@@ -37,8 +37,8 @@ impl Model for Core {
 }
 
 impl Core {
-    /// Makes a machine with a feeder for each capacity and an index of at most so many rows. All feeders are open, and no row
-    /// is there.
+    /// Makes a machine with a feeder for each capacity and an index of at most `limit` rows. All feeders are open, and
+    /// there are no rows.
     pub fn new(
         alloc: Global,
         schema: Schema,
@@ -55,7 +55,7 @@ impl Core {
         Ok(Core { index, feeders })
     }
 
-    /// Returns how many feeders there are, from 1 to 64.
+    /// Returns the number of feeders, from 1 to 64.
     pub fn feeders(&self) -> u32
         ensures feeders { result ≡ length self.now.feeders }
         ensures within { (1 ≤ result) × (result ≤ 64) }
@@ -63,7 +63,7 @@ impl Core {
         self.feeders.len() as u32
     }
 
-    /// Returns how many rows of a feeder wait, none where there is no such feeder.
+    /// Returns how many rows of a feeder wait, or none if there is no such feeder.
     pub fn waiting(&self, f: u32) -> Option<u32>
         ensures { result ≡ (if is_unknown self.now f then None else Some (length (feeder_at self.now f).rows)) }
     {
@@ -80,7 +80,7 @@ impl Core {
         self.index.schema()
     }
 
-    /// Takes a row of a feeder, which waits from then on behind the feeder's others. It takes no memory.
+    /// Accepts a row of a feeder. From then on the row waits behind the feeder's other rows. It allocates no memory.
     pub fn submit(&mut self, f: u32, row: Row) -> Result<(), SubmitRefused>
         ensures reply { result ≡ submit_reply self.old f row }
         ensures after { self.new ≡ shown_after self.old ((event.Submit f row, reply.Submitted result) ∷ []) }
@@ -101,8 +101,8 @@ impl Core {
         }
     }
 
-    /// Moves the row of a feeder that waits longest into the index, and returns its position there. Where the index is full
-    /// or finds no memory, the row is still the first that waits.
+    /// Moves the row of a feeder that has waited longest into the index, and returns its row position there. If the
+    /// index is full or is refused memory, the row is still the first that waits.
     pub fn load(&mut self, f: u32) -> Result<u64, LoadRefused>
         ensures reply { IsLoadReply self.old f result }
         ensures after { self.new ≡ shown_after self.old ((event.Load f, reply.Loaded result) ∷ []) }
@@ -119,7 +119,7 @@ impl Core {
         Ok(position)
     }
 
-    /// Ends a feeder. Its rows still wait. It takes no memory.
+    /// Closes a feeder. Its rows still wait. It allocates no memory.
     pub fn close(&mut self, f: u32) -> Result<(), CloseRefused>
         ensures reply { result ≡ close_reply self.old f }
         ensures after { self.new ≡ shown_after self.old ((event.Close f, reply.Closed result) ∷ []) }
@@ -135,14 +135,14 @@ impl Core {
         Ok(())
     }
 
-    /// Answers a query over the indexed rows. What waits is not among them.
+    /// Answers a query over the indexed rows. Waiting rows are not among them.
     pub fn ask(&self, query: &Query) -> Result<Answer, AskError>
         ensures { IsReply self.now.index.schema self.now.index.rows query.now result }
     {
         self.index.ask(query)
     }
 
-    /// Does one event, and returns its reply.
+    /// Carries out one event, and returns its reply.
     fn step(&mut self, event: Event) -> Reply
         ensures lawful { IsLawful self.old event result }
         ensures after { self.new ≡ shown_after self.old ((event, result) ∷ []) }
@@ -155,15 +155,15 @@ impl Core {
         }
     }
 
-    /// Does a list of events in their order, and returns their replies in the same order.
+    /// Carries out a list of events in order, and returns their replies in the same order.
     ///
-    /// For every list of submissions, loads, closings and queries, each feeder's indexed rows followed by its waiting rows
-    /// are exactly its accepted rows, each once and in order of submission; none submitted after its closing is among them;
-    /// and every answered selection and total equals the plain definition over the rows indexed at that step, whatever bases
-    /// and encodings were chosen.
+    /// For every list of submissions, loads, closings and queries, each feeder's indexed rows followed by its waiting
+    /// rows are exactly its accepted rows, each once and in order of submission. None that is submitted after its
+    /// feeder's closing is among them. Every answered selection and total equals the plain definition over the rows
+    /// that are indexed at that step, whatever bases and encodings are chosen.
     ///
-    /// A load or a query may find no memory, and then nothing changed. Where the list of replies finds none, the events are
-    /// handed back and none was done.
+    /// A load or a query may be refused memory, and then it changes nothing. If memory is refused for the list of
+    /// replies, the events are handed back and none of them takes place.
     pub fn run(&mut self, events: Vec<Event>) -> Result<Vec<Reply>, RunRefused>
         ensures length { IfOk result (λ replies. length replies.items ≡ length events.items) }
         ensures lawful { IfOk result (λ replies. AreLawful self.old (past_of events.items replies.items)) }

@@ -1,4 +1,4 @@
-//! Which sizes a machine may have.
+//! The sizes that a machine may have.
 
 ghost use Rattle.std.specs.Prelude.{◌≡◌, ◌≤◌, length, position};
 ghost use Rattle.std.specs.Result.{result_err};
@@ -7,21 +7,21 @@ ghost use Rattle.bsi_load.specs.Sizes.{sizes_refusal, capacities_refusal, is_out
 use bsi_table::{Index, IndexError, MOST_FEEDERS, Schema};
 use std::alloc::AllocError;
 
-/// The most rows of a feeder that may wait.
+/// The most rows of one feeder that may wait.
 pub const MOST_WAITING: u32 = 65_536;
 
-/// Why a machine is not made, in the order of checking.
+/// Why a machine is not made, in the order in which it is checked.
 #[derive(Clone, Copy, Debug, PartialEq, Eq)]
 pub enum MakeError {
-    /// No capacity is given, so there would be no feeder.
+    /// There is no capacity, and thus no feeder.
     NoFeeders,
-    /// There would be more than 64 feeders.
+    /// There are more than 64 feeders.
     TooManyFeeders,
-    /// The capacity of this feeder, the first such one, is not from 1 to 65,536.
+    /// The capacity of this feeder is not from 1 to 65,536. It is the first such feeder.
     CapacityOutOfRange(u32),
-    /// The index can't be had of this schema or limit.
+    /// The index cannot be made of this schema and limit.
     Index(IndexError),
-    /// A growth was refused.
+    /// Memory was refused.
     NoMemory,
 }
 
@@ -48,8 +48,8 @@ impl From<IndexError> for MakeError {
     }
 }
 
-/// Tells how a machine of this schema is refused, with a feeder for each capacity and at most so many indexed rows, want
-/// of memory apart. It takes no memory.
+/// Tells how a machine of this schema, with a feeder for each capacity and at most `limit` indexed rows, is refused,
+/// lack of memory apart. It allocates no memory.
 pub fn check_sizes(schema: &Schema, capacities: &[u32], limit: u64) -> Result<(), MakeError>
     ensures { result_err result ≡ sizes_refusal schema.now capacities.now limit }
 {
@@ -77,7 +77,7 @@ fn check_capacities(capacities: &[u32]) -> Result<(), MakeError>
     }
 }
 
-/// Returns the place of the first capacity that is out of range.
+/// Returns the place of the first capacity that is out of range, or none if there is no such capacity.
 fn first_out_of_range(capacities: &[u32]) -> Option<usize>
     ensures { result ≡ position is_out_of_range capacities.now }
 {

@@ -31,7 +31,7 @@ impl Model for PlainColumn {
 }
 
 impl PlainColumn {
-    /// A column of no entries below a size from 2 to 2^63.
+    /// Makes a column of no entries below a size from 2 to 2^63.
     pub fn new(alloc: Global, size: u64) -> PlainColumn
         requires { (2 ≤ size) × (size ≤ 2 ^ 63) }
         ensures size { result.size ≡ size }
@@ -44,7 +44,7 @@ impl PlainColumn {
         }
     }
 
-    /// Whether a row is a number that compares so with the constant.
+    /// Returns whether a row is a number that satisfies the comparison `op` with the constant.
     pub fn selects(&self, op: Op, constant: u64, row: u64) -> bool
         requires { row < length self.now.entries }
         ensures { result ≡ selects op constant (slice_index_or self.now.entries row None) }
@@ -125,7 +125,8 @@ impl Column for PlainColumn {
     }
 }
 
-/// Appends to no bits, for each entry, whether it is a number that compares so with the constant.
+/// Appends to an empty vector, for each entry, whether it is a number that satisfies the comparison `op` with the
+/// constant.
 fn select_each(
     entries: &[Option<u64>],
     op: Op,
@@ -143,7 +144,7 @@ fn select_each(
     Ok(())
 }
 
-/// Whether an entry is a number that compares so with the constant.
+/// Returns whether an entry is a number that satisfies the comparison `op` with the constant.
 fn selected(op: Op, constant: u64, entry: Option<u64>) -> bool
     ensures { result ≡ selects op constant entry }
 {
@@ -160,7 +161,7 @@ fn selected(op: Op, constant: u64, entry: Option<u64>) -> bool
     }
 }
 
-/// The sum of the numbers at the found rows.
+/// Returns the sum of the numbers at the found rows, below 2^95.
 fn sum_each(entries: &[Option<u64>], found: &Bits) -> u128
     requires same { length entries.now ≡ length found.now.bits }
     requires few { length entries.now ≤ 2 ^ 32 }
@@ -177,7 +178,7 @@ fn sum_each(entries: &[Option<u64>], found: &Bits) -> u128
     total
 }
 
-/// Appends to no numbers those at the found rows, in order of the rows.
+/// Appends to an empty list the numbers at the found rows, in order of the rows.
 fn gather(entries: &[Option<u64>], found: &Bits, numbers: &mut Vec<u64>) -> Result<(), NoMemory>
     requires same { length entries.now ≡ length found.now.bits }
     requires few { length entries.now ≤ 2 ^ 32 }
@@ -194,7 +195,7 @@ fn gather(entries: &[Option<u64>], found: &Bits, numbers: &mut Vec<u64>) -> Resu
     Ok(())
 }
 
-/// The number of a row, where the row is found and has one.
+/// Returns the number of a row, if the row is found and has one.
 fn number_at(found: &Bits, row: u64, entry: Option<u64>) -> Option<u64>
     requires { row < length found.now.bits }
     ensures { result ≡ (if slice_index_or found.now.bits row false then entry else None) }

@@ -1,4 +1,4 @@
-//! A component that works on whole vectors alone, and counts the calls that do, and the sums.
+//! A component that works on whole vectors alone. It counts the calls that write one, and the sums.
 
 use crate::NoMemory;
 use bsi_bits::Bits;
@@ -6,7 +6,7 @@ use bsi_columns::Encoding;
 use std::alloc::Global;
 use std::cell::Cell;
 
-/// A component of another encoding, without its calls on blocks.
+/// A component of another encoding, without that encoding's calls on blocks.
 #[derive(Drop)]
 pub struct WholeVectors<E: Encoding> {
     inner: E,
@@ -15,12 +15,12 @@ pub struct WholeVectors<E: Encoding> {
 }
 
 impl<E: Encoding> WholeVectors<E> {
-    /// How many calls wrote a whole vector so far.
+    /// Returns how many calls wrote a whole vector so far.
     pub fn calls(&self) -> u32 {
         self.calls.get()
     }
 
-    /// How many sums of digits were asked for so far.
+    /// Returns how many sums of digits were asked for so far.
     pub fn sums(&self) -> u32 {
         self.sums.get()
     }

@@ -9,7 +9,7 @@ use bsi_table::{Answer, AskError};
 use itoa::{Buffer, Integer};
 use std::alloc::AllocError as NoMemory;
 
-/// Appends the line of a reply, with its line feed, whole or not at all. It takes memory for the line alone.
+/// Appends the line of a reply, with its line feed, as a whole or not at all. It allocates memory only for the line.
 pub fn write_reply(reply: &Reply, line: &mut Vec<u8>) -> Result<(), NoMemory>
     ensures ok { OnOk result (line.new.items ≡ line.old.items ++ reply_line reply.now) }
     ensures err { OnErr result (line.new.items ≡ line.old.items) }
@@ -22,7 +22,7 @@ pub fn write_reply(reply: &Reply, line: &mut Vec<u8>) -> Result<(), NoMemory>
     written
 }
 
-/// Appends the line of a record that is bad, with its line feed, whole or not at all.
+/// Appends the line that answers a bad record, with its line feed, as a whole or not at all.
 pub fn write_bad(line: &mut Vec<u8>) -> Result<(), NoMemory>
     ensures ok { OnOk result (line.new.items ≡ line.old.items ++ bad_line) }
     ensures err { OnErr result (line.new.items ≡ line.old.items) }
@@ -30,8 +30,8 @@ pub fn write_bad(line: &mut Vec<u8>) -> Result<(), NoMemory>
     line.extend_from_slice(b"bad\n")
 }
 
-/// Appends the line of a feeder that read a file, with its line feed, whole or not at all: its number, how many of its rows were
-/// accepted, and how many of its records were bad.
+/// Appends the line of a feeder that read a file, with its line feed, as a whole or not at all. The line has the
+/// feeder's number, how many of its rows were accepted, and how many of its records were bad.
 pub fn write_fed(feeder: u32, accepted: u64, bad: u64, line: &mut Vec<u8>) -> Result<(), NoMemory>
     ensures ok { OnOk result (line.new.items ≡ line.old.items ++ fed_line feeder accepted bad) }
     ensures err { OnErr result (line.new.items ≡ line.old.items) }
@@ -165,7 +165,7 @@ fn write_each_row(rows: &[(u32, u64)], line: &mut Vec<u8>) -> Result<(), NoMemor
     Ok(())
 }
 
-/// Appends a space, a row's feeder and its number among the feeder's.
+/// Appends a space, a row's feeder and the row's number among that feeder's rows.
 fn write_row(feeder: u32, number: u64, line: &mut Vec<u8>) -> Result<(), NoMemory>
     ensures ok { OnOk result (line.new.items ≡ line.old.items ++ (codes " " ++ decimal feeder ++ codes ":" ++ decimal number)) }
     ensures begins { StartsWith line.new.items line.old.items }

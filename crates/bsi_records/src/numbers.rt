@@ -8,10 +8,11 @@ use std::alloc::{AllocError as NoMemory, Global};
 /// The most digits of a number: those of the greatest `u64`.
 const MAX_DIGITS: usize = 20;
 
-/// The greatest number behind which any digit gives a `u64`.
+/// The greatest number behind which every further digit still gives a `u64`.
 const SMALL: u64 = (u64::MAX - 9) / 10;
 
-/// Reads a number of one to twenty digits, leading zeros among them, whose value is a `u64`. It takes no memory.
+/// Reads a number of one to twenty digits, with leading zeros or without, whose value is a `u64`. It allocates no
+/// memory.
 pub fn read_number(text: &[u8]) -> Option<u64>
     ensures { result ≡ number_of text.now }
 {
@@ -24,7 +25,7 @@ pub fn read_number(text: &[u8]) -> Option<u64>
     read_long(text)
 }
 
-/// Reads a number of fewer digits than the greatest `u64` has, which a `u64` holds whatever they are.
+/// Reads a number of fewer digits than the greatest `u64` has. A `u64` holds it, whatever its digits are.
 fn read_short(text: &[u8]) -> Option<u64>
     requires { (0 < length text.now) × (length text.now < 20) }
     ensures { result ≡ number_of text.now }
@@ -39,7 +40,7 @@ fn read_short(text: &[u8]) -> Option<u64>
     Some(value)
 }
 
-/// Reads a number of as many digits as the greatest `u64` has.
+/// Reads a number of at most as many digits as the greatest `u64` has.
 fn read_long(text: &[u8]) -> Option<u64>
     requires { (0 < length text.now) × (length text.now ≤ 20) }
     ensures { result ≡ number_of text.now }
@@ -65,7 +66,7 @@ fn read_long(text: &[u8]) -> Option<u64>
     Some(value)
 }
 
-/// Reads a number with one minus sign before it, or none. It takes no memory.
+/// Reads a number with one minus sign before it, or with none. It allocates no memory.
 pub fn read_signed(text: &[u8]) -> Option<i128>
     ensures { result ≡ signed_of text.now }
 {
@@ -78,7 +79,7 @@ pub fn read_signed(text: &[u8]) -> Option<i128>
     }
 }
 
-/// Reads a number with no sign.
+/// Reads a number without a sign.
 fn read_unsigned(text: &[u8]) -> Option<i128>
     ensures { result ≡ option_map pos (number_of text.now) }
 {
@@ -88,7 +89,7 @@ fn read_unsigned(text: &[u8]) -> Option<i128>
     }
 }
 
-/// Reads a number, with a sign where numbers are signed alone.
+/// Reads a number. It takes a minus sign only where numbers are signed.
 pub(crate) fn read_in(signed: bool, text: &[u8]) -> Option<i128>
     ensures { result ≡ number_in signed text.now }
 {
@@ -98,8 +99,8 @@ pub(crate) fn read_in(signed: bool, text: &[u8]) -> Option<i128>
     read_unsigned(text)
 }
 
-/// Reads a value of a row: no byte is a null, else it is a number, with a minus sign where numbers are signed alone. `None` is a
-/// text that is no value. It takes no memory.
+/// Reads a value of a row: no byte at all is a null, anything else is to be a number, with a minus sign only where
+/// numbers are signed. `None` stands for a text that is not a value. It allocates no memory.
 pub fn read_value(signed: bool, text: &[u8]) -> Option<Option<i128>>
     ensures { result ≡ value_in signed text.now }
 {
@@ -112,7 +113,7 @@ pub fn read_value(signed: bool, text: &[u8]) -> Option<Option<i128>>
     }
 }
 
-/// Reads the number of a feeder; one that no `u32` holds becomes the greatest, which is no feeder either.
+/// Reads the number of a feeder. A number that no `u32` holds becomes the greatest `u32`, which is no feeder either.
 pub(crate) fn read_feeder(text: &[u8]) -> Option<u32>
     ensures { result ≡ feeder_of text.now }
 {
@@ -143,7 +144,7 @@ fn read_small(text: &[u8]) -> Option<u32>
     }
 }
 
-/// Reads the least number of a column: a whole number of 64 bits.
+/// Reads the offset of a column, its least number: a whole number of 64 bits.
 pub(crate) fn read_offset(text: &[u8]) -> Option<i64>
     ensures { result ≡ offset_of text.now }
 {
@@ -156,7 +157,7 @@ pub(crate) fn read_offset(text: &[u8]) -> Option<i64>
     Some(n as i64)
 }
 
-/// Reads a list of bases: numbers of 32 bits with one space between two.
+/// Reads a list of bases: numbers of 32 bits, with one space between any two.
 pub(crate) fn read_bases(alloc: Global, text: &[u8]) -> Result<Option<Vec<u32>>, NoMemory>
     ensures { IfOk result (λ read. option_map (λ v. v.items) read ≡ bases_of text.now) }
 {

@@ -1,4 +1,4 @@
-//! Predicates in postfix order: from the fields that spell one to the predicate.
+//! Predicates in postfix order: from the fields that spell a predicate to the predicate.
 
 ghost use Rattle.std.specs.Prelude.{◌≡◌, List, drop, option_map, IfOk, MatchOption};
 ghost use Rattle.csv.specs.Records.{fields_of};
@@ -26,8 +26,8 @@ pub(crate) enum Pending {
     Comparison(u32, Op),
 }
 
-/// Reads the fields of a record from a place on as a predicate; `None` where they spell none, or are over 1,000. It takes memory
-/// for each part of the predicate.
+/// Reads the fields of a record from a place on as a predicate. It returns `None` if they spell no predicate or are
+/// more than 1,000. It allocates memory for each part of the predicate.
 pub(crate) fn read_predicate(
     alloc: Global,
     schema: &Schema,
@@ -48,7 +48,8 @@ pub(crate) fn read_predicate(
     Ok(take_only(pending, &mut stack))
 }
 
-/// Reads the fields from a place on, and returns what the last ones have begun; `None` where no predicate goes on so.
+/// Reads the fields from a place on, and returns what the last ones have begun. It returns `None` if no predicate goes
+/// on like this.
 fn read_fields(
     alloc: Global,
     schema: &Schema,
@@ -176,7 +177,8 @@ fn read_op(sign: &[u8]) -> Option<Op>
     None
 }
 
-/// Puts in place of the two newest predicates that both hold, or else that one of them holds.
+/// Replaces the two newest predicates by one that holds where both of them hold or, if not `both`, where at least one
+/// holds.
 fn join(alloc: Global, both: bool, stack: &mut Vec<Pred>) -> Result<Option<Pending>, NoMemory>
     ensures { IfOk result (λ read. option_map (λ next. (next, shown stack.new.items)) read ≡ joined both (shown stack.old.items)) }
 {
@@ -196,7 +198,7 @@ fn join(alloc: Global, both: bool, stack: &mut Vec<Pred>) -> Result<Option<Pendi
     Ok(Some(Pending::Nothing))
 }
 
-/// Puts in place of the newest predicate that it does not hold.
+/// Replaces the newest predicate by its negation.
 fn negate(alloc: Global, stack: &mut Vec<Pred>) -> Result<Option<Pending>, NoMemory>
     ensures { IfOk result (λ read. option_map (λ next. (next, shown stack.new.items)) read ≡ negated (shown stack.old.items)) }
 {
@@ -208,7 +210,7 @@ fn negate(alloc: Global, stack: &mut Vec<Pred>) -> Result<Option<Pending>, NoMem
     Ok(Some(Pending::Nothing))
 }
 
-/// Takes the only predicate, where nothing else has begun.
+/// Takes the only predicate, if there is one alone and nothing else has begun.
 fn take_only(pending: Pending, stack: &mut Vec<Pred>) -> Option<Pred>
     ensures { option_map plain result ≡ only_of pending (shown stack.old.items) }
 {

@@ -10,9 +10,9 @@ use bsi_table::{Query, Schema, Total};
 use csv::ByteRecord;
 use std::alloc::Global;
 
-/// Reads a record as a query: `count` or `list`, or another total and the column that it is of, and then the fields of a
-/// predicate in postfix order, at most 1,000. `None` is a record that is no query. It takes memory for each part of the
-/// predicate.
+/// Reads a record as a query: `count` or `list`, or another total and its column, and then the fields of a predicate in
+/// postfix order, at most 1,000. `None` stands for a record that is not a query. It allocates memory for each part of
+/// the predicate.
 pub fn read_query(
     alloc: Global,
     schema: &Schema,

@@ -13,8 +13,8 @@ use bsi_table::{Row, Schema};
 use csv::ByteRecord;
 use std::alloc::{AllocError as NoMemory, Global};
 
-/// Reads the fields from place `from` on as the entries of a row; none where one is no value. `from` may be past the end,
-/// which gives the row of no entries. It takes memory for the entries once.
+/// Reads the fields from place `from` on as the entries of a row, or returns none if one of them is not a value. `from`
+/// may be past the end, which gives the row of no entries. It allocates memory for the entries once.
 pub fn read_row(
     alloc: Global,
     schema: &Schema,
@@ -35,8 +35,9 @@ pub fn read_row(
     Ok(Some(Row::new(values)))
 }
 
-/// Reads a record as the event that it asks for: `submit` and the entries of a row, `load` or `close`, each with a feeder, or a
-/// query. `None` is a record that asks for none. It takes memory for the row or the query.
+/// Reads a record as the event that it asks for: `submit` with a feeder and the entries of a row, `load` or `close`
+/// with a feeder, or a query. `None` stands for a record that asks for no event. It allocates memory for the row or the
+/// query.
 pub fn read_event(
     alloc: Global,
     schema: &Schema,
@@ -88,7 +89,7 @@ fn read_submission(
     }
 }
 
-/// Reads the feeder of a record of a word and a feeder.
+/// Reads the feeder of a record that consists of a word and a feeder.
 fn read_only_feeder(fields: &ByteRecord) -> Option<u32>
     ensures { result ≡ only_feeder (drop 1 (fields_of fields.now)) }
 {

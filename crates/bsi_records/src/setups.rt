@@ -19,7 +19,7 @@ use std::mem;
 
 // ---- numbers and forms
 
-/// Reads the number of a record of a word and a number, which is to be from 1 to `most`.
+/// Reads the number of a record that consists of a word and a number from 1 to `most`.
 fn read_only_number(fields: &ByteRecord, most: u64) -> Option<u64>
     ensures value { result ≡ only_number most (drop 1 (fields_of fields.now)) }
     ensures within { IfSome result (λ n. (1 ≤ n) × (n ≤ most)) }
@@ -30,7 +30,7 @@ fn read_only_number(fields: &ByteRecord, most: u64) -> Option<u64>
     read_within(1, most, lend(fields, 1))
 }
 
-/// Reads the form of a column; none where the word or the text is of no form.
+/// Reads the form of a column, or returns none if the word names no form or the text does not fit the form.
 fn read_form(alloc: Global, word: &[u8], text: &[u8]) -> Result<Option<ColumnSpec>, NoMemory>
     ensures { IfOk result (λ read. option_and_then form_had read ≡ form_in word.now text.now) }
 {
@@ -64,7 +64,8 @@ fn read_slices(text: &[u8]) -> Option<ColumnSpec>
 
 // ---- columns
 
-/// Adds a column of numbers from `offset` up, or with none from 0 up; false, with nothing changed, where it can't be had.
+/// Adds a column of numbers from `offset` up or, without an offset, from 0 up. It returns false, and changes nothing,
+/// if the schema refuses the column.
 fn add(
     schema: &mut Schema,
     name: &str,
@@ -80,7 +81,7 @@ fn add(
     }
 }
 
-/// Tells whether a column was added; want of memory stays an error.
+/// Tells whether a column was added. Refused memory stays an error.
 fn tell(added: Result<(), SchemaError>) -> Result<bool, NoMemory>
     ensures told { IfOk result (λ done. MatchResult added (λ _. done ≡ true) (λ refused. (done ≡ false) × (refused ≢ SchemaError.NoMemory))) }
     ensures memory { OnErr result (IsErr added) }
@@ -108,7 +109,8 @@ fn read_given_offset(fields: &ByteRecord) -> Option<Option<i64>>
     }
 }
 
-/// Does `column,NAME,FORM,SIZES` or `column,NAME,FORM,SIZES,OFFSET`.
+/// Declares the column of a record `column,NAME,FORM,SIZES` or `column,NAME,FORM,SIZES,OFFSET`, and returns whether it
+/// did.
 fn declare_column(alloc: Global, schema: &mut Schema, fields: &ByteRecord) -> Result<bool, NoMemory>
     ensures done { IfOk result (λ done. IsChange (column_after schema.old (drop 1 (fields_of fields.now))) schema.old schema.new done) }
     ensures kept { OnErr result (schema.new ≡ schema.old) }
@@ -130,8 +132,9 @@ fn declare_column(alloc: Global, schema: &mut Schema, fields: &ByteRecord) -> Re
 
 // ---- records
 
-/// Does a `column` or `limit` record, and returns true. False, with nothing changed, is a record that a script answers
-/// `bad`, or another record. It takes memory for the bases and the name of a column; where that is refused nothing changes.
+/// Carries out a `column` or `limit` record, and returns true. It returns false, and changes nothing, for a record that
+/// a script answers `bad`, or for another record. It allocates memory for the bases and the name of a column; if that
+/// is refused, it changes nothing.
 pub fn read_setup(
     alloc: Global,
     schema: &mut Schema,
@@ -153,7 +156,7 @@ pub fn read_setup(
     Ok(false)
 }
 
-/// Does `limit,ROWS`; a later one replaces an earlier one.
+/// Sets the limit by a record `limit,ROWS`, and returns whether it did. A later limit replaces an earlier one.
 fn declare_limit(limit: &mut u64, fields: &ByteRecord) -> bool
     ensures { IsChange (limit_of (drop 1 (fields_of fields.now))) limit.old limit.new result }
 {
@@ -164,7 +167,7 @@ fn declare_limit(limit: &mut u64, fields: &ByteRecord) -> bool
     true
 }
 
-/// Returns whether the record is `begin` alone, which ends what a script declares. It takes no memory.
+/// Returns whether the record is just `begin`, which ends what a script declares. It allocates no memory.
 pub fn test_begin(fields: &ByteRecord) -> bool
     ensures { result ≡ is_begin (fields_of fields.now) }
 {
@@ -174,8 +177,8 @@ pub fn test_begin(fields: &ByteRecord) -> bool
     lend(fields, 0) == b"begin".as_slice()
 }
 
-/// What the records of a script before `begin` declared so far: the columns, the feeders, each with the number of its rows that
-/// may wait, and the most rows of the index.
+/// What the records of a script before `begin` have declared so far: the columns, the feeders, each with the number of
+/// its rows that may wait, and the most rows of the index.
 #[derive(Drop)]
 pub struct Setup {
     schema: Schema,
@@ -195,7 +198,7 @@ impl Model for Setup {
 }
 
 impl Setup {
-    /// Returns a setup with no column, no feeder and the greatest limit. It takes no memory.
+    /// Makes a setup with no column, no feeder and the greatest limit. It allocates no memory.
     pub fn new(alloc: Global) -> Setup
         ensures { result ≡ nothing_declared }
     {
@@ -206,8 +209,8 @@ impl Setup {
         }
     }
 
-    /// Does a `column`, `feeder` or `limit` record, and returns true. False, with nothing changed, is a record that a script
-    /// answers `bad`, or another record. Where memory is refused nothing changes.
+    /// Carries out a `column`, `feeder` or `limit` record, and returns true. It returns false, and changes nothing, for
+    /// a record that a script answers `bad`, or for another record. If memory is refused, it changes nothing.
     pub fn declare(&mut self, alloc: Global, fields: &ByteRecord) -> Result<bool, NoMemory>
         ensures done { IfOk result (λ done. IsChange (declared_after self.old (fields_of fields.now)) self.old self.new done) }
         ensures kept { OnErr result (self.new ≡ self.old) }
@@ -221,8 +224,8 @@ impl Setup {
         read_setup(alloc, &mut self.schema, &mut self.limit, fields)
     }
 
-    /// Makes the machine of what was declared; `None`, with nothing changed, where there is no column or no feeder. The columns
-    /// and the feeders are moved into it. Where memory is refused they are dropped.
+    /// Makes the machine that was declared, and moves the columns and the feeders into it. It returns `None`, and
+    /// changes nothing, if there is no column or no feeder. If memory is refused, it drops the columns and the feeders.
     pub fn begin(&mut self, alloc: Global) -> Result<Option<Core>, NoMemory>
         ensures made { IfOk result (λ made. made ≡ (if can_begin self.old then Some (new_machine self.old.schema self.old.capacities self.old.limit) else None)) }
         ensures kept { IfOk result (λ made. IfNone made (self.new ≡ self.old)) }
@@ -240,14 +243,14 @@ impl Setup {
     }
 }
 
-/// Turns into want of memory the refusal of a machine, which is no other where its sizes are in range.
+/// Turns the refusal of a machine into refused memory. No other refusal is left once the sizes are in range.
 fn only_memory(_refused: MakeError) -> NoMemory
     requires { _refused ≡ MakeError.NoMemory }
 {
     NoMemory
 }
 
-/// Does `feeder,CAPACITY`, where there are fewer than 64 feeders.
+/// Declares the feeder of a record `feeder,CAPACITY`, if there are fewer than 64 feeders, and returns whether it did.
 fn declare_feeder(capacities: &mut Vec<u32>, fields: &ByteRecord) -> Result<bool, NoMemory>
     ensures done { IfOk result (λ done. IsChange (feeder_after capacities.old.items (drop 1 (fields_of fields.now))) capacities.old.items capacities.new.items done) }
     ensures kept { OnErr result (capacities.new.items ≡ capacities.old.items) }

@@ -1,4 +1,4 @@
-//! A closing: what a feeder leaves when it ends.
+//! The closing that a feeder leaves when it ends.
 
 ghost use Rattle.std.specs.Prelude.{◌≡◌};
 
@@ -8,7 +8,8 @@ use std::alloc::Global;
 use std::marker::Model;
 use std::sync::Arc;
 
-/// The word of a feeder that ended, by which the loader learns all rows that were sent. It may move to the loader's thread.
+/// The word of a feeder that has ended, from which the loader learns of all rows that were sent. It may move to the
+/// loader's thread.
 #[derive(Drop)]
 pub struct Closing {
     number: u32,
@@ -55,7 +56,7 @@ impl Closing {
         self.number
     }
 
-    /// Gives up the closing for what is left of the feeder's end.
+    /// Gives up the closing and returns what is left of the feeder's end.
     pub(crate) fn into_finished(self) -> Finished<Row>
         ensures ring { ring_of result.end ≡ self.lane.ring }
         ensures rows { all_sent result ≡ self.rows }

@@ -9,16 +9,16 @@ use std::alloc::Global;
 use std::marker::Model;
 use std::sync::Arc;
 
-/// Why a row is not sent, in the order of checking. The row is handed back.
+/// Why a row is not sent, in the order in which it is checked. The row is handed back.
 #[derive(Debug, Drop)]
 pub enum SubmitRefused {
     /// The row does not fit the schema.
     Misfit(Row),
-    /// No place of the ring is seen to be free. The loader frees one for each row that it takes.
+    /// The feeder sees no free place in the ring. The loader frees one for each row that it takes.
     Full(Row),
 }
 
-/// The end of a ring that sends rows, by which one feeder submits. It may move to a thread of its own.
+/// The producer end of a ring, by which one feeder submits rows. It may move to a thread of its own.
 #[derive(Drop)]
 pub struct Feeder {
     number: u32,
@@ -47,7 +47,7 @@ impl Feeder {
     ghost use Rattle.rtrb.specs.Ring.{sent, producer_capacity};
     ghost use Rattle.bsi_rings.specs.Rings.{new_sending, ring_of, with_sent, Closes, IsSubmitReply};
 
-    /// Makes the feeder of a ring to which nothing was sent.
+    /// Makes the feeder of a ring to which nothing has been sent.
     pub(crate) fn new(number: u32, schema: Arc<Schema, Global>, ring: Producer<Row>) -> Feeder
         requires { sent ring ≡ [] }
         ensures { result ≡ new_sending number (record { ring = ring_of ring.end; schema = schema.value }) (producer_capacity ring) }
@@ -66,7 +66,7 @@ impl Feeder {
         self.number
     }
 
-    /// Sends a row. It takes no memory and waits for nobody.
+    /// Sends a row. It allocates no memory and waits for nobody.
     pub fn submit(&mut self, row: Row) -> Result<(), SubmitRefused>
         ensures reply { IsSubmitReply self.old row result }
         ensures sent { OnOk result (self.new ≡ with_sent self.old row) }
@@ -81,8 +81,8 @@ impl Feeder {
         }
     }
 
-    /// Ends the feeder, and returns what tells the loader which rows were sent. None where the ring gives no such word, as where
-    /// the loader is gone.
+    /// Ends the feeder, and returns the closing that tells the loader which rows were sent. It returns none if the ring
+    /// gives no such word, for example because the loader is gone.
     pub fn close(self) -> Option<Closing>
         ensures { IfSome result (Closes self) }
     {

@@ -1,4 +1,4 @@
-//! A lane: the loader's end of one ring, and what the feeder's closing told of it.
+//! A lane: the loader's end of one ring, and what the feeder's closing told about it.
 
 ghost use Rattle.std.specs.Prelude.{◌≡◌, ◌<◌, ◌↔◌, [], ◌∷◌, IfOk, IsTrue, length};
 ghost use mathlib.Core.List.{IsPrefix};
@@ -15,13 +15,13 @@ use std::sync::Arc;
 pub enum Front {
     /// A row that fits the schema.
     Row,
-    /// No row that fits is seen.
+    /// No row that fits the schema is seen.
     Empty,
-    /// The closing was told, and all rows that were sent are taken.
+    /// The closing was told, and all rows that were sent have been taken.
     Ended,
 }
 
-/// The end of a ring that takes rows out, and the closing of its feeder once it was told.
+/// The consumer end of a ring, and the closing of its feeder once it was told.
 #[derive(Drop)]
 pub struct Lane {
     schema: Arc<Schema, Global>,
@@ -51,7 +51,7 @@ impl Lane {
     ghost use Rattle.rtrb.specs.Ring.{received, known_items};
     ghost use Rattle.bsi_rings.specs.Rings.{new_intake, ring_of, with_seen, IsFront, IsWhole, Settles, Takes};
 
-    /// Makes the lane of a ring from which nothing was taken.
+    /// Makes the lane of a ring from which nothing has been taken.
     pub(crate) fn new(schema: Arc<Schema, Global>, ring: Consumer<Row>) -> Lane
         requires { (received ring ≡ []) × (known_items ring ≡ []) }
         ensures { result ≡ new_intake (record { ring = ring_of ring.end; schema = schema.value }) }
@@ -63,7 +63,7 @@ impl Lane {
         }
     }
 
-    /// Looks at what stands first in the ring. Nothing is taken.
+    /// Looks at what stands first in the ring. It takes no row.
     pub fn front(&mut self) -> Front
         ensures front { IsFront self.new result }
         ensures whole { IsWhole self.new }
@@ -81,7 +81,8 @@ impl Lane {
         Front::Empty
     }
 
-    /// Returns whether a row is seen in the ring. Once the closing was told, all are seen, and the ring is not read again.
+    /// Returns whether a row is seen in the ring. Once the closing was told, all rows are seen, and it does not read
+    /// the ring again.
     fn look(&mut self) -> bool
         ensures seen { IsTrue result ↔ (0 < length self.new.seen) }
         ensures kept { self.new ≡ with_seen self.old self.new.seen }
@@ -110,7 +111,7 @@ impl Lane {
         self.ring.pop_known()
     }
 
-    /// Learns from the closing of the ring's feeder what was sent. Nothing is taken. It takes no memory.
+    /// Learns from the closing of the ring's feeder what was sent. It takes no row and allocates no memory.
     pub fn settle(&mut self, closing: Closing)
         requires { closing.lane ≡ self.old.lane }
         ensures settled { Settles self.old closing self.new }

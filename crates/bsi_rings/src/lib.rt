@@ -1,4 +1,4 @@
-//! Rings of rows: one a feeder, with the feeder's end, the loader's end, and the closing that joins them.
+//! Rings of rows, one for each feeder: the feeder's end, the loader's end, and the closing that joins them.
 #![tactic(auto)]
 
 mod closing;

@@ -9,7 +9,7 @@ use rtrb::RingBuffer;
 use std::alloc::Global;
 use std::sync::Arc;
 
-/// Makes a ring for each capacity. Each feeder has the number of its place.
+/// Makes a ring for each capacity. The number of each feeder is its place.
 pub fn open_rings(
     alloc: Global,
     schema: &Arc<Schema, Global>,
@@ -28,7 +28,7 @@ pub fn open_rings(
     Ok((feeders, lanes))
 }
 
-/// Makes one ring, empty.
+/// Makes one empty ring.
 fn open_ring(
     alloc: Global,
     schema: &Arc<Schema, Global>,

@@ -1,4 +1,4 @@
-//! A run over files: all are opened in the order of the words, and then read.
+//! A run over files: it opens all files in the order of the words, and then reads them.
 ghost use Rattle.std.specs.Prelude.{◌≡◌, ◌≤◌, ◌<◌, IfOk, length};
 
 use crate::paths::Paths;
@@ -11,10 +11,10 @@ use std::sync::Wait;
 use std::thread::Threads;
 use thiserror::Error;
 
-/// Why a run over files ended before its end.
+/// Why a run over files ended early.
 #[derive(Clone, Copy, Debug, PartialEq, Eq, Error)]
 pub(crate) enum Failure<'a> {
-    /// The file can't be opened.
+    /// The file cannot be opened.
     #[error("bsi: cannot open {0}")]
     CannotOpen(&'a str),
     /// The run met a fault.
@@ -35,8 +35,8 @@ struct Opened<S: Read + Drop> {
     rows: Vec<S>,
 }
 
-/// Opens the files, answers the questions over their rows, and flushes the output; a flush that fails counts where the run
-/// met no fault.
+/// Opens the files, answers the questions over their rows, and flushes the output. A flush that fails counts only if
+/// the run met no fault.
 pub(crate) fn run_over<
     'a,
     R: AllocGlobal + Files<File = S> + Threads + Wait + Sync,

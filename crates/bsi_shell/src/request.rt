@@ -15,13 +15,13 @@ pub(crate) enum Request<'a> {
     Script,
     /// Run over files.
     Files(Paths<'a>),
-    /// The words are no command.
+    /// The words are not a command.
     Wrong,
-    /// Reading the words found no memory.
+    /// Memory was refused while the words were read.
     NoMemory,
 }
 
-/// Reads the words; a request for help is no command.
+/// Reads the words. A request for help is not a command.
 pub(crate) fn read_words<'a>(alloc: Global, words: &'a [String]) -> Request<'a>
     ensures files { (paths : Paths) → result ≡ Files paths → BeginsWithFiles words.now }
 {
@@ -37,7 +37,7 @@ pub(crate) fn read_words<'a>(alloc: Global, words: &'a [String]) -> Request<'a>
     }
 }
 
-/// Parses the words by the commands that there are.
+/// Parses the words by the commands of the program.
 fn parse_words<'a>(alloc: Global, words: &'a [String]) -> Result<Request<'a>, Error>
     ensures files { (paths : Paths) → result ≡ Ok (Files paths) → BeginsWithFiles words.now }
 {
@@ -50,7 +50,7 @@ fn parse_words<'a>(alloc: Global, words: &'a [String]) -> Result<Request<'a>, Er
     }
 }
 
-/// The commands of the program.
+/// Makes the commands of the program.
 fn commands<'a>(alloc: Global) -> Result<Command<'a>, AllocError> {
     let script = Command::new(alloc, "script");
     let files = Command::new(alloc, "files")
@@ -69,7 +69,7 @@ fn commands<'a>(alloc: Global) -> Result<Command<'a>, AllocError> {
         .subcommand(files)
 }
 
-/// Whether the first word is `files`.
+/// Returns true only if the first word is `files`.
 fn begins_with_files(words: &[String]) -> bool
     ensures { result ≡ true → BeginsWithFiles words.now }
 {

@@ -13,11 +13,12 @@ use std::rt::Files;
 use std::sync::Wait;
 use std::thread::Threads;
 
-/// The line that answers words that are no command.
+/// The line that answers words that are not a command.
 const USAGE: &str = "usage: bsi script | bsi files --schema FILE --asks FILE CSV..";
 
-/// Does what the words behind the program's name ask for, and returns the status that the program ends with: 0, or 1
-/// with one line on `faults` that says which fault was met, or 2 with the usage line for words that are no command.
+/// Carries out what the words behind the program's name ask for, and returns the status that the program ends with. The
+/// status is 0, or 1 with one line on `faults` that tells which fault was met, or 2 with the usage line for words that
+/// are not a command.
 pub fn run_words<
     R: AllocGlobal + Files<File = S> + Threads + Wait + Sync,
     S: Read + Drop + Send,
@@ -51,7 +52,7 @@ pub fn run_words<
     }
 }
 
-/// Runs the script and flushes the output; a flush that fails counts where the script met no fault.
+/// Runs the script and flushes the output. A flush that fails counts only if the script met no fault.
 fn run_to_end<I: Read + Drop, O: Write>(
     alloc: Global,
     input: I,

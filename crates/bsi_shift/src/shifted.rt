@@ -1,4 +1,4 @@
-//! A column of whole numbers from an offset on, kept as the column of the numbers less the offset.
+//! A column of whole numbers from an offset on, stored as the column of the numbers less the offset.
 
 ghost use Rattle.std.specs.Prelude.{◌≡◌, ℕ, ℤ, pos, neg_ℤ, ◌+ℤ◌, ◌*ℤ◌, ◌≤ℤ◌, ◌<ℤ◌, ◌+◌, ◌*◌, ◌/◌, ◌&&◌, ◌<◌, ◌≤◌, ◌^◌, [], ◌∷◌, ◌++◌, All, length, map, None, slice_index_or, is_none, is_some, nat_lt, IsOk, IfOk, IfSome, OnOk, OnErr};
 ghost use Rattle.std.specs.Option.{option_map};
@@ -16,7 +16,7 @@ use bsi_bits::Bits;
 use bsi_columns::{AnyColumn, Column, Op, Rank};
 use std::marker::Model;
 
-/// A column of optional whole numbers, as many as the stored column's size, from its offset on.
+/// A column of optional whole numbers from its offset on, as many as the size of the stored column.
 #[derive(Drop)]
 pub struct Shifted {
     stored: AnyColumn,
@@ -37,8 +37,8 @@ impl Model for Shifted {
 }
 
 impl Shifted {
-    /// A column of no rows yet, whose numbers are those from `offset` on, as many as the size of `stored`. The last of them
-    /// is below 2^63. It takes no memory.
+    /// Makes a column of no rows yet. Its numbers are those from `offset` on, as many as the size of `stored`, and the
+    /// last of them is below 2^63. It allocates no memory.
     pub fn new(stored: AnyColumn, offset: i64) -> Shifted
         requires empty { any_entries stored ≡ [] }
         requires within { (offset +ℤ pos (any_size stored)) ≤ℤ pos (2 ^ 63) }
@@ -52,21 +52,21 @@ impl Shifted {
         }
     }
 
-    /// The least number that an entry may be.
+    /// Returns the offset, the least number that an entry may be.
     pub fn offset(&self) -> i64
         ensures { result ≡ self.now.offset }
     {
         self.offset
     }
 
-    /// The column of the numbers less the offset.
+    /// Returns the stored column, of the numbers less the offset.
     pub fn stored(&self) -> &AnyColumn
         ensures { result.now ≡ self.now.stored }
     {
         &self.stored
     }
 
-    /// How many numbers an entry may be, from the offset on; at most 2^63.
+    /// Returns how many numbers an entry may be, from the offset on, at most 2^63.
     pub fn size(&self) -> u64
         ensures size { result ≡ shifted_size self.now }
         ensures within { (2 ≤ result) × (result ≤ 2 ^ 63) }
@@ -75,7 +75,7 @@ impl Shifted {
         self.size
     }
 
-    /// The number of rows, at most 2^32.
+    /// Returns the number of rows, at most 2^32.
     pub fn len(&self) -> u64
         ensures len { result ≡ length (shifted_entries self.now) }
         ensures within { result ≤ 2 ^ 32 }
@@ -83,7 +83,7 @@ impl Shifted {
         self.stored.len()
     }
 
-    /// Returns how many more entries can be appended with no memory.
+    /// Returns how many more entries can be appended without allocating memory.
     pub fn room(&self) -> u64
         ensures room { result ≡ shifted_room self.now }
         ensures within { length (shifted_entries self.now) + result ≤ 2 ^ 32 }
@@ -91,8 +91,9 @@ impl Shifted {
         self.stored.room()
     }
 
-    /// Makes room for so many more entries. The entries stay, and there is no less room than before, whatever the result; where
-    /// it is refused, there is still not room for so many. It takes memory only where there is not.
+    /// Makes room for `more` further entries. Whatever the result, the entries stay and there is no less room than
+    /// before. If it is refused, there is still not enough room. It allocates memory only if there is not enough room
+    /// already.
     pub fn reserve(&mut self, more: u64) -> Result<(), NoMemory>
         requires { length (shifted_entries self.old) + more ≤ 2 ^ 32 }
         ensures entries { shifted_entries self.new ≡ shifted_entries self.old }
@@ -108,7 +109,7 @@ impl Shifted {
         self.stored.reserve(more)
     }
 
-    /// Whether one more entry can be appended with no memory.
+    /// Returns whether one more entry can be appended without allocating memory.
     pub fn has_room(&self) -> bool
         ensures { result ≡ nat_lt 0 (shifted_room self.now) }
     {
@@ -131,7 +132,8 @@ impl Shifted {
         self.stored.reserve_one()
     }
 
-    /// Appends a null, or a number from the offset on that is below the offset and the size together, in room that is there.
+    /// Appends a null, or a number from the offset on that is below the sum of the offset and the size, into room that
+    /// is already there.
     pub fn push_reserved(&mut self, entry: Option<i64>)
         requires room { 0 < shifted_room self.old }
         requires range { IsInRange self.old.offset (shifted_size self.old) entry }
@@ -146,7 +148,8 @@ impl Shifted {
         self.stored.push_reserved(stored);
     }
 
-    /// Appends a block of at most 64 entries, in room that is there: numbers as `push_reserved` takes them, and nulls.
+    /// Appends a block of at most 64 entries, nulls and numbers as `push_reserved` takes them, into room that is
+    /// already there.
     pub fn push_block_reserved(&mut self, block: &[Option<i64>])
         requires few { length block.now ≤ 64 }
         requires room { length block.now ≤ shifted_room self.old }
@@ -163,7 +166,8 @@ impl Shifted {
         self.stored.push_block_reserved(&stored[..block.len()]);
     }
 
-    /// For each row whether it is a number that compares so with `constant`, whatever that is. A null row is never selected.
+    /// Returns for each row whether it is a number that satisfies the comparison `op` with `constant`, which may be any
+    /// number. A null row is never selected.
     pub fn compare(&self, op: Op, constant: i128) -> Result<Bits, NoMemory>
         ensures { IfOk result (λ b. b.bits ≡ map (signed_selects op constant) (shifted_entries self.now)) }
     {
@@ -171,7 +175,7 @@ impl Shifted {
         self.stored.compare(op, constant)
     }
 
-    /// Writes for each row whether it is a null.
+    /// Writes for each row whether it is null.
     pub fn nulls_into(&self, out: &mut Bits)
         requires { length (shifted_entries self.now) ≡ length out.old.bits }
         ensures bits { out.new.bits ≡ map is_none (shifted_entries self.now) }
@@ -180,8 +184,8 @@ impl Shifted {
         self.stored.nulls_into(out);
     }
 
-    /// Keeps in a block of at most 1,024 words, whose first stands for the 64 rows from row `64 * at` on, the rows whose number
-    /// compares so with `constant`, which may be any. A null row is not kept.
+    /// Keeps in a block of at most 1,024 words the rows whose number satisfies the comparison `op` with `constant`,
+    /// which may be any number. The first word stands for the 64 rows from row `64 * at` on. A null row is not kept.
     pub fn keep_selected(
         &self,
         op: Op,
@@ -199,7 +203,8 @@ impl Shifted {
         self.stored.keep_selected(op, constant, at, block)
     }
 
-    /// Keeps in such a block the rows that are nulls. It takes no memory.
+    /// Keeps in a block of words the rows that are null. The first word stands for the 64 rows from row `64 * at` on.
+    /// It allocates no memory.
     pub fn keep_nulls(&self, at: usize, block: &mut [u64])
         requires { at + length block.old ≤ (length (shifted_entries self.now) + 63) / 64 }
         ensures { (p : ℕ) → p < 64 * length block.old → 64 * at + p < length (shifted_entries self.now) → bit_of block.new p
@@ -208,15 +213,15 @@ impl Shifted {
         self.stored.keep_nulls(at, block);
     }
 
-    /// The not-null bitmap.
+    /// Returns the not-null bitmap.
     pub fn present(&self) -> &Bits
         ensures { result.now.bits ≡ map is_some (shifted_entries self.now) }
     {
         self.stored.present()
     }
 
-    /// The sum of the numbers at the rows of a found set, at least -2^95 and below 2^95. A null counts for nothing. It takes
-    /// no memory.
+    /// Returns the sum of the numbers at the rows of a found set, at least -2^95 and below 2^95. A null counts for
+    /// nothing. It allocates no memory.
     pub fn sum(&self, found: &Bits) -> i128
         requires { length (shifted_entries self.now) ≡ length found.now.bits }
         ensures sum { result ≡ signed_sum (values_at found.now.bits (shifted_entries self.now)) }
@@ -227,7 +232,7 @@ impl Shifted {
         sum_from(self.stored.sum(found), self.offset, numbers)
     }
 
-    /// Finds the number of a rank in order among those at the rows of a found set, none where there is none.
+    /// Finds the number of a rank among those at the rows of a found set, or none if there is no number.
     fn of_rank(&self, found: &Bits, rank: Rank) -> Result<Option<i64>, NoMemory>
         requires { length (shifted_entries self.now) ≡ length found.now.bits }
         ensures { IfOk result (λ o. IsSignedOfRank rank (values_at found.now.bits (shifted_entries self.now)) o) }
@@ -236,7 +241,7 @@ impl Shifted {
         Ok(number_from(self.offset, stored))
     }
 
-    /// The least number at the rows of a found set, none where there is none.
+    /// Returns the least number at the rows of a found set, or none if there is no number.
     pub fn least(&self, found: &Bits) -> Result<Option<i64>, NoMemory>
         requires { length (shifted_entries self.now) ≡ length found.now.bits }
         ensures { IfOk result (λ o. IsSignedLeastOf (values_at found.now.bits (shifted_entries self.now)) o) }
@@ -244,7 +249,7 @@ impl Shifted {
         self.of_rank(found, Rank::Least)
     }
 
-    /// The greatest number at the rows of a found set, none where there is none.
+    /// Returns the greatest number at the rows of a found set, or none if there is no number.
     pub fn greatest(&self, found: &Bits) -> Result<Option<i64>, NoMemory>
         requires { length (shifted_entries self.now) ≡ length found.now.bits }
         ensures { IfOk result (λ o. IsSignedGreatestOf (values_at found.now.bits (shifted_entries self.now)) o) }
@@ -252,7 +257,7 @@ impl Shifted {
         self.of_rank(found, Rank::Greatest)
     }
 
-    /// The lower median of the numbers at the rows of a found set, none where there is none.
+    /// Returns the lower median of the numbers at the rows of a found set, or none if there is no number.
     pub fn median(&self, found: &Bits) -> Result<Option<i64>, NoMemory>
         requires { length (shifted_entries self.now) ≡ length found.now.bits }
         ensures { IfOk result (λ o. IsSignedMedianOf (values_at found.now.bits (shifted_entries self.now)) o) }
@@ -260,7 +265,7 @@ impl Shifted {
         self.of_rank(found, Rank::Median)
     }
 
-    /// A second column of the same entries, in the same form.
+    /// Makes a second column of the same entries, in the same form.
     pub fn copy(&self) -> Result<Shifted, NoMemory>
         ensures entries { IfOk result (λ c. shifted_entries c ≡ shifted_entries self.now) }
         ensures offset { IfOk result (λ c. c.offset ≡ self.now.offset) }
@@ -276,7 +281,8 @@ impl Shifted {
     }
 }
 
-/// The stored number of a rank, by the call of the column for it: the least and the greatest are found without counts.
+/// Returns the stored number of a rank, by the column's own call for this rank: the least and the greatest need no
+/// counts.
 fn stored_of_rank(stored: &AnyColumn, found: &Bits, rank: Rank) -> Result<Option<u64>, NoMemory>
     requires { length (any_entries stored.now) ≡ length found.now.bits }
     ensures { IfOk result (λ o. IsOfRank rank (numbers_at found.now.bits (any_entries stored.now)) o) }
@@ -288,8 +294,9 @@ fn stored_of_rank(stored: &AnyColumn, found: &Bits, rank: Rank) -> Result<Option
     }
 }
 
-/// The comparison of stored numbers that selects those whose number less the offset is stored, and compares so with
-/// `constant`. Each stored number is below 2^63, so the greatest constant of 64 bits stands for all that are past them.
+/// Returns the comparison of stored numbers that selects the same rows as `op` does with `constant`: a number is stored
+/// less the offset. Each stored number is below 2^63, so the greatest constant of 64 bits stands for each constant past
+/// it.
 fn stored_comparison(op: Op, constant: i128, offset: i64) -> (Op, u64)
     ensures { (n : ℕ) → n < 2 ^ 63 → compares_by number_order result.0 n result.1 ≡ compares_by whole_order op (number_of offset n) constant }
 {
@@ -300,7 +307,8 @@ fn stored_comparison(op: Op, constant: i128, offset: i64) -> (Op, u64)
     (op, u64::try_from(above).unwrap_or(u64::MAX))
 }
 
-/// The comparison with 0 that selects all stored numbers or none, as `op` does with a constant that is below each of them.
+/// Returns the comparison with 0 that selects all stored numbers or none, as `op` does with a constant below each
+/// number.
 fn below_all(op: Op) -> Op
     ensures { (n : ℕ) → (x constant : ℤ) → constant <ℤ x → compares_by number_order result n 0 ≡ compares_by whole_order op x constant }
 {
@@ -310,7 +318,7 @@ fn below_all(op: Op) -> Op
     }
 }
 
-/// What is stored of an entry that is not below the offset: how far it is above it.
+/// Returns what is stored of an entry that is not below the offset: its number less the offset, or a null.
 fn stored_from(offset: i64, entry: Option<i64>) -> Option<u64>
     requires { IfSome entry (λ x. (offset ≤ℤ x) × (x <ℤ (offset +ℤ pos (2 ^ 63)))) }
     ensures { option_map (number_of offset) result ≡ entry }
@@ -333,7 +341,7 @@ fn store_block(offset: i64, block: &[Option<i64>], stored: &mut [Option<u64>; 64
     }
 }
 
-/// The number that is stored so, if there is one.
+/// Returns the number that a stored number stands for, or none for a null.
 fn number_from(offset: i64, stored: Option<u64>) -> Option<i64>
     requires { IfSome stored (λ n. (n < 2 ^ 63) × (number_of offset n <ℤ pos (2 ^ 63))) }
     ensures { result ≡ option_map (number_of offset) stored }
@@ -344,7 +352,8 @@ fn number_from(offset: i64, stored: Option<u64>) -> Option<i64>
     }
 }
 
-/// The sum of as many numbers, where `stored` is the sum of what is stored of them: each is the offset and that.
+/// Returns the sum of `numbers` numbers, where `stored` is the sum of their stored numbers: each number is the offset
+/// plus its stored number.
 fn sum_from(stored: u128, offset: i64, numbers: u64) -> i128
     requires { (stored < 2 ^ 95) × (numbers ≤ 2 ^ 32) }
     ensures { result ≡ pos stored +ℤ (offset *ℤ pos numbers) }

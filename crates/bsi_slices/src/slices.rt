@@ -22,8 +22,8 @@ mod totals;
 
 pub use ends::End;
 
-/// A column of optional numbers below two to the power of its width. Slice `i` is binary place `i` of the numbers, and
-/// clear where a row is null.
+/// A column of optional numbers below two to the power of its width. Slice `i` holds binary place `i` of the numbers,
+/// and is clear where a row is null.
 #[derive(Drop)]
 pub struct Slices {
     slices: Bitmaps,
@@ -43,7 +43,7 @@ impl Model for Slices {
 }
 
 impl Slices {
-    /// An empty column of numbers below two to the power of `w`, which is from 1 to 63.
+    /// Makes an empty column of numbers below two to the power of `w`, which is from 1 to 63.
     pub fn new(alloc: Global, w: u32) -> Result<Slices, NoMemory>
         requires { (1 ≤ w) × (w ≤ 63) }
         ensures entries { IfOk result (λ c. c.entries ≡ []) }
@@ -56,7 +56,7 @@ impl Slices {
         })
     }
 
-    /// The number of slices, from 1 to 63. Each number is below two to its power.
+    /// Returns the number of slices, from 1 to 63. Each number is below two to this power.
     pub fn width(&self) -> u32
         ensures width { result ≡ self.now.width }
         ensures within { (1 ≤ result) × (result ≤ 63) }
@@ -65,7 +65,7 @@ impl Slices {
         self.slices.as_slice().len() as u32
     }
 
-    /// Slice `i`: for each row, whether binary place `i` of its number is 1. Of a null row none is.
+    /// Returns slice `i`: for each row, whether binary place `i` of its number is 1. The bit of a null row is clear.
     pub fn slice(&self, i: u32) -> &Bits
         requires { i < self.now.width }
         ensures { result.now.bits ≡ map (λ e. bit_at (number_or_zero e) i == 1) self.now.entries }
@@ -73,8 +73,9 @@ impl Slices {
         &self.slices.as_slice()[i as usize]
     }
 
-    /// Keeps in a block of words, whose first stands for the 64 rows from row `64 * at` on, the rows whose number compares so
-    /// with `constant`, which may be past the size. A null row is not kept. It takes no memory.
+    /// Keeps in a block of words the rows whose number satisfies the comparison `op` with `constant`, which may be past
+    /// the size. The first word stands for the 64 rows from row `64 * at` on. A null row is not kept. It allocates no
+    /// memory.
     pub fn keep_selected(&self, op: Op, constant: u64, at: usize, block: &mut [u64])
         requires { at + length block.old ≤ (length self.now.entries + 63) / 64 }
         ensures { (p : ℕ) → p < 64 * length block.old → 64 * at + p < length self.now.entries → bit_of block.new p
@@ -178,7 +179,7 @@ impl Column for Slices {
     }
 }
 
-/// Makes room for so many more rows. The rows stay, and there is no less room than before, whatever the result.
+/// Makes room for `more` further rows. Whatever the result, the rows stay and there is no less room than before.
 fn reserve_rows(slices: &mut Bitmaps, present: &mut NotNull, more: u64) -> Result<(), NoMemory>
     requires sliced { IsSliced present.old.bits slices.old.vectors }
     requires below { length present.old.bits + more ≤ 2 ^ 32 }
@@ -194,7 +195,8 @@ fn reserve_rows(slices: &mut Bitmaps, present: &mut NotNull, more: u64) -> Resul
     present.reserve(more)
 }
 
-/// Appends a row, in room that is there: to each slice its binary place of the number, which is 0 where the row is null.
+/// Appends a row into room that is already there: each slice gets its binary place of the number, which is 0 if the row
+/// is null.
 fn push_row(slices: &mut Bitmaps, present: &mut NotNull, entry: Option<u64>)
     requires sliced { IsSliced present.old.bits slices.old.vectors }
     requires room { 0 < min slices.old.room present.old.room }
@@ -214,7 +216,8 @@ fn push_row(slices: &mut Bitmaps, present: &mut NotNull, entry: Option<u64>)
     prove!(present.len() <= 1 << 32);
 }
 
-/// Appends a block of rows, in room that is there: to each slice the word of its binary place of the numbers.
+/// Appends a block of rows into room that is already there: each slice gets the word of its binary place of the
+/// numbers.
 fn push_rows(slices: &mut Bitmaps, present: &mut NotNull, block: &[Option<u64>])
     requires sliced { IsSliced present.old.bits slices.old.vectors }
     requires few { length block.now ≤ 64 }

@@ -8,7 +8,7 @@ ghost use Rattle.bsi_slices.specs.Rows.{number_or_zero};
 
 use bsi_bits::know_fits;
 
-/// Writes the numbers of a block of entries, a 0 for a null and behind the last one.
+/// Writes the numbers of a block of entries, with a 0 for each null and for each place behind the last entry.
 pub fn place_numbers(block: &[Option<u64>], numbers: &mut [u64; 64])
     requires { length block.now ≤ 64 }
     ensures long { length numbers.new ≡ 64 }
@@ -20,7 +20,7 @@ pub fn place_numbers(block: &[Option<u64>], numbers: &mut [u64; 64])
     }
 }
 
-/// Returns the word whose bit `r` says whether entry `r` of a block is a number.
+/// Returns the word whose bit `r` tells whether entry `r` of a block is a number.
 pub fn mark_present(block: &[Option<u64>]) -> u64
     requires { length block.now ≤ 64 }
     ensures marks { bits_of (length block.now) (result ∷ []) ≡ map is_some block.now }
@@ -33,8 +33,8 @@ pub fn mark_present(block: &[Option<u64>]) -> u64
     word
 }
 
-/// Exchanges rows and places of 64 words: place `k` of word `r` becomes place `r` of word `k`. A row and a place have six
-/// binary places each; a step exchanges those of one weight.
+/// Exchanges the rows and the places of 64 words: place `k` of word `r` becomes place `r` of word `k`. The number of a
+/// row and that of a place have six binary places each, and each step exchanges those of one weight.
 pub(crate) fn transpose(words: &mut [u64; 64])
     ensures long { length words.new ≡ 64 }
     ensures fits { (k : ℕ) → slice_index words.new k < 2 ^ 64 }
@@ -49,7 +49,8 @@ pub(crate) fn transpose(words: &mut [u64; 64])
     know_fits(words);
 }
 
-/// Exchanges the binary place of weight `s` of row and place. The places in which it is 0 are set in `low`.
+/// Exchanges the binary place of weight `s` of the row number with that of the place number. `low` has those places set
+/// whose own number has a 0 there.
 fn exchange(words: &mut [u64; 64], s: usize, low: u64)
     requires weight { (1 ≤ s) × (s ≤ 32) × (2 * s * (32 / s) ≡ 64) }
     requires low { IsLow s low }
@@ -62,7 +63,8 @@ fn exchange(words: &mut [u64; 64], s: usize, low: u64)
     }
 }
 
-/// Does so for the `s` rows from `from` on, in which that place is 0, and the `s` rows behind them, in which it is 1.
+/// Exchanges that place, as `exchange` does, for the `s` rows from `from` on, whose number has a 0 there, and for the
+/// `s` rows behind them, whose number has a 1 there.
 fn exchange_run(words: &mut [u64; 64], from: usize, s: usize, low: u64)
     requires within { (1 ≤ s) × (from + 2 * s ≤ 64) }
     requires low { IsLow s low }

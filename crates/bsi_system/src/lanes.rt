@@ -10,7 +10,7 @@ use bsi_load::LoadRefused;
 use bsi_rings::{Closing, Front, Lane};
 use bsi_table::Row;
 
-/// Makes a copy of the row that is the next to be taken of a feeder. It stays in the ring.
+/// Makes a copy of the row of a feeder that is to be taken next. The row stays in the ring.
 pub(crate) fn first_of(lanes: &mut Vec<Lane>, feeder: u32, full: bool) -> Result<Row, LoadRefused>
     ensures reply { IsFirstReply (takings_of lanes.old.items) feeder full result }
     ensures same { AreSame lanes.old.items lanes.new.items }
@@ -44,7 +44,7 @@ fn front_of(lanes: &mut Vec<Lane>, place: usize) -> Front
     lane.front()
 }
 
-/// Takes the row that is the next one of a feeder out of its ring.
+/// Takes the next row of a feeder out of its ring.
 pub(crate) fn take_of(lanes: &mut Vec<Lane>, feeder: u32) -> Row
     requires { (row : Entries) × IsFirstAt lanes.old.items feeder row }
     ensures { TakesAt lanes.old.items feeder result lanes.new.items }

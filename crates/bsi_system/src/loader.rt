@@ -11,14 +11,14 @@ use bsi_versions::{Analyst, Naming, Publisher, Told};
 use std::marker::Model;
 use std::sync::Wait;
 
-/// Why a closing is not told.
+/// Why a closing is not accepted.
 #[derive(Drop)]
 pub enum SettleRefused {
-    /// There is no such feeder, or the closing is another feeder's. It is handed back.
+    /// There is no such feeder, or the closing is another feeder's. The closing is handed back.
     WrongClosing(Closing),
 }
 
-/// What loads the rows of all feeders into the table that analysts read. It is not `Drop`: end it by `end`.
+/// Loads the rows of all feeders into the table that analysts read. It is not `Drop`: end it by `end`.
 pub struct Loader<B: Naming> {
     pub(crate) lanes: Vec<Lane>,
     pub(crate) publisher: Publisher<B>,
@@ -37,8 +37,8 @@ impl<B: Naming> Model for Loader<B> {
 }
 
 impl<B: Naming> Loader<B> {
-    /// Takes the next row out of a feeder's ring, and holds it. Where it is refused, the row stays in the ring. It waits for
-    /// nobody.
+    /// Takes the next row out of a feeder's ring, and holds it. If it is refused, the row stays in the ring. It waits
+    /// for nobody.
     pub fn load(&mut self, feeder: u32) -> Result<(), LoadRefused>
         ensures reply { IsLoadReply self.old feeder result }
         ensures loaded { OnOk result (LoadsOne self.old feeder self.new) }
@@ -71,8 +71,9 @@ impl<B: Naming> Loader<B> {
         Ok(())
     }
 
-    /// Learns from a feeder's closing what it sent. From then on each of those rows can be loaded, and a load of the feeder is
-    /// refused for good once all are. It takes no row, no memory, and waits for nobody.
+    /// Learns from a feeder's closing what the feeder sent. From then on each of those rows can be loaded, and once all
+    /// are loaded, a load from this feeder is refused for good. It takes no row, allocates no memory and waits for
+    /// nobody.
     pub fn settle(&mut self, feeder: u32, closing: Closing) -> Result<(), SettleRefused>
         requires { IsOf closing self.old.system }
         ensures ok { OnOk result ((closing.number ≡ feeder) × (self.new ≡ settled_as self.old feeder closing.rows)) }
@@ -100,8 +101,8 @@ impl<B: Naming> Loader<B> {
         settle_of(&mut self.lanes, feeder, closing);
     }
 
-    /// Makes all held rows visible to analysts at one step, and returns how many rows are then published. Where it is refused,
-    /// nothing changes.
+    /// Makes all held rows visible to analysts at one step, and returns how many rows are then published. If it is
+    /// refused, nothing changes.
     pub fn publish<R: Wait>(&mut self, rt: &R) -> Result<u64, NoMemory>
         ensures len { IfOk result (λ len. len ≡ length self.new.published) }
         ensures ok { OnOk result (self.new ≡ published_all self.old) }
@@ -127,7 +128,7 @@ impl<B: Naming> Loader<B> {
         }
     }
 
-    /// Returns how many rows are published, and how many are held. It takes no memory.
+    /// Returns how many rows are published, and how many are held. It allocates no memory.
     pub fn counts(&self) -> (u64, u64)
         ensures published { result.0 ≡ length self.now.published }
         ensures held { result.1 ≡ length self.now.held }
@@ -140,7 +141,7 @@ impl<B: Naming> Loader<B> {
         self.publisher.counts()
     }
 
-    /// Tells which rows are published, for an analyst to learn. It takes no memory.
+    /// Tells which rows are published, for an analyst to learn. It allocates no memory.
     pub fn tell(&mut self) -> Told<B>
         ensures told { result ≡ self.old.published }
         ensures same { self.new ≡ self.old }
@@ -152,21 +153,21 @@ impl<B: Naming> Loader<B> {
         self.publisher.tell()
     }
 
-    /// Makes an analyst, who knows what is published. Err where its place is not found to be free.
+    /// Makes an analyst, who knows what is published. It returns an error if no free place is found for the analyst.
     pub(crate) fn analyst(&self) -> Result<Analyst<B>, NoMemory>
         ensures { IfOk result (λ analyst. analyst ≡ self.now.published) }
     {
         self.publisher.analyst()
     }
 
-    /// Ends the loader. What is held or in a ring is dropped.
+    /// Ends the loader. It drops the rows that are held or still in a ring.
     pub fn end<R: Wait>(self, rt: &R) {
         let Loader { lanes, publisher } = self;
         drop(lanes);
         publisher.end(rt);
     }
 
-    /// Shows what the loader keeps to.
+    /// Shows the prover the invariants of the loader.
     fn show(&self)
         ensures balanced { Balanced self.now }
         ensures within { WithinTold self.now }

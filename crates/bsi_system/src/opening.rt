@@ -13,8 +13,8 @@ use bsi_table::Schema;
 use bsi_versions::{Analyst, History, Naming};
 use std::alloc::Global;
 
-/// Opens a system with a feeder for each capacity, a table of at most so many rows, and so many analysts. Nothing was sent,
-/// taken, held or published. It makes all that its ends need later.
+/// Opens a system with a feeder for each capacity, a table of at most `limit` rows, and `analysts` analysts, at most 8.
+/// Nothing is sent, taken, held or published yet. It makes everything that its ends need later.
 pub fn open<B: Naming>(
     alloc: Global,
     history: History,

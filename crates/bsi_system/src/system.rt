@@ -1,4 +1,4 @@
-//! Opens a running system: all of its ends.
+//! The ends of a running system, and how all but the analysts are made.
 
 ghost use Rattle.std.specs.Prelude.{◌≡◌, ◌≤◌, ◌++◌, [], All, IfErr, IfOk, None, OnOk, length, replicate};
 ghost use Rattle.bsi_table.specs.Refusals.{IsFirstOr};
@@ -19,22 +19,22 @@ use std::sync::Arc;
 pub struct System<B: Naming> {
     /// An end for each feeder, in the order of the capacities.
     pub feeders: Vec<Feeder>,
-    /// The one loader. It is to be ended by `end`.
+    /// The one loader. End it by `end`.
     pub loader: Loader<B>,
     /// The analysts.
     pub analysts: Vec<Analyst<B>>,
 }
 
-/// Why no system is opened, in the order of checking.
+/// Why no system is opened, in the order in which it is checked.
 pub enum OpenRefused<B: Naming> {
-    /// The sizes are refused, or a growth was.
+    /// The sizes are refused, or memory was refused.
     Make(MakeError),
-    /// An analyst's place was not found. The loader that was made is handed back, to be ended.
+    /// No place was found for an analyst. The loader that was made is handed back, to be ended.
     Readers(Loader<B>),
 }
 
 impl<B: Naming> System<B> {
-    /// Makes all ends but the analysts, for which there is room.
+    /// Makes all ends but the analysts, for which it leaves room.
     pub(crate) fn make(
         alloc: Global,
         history: History,

@@ -1,4 +1,4 @@
-//! The columns of a table, side by side: each call is done on each.
+//! The columns of a table, side by side: each call is made on each of them.
 
 ghost use Rattle.std.specs.Prelude.{◌≡◌, ℕ, ◌+◌, ◌<◌, ◌≤◌, ◌^◌, [], All, length, IfOk, OnOk};
 ghost use Rattle.bsi_columns.specs.AnyRows.{any_entries};
@@ -13,7 +13,7 @@ use bsi_columns::{AnyColumn, Decomposed, Slices};
 use bsi_shift::Shifted;
 use std::alloc::Global;
 
-/// Makes an empty column for each of a schema.
+/// Makes an empty column for each column of a schema.
 pub(crate) fn make_each(alloc: Global, schema: &Schema) -> Result<Vec<Shifted>, NoMemory>
     ensures { IfOk result (λ made. AreKept schema.now.columns made.items 0) }
 {
@@ -46,7 +46,7 @@ fn make_stored(alloc: Global, form: &Form) -> Result<AnyColumn, NoMemory>
     }
 }
 
-/// Makes room for so many more entries in each column. The columns stay, whatever the result.
+/// Makes room for `more` further entries in each column. Whatever the result, the columns stay.
 pub(crate) fn reserve_each(columns: &mut [Shifted], more: u64) -> Result<(), NoMemory>
     requires { (k : ℕ) → k < length columns.old → length (shifted_entries (kept_at columns.old k)) + more ≤ 2 ^ 32 }
     ensures same { AreSameColumns columns.old columns.new }
@@ -58,7 +58,7 @@ pub(crate) fn reserve_each(columns: &mut [Shifted], more: u64) -> Result<(), NoM
     Ok(())
 }
 
-/// Appends to each column its entry of a row, in room that is there.
+/// Appends to each column its entry of a row, into room that is already there.
 pub(crate) fn push_each(columns: &mut [Shifted], values: &[Option<i128>])
     requires long { length values.now ≡ length columns.old }
     requires room { HaveRoom columns.old (length columns.old) 1 }
@@ -71,7 +71,7 @@ pub(crate) fn push_each(columns: &mut [Shifted], values: &[Option<i128>])
     }
 }
 
-/// Appends to each column its entries of a block of rows, in room that is there.
+/// Appends to each column its entries of a block of at most 64 rows, into room that is already there.
 pub(crate) fn push_block_each(columns: &mut [Shifted], rows: &[(u32, Row)])
     requires few { length rows.now ≤ 64 }
     requires room { HaveRoom columns.old (length columns.old) (length rows.now) }
@@ -85,7 +85,7 @@ pub(crate) fn push_block_each(columns: &mut [Shifted], rows: &[(u32, Row)])
     }
 }
 
-/// Writes the entry of column `c` of each row.
+/// Writes for each row its entry of column `c`.
 fn gather(rows: &[(u32, Row)], c: usize, entries: &mut [Option<i64>])
     requires same { length entries.old ≡ length rows.now }
     requires wide { All (λ row. c < length row.1) rows.now }
@@ -108,7 +108,7 @@ fn narrowed(entry: Option<i128>) -> Option<i64>
     }
 }
 
-/// Makes a second column of each.
+/// Makes a second list of the same columns.
 pub(crate) fn copy_each(alloc: Global, columns: &[Shifted]) -> Result<Vec<Shifted>, NoMemory>
     ensures long { IfOk result (λ copied. length copied.items ≡ length columns.now) }
     ensures same { IfOk result (λ copied. AreSameColumns columns.now copied.items) }

@@ -11,25 +11,26 @@ pub enum IndexError {
     NoColumns,
     /// The limit is not from 1 to 2^32.
     LimitOutOfRange,
-    /// A growth was refused.
+    /// Memory was refused.
     NoMemory,
 }
 
 /// The refusals of a row, in the order in which they are checked.
 #[derive(Clone, Copy, Debug, PartialEq, Eq)]
 pub enum AppendError {
-    /// There are as many rows as the limit.
+    /// There are already as many rows as the limit.
     IndexFull,
-    /// A growth was refused.
+    /// Memory was refused.
     NoMemory,
 }
 
 /// The refusals of a query, in the order in which they are checked.
 #[derive(Clone, Copy, Debug, PartialEq, Eq)]
 pub enum AskError {
-    /// There is no such column: that of the total, else the first of the predicate, from left to right.
+    /// There is no column of this number. It is the total's column if that is missing, or else the first missing column
+    /// of the predicate, from left to right.
     BadColumn(u32),
-    /// A growth was refused.
+    /// Memory was refused.
     NoMemory,
 }
 

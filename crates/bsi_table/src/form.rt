@@ -1,4 +1,4 @@
-//! In which form a column keeps its numbers.
+//! The form in which a column stores its numbers.
 
 ghost use Rattle.std.specs.Prelude.{◌≡◌, ◌≤◌, ◌^◌, IfErr, IfOk};
 ghost use Rattle.std.specs.Result.{result_err};
@@ -10,10 +10,10 @@ use std::alloc::AllocError;
 /// The most slices of a column.
 pub const MOST_SLICES: u32 = 63;
 
-/// The form that is asked for. Bases are written most significant first.
+/// The form that is asked for. Its bases are written most significant first.
 #[derive(Debug, Drop)]
 pub enum ColumnSpec {
-    /// So many bit slices, from 1 to 63.
+    /// This many bit slices, from 1 to 63.
     Slices(u32),
     /// Equality encoded components under these bases.
     Equality(Vec<u32>),
@@ -21,10 +21,10 @@ pub enum ColumnSpec {
     Range(Vec<u32>),
 }
 
-/// A form that can be had. A contract sees its bases least significant first.
+/// A form that a column may have. A contract sees its bases least significant first.
 #[derive(Debug, Drop)]
 pub enum Form {
-    /// So many bit slices, from 1 to 63.
+    /// This many bit slices, from 1 to 63.
     Slices(u32),
     /// Equality encoded components under these bases.
     Equality(Bases),
@@ -32,7 +32,7 @@ pub enum Form {
     Range(Bases),
 }
 
-/// What a schema keeps beside the name of a column: its form, and the least number that it takes.
+/// What a schema keeps of a column beside its name: its form, and the least number that it takes.
 #[derive(Debug, Drop)]
 pub(crate) struct Kind {
     pub(crate) form: Form,
@@ -44,7 +44,7 @@ impl Form {
     ghost use Rattle.bsi_table.specs.Columns.{form_of, size_in, IsForm};
     ghost use Rattle.bsi_table.specs.Refusals.{form_refusal};
 
-    /// Returns the form that is asked for, or the first refusal of its bases. Takes no memory.
+    /// Returns the form that is asked for, or the first refusal of its bases. It allocates no memory.
     pub(crate) fn of(spec: ColumnSpec) -> Result<Form, BasesError>
         ensures refused { result_err result ≡ form_refusal spec }
         ensures ok { IfOk result (λ form. form ≡ form_of spec) }
@@ -59,7 +59,7 @@ impl Form {
         }
     }
 
-    /// Returns how many numbers a column of this form tells apart.
+    /// Returns how many numbers a column of this form tells apart, at most 2^63.
     pub(crate) fn size(&self) -> u64
         requires { IsForm self.now }
         ensures size { result ≡ size_in self.now }

@@ -1,4 +1,4 @@
-//! The index: rows from feeders, kept column by column, and the answers to queries over them.
+//! The index: rows from feeders, stored column by column, and the answers to queries over them.
 
 ghost use Rattle.std.specs.Prelude.{◌≡◌, ℕ, ◌+◌, ◌<◌, ◌≤◌, ◌^◌, ◌++◌, ◌∷◌, [], All, None, length, IfErr, IfOk, IsTrue, OnErr, OnOk};
 ghost use Rattle.std.specs.Result.{result_err};
@@ -21,12 +21,12 @@ use std::marker::Model;
 /// The most rows of an index.
 pub const MOST_ROWS: u64 = 1 << 32;
 
-/// The most rows of a block that is appended at once.
+/// The most rows of a block that can be appended at once.
 pub const MOST_BLOCK_ROWS: usize = 64;
 
-/// The rows of a schema that came from 1 to 64 feeders, at most so many as a limit. A row is kept as its entry in each
-/// column and the number of its feeder, a byte; no row is kept as it came. Every 512 rows a count of 4 bytes is kept for each
-/// feeder, where there are several.
+/// The rows of a schema that came from 1 to 64 feeders, at most as many as a limit. A row is stored as its entry in
+/// each column and the number of its feeder, one byte; no row is stored as it came. If there are several feeders, each
+/// stretch of 512 rows has a count of 4 bytes for each feeder.
 #[derive(Drop)]
 pub struct Index {
     schema: Schema,
@@ -47,7 +47,7 @@ impl Model for Index {
 }
 
 impl Index {
-    /// Makes an index of no rows. A schema that is refused is dropped.
+    /// Makes an index of no rows. It drops a schema that it refuses.
     pub fn new(alloc: Global, schema: Schema, feeders: u32, limit: u64) -> Result<Index, IndexError>
         requires { (1 ≤ feeders) × (feeders ≤ 64) }
         ensures ok { IfOk result (λ index. index ≡ no_rows schema feeders limit) }
@@ -64,7 +64,7 @@ impl Index {
         })
     }
 
-    /// Tells how `new` refuses a schema or a limit, want of memory apart. It takes no memory.
+    /// Tells how `new` refuses a schema or a limit, lack of memory apart. It allocates no memory.
     pub fn check(schema: &Schema, limit: u64) -> Result<(), IndexError>
         ensures { result_err result ≡ index_refusal schema.now limit }
     {
@@ -85,8 +85,8 @@ impl Index {
         self.origins.len()
     }
 
-    /// Appends a row from a feeder, and returns its position: the length before. It grows first; what was refused a growth
-    /// stays as it was.
+    /// Appends a row from a feeder, and returns its row position: the length before. It makes room first, so a refused
+    /// growth leaves the index as it was.
     pub fn append(&mut self, feeder: u32, row: &Row) -> Result<u64, AppendError>
         requires fits { IsTrue (fits self.old.schema.columns row.now) }
         requires feeder { feeder < self.old.feeders }
@@ -110,9 +110,9 @@ impl Index {
         Ok(position)
     }
 
-    /// Appends a block of at most 64 rows, each from its feeder, and returns the position of the first: the length before.
-    /// They stand as if they were appended one after the other, or none is appended: it grows first, for all rows at once, and
-    /// what was refused a growth stays as it was.
+    /// Appends a block of at most 64 rows, each from its feeder, and returns the row position of the first: the length
+    /// before. Either all rows are appended, as if one after the other, or none is. It makes room for all rows first,
+    /// so a refused growth leaves the index as it was.
     pub fn append_rows(&mut self, rows: &[(u32, Row)]) -> Result<u64, AppendError>
         requires few { length rows.now ≤ 64 }
         requires fits { AreFitting self.old.schema.columns rows.now }
@@ -153,7 +153,7 @@ impl Index {
         answer(alloc, &self.columns, &self.origins, &found, query)
     }
 
-    /// Lends column `c`: the entries of all rows there, in the form and with the offset that the schema says.
+    /// Lends column `c`: the entries of all rows there, in the form and with the offset that the schema gives.
     pub fn column(&self, c: u32) -> &Shifted
         requires { c < length self.now.schema.columns }
         ensures entries { shifted_entries result.now ≡ column_of self.now.rows c }
@@ -204,7 +204,7 @@ impl Index {
     }
 }
 
-/// Makes room for so many more rows. The rows stay, whatever the result.
+/// Makes room for `more` further rows. Whatever the result, the rows stay.
 fn reserve_rows(
     columns: &mut Vec<Shifted>,
     origins: &mut Origins,
@@ -223,7 +223,7 @@ fn reserve_rows(
     origins.reserve(more)
 }
 
-/// Appends a row, in room that is there.
+/// Appends a row, into room that is already there.
 fn push_row(columns: &mut Vec<Shifted>, origins: &mut Origins, source: u8, values: &[Option<i128>])
     requires long { length values.now ≡ length columns.old.items }
     requires room { HaveRoom columns.old.items (length columns.old.items) 1 }
@@ -240,7 +240,7 @@ fn push_row(columns: &mut Vec<Shifted>, origins: &mut Origins, source: u8, value
     origins.push_reserved(source);
 }
 
-/// Appends a block of rows, in room that is there.
+/// Appends a block of rows, into room that is already there.
 fn push_rows(columns: &mut Vec<Shifted>, origins: &mut Origins, rows: &[(u32, Row)])
     requires few { length rows.now ≤ 64 }
     requires room { HaveRoom columns.old.items (length columns.old.items) (length rows.now) }
@@ -257,7 +257,7 @@ fn push_rows(columns: &mut Vec<Shifted>, origins: &mut Origins, rows: &[(u32, Ro
     push_sources(origins, rows);
 }
 
-/// Appends the feeder of each row, in room that is there.
+/// Appends the feeder of each row, into room that is already there.
 fn push_sources(origins: &mut Origins, rows: &[(u32, Row)])
     requires reserved { length rows.now ≤ origins.old.room }
     requires from { AreFrom origins.old.feeders rows.now }

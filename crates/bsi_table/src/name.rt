@@ -1,4 +1,4 @@
-//! Which texts are names of columns.
+//! The texts that are names of columns.
 
 ghost use Rattle.std.specs.Prelude.{◌≡◌};
 ghost use Rattle.std.specs.List.{list_all};
@@ -7,8 +7,8 @@ ghost use Rattle.bsi_table.specs.Names.{begins_lower, is_name, is_name_byte, is_
 /// The most bytes of a name.
 const MAX_NAME: usize = 32;
 
-/// Returns whether the text is a name: a lower-case letter, then lower-case letters, digits and `_`, 32 bytes at
-/// most, and none of the words that predicates are written with.
+/// Returns whether the text is a name: a lower-case letter, then lower-case letters, digits and `_`, at most 32 bytes
+/// in all, and none of the words that predicates are written with.
 pub fn test_name(text: &[u8]) -> bool
     ensures { result ≡ is_name text.now }
 {

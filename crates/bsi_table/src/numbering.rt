@@ -1,4 +1,4 @@
-//! The rows of a found set, each by its feeder and its number among the feeder's.
+//! The rows of a found set, each by its feeder and its number among the rows of that feeder.
 
 ghost use Rattle.std.specs.Prelude.{◌≡◌, ◌<◌, ◌≤◌, IfOk, length};
 ghost use Rattle.bsi_bits.specs.BitList.{set_places};
@@ -13,11 +13,12 @@ use std::alloc::Global;
 /// The most feeders of a table.
 pub const MOST_FEEDERS: u32 = 64;
 
-/// Where more than one row in so many was found, all rows are gone over.
+/// If more than one row in this many was found, the numbering goes over all rows.
 const MANY: u64 = 8;
 
-/// Returns the rows of a found set in order, where `origins` says which feeder each row of the table came from. Where few were found
-/// it reads of each stretch of 512 rows the feeders up to the last that was found, and none where none was.
+/// Returns the rows of a found set in order, each by its feeder and its number among that feeder's rows. `origins`
+/// gives the feeder of each row of the table. If few rows were found, it reads, in each stretch of 512 rows, the
+/// feeders up to the last found row, and none in a stretch with no found row.
 pub(crate) fn number_rows(
     alloc: Global,
     found: &Bits,
@@ -33,7 +34,7 @@ pub(crate) fn number_rows(
     }
 }
 
-/// Numbers the found rows, from one to the next.
+/// Numbers the found rows, going from one to the next.
 fn number_few(alloc: Global, found: &Bits, origins: &Origins) -> Result<Vec<(u32, u64)>, NoMemory>
     requires { length found.now.bits ≡ length origins.now.rows }
     ensures { IfOk result (λ rows. rows.items ≡ numbered_at origins.now.rows (set_places found.now.bits)) }
@@ -68,8 +69,8 @@ fn number_many(alloc: Global, found: &Bits, origins: &Origins) -> Result<Vec<(u3
     Ok(listed)
 }
 
-/// Takes the counts of the rows before `from` forward to those before `to`: on from there within its stretch, and from the mark
-/// in a later one.
+/// Moves the counts of the rows before `from` forward to those before `to`. Within the same stretch it counts on from
+/// there; for a later stretch it begins at its mark.
 fn count_forward(origins: &Origins, counts: &mut Counts, from: u64, to: u64)
     requires forward { from ≤ to }
     requires within { to < length origins.now.rows }

@@ -1,4 +1,4 @@
-//! The feeder of each row, and counts by which a row's number among its feeder's is found.
+//! The feeder of each row, and the counts by which a row's number among its feeder's rows is found.
 
 ghost use Rattle.std.specs.Prelude.{◌≡◌, ◌+◌, ◌*◌, ◌<◌, ◌≤◌, ◌^◌, ◌++◌, ◌∷◌, [], All, IfOk, IsOk, OnErr, OnOk, length, slice_index, vec_len, vec_capacity};
 ghost use Rattle.bsi_table.specs.Origins.{mark_len, AreCounts};
@@ -7,14 +7,14 @@ use crate::{MOST_FEEDERS, NoMemory};
 use std::alloc::Global;
 use std::marker::Model;
 
-/// How many rows stand from one mark to the next.
+/// The number of rows from one mark to the next.
 pub(crate) const STRETCH: u64 = 512;
 
 /// A count for each feeder.
 pub(crate) type Counts = [u64; MOST_FEEDERS as usize];
 
-/// The feeder of each of at most 2^32 rows, a byte a row. Where there are several feeders, a mark stands before each
-/// stretch of 512 rows: how many of the rows before came from each feeder, 4 bytes a feeder.
+/// The feeder of each of at most 2^32 rows, one byte per row. If there are several feeders, a mark stands before each
+/// stretch of 512 rows. It tells how many of the rows before came from each feeder, in 4 bytes per feeder.
 #[derive(Drop)]
 pub(crate) struct Origins {
     feeders: u32,
@@ -37,7 +37,7 @@ impl Model for Origins {
 }
 
 impl Origins {
-    /// Makes the list of no rows. It takes no memory until it grows.
+    /// Makes the list of no rows. It allocates no memory until it grows.
     pub(crate) fn new(alloc: Global, feeders: u32) -> Origins
         requires { (1 ≤ feeders) × (feeders ≤ 64) }
         ensures rows { result.rows ≡ [] }
@@ -85,7 +85,8 @@ impl Origins {
         self.sources.allocator()
     }
 
-    /// Makes room for so many more rows. The rows stay, whatever the result. It takes memory only where there is no room.
+    /// Makes room for `more` further rows. Whatever the result, the rows stay. It allocates memory only if there is not
+    /// enough room already.
     pub(crate) fn reserve(&mut self, more: u64) -> Result<(), NoMemory>
         requires { length self.old.rows + more ≤ 2 ^ 32 }
         ensures rows { self.new.rows ≡ self.old.rows }
@@ -105,7 +106,7 @@ impl Origins {
         Ok(())
     }
 
-    /// Appends a row of a feeder, in room that is there.
+    /// Appends a row of a feeder, into room that is already there.
     pub(crate) fn push_reserved(&mut self, feeder: u8)
         requires feeder { feeder < self.old.feeders }
         requires room { 0 < self.old.room }
@@ -121,7 +122,7 @@ impl Origins {
         self.room -= 1;
     }
 
-    /// Writes how many of the rows before stretch `k` came from each feeder, where there are several.
+    /// Writes how many of the rows before stretch `k` came from each feeder. It requires several feeders.
     pub(crate) fn read_mark(&self, k: u64, counts: &mut Counts)
         requires several { 1 < self.now.feeders }
         requires there { 512 * k < length self.now.rows }
@@ -158,7 +159,7 @@ fn mark_len(feeders: u32) -> usize
     if feeders > 1 { feeders as usize } else { 0 }
 }
 
-/// Appends counts below 2^32 to the marks, in room that is there.
+/// Appends counts below 2^32 to the marks, into room that is already there.
 fn push_mark(marks: &mut Vec<u32>, counts: &[u64])
     requires room { vec_len marks.old + length counts.now ≤ vec_capacity marks.old }
     requires small { All (λ count. count < 2 ^ 32) counts.now }

@@ -1,29 +1,30 @@
-//! What is asked of a table, and what is answered.
+//! Queries of a table, and their answers.
 
 ghost use Rattle.std.specs.Prelude.{◌≡◌, ◌++◌, ◌∷◌, [], Option};
 ghost use Rattle.bsi_table.specs.Answers.{columns_of_pred, columns_of_total, missing_column, missing_of};
 
 use bsi_columns::Op;
 
-/// A condition on a row. Columns go by their places, from 0. What goes over a predicate goes down it by calls, so that its depth
-/// is bounded by the stack.
+/// A condition on a row. Columns go by their places, from 0. Each function over a predicate calls itself for its parts,
+/// so the stack bounds the depth of a predicate.
 #[derive(Debug, Drop)]
 pub enum Pred {
     /// Holds of every row.
     All,
-    /// The column's entry is a number that compares so with the constant, which may be any. No null does.
+    /// The column's entry is a number that satisfies the comparison with the constant, which may be any number. A null
+    /// never does.
     Compare(u32, Op, i128),
-    /// The column's entry is a null.
+    /// The column's entry is null.
     Null(u32),
     /// Both hold.
     Both(Box<Pred>, Box<Pred>),
-    /// One of the two holds, or both.
+    /// At least one of the two holds.
     Either(Box<Pred>, Box<Pred>),
-    /// It does not hold: so of nulls too.
+    /// It does not hold. It may thus hold of nulls.
     Not(Box<Pred>),
 }
 
-/// What is wanted of the rows that a predicate selects.
+/// What is asked of the rows that a predicate selects.
 #[derive(Clone, Copy, Debug, PartialEq, Eq)]
 pub enum Total {
     /// How many there are.
@@ -52,17 +53,17 @@ pub struct Query {
 pub enum Answer {
     /// How many rows there are.
     Count(u64),
-    /// The sum of numbers, which is 0 where there are none.
+    /// The sum of the numbers, which is 0 if there are none.
     Sum(i128),
-    /// The least, greatest or median number, none where there are none.
+    /// The least, greatest or median number, or none if there is no number.
     Value(Option<i64>),
-    /// Each row's feeder and its number among the feeder's rows, from 0, in order of the rows.
+    /// The feeder of each row and the row's number among that feeder's rows, from 0, in order of the rows.
     Rows(Vec<(u32, u64)>),
 }
 
 impl Query {
-    /// Returns the first column that the query reads and that is none of the first `columns`: that of its total, else the
-    /// predicate's first, from left to right.
+    /// Returns the first column that the query reads and that is not among the first `columns`: that of its total, or
+    /// else the first one in the predicate, from left to right.
     pub(crate) fn missing_column(&self, columns: u32) -> Option<u32>
         ensures { result ≡ missing_column columns self.now }
     {
@@ -74,7 +75,7 @@ impl Query {
 }
 
 impl Total {
-    /// Returns the column that the total reads, if it is none of the first `columns`.
+    /// Returns the column that the total reads, if it is not among the first `columns`.
     fn missing_column(self, columns: u32) -> Option<u32>
         ensures { result ≡ missing_of columns (columns_of_total self) }
     {
@@ -88,7 +89,8 @@ impl Total {
 }
 
 impl Pred {
-    /// Returns the first column that the predicate reads, from left to right, and that is none of the first `columns`.
+    /// Returns the first column that the predicate reads, from left to right, and that is not among the first
+    /// `columns`.
     fn missing_column(&self, columns: u32) -> Option<u32>
         ensures { result ≡ missing_of columns (columns_of_pred self.now) }
     {

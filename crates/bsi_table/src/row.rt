@@ -56,7 +56,7 @@ impl Row {
         &self.values
     }
 
-    /// Returns the entries themselves, so that a row can be filled again where it stood.
+    /// Gives up the row and returns its list of entries, so that it can be filled again.
     pub fn into_values(self) -> Vec<Option<i128>>
         ensures { result.items ≡ self }
     {

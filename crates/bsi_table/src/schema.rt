@@ -17,7 +17,7 @@ use std::str::from_utf8;
 /// The most columns of a schema.
 const MOST_COLUMNS: usize = 64;
 
-/// What the offset and the size of a column come to at most.
+/// The most that the offset and the size of a column add up to.
 const GREATEST_END: i128 = 1 << 63;
 
 /// A list of at most 64 named columns, in order of declaration.
@@ -40,7 +40,7 @@ impl Model for Schema {
 }
 
 impl Schema {
-    /// Makes a schema of no columns. It takes no memory until a column is added.
+    /// Makes a schema of no columns. It allocates no memory until a column is added.
     pub fn new(alloc: Global) -> Schema
         ensures { result ≡ no_columns }
     {
@@ -66,7 +66,7 @@ impl Schema {
         self.signed
     }
 
-    /// Returns the place of the column of this name.
+    /// Returns the place of the column of this name, or none if there is no such column.
     pub fn position(&self, name: &str) -> Option<u32>
         ensures { result ≡ position_of self.now.columns name.now }
     {
@@ -76,7 +76,7 @@ impl Schema {
         }
     }
 
-    /// Returns the place of the column whose name has these bytes.
+    /// Returns the place of the column whose name has these bytes, or none if there is no such column.
     pub fn find(&self, name: &[u8]) -> Option<u32>
         ensures { result ≡ position_of self.now.columns name.now }
     {
@@ -125,7 +125,7 @@ impl Schema {
         declared.offset
     }
 
-    /// Returns whether a row has one entry for each column, a null or a number that the column takes.
+    /// Returns whether a row has one entry for each column, each a null or a number that its column takes.
     pub fn fits(&self, row: &Row) -> bool
         ensures { result ≡ fits self.now.columns row.now }
     {
@@ -156,7 +156,8 @@ impl Schema {
         number < least + i128::from(self.size(c))
     }
 
-    /// Adds a column of numbers from 0 up, last. A column that is refused is dropped, and the schema stays.
+    /// Adds a column of numbers from 0 up, behind the others. If it is refused, the column is dropped and the schema
+    /// stays.
     pub fn add(&mut self, name: &str, spec: ColumnSpec) -> Result<(), SchemaError>
         ensures added { OnOk result (self.new ≡ with_column self.old (named_column name.now (form_of spec) (pos 0)) false) }
         ensures taken { OnOk result (column_refusal self.old name.now spec ≡ None) }
@@ -168,7 +169,8 @@ impl Schema {
         Ok(())
     }
 
-    /// Adds a column of numbers from `offset` up, last. A column that is refused is dropped, and the schema stays.
+    /// Adds a column of numbers from `offset` up, behind the others. If it is refused, the column is dropped and the
+    /// schema stays.
     pub fn add_signed(
         &mut self,
         name: &str,
@@ -188,7 +190,7 @@ impl Schema {
         Ok(())
     }
 
-    /// Returns the form of a column that may be added under this name.
+    /// Returns the form of a column that may be added under this name, or the refusal of the name or of the form.
     fn checked(&self, name: &str, spec: ColumnSpec) -> Result<Form, SchemaError>
         ensures refused { result_err result ≡ column_refusal self.now name.now spec }
         ensures free { OnOk result (name_refusal self.now name.now ≡ None) }
@@ -199,7 +201,7 @@ impl Schema {
         Ok(Form::of(spec)?)
     }
 
-    /// Refuses a name, or one more column.
+    /// Refuses a name that is bad or taken, or a column past the 64th.
     fn check_name(&self, name: &str) -> Result<(), SchemaError>
         ensures { result_err result ≡ name_refusal self.now name.now }
     {
@@ -215,7 +217,7 @@ impl Schema {
         Ok(())
     }
 
-    /// Puts a column last, under a name that is not taken.
+    /// Adds a column behind the others, under a name that is not taken.
     fn push(&mut self, name: &str, kind: Kind, signed: bool) -> Result<(), NoMemory>
         requires fresh { position_of self.old.columns name.now ≡ None }
         requires name { IsTrue (is_name name.now) }

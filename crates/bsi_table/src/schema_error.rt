@@ -1,4 +1,4 @@
-//! Why one more column is refused.
+//! Why a further column is refused.
 
 ghost use Rattle.std.specs.Prelude.{◌≡◌};
 
@@ -8,18 +8,18 @@ use std::alloc::AllocError;
 /// The refusals of a column, in the order in which they are checked.
 #[derive(Clone, Copy, Debug, PartialEq, Eq)]
 pub enum SchemaError {
-    /// The text is no name: a lower-case letter, then lower-case letters, digits and `_`, 1 to 32 bytes in all, and none
-    /// of the words `all`, `null`, `and`, `or`, `not`.
+    /// The text is not a name. A name is a lower-case letter, then lower-case letters, digits and `_`, 1 to 32 bytes in
+    /// all, and none of the words `all`, `null`, `and`, `or`, `not`.
     BadName,
-    /// There is a column of this name.
+    /// There already is a column of this name.
     NameTaken,
-    /// There are 64 columns.
+    /// There are already 64 columns.
     TooManyColumns,
-    /// The bases are refused, for this reason. Slices are refused as so many bases of 2.
+    /// The bases are refused, for this reason. A number of slices is refused as that many bases of 2.
     BadBases(BasesError),
-    /// The offset and the size come to more than 2^63.
+    /// The offset and the size add up to more than 2^63.
     BadOffset,
-    /// A growth was refused.
+    /// Memory was refused.
     NoMemory,
 }
 

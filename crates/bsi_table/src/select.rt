@@ -1,4 +1,4 @@
-//! Which rows a predicate selects, a block of rows after another.
+//! The rows that a predicate selects, one block of rows after another.
 
 ghost use Rattle.std.specs.Prelude.{◌≡◌, ℕ, ◌+◌, ◌-◌, ◌/◌, ◌^◌, ◌≤◌, ◌++◌, None, bit_or, bit_xor, drop, false, length, map, take, IfOk, IsFalse, OnOk};
 ghost use Rattle.bsi_bits.specs.Packed.{bit_of};
@@ -13,12 +13,12 @@ use bsi_bits::{Bits, lanes};
 use bsi_shift::Shifted;
 use std::alloc::Global;
 
-/// The words of a block, which stay in the first cache while a predicate goes over them.
+/// The number of words in a block. They stay in the first cache while a predicate goes over them.
 const BLOCK: usize = 1024;
 
-/// Returns for each of `count` rows whether the predicate holds of it. It reads columns that are there alone. It goes over the
-/// rows in blocks of 65,536, each by the whole predicate, and keeps a block or two for each `or` and `not` around the part
-/// that is being read.
+/// Returns for each of `count` rows whether the predicate holds of it. Each column that it reads is there. It goes over
+/// the rows in blocks of 65,536, each by the whole predicate. It keeps one or two blocks for each `or` and `not` around
+/// the part that it is reading.
 pub(crate) fn select(
     alloc: Global,
     columns: &[Shifted],
@@ -35,7 +35,7 @@ pub(crate) fn select(
     Ok(Bits::from_words(words, count))
 }
 
-/// Keeps in words, which stand for all rows, the rows of which the predicate holds.
+/// Keeps the rows of which the predicate holds, in words that stand for all rows.
 fn narrow_each(
     alloc: Global,
     columns: &[Shifted],
@@ -59,8 +59,8 @@ fn narrow_each(
     Ok(())
 }
 
-/// Keeps in a block of words, whose first stands for the 64 rows from row `64 * at` on, the rows of which the predicate
-/// holds. It calls itself for each part of the predicate. What it appends to `spare` it takes away again.
+/// Keeps in a block of words the rows of which the predicate holds. The first word stands for the 64 rows from row `64
+/// * at` on. It calls itself for each part of the predicate. What it appends to `spare` it takes away again.
 fn narrow(
     columns: &[Shifted],
     count: u64,
@@ -104,7 +104,7 @@ fn narrow(
     Ok(())
 }
 
-/// Returns false only where the block has no row.
+/// Returns false only if the block has no row.
 fn has_row(block: &[u64]) -> bool
     ensures { IsFalse result → (p : ℕ) → bit_of block.now p ≡ false }
 {
@@ -121,7 +121,7 @@ fn swap_with_last(block: &mut [u64], spare: &mut Vec<u64>)
     block.swap_with_slice(&mut spare[start..]);
 }
 
-/// Takes as many words as the block has from the end of `spare`, and sets in the block the rows that they have.
+/// Takes as many words as the block has from the end of `spare`, and sets, in the block, the rows that they have.
 fn add_last(block: &mut [u64], spare: &mut Vec<u64>)
     requires { length block.old ≤ length spare.old.items }
     ensures block { block.new ≡ zip2 bit_or block.old (drop (length spare.old.items - length block.old) spare.old.items) }
@@ -132,7 +132,7 @@ fn add_last(block: &mut [u64], spare: &mut Vec<u64>)
     spare.truncate(start);
 }
 
-/// Takes as many words as the block has from the end of `spare`, and turns in the block the rows that they have.
+/// Takes as many words as the block has from the end of `spare`, and inverts, in the block, the rows that they have.
 fn turn_among_last(block: &mut [u64], spare: &mut Vec<u64>)
     requires { length block.old ≤ length spare.old.items }
     ensures block { block.new ≡ zip2 bit_xor block.old (drop (length spare.old.items - length block.old) spare.old.items) }

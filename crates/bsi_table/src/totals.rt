@@ -1,4 +1,4 @@
-//! The total that a query asks of the rows that its predicate selects.
+//! The total that a query asks for, of the rows that its predicate selects.
 
 ghost use Rattle.std.specs.Prelude.{◌≡◌, None, length, map, IfOk};
 ghost use Rattle.bsi_table.specs.Answers.{columns_of_total, missing_of, IsAnswer};
@@ -12,8 +12,8 @@ use bsi_bits::Bits;
 use bsi_shift::Shifted;
 use std::alloc::Global;
 
-/// Returns the answer to a query whose predicate selects the found rows. It reads a column that is there alone. A count
-/// and a sum take no memory.
+/// Returns the answer to a query whose predicate selects the found rows. The column that it reads is there. A count and
+/// a sum allocate no memory.
 pub(crate) fn answer(
     alloc: Global,
     columns: &[Shifted],

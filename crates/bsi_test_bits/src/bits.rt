@@ -1,4 +1,5 @@
-//! Bits against plain loops over single bits. Each test tolerates one refused growth, and then makes the same call again.
+//! Bits against plain loops over single bits. Each test tolerates one refused allocation, and then makes the same call
+//! again.
 ghost use Rattle.std.specs.Prelude.{◌≤◌, ◌^◌};
 
 use bsi_bits::{Bits, NoMemory, lanes};

@@ -1,4 +1,4 @@
-//! Worked lists of bases. Each test tolerates one refused growth, and then makes the same call again.
+//! Worked lists of bases. Each test tolerates one refused allocation, and then makes the same call again.
 
 use bsi_digits::{Bases, BasesError, NoMemory, laws};
 use std::alloc::Global;

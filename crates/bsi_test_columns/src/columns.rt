@@ -1,4 +1,4 @@
-//! Columns of every form with given rows, and what the tests ask of them. A refused growth is asked for again.
+//! Columns of every form with given rows, and what the tests ask of them. A refused allocation is tried again.
 
 use bsi_bits::Bits;
 use bsi_columns::{AnyColumn, Column, Decomposed, Encoding, NoMemory, Op, Slices};
@@ -20,7 +20,7 @@ pub(crate) enum Form {
 
 pub(crate) const FORMS: [Form; 3] = [Form::Slices, Form::Equality, Form::Range];
 
-/// How wide a column is: in slices, and in bases, the most significant first.
+/// How wide a column is: in slices, and in bases, most significant first.
 #[derive(Clone, Copy)]
 pub(crate) struct Wide<'a> {
     pub(crate) width: u32,
@@ -95,7 +95,7 @@ pub(crate) fn append<C: Column>(
     Ok(())
 }
 
-/// A column of these entries.
+/// Makes a column of these entries.
 pub(crate) fn of(
     rt: &impl Abort,
     alloc: Global,
@@ -108,7 +108,8 @@ pub(crate) fn of(
     Ok(column)
 }
 
-/// The entry of a row below a size: a null now and then, the least and the greatest number, and numbers far apart.
+/// Returns the entry of a row below a size: a null now and then, the least and the greatest number, and numbers far
+/// apart.
 pub(crate) fn entry(row: u64, size: u64) -> Option<u64> {
     match row % 7 {
         0 => None,
@@ -127,7 +128,7 @@ pub(crate) fn fill<C: Column>(rt: &impl Abort, column: &mut C, rows: u64) -> Res
     Ok(())
 }
 
-/// A column of so many rows.
+/// Makes a column of `rows` rows.
 pub(crate) fn filled(
     rt: &impl Abort,
     alloc: Global,
@@ -140,7 +141,7 @@ pub(crate) fn filled(
     Ok(column)
 }
 
-/// A column of digits of so many rows.
+/// Makes a column of digits of `rows` rows.
 pub(crate) fn filled_digits<E: Encoding>(
     rt: &impl Abort,
     alloc: Global,
@@ -152,7 +153,7 @@ pub(crate) fn filled_digits<E: Encoding>(
     Ok(column)
 }
 
-/// A plain column of so many rows.
+/// Makes a plain column of `rows` rows.
 pub(crate) fn plain(
     rt: &impl Abort,
     alloc: Global,

@@ -271,7 +271,8 @@ fn many_slices_about_the_edges_of_words(rt: HostRuntime) -> Result<(), Fail> {
     Ok(())
 }
 
-/// The entry of a row of so many slices: nulls, numbers about the edge of a place, the greatest one, and numbers far apart.
+/// Returns the entry of a row below two to the power of a width: nulls, numbers about the edge of a place, the greatest
+/// number, and numbers far apart.
 fn about_a_place(row: u64, width: u32) -> Option<u64> {
     let width = width.clamp(1, 63);
     let edge = 1u64 << (row % u64::from(width));

@@ -1,4 +1,4 @@
-//! What stays after a refused growth, and that a copy stands apart from its column.
+//! What stays after a refused allocation, and that a copy is independent of its column.
 
 use crate::columns::*;
 use bsi_bits::Bits;

@@ -1,5 +1,5 @@
-//! Blocks of words in which a comparison keeps rows, or their nulls. Each test tolerates one refused growth, and then makes the
-//! same call again.
+//! Blocks of words in which a comparison keeps rows, or their nulls. Each test tolerates one refused allocation, and
+//! then makes the same call again.
 
 ghost use Rattle.std.specs.Prelude.{◌≤◌, ◌+◌, ◌/◌, length, IsTrue};
 

@@ -208,7 +208,7 @@ fn is_one_to_four(after: u32, before: u32) -> bool {
     after > before && after - before <= 4
 }
 
-/// Of an encoding without calls on blocks, a comparison calls each component one to four times.
+/// Asserts that a comparison calls each component one to four times, if its encoding has no calls on blocks.
 fn calls_each_component<E: Encoding>(rt: &impl Abort, alloc: Global) -> Result<(), NoMemory> {
     let column = counted::<E>(rt, alloc)?;
     let [first, second] = calls_of_both(&column);

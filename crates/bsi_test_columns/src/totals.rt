@@ -17,7 +17,7 @@ struct Totals {
     median: Option<u64>,
 }
 
-/// What no numbers come to.
+/// The totals of no numbers.
 const NOTHING: Totals = Totals {
     sum: 0,
     least: None,
@@ -26,7 +26,7 @@ const NOTHING: Totals = Totals {
 };
 
 impl Totals {
-    /// What some numbers come to.
+    /// Returns the totals of some numbers.
     fn of(sum: u128, least: u64, greatest: u64, median: u64) -> Totals {
         Totals {
             sum,
@@ -120,7 +120,7 @@ fn comes_to(
     Ok(())
 }
 
-/// Entries, and what they come to over the found rows.
+/// Entries, and their totals over the found rows.
 #[derive(Clone, Copy)]
 struct Worked<'a> {
     wide: Wide<'a>,

@@ -1,4 +1,4 @@
-//! The faults of runs, in the order of looking, and their texts.
+//! The faults of runs, in the order in which they are checked, and their texts.
 
 use crate::inputs::{Input, NarrowWriter, broken, text};
 use crate::runs::{Files, copy_of, end_of};

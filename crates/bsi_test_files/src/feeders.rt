@@ -1,4 +1,5 @@
-//! Feeders that read row files, on systems of their own. Each test tolerates one refused growth, and then makes a new system.
+//! Feeders that read row files, on systems of their own. Each test tolerates one refused allocation, and then makes a
+//! new system.
 
 ghost use Rattle.std.specs.Prelude.{◌≡◌, [], length};
 ghost use Rattle.bsi_table.specs.Table.{no_rows};
@@ -56,14 +57,14 @@ fn load<B: Naming>(loader: &mut Loader<B>, feeder: u32) -> Result<(), LoadRefuse
     }
 }
 
-/// A feeder that read two rows ended so.
+/// Asserts how a feeder ends that has read two good rows and nothing else.
 fn assert_whole<R: Abort>(rt: &R, end: &FeedEnd) {
     assert!(rt; end.accepted == 2 && end.bad == 0 && !end.stopped);
     assert!(rt; end.fault.is_none() && end.closing.is_some());
 }
 
-/// Both files are fed on threads, each waiting for the other. None where memory was wanted, also that of a second thread, so that
-/// one feeder came after the other.
+/// Feeds both files on threads, each of which waits for the other. It returns none if memory was refused, also that of
+/// a second thread, in which case one feeder comes after the other.
 fn side_by_side<R: Threads + Wait + Abort + Sync>(
     rt: &R,
     alloc: Global,
@@ -90,7 +91,8 @@ fn side_by_side<R: Threads + Wait + Abort + Sync>(
     Some(())
 }
 
-/// A reader fails behind two good rows and a bad one: both are accepted, and can be loaded.
+/// Feeds from a reader that fails behind two good rows and a bad one. Asserts that both good rows are accepted, and can
+/// be loaded.
 fn broken_reader<B: Naming, R: Wait + Abort>(
     rt: &R,
     alloc: Global,
@@ -114,7 +116,7 @@ fn broken_reader<B: Naming, R: Wait + Abort>(
     Some(())
 }
 
-/// The gate stops a feeder at its third row, for which its ring has no place.
+/// Feeds a file whose third row finds no place in the ring. Asserts that the gate stops the feeder there.
 fn stopped_by_the_gate<R: Wait + Abort>(rt: &R, alloc: Global, feeder: Feeder) -> Option<()> {
     let gate = Patience::new(3);
     let end = feed(rt, feeder, source(alloc, 3, text("qty\n1\n2\n3\n"))?, &gate);
@@ -128,7 +130,7 @@ fn stopped_by_the_gate<R: Wait + Abort>(rt: &R, alloc: Global, feeder: Feeder) -
     Some(())
 }
 
-/// A source of another schema gives a row that does not fit.
+/// Feeds from a source of another schema. Asserts that the feeder stops at a row that does not fit.
 fn another_schema<R: Wait + Abort>(rt: &R, alloc: Global, feeder: Feeder) -> Option<()> {
     let gate = Patience::new(3);
     let end = feed(rt, feeder, source(alloc, 4, text("qty\n7\n8\n1\n"))?, &gate);
@@ -160,7 +162,7 @@ fn play<B: Naming, R: Threads + Wait + Abort + Sync>(
     }
 }
 
-/// Tries it on a system of its own. None where memory was wanted.
+/// Tries it on a system of its own. It returns none if memory was refused.
 fn try_in<B: Naming, R: Threads + Wait + Abort + Sync>(
     rt: &R,
     alloc: Global,
@@ -200,7 +202,7 @@ fn try_once<R: Threads + Wait + Abort + Sync>(rt: &R, alloc: Global, tried: Trie
     try_in::<Brand, R>(rt, alloc, tried, History::new(), schema, capacities)
 }
 
-/// Tries it, once more where memory was wanted.
+/// Tries it, and tries it once more if memory was refused.
 fn try_twice<R: Threads + Wait + Abort + Sync>(
     rt: &R,
     alloc: Global,

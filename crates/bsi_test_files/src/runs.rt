@@ -1,4 +1,4 @@
-//! Whole runs over row files. Each tolerates one refused growth, and then runs again.
+//! Whole runs over row files. Each tolerates one refused allocation, and then runs again.
 
 use crate::gates::{Meeting, Patience};
 use crate::inputs::{Input, long, text};

@@ -1,4 +1,5 @@
-//! Held rows that go into the copies of the table in blocks of 64, in one thread. Each test tolerates one refused growth.
+//! Held rows that go into the copies of the table in blocks of 64, in one thread. Each test tolerates one refused
+//! allocation.
 
 ghost use Rattle.std.specs.Prelude.{◌≡◌, [], length};
 ghost use Rattle.bsi_table.specs.Table.{no_rows};
@@ -12,15 +13,15 @@ use std::process::Abort;
 use std::sync::Wait;
 use std::test::Fail;
 
-/// How many rows are held before each publish: none, and those about a block and about two.
+/// How many rows are held before each publish: none, and numbers about one block and about two.
 const HELD: [u64; 9] = [0, 1, 63, 64, 65, 0, 128, 2, 129];
 
-/// The number of a row.
+/// Returns the number of a row.
 fn number(place: u64) -> i128 {
     i128::from(place.wrapping_mul(5) % 8)
 }
 
-/// A row is sent and held.
+/// Sends a row, and holds it.
 fn hold<B: Naming, R: Abort>(
     rt: &R,
     alloc: Global,
@@ -35,7 +36,7 @@ fn hold<B: Naming, R: Abort>(
     Ok(())
 }
 
-/// So many rows are held behind those that are published, and none of them is seen.
+/// Holds `held` rows behind the published ones, and asserts that none of them is published.
 fn hold_rows<B: Naming, R: Abort>(
     rt: &R,
     alloc: Global,
@@ -59,7 +60,7 @@ fn sum_to(count: u64) -> i128 {
     sum
 }
 
-/// All held rows are published, and seen from then on.
+/// Publishes all held rows, and asserts that the analyst sees them only from then on.
 fn publish_rows<B: Naming, R: Wait + Abort>(
     rt: &R,
     loader: &mut Loader<B>,
@@ -107,7 +108,7 @@ fn play_with<B: Naming, R: Wait + Abort>(
     }
 }
 
-/// Plays on a system of its own. None where the system found no memory.
+/// Plays on a system of its own. It returns none if the system is refused memory.
 fn work_in<B: Naming, R: Wait + Abort>(
     rt: &R,
     alloc: Global,

@@ -1,4 +1,4 @@
-//! Calls on a running system that tolerate one refused growth: the call is then made again.
+//! Calls on a running system that tolerate one refused allocation: the call is then made again.
 
 ghost use Rattle.std.specs.Prelude.{◌≡◌};
 

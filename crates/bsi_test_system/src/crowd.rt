@@ -38,9 +38,9 @@ struct Letter<B: Naming> {
 /// What the threads share.
 #[derive(Drop)]
 struct Board<B: Naming> {
-    /// So many feeders are at their end.
+    /// The number of feeders that have ended.
     ended: AtomicU64,
-    /// Nobody is to go on.
+    /// Whether all threads are to stop.
     over: AtomicBool,
     /// What each analyst is to learn next.
     letters: Vec<Mutex<Option<Letter<B>>>>,
@@ -67,7 +67,7 @@ fn make_board<B: Naming>(
 
 // ---- Feeders
 
-/// That a thread's closing is the closing of the feeder that it was given.
+/// The promise of a feeder's thread: its closing is that of the feeder that it was given.
 #[derive(Drop)]
 struct OfFeeder(Snapshot<Feeder>);
 
@@ -79,7 +79,7 @@ impl Promise<Option<Closing>> for OfFeeder {
 /// A feeder's thread.
 type Sender = PromisedHandle<Option<Closing>, OfFeeder>;
 
-/// A row that tells its feeder and its place among the feeder's rows.
+/// Makes a row that tells its feeder and its place among that feeder's rows.
 fn make_row(alloc: Global, feeder: u32, place: u32) -> Result<Row, NoMemory> {
     let mut values = Vec::with_capacity(alloc, 2)?;
     values.push(Some(i128::from(feeder)))?;
@@ -87,7 +87,8 @@ fn make_row(alloc: Global, feeder: u32, place: u32) -> Result<Row, NoMemory> {
     Ok(Row::new(values))
 }
 
-/// Sends a row, as soon as there is room for it. False where nobody is to go on.
+/// Sends a row as soon as there is room for it. It returns false if the row does not fit, or if all threads are to
+/// stop.
 fn send(feeder: &mut Feeder, row: Row, over: &AtomicBool) -> bool
     ensures number { feeder.new.number ≡ feeder.old.number }
     ensures lane { feeder.new.lane ≡ feeder.old.lane }
@@ -107,7 +108,7 @@ fn send(feeder: &mut Feeder, row: Row, over: &AtomicBool) -> bool
     false
 }
 
-/// Makes a row and sends it. A row for which no memory is found is made again.
+/// Makes a row and sends it. If memory is refused for the row, it makes the row again.
 fn make_and_send(alloc: Global, feeder: &mut Feeder, place: u32, over: &AtomicBool) -> bool
     ensures number { feeder.new.number ≡ feeder.old.number }
     ensures lane { feeder.new.lane ≡ feeder.old.lane }
@@ -138,7 +139,7 @@ fn feed<B: Naming>(alloc: Global, feeder: Feeder, rows: u32, board: &Board<B>) -
     closing
 }
 
-/// Starts the thread of a feeder. None where no thread is made.
+/// Starts the thread of a feeder. It returns none if no thread is made.
 fn start_feeder<B: Naming + Send + Sync + 'static, R: Threads>(
     rt: &R,
     alloc: Global,
@@ -153,7 +154,7 @@ fn start_feeder<B: Naming + Send + Sync + 'static, R: Threads>(
     thread::spawn_with(rt, promise, move || feed(alloc, feeder, rows, &board)).ok()
 }
 
-/// Starts the thread of one feeder more. Where none is made, nobody is to go on.
+/// Starts the thread of one more feeder. If no thread is made, it tells all threads to stop.
 fn start_next<B: Naming + Send + Sync + 'static, R: Threads>(
     rt: &R,
     alloc: Global,
@@ -221,7 +222,7 @@ fn tell_each<B: Naming, R: Wait>(rt: &R, loader: &mut Loader<B>, board: &Board<B
     }
 }
 
-/// Loads, publishes and tells what is there.
+/// Loads what is there, publishes it, and tells the analysts.
 fn go_round<B: Naming, R: Wait + Abort>(
     rt: &R,
     loader: &mut Loader<B>,
@@ -256,7 +257,7 @@ fn serve<B: Naming, R: Wait + Abort>(
     }
 }
 
-/// Learns what a feeder sent, and loads what its ring still has. False where that is not all.
+/// Learns what a feeder sent, and loads what its ring still has. It returns false if that is not all.
 fn settle_one<B: Naming, R: Threads>(rt: &R, loader: &mut Loader<B>, sender: Sender) -> bool
     requires { IsFeederOf sender.promise.0.value loader.old.system }
     ensures { loader.new.system ≡ loader.old.system }
@@ -305,7 +306,7 @@ fn take_letter<B: Naming>(board: &Board<B>, place: usize) -> Option<Letter<B>> {
     board.letters.get(place)?.try_lock()?.take()
 }
 
-/// Asks, learns, and asks again. None where a list is shorter than one that was known.
+/// Asks and learns, and asks again. It returns none if a list is shorter than one that the analyst knew.
 fn look<B: Naming>(analyst: &mut Analyst<B>, letter: Letter<B>, known: u64) -> Option<u64> {
     let Letter { told, len } = letter;
     let before = count_of(analyst)?;
@@ -317,7 +318,7 @@ fn look<B: Naming>(analyst: &mut Analyst<B>, letter: Letter<B>, known: u64) -> O
     Some(after)
 }
 
-/// Looks whenever a letter came, until nobody is to go on and no letter is left.
+/// Looks whenever a letter has come, until all threads are to stop and no letter is left.
 fn watch<B: Naming>(analyst: Analyst<B>, place: usize, board: &Board<B>) -> Watched<B> {
     let mut analyst = analyst;
     let mut known = 0;
@@ -346,7 +347,7 @@ fn start_analyst<B: Naming + Send + Sync + 'static, R: Threads>(
     thread::spawn(rt, move || watch(analyst, place, &board)).ok()
 }
 
-/// Starts the threads of all analysts. Where one is not made, nobody is to go on.
+/// Starts the threads of all analysts. If one is not made, it tells all threads to stop.
 fn start_analysts<B: Naming + Send + Sync + 'static, R: Threads>(
     rt: &R,
     alloc: Global,
@@ -366,7 +367,7 @@ fn start_analysts<B: Naming + Send + Sync + 'static, R: Threads>(
     Some(watchers)
 }
 
-/// The rows that a query over one column selects.
+/// Returns the rows that a query over one column selects.
 fn rows_at<B: Naming>(
     analyst: &mut Analyst<B>,
     column: u32,
@@ -386,7 +387,7 @@ fn rows_at<B: Naming>(
     }
 }
 
-/// Each feeder's rows are those that tell of it, in the order of its sending.
+/// Returns whether the rows are all those of a feeder, in the order in which it sent them.
 fn feeder_has_its_rows(rows: &[(u32, u64)], feeder: u32, many: u32) -> bool {
     let mut right = rows.len() == many as usize;
     'rows: for (place, row) in rows.iter().enumerate() {
@@ -395,7 +396,8 @@ fn feeder_has_its_rows(rows: &[(u32, u64)], feeder: u32, many: u32) -> bool {
     right
 }
 
-/// Each row that tells this place is at this place among its feeder's rows.
+/// Returns whether each row that tells this place is at this place among its feeder's rows, and there are as many as
+/// wanted.
 fn place_has_its_rows(rows: &[(u32, u64)], place: u32, many: u32) -> bool {
     let mut right = rows.len() == many as usize;
     'rows: for row in rows.iter() {
@@ -426,7 +428,7 @@ fn places_have_their_rows<B: Naming>(analyst: &mut Analyst<B>, crowd: Crowd) -> 
     right
 }
 
-/// An analyst never went back, and is answered over all rows at the end. It is then returned.
+/// Joins an analyst's thread. It returns the analyst if its list never got shorter and it sees all rows at the end.
 fn join_analyst<B: Naming, R: Threads>(
     rt: &R,
     watcher: JoinHandle<Watched<B>>,
@@ -441,7 +443,8 @@ fn join_analyst<B: Naming, R: Threads>(
     }
 }
 
-/// Joins all analysts' threads. None where one of them is wrong, or there is none, else the last analyst.
+/// Joins all analysts' threads, and returns the last analyst. It returns none if one of them is wrong, or if there is
+/// none.
 fn join_analysts<B: Naming, R: Threads>(
     rt: &R,
     watchers: Vec<JoinHandle<Watched<B>>>,
@@ -466,7 +469,7 @@ struct Started<B: Naming> {
     watchers: Vec<JoinHandle<Watched<B>>>,
 }
 
-/// Starts all threads. None where no memory was found beforehand.
+/// Starts all threads. It returns none if memory for them is refused beforehand.
 fn start<B: Naming + Send + Sync + 'static, R: Threads>(
     rt: &R,
     alloc: Global,
@@ -512,7 +515,7 @@ fn finish<B: Naming, R: Threads + Wait + Abort>(
     settled && published
 }
 
-/// Runs a crowd. None where no memory was found for all of its threads, else whether all went right.
+/// Runs a crowd, and returns whether all went right. It returns none if memory is refused for one of its threads.
 fn run<B: Naming + Send + Sync + 'static, R: Threads + Wait + Abort>(
     rt: &R,
     alloc: Global,
@@ -580,7 +583,7 @@ fn run_in<B: Naming + Send + Sync + 'static, R: Threads + Wait + Abort>(
     }
 }
 
-/// Which feeder a row is of, and which of its rows it is.
+/// Makes the schema of a crowd: which feeder a row is of, and which of that feeder's rows it is.
 fn senders_and_places(alloc: Global) -> Option<Schema> {
     let mut schema = Schema::new(alloc);
     schema.add("feeder", ColumnSpec::Slices(6)).ok()?;
@@ -588,7 +591,7 @@ fn senders_and_places(alloc: Global) -> Option<Schema> {
     Some(schema)
 }
 
-/// Rings of one place and of two by turns.
+/// Returns the capacities of the rings: one place and two places by turns.
 fn small_rings(alloc: Global, feeders: u32) -> Option<Vec<u32>> {
     let mut capacities = Vec::with_capacity(alloc, feeders as usize).ok()?;
     'feeders: for feeder in 0..feeders {

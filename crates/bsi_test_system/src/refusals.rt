@@ -1,4 +1,4 @@
-//! What the ends of a running system refuse, and what they do with no memory, in one thread.
+//! What the ends of a running system refuse, and what they do without memory, in one thread.
 
 ghost use Rattle.std.specs.Prelude.{◌≡◌, [], All, length};
 ghost use Rattle.bsi_table.specs.Table.{no_rows};
@@ -16,14 +16,15 @@ use std::process::Abort;
 use std::sync::Wait;
 use std::test::Fail;
 
-/// Which test is run.
+/// Which test is played.
 #[derive(Clone, Copy)]
 enum Shown {
     Refusals,
     NoMemory,
 }
 
-/// The first feeder's ring has one place: a second row comes back. The other feeder sends one.
+/// Fills the first feeder's ring, which has one place, so that a second row comes back. It also sends a row of the
+/// other feeder.
 fn fill<R: Abort>(
     rt: &R,
     alloc: Global,
@@ -43,7 +44,7 @@ fn fill<R: Abort>(
     Ok(())
 }
 
-/// The table takes one row, and refuses the other feeder's, which stays in its ring.
+/// Loads one row into the table. Asserts that the table refuses the other feeder's row, which is to stay in its ring.
 fn load_to_the_limit<B: Naming, R: Abort>(rt: &R, loader: &mut Loader<B>)
     ensures { loader.new.system ≡ loader.old.system }
 {
@@ -55,7 +56,7 @@ fn load_to_the_limit<B: Naming, R: Abort>(rt: &R, loader: &mut Loader<B>)
     assert_eq!(rt; loader.counts(), (0, 1));
 }
 
-/// A closing is handed back where it is told as another feeder's, and then told as what it is.
+/// Tells a closing as another feeder's, gets it back, and then tells it as what it is.
 fn settle_as_both<B: Naming, R: Abort>(rt: &R, loader: &mut Loader<B>, closing: Closing)
     requires { IsOf closing loader.old.system }
     ensures { loader.new.system ≡ loader.old.system }
@@ -68,7 +69,7 @@ fn settle_as_both<B: Naming, R: Abort>(rt: &R, loader: &mut Loader<B>, closing: 
     assert!(rt; loader.settle(1, back).is_ok());
 }
 
-/// Nothing of the full table changes by a settle, and its one row is published.
+/// Asserts that a closing changes nothing of the full table, and publishes the table's one row.
 fn publish_the_one<B: Naming, R: Wait + Abort>(rt: &R, loader: &mut Loader<B>) {
     assert_eq!(rt; load(loader, 1), Err(LoadRefused::IndexFull));
     assert_eq!(rt; load(loader, 0), Err(LoadRefused::Empty));
@@ -77,7 +78,7 @@ fn publish_the_one<B: Naming, R: Wait + Abort>(rt: &R, loader: &mut Loader<B>) {
     assert_eq!(rt; loader.counts(), (1, 0));
 }
 
-/// A system whose rings and whose table get full.
+/// Plays on a system whose rings and whose table get full.
 fn refuse<B: Naming, R: Wait + Abort>(
     rt: &R,
     alloc: Global,
@@ -113,7 +114,7 @@ fn make_three(alloc: Global) -> Result<ThreeRows, NoMemory> {
     })
 }
 
-/// A row is sent, loaded and published.
+/// Sends a row, loads it and publishes it.
 fn publish_one<B: Naming, R: Wait + Abort>(
     rt: &R,
     alloc: Global,
@@ -133,7 +134,7 @@ fn publish_one<B: Naming, R: Wait + Abort>(
     }
 }
 
-/// A ring of two places takes two rows, and hands the third back.
+/// Sends three rows to a ring of two places. Asserts that it hands the third one back.
 fn send_three<R: Abort>(rt: &R, feeder: &mut Feeder, rows: ThreeRows)
     ensures number { feeder.new.number ≡ feeder.old.number }
     ensures lane { feeder.new.lane ≡ feeder.old.lane }
@@ -147,7 +148,7 @@ fn send_three<R: Abort>(rt: &R, feeder: &mut Feeder, rows: ThreeRows)
     assert!(rt; first.is_ok() && second.is_ok() && third);
 }
 
-/// The calls that take no memory.
+/// Makes the calls that allocate no memory.
 fn call_with_none<B: Naming, R: Abort>(
     rt: &R,
     feeder: Feeder,
@@ -167,7 +168,7 @@ fn call_with_none<B: Naming, R: Abort>(
     assert_eq!(rt; loader.counts(), (1, 0));
 }
 
-/// From the probe on nothing asks for memory: each later growth may be refused too.
+/// Makes those calls behind a probe, from which on nothing asks for memory: each later allocation may be refused too.
 fn need_none<B: Naming, R: Wait + Abort>(
     rt: &R,
     alloc: Global,
@@ -186,7 +187,7 @@ fn need_none<B: Naming, R: Wait + Abort>(
     Some(())
 }
 
-/// None where no memory was found for what the test needs.
+/// Plays what is shown. It returns none if memory is refused for what the test needs.
 fn play<B: Naming, R: Wait + Abort>(
     rt: &R,
     alloc: Global,

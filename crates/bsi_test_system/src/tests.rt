@@ -1,4 +1,4 @@
-//! Worked rows on a running system, in one thread. Each test tolerates one refused growth.
+//! Worked rows on a running system, in one thread. Each test tolerates one refused allocation.
 
 ghost use Rattle.std.specs.Prelude.{◌≡◌, [], length};
 ghost use Rattle.bsi_table.specs.Table.{no_rows};
@@ -16,7 +16,7 @@ use std::process::Abort;
 use std::sync::Wait;
 use std::test::Fail;
 
-/// Which row is worked.
+/// Which test is played.
 #[derive(Clone, Copy)]
 enum Worked {
     ReadBack,
@@ -25,7 +25,7 @@ enum Worked {
     RefusedMemory,
 }
 
-/// Two rows are sent, and one that does not fit.
+/// Sends two rows, and one that does not fit.
 fn send<R: Abort>(rt: &R, alloc: Global, feeder: &mut Feeder) -> Result<(), Fail>
     ensures number { feeder.new.number ≡ feeder.old.number }
     ensures lane { feeder.new.lane ≡ feeder.old.lane }
@@ -40,7 +40,7 @@ fn send<R: Abort>(rt: &R, alloc: Global, feeder: &mut Feeder) -> Result<(), Fail
     Ok(())
 }
 
-/// One row is held, and no analyst sees it.
+/// Holds one row, and asserts that no analyst sees it.
 fn load_first<B: Naming, R: Abort>(rt: &R, loader: &mut Loader<B>, analyst: &mut Analyst<B>)
     ensures { loader.new.system ≡ loader.old.system }
 {
@@ -52,7 +52,7 @@ fn load_first<B: Naming, R: Abort>(rt: &R, loader: &mut Loader<B>, analyst: &mut
     assert_eq!(rt; loader.counts(), (0, 1));
 }
 
-/// The feeder is closed, and the loader told.
+/// Closes the feeder, and tells the loader.
 fn settle<B: Naming>(loader: &mut Loader<B>, feeder: Feeder) -> Result<(), Fail>
     requires { IsFeederOf feeder loader.old.system }
     ensures { loader.new.system ≡ loader.old.system }
@@ -64,14 +64,14 @@ fn settle<B: Naming>(loader: &mut Loader<B>, feeder: Feeder) -> Result<(), Fail>
     }
 }
 
-/// The last row of a settled feeder is loaded, and then none.
+/// Loads the last row of a settled feeder. Asserts that there is none behind it.
 fn load_last<B: Naming, R: Abort>(rt: &R, loader: &mut Loader<B>) {
     let last = load(loader, 0);
     let ended = load(loader, 0);
     assert!(rt; last == Ok(()) && ended == Err(LoadRefused::Ended));
 }
 
-/// What an analyst is answered over the two rows.
+/// Asserts what an analyst is answered over the two rows.
 fn read<B: Naming, R: Abort>(rt: &R, analyst: &mut Analyst<B>) {
     let sum = sum_of(analyst);
     let rows = match ask(analyst, Total::Rows) {
@@ -83,7 +83,7 @@ fn read<B: Naming, R: Abort>(rt: &R, analyst: &mut Analyst<B>) {
     assert_eq!(rt; missing, Some(AnalystRefused::Ask(AskError::BadColumn(1))));
 }
 
-/// Two rows are sent, held and published, and read by two analysts.
+/// Sends two rows, holds and publishes them, and reads them with an analyst who was told of them.
 fn read_back<B: Naming, R: Wait + Abort>(
     rt: &R,
     alloc: Global,
@@ -107,7 +107,7 @@ fn read_back<B: Naming, R: Wait + Abort>(
     Ok(())
 }
 
-/// A feeder is dropped without closing: its rows can be loaded.
+/// Drops a feeder without closing it, and asserts that its rows can be loaded.
 fn dropped_feeder<B: Naming, R: Wait + Abort>(
     rt: &R,
     alloc: Global,
@@ -128,7 +128,7 @@ fn dropped_feeder<B: Naming, R: Wait + Abort>(
     Ok(())
 }
 
-/// An analyst is told of two publishes, the later one first.
+/// Tells an analyst of two publishes, the later one first.
 fn told<B: Naming, R: Wait + Abort>(
     rt: &R,
     alloc: Global,
@@ -153,7 +153,7 @@ fn told<B: Naming, R: Wait + Abort>(
     Ok(())
 }
 
-/// Three rows are sent.
+/// Sends three rows.
 fn send_three<R: Abort>(rt: &R, alloc: Global, feeder: &mut Feeder) -> Result<(), Fail>
     ensures number { feeder.new.number ≡ feeder.old.number }
     ensures lane { feeder.new.lane ≡ feeder.old.lane }
@@ -165,7 +165,7 @@ fn send_three<R: Abort>(rt: &R, alloc: Global, feeder: &mut Feeder) -> Result<()
     Ok(())
 }
 
-/// Two rows are held, and not seen, and then published.
+/// Holds two rows, asserts that they are not seen, and then publishes them.
 fn hold_and_publish<B: Naming, R: Wait + Abort>(
     rt: &R,
     loader: &mut Loader<B>,
@@ -182,7 +182,7 @@ fn hold_and_publish<B: Naming, R: Wait + Abort>(
     assert_eq!(rt; loader.counts(), (2, 0));
 }
 
-/// Two rows are held, and then published; a third is loaded once its feeder is settled.
+/// Holds two rows and publishes them, and loads a third once its feeder is settled.
 fn refused_memory<B: Naming, R: Wait + Abort>(
     rt: &R,
     alloc: Global,
@@ -222,7 +222,7 @@ fn play<B: Naming, R: Wait + Abort>(
     }
 }
 
-/// Works a row on a system of its own. None where the system found no memory.
+/// Plays a test on a system of its own. It returns none if the system is refused memory.
 fn work_in<B: Naming, R: Wait + Abort>(
     rt: &R,
     alloc: Global,
@@ -262,7 +262,7 @@ fn work<R: Wait + Abort>(rt: &R, alloc: Global, worked: Worked) -> Option<Result
     work_in::<Brand, R>(rt, alloc, worked, History::new(), schema, capacities)
 }
 
-/// Works a row, once more where the first system found no memory.
+/// Plays a test, and plays it once more if the first system was refused memory.
 fn worked_twice<R: Wait + Abort>(rt: &R, alloc: Global, worked: Worked) -> Result<(), Fail> {
     match work(rt, alloc, worked) {
         Some(played) => played,

@@ -1,4 +1,5 @@
-//! Tables of several columns beside a plain one. Each test tolerates one refused growth, and then makes the same call again.
+//! Tables of several columns beside a plain one. Each test tolerates one refused allocation, and then makes the same
+//! call again.
 
 use crate::plain::PlainTable;
 use crate::tables::*;

@@ -1,5 +1,5 @@
-//! Blocks of rows that an index appends at once, beside a plain table. Each test tolerates one refused growth, and then makes the
-//! same call again.
+//! Blocks of rows that an index appends at once, beside a plain table. Each test tolerates one refused allocation, and
+//! then makes the same call again.
 
 ghost use Rattle.std.specs.Prelude.{IsTrue};
 ghost use Rattle.bsi_table.specs.Table.{AreFitting, AreFrom};

@@ -1,5 +1,5 @@
-//! Lists of few and of all rows, of one feeder and of several, on both sides of the marks that stand before each 512th row. Each
-//! test tolerates one refused growth, and then makes the same call again.
+//! Lists of few and of all rows, of one feeder and of several, on both sides of the marks that stand before each 512th
+//! row. Each test tolerates one refused allocation, and then makes the same call again.
 
 use crate::tables::*;
 use bsi_columns::{NoMemory, Op};

@@ -1,4 +1,4 @@
-//! Step machines: what their makers refuse, runs, and calls that find no memory.
+//! Step machines: what their makers refuse, runs, and calls that are refused memory.
 
 use crate::tables::*;
 use bsi_columns::NoMemory;
@@ -34,7 +34,7 @@ fn core_of(alloc: Global, machine: Machine) -> Result<Core, MakeError> {
     }
 }
 
-/// A machine with no row. Where a growth is refused, the same call is made again.
+/// Makes a machine with no row. If memory is refused, it makes the same call again.
 pub(crate) fn made(alloc: Global, machine: Machine) -> Result<Core, MakeError> {
     match core_of(alloc, machine) {
         Err(MakeError::NoMemory) => core_of(alloc, machine),
@@ -72,7 +72,7 @@ fn lacks_memory(reply: &Reply) -> bool {
     }
 }
 
-/// Whether the replies are these. One that there is no memory is the refusal of the whole run.
+/// Returns whether the replies are the wanted ones. A reply that memory was refused makes it refuse the whole run.
 pub(crate) fn are_replies(replies: &[Reply], wanted: &[Reply]) -> Result<bool, NoMemory> {
     let mut alike = replies.len() == wanted.len();
     for (reply, wanted) in replies.iter().zip(wanted) {
@@ -84,7 +84,8 @@ pub(crate) fn are_replies(replies: &[Reply], wanted: &[Reply]) -> Result<bool, N
     Ok(alike)
 }
 
-/// The replies to a run. Where their list is refused nothing was done, and the events that come back are run again.
+/// Returns the replies to a run. If memory for their list is refused, nothing has taken place, and it runs the events
+/// that come back once more.
 pub(crate) fn replies(core: &mut Core, events: Vec<Event>) -> Result<Vec<Reply>, NoMemory> {
     match core.run(events) {
         Ok(replies) => Ok(replies),

@@ -112,7 +112,7 @@ enum Rank {
     Last,
 }
 
-/// What a column takes: so many numbers from the least one on.
+/// What a column takes: this many numbers, from the least one on.
 #[derive(Clone, Copy)]
 pub(crate) struct Domain {
     pub(crate) least: i128,
@@ -157,7 +157,7 @@ fn all_fit(entries: &[Option<i128>]) -> bool {
         .all(|(entry, domain)| domain.has(*entry))
 }
 
-/// The rows of a feeder that wait, the oldest first, and whether it was closed.
+/// The waiting rows of a feeder, the oldest first, and whether the feeder is closed.
 #[derive(Drop)]
 struct PlainFeeder {
     rows: Vec<Row>,

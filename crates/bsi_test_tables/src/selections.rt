@@ -1,5 +1,5 @@
-//! Predicates over more rows than one block has, which is 65,536. Each test tolerates one refused growth, and then makes the
-//! same call again.
+//! Predicates over more rows than one block has, which is 65,536. Each test tolerates one refused allocation, and then
+//! makes the same call again.
 
 use crate::tables::*;
 use bsi_columns::{NoMemory, Op};
@@ -8,7 +8,7 @@ use std::alloc::Global;
 use std::process::Abort;
 use std::test::Fail;
 
-/// The lengths at which is asked: none, about a word, about a block, and a word past it.
+/// The lengths at which the tests ask: none, about a word, about a block, and a word past it.
 const LENGTHS: [u64; 7] = [0, 1, 64, 65_535, 65_536, 65_537, 65_600];
 
 const WIDE: Wide<'static> = Wide {
@@ -38,10 +38,10 @@ const COLUMNS: [Declared<'static>; 3] = [
     },
 ];
 
-/// How many rows differ, which follow one another in turn.
+/// How many different rows there are. They follow one another in turn.
 const KINDS: u64 = 7;
 
-/// Their entries.
+/// The entries of these rows.
 const ROWS: [[Option<i128>; 3]; KINDS as usize] = [
     [Some(-8), Some(0), None],
     [Some(7), None, Some(12)],

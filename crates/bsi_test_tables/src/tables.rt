@@ -1,4 +1,4 @@
-//! Schemas, indexes and queries as the tests declare them. A refused growth is asked for again.
+//! Schemas, indexes and queries as the tests declare them. A refused allocation is tried again.
 
 use bsi_columns::NoMemory;
 use bsi_table::{
@@ -17,7 +17,7 @@ pub(crate) enum Form {
 
 pub(crate) const FORMS: [Form; 3] = [Form::Slices, Form::Equality, Form::Range];
 
-/// How wide a column is: in slices, and in bases, the most significant first.
+/// How wide a column is: in slices, and in bases, most significant first.
 #[derive(Clone, Copy)]
 pub(crate) struct Wide<'a> {
     pub(crate) width: u32,
@@ -104,7 +104,7 @@ pub(crate) fn index_once(
     }
 }
 
-/// An index of no rows.
+/// Makes an index of no rows. If memory is refused, it makes the same call again.
 pub(crate) fn index_of(
     alloc: Global,
     columns: &[Declared],

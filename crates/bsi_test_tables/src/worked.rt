@@ -1,5 +1,5 @@
-//! What a schema and an index refuse, and an index on worked rows. Each test tolerates one refused growth, and then makes the
-//! same call again.
+//! What a schema and an index refuse, and an index on worked rows. Each test tolerates one refused allocation, and then
+//! makes the same call again.
 
 use crate::tables::*;
 use bsi_bits::Bits;

@@ -1,4 +1,4 @@
-//! What follows of every script run, as contracts of functions that do nothing.
+//! What follows for every script run, as contracts of functions that do nothing.
 
 ghost use Rattle.std.specs.Prelude.{◌≡◌, ◌+◌, ◌++◌, ◌∷◌, [], ℕ, List, Option, Some, IsSome};
 ghost use mathlib.Core.List.{IsPrefix};
@@ -16,9 +16,9 @@ ghost use Rattle.bsi_text.specs.Texts.{AreAllRecords, IsAnswered, IsBegun};
 
 use std::io::Read;
 
-/// In every script run that has begun, each line from then on is the text of a reply that is lawful as the machine then stands,
-/// the machine shows what these events and replies come to, and each feeder's indexed rows followed by its waiting rows are
-/// exactly its accepted rows.
+/// States what holds in every script run that has begun. Each line from then on is the text of a reply that is lawful
+/// in the state in which the machine then is. The machine shows what these events and replies lead to. Each feeder's
+/// indexed rows followed by its waiting rows are exactly its accepted rows.
 pub fn nothing_is_lost()
     ensures { (records : List (List Field)) → (lines : List (List ℕ)) → (shown : Shown)
         → AreTurns (Declaring nothing_declared) records lines (Running shown) → HasPast records lines shown }
@@ -26,35 +26,36 @@ pub fn nothing_is_lost()
     bsi_load::laws::nothing_is_lost();
 }
 
-/// Two script runs of the same records have the same lines, where neither has a line `no memory`.
+/// States that two script runs of the same records have the same lines, if neither has a line `no memory`.
 pub fn determined()
     ensures { (records : List (List Field)) → (a b : List (List ℕ)) → IsScriptRun records a → IsScriptRun records b → FindMemory a → FindMemory b → a ≡ b }
 {}
 
-/// A text has one list of all its records.
+/// States that a text has exactly one list of all its records.
 pub fn one_reading()
     ensures { (bytes : List ℕ) → (a b : List (List Field)) → AreAllRecords bytes a → AreAllRecords bytes b → a ≡ b }
 {}
 
-/// What a row source takes call after call is taken as by one call: the rows of all, in their order.
+/// States that several calls of a row source take what one call would: the rows of all calls, in their order.
 pub fn taken_in_turn<R: Read + Drop>()
     ensures { (layout : Layout) → (a b c : Reader R) → (start middle end : Tally) → (xs ys : List Entries)
         → HasTaken R.remaining layout a b start middle xs → HasTaken R.remaining layout b c middle end ys → HasTaken R.remaining layout a c start end (xs ++ ys) }
 {}
 
-/// What was taken from behind the header to where no record is left are the rows of the good records of the whole text, in their
-/// order, and the count of bad ones is that of the others.
+/// States that what is taken, from behind the header to where no record is left, are the rows of the good records of
+/// the whole text, in their order, and that the count of bad records is that of all others.
 pub fn rows_of_a_file<R: Read + Drop>()
     ensures { (layout : Layout) → (a b : Reader R) → (text : List ℕ) → (start end : Tally) → (rows : List Entries)
         → StandsAfter R.remaining layout a text → HasTaken R.remaining layout a b start end rows → IsOver R.remaining b → IsWhole layout text start end rows }
 {}
 
-/// Before the first call of a row source nothing was taken.
+/// States that nothing is taken before the first call of a row source.
 pub fn none_taken<R: Read + Drop>()
     ensures { (layout : Layout) → (input : Reader R) → (tally : Tally) → HasTaken R.remaining layout input input tally tally [] }
 {}
 
-/// A reader whose bytes are known has rows of good records left and so many bad ones, and no others.
+/// States that a reader whose bytes are known has exactly one list of rows of good records left, and exactly one number
+/// of bad records.
 pub fn rows_left<R: Read + Drop>()
     ensures some { (layout : Layout) → (input : Reader R) → IsSome (source_of R.remaining input)
         → (rows : List Entries) × (bad : ℕ) × HasLeft R.remaining layout input rows bad }
@@ -62,16 +63,17 @@ pub fn rows_left<R: Read + Drop>()
         → HasLeft R.remaining layout input xs m → HasLeft R.remaining layout input ys n → (xs ≡ ys) × (m ≡ n) }
 {}
 
-/// What a reader has left that stands behind the header of a text are the rows of all good records of the text, and the number of
-/// the others.
+/// States that a reader that stands behind the header of a text has left the rows of all good records of the text, and
+/// a number of bad ones that is the number of all other records.
 pub fn left_of_a_file<R: Read + Drop>()
     ensures { (layout : Layout) → (input : Reader R) → (text : List ℕ) → (rows : List Entries) → (n : ℕ)
         → StandsAfter R.remaining layout input text → HasLeft R.remaining layout input rows n
         → (m : ℕ) × IsWhole layout text (tally_of 0 0) (tally_of m n) rows }
 {}
 
-/// Rows that were taken are the first of those that the reader had left, also without the last of them; where no record is left
-/// they are all of them, and the bad ones were counted. With the rows that are still left they are those that it had.
+/// States that the rows that were taken are the first of those that the reader had left, also without the last of them.
+/// If no record is left, they are all of them, and the bad records were counted. Together with the rows that are still
+/// left, they are those that the reader had.
 pub fn taken_of_left<R: Read + Drop>()
     ensures first { (layout : Layout) → (a b : Reader R) → (start end : Tally) → (xs rows : List Entries) → (n : ℕ)
         → HasTaken R.remaining layout a b start end xs → HasLeft R.remaining layout a rows n → IsPrefix xs rows }
@@ -84,19 +86,19 @@ pub fn taken_of_left<R: Read + Drop>()
         → (m : ℕ) × HasLeft R.remaining layout a (xs ++ ys) m × (start.bad + m ≡ end.bad + n) }
 {}
 
-/// What is read call after call is read as by one call: the records of all, in their order.
+/// States that several calls read what one call would: the records of all calls, in their order.
 pub fn read_in_turn<R: Read + Drop>()
     ensures { (a b c : Reader R) → (first last : List (List Field))
         → HasRead R.remaining a b first → HasRead R.remaining b c last → HasRead R.remaining a c (first ++ last) }
 {}
 
-/// What was read from the start of a text to where no record is left are all its records.
+/// States that what is read from the start of a text to where no record is left are all its records.
 pub fn records_of_a_text<R: Read + Drop>()
     ensures { (a b : Reader R) → (bytes : List ℕ) → (records : List (List Field)) → reader_state a ≡ st.StartRecord
         → source_of R.remaining a ≡ Some (strip_bom bytes) → HasRead R.remaining a b records → IsOver R.remaining b → AreAllRecords bytes records }
 {}
 
-/// Where the lines of all records were written, or nothing was, a first part of the lines was.
+/// States that if the lines of all records were written, or nothing was, a first part of the lines was written.
 pub fn begun()
     ensures answered { (bytes : List ℕ) → (before after : Option (List ℕ)) → IsAnswered bytes before after → IsBegun bytes before after }
     ensures nothing { (bytes : List ℕ) → (before : Option (List ℕ)) → IsBegun bytes before before }

@@ -18,7 +18,7 @@ use std::alloc::Global;
 use std::marker::Model;
 use std::mem;
 
-/// The columns of a row file, and for each the place of its field in a record and the numbers that it takes.
+/// The columns of a row file, with, for each column, the place of its field in a record and the numbers that it takes.
 #[derive(Drop)]
 pub(crate) struct Layout {
     schema: Schema,
@@ -44,7 +44,7 @@ impl Model for Layout {
 }
 
 impl Layout {
-    /// Makes the layout of a header; none where it does not name each column once, and nothing else.
+    /// Makes the layout of a header, or none if the header does not name each column once, and nothing else.
     pub(crate) fn new(
         alloc: Global,
         schema: &Schema,
@@ -66,7 +66,7 @@ impl Layout {
         }))
     }
 
-    /// Makes a row empty, with room for an entry of each column.
+    /// Empties a row, and makes room in it for an entry of each column.
     pub(crate) fn make_room(&self, alloc: Global, row: &mut Row) -> Result<(), NoMemory>
         ensures { OnOk result (row.new ≡ []) }
     {
@@ -77,7 +77,7 @@ impl Layout {
         Ok(())
     }
 
-    /// Reads a record into a row, and returns whether it is good. It takes no memory where the row has room.
+    /// Reads a record into a row, and returns whether the record is good. It allocates no memory if the row has room.
     pub(crate) fn read(
         &self,
         alloc: Global,
@@ -96,7 +96,7 @@ impl Layout {
         Ok(self.takes(row))
     }
 
-    /// Returns whether a row has one entry for each column, a null or a number that the column takes.
+    /// Returns whether a row has one entry for each column, each a null or a number that its column takes.
     fn takes(&self, row: &Row) -> bool
         ensures { result ≡ fits self.now.schema.columns row.now }
     {
@@ -136,7 +136,7 @@ impl Layout {
     }
 }
 
-/// Lends the field at a place, or no byte past the last one.
+/// Lends the field at a place, or no byte past the last field.
 fn field(fields: &ByteRecord, place: usize) -> &[u8]
     ensures { result.now ≡ get_or (fields_of fields.now) place [] }
 {
@@ -165,7 +165,7 @@ fn test_columns(schema: &Schema, header: &ByteRecord) -> bool
     true
 }
 
-/// Returns how many fields are this name.
+/// Returns how many fields equal this name.
 fn count_named(header: &ByteRecord, name: &[u8]) -> usize
     ensures { result ≡ count_by (λ field. bytes_eq field name.now) (fields_of header.now) }
 {
@@ -212,7 +212,7 @@ fn limits_in(alloc: Global, schema: &Schema) -> Result<Vec<Limits>, NoMemory>
     Ok(limits)
 }
 
-/// Returns how many fields stand before the first that is this name.
+/// Returns how many fields stand before the first one that equals this name.
 fn count_before(header: &ByteRecord, name: &[u8]) -> usize
     ensures { result ≡ place_of (fields_of header.now) name.now }
 {

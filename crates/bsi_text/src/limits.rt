@@ -6,7 +6,7 @@ ghost use Rattle.bsi_text.specs.Limits.{is_within, limits_of};
 
 use bsi_table::Schema;
 
-/// So many numbers from the least one up.
+/// This many numbers, from the least one up.
 #[derive(Clone, Copy)]
 pub(crate) struct Limits {
     least: i64,
@@ -14,7 +14,7 @@ pub(crate) struct Limits {
 }
 
 impl Limits {
-    /// Returns those of column `c`.
+    /// Returns the numbers that column `c` takes.
     pub(crate) fn of(schema: &Schema, c: u32) -> Limits
         requires { c < length schema.now.columns }
         ensures { result ≡ limits_of (column_at schema.now.columns c) }
@@ -25,7 +25,7 @@ impl Limits {
         }
     }
 
-    /// Returns whether an entry is a null or one of them.
+    /// Returns whether an entry is a null or one of these numbers.
     pub(crate) fn take(self, entry: Option<i128>) -> bool
         ensures { result ≡ is_within self entry }
     {

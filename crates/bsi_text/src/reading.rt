@@ -10,7 +10,7 @@ use csv::{ByteRecord, Reader, ReaderBuilder};
 use std::alloc::Global;
 use std::io::Read;
 
-/// Makes the reader of a text, whose first record is one like the others. Records may have any number of fields.
+/// Makes the reader of a text. Its first record is a record like the others, and records may have any number of fields.
 pub(crate) fn plain_reader<R: Read + Drop>(alloc: Global, reader: R) -> Reader<R>
     ensures plain { IsPlain result }
     ensures start { reader_state result ≡ st.StartRecord }

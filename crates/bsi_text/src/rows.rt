@@ -16,7 +16,7 @@ use std::io::Read;
 use std::marker::Model;
 use thiserror::Error;
 
-/// The most records of a row file behind its header.
+/// The most records behind the header of a row file.
 const MAX_RECORDS: u64 = 1_000_000;
 
 /// Why a row source gives no more rows.
@@ -28,7 +28,7 @@ pub enum SourceFault {
     /// The reader failed.
     #[error("read failed")]
     Read,
-    /// The header, a record, a row or the copy of the schema found no memory.
+    /// Memory was refused for the header, a record, a row or the copy of the schema.
     #[error("no memory")]
     NoMemory,
     /// There are more than 1,000,000 records behind the header.
@@ -64,7 +64,7 @@ impl From<csv::Error> for SourceFault {
 
 /// The rows of the good records of a row file, in their order.
 ///
-/// It keeps a copy of the schema, the header and the record at hand; a row is made for the caller.
+/// It keeps a copy of the schema, the header and the current record. It makes each row for the caller.
 #[derive(Drop)]
 pub struct RowSource<R: Read + Drop> {
     alloc: Global,
@@ -91,9 +91,10 @@ impl<R: Read + Drop> Model for RowSource<R> {
 }
 
 impl<R: Read + Drop> RowSource<R> {
-    /// Reads the header. `BadHeader` is answered where it does not name each column of the schema exactly once and nothing
-    /// else, or where there is no record. `NoMemory` is answered where reading the header finds no memory, or where a good
-    /// header was read and the places of its fields or the copy of the schema find none: to test a header takes none.
+    /// Reads the header. It answers `BadHeader` if the header does not name each column of the schema exactly once and
+    /// nothing else, or if there is no record. It answers `NoMemory` if memory is refused while it reads the header,
+    /// or, with a good header, for the places of the fields or the copy of the schema. Testing a header takes no
+    /// memory.
     pub fn begin(alloc: Global, schema: &Schema, reader: R) -> Result<RowSource<R>, SourceFault>
         ensures schema { IfOk result (λ source. source.layout.schema ≡ schema.now) }
         ensures header { IfOk result (λ source. is_header schema.now source.layout.header ≡ true) }
@@ -115,8 +116,8 @@ impl<R: Read + Drop> RowSource<R> {
         })
     }
 
-    /// Returns the row of the next good record, none at the end and from then on. Bad records are passed over and counted.
-    /// After a fault each later call answers the same fault. At most 1,000,000 records are taken.
+    /// Returns the row of the next good record, or none at the end and from then on. It passes over bad records and
+    /// counts them. After a fault, each later call answers the same fault. It takes at most 1,000,000 records.
     pub fn next_row(&mut self) -> Result<Option<Row>, SourceFault>
         ensures failed { (fault : SourceFault) → self.old.end ≡ Some (Err fault) → (result ≡ Err fault) × (self.new ≡ self.old) }
         ensures ended { self.old.end ≡ Some (Ok tt) → (result ≡ Ok None) × (self.new ≡ self.old) }
@@ -137,8 +138,9 @@ impl<R: Read + Drop> RowSource<R> {
         Ok(Some(row))
     }
 
-    /// Makes `row` the row of the next good record, and returns whether there was one: as `next_row`, but that a row which has
-    /// had as many entries before takes no memory. Where it gives none, `row` may have any entries.
+    /// Makes `row` the row of the next good record, and returns whether there was one. It works as `next_row` does, but
+    /// for a row that has had as many entries before it allocates no memory. If it returns no row, `row` may have any
+    /// entries.
     pub fn next_into(&mut self, row: &mut Row) -> Result<bool, SourceFault>
         ensures failed { (fault : SourceFault) → self.old.end ≡ Some (Err fault) → (result ≡ Err fault) × (self.new ≡ self.old) }
         ensures ended { self.old.end ≡ Some (Ok tt) → (result ≡ Ok false) × (self.new ≡ self.old) }
@@ -174,7 +176,7 @@ impl<R: Read + Drop> RowSource<R> {
         found
     }
 
-    /// Returns how many records were passed over so far, at most 1,000,000.
+    /// Returns how many bad records were passed over so far, at most 1,000,000.
     pub fn bad(&self) -> u64
         ensures bad { result ≡ self.now.tally.bad }
         ensures within { result ≤ 1000000 }
@@ -208,8 +210,8 @@ fn read_layout<R: Read + Drop>(
     }
 }
 
-/// Takes records until one is good, whose row `row` becomes, and returns whether there was one. Room for the row is asked for
-/// first, so that a bad record takes none.
+/// Takes records until one is good and makes `row` its row, and returns whether there was one. It asks first for the
+/// room of the row, so that a bad record takes none.
 fn take_row<R: Read + Drop>(
     alloc: Global,
     layout: &Layout,

@@ -1,4 +1,4 @@
-//! A script: records from a reader, and one line for each to a writer.
+//! A script: records from a reader, and one line for each record to a writer.
 
 ghost use Rattle.std.specs.Prelude.{◌≡◌, ◌≢◌, ◌++◌, [], Err, OnOk, OnErr, IfErr, IfOk, IfSome};
 ghost use Rattle.std.specs.Io.KnownBytes.{Appends};
@@ -22,10 +22,10 @@ use thiserror::Error;
 /// The most records of a script.
 const MAX_RECORDS: u64 = 1_000_000;
 
-/// The most bytes of lines that wait.
+/// The most bytes of waiting lines.
 const MAX_WAITING: usize = 1 << 16;
 
-/// Why a script ends before its input does. The lines before it were written.
+/// Why a script ends before its input does. The lines before the end were written.
 #[derive(Clone, Copy, Debug, PartialEq, Eq, Error)]
 pub enum ScriptFault {
     /// The reader failed.
@@ -34,7 +34,7 @@ pub enum ScriptFault {
     /// The writer failed, or took no byte.
     #[error("bsi: write failed")]
     Write,
-    /// Reading a record, setting up or writing a line found no memory.
+    /// Memory was refused while a record was read, something was set up or a line was written.
     #[error("bsi: no memory")]
     NoMemory,
     /// There are more than 1,000,000 records.
@@ -68,16 +68,17 @@ impl From<AllocError> for ScriptFault {
     }
 }
 
-/// Answers each record of the reader by a line to the writer.
+/// Answers each record of the reader with a line to the writer.
 ///
-/// At the end the lines of all records were written, which are at most 1,000,000. `TooLong` comes where there are more, and
-/// the lines of the first 1,000,000 were written. After every fault what was written is a first part of the lines that answer
-/// the whole text, and only `Write` cuts a line.
+/// At the end, the lines of all records were written, at most 1,000,000. It answers `TooLong` if there are more
+/// records; then the lines of the first 1,000,000 were written. After every fault, what was written is a first part of
+/// the lines that answer the whole text, and only `Write` cuts a line.
 ///
-/// Lines wait while the next record was read whole, at most 64 KiB of them, and are written before more is asked for.
+/// Lines wait, at most 64 KiB of them, while the next record was already read as a whole. They are written before more
+/// bytes are asked for.
 ///
-/// It keeps the script's columns, feeders and rows, the record at hand and its line, and the lines that wait. A load or a query
-/// that finds no memory is answered so; everything else that finds none is `NoMemory`.
+/// It keeps the script's columns, feeders and rows, the current record and its line, and the waiting lines. A load or a
+/// query that is refused memory is answered so. Every other refusal of memory is `NoMemory`.
 pub fn run_script<R: Read + Drop, W: Write>(
     alloc: Global,
     reader: R,
@@ -106,7 +107,8 @@ pub fn run_script<R: Read + Drop, W: Write>(
     ended
 }
 
-/// Answers the records of a text, at most 1,000,000 of them. The last lines wait; after a failed write none does.
+/// Answers the records of a text, at most 1,000,000 of them. The last lines still wait; after a failed write, none
+/// does.
 fn serve<R: Read + Drop, W: Write>(
     alloc: Global,
     session: &mut Session,
@@ -140,7 +142,7 @@ fn serve<R: Read + Drop, W: Write>(
     Ok(())
 }
 
-/// Writes the lines that wait, unless the next record was read whole.
+/// Writes the waiting lines, unless the next record was already read as a whole.
 fn make_way<R: Read + Drop, W: Write>(
     input: &Reader<Watched<R>>,
     waiting: &mut Vec<u8>,
@@ -157,7 +159,7 @@ fn make_way<R: Read + Drop, W: Write>(
     write_waiting(waiting, writer)
 }
 
-/// Lets a line wait behind the others. Where they would be too many, or there is no memory for it, all are written.
+/// Lets a line wait behind the others. If there would be too many bytes, or memory is refused, it writes all lines.
 fn gather<W: Write>(line: &[u8], waiting: &mut Vec<u8>, writer: &mut W) -> Result<(), ScriptFault>
     ensures ok { OnOk result (IsPut (W.contents writer.old) (W.contents writer.new) waiting.new.items (waiting.old.items ++ line.now)) }
     ensures part { OnErr result (IsCut (W.contents writer.old) (W.contents writer.new) (waiting.old.items ++ line.now)) }
@@ -172,7 +174,7 @@ fn gather<W: Write>(line: &[u8], waiting: &mut Vec<u8>, writer: &mut W) -> Resul
     write_bytes(writer, line)
 }
 
-/// Writes the lines that wait. None waits from then on.
+/// Writes the waiting lines. From then on none waits.
 fn write_waiting<W: Write>(waiting: &mut Vec<u8>, writer: &mut W) -> Result<(), ScriptFault>
     ensures ok { OnOk result (Appends (W.contents writer.old) (W.contents writer.new) waiting.old.items) }
     ensures part { OnErr result (IsCut (W.contents writer.old) (W.contents writer.new) waiting.old.items) }
@@ -184,7 +186,7 @@ fn write_waiting<W: Write>(waiting: &mut Vec<u8>, writer: &mut W) -> Result<(), 
     written
 }
 
-/// Writes all bytes, so that after a fault what went out is a first part of them.
+/// Writes all bytes. After a fault, what went out is a first part of them.
 fn write_bytes<W: Write>(writer: &mut W, bytes: &[u8]) -> Result<(), ScriptFault>
     ensures ok { OnOk result (Appends (W.contents writer.old) (W.contents writer.new) bytes.now) }
     ensures part { OnErr result (IsCut (W.contents writer.old) (W.contents writer.new) bytes.now) }

@@ -1,4 +1,4 @@
-//! What a script has come to: its setup, and the machine from `begin` on.
+//! The state of a script: its setup, and from `begin` on its machine.
 
 ghost use Rattle.std.specs.Prelude.{◌≡◌, ◌++◌, ◌∷◌, [], IfOk, OnOk, if◌then◌else◌};
 ghost use Rattle.csv.specs.Records.{fields_of};
@@ -13,7 +13,7 @@ use bsi_records::{Setup, read_event, test_begin, write_bad, write_reply};
 use csv::ByteRecord;
 use std::alloc::Global;
 
-/// A script: what it has declared before it begins, and its machine from then on.
+/// A script: what it declares before it begins, and its machine from then on.
 #[derive(Drop)]
 pub(crate) enum Session {
     /// The setup goes on.
@@ -29,15 +29,15 @@ impl Session {
     ghost use Rattle.bsi_text.specs.Scripts.{Declaring, IsTurn};
     ghost use Rattle.bsi_text.specs.Sessions.{stage_of, IsSetUp};
 
-    /// Returns a script of which no record was read.
+    /// Makes a script of which no record has been read.
     pub(crate) fn new(alloc: Global) -> Session
         ensures { stage_of result ≡ Declaring nothing_declared }
     {
         Session::Declaring(Setup::new(alloc))
     }
 
-    /// Does what a record asks for, and makes `line` the line that answers it. A load or a query that finds no memory is
-    /// answered so. Everything else that finds none is an error, after which the script can't go on.
+    /// Carries out what a record asks for, and makes `line` the line that answers it. A load or a query that is refused
+    /// memory is answered so. Every other refusal of memory is an error, after which the script cannot go on.
     pub(crate) fn answer(
         &mut self,
         alloc: Global,
@@ -56,7 +56,7 @@ impl Session {
         }
     }
 
-    /// Does a record of the setup, and returns whether it was done.
+    /// Carries out a record of the setup, and returns whether it did.
     fn set_up(&mut self, alloc: Global, fields: &ByteRecord) -> Result<bool, NoMemory>
         ensures { IfOk result (λ done. IsSetUp (stage_of self.old) (fields_of fields.now) done (stage_of self.new)) }
     {
@@ -86,7 +86,7 @@ fn write_word(done: bool, line: &mut Vec<u8>) -> Result<(), NoMemory>
     line.extend_from_slice(b"ok\n")
 }
 
-/// Does what a record asks for of the machine, and writes the line that answers it.
+/// Carries out what a record asks of the machine, and writes the line that answers it.
 fn run(
     alloc: Global,
     core: &mut Core,
@@ -103,7 +103,7 @@ fn run(
     write_reply(&reply, line)
 }
 
-/// Does one event.
+/// Carries out one event, and returns its reply.
 fn step(alloc: Global, core: &mut Core, event: Event) -> Result<Reply, NoMemory>
     ensures lawful { IfOk result (λ reply. IsLawful core.old event reply) }
     ensures after { IfOk result (λ reply. core.new ≡ shown_after core.old ((event, reply) ∷ [])) }

@@ -17,7 +17,7 @@ use std::marker::Model;
 /// The most records of a text.
 const MAX_RECORDS: u64 = 1_000_000;
 
-/// The records of a text, each of any number of fields. At most 1,000,000 are taken.
+/// The records of a text, each of any number of fields. It takes at most 1,000,000 of them.
 #[derive(Drop)]
 pub struct RecordSource<R: Read + Drop> {
     input: Reader<R>,
@@ -40,7 +40,7 @@ impl<R: Read + Drop> Model for RecordSource<R> {
 }
 
 impl<R: Read + Drop> RecordSource<R> {
-    /// Makes the source of a reader's records. It takes no memory.
+    /// Makes the source of a reader's records. It allocates no memory.
     pub fn new(alloc: Global, reader: R) -> RecordSource<R>
         ensures fresh { (result.taken ≡ 0) × (result.end ≡ None) }
         ensures start { reader_state result.input ≡ st.StartRecord }
@@ -53,8 +53,9 @@ impl<R: Read + Drop> RecordSource<R> {
         }
     }
 
-    /// Takes the next record into `fields`, and returns whether there was one. After the last one each later call answers
-    /// `false`, and after a fault the same fault: `TooLong` where there is a record behind the first 1,000,000.
+    /// Takes the next record into `fields`, and returns whether there was one. After the last record, each later call
+    /// answers `false`, and after a fault the same fault. The fault is `TooLong` if there is a record behind the first
+    /// 1,000,000.
     pub fn next_record(&mut self, fields: &mut ByteRecord) -> Result<bool, SourceFault>
         ensures failed { (fault : SourceFault) → self.old.end ≡ Some (Err fault) → (result ≡ Err fault) × (self.new ≡ self.old) }
         ensures ended { self.old.end ≡ Some (Ok tt) → (result ≡ Ok false) × (self.new ≡ self.old) }
@@ -77,7 +78,7 @@ impl<R: Read + Drop> RecordSource<R> {
     }
 }
 
-/// Takes the next record, where it is one of the first 1,000,000.
+/// Takes the next record, if it is one of the first 1,000,000.
 fn take_record<R: Read + Drop>(
     input: &mut Reader<R>,
     fields: &mut ByteRecord,

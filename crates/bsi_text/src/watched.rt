@@ -1,4 +1,4 @@
-//! A reader of which it is known whether a whole record was read from it that is not yet taken.
+//! A reader that knows whether a whole record was read that has not been taken yet.
 
 ghost use Rattle.std.specs.Prelude.{◌≡◌};
 
@@ -6,7 +6,7 @@ use csv::Reader;
 use std::io;
 use std::io::Read;
 
-/// A reader that notes how far the lines reach that were read from it whole.
+/// A reader that notes how far the lines reach that were read as a whole.
 #[derive(Drop)]
 pub(crate) struct Watched<R: Read + Drop> {
     inner: R,
@@ -27,7 +27,7 @@ impl<R: Read + Drop> Read for Watched<R> {
 }
 
 impl<R: Read + Drop> Watched<R> {
-    /// Makes the reader of which no byte was read.
+    /// Makes the reader of which no byte has been read.
     pub(crate) fn new(inner: R) -> Watched<R>
         ensures { result.inner ≡ inner }
     {
@@ -39,14 +39,14 @@ impl<R: Read + Drop> Watched<R> {
     }
 }
 
-/// Returns whether the next record was read whole, so that it can be taken without asking for more bytes. A record with quotes
-/// may be said not to be.
+/// Returns whether the next record was read as a whole, so that it can be taken without asking for more bytes. It may
+/// return false for a record with quotes that was read as a whole.
 pub(crate) fn has_whole_record<R: Read + Drop>(input: &Reader<Watched<R>>) -> bool {
     input.position().byte() < input.get_ref().whole
 }
 
-/// Returns how many of the bytes stand up to the end of the last line that has bytes before its end. None where there is a
-/// quote, within which a record goes on past the end of a line.
+/// Returns how many of the bytes stand up to the end of the last line that has bytes before its end. It returns 0 if
+/// there is a quote, since a quoted record may go on past the end of a line.
 fn whole_lines(bytes: &[u8]) -> usize {
     if bytes.contains(&b'"') {
         return 0;

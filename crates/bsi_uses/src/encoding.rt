@@ -1,4 +1,4 @@
-//! A column of an encoding of one's own: each component in the encoding that suits its base.
+//! A column of a caller's own encoding: each component in the encoding that suits its base.
 
 ghost use Rattle.std.specs.Prelude.{◌≡◌, IfOk, map, sum};
 ghost use Rattle.bsi_slices.specs.Rows.{selects};
@@ -99,7 +99,7 @@ impl Encoding for ByBase {
     }
 }
 
-/// Makes a column of the numbers below 6,400, as a digit below 64 and one below 100.
+/// Makes a column of the numbers below 6,400, whose components have the bases 64 and 100.
 pub(crate) fn make_column(alloc: Global, numbers: &[u64]) -> Result<Decomposed<ByBase>, Refused> {
     let bases = Bases::new(vec![in alloc; 64, 100]?)?;
     let mut column = Decomposed::new(alloc, bases)?;

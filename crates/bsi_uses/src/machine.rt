@@ -1,11 +1,11 @@
-//! The step machine with two feeders: what waits is not asked for, and none of it is lost.
+//! The step machine with two feeders: a query does not see waiting rows, and none of them is lost.
 
 use crate::refused::Refused;
 use bsi_load::Core;
 use bsi_table::{Answer, ColumnSpec, Pred, Query, Row, Schema, Total};
 use std::alloc::Global;
 
-/// Makes a machine of two feeders, of each of which four rows may wait.
+/// Makes a machine of two feeders, each of which may have four rows waiting.
 pub(crate) fn make_machine(alloc: Global) -> Result<Core, Refused> {
     let mut schema = Schema::new(alloc);
     schema.add("qty", ColumnSpec::Slices(7))?;
@@ -24,14 +24,15 @@ pub(crate) fn submit(
     Ok(core.submit(feeder, row)?)
 }
 
-/// Sums the quantities that are indexed.
+/// Sums the indexed quantities.
 pub(crate) fn sum(core: &Core) -> Result<Answer, Refused> {
     let total = Total::Sum(0);
     let pred = Pred::All;
     Ok(core.ask(&Query { total, pred })?)
 }
 
-/// Submits two rows of feeder 0 and one of feeder 1, loads one of each, and returns the sum of what is indexed.
+/// Submits two rows of feeder 0 and one of feeder 1, loads one of each, and returns the sum of the indexed quantities
+/// and the number of rows of feeder 0 that wait.
 pub(crate) fn load_one_of_each(alloc: Global) -> Result<(Answer, Option<u32>), Refused> {
     let mut core = make_machine(alloc)?;
     submit(alloc, &mut core, 0, 5)?;

@@ -1,4 +1,4 @@
-//! Why a use has no result: what the call said that refused.
+//! Why a use has no result: the refusal of one of its calls.
 
 use bsi_digits::BasesError;
 use bsi_load::{LoadRefused, MakeError, SubmitRefused};

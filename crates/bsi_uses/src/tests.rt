@@ -1,4 +1,4 @@
-//! Each use is run. One that was refused a growth is run again.
+//! Runs each use. One that is refused memory is run again.
 
 use crate::encoding::{make_column, sum_up_to};
 use crate::first::{find_median, index_prices};

@@ -15,7 +15,7 @@ use std::sync::Wait;
 use std::thread;
 use std::thread::{Promise, PromisedHandle, Threads};
 
-/// That a thread's closing is that of the feeder which it was given.
+/// The promise of a thread: its closing is that of the feeder that it was given.
 #[derive(Drop)]
 struct OfFeeder(Snapshot<Feeder>);
 
@@ -91,7 +91,7 @@ fn serve<B: Naming + Send + Sync + 'static, R: Threads + Wait>(
     reader.join(rt)
 }
 
-/// Opens a system of a feeder for each capacity and one analyst, and ends it when all were served.
+/// Opens a system with a feeder for each capacity and one analyst, and ends it once all were served.
 fn run_in<B: Naming + Send + Sync + 'static, R: Threads + Wait>(
     rt: &R,
     alloc: Global,

@@ -13,16 +13,16 @@ use core::mem::replace_with;
 use left_right::reader::Reader;
 use std::marker::Model;
 
-/// Why a question is not answered, in the order of checking.
+/// Why a question is not answered, in the order in which it is checked.
 #[derive(Clone, Copy, Debug, PartialEq, Eq)]
 pub enum AnalystRefused {
-    /// No copy of the table was given, as may be once the writing end is gone.
+    /// The analyst was given no copy of the table, as may happen once the writing end is gone.
     Gone,
     /// The table refused the question.
     Ask(AskError),
 }
 
-/// What reads the published table, as one analyst. It may move to a thread of its own.
+/// A reader of the published table. It may move to a thread of its own.
 #[derive(Drop)]
 pub struct Analyst<B: Naming> {
     reader: Reader<Version, (), Covers<B>>,
@@ -51,8 +51,8 @@ impl<B: Naming> Analyst<B> {
         Analyst { reader, known }
     }
 
-    /// Answers a query over a list that was published and that begins with each list that the analyst knew. Then it knows that
-    /// list. It waits for nobody.
+    /// Answers a query over a published list that begins with each list that the analyst knew. From then on it knows
+    /// that list. It waits for nobody.
     pub fn ask(&mut self, query: &Query) -> Result<Answer, AnalystRefused>
         ensures reply { IsAnalystReply B.about.schema self.new query.now result }
         ensures known { IsPrefix self.old self.new }
@@ -76,7 +76,7 @@ impl<B: Naming> Analyst<B> {
         }
     }
 
-    /// Takes in a list that it was told of: each later answer is over one that begins with it. It takes no memory.
+    /// Learns of a list: each later answer is over a list that begins with it. It allocates no memory.
     pub fn learn(&mut self, told: Told<B>)
         ensures one { (self.new ≡ self.old) ⊎ (self.new ≡ told) }
         ensures known { IsPrefix self.old self.new }
@@ -90,7 +90,8 @@ impl<B: Naming> Analyst<B> {
     }
 }
 
-/// Asks the copy that is published, and says which list it has. None where no copy is given.
+/// Asks the published copy, and returns the answer with the list that the copy has. It returns none if it is given no
+/// copy.
 fn read<B: Naming>(
     reader: Reader<Version, (), Covers<B>>,
     query: &Query,

@@ -1,10 +1,12 @@
-//! The history of a table: each list of rows that was published. It exists in the proofs alone, but for the length of its last list.
+//! The history of a table: each list of rows that was published. It exists only in the proofs, except for the length of
+//! its last list.
 
 use bsi_table::Row;
 use logbook::{Gain, Offer, Plain, Play, Rule, Seen, Start, Word};
 use std::marker::Model;
 
-/// A list of rows with their feeders, whole. A contract reads an array as a list of any length; no value of it is made.
+/// A whole list of rows with their feeders. A contract reads an array as a list of any length; no value of this type is
+/// made.
 pub(crate) type Page = [(u32, Row); 0];
 
 /// The rule of the history: each list begins with the one before.
@@ -28,7 +30,7 @@ impl Rule<Page, u64> for Law {
     ghost moves = { λ ask before after answer. Unit {0} };
 }
 
-/// Nothing is traded for a step.
+/// A step for which nothing is traced.
 struct Nothing;
 
 impl Gain<Page, u64> for Nothing {
@@ -76,7 +78,7 @@ impl Reached {
         self.len
     }
 
-    /// Knows the same list.
+    /// Returns a second value that knows the same list.
     pub(crate) fn again(&self) -> Reached
         ensures { result ≡ self.now }
     {
@@ -86,7 +88,7 @@ impl Reached {
         }
     }
 
-    /// Shows that of two lists of one history the shorter begins the longer.
+    /// Shows that, of two lists of one history, the longer begins with the shorter.
     pub(crate) fn meet(&self, other: &Reached)
         requires { other.now.book ≡ self.now.book }
         ensures this { length self.now.list ≤ length other.now.list → IsPrefix self.now.list other.now.list }
@@ -96,7 +98,8 @@ impl Reached {
         both.learn(&other.seen);
     }
 
-    /// Adds a list to the history, by the word that it shares, and knows that list.
+    /// Adds a list to the history, by the word that the history shares, and returns a value that knows that list, if it
+    /// was added.
     fn next<X, M: Plain<X, Page, u64>>(
         &self,
         head: &Word<Page, u64, Law>,
@@ -124,7 +127,7 @@ impl Reached {
     }
 }
 
-/// The history of one table, to which its writer alone adds. It takes no room but for two numbers.
+/// The history of one table, to which only its writer adds. It takes no room except for two numbers.
 #[derive(Drop)]
 pub struct History {
     head: Word<Page, u64, Law>,
@@ -148,7 +151,7 @@ impl History {
     ghost use mathlib.Core.List.{IsPrefix};
     ghost use Rattle.bsi_versions.specs.Pages.{with_list};
 
-    /// Makes a history in which nothing was published. It takes no memory.
+    /// Makes a history in which nothing has been published. It allocates no memory.
     pub fn new() -> History
         ensures { result.list ≡ [] }
     {
@@ -159,14 +162,14 @@ impl History {
         }
     }
 
-    /// Knows the last list.
+    /// Returns a value that knows the last list.
     pub(crate) fn known(&self) -> Reached
         ensures { result ≡ self.now }
     {
         self.known.again()
     }
 
-    /// Adds a list, and says whether it did. Only another writer of this history could have kept it from that.
+    /// Adds a list, and returns whether it did. Only another writer of this history could prevent it.
     pub(crate) fn add<X, M: Plain<X, Page, u64>>(&mut self, about: &X, len: u64) -> bool
         requires begins { IsPrefix self.old.list (M.ask about.now) }
         requires long { length (M.ask about.now) ≡ len }

@@ -1,4 +1,4 @@
-//! Which system an end is of, as a type parameter, and the rule that its copies keep.
+//! The system that an end belongs to, as a type parameter, and the rule that the system's copies keep.
 
 use crate::version::Version;
 use crossbeam_utils::rule::{Outcome, Protocol};

@@ -11,7 +11,7 @@ use left_right::Absorb;
 pub enum Operation {
     /// A block of at most 64 rows, each with its feeder.
     Rows(Vec<(u32, Row)>),
-    /// The list in the history that the rows then are.
+    /// The list in the history that the rows make at this point.
     Mark(Reached),
 }
 

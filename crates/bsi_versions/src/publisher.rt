@@ -1,4 +1,4 @@
-//! The writing end: rows are held back, and become visible at one step.
+//! The writing end: it holds rows back, and makes them visible at one step.
 
 ghost use Rattle.std.specs.Prelude.{◌≡◌, ◌+◌, ◌<◌, ◌≤◌, ◌++◌, ◌∷◌, [], ◌⊎◌, IfOk, IsTrue, OnErr, OnOk, drop, fold, length, vec_capacity, vec_len, ◌↔◌};
 ghost use mathlib.Core.List.{IsPrefix};
@@ -23,7 +23,7 @@ use std::sync::Wait;
 /// The two copies of the table, and the operations that are pending.
 type Copies<B> = Writer<Version, Operation, (), Covers<B>>;
 
-/// What a publish adds to the history: the rows that are shown, and then those that are held.
+/// What a publish adds to the history: the rows that are shown, followed by those that are held.
 struct Next;
 
 impl<B: Naming> Plain<Copies<B>, Page, u64> for Next {
@@ -39,9 +39,9 @@ impl<B: Naming> Plain<Copies<B>, Page, u64> for Next {
 pub struct Publisher<B: Naming> {
     copies: Copies<B>,
     history: History,
-    /// Held rows that are no pending operation yet: a block that is filled.
+    /// Held rows that are not yet a pending operation: a block that is being filled.
     stage: Vec<(u32, Row)>,
-    /// So many rows more may be held.
+    /// This many more rows may be held.
     free: u64,
 }
 
@@ -58,7 +58,7 @@ impl<B: Naming> Model for Publisher<B> {
 }
 
 impl<B: Naming> Publisher<B> {
-    /// Makes both copies of a table with no row, and room for so many analysts.
+    /// Makes both copies of a table with no row, and room for `analysts` analysts, at most 8.
     pub fn new(
         alloc: Global,
         history: History,
@@ -91,7 +91,7 @@ impl<B: Naming> Publisher<B> {
         self.copies.published().index()
     }
 
-    /// Returns how many rows are published, and how many are held. It takes no memory.
+    /// Returns how many rows are published, and how many are held. It allocates no memory.
     pub fn counts(&self) -> (u64, u64)
         ensures published { result.0 ≡ length self.now.table.rows }
         ensures held { result.1 ≡ length self.now.held }
@@ -110,7 +110,7 @@ impl<B: Naming> Publisher<B> {
         self.free == 0
     }
 
-    /// Holds a row, which is visible once it is published.
+    /// Holds a row. The row is visible once it is published.
     pub fn hold(&mut self, feeder: u32, row: Row) -> Result<(), NoMemory>
         requires room { length self.old.table.rows + length self.old.held < self.old.table.limit }
         requires fits { IsTrue (fits self.old.table.schema.columns row) }
@@ -124,8 +124,8 @@ impl<B: Naming> Publisher<B> {
         Ok(())
     }
 
-    /// Publishes: at one step analysts see every row that was held. Returns the number of rows that they then see. It waits for
-    /// analysts that read the copy which is not shown.
+    /// Publishes the held rows: at one step analysts see every row that was held. It returns how many rows they then
+    /// see. It waits for analysts that read the copy that is not shown.
     pub fn publish<R: Wait>(&mut self, rt: &R) -> Result<u64, NoMemory>
         ensures len { IfOk result (λ len. len ≡ length self.new.table.rows) }
         ensures ok { OnOk result (self.new ≡ published_all self.old) }
@@ -138,7 +138,7 @@ impl<B: Naming> Publisher<B> {
         Ok(len)
     }
 
-    /// Tells what is published, for an analyst to learn. It takes no memory.
+    /// Tells what is published, for an analyst to learn. It allocates no memory.
     pub fn tell(&mut self) -> Told<B>
         ensures told { result ≡ self.old.table.rows }
         ensures same { self.new ≡ self.old }
@@ -146,7 +146,7 @@ impl<B: Naming> Publisher<B> {
         Told::new(self.copies.published().known().again())
     }
 
-    /// Makes an analyst, who knows what is published. Err where its place is not found to be free.
+    /// Makes an analyst, who knows what is published. It returns an error if no free place is found for the analyst.
     pub fn analyst(&self) -> Result<Analyst<B>, NoMemory>
         ensures { IfOk result (λ analyst. analyst ≡ self.now.table.rows) }
     {
@@ -154,7 +154,7 @@ impl<B: Naming> Publisher<B> {
         Ok(Analyst::new(reader, self.copies.published().known().again()))
     }
 
-    /// Ends the writing end. What is held is dropped. It waits for analysts that read.
+    /// Ends the writing end. It drops the held rows, and waits for analysts that read.
     pub fn end<R: Wait>(self, rt: &R) {
         let Publisher {
             copies,
@@ -166,7 +166,7 @@ impl<B: Naming> Publisher<B> {
     }
 }
 
-/// Makes a place for one more row in the stage: a full block goes to the pending operations.
+/// Makes a place for one more row in the stage. If the block is full, it goes to the pending operations.
 fn make_place<B: Naming>(
     copies: &mut Copies<B>,
     stage: &mut Vec<(u32, Row)>,
@@ -183,7 +183,7 @@ fn make_place<B: Naming>(
     append_stage(copies, stage)
 }
 
-/// Empties the stage: what it has goes to the pending operations, as one block.
+/// Empties the stage: its rows go to the pending operations, as one block.
 fn empty_stage<B: Naming>(
     copies: &mut Copies<B>,
     stage: &mut Vec<(u32, Row)>,
@@ -200,8 +200,8 @@ fn empty_stage<B: Naming>(
     append_stage(copies, stage)
 }
 
-/// Appends the rows of the stage to the pending operations. The stage is then another one, with room for as many; so memory is
-/// asked for before anything changes.
+/// Appends the rows of the stage to the pending operations. It replaces the stage by another one with room for as many
+/// rows, so it asks for memory before it changes anything.
 fn append_stage<B: Naming>(
     copies: &mut Copies<B>,
     stage: &mut Vec<(u32, Row)>,
@@ -224,7 +224,7 @@ fn append_stage<B: Naming>(
     }
 }
 
-/// Adds to the history what is to be shown, and appends the mark of it behind the pending rows.
+/// Adds to the history the list that is to be shown, and appends its mark behind the pending rows.
 fn mark<B: Naming>(copies: &mut Copies<B>, history: &mut History, len: u64) -> Result<(), NoMemory>
     requires begins { IsPrefix history.old.list (copies.old.desk.shown.value.table.rows ++ rows_of (drop copies.old.behind copies.old.log.items)) }
     requires len { len ≡ length (copies.old.desk.shown.value.table.rows ++ rows_of (drop copies.old.behind copies.old.log.items)) }
@@ -243,7 +243,7 @@ fn mark<B: Naming>(copies: &mut Copies<B>, history: &mut History, len: u64) -> R
     }
 }
 
-/// Shows the copy that has each pending operation, at one step.
+/// Shows at one step the copy that has every pending operation.
 fn show<B: Naming, R: Wait>(copies: &mut Copies<B>, rt: &R) -> Result<(), NoMemory>
     requires { Stands B.book B.about (fold after copies.old.desk.shown.value (drop copies.old.behind copies.old.log.items)) }
     ensures shown { OnOk result (copies.new.desk.shown.value ≡ fold after copies.old.desk.shown.value (drop copies.old.behind copies.old.log.items)) }
@@ -254,7 +254,7 @@ fn show<B: Naming, R: Wait>(copies: &mut Copies<B>, rt: &R) -> Result<(), NoMemo
     replace_with(copies, rt, turn::<B, R>)
 }
 
-/// Shows the copy that has each pending operation, of copies that are handed over.
+/// Shows the copy that has every pending operation, of copies that are handed over, and hands them back.
 fn turn<B: Naming, R: Wait>(copies: Copies<B>, rt: &R) -> (Copies<B>, Result<(), NoMemory>)
     requires { Stands B.book B.about (fold after copies.desk.shown.value (drop copies.behind copies.log.items)) }
     ensures shown { OnOk result.1 (result.0.desk.shown.value ≡ fold after copies.desk.shown.value (drop copies.behind copies.log.items)) }

@@ -36,7 +36,7 @@ impl<B: Naming> Told<B> {
         }
     }
 
-    /// Gives up the word for what it knows.
+    /// Gives up the word and returns what it knows.
     pub(crate) fn into_known(self) -> Reached
         ensures book { result.book ≡ B.book }
         ensures list { result.list ≡ self }

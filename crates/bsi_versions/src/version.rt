@@ -1,4 +1,4 @@
-//! A version of the index, with the list in the history that its rows are.
+//! A version of the index, with the list of the history that its rows make.
 
 ghost use Rattle.std.specs.Prelude.{◌≡◌, IfOk, IsTrue, OnErr, OnOk};
 ghost use Rattle.bsi_table.specs.Table.{AreFitting, AreFrom};
@@ -8,7 +8,7 @@ use crate::history::Reached;
 use bsi_table::{Index, MOST_BLOCK_ROWS, Row};
 use std::marker::Model;
 
-/// An index, and the list that its rows are where it is published.
+/// An index, and the list that its rows make once it is published.
 #[derive(Drop)]
 pub struct Version {
     index: Index,
@@ -56,15 +56,15 @@ impl Version {
         &self.known
     }
 
-    /// Knows another list from then on.
+    /// Marks the version with another list, which it knows from then on.
     pub(crate) fn mark(&mut self, known: &Reached)
         ensures { self.new ≡ record self.old { known = known.now } }
     {
         self.known = known.again();
     }
 
-    /// Appends a block of rows. More than 64 are refused as if for want of memory, and so is a row that does not fit, or of no
-    /// feeder: no pending operation has such.
+    /// Appends a block of rows. It refuses more than 64 rows as if memory were refused, and likewise a row that does
+    /// not fit the schema or that is of no feeder. No pending operation has such rows.
     pub(crate) fn append(&mut self, rows: &[(u32, Row)]) -> Result<(), NoMemory>
         ensures ok { OnOk result (self.new ≡ record self.old { table = with_rows self.old.table rows.now }) }
         ensures err { OnErr result (self.new ≡ self.old) }
@@ -79,7 +79,7 @@ impl Version {
     }
 }
 
-/// Whether each row fits, and is of one of the feeders.
+/// Returns true only if each row fits the schema and is of one of the feeders.
 fn are_fitting(index: &Index, rows: &[(u32, Row)]) -> bool
     ensures fits { IsTrue result → AreFitting index.now.schema.columns rows.now }
     ensures feeders { IsTrue result → AreFrom index.now.feeders rows.now }

@@ -1,6 +1,6 @@
 //! Boolean operations in place, and population counts.
 //!
-//! Each call passes over its words once and takes no memory, and no call in place changes the room for one more bit.
+//! Each call passes over its words once and allocates no memory. No operation in place changes the room for more bits.
 
 ghost use Rattle.std.specs.Prelude.{◌≡◌, ◌&&◌, ◌||◌, not, length, map, count_by};
 ghost use Rattle.std.specs.Simd.Lanes.{zip2};
@@ -29,7 +29,7 @@ impl Bits {
         lanes::or(&mut self.words, &other.words);
     }
 
-    /// Turns the bits that are set in `other`.
+    /// Inverts the bits that are set in `other`.
     pub fn xor_with(&mut self, other: &Bits)
         requires { length self.old.bits ≡ length other.now.bits }
         ensures bits { self.new.bits ≡ zip2 differ self.old.bits other.now.bits }
@@ -48,7 +48,7 @@ impl Bits {
         lanes::and_not(&mut self.words, &other.words);
     }
 
-    /// Takes over the bits of `other`.
+    /// Overwrites the bits with those of `other`.
     pub fn copy_from(&mut self, other: &Bits)
         requires { length self.old.bits ≡ length other.now.bits }
         ensures bits { self.new.bits ≡ other.now.bits }
@@ -57,7 +57,7 @@ impl Bits {
         self.words.copy_from_slice(&other.words);
     }
 
-    /// Turns each bit.
+    /// Inverts each bit.
     pub fn flip(&mut self)
         ensures bits { self.new.bits ≡ map not self.old.bits }
         ensures room { self.new.room ≡ self.old.room }
@@ -67,7 +67,7 @@ impl Bits {
         trim(&mut self.words, self.len);
     }
 
-    /// How many bits are set.
+    /// Returns how many bits are set.
     pub fn count(&self) -> u64
         ensures { result ≡ count_by (λ b. b) self.now.bits }
     {
@@ -75,7 +75,7 @@ impl Bits {
         lanes::count(&self.words) as u64
     }
 
-    /// How many bits are set here and in `other`.
+    /// Returns how many bits are set both here and in `other`.
     pub fn count_and(&self, other: &Bits) -> u64
         requires { length self.now.bits ≡ length other.now.bits }
         ensures { result ≡ count_by (λ b. b) (zip2 ◌&&◌ self.now.bits other.now.bits) }
@@ -85,7 +85,7 @@ impl Bits {
         lanes::count_and(&self.words, &other.words) as u64
     }
 
-    /// How many bits are set here and not in `other`.
+    /// Returns how many bits are set here and clear in `other`.
     pub fn count_and_not(&self, other: &Bits) -> u64
         requires { length self.now.bits ≡ length other.now.bits }
         ensures { result ≡ count_by (λ b. b) (zip2 without self.now.bits other.now.bits) }

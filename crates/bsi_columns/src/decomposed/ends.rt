@@ -1,8 +1,8 @@
 //! The least and the greatest number of a found set in one pass over the column, block by block and from the most
 //! significant component down.
 //!
-//! A block is left as soon as none of its rows can come before the number that was found so far, which most blocks show
-//! at their first component.
+//! The search leaves a block as soon as none of its rows can come before the best number found so far. Most blocks show
+//! this at their first component.
 
 ghost use Rattle.std.specs.Prelude.{◌≡◌, ℕ, ◌+◌, ◌*◌, ◌/◌, ◌<◌, ◌≤◌, ◌&&◌, true, false, length, slice_index, slice_index_or, is_some, None, IfSome};
 ghost use Rattle.bsi_bits.specs.Packed.{bit_of};
@@ -16,12 +16,12 @@ use bsi_bits::Bits;
 use bsi_components::blocks::{keep_in, meets};
 use bsi_slices::End;
 
-/// The words of a block.
+/// The number of words in a block.
 const BLOCK: usize = 16;
 
 impl<E: Encoding> Decomposed<E> {
-    /// The number at an end of those at the rows of a found set, none where there is none. Nothing is answered where a
-    /// component works on whole vectors alone.
+    /// Returns the number at an end of those at the rows of a found set, or `Some(None)` if there is no number. It
+    /// returns `None` if a component works on whole vectors alone.
     pub(crate) fn end_found(&self, found: &Bits, end: End) -> Option<Option<u64>>
         requires { length self.now.entries ≡ length found.now.bits }
         ensures { IfSome result (IsEndOf end (numbers_at found.now.bits self.now.entries)) }
@@ -40,8 +40,9 @@ impl<E: Encoding> Decomposed<E> {
         Some(best)
     }
 
-    /// The number at an end of the rows of a block, none where none of them comes before the best one so far. What the
-    /// block is left with is left open.
+    /// Returns the number at an end of the rows of a block, or `Some(None)` if none of them comes before the best
+    /// number so far. It returns `None` if a component works on whole vectors alone. The block's content afterwards is
+    /// unspecified.
     fn better_in_block(
         &self,
         end: End,
@@ -78,7 +79,7 @@ impl<E: Encoding> Decomposed<E> {
     }
 }
 
-/// Writes the rows of a block that are found and are not nulls.
+/// Writes the rows of a block that are found and not null.
 fn rows_into(found: &Bits, present: &Bits, at: usize, block: &mut [u64])
     requires found { at + length block.old ≤ (length found.now.bits + 63) / 64 }
     requires present { at + length block.old ≤ (length present.now.bits + 63) / 64 }
@@ -91,7 +92,8 @@ fn rows_into(found: &Bits, present: &Bits, at: usize, block: &mut [u64])
     keep_in(present, at, block);
 }
 
-/// The digit past which no number can come before the best one so far, where `above` is what the digits before weigh.
+/// Returns the digit past which no number can come before the best number so far. `above` is what the more significant
+/// digits weigh, in units of `weight`.
 fn limit_of(end: End, best: Option<u64>, above: u64, base: u32, weight: u64) -> u32
     requires some { 1 ≤ weight }
     requires base { 1 ≤ base }
@@ -109,7 +111,7 @@ fn limit_of(end: End, best: Option<u64>, above: u64, base: u32, weight: u64) -> 
     }
 }
 
-/// The digit at an end of those of a block's rows, where it is within a limit.
+/// Finds the digit at an end among those of a block's rows, if it is within a limit.
 fn end_digit<E: Encoding>(component: &E, end: End, limit: u32, at: usize, block: &[u64]) -> EndDigit
     requires below { limit < E.base_of component.now }
     requires within { at + length block.now ≤ (length (E.digits component.now) + 63) / 64 }
@@ -123,7 +125,7 @@ fn end_digit<E: Encoding>(component: &E, end: End, limit: u32, at: usize, block:
     }
 }
 
-/// Keeps of a block's rows, which are no nulls, those whose digit is at an end, where it is within a limit.
+/// Keeps those rows of a block, none of which is null, whose digit is at an end, if this digit is within a limit.
 fn keep_nearest<E: Encoding>(
     component: &E,
     present: &Bits,

@@ -1,5 +1,5 @@
-//! The totals of a found set: the sum by the sums of the digits, and the number of a rank by narrowing the found set from the
-//! most significant component down.
+//! The totals of a found set: the sum, by the sums of the digits, and the number of a rank, by narrowing the found set
+//! from the most significant component down.
 
 ghost use Rattle.std.specs.Prelude.{◌≡◌, ℕ, ◌^◌, ◌≤◌, ◌<◌, length, sum, IfOk};
 ghost use Rattle.bsi_columns.specs.Totals.{numbers_at, IsRanked};
@@ -10,7 +10,8 @@ use crate::{Column, Encoding, NoMemory};
 use bsi_bits::Bits;
 
 impl<E: Encoding> Decomposed<E> {
-    /// The sum of the numbers at the rows of a found set: each component's sum of digits, times its weight.
+    /// Returns the sum of the numbers at the rows of a found set: for each component, its sum of digits times its
+    /// weight.
     pub(crate) fn sum_found(&self, found: &Bits) -> u128
         requires { length self.now.entries ≡ length found.now.bits }
         ensures sum { result ≡ sum (numbers_at found.now.bits self.now.entries) }
@@ -28,7 +29,7 @@ impl<E: Encoding> Decomposed<E> {
         total
     }
 
-    /// The number of rank `k` at the rows of a found set.
+    /// Returns the number of rank `k` at the rows of a found set.
     pub(crate) fn number_of_rank(&self, found: &Bits, k: u64) -> Result<u64, NoMemory>
         requires same { length self.now.entries ≡ length found.now.bits }
         requires there { k < length (numbers_at found.now.bits self.now.entries) }

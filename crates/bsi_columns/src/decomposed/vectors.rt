@@ -12,7 +12,8 @@ use crate::{Encoding, NoMemory};
 use bsi_bits::Bits;
 
 impl<E: Encoding> Decomposed<E> {
-    /// The rows whose number passes a test, by whole vectors, in the memory of `found` and one vector more.
+    /// Selects the rows whose number passes a test, by whole vectors. It works in the memory of `found` and one further
+    /// vector.
     pub(crate) fn select_vectors(&self, test: Test, mut found: Bits) -> Result<Bits, NoMemory>
         requires below { test.constant < size_of self.now.bases }
         requires same { length self.now.entries ≡ length found.bits }
@@ -24,7 +25,8 @@ impl<E: Encoding> Decomposed<E> {
         Ok(found)
     }
 
-    /// Writes for each row whether the number that its digits weigh passes the test, wanted or not.
+    /// Writes for each row whether its number is in the test's relation to the constant, be that wanted or not. A null
+    /// row counts as 0.
     fn narrow_vectors(&self, test: Test, part: &mut Bits, found: &mut Bits)
         requires below { test.constant < size_of self.now.bases }
         requires same_part { length self.now.entries ≡ length part.old.bits }
@@ -47,7 +49,7 @@ impl<E: Encoding> Decomposed<E> {
     }
 }
 
-/// Writes for each row whether its lowest digit passes the test with the constant's.
+/// Writes for each row whether its least significant digit is in the relation to the constant's digit.
 fn first_into<E: Encoding>(component: &E, relation: Relation, digit: u32, found: &mut Bits)
     requires below { digit < E.base_of component.now }
     requires same { length (E.digits component.now) ≡ length found.old.bits }
@@ -59,7 +61,7 @@ fn first_into<E: Encoding>(component: &E, relation: Relation, digit: u32, found:
     }
 }
 
-/// Takes one digit more into the test: one call of the component for `=`, and one or two for `<=`.
+/// Takes one more digit into the test. It makes one call of the component for `=`, and one or two for `<=`.
 fn narrow_into<E: Encoding>(
     component: &E,
     relation: Relation,
@@ -89,7 +91,7 @@ fn narrow_into<E: Encoding>(
     }
 }
 
-/// Keeps the rows that are not nulls of those that pass a test or, as wanted, of those that fail it.
+/// Keeps the rows that are not null among those that pass a test or, as wanted, among those that fail it.
 fn cut(found: &mut Bits, wanted: bool, present: &Bits)
     requires { length found.old.bits ≡ length present.now.bits }
     ensures { found.new.bits ≡ zip2 (λ answer there. as_wanted wanted answer && there) found.old.bits present.now.bits }

@@ -17,10 +17,10 @@ use bsi_bits::{Bits, know_fits};
 use std::alloc::Global;
 use std::simd::Simd;
 
-/// The words of a block, which is kept in half of a processor's 16 registers of two words.
+/// The number of words in a block. A block of this length fills half of a processor's 16 registers of two words.
 const BLOCK: usize = 16;
 
-/// How a number is to stand to a constant.
+/// The relation of a number to a constant.
 #[derive(Clone, Copy)]
 enum Relation {
     /// Above the constant.
@@ -29,7 +29,7 @@ enum Relation {
     Equal,
 }
 
-/// The numbers that a comparison selects of those below a size.
+/// The numbers below a size that a comparison selects.
 #[derive(Clone, Copy)]
 enum Selection {
     /// None of them.
@@ -43,14 +43,15 @@ enum Selection {
 /// A test of numbers.
 #[derive(Clone, Copy)]
 struct Test {
-    /// How a number is to stand to the constant.
+    /// The relation of a number to the constant.
     relation: Relation,
     constant: u64,
-    /// Whether the numbers that do not stand so are to pass, in place of those that do.
+    /// Whether the numbers outside the relation pass, in place of those in it.
     negated: bool,
 }
 
-/// For each row whether it is a number that compares so with `constant`. No slice is read where the answer is known.
+/// Returns for each row whether it is a number that satisfies the comparison `op` with `constant`. It reads no slice if
+/// the answer is already known.
 pub fn select(
     alloc: Global,
     slices: &[Bits],
@@ -72,8 +73,8 @@ pub fn select(
     }
 }
 
-/// Keeps in a block of words, whose first stands for the 64 rows from row `64 * at` on, the rows whose number compares so with
-/// `constant`. No slice is read where the answer is known.
+/// Keeps in a block of words the rows whose number satisfies the comparison `op` with `constant`. The first word stands
+/// for the 64 rows from row `64 * at` on. It reads no slice if the answer is already known.
 pub fn keep_selected(
     slices: &[Bits],
     present: &NotNull,
@@ -97,7 +98,7 @@ pub fn keep_selected(
     }
 }
 
-/// The numbers below a size that a comparison with a constant selects.
+/// Returns which numbers below a size satisfy a comparison with a constant.
 fn decide(op: Op, constant: u64, size: u64) -> Selection
     ensures chosen { (x : ℕ) → x < size → chosen result x ≡ compares op x constant }
     ensures below { IsBelowSize result size }
@@ -120,7 +121,7 @@ fn decide(op: Op, constant: u64, size: u64) -> Selection
     }
 }
 
-/// The numbers in a relation to a constant or, where the test is negated, the others.
+/// Returns the selection of the numbers in a relation to a constant or, if the test is negated, of all other numbers.
 fn tested(relation: Relation, constant: u64, negated: bool) -> Selection
     ensures { result ≡ Tested (record { relation = relation; constant = constant; negated = negated }) }
 {
@@ -131,8 +132,8 @@ fn tested(relation: Relation, constant: u64, negated: bool) -> Selection
     })
 }
 
-/// Keeps in `words`, which stand for the rows from `64 * start` on, those whose numbers pass the test: blocks first, and
-/// single words behind them.
+/// Keeps in `words` the rows whose numbers pass the test. The first word stands for the 64 rows from row `64 * start`
+/// on. It works on whole blocks first, and on single words behind them.
 fn keep(slices: &[Bits], test: Test, start: usize, words: &mut [u64])
     requires few { length slices.now ≤ 63 }
     requires below { test.constant < 2 ^ length slices.now }
@@ -145,7 +146,7 @@ fn keep(slices: &[Bits], test: Test, start: usize, words: &mut [u64])
     keep_blocks::<1>(slices, test, start, whole, words);
 }
 
-/// The same from a word on, as far as blocks of `N` words go.
+/// Keeps the rows whose numbers pass the test in the words from word `from` on, as far as whole blocks of `N` words go.
 fn keep_blocks<const N: usize>(
     slices: &[Bits],
     test: Test,
@@ -170,7 +171,7 @@ fn keep_blocks<const N: usize>(
     }
 }
 
-/// For the rows of a block, whether their numbers are in the relation to the constant.
+/// Returns for the rows of a block whether their numbers are in the relation to the constant.
 fn related_block<const N: usize>(
     slices: &[Bits],
     relation: Relation,
@@ -191,8 +192,9 @@ fn related_block<const N: usize>(
     }
 }
 
-/// For the rows of a block, whether their numbers are above the constant. A place that is 1 in it keeps what the places
-/// below say only where the slice is 1 too, and a place that is 0 says so wherever the slice is 1.
+/// Returns for the rows of a block whether their numbers are above the constant. It goes through the binary places from
+/// the least significant up. At a place that is 1 in the constant, a row stays above only if its slice is 1 too. At a
+/// place that is 0 in the constant, each row whose slice is 1 is above.
 fn above_block<const N: usize>(slices: &[Bits], constant: u64, at: usize) -> Simd<u64, N>
     requires blocks { (1 ≤ N) × (N ≤ 64) }
     requires few { length slices.now ≤ 63 }
@@ -211,7 +213,7 @@ fn above_block<const N: usize>(slices: &[Bits], constant: u64, at: usize) -> Sim
     above
 }
 
-/// For the rows of a block, whether their numbers are the constant.
+/// Returns for the rows of a block whether their numbers equal the constant.
 fn equal_block<const N: usize>(slices: &[Bits], constant: u64, at: usize) -> Simd<u64, N>
     requires blocks { (1 ≤ N) × (N ≤ 64) }
     requires few { length slices.now ≤ 63 }
@@ -230,14 +232,15 @@ fn equal_block<const N: usize>(slices: &[Bits], constant: u64, at: usize) -> Sim
     found
 }
 
-/// What the places up to one more say, by the slice of that place and whether it is 1 in the constant.
+/// Returns which rows are above the constant once one more binary place is taken in: `lanes` is the slice of that
+/// place, and `is_one` tells whether the place is 1 in the constant.
 fn stepped<const N: usize>(above: Simd<u64, N>, lanes: Simd<u64, N>, is_one: bool) -> Simd<u64, N>
     ensures { result ≡ (if is_one then zip2 bit_and above.entry lanes.entry else zip2 bit_or above.entry lanes.entry) }
 {
     if is_one { above & lanes } else { above | lanes }
 }
 
-/// Keeps the bits that are set in `found` or, if it is negated, those that are not.
+/// Keeps the bits that are set in `found` or, if negated, those that are not.
 pub(super) fn cut<const N: usize>(
     kept: Simd<u64, N>,
     found: Simd<u64, N>,
@@ -248,7 +251,7 @@ pub(super) fn cut<const N: usize>(
     if negated { kept & !found } else { kept & found }
 }
 
-/// The words of a slice, of which there are at most 2^26.
+/// Returns the words of the slice of a place, at most 2^26 of them.
 fn words_at(slices: &[Bits], place: usize) -> &[u64]
     requires { place < length slices.now }
     ensures few { length result.now ≡ (length (slice_at slices.now place) + 63) / 64 }

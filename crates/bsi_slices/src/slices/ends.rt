@@ -1,8 +1,8 @@
 //! The least and the greatest number of a found set in one pass over the column, block by block and from the most
 //! significant slice down.
 //!
-//! A block is left as soon as none of its rows can come before the number that was found so far, which most blocks show
-//! at their first slices.
+//! The search leaves a block as soon as none of its rows can come before the best number found so far. Most blocks show
+//! this at their first slices.
 
 ghost use Rattle.std.specs.Prelude.{◌≡◌, ℕ, ◌+◌, ◌*◌, ◌-◌, ◌/◌, ◌^◌, ◌<◌, ◌≤◌, ◌==◌, ◌&&◌, Some, None, false, if◌then◌else◌, length, slice_index, slice_index_or, IsTrue, IsFalse};
 ghost use Rattle.bsi_bits.specs.Packed.{bit_of};
@@ -16,7 +16,7 @@ use crate::slices::totals::is_empty;
 use bsi_bits::{Bits, know_fits};
 use std::simd::Simd;
 
-/// The words of a block, which is kept in half of a processor's 16 registers of two words.
+/// The number of words in a block. A block of this length fills half of a processor's 16 registers of two words.
 const BLOCK: usize = 16;
 
 /// An end of some numbers in order.
@@ -29,8 +29,9 @@ pub enum End {
 }
 
 impl End {
-    /// Whether the best number so far comes first of all numbers whose places from the given weight on make `number`, or
-    /// one behind it.
+    /// Returns true only if the best number so far comes before or equals every number whose quotient by `weight` is
+    /// `number` or comes behind `number`. If it returns false at weight 1, `number` comes before or equals the best
+    /// number so far.
     pub fn leads_all(self, best: Option<u64>, number: u64, weight: u64) -> bool
         requires small { number * weight + weight ≤ 2 ^ 63 }
         requires some { 1 ≤ weight }
@@ -46,7 +47,7 @@ impl End {
 }
 
 impl Slices {
-    /// The number at an end of those at the rows of a found set, none where there is none.
+    /// Returns the number at an end of those at the rows of a found set, or none if there is no number.
     pub(crate) fn end_found(&self, found: &Bits, end: End) -> Option<u64>
         requires { length self.now.entries ≡ length found.now.bits }
         ensures { IsEndOf end (numbers_at found.now.bits self.now.entries) result }
@@ -56,7 +57,8 @@ impl Slices {
         self.end_upto::<1>(found, end, whole, best)
     }
 
-    /// The number at an end of the rows before a word and of those from there on, as far as blocks of `N` words go.
+    /// Returns the number at an end of the found rows, given the number `before` at that end of the rows before word
+    /// `from`. It takes in the words from there on, as far as whole blocks of `N` words go.
     fn end_upto<const N: usize>(
         &self,
         found: &Bits,
@@ -80,7 +82,8 @@ impl Slices {
         best
     }
 
-    /// The number at an end of some rows of a block, none where none of them comes before the best one so far.
+    /// Returns the number at an end of some rows of a block, or none if none of them comes before the best number so
+    /// far.
     fn better_in_block<const N: usize>(
         &self,
         rows: Simd<u64, N>,
@@ -113,7 +116,7 @@ impl Slices {
     }
 }
 
-/// Whether a row of a block is set.
+/// Returns whether a row of a block is set.
 fn has_row<const N: usize>(block: Simd<u64, N>) -> bool
     ensures some { IsTrue result → HasMarked (bit_of block.entry) (64 * N) }
     ensures none { IsFalse result → (p : ℕ) → bit_of block.entry p ≡ false }
@@ -123,7 +126,7 @@ fn has_row<const N: usize>(block: Simd<u64, N>) -> bool
     !is_empty(words)
 }
 
-/// Whether the least number is asked for, whose first places are clear.
+/// Returns whether the end is the least one, where a clear binary place comes first.
 fn is_least(end: End) -> bool
     ensures { result ≡ first_is_clear end }
 {
@@ -133,7 +136,8 @@ fn is_least(end: End) -> bool
     }
 }
 
-/// The binary place that is nearest to an end in some rows, by whether one of them has the place that comes first there.
+/// Returns the binary place that is nearest to an end among some rows. `is_met` tells whether one of them has the place
+/// that comes first at that end.
 fn place_of(end: End, is_met: bool) -> u64
     ensures { result ≡ nearest_place end is_met }
 {
@@ -143,14 +147,14 @@ fn place_of(end: End, is_met: bool) -> u64
     }
 }
 
-/// The first block or the second, as wanted.
+/// Returns the first block if it is wanted, and the second block otherwise.
 fn either<const N: usize>(wanted: bool, first: Simd<u64, N>, second: Simd<u64, N>) -> Simd<u64, N>
     ensures { result ≡ (if wanted then first.entry else second.entry) }
 {
     if wanted { first } else { second }
 }
 
-/// A block of the words of a vector.
+/// Returns a block of the words of a vector, from word `at` on.
 fn block_at<const N: usize>(bits: &Bits, at: usize) -> Simd<u64, N>
     requires { at + N ≤ (length bits.now.bits + 63) / 64 }
     ensures long { length result ≡ N }

@@ -1,5 +1,5 @@
-//! The totals of a found set: the sum by one count a slice, and the number of a rank by narrowing the found set from the most
-//! significant slice down.
+//! The totals of a found set: the sum, with one count per slice, and the number of a rank, by narrowing the found set
+//! from the most significant slice down.
 
 ghost use Rattle.std.specs.Prelude.{◌≡◌, ℕ, ◌+◌, ◌*◌, ◌^◌, ◌≤◌, ◌<◌, ◌&&◌, false, if◌then◌else◌, length, not, slice_index, sum, sum_by, count_by, count_ones, IfOk, IsTrue, ◌↔◌};
 ghost use Rattle.std.specs.Simd.Lanes.{zip2};
@@ -12,12 +12,12 @@ use crate::slices::Slices;
 use crate::{Column, NoMemory};
 use bsi_bits::{Bits, know_fits, lanes};
 
-/// The words of a block. It is small, since narrowing leaves more and more blocks with no row.
+/// The number of words in a block. It is small, since narrowing leaves more and more blocks with no row.
 const BLOCK: usize = 32;
 
 impl Slices {
-    /// The sum of the numbers at the rows of a found set: how many found rows have each binary place set, times two to the
-    /// power of the place (O'Neil and Quass, 1997).
+    /// Returns the sum of the numbers at the rows of a found set: for each binary place, the number of found rows that
+    /// have it set, times two to the power of the place (O'Neil and Quass, 1997).
     pub(crate) fn sum_found(&self, found: &Bits) -> u128
         requires { length self.now.entries ≡ length found.now.bits }
         ensures sum { result ≡ sum (numbers_at found.now.bits self.now.entries) }
@@ -34,8 +34,8 @@ impl Slices {
         total
     }
 
-    /// The number of rank `k` at the rows of a found set. Each step cuts the rows that are left by the slice of the step before,
-    /// the first one by the not-null bitmap, and counts in its own.
+    /// Returns the number of rank `k` at the rows of a found set. Each step narrows the rows that are left by the slice
+    /// of the step before (the first step narrows by the not-null bitmap), and counts in its own slice.
     pub(crate) fn number_of_rank(&self, found: &Bits, k: u64) -> Result<u64, NoMemory>
         requires same { length self.now.entries ≡ length found.now.bits }
         requires there { k < length (numbers_at found.now.bits self.now.entries) }
@@ -61,14 +61,15 @@ impl Slices {
     }
 }
 
-/// A binary place of the row of a rank, and the rank among the rows that have it.
+/// A binary place of the row of a rank, and the rank among the rows that have that place.
 #[derive(Clone, Copy)]
 struct Choice {
     is_set: bool,
     rank: u64,
 }
 
-/// The binary place of the row of the rank, counted from 0 among rows of which so many are clear there and come first.
+/// Chooses the binary place of the row of a rank. The rank counts from 0 among rows of which `clear` have the place
+/// clear, and these come first.
 fn choose(rank: u64, clear: u64) -> Choice
     ensures rank { rank ≡ (if result.is_set then clear else 0) + result.rank }
     ensures clear { result.is_set ≡ false → result.rank < clear }
@@ -86,8 +87,8 @@ fn choose(rank: u64, clear: u64) -> Choice
     }
 }
 
-/// Keeps of the chosen rows those that are set in a slice or, as wanted, those that are clear there, and counts those of
-/// them that are clear in the next slice.
+/// Keeps those of the chosen rows that are set in a slice or, as wanted, those that are clear there. Returns how many
+/// of them are clear in the next slice.
 fn narrow(chosen: &mut [u64], slice: &Bits, is_set: bool, next: &Bits) -> u64
     requires packed { IsPacked (length slice.now.bits) chosen.old }
     requires same { length next.now.bits ≡ length slice.now.bits }
@@ -102,7 +103,7 @@ fn narrow(chosen: &mut [u64], slice: &Bits, is_set: bool, next: &Bits) -> u64
     narrow_words(chosen, words, is_set, others)
 }
 
-/// The same of words, block by block.
+/// Narrows words as `narrow` does, block by block.
 fn narrow_words(chosen: &mut [u64], words: &[u64], is_set: bool, next: &[u64]) -> u64
     requires few { length chosen.old ≤ 2 ^ 26 }
     requires same { length words.now ≡ length chosen.old }
@@ -125,7 +126,7 @@ fn narrow_words(chosen: &mut [u64], words: &[u64], is_set: bool, next: &[u64]) -
     clear
 }
 
-/// The same of the words of a block, of which nothing else is read where no row of them is chosen any more.
+/// Narrows the words of a block as `narrow` does. If no row of them is chosen any more, it reads nothing else.
 fn narrow_block(chosen: &mut [u64], words: &[u64], is_set: bool, next: &[u64]) -> u64
     requires few { length chosen.old ≤ BLOCK }
     requires same { length words.now ≡ length chosen.old }
@@ -145,7 +146,7 @@ fn narrow_block(chosen: &mut [u64], words: &[u64], is_set: bool, next: &[u64]) -
     lanes::count_and_not(chosen, next) as u64
 }
 
-/// Whether no bit of the words is set.
+/// Returns whether no bit of the words is set.
 pub(super) fn is_empty(words: &[u64]) -> bool
     ensures { IsTrue result ↔ ((k : ℕ) → slice_index words.now k ≡ 0) }
 {
