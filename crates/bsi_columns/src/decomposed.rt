@@ -46,7 +46,7 @@ impl<E: Encoding> Model for Decomposed<E> {
 }
 
 impl<E: Encoding> Decomposed<E> {
-    /// A column of no entries under these bases.
+    /// Makes a column of no entries under these bases.
     pub fn new(alloc: Global, bases: Bases) -> Result<Decomposed<E>, NoMemory>
         ensures { IfOk result (λ c. (c.bases ≡ bases) × (c.entries ≡ [])) }
     {
@@ -59,7 +59,7 @@ impl<E: Encoding> Decomposed<E> {
         })
     }
 
-    /// The bases, of which component `i` has the one at place `i`. Each number is below their product.
+    /// Returns the bases. Component `i` has the one at place `i`, and each number is below their product.
     pub fn bases(&self) -> &Bases
         ensures bases { result.now ≡ self.now.bases }
         ensures below { All (λ e. number_or_zero e < size_of self.now.bases) self.now.entries }
@@ -67,7 +67,7 @@ impl<E: Encoding> Decomposed<E> {
         &self.bases
     }
 
-    /// The component of the digits at place `i`, least significant first. A null row's digit is 0.
+    /// Returns the component of the digits at place `i`, least significant first. The digit of a null row is 0.
     pub fn component(&self, i: u32) -> &E
         requires { i < length self.now.bases }
         ensures digits { E.digits result.now ≡ map (λ e. digit_of self.now.bases (number_or_zero e) i) self.now.entries }
@@ -173,7 +173,7 @@ impl<E: Encoding> Column for Decomposed<E> {
     }
 }
 
-/// An empty component of each base.
+/// Makes an empty component of each base.
 fn make_each<E: Encoding>(alloc: Global, bases: &Bases) -> Result<Vec<E>, NoMemory>
     ensures digits { IfOk result (λ cs. map E.digits cs.items ≡ replicate (length bases.now) []) }
     ensures bases { IfOk result (λ cs. map E.base_of cs.items ≡ bases.now) }
@@ -185,7 +185,7 @@ fn make_each<E: Encoding>(alloc: Global, bases: &Bases) -> Result<Vec<E>, NoMemo
     Ok(components)
 }
 
-/// A second component for each.
+/// Copies each component.
 fn copy_each<E: Encoding>(components: &Vec<E>) -> Result<Vec<E>, NoMemory>
     ensures digits { IfOk result (λ cs. map E.digits cs.items ≡ map E.digits components.now.items) }
     ensures bases { IfOk result (λ cs. map E.base_of cs.items ≡ map E.base_of components.now.items) }

@@ -41,18 +41,18 @@ pub trait Encoding: Drop {
     /// How many more digits can be appended with no memory.
     ghost room_of: { Self → ℕ };
 
-    /// An empty component of a base from 2 to 1,024.
+    /// Makes an empty component of a base from 2 to 1,024.
     fn make(alloc: Global, base: u32) -> Result<Self, NoMemory>
         requires { (2 ≤ base) × (base ≤ 1024) }
         ensures { IfOk result (λ c. (digits c ≡ []) × (base_of c ≡ base)) };
 
-    /// The base, from 2 to 1,024.
+    /// Returns the base, from 2 to 1,024.
     fn base(&self) -> u32
         ensures base { result ≡ base_of self.now }
         ensures within { (2 ≤ result) × (result ≤ 1024) }
         ensures below { (k : ℕ) → slice_index (digits self.now) k < base_of self.now };
 
-    /// The number of rows, at most 2^32.
+    /// Returns the number of rows, at most 2^32.
     fn len(&self) -> u64
         ensures len { result ≡ length (digits self.now) }
         ensures within { result ≤ 2 ^ 32 };
@@ -129,13 +129,13 @@ pub trait Encoding: Drop {
         ensures bits { out.new.bits ≡ map (λ v. nat_le v d) (digits self.now) }
         ensures room { out.new.room ≡ out.old.room };
 
-    /// The sum of the digits of the rows of a found set.
+    /// Returns the sum of the digits of the rows of a found set.
     fn digit_sum(&self, found: &Bits) -> u128
         requires { length (digits self.now) ≡ length found.now.bits }
         ensures { result ≡ sum (items_where_true found.now.bits (digits self.now)) };
 
-    /// How many rows of a found set have a digit of at most `d`. What `scratch`, a vector of as many bits, is left with is
-    /// left open.
+    /// Returns how many rows of a found set have a digit of at most `d`. What `scratch`, a vector of as many bits, holds afterwards
+    /// is left open.
     fn count_le(&self, d: u32, found: &Bits, scratch: &mut Bits) -> u64
         requires below { d < base_of self.now }
         requires same { length (digits self.now) ≡ length found.now.bits }
@@ -147,7 +147,7 @@ pub trait Encoding: Drop {
         found.count_and(scratch)
     }
 
-    /// The digit of the row of rank `rank`, from 0, among the rows of a found set in order of their digits, and the rank of
+    /// Returns the digit of the row of rank `rank`, from 0, among the rows of a found set in order of their digits, and the rank of
     /// that row among those of its digit. What `scratch`, a vector of as many bits, is left with is left open. The provided
     /// body halves the digits in question by one `count_le` each.
     fn digit_of_rank(&self, rank: u64, found: &Bits, scratch: &mut Bits) -> RankedDigit
@@ -189,7 +189,7 @@ pub trait Encoding: Drop {
         rows.and_with(scratch);
     }
 
-    /// A second component of the same digits.
+    /// Returns a second component of the same digits.
     fn copy(&self) -> Result<Self, NoMemory>
         ensures { IfOk result (λ c. (digits c ≡ digits self.now) × (base_of c ≡ base_of self.now)) };
 

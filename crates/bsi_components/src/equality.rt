@@ -35,7 +35,7 @@ impl Model for EqualityComponent {
     ghost invariant = { λ c. IsEquality c.base c.bitmaps.vectors (equality_digits c.base c.bitmaps.vectors) };
 }
 
-/// The first digit that has a bitmap.
+/// Returns the first digit that has a bitmap.
 fn first_stored(base: u32) -> u32
     ensures { result ≡ first_digit base }
 {
@@ -80,7 +80,7 @@ fn push_block(bitmaps: &mut Bitmaps, first: u32, base: u32, block: &[u32])
 }
 
 impl EqualityComponent {
-    /// The bitmap of the rows whose digit is `j`, as it is stored. Under base 2 there is that of digit 1 alone.
+    /// Returns the bitmap of the rows whose digit is `j`, as it is stored. Base 2 stores that of digit 1 alone.
     pub fn bitmap(&self, j: u32) -> &Bits
         requires below { j < self.now.base }
         requires stored { self.now.base ≡ 2 → j ≡ 1 }
@@ -103,7 +103,7 @@ impl EqualityComponent {
         }
     }
 
-    /// How many rows of a found set have a digit of `d`.
+    /// Returns how many rows of a found set have a digit of `d`.
     fn count_eq(&self, d: u32, found: &Bits) -> u64
         requires below { d < self.now.base }
         requires same { length self.now.digits ≡ length found.now.bits }
@@ -116,7 +116,7 @@ impl EqualityComponent {
         }
     }
 
-    /// How many rows of a found set have a digit from `from` on and below `to`.
+    /// Returns how many rows of a found set have a digit from `from` on and below `to`.
     fn count_among(&self, from: u32, to: u32, found: &Bits) -> u64
         requires within { (from ≤ to) × (to ≤ self.now.base) }
         requires same { length self.now.digits ≡ length found.now.bits }
@@ -130,7 +130,7 @@ impl EqualityComponent {
         rows
     }
 
-    /// Whether a row of a block has the digit `d`.
+    /// Returns whether a row of a block has the digit `d`.
     fn has_digit(&self, d: u32, at: usize, block: &[u64]) -> bool
         requires below { d < self.now.base }
         requires within { at + length block.now ≤ (length self.now.digits + 63) / 64 }

@@ -73,7 +73,7 @@ fn push_block(bitmaps: &mut Bitmaps, base: u32, block: &[u32])
 }
 
 impl RangeComponent {
-    /// The bitmap of the rows whose digit is at most `j`, as it is stored.
+    /// Returns the bitmap of the rows whose digit is at most `j`, as it is stored.
     pub fn bitmap(&self, j: u32) -> &Bits
         requires { j + 1 < self.now.base }
         ensures { result.now.bits ≡ map (λ v. nat_le v j) self.now.digits }
@@ -81,7 +81,7 @@ impl RangeComponent {
         &self.bitmaps.as_slice()[j as usize]
     }
 
-    /// Whether a row of a block has a digit of at most `d`.
+    /// Returns whether a row of a block has a digit of at most `d`.
     fn has_upto(&self, d: u32, at: usize, block: &[u64]) -> bool
         requires below { d + 1 < self.now.base }
         requires within { at + length block.now ≤ (length self.now.digits + 63) / 64 }
@@ -92,7 +92,7 @@ impl RangeComponent {
         meets(self.bitmap(d), at, block)
     }
 
-    /// Whether a row of a block has a digit above `d`.
+    /// Returns whether a row of a block has a digit above `d`.
     fn has_above(&self, d: u32, at: usize, block: &[u64]) -> bool
         requires below { d + 1 < self.now.base }
         requires within { at + length block.now ≤ (length self.now.digits + 63) / 64 }
@@ -103,7 +103,7 @@ impl RangeComponent {
         exceeds(self.bitmap(d), at, block)
     }
 
-    /// The greatest digit.
+    /// Returns the greatest digit.
     fn top(&self) -> u32
         ensures base { result + 1 ≡ self.now.base }
         ensures within { (1 ≤ result) × (result ≤ 1023) }

@@ -79,7 +79,7 @@ fn decide(op: Op, constant: u64, size: u64) -> Decision
     }
 }
 
-/// The numbers that pass a test or, where those are wanted, the numbers that fail it.
+/// Returns the decision for the numbers that pass a test or, if they are not wanted, for those that fail it.
 fn tested(relation: Relation, constant: u64, wanted: bool) -> Decision
     ensures { result ≡ Tested (record { relation = relation; constant = constant; wanted = wanted }) }
 {
@@ -91,7 +91,8 @@ fn tested(relation: Relation, constant: u64, wanted: bool) -> Decision
 }
 
 impl<E: Encoding> Decomposed<E> {
-    /// The rows whose number compares so with `constant`. No component is read where the answer is known.
+    /// Returns the rows whose number satisfies the comparison `op` with `constant`. It reads no component if the answer is known
+    /// beforehand.
     pub(crate) fn selected(&self, op: Op, constant: u64) -> Result<Bits, NoMemory>
         ensures { IfOk result (λ b. b.bits ≡ map (selects op constant) self.now.entries) }
     {
@@ -133,7 +134,7 @@ impl<E: Encoding> Decomposed<E> {
         }
     }
 
-    /// Keeps in such a block the rows whose number passes a test with a constant that is below the size.
+    /// Keeps in a block the rows whose number passes a test with a constant that is below the size.
     fn keep_tested(&self, test: Test, at: usize, block: &mut [u64]) -> Result<(), NoMemory>
         requires below { test.constant < size_of self.now.bases }
         requires few { length block.old ≤ 1024 }
@@ -152,7 +153,7 @@ impl<E: Encoding> Decomposed<E> {
         Ok(())
     }
 
-    /// The rows whose number passes a test with a constant that is below the size.
+    /// Returns the rows whose number passes a test with a constant that is below the size.
     fn select(&self, test: Test) -> Result<Bits, NoMemory>
         requires { test.constant < size_of self.now.bases }
         ensures { IfOk result (λ b. b.bits ≡ map (answers (λ x. holds test.relation x test.constant) test.wanted) self.now.entries) }
@@ -166,7 +167,7 @@ impl<E: Encoding> Decomposed<E> {
         }
     }
 
-    /// The words of those rows; `None` where a component works on whole vectors alone.
+    /// Returns the words of those rows, or `None` if a component works on whole vectors alone.
     fn select_words(&self, test: Test) -> Result<Option<Vec<u64>>, NoMemory>
         requires { test.constant < size_of self.now.bases }
         ensures few { IfOk result (λ o. IfSome o (λ words. length words.items ≡ (length self.now.entries + 63) / 64)) }
