@@ -112,6 +112,10 @@ pub same_answers : (test other : ℕ → Bool) (wanted too : Bool) (n : ℕ) →
 same_answers test other wanted too n same es all =
     map_alike (answers test wanted) (answers other too) (λ e. number_or_zero e < n) (same_answer test other wanted too n same) es all
 
+pub and_assoc : (a b c : Bool) → ((a && b) && c) ≡ (a && (b && c))
+and_assoc true b c = refl
+and_assoc false b c = refl
+
 pub and_false : (b : Bool) → (b && false) ≡ false
 and_false b = grind (arith, nat_tests)
 

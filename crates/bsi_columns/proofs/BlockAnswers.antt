@@ -1,16 +1,20 @@
 -- What the bits of a block of words say of the rows that it stands for.
-use Rattle.std.proofs.Common.{◌≡◌, ℕ, ◌+◌, ◌-◌, ◌*◌, ◌/◌, ◌%◌, ◌<◌, Bool, true, false, List, ◌++◌, length, get_or, map, refl, sym, ap, ap₂, ◌∙◌, inl, inr, arith}
-use Rattle.std.specs.Prelude.{Option, None, not, is_some, ◌&&◌, ◌||◌, ◌==◌, nat_eq, All}
-use Rattle.std.specs.Int.{bit_at}
+use Rattle.std.proofs.Common.{◌≡◌, ℕ, ◌+◌, ◌-◌, ◌*◌, ◌/◌, ◌%◌, ◌^◌, ◌<◌, Bool, true, false, List, ◌++◌, length, get_or, map, refl, sym, ap, ap₂, ◌∙◌, inl, inr, arith}
+use Rattle.std.specs.Prelude.{Option, None, not, is_some, ◌&&◌, ◌||◌, ◌==◌, nat_eq, bit_and, All}
+use Rattle.std.specs.Int.{bit_at, bit_not, w64}
+use Rattle.std.specs.Simd.Lanes.{zip2}
 use Rattle.std.proofs.lemmas.List.{length-map, get_or-map, get_or_append_left, get_or-append_right, length-append}
 use Rattle.std.proofs.lemmas.Bool.{cases_lt}
 use Rattle.std.proofs.lemmas.Bool.Decides.{nat_tests}
+use Rattle.bsi_bits.specs.BitList.{without}
 use Rattle.bsi_bits.specs.Packed.{bit_of}
+use Rattle.bsi_bits.proofs.Logic.{and_not_bitwise}
 use Rattle.bsi_digits.specs.Digits.{size_of, weight, digit_of, IsBaseList}
 use Rattle.bsi_digits.proofs.CallerLemmas.{low_all}
 use Rattle.bsi_columns.specs.declared.decomposed.compare.Relation.{Relation}
 use Rattle.bsi_columns.specs.Rows.{number_or_zero}
 use Rattle.bsi_columns.specs.Tests.{holds, holds_from, as_wanted, answers}
+use Rattle.bsi_columns.proofs.WordBlocks.{zipped_bit}
 use Rattle.bsi_columns.proofs.Answering.{holds_more, nothing_below, cut_answer}
 
 -- each bit says whether the digits below component i pass the test; below the first there are none, whatever the bits are
@@ -89,3 +93,8 @@ answer_turned false bit found failing turned = turned
 pub answer_kept : (wanted bit found : Bool) → not wanted ≡ false → bit ≡ found → bit ≡ as_wanted wanted found
 answer_kept true bit found passing kept = kept
 answer_kept false bit found passing kept = cc
+
+-- the rows of a block that are not in another
+pub and_not_bit : (xs ys : List ℕ) → length xs ≡ length ys → ((k : ℕ) → get_or ys k 0 < 2 ^ 64) → (p : ℕ) → p < 64 * length xs
+    → bit_of (zip2 (λ x y. bit_and x (bit_not w64 y)) xs ys) p ≡ (bit_of xs p && not (bit_of ys p))
+and_not_bit xs ys same fit = zipped_bit (λ y. y < 2 ^ 64) (λ x y. bit_and x (bit_not w64 y)) without and_not_bitwise xs ys same fit

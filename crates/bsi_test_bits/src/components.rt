@@ -303,6 +303,8 @@ fn word_before(at: usize) -> u64 {
 enum Step {
     Eq,
     Le,
+    /// What is at most a digit, whatever the block said before.
+    Lowest,
 }
 
 impl Step {
@@ -311,6 +313,7 @@ impl Step {
         match self {
             Step::Eq => before && digit == d,
             Step::Le => digit < d || digit == d && before,
+            Step::Lowest => digit <= d,
         }
     }
 
@@ -323,6 +326,7 @@ impl Step {
         match self {
             Step::Eq => component.eq_block(d, at, block),
             Step::Le => component.le_block(d, at, block),
+            Step::Lowest => component.le_block_into(d, at, block),
         }
     }
 }
@@ -374,6 +378,7 @@ fn all_steps<E: Encoding>(rt: &impl Abort, component: &E) {
         steps(rt, component, Step::Le, d, 3);
         steps(rt, component, Step::Eq, d, 3);
         steps(rt, component, Step::Le, d, 1);
+        steps(rt, component, Step::Lowest, d, 2);
     }
 }
 

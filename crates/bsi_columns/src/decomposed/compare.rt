@@ -10,12 +10,12 @@ ghost use Rattle.std.specs.Simd.Lanes.{zip2};
 ghost use Rattle.bsi_bits.specs.Packed.{bit_of};
 ghost use Rattle.bsi_digits.specs.Digits.{size_of};
 ghost use Rattle.bsi_columns.specs.Rows.{compares, number_or_zero, selects};
-ghost use Rattle.bsi_columns.specs.Tests.{answers, decides, holds, holds_from, IsBelowSize};
+ghost use Rattle.bsi_columns.specs.Tests.{answers, as_wanted, decides, holds, holds_from, IsBelowSize};
 ghost use Rattle.bsi_columns.specs.declared.decomposed.compare.Decision.TheVariants.{Tested};
 
 use crate::decomposed::Decomposed;
 use crate::{Encoding, NoMemory, Op};
-use bsi_bits::{Bits, lanes};
+use bsi_bits::{Bits, know_fits, lanes};
 use bsi_components::blocks::{keep_in, turn};
 
 /// The words of a block, which stays in the first cache while each component narrows it.
@@ -145,8 +145,9 @@ impl<E: Encoding> Decomposed<E> {
     {
         let mut buffer = [0; SHORT_BLOCK];
         let found = &mut buffer[..block.len()];
-        if self.select_block(test, at, found) {
-            lanes::and(block, found);
+        if self.find_block(test, at, found) {
+            keep_wanted(found, test.wanted, block);
+            self.present.keep_in(at, block);
         } else {
             keep_in(&self.select(test)?, at, block);
         }
@@ -242,6 +243,20 @@ impl<E: Encoding> Decomposed<E> {
             }
         }
         true
+    }
+}
+
+/// Keeps in a block the rows that are in `found` or, if those are not wanted, the rows that are not.
+fn keep_wanted(found: &[u64], wanted: bool, block: &mut [u64])
+    requires { length found.now ≡ length block.old }
+    ensures len { length block.new ≡ length block.old }
+    ensures bits { (p : ℕ) → p < 64 * length block.old → bit_of block.new p ≡ (bit_of block.old p && as_wanted wanted (bit_of found.now p)) }
+{
+    if wanted {
+        lanes::and(block, found);
+    } else {
+        know_fits(found);
+        lanes::and_not(block, found);
     }
 }
 

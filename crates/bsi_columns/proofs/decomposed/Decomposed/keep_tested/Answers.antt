@@ -1,19 +1,33 @@
-use Rattle.std.proofs.Common.{◌≡◌, ℕ, ◌+◌, ◌*◌, ◌&&◌, false, length, replicate, sym, ap, ◌∙◌, arith}
-use Rattle.std.specs.Prelude.{None}
-use Rattle.std.proofs.lemmas.List.{get_or-map, length-take}
+use Rattle.std.proofs.Common.{◌≡◌, ℕ, ◌+◌, ◌*◌, ◌&&◌, false, length, get_or, map, replicate, ap, ap₂, ◌∙◌, arith}
+use Rattle.std.specs.Prelude.{None, is_some}
+use Rattle.std.proofs.lemmas.List.{get_or-map, length-map, length-take}
 use Rattle.bsi_bits.specs.Packed.{bit_of}
-use Rattle.bsi_columns.specs.Tests.{answers, holds}
-use Rattle.bsi_columns.proofs.WordBlocks.{and_bit}
+use Rattle.bsi_columns.specs.Rows.{number_or_zero}
+use Rattle.bsi_columns.specs.Tests.{answers, as_wanted, holds}
+use Rattle.bsi_columns.specs.Decomposed.{entries_of}
+use Rattle.bsi_columns.proofs.Answering.{and_assoc, cut_answer}
 use Rattle.bsi_columns.proofs.decomposed.Decomposed.keep_tested.Goals as goal
 
 -- the rows of the block that pass, found in words of their own
-pub returns-then-select_block-clause-rows : goal.returns-then-select_block-clause-rows
-returns-then-select_block-clause-rows g c = λ p below row.
+pub returns-then-find_block-clause-rows : goal.returns-then-find_block-clause-rows
+returns-then-find_block-clause-rows g c =
+    let inside = c.self.inside in
+    let present = inside.present.bits in
+    let entries = entries_of inside.bases present (map g.E.Encoding.digits inside.components.items) in
+    let block = c.args.block.now in
+    let test = λ (x : ℕ). holds c.args.test.relation x c.args.test.constant in
+    let wanted = c.args.test.wanted in
+    let size : length c.find_block.new.block ≡ length block =
+    omega (arith, c.find_block.auto.block, c.requires.few, length-take {A = ℕ} (length block) (replicate 1024 0)) in
+    let rows : length present ≡ length entries = ap length c.self.invariant.0.present_is ∙ length-map entries is_some in
+    let found = rw (← c.self.view_is) at c.if-find_block.ensures in
+    rw (← c.self.view_is)
+    (λ p below row.
     let r = 64 * c.args.at + p in
-    let entries = c.args.self.now.entries in
-    let size : length c.select_block.new.block ≡ length c.args.block.now =
-    omega (arith, c.select_block.auto.block, c.requires.few, length-take {A = ℕ} (length c.args.block.now) (replicate 1024 0)) in
-    ap (λ ws. bit_of ws p) c.and.ensures ∙ and_bit c.args.block.now c.select_block.new.block (sym size) p below
-    ∙ ap (◌&&◌ (bit_of c.args.block.now p))
-    (c.if-select_block.ensures p (omega (arith, size, below)) row
-    ∙ get_or-map (answers (λ x. holds c.args.test.relation x c.args.test.constant) c.args.test.wanted) entries r None false row)
+    let was = bit_of block p in
+    let entry = get_or entries r None in
+    c.keep_in.ensures.bits p (omega (arith, c.keep_wanted.auto.block, below)) (omega (arith, rows, row))
+    ∙ ap₂ ◌&&◌ (c.keep_wanted.ensures.bits p below) (ap (λ bits. get_or bits r false) c.self.invariant.0.present_is ∙ get_or-map is_some entries r None false row)
+    ∙ ap (λ b. (was && as_wanted wanted b) && is_some entry) (found p (omega (arith, size, below)) row)
+    ∙ and_assoc was (as_wanted wanted (test (number_or_zero entry))) (is_some entry)
+    ∙ ap (◌&&◌ was) (cut_answer test wanted entry))
