@@ -1,4 +1,5 @@
 pub mod CallerLemmas
+pub mod Counting
 pub mod Fitting
 pub mod Keeping
 pub mod Marking

@@ -11,9 +11,9 @@ ghost use Rattle.bsi_table.specs.Table.{kept_at, no_rows, with_row, with_rows, A
 
 use crate::columns::{copy_each, make_each, push_block_each, push_each, reserve_each};
 use crate::origins::Origins;
-use crate::select::select;
+use crate::select::{count_selected, select};
 use crate::totals::answer;
-use crate::{Answer, AppendError, AskError, IndexError, NoMemory, Query, Row, Schema};
+use crate::{Answer, AppendError, AskError, IndexError, NoMemory, Query, Row, Schema, Total};
 use bsi_shift::Shifted;
 use std::alloc::Global;
 use std::marker::Model;
@@ -143,14 +143,19 @@ impl Index {
         }
     }
 
-    /// Answers a query of which no column is missing.
+    /// Answers a query of which no column is missing. A count keeps no bit for each row.
     fn answer(&self, query: &Query) -> Result<Answer, NoMemory>
         requires { missing_column (length self.now.schema.columns) query.now ≡ None }
         ensures { IfOk result (IsAnswer query.now self.now.rows) }
     {
         let alloc = *self.origins.allocator();
-        let found = select(alloc, &self.columns, self.len(), &query.pred)?;
-        answer(alloc, &self.columns, &self.origins, &found, query)
+        let columns: &[Shifted] = &self.columns;
+        let rows = self.len();
+        if let Total::Count = query.total {
+            return Ok(Answer::Count(count_selected(alloc, columns, rows, &query.pred)?));
+        }
+        let found = select(alloc, columns, rows, &query.pred)?;
+        answer(alloc, columns, &self.origins, &found, query)
     }
 
     /// Lends column `c`: the entries of all rows there, in the form and with the offset that the schema gives.

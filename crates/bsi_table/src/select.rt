@@ -1,12 +1,12 @@
 //! The rows that a predicate selects, one block of rows after another.
 
-ghost use Rattle.std.specs.Prelude.{◌≡◌, ℕ, ◌+◌, ◌-◌, ◌/◌, ◌^◌, ◌≤◌, ◌++◌, None, bit_or, bit_xor, drop, false, length, map, take, IfOk, IsFalse, OnOk};
+ghost use Rattle.std.specs.Prelude.{◌≡◌, ℕ, ◌+◌, ◌-◌, ◌/◌, ◌^◌, ◌≤◌, ◌++◌, None, bit_or, bit_xor, count_by, drop, false, length, map, take, IfOk, IsFalse, OnOk};
 ghost use Rattle.bsi_bits.specs.Packed.{bit_of};
 ghost use Rattle.std.specs.Simd.Lanes.{zip2};
 ghost use Rattle.bsi_table.specs.Answers.{columns_of_pred, missing_of};
 ghost use Rattle.bsi_table.specs.Rows.{holds};
 ghost use Rattle.bsi_table.specs.Table.{rows_in, AreEven};
-ghost use Rattle.bsi_table.specs.Blocks.{AreNarrowed};
+ghost use Rattle.bsi_table.specs.Blocks.{AreFound, AreNarrowed};
 
 use crate::{NoMemory, Pred};
 use bsi_bits::{Bits, lanes};
@@ -15,6 +15,9 @@ use std::alloc::Global;
 
 /// The number of words in a block. They stay in the first cache while a predicate goes over them.
 const BLOCK: usize = 1024;
+
+/// The rows of a block.
+const BLOCK_ROWS: u64 = 65_536;
 
 /// Returns for each of `count` rows whether the predicate holds of it. Each column that it reads is there. It goes over
 /// the rows in blocks of 65,536, each by the whole predicate. It keeps one or two blocks for each `or` and `not` around
@@ -33,6 +36,33 @@ pub(crate) fn select(
     let mut words = Bits::filled(alloc, count, true)?.into_words();
     narrow_each(alloc, columns, count, pred, &mut words)?;
     Ok(Bits::from_words(words, count))
+}
+
+/// Returns how many of `count` rows the predicate selects. It reads columns that are there alone. It goes over the rows as `select`
+/// does, but keeps the words of one block in place of a bit for each row.
+pub(crate) fn count_selected(
+    alloc: Global,
+    columns: &[Shifted],
+    count: u64,
+    pred: &Pred,
+) -> Result<u64, NoMemory>
+    requires few { count ≤ 2 ^ 32 }
+    requires even { AreEven columns.now count }
+    requires there { missing_of (length columns.now) (columns_of_pred pred.now) ≡ None }
+    ensures { IfOk result (λ selected. selected ≡ count_by (λ b. b) (map (holds pred.now) (rows_in columns.now count))) }
+{
+    let mut spare = Vec::new(alloc);
+    let mut words = vec![in alloc; u64::MAX; BLOCK]?;
+    let mut selected = 0;
+    'blocks: for k in 0..count.div_ceil(BLOCK_ROWS) {
+        let rows = BLOCK_ROWS.min(count - BLOCK_ROWS * k);
+        words.truncate(rows.div_ceil(64) as usize);
+        find(columns, count, pred, BLOCK * k as usize, &mut words, &mut spare)?;
+        let found = Bits::from_words(words, rows);
+        selected += found.count();
+        words = found.into_words();
+    }
+    Ok(selected)
 }
 
 /// Keeps the rows of which the predicate holds, in words that stand for all rows.
@@ -57,6 +87,26 @@ fn narrow_each(
         narrow(columns, count, pred, at, block, &mut spare)?;
     }
     Ok(())
+}
+
+/// Writes in a block of words the rows of which the predicate holds, as `narrow` keeps them in a block of ones.
+fn find(
+    columns: &[Shifted],
+    count: u64,
+    pred: &Pred,
+    at: usize,
+    block: &mut [u64],
+    spare: &mut Vec<u64>,
+) -> Result<(), NoMemory>
+    requires few { length block.old ≤ 1024 }
+    requires within { at + length block.old ≤ (count + 63) / 64 }
+    requires even { AreEven columns.now count }
+    requires there { missing_of (length columns.now) (columns_of_pred pred.now) ≡ None }
+    ensures rows { OnOk result (AreFound columns.now count pred.now at block.new) }
+    ensures spare { OnOk result (spare.new.items ≡ spare.old.items) }
+{
+    block.fill(u64::MAX);
+    narrow(columns, count, pred, at, block, spare)
 }
 
 /// Keeps in a block of words the rows of which the predicate holds. The first word stands for the 64 rows from row `64

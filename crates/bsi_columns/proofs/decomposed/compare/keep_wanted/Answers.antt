@@ -1,4 +1,4 @@
-use Rattle.std.proofs.Common.{◌≡◌, ◌&&◌, length, sym, ap, ◌∙◌}
+use Rattle.std.proofs.Common.{◌&&◌, sym, ap, ◌∙◌}
 use Rattle.bsi_bits.specs.Packed.{bit_of}
 use Rattle.bsi_columns.specs.Tests.{as_wanted}
 use Rattle.bsi_columns.proofs.BlockAnswers.{and_not_bit}

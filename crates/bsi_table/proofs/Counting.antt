@@ -1,0 +1,63 @@
+-- How many of the first rows a predicate selects, from what the blocks of words say.
+use Rattle.std.proofs.Common.{◌≡◌, ℕ, zero, suc, ◌+◌, ◌<◌, cond, List, map, refl, sym, ap, ◌∙◌, arith}
+use Rattle.std.specs.Prelude.{count_by}
+use Rattle.std.specs.List.{range_with_len}
+use Rattle.std.proofs.lemmas.List.FromFn.{sum_by-map-range_with_len_more}
+use Rattle.bsi_bits.specs.Packed.{bit_of, bits_of}
+use Rattle.bsi_shift.specs.Shifted.{OffsetColumn}
+use Rattle.bsi_table.specs.declared.query.Pred.{Pred}
+use Rattle.bsi_table.specs.Rows.{holds}
+use Rattle.bsi_table.specs.Table.{row_in, rows_in}
+use Rattle.bsi_table.proofs.TableRows.{map_twice}
+
+-- how many of the first n rows it selects
+pub selected_before : List OffsetColumn → Pred → ℕ → ℕ
+selected_before kept pred n = count_by (λ b. b) (map (holds pred) (rows_in kept n))
+
+-- how many of the first n places of a block are set
+set_before : ℕ → List ℕ → ℕ
+set_before n block = count_by (λ b. b) (bits_of n block)
+
+set_before_more : (n : ℕ) (block : List ℕ) → set_before (n + 1) block ≡ set_before n block + cond (bit_of block n) 1 0
+unfolding set_before bits_of
+set_before_more n block = sum_by-map-range_with_len_more (λ b. cond b 1 0) (bit_of block) 0 n n (omega arith)
+
+selected_more : (kept : List OffsetColumn) (pred : Pred) (n : ℕ) → selected_before kept pred (n + 1) ≡ selected_before kept pred n + cond (holds pred (row_in kept n)) 1 0
+unfolding selected_before rows_in
+selected_more kept pred n =
+    ap (count_by (λ b. b)) (map_twice (holds pred) (row_in kept) (range_with_len 0 (n + 1)))
+    ∙ sum_by-map-range_with_len_more (λ b. cond b 1 0) (λ r. holds pred (row_in kept r)) 0 n n (omega arith)
+    ∙ ap (λ rows. count_by (λ b. b) rows + cond (holds pred (row_in kept n)) 1 0) (sym (map_twice (holds pred) (row_in kept) (range_with_len 0 n)))
+
+none_set : (block : List ℕ) → set_before 0 block ≡ 0
+unfolding set_before bits_of
+none_set block = refl
+
+-- a block of m rows, behind the first n
+pub counted_more : (kept : List OffsetColumn) (pred : Pred) (n m : ℕ) (block : List ℕ)
+    → ((p : ℕ) → p < m → bit_of block p ≡ holds pred (row_in kept (n + p)))
+    → selected_before kept pred n + count_by (λ b. b) (bits_of m block) ≡ selected_before kept pred (n + m)
+unfolding set_before
+counted_more kept pred n zero block each =
+    let next : n ≡ n + zero = omega arith in
+    let same = ap (selected_before kept pred) next in
+    omega (arith, none_set block, same)
+counted_more kept pred n (suc m) block each =
+    let one : m + 1 ≡ suc m = omega arith in
+    let next : n + m + 1 ≡ n + suc m = omega arith in
+    let before = counted_more kept pred n m block (λ p below. each p (omega (arith, below))) in
+    let here = set_before_more m block in
+    let bit = ap {B = ℕ} (λ b. cond b 1 0) (each m (omega arith)) in
+    let row = selected_more kept pred (n + m) in
+    let block_is = ap (λ j. count_by (λ b. b) (bits_of j block)) one in
+    let rows_are = ap (selected_before kept pred) next in
+    omega (arith, before, here, bit, row, block_is, rows_are)
+
+pub none_selected : (kept : List OffsetColumn) (pred : Pred) → selected_before kept pred 0 ≡ 0
+unfolding selected_before rows_in
+none_selected kept pred = refl
+
+pub all_selected : (kept : List OffsetColumn) (pred : Pred) (n to count : ℕ) → n ≡ selected_before kept pred to → to ≡ count
+    → n ≡ count_by (λ b. b) (map (holds pred) (rows_in kept count))
+unfolding selected_before
+all_selected kept pred n to count is all = is ∙ ap (selected_before kept pred) all
