@@ -8,8 +8,8 @@ use crate::growth::{push_blocks, push_digits, reserve_each};
 use crate::{Column, Encoding, NoMemory, Op, Rank};
 use bsi_bits::{Bits, room_to_make};
 use bsi_digits::Bases;
-use bsi_slices::{End, NotNull};
 use bsi_slices::stage::{mark_present, place_numbers};
+use bsi_slices::{End, NotNull};
 use std::alloc::Global;
 use std::marker::Model;
 

@@ -8,7 +8,9 @@ ghost use Rattle.bsi_components.specs.Component.{at_most_from};
 ghost use Rattle.bsi_components.specs.EndDigits.{HasRow};
 
 use crate::NoMemory;
-use crate::blocks::{add_in, copy_in, drop_in, exceeds, keep_and_add, keep_but_drop, keep_in, meets};
+use crate::blocks::{
+    add_in, copy_in, drop_in, exceeds, keep_and_add, keep_but_drop, keep_in, meets,
+};
 use crate::encoding::{Encoding, EndDigit};
 use crate::marks::{MAX_BASE, SMALL_BASE, join, mark};
 use bsi_bits::{Bitmaps, Bits};

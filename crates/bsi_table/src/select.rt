@@ -57,7 +57,14 @@ pub(crate) fn count_selected(
     'blocks: for k in 0..count.div_ceil(BLOCK_ROWS) {
         let rows = BLOCK_ROWS.min(count - BLOCK_ROWS * k);
         words.truncate(rows.div_ceil(64) as usize);
-        find(columns, count, pred, BLOCK * k as usize, &mut words, &mut spare)?;
+        find(
+            columns,
+            count,
+            pred,
+            BLOCK * k as usize,
+            &mut words,
+            &mut spare,
+        )?;
         let found = Bits::from_words(words, rows);
         selected += found.count();
         words = found.into_words();

@@ -14,9 +14,9 @@ invariant_of-self-else-not-begins_with_ones c = λ clear.
     rw c.push_word_reserved.ensures.bits
     (All-append (λ b. b ≡ true) c.self.inside.bits.bits (bits_of c.args.count word) (c.self.invariant clear)
     (λ k d below.
-        let row : k < c.args.count = omega (arith, below, length-bits_of c.args.count word) in
-        let first : k / 64 ≡ 0 = omega (arith, row, c.requires.few) in
-        let place : k % 64 ≡ k = omega (arith, row, c.requires.few) in
-        get_or-bits_of c.args.count word k d row
-        ∙ ap₂ (λ j r. bit_at (get_or word j 0) r == 1) first place
-        ∙ ap (λ b. b == 1) (ones refl k row)))
+    let row : k < c.args.count = omega (arith, below, length-bits_of c.args.count word) in
+    let first : k / 64 ≡ 0 = omega (arith, row, c.requires.few) in
+    let place : k % 64 ≡ k = omega (arith, row, c.requires.few) in
+    get_or-bits_of c.args.count word k d row
+    ∙ ap₂ (λ j r. bit_at (get_or word j 0) r == 1) first place
+    ∙ ap (λ b. b == 1) (ones refl k row)))
