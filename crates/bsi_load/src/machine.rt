@@ -157,10 +157,10 @@ impl Core {
 
     /// Carries out a list of events in order, and returns their replies in the same order.
     ///
-    /// For every list of submissions, loads, closings and queries, each feeder's indexed rows followed by its waiting
-    /// rows are exactly its accepted rows, each once and in order of submission. None that is submitted after its
-    /// feeder's closing is among them. Every answered selection and total equals the plain definition over the rows
-    /// that are indexed at that step, whatever bases and encodings are chosen.
+    /// For every list of submissions, loads, closings and queries, each feeder's indexed rows followed by its waiting rows
+    /// are exactly its accepted rows, each once and in order of submission; none submitted after its closing is among them;
+    /// and every answered selection and total equals the plain definition over the rows indexed at that step, whatever bases
+    /// and encodings were chosen.
     ///
     /// A load or a query may be refused memory, and then it changes nothing. If memory is refused for the list of
     /// replies, the events are handed back and none of them takes place.
