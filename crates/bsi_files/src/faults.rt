@@ -18,8 +18,9 @@ pub enum Which {
     AsksFile,
 }
 
-/// Why a run over row files ends early, in the order in which the causes are checked. The last ones may come after some
-/// lines were written; before the others, nothing was written.
+/// Why a run over row files ends early; `run_files` says in which order it looks for the causes. A fault of the
+/// questions, of a reader, of memory or of the writer may come after some lines were written; before the others, nothing
+/// was written.
 #[derive(Clone, Copy, Debug, PartialEq, Eq, Error)]
 pub enum FilesFault {
     /// There are more than 64 row files.

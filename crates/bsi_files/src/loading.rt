@@ -27,8 +27,8 @@ pub(crate) struct Fed {
     closed: bool,
 }
 
-/// Takes rows, feeder by feeder, until all feeders have ended. It stops at a row that is refused, unless the cause is
-/// that no row is seen. From then on, feeders whose rings are full stop.
+/// Goes from feeder to feeder, round after round, and takes rows until each feeder has ended. It stops at a row that is
+/// refused, unless the cause is that no row is seen. From then on, feeders whose rings are full stop.
 pub(crate) fn load_beside<B: Naming, R: Wait, G: Gate>(
     rt: &R,
     loader: &mut Loader<B>,

@@ -28,8 +28,11 @@ use std::thread::{Scope, Threads};
 /// in their order, and one line for each record of the questions. No line depends on how the threads ran. A feeder that
 /// the gate stops is no fault, and the rows that it sent count.
 ///
-/// It checks for the faults in the order of `FilesFault`. Only refused memory is answered where it is met, and so is a
-/// thread that cannot be started. It keeps two copies of the table, and beside them some thousand rows.
+/// It looks for faults in this order: the number of files; the schema file; the header of each row file; a reader of
+/// the table and a thread for each feeder; once the threads have ended the row limit, then the first row file that gives
+/// no more rows, then the first feeder without a closing; and, while it writes answers, the questions, a reader and the
+/// writer. Refused memory is answered where it is met. It keeps two copies of the table, and beside them some thousand
+/// rows.
 pub fn run_files<
     R: Threads + Wait + AllocGlobal + Sync,
     S: Read + Drop,

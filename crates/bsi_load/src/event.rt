@@ -17,7 +17,7 @@ pub enum Event {
     Ask(Query),
 }
 
-/// Why a row is not accepted, in the order in which it is checked. The row is handed back.
+/// Why a row is not accepted, in the order of the checks. The row is handed back.
 #[derive(Debug, Drop, PartialEq, Eq)]
 pub enum SubmitRefused {
     /// There is no such feeder.
@@ -30,7 +30,7 @@ pub enum SubmitRefused {
     Full(Row),
 }
 
-/// Why no row is loaded, in the order in which it is checked.
+/// Why no row is loaded, in the order of the checks.
 #[derive(Clone, Copy, Debug, PartialEq, Eq)]
 pub enum LoadRefused {
     /// There is no such feeder.
@@ -58,7 +58,7 @@ impl From<AppendError> for LoadRefused {
     }
 }
 
-/// Why a feeder is not closed, in the order in which it is checked.
+/// Why a feeder is not closed, in the order of the checks.
 #[derive(Clone, Copy, Debug, PartialEq, Eq)]
 pub enum CloseRefused {
     /// There is no such feeder.

@@ -10,7 +10,7 @@ use std::alloc::AllocError;
 /// The most rows of one feeder that may wait.
 pub const MOST_WAITING: u32 = 65_536;
 
-/// Why a machine is not made, in the order in which it is checked.
+/// Why a machine is not made, in the order of the checks.
 #[derive(Clone, Copy, Debug, PartialEq, Eq)]
 pub enum MakeError {
     /// There is no capacity, and thus no feeder.

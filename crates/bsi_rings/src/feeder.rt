@@ -9,7 +9,7 @@ use std::alloc::Global;
 use std::marker::Model;
 use std::sync::Arc;
 
-/// Why a row is not sent, in the order in which it is checked. The row is handed back.
+/// Why a row is not sent, in the order of the checks. The row is handed back.
 #[derive(Debug, Drop)]
 pub enum SubmitRefused {
     /// The row does not fit the schema.

@@ -9,7 +9,7 @@ use Rattle.bsi_slices.specs.declared.column.Rank.TheVariants.{Least, Greatest, M
 abbrev pub whole_order : Order ℤ
 whole_order = record { same = λ x y. int_le x y && int_le y x; below = int_lt; at_most = int_le }
 
--- the entry is a number that compares so with the constant
+-- the entry is not a null, and its number compares so with the constant
 abbrev pub signed_selects : Op → ℤ → Option ℤ → Bool
 signed_selects = selects_by whole_order
 

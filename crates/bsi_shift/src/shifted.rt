@@ -220,7 +220,7 @@ impl Shifted {
         self.stored.present()
     }
 
-    /// Returns the sum of the numbers at the rows of a found set, at least -2^95 and below 2^95. A null counts for
+    /// Returns the sum of the numbers at the rows of a found set, which is from -2^95 to 2^95 - 1. A null counts for
     /// nothing. It allocates no memory.
     pub fn sum(&self, found: &Bits) -> i128
         requires { length (shifted_entries self.now) ≡ length found.now.bits }

@@ -15,6 +15,6 @@ number_order = record { same = nat_eq; below = nat_lt; at_most = nat_le }
 abbrev pub compares : Op → ℕ → ℕ → Bool
 compares = compares_by number_order
 
--- the entry is a number that compares so with the constant
+-- the entry is not a null, and its number compares so with the constant
 abbrev pub selects : Op → ℕ → Option ℕ → Bool
 selects = selects_by number_order

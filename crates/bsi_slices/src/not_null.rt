@@ -9,7 +9,7 @@ use bsi_bits::{Bits, lanes};
 use std::alloc::Global;
 use std::marker::Model;
 
-/// The bitmap of the rows that have a number. Where each row has one, questions do not read it.
+/// The bitmap of the rows that have a number. Where each row has one, a comparison of a block does not read it.
 #[derive(Drop)]
 pub struct NotNull {
     bits: Bits,

@@ -100,11 +100,11 @@ LoadsOne s f t = (row : Entries) × IsTrue (fits s.system.schema.columns row) ×
 
 -- ---- settling and publishing
 
--- the closing is of a feeder of this system
+-- a closing of this system: its lane stands at its number
 abbrev pub IsOf : Sent → System → Type 0
 IsOf closing system = slice_get system.lanes closing.number ≡ Some closing.lane
 
--- the feeder is one of this system
+-- a feeder of this system: its lane stands at its number
 abbrev pub IsFeederOf : Sending → System → Type 0
 IsFeederOf feeder system = slice_get system.lanes feeder.number ≡ Some feeder.lane
 

@@ -25,7 +25,7 @@ pub struct System<B: Naming> {
     pub analysts: Vec<Analyst<B>>,
 }
 
-/// Why no system is opened, in the order in which it is checked.
+/// Why no system is opened, in the order of the checks.
 pub enum OpenRefused<B: Naming> {
     /// The sizes are refused, or memory was refused.
     Make(MakeError),

@@ -7,8 +7,8 @@ ghost use Rattle.bsi_table.specs.Names.{begins_lower, is_name, is_name_byte, is_
 /// The most bytes of a name.
 const MAX_NAME: usize = 32;
 
-/// Returns whether the text is a name: a lower-case letter, then lower-case letters, digits and `_`, at most 32 bytes
-/// in all, and none of the words that predicates are written with.
+/// Returns whether the text is a name. A name has at most 32 bytes: first a lower-case letter, then lower-case letters,
+/// digits or `_`. The words that predicates are written with are no names.
 pub fn test_name(text: &[u8]) -> bool
     ensures { result ≡ is_name text.now }
 {

@@ -8,8 +8,8 @@ use std::alloc::AllocError;
 /// The refusals of a column, in the order in which they are checked.
 #[derive(Clone, Copy, Debug, PartialEq, Eq)]
 pub enum SchemaError {
-    /// The text is not a name. A name is a lower-case letter, then lower-case letters, digits and `_`, 1 to 32 bytes in
-    /// all, and none of the words `all`, `null`, `and`, `or`, `not`.
+    /// The text is not a name. A name has 1 to 32 bytes: first a lower-case letter, then lower-case letters, digits or
+    /// `_`. The words `all`, `null`, `and`, `or` and `not` are no names.
     BadName,
     /// There already is a column of this name.
     NameTaken,

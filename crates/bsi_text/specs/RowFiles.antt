@@ -15,7 +15,7 @@ is_named_once header column = nat_eq (count_by (λ field. bytes_eq field column.
 abbrev pub is_known : Declared → Field → Bool
 is_known schema field = is_some (position_of schema.columns field)
 
--- the header names each column exactly once, in any order, and nothing else
+-- the fields of the header are the names of the columns, each of them once, in whatever order
 abbrev pub is_header : Declared → List Field → Bool
 is_header schema header = list_all (is_named_once header) schema.columns && list_all (is_known schema) header
 

@@ -25,14 +25,14 @@ WritesLines before after records = (lines : List (List ℕ)) × IsScriptRun reco
 abbrev pub WritesPart : Option (List ℕ) → Option (List ℕ) → List (List Field) → Type 0
 WritesPart before after records = (lines : List (List ℕ)) × (n : ℕ) × IsScriptRun records lines × Appends before after (take n (concat lines))
 
--- the text has at most 1,000,000 records, and the lines of all of them were written
+-- the text has no more than 1,000,000 records, and the lines of all of them were written
 pub record IsAnswered (bytes : List ℕ) (before after : Option (List ℕ)) : Type 0 where
   pub records : List (List Field)
   pub all : AreAllRecords bytes records
   pub few : length records ≤ 1000000
   pub written : WritesLines before after records
 
--- the text has more than 1,000,000 records, and the lines of the first 1,000,000 were written
+-- the text has more than 1,000,000 records, and a script run of the first 1,000,000 was written
 pub record IsTooLong (bytes : List ℕ) (before after : Option (List ℕ)) : Type 0 where
   pub records : List (List Field)
   pub state : State

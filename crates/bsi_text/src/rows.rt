@@ -116,8 +116,8 @@ impl<R: Read + Drop> RowSource<R> {
         })
     }
 
-    /// Returns the row of the next good record, or none at the end and from then on. It passes over bad records and
-    /// counts them. After a fault, each later call answers the same fault. It takes at most 1,000,000 records.
+    /// Returns the row of the next good record, or none once no record is left. It passes over bad records and counts
+    /// them. After a fault, each later call answers the same fault. It takes at most 1,000,000 records.
     pub fn next_row(&mut self) -> Result<Option<Row>, SourceFault>
         ensures failed { (fault : SourceFault) → self.old.end ≡ Some (Err fault) → (result ≡ Err fault) × (self.new ≡ self.old) }
         ensures ended { self.old.end ≡ Some (Ok tt) → (result ≡ Ok None) × (self.new ≡ self.old) }

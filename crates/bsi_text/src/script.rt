@@ -71,8 +71,8 @@ impl From<AllocError> for ScriptFault {
 /// Answers each record of the reader with a line to the writer.
 ///
 /// At the end, the lines of all records were written, at most 1,000,000. It answers `TooLong` if there are more
-/// records; then the lines of the first 1,000,000 were written. After every fault, what was written is a first part of
-/// the lines that answer the whole text, and only `Write` cuts a line.
+/// records, and has then written a line for each of the first 1,000,000. After every fault, what was written is a first
+/// part of the lines that answer the whole text, and only `Write` cuts a line.
 ///
 /// Lines wait, at most 64 KiB of them, while the next record was already read as a whole. They are written before more
 /// bytes are asked for.

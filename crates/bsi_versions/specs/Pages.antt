@@ -14,7 +14,7 @@ abbrev pub latest : Rows → List Rows → Rows
 latest rows [] = rows
 latest rows (page ∷ pages) = latest page pages
 
--- each list begins with the one before, and the first with these rows
+-- the first list begins with these rows, and each later one with the list before it
 abbrev pub AreGrowing : Rows → List Rows → Type 0
 AreGrowing rows [] = Unit {0}
 AreGrowing rows (page ∷ pages) = IsPrefix rows page × AreGrowing page pages

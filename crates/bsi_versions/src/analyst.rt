@@ -13,7 +13,7 @@ use core::mem::replace_with;
 use left_right::reader::Reader;
 use std::marker::Model;
 
-/// Why a question is not answered, in the order in which it is checked.
+/// Why a question is not answered, in the order of the checks.
 #[derive(Clone, Copy, Debug, PartialEq, Eq)]
 pub enum AnalystRefused {
     /// The analyst was given no copy of the table, as may happen once the writing end is gone.
