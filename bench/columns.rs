@@ -30,7 +30,7 @@ const BLOCK: usize = 16;
 const CHUNK: usize = 1024;
 
 /// The most bitmaps that are read side by side, and how many are where there are more.
-const MOST_READ: usize = 24;
+const MAX_READ: usize = 24;
 const FEW_READ: usize = 8;
 
 type Words = Vec<u64>;
@@ -85,7 +85,7 @@ fn run_group(steps: &[Step], at: usize, out: &mut [u64], first: bool) {
 fn run<'a>(mut steps: Vec<Step<'a>>, present: &'a [u64]) -> Words {
     steps.push(Step::And(present));
     let mut out = vec![0; present.len()];
-    let group = if steps.len() <= MOST_READ { MOST_READ } else { FEW_READ };
+    let group = if steps.len() <= MAX_READ { MAX_READ } else { FEW_READ };
     for (k, out) in out.chunks_mut(CHUNK).enumerate() {
         for (g, steps) in steps.chunks(group).enumerate() {
             run_group(steps, CHUNK * k, out, g == 0);

@@ -13,8 +13,8 @@ from collections import namedtuple
 import script_model
 from script_model import BAD, Machine, records
 
-MOST_FILES = 64
-MOST_ROWS = 1_000_000
+MAX_FILES = 64
+MAX_ROWS = 1_000_000
 
 # What a run writes on standard output and on standard error, and the status that it ends with.
 Written = namedtuple("Written", "out err status")
@@ -36,12 +36,12 @@ class Fault(Exception):
 def read_schema(data):
     """Returns the machine that the schema file declares, with no feeder yet."""
     machine, found = Machine(), records(data)
-    for number, record in enumerate(found[:MOST_ROWS], 1):
+    for number, record in enumerate(found[:MAX_ROWS], 1):
         step = machine.step(record)
         if record[0] not in (b"column", b"limit") or step.line == BAD:
             raise Fault(b"schema: bad record %d" % number)
         step.change()
-    if len(found) > MOST_ROWS:
+    if len(found) > MAX_ROWS:
         raise Fault(b"schema: input too long")
     if not machine.columns:
         raise Fault(b"schema: no columns")
@@ -79,13 +79,13 @@ def fed(machine, files):
     found = [records(data) for data in files]
     places = [read_header(machine, file, records_of) for file, records_of in enumerate(found)]
     read = [
-        split([read_row(machine, order, record) for record in records_of[1 : MOST_ROWS + 1]])
+        split([read_row(machine, order, record) for record in records_of[1 : MAX_ROWS + 1]])
         for order, records_of in zip(places, found)
     ]
     if sum(len(good) for good, _ in read) > machine.limit:
         raise Fault(b"index full")
     for file, records_of in enumerate(found):
-        if len(records_of) > MOST_ROWS + 1:
+        if len(records_of) > MAX_ROWS + 1:
             raise Fault(b"file %d: input too long" % file)
     return read
 
@@ -99,7 +99,7 @@ def run(schema, asks, files):
     """Returns what a run over the files' bytes writes, and how it ends."""
     lines = []
     try:
-        if len(files) > MOST_FILES:
+        if len(files) > MAX_FILES:
             raise Fault(b"more than 64 files")
         machine = read_schema(schema)
         read = fed(machine, files)
@@ -107,8 +107,8 @@ def run(schema, asks, files):
         machine.indexed = [(file, row) for file, (good, _) in enumerate(read) for row in good]
         machine.has_begun = True
         asked = records(asks)
-        lines += [answer(machine, record) for record in asked[:MOST_ROWS]]
-        if len(asked) > MOST_ROWS:
+        lines += [answer(machine, record) for record in asked[:MAX_ROWS]]
+        if len(asked) > MAX_ROWS:
             raise Fault(b"asks: input too long")
     except Fault as fault:
         return Written(text_of(lines), fault.line, 1)

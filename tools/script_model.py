@@ -16,22 +16,22 @@ OUT_OF_MEMORY = b"bsi: no memory\n"
 TOO_LONG = b"bsi: input too long\n"
 
 RESERVED = (b"all", b"null", b"and", b"or", b"not")
-LARGEST_NUMBER = 2**64 - 1
-LARGEST_FEEDER = 2**32 - 1
-LARGEST_LIMIT = 2**32
-LARGEST_CAPACITY = 65_536
-LARGEST_WIDTH = 63
-LARGEST_BASE = 1_024
-LARGEST_SUM_OF_BASES = 4_096
-LARGEST_SIZE = 2**63
-MOST_BASES = 63
-MOST_COLUMNS = 64
-MOST_FEEDERS = 64
-MOST_FIELDS = 1_000
-MOST_RECORDS = 1_000_000
+MAX_NUMBER = 2**64 - 1
+MAX_FEEDER = 2**32 - 1
+MAX_LIMIT = 2**32
+MAX_CAPACITY = 65_536
+MAX_WIDTH = 63
+MAX_BASE = 1_024
+MAX_SUM_OF_BASES = 4_096
+MAX_SIZE = 2**63
+MAX_BASES = 63
+MAX_COLUMNS = 64
+MAX_FEEDERS = 64
+MAX_FIELDS = 1_000
+MAX_RECORDS = 1_000_000
 
 # (each field of a predicate may be a call within a call)
-sys.setrecursionlimit(10 * MOST_FIELDS)
+sys.setrecursionlimit(10 * MAX_FIELDS)
 
 # What a record may be answered: the usual line, whether memory may be refused in its place, and the change it makes.
 Step = namedtuple("Step", "line may_lack_memory change")
@@ -116,8 +116,8 @@ def records(data):
 def read_number(field):
     """Returns the number that the field spells, or None."""
     is_spelled = 1 <= len(field) <= 20 and all(byte in b"0123456789" for byte in field)
-    value = int(field) if is_spelled else LARGEST_NUMBER + 1
-    return value if value <= LARGEST_NUMBER else None
+    value = int(field) if is_spelled else MAX_NUMBER + 1
+    return value if value <= MAX_NUMBER else None
 
 
 def read_signed(field):
@@ -134,9 +134,9 @@ def number_within(field, least, most):
 
 def read_bases(field):
     """Returns the bases that the field spells, with one space between two, or None where they can't be had."""
-    bases = [number_within(part, 2, LARGEST_BASE) for part in field.split(b" ")]
-    can_be_had = None not in bases and len(bases) <= MOST_BASES and sum(bases) <= LARGEST_SUM_OF_BASES
-    return bases if can_be_had and prod(bases) <= LARGEST_SIZE else None
+    bases = [number_within(part, 2, MAX_BASE) for part in field.split(b" ")]
+    can_be_had = None not in bases and len(bases) <= MAX_BASES and sum(bases) <= MAX_SUM_OF_BASES
+    return bases if can_be_had and prod(bases) <= MAX_SIZE else None
 
 
 def is_name(field):
@@ -149,7 +149,7 @@ def is_name(field):
 def read_feeder(field):
     """Returns the feeder that the field names, one past the last where it is a larger number, or None."""
     value = read_number(field)
-    return None if value is None else min(value, LARGEST_FEEDER)
+    return None if value is None else min(value, MAX_FEEDER)
 
 
 def read_values(fields, read):
@@ -187,7 +187,7 @@ class Machine:
         self.columns = []
         self.is_signed = False
         self.feeders = []
-        self.limit = LARGEST_LIMIT
+        self.limit = MAX_LIMIT
         self.has_begun = False
         self.indexed = []
 
@@ -230,7 +230,7 @@ def refused(line):
 def read_size(form, field):
     """Returns the size of the column that the form and the field declare, or None."""
     if form == b"slices":
-        width = number_within(field, 1, LARGEST_WIDTH)
+        width = number_within(field, 1, MAX_WIDTH)
         return None if width is None else 2**width
     bases = read_bases(field) if form in (b"equality", b"range") else None
     return None if bases is None else prod(bases)
@@ -241,7 +241,7 @@ def setup_column(machine, fields):
     least = 0 if len(fields) < 4 else read_signed(fields[3])
     if size is None or least is None or not -(2**63) <= least <= 2**63 - size:
         return None
-    if not is_name(fields[0]) or machine.position(fields[0]) is not None or len(machine.columns) == MOST_COLUMNS:
+    if not is_name(fields[0]) or machine.position(fields[0]) is not None or len(machine.columns) == MAX_COLUMNS:
         return None
 
     def declare():
@@ -252,14 +252,14 @@ def setup_column(machine, fields):
 
 
 def setup_feeder(machine, fields):
-    capacity = number_within(fields[0], 1, LARGEST_CAPACITY) if len(fields) == 1 else None
-    if capacity is None or len(machine.feeders) == MOST_FEEDERS:
+    capacity = number_within(fields[0], 1, MAX_CAPACITY) if len(fields) == 1 else None
+    if capacity is None or len(machine.feeders) == MAX_FEEDERS:
         return None
     return ok(lambda: machine.feeders.append(Feeder(capacity)))
 
 
 def setup_limit(machine, fields):
-    limit = number_within(fields[0], 1, LARGEST_LIMIT) if len(fields) == 1 else None
+    limit = number_within(fields[0], 1, MAX_LIMIT) if len(fields) == 1 else None
     return None if limit is None else ok(lambda: setattr(machine, "limit", limit))
 
 
@@ -314,7 +314,7 @@ def run_close(machine, fields):
 
 def read_predicate(machine, fields):
     """Returns a function from a row to whether it is selected, or None where the fields spell no predicate."""
-    if not 1 <= len(fields) <= MOST_FIELDS:
+    if not 1 <= len(fields) <= MAX_FIELDS:
         return None
     found, at = [], 0
     while at < len(fields):
@@ -422,7 +422,7 @@ RUNNING = {
 def answers(script):
     """Returns the lines of the script's usual answers, without their ends."""
     machine, lines = Machine(), []
-    for record in records(script)[:MOST_RECORDS]:
+    for record in records(script)[:MAX_RECORDS]:
         step = machine.step(record)
         step.change()
         lines.append(step.line)
@@ -450,10 +450,10 @@ def fault_in_run(script, ran, refused):
     lines = ran.out.split(b"\n")
     if lines.pop():
         return f"the last line has no end: {ran.out[-40:]!r}"
-    if len(lines) > min(len(found), MOST_RECORDS):
+    if len(lines) > min(len(found), MAX_RECORDS):
         return f"{len(lines)} lines answer {len(found)} records"
-    is_whole = len(lines) == min(len(found), MOST_RECORDS)
-    usual = (1, TOO_LONG) if len(found) > MOST_RECORDS else (0, b"")
+    is_whole = len(lines) == min(len(found), MAX_RECORDS)
+    usual = (1, TOO_LONG) if len(found) > MAX_RECORDS else (0, b"")
     allowed = [(1, OUT_OF_MEMORY)] + [usual] * is_whole
     if (ran.status, ran.err) not in allowed:
         return f"{len(lines)} lines for {len(found)} records, then status {ran.status} and {ran.err!r}"

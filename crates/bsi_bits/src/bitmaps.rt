@@ -13,7 +13,7 @@ use std::marker::Model;
 const MAX_LEN: u64 = 1 << 32;
 
 /// The least room for bits that a vector has once it has grown: that of the four words that a `Vec` begins with.
-const LEAST_ROOM: u64 = 256;
+const MIN_ROOM: u64 = 256;
 
 /// Vectors of one length that grow together: a single test tells whether there is room, and if there is none, all grow
 /// at once.
@@ -148,7 +148,7 @@ pub fn room_to_make(len: u64, more: u64) -> u64
     ensures enough { more ≤ result }
     ensures within { len + result ≤ 2 ^ 32 }
 {
-    more.max(len).max(LEAST_ROOM).min(MAX_LEN - len)
+    more.max(len).max(MIN_ROOM).min(MAX_LEN - len)
 }
 
 /// Makes `count` empty vectors.

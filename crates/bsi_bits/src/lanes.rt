@@ -12,7 +12,7 @@ use std::simd::u64x4;
 const LANES: usize = 4;
 
 /// The most words whose ones are counted in 64 bits. No memory holds more, so a count goes over a single such block.
-const MOST_COUNTED: usize = 1 << 57;
+const MAX_COUNTED: usize = 1 << 57;
 
 /// A Boolean operation on two words, bit by bit: on single words, and on four side by side.
 trait Operation {
@@ -172,7 +172,7 @@ fn count_combined<O: Operation>(a: &[u64], b: &[u64]) -> u128
     let mut ones = 0;
     let mut at = 0;
     'parts: while at < a.len() {
-        let end = at + MOST_COUNTED.min(a.len() - at);
+        let end = at + MAX_COUNTED.min(a.len() - at);
         ones += count_few_combined::<O>(&a[at..end], &b[at..end]) as u128;
         at = end;
     }
@@ -278,7 +278,7 @@ pub fn count(a: &[u64]) -> u128
     let mut ones = 0;
     let mut at = 0;
     'parts: while at < a.len() {
-        let end = at + MOST_COUNTED.min(a.len() - at);
+        let end = at + MAX_COUNTED.min(a.len() - at);
         ones += count_few(&a[at..end]) as u128;
         at = end;
     }

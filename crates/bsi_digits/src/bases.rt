@@ -10,15 +10,15 @@ use crate::{BasesError, NoMemory};
 use std::alloc::Global;
 use std::marker::Model;
 
-const MOST_BASES: usize = 63;
+const MAX_BASES: usize = 63;
 
-const LEAST_BASE: u32 = 2;
+const MIN_BASE: u32 = 2;
 
-const GREATEST_BASE: u32 = 1024;
+const MAX_BASE: u32 = 1024;
 
-const WIDEST: u64 = 4096;
+const MAX_WIDTH: u64 = 4096;
 
-const LARGEST_SIZE: u64 = 1 << 63;
+const MAX_SIZE: u64 = 1 << 63;
 
 /// A list of 1 to 63 bases. A contract sees the bases least significant first, as the components are numbered:
 /// component 0 is the least significant, and has the last base of the list as written.
@@ -49,13 +49,13 @@ impl Bases {
         if bases.is_empty() {
             return Err(BasesError::Empty);
         }
-        if bases.len() > MOST_BASES {
+        if bases.len() > MAX_BASES {
             return Err(BasesError::TooMany);
         }
         if let Some(place) = bad_place(&bases) {
             return Err(BasesError::BaseOutOfRange(place as u32));
         }
-        if width(&bases) > WIDEST {
+        if width(&bases) > MAX_WIDTH {
             return Err(BasesError::TooWide);
         }
         bases.reverse();
@@ -76,7 +76,7 @@ impl Bases {
         if w == 0 {
             return Err(BasesError::Empty);
         }
-        if w > MOST_BASES as u32 {
+        if w > MAX_BASES as u32 {
             return Err(BasesError::TooMany);
         }
         Bases::new(vec![in alloc; 2; w as usize]?)
@@ -160,7 +160,7 @@ fn bad_place(bases: &[u32]) -> Option<usize>
 {
     bases
         .iter()
-        .position(|base| *base < LEAST_BASE || *base > GREATEST_BASE)
+        .position(|base| *base < MIN_BASE || *base > MAX_BASE)
 }
 
 /// Returns the sum of the bases.
@@ -184,7 +184,7 @@ fn weights(bases: &[u32]) -> Option<[Divisor; 64]>
     let mut weight = 1u64;
     for i in 0..bases.len() {
         let next = u128::from(weight) * u128::from(bases[i]);
-        if next > u128::from(LARGEST_SIZE) {
+        if next > u128::from(MAX_SIZE) {
             return None;
         }
         weight = next as u64;

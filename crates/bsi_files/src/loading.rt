@@ -13,10 +13,10 @@ use bsi_text::SourceFault;
 use std::sync::Wait;
 
 /// How many rows of one feeder are taken before the next feeder's turn.
-const MOST_IN_TURN: u32 = 256;
+const MAX_IN_TURN: u32 = 256;
 
 /// The number of held rows from which on they are published.
-const MOST_HELD: u64 = 4_096;
+const MAX_HELD: u64 = 4_096;
 
 /// What a feeder that read a file leaves, except for its closing.
 #[derive(Drop)]
@@ -79,7 +79,7 @@ fn load_some<B: Naming>(loader: &mut Loader<B>, feeder: u32) -> Result<bool, Fil
     ensures system { loader.new.system ≡ loader.old.system }
     ensures early { IfErr result (λ fault. is_early fault ≡ true) }
 {
-    'rows: for taken in 0..MOST_IN_TURN {
+    'rows: for taken in 0..MAX_IN_TURN {
         if !load_one(loader, feeder)? {
             return Ok(taken > 0);
         }
@@ -105,7 +105,7 @@ fn load_one<B: Naming>(loader: &mut Loader<B>, feeder: u32) -> Result<bool, File
 fn publish_many<B: Naming, R: Wait>(rt: &R, loader: &mut Loader<B>)
     ensures { loader.new.system ≡ loader.old.system }
 {
-    if loader.counts().1 >= MOST_HELD {
+    if loader.counts().1 >= MAX_HELD {
         let _ = loader.publish(rt);
     }
 }

@@ -6,7 +6,7 @@ use std::thread;
 use std::time::Duration;
 
 /// How often a thread yields before it sleeps.
-const MOST_YIELDS: u32 = 16;
+const MAX_YIELDS: u32 = 16;
 
 /// How long a thread sleeps each time, in microseconds.
 const SLEEP_MICROS: u64 = 100;
@@ -25,7 +25,7 @@ impl Pause {
 
     /// Yields the processor or, once it has yielded 16 times, sleeps for 100 microseconds.
     pub(crate) fn wait<R: Wait>(&mut self, rt: &R) {
-        if self.yields < MOST_YIELDS {
+        if self.yields < MAX_YIELDS {
             self.yields += 1;
             thread::yield_now();
         } else {

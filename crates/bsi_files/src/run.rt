@@ -12,7 +12,7 @@ use crate::tables::read_table;
 use crate::threads::{Watch, join_all, start_all};
 use crate::{FilesFault, Gate};
 use bsi_system::{Analyst, Feeder, History, Loader, Naming, OpenRefused, System, open};
-use bsi_table::{MOST_FEEDERS, Schema};
+use bsi_table::{MAX_FEEDERS, Schema};
 use bsi_text::RowSource;
 use std::alloc::Global;
 use std::io::{Read, Write};
@@ -45,7 +45,7 @@ pub fn run_files<
     ensures files { (result ≡ Err FilesFault.TooManyFiles) ↔ (64 < length sources.items) }
     ensures quiet { IfErr result (λ fault. is_late fault ≡ false → W.contents writer.new ≡ W.contents writer.old) }
 {
-    if sources.len() > MOST_FEEDERS as usize {
+    if sources.len() > MAX_FEEDERS as usize {
         return Err(FilesFault::TooManyFiles);
     }
     let alloc = rt.alloc();

@@ -4,7 +4,7 @@ ghost use Rattle.std.specs.Prelude.{◌≡◌, ◌≢◌, IfErr, IfOk, true};
 ghost use Rattle.bsi_files.specs.Faults.{is_early};
 
 use crate::{FilesFault, Which};
-use bsi_table::{MOST_ROWS, Schema};
+use bsi_table::{MAX_ROWS, Schema};
 use bsi_text::{RecordSource, read_setup};
 use csv::ByteRecord;
 use std::alloc::Global;
@@ -20,7 +20,7 @@ pub(crate) fn read_table<S: Read + Drop>(
     let mut records = RecordSource::new(alloc, reader);
     let mut fields = ByteRecord::new(alloc);
     let mut schema = Schema::new(alloc);
-    let mut limit = MOST_ROWS;
+    let mut limit = MAX_ROWS;
     'records: for before in 0..u64::MAX {
         match records.next_record(&mut fields) {
             Ok(true) => {}

@@ -9,5 +9,5 @@ mod sizes;
 
 pub use event::{CloseRefused, Event, LoadRefused, Reply, RunRefused, SubmitRefused};
 pub use machine::Core;
-pub use sizes::{MOST_WAITING, MakeError, check_sizes};
+pub use sizes::{MAX_WAITING, MakeError, check_sizes};
 pub use std::alloc::AllocError as NoMemory;

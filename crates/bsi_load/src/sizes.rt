@@ -4,11 +4,11 @@ ghost use Rattle.std.specs.Prelude.{◌≡◌, ◌≤◌, length, position};
 ghost use Rattle.std.specs.Result.{result_err};
 ghost use Rattle.bsi_load.specs.Sizes.{sizes_refusal, capacities_refusal, is_out_of_range};
 
-use bsi_table::{Index, IndexError, MOST_FEEDERS, Schema};
+use bsi_table::{Index, IndexError, MAX_FEEDERS, Schema};
 use std::alloc::AllocError;
 
 /// The most rows of one feeder that may wait.
-pub const MOST_WAITING: u32 = 65_536;
+pub const MAX_WAITING: u32 = 65_536;
 
 /// Why a machine is not made, in the order of the checks.
 #[derive(Clone, Copy, Debug, PartialEq, Eq)]
@@ -56,7 +56,7 @@ pub fn check_sizes(schema: &Schema, capacities: &[u32], limit: u64) -> Result<()
     if capacities.is_empty() {
         return Err(MakeError::NoFeeders);
     }
-    if capacities.len() > MOST_FEEDERS as usize {
+    if capacities.len() > MAX_FEEDERS as usize {
         return Err(MakeError::TooManyFeeders);
     }
     check_capacities(capacities)?;
@@ -83,5 +83,5 @@ fn first_out_of_range(capacities: &[u32]) -> Option<usize>
 {
     capacities
         .iter()
-        .position(|capacity| *capacity == 0 || *capacity > MOST_WAITING)
+        .position(|capacity| *capacity == 0 || *capacity > MAX_WAITING)
 }

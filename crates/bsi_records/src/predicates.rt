@@ -13,7 +13,7 @@ use csv::ByteRecord;
 use std::alloc::Global;
 
 /// The most fields of a predicate.
-const MOST_FIELDS: usize = 1_000;
+const MAX_FIELDS: usize = 1_000;
 
 /// What the last fields have begun.
 #[derive(Clone, Copy, PartialEq, Eq)]
@@ -36,7 +36,7 @@ pub(crate) fn read_predicate(
 ) -> Result<Option<Pred>, NoMemory>
     ensures { IfOk result (λ read. MatchOption read ((pred : Pred) → IsPredicate schema.now (drop from (fields_of fields.now)) pred → ⊥) (IsPredicate schema.now (drop from (fields_of fields.now)))) }
 {
-    if fields.len().saturating_sub(from) > MOST_FIELDS {
+    if fields.len().saturating_sub(from) > MAX_FIELDS {
         return Ok(None);
     }
     // A column's name is none of the words.

@@ -10,8 +10,8 @@ ghost use Rattle.bsi_records.specs.Setups.{added_after, can_begin, column_after,
 
 use crate::numbers::{read_bases, read_offset, read_within};
 use crate::records::lend;
-use bsi_load::{Core, MOST_WAITING, MakeError};
-use bsi_table::{ColumnSpec, MOST_FEEDERS, MOST_ROWS, MOST_SLICES, Schema, SchemaError};
+use bsi_load::{Core, MAX_WAITING, MakeError};
+use bsi_table::{ColumnSpec, MAX_FEEDERS, MAX_ROWS, MAX_SLICES, Schema, SchemaError};
 use csv::ByteRecord;
 use std::alloc::{AllocError as NoMemory, Global};
 use std::marker::Model;
@@ -56,7 +56,7 @@ fn read_form(alloc: Global, word: &[u8], text: &[u8]) -> Result<Option<ColumnSpe
 fn read_slices(text: &[u8]) -> Option<ColumnSpec>
     ensures { option_and_then form_had result ≡ option_map Slices (number_within 1 63 text.now) }
 {
-    match read_within(1, u64::from(MOST_SLICES), text) {
+    match read_within(1, u64::from(MAX_SLICES), text) {
         None => None,
         Some(width) => Some(ColumnSpec::Slices(width as u32)),
     }
@@ -160,7 +160,7 @@ pub fn read_setup(
 fn declare_limit(limit: &mut u64, fields: &ByteRecord) -> bool
     ensures { IsChange (limit_of (drop 1 (fields_of fields.now))) limit.old limit.new result }
 {
-    let Some(rows) = read_only_number(fields, MOST_ROWS) else {
+    let Some(rows) = read_only_number(fields, MAX_ROWS) else {
         return false;
     };
     *limit = rows;
@@ -205,7 +205,7 @@ impl Setup {
         Setup {
             schema: Schema::new(alloc),
             capacities: Vec::new(alloc),
-            limit: MOST_ROWS,
+            limit: MAX_ROWS,
         }
     }
 
@@ -255,10 +255,10 @@ fn declare_feeder(capacities: &mut Vec<u32>, fields: &ByteRecord) -> Result<bool
     ensures done { IfOk result (λ done. IsChange (feeder_after capacities.old.items (drop 1 (fields_of fields.now))) capacities.old.items capacities.new.items done) }
     ensures kept { OnErr result (capacities.new.items ≡ capacities.old.items) }
 {
-    if capacities.len() >= MOST_FEEDERS as usize {
+    if capacities.len() >= MAX_FEEDERS as usize {
         return Ok(false);
     }
-    let Some(capacity) = read_only_number(fields, u64::from(MOST_WAITING)) else {
+    let Some(capacity) = read_only_number(fields, u64::from(MAX_WAITING)) else {
         return Ok(false);
     };
     capacities.push(capacity as u32)?;

@@ -7,7 +7,7 @@ ghost use Rattle.bsi_table.specs.Columns.{column_at, IsForm};
 ghost use Rattle.bsi_table.specs.Rows.{column_of, entry_at};
 ghost use Rattle.bsi_table.specs.Table.{kept_at, AreInRange, AreKept, AreNarrow, AreSameColumns, HaveMore, HaveOneMore, HaveRoom, IsInForm, IsNarrow, Keeps, Takes};
 
-use crate::index::MOST_BLOCK_ROWS;
+use crate::index::MAX_BLOCK_ROWS;
 use crate::{Form, NoMemory, Row, Schema};
 use bsi_columns::{AnyColumn, Decomposed, Slices};
 use bsi_shift::Shifted;
@@ -79,7 +79,7 @@ pub(crate) fn push_block_each(columns: &mut [Shifted], rows: &[(u32, Row)])
     ensures { HaveMore columns.old columns.new rows.now }
 {
     'columns: for c in 0..columns.len() {
-        let mut block = [None; MOST_BLOCK_ROWS];
+        let mut block = [None; MAX_BLOCK_ROWS];
         gather(rows, c, &mut block[..rows.len()]);
         columns[c].push_block_reserved(&block[..rows.len()]);
     }

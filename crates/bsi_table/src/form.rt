@@ -8,7 +8,7 @@ use bsi_digits::{Bases, BasesError};
 use std::alloc::AllocError;
 
 /// The most slices of a column.
-pub const MOST_SLICES: u32 = 63;
+pub const MAX_SLICES: u32 = 63;
 
 /// The form that is asked for. Its bases are written most significant first.
 #[derive(Debug, Drop)]
@@ -52,7 +52,7 @@ impl Form {
     {
         match spec {
             ColumnSpec::Slices(0) => Err(BasesError::Empty),
-            ColumnSpec::Slices(width) if width > MOST_SLICES => Err(BasesError::TooMany),
+            ColumnSpec::Slices(width) if width > MAX_SLICES => Err(BasesError::TooMany),
             ColumnSpec::Slices(width) => Ok(Form::Slices(width)),
             ColumnSpec::Equality(bases) => Ok(Form::Equality(Bases::new(bases)?)),
             ColumnSpec::Range(bases) => Ok(Form::Range(Bases::new(bases)?)),

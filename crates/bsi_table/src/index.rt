@@ -19,10 +19,10 @@ use std::alloc::Global;
 use std::marker::Model;
 
 /// The most rows of an index.
-pub const MOST_ROWS: u64 = 1 << 32;
+pub const MAX_ROWS: u64 = 1 << 32;
 
 /// The most rows of a block that can be appended at once.
-pub const MOST_BLOCK_ROWS: usize = 64;
+pub const MAX_BLOCK_ROWS: usize = 64;
 
 /// The rows of a schema that came from 1 to 64 feeders, at most as many as a limit. A row is stored as its entry in
 /// each column and the number of its feeder, one byte; no row is stored as it came. If there are several feeders, each
@@ -71,7 +71,7 @@ impl Index {
         if schema.columns() == 0 {
             return Err(IndexError::NoColumns);
         }
-        if limit == 0 || limit > MOST_ROWS {
+        if limit == 0 || limit > MAX_ROWS {
             return Err(IndexError::LimitOutOfRange);
         }
         Ok(())

@@ -17,9 +17,9 @@ mod totals;
 
 pub use bsi_columns::Op;
 pub use errors::{AppendError, AskError, IndexError};
-pub use form::{ColumnSpec, Form, MOST_SLICES};
-pub use index::{Index, MOST_BLOCK_ROWS, MOST_ROWS};
-pub use numbering::MOST_FEEDERS;
+pub use form::{ColumnSpec, Form, MAX_SLICES};
+pub use index::{Index, MAX_BLOCK_ROWS, MAX_ROWS};
+pub use numbering::MAX_FEEDERS;
 pub use query::{Answer, Pred, Query, Total};
 pub use row::Row;
 pub use schema::Schema;

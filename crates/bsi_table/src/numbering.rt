@@ -11,7 +11,7 @@ use bsi_bits::Bits;
 use std::alloc::Global;
 
 /// The most feeders of a table.
-pub const MOST_FEEDERS: u32 = 64;
+pub const MAX_FEEDERS: u32 = 64;
 
 /// If more than one row in this many was found, the numbering goes over all rows.
 const MANY: u64 = 8;
@@ -39,7 +39,7 @@ fn number_few(alloc: Global, found: &Bits, origins: &Origins) -> Result<Vec<(u32
     requires { length found.now.bits ≡ length origins.now.rows }
     ensures { IfOk result (λ rows. rows.items ≡ numbered_at origins.now.rows (set_places found.now.bits)) }
 {
-    let mut counts = [0u64; MOST_FEEDERS as usize];
+    let mut counts = [0u64; MAX_FEEDERS as usize];
     let mut at = 0;
     let mut rows = Vec::with_capacity(alloc, found.count() as usize)?;
     'rows: for r in found.ones() {
@@ -56,7 +56,7 @@ fn number_many(alloc: Global, found: &Bits, origins: &Origins) -> Result<Vec<(u3
     requires { length found.now.bits ≡ length origins.now.rows }
     ensures { IfOk result (λ rows. rows.items ≡ numbered_at origins.now.rows (set_places found.now.bits)) }
 {
-    let mut counts = [0u64; MOST_FEEDERS as usize];
+    let mut counts = [0u64; MAX_FEEDERS as usize];
     let mut listed = Vec::with_capacity(alloc, found.count() as usize)?;
     'rows: for r in 0..origins.len() {
         let source = origins.feeder(r);

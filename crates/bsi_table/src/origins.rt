@@ -3,7 +3,7 @@
 ghost use Rattle.std.specs.Prelude.{◌≡◌, ◌+◌, ◌*◌, ◌<◌, ◌≤◌, ◌^◌, ◌++◌, ◌∷◌, [], All, IfOk, IsOk, OnErr, OnOk, length, slice_index, vec_len, vec_capacity};
 ghost use Rattle.bsi_table.specs.Origins.{mark_len, AreCounts};
 
-use crate::{MOST_FEEDERS, NoMemory};
+use crate::{MAX_FEEDERS, NoMemory};
 use std::alloc::Global;
 use std::marker::Model;
 
@@ -11,7 +11,7 @@ use std::marker::Model;
 pub(crate) const STRETCH: u64 = 512;
 
 /// A count for each feeder.
-pub(crate) type Counts = [u64; MOST_FEEDERS as usize];
+pub(crate) type Counts = [u64; MAX_FEEDERS as usize];
 
 /// The feeder of each of at most 2^32 rows, one byte per row. If there are several feeders, a mark stands before each
 /// stretch of 512 rows. It tells how many of the rows before came from each feeder, in 4 bytes per feeder.
@@ -43,7 +43,7 @@ impl Origins {
         ensures rows { result.rows ≡ [] }
         ensures feeders { result.feeders ≡ feeders }
     {
-        let counts = [0; MOST_FEEDERS as usize];
+        let counts = [0; MAX_FEEDERS as usize];
         Origins {
             feeders,
             sources: Vec::new(alloc),

@@ -15,10 +15,10 @@ use std::marker::Model;
 use std::str::from_utf8;
 
 /// The most columns of a schema.
-const MOST_COLUMNS: usize = 64;
+const MAX_COLUMNS: usize = 64;
 
 /// The most that the offset and the size of a column add up to.
-const GREATEST_END: i128 = 1 << 63;
+const MAX_END: i128 = 1 << 63;
 
 /// A list of at most 64 named columns, in order of declaration.
 #[derive(Drop)]
@@ -183,7 +183,7 @@ impl Schema {
         ensures kept { OnErr result (self.new ≡ self.old) }
     {
         let form = self.checked(name, spec)?;
-        if i128::from(offset) + i128::from(form.size()) > GREATEST_END {
+        if i128::from(offset) + i128::from(form.size()) > MAX_END {
             return Err(SchemaError::BadOffset);
         }
         self.push(name, Kind { form, offset }, true)?;
@@ -211,7 +211,7 @@ impl Schema {
         if self.position(name).is_some() {
             return Err(SchemaError::NameTaken);
         }
-        if self.columns.len() >= MOST_COLUMNS {
+        if self.columns.len() >= MAX_COLUMNS {
             return Err(SchemaError::TooManyColumns);
         }
         Ok(())

@@ -7,7 +7,7 @@ ghost use Rattle.bsi_table.specs.Table.{AreFitting, AreFrom};
 use crate::answers::{Both, COLUMNS, keep, no_rows, row_at, same_answers};
 use crate::tables::*;
 use bsi_columns::NoMemory;
-use bsi_table::{Answer, AppendError, Index, MOST_BLOCK_ROWS, Pred, Row, Total};
+use bsi_table::{Answer, AppendError, Index, MAX_BLOCK_ROWS, Pred, Row, Total};
 use std::alloc::Global;
 use std::process::Abort;
 use std::test::Fail;
@@ -53,7 +53,7 @@ fn has_rows(rt: &impl Abort, index: &Index, count: u64) {
 }
 
 fn append_fitting(index: &mut Index, rows: &[(u32, Row)]) -> Option<Result<u64, AppendError>> {
-    if rows.len() > MOST_BLOCK_ROWS || !are_fitting(index, rows) {
+    if rows.len() > MAX_BLOCK_ROWS || !are_fitting(index, rows) {
         return None;
     }
     Some(index.append_rows(rows))

@@ -3,7 +3,7 @@
 
 use crate::tables::*;
 use bsi_columns::{NoMemory, Op};
-use bsi_table::{Answer, AppendError, Index, MOST_FEEDERS, Pred, Row, Total};
+use bsi_table::{Answer, AppendError, Index, MAX_FEEDERS, Pred, Row, Total};
 use std::alloc::Global;
 use std::process::Abort;
 use std::test::Fail;
@@ -39,7 +39,7 @@ fn counted(
     feeders: u32,
     number: Option<u64>,
 ) -> Result<Vec<(u32, u64)>, NoMemory> {
-    let mut counts = [0u64; MOST_FEEDERS as usize];
+    let mut counts = [0u64; MAX_FEEDERS as usize];
     let mut listed = Vec::with_capacity(alloc, rows as usize)?;
     for row in 0..rows {
         let feeder = feeder_of(row, feeders);

@@ -23,7 +23,7 @@ use thiserror::Error;
 const MAX_RECORDS: u64 = 1_000_000;
 
 /// The most bytes of waiting lines.
-const MAX_WAITING: usize = 1 << 16;
+const MAX_GATHERED: usize = 1 << 16;
 
 /// Why a script ends before its input does. The lines before the end were written.
 #[derive(Clone, Copy, Debug, PartialEq, Eq, Error)]
@@ -166,7 +166,7 @@ fn gather<W: Write>(line: &[u8], waiting: &mut Vec<u8>, writer: &mut W) -> Resul
     ensures none { OnErr result (waiting.new.items ≡ []) }
     ensures fault { IfErr result (λ fault. fault ≡ ScriptFault.Write) }
 {
-    let many = waiting.len().saturating_add(line.len()) > MAX_WAITING;
+    let many = waiting.len().saturating_add(line.len()) > MAX_GATHERED;
     if !many && waiting.extend_from_slice(line).is_ok() {
         return Ok(());
     }

@@ -12,7 +12,7 @@ use bsi_digits::Bases;
 use std::alloc::Global;
 
 /// Past this base a component is equality encoded, so that `=` reads one bitmap of it.
-const WIDEST_RANGE: u32 = 16;
+const MAX_RANGE_BASE: u32 = 16;
 
 /// A component that is range encoded under a small base, and equality encoded under a large one.
 #[derive(Drop)]
@@ -29,7 +29,7 @@ impl Encoding for ByBase {
     ghost room_of = { kept_room };
 
     fn make(alloc: Global, base: u32) -> Result<Self, NoMemory> {
-        if base <= WIDEST_RANGE {
+        if base <= MAX_RANGE_BASE {
             return Ok(ByBase::Range(RangeComponent::make(alloc, base)?));
         }
         Ok(ByBase::Equality(EqualityComponent::make(alloc, base)?))

@@ -12,7 +12,7 @@ use crate::naming::Covers;
 use crate::operation::Operation;
 use crate::version::Version;
 use crate::{Analyst, Naming, NoMemory, Told};
-use bsi_table::{Index, MOST_BLOCK_ROWS, Row};
+use bsi_table::{Index, MAX_BLOCK_ROWS, Row};
 use core::mem::{replace, replace_with};
 use left_right::writer::Writer;
 use logbook::Plain;
@@ -74,7 +74,7 @@ impl<B: Naming> Publisher<B> {
         let free = index.limit();
         let first = Version::new(index, history.known());
         let second = first.copy()?;
-        let stage = Vec::with_capacity(alloc, MOST_BLOCK_ROWS)?;
+        let stage = Vec::with_capacity(alloc, MAX_BLOCK_ROWS)?;
         let copies = Writer::new(alloc, first, second, (analysts as usize).max(1))?;
         Ok(Publisher {
             copies,
@@ -177,7 +177,7 @@ fn make_place<B: Naming>(
     ensures room { 64 ≤ vec_capacity stage.new }
     ensures ok { OnOk result (vec_len stage.new < 64) }
 {
-    if stage.len() < MOST_BLOCK_ROWS {
+    if stage.len() < MAX_BLOCK_ROWS {
         return Ok(());
     }
     append_stage(copies, stage)
@@ -213,7 +213,7 @@ fn append_stage<B: Naming>(
     ensures ok { OnOk result (stage.new.items ≡ []) }
     ensures len { OnOk result (vec_len stage.new ≡ 0) }
 {
-    let next = Vec::with_capacity(*stage.allocator(), MOST_BLOCK_ROWS)?;
+    let next = Vec::with_capacity(*stage.allocator(), MAX_BLOCK_ROWS)?;
     match copies.append(Operation::Rows(replace(stage, next))) {
         Ok(()) => Ok(()),
         Err(Operation::Rows(rows)) => {

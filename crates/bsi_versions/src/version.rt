@@ -5,7 +5,7 @@ ghost use Rattle.bsi_table.specs.Table.{AreFitting, AreFrom};
 
 use crate::NoMemory;
 use crate::history::Reached;
-use bsi_table::{Index, MOST_BLOCK_ROWS, Row};
+use bsi_table::{Index, MAX_BLOCK_ROWS, Row};
 use std::marker::Model;
 
 /// An index, and the list that its rows make once it is published.
@@ -69,7 +69,7 @@ impl Version {
         ensures ok { OnOk result (self.new ≡ record self.old { table = with_rows self.old.table rows.now }) }
         ensures err { OnErr result (self.new ≡ self.old) }
     {
-        if rows.len() > MOST_BLOCK_ROWS || !are_fitting(&self.index, rows) {
+        if rows.len() > MAX_BLOCK_ROWS || !are_fitting(&self.index, rows) {
             return Err(NoMemory);
         }
         match self.index.append_rows(rows) {
