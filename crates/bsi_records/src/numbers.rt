@@ -71,10 +71,10 @@ pub fn read_signed(text: &[u8]) -> Option<i128>
     ensures { result ≡ signed_of text.now }
 {
     match text {
-        [b'-', digits @ ..] => match read_number(digits) {
-            None => None,
-            Some(n) => Some(-i128::from(n)),
-        },
+        [b'-', digits @ ..] => {
+            let number = read_number(digits)?;
+            Some(-i128::from(number))
+        }
         _ => read_unsigned(text),
     }
 }
@@ -83,10 +83,8 @@ pub fn read_signed(text: &[u8]) -> Option<i128>
 fn read_unsigned(text: &[u8]) -> Option<i128>
     ensures { result ≡ option_map pos (number_of text.now) }
 {
-    match read_number(text) {
-        None => None,
-        Some(n) => Some(i128::from(n)),
-    }
+    let number = read_number(text)?;
+    Some(i128::from(number))
 }
 
 /// Reads a number. It takes a minus sign only where numbers are signed.
@@ -107,20 +105,16 @@ pub fn read_value(signed: bool, text: &[u8]) -> Option<Option<i128>>
     if text.is_empty() {
         return Some(None);
     }
-    match read_in(signed, text) {
-        None => None,
-        Some(n) => Some(Some(n)),
-    }
+    let number = read_in(signed, text)?;
+    Some(Some(number))
 }
 
 /// Reads the number of a feeder. A number that no `u32` holds becomes the greatest `u32`, which is no feeder either.
 pub(crate) fn read_feeder(text: &[u8]) -> Option<u32>
     ensures { result ≡ feeder_of text.now }
 {
-    match read_number(text) {
-        None => None,
-        Some(n) => Some(n.min(u64::from(u32::MAX)) as u32),
-    }
+    let number = read_number(text)?;
+    Some(number.min(u64::from(u32::MAX)) as u32)
 }
 
 /// Reads a number from `least` to `most`.
@@ -138,19 +132,15 @@ pub(crate) fn read_within(least: u64, most: u64, text: &[u8]) -> Option<u64>
 fn read_small(text: &[u8]) -> Option<u32>
     ensures { result ≡ small_of text.now }
 {
-    match read_within(0, u64::from(u32::MAX), text) {
-        None => None,
-        Some(n) => Some(n as u32),
-    }
+    let number = read_within(0, u64::from(u32::MAX), text)?;
+    Some(number as u32)
 }
 
 /// Reads the offset of a column, its least number: a whole number of 64 bits.
 pub(crate) fn read_offset(text: &[u8]) -> Option<i64>
     ensures { result ≡ offset_of text.now }
 {
-    let Some(n) = read_signed(text) else {
-        return None;
-    };
+    let n = read_signed(text)?;
     if n < i128::from(i64::MIN) || n > i128::from(i64::MAX) {
         return None;
     }

@@ -39,7 +39,7 @@ pub(crate) fn read_predicate(
     if fields.len().saturating_sub(from) > MAX_FIELDS {
         return Ok(None);
     }
-    // A column's name is none of the words.
+    // The call makes the schema's invariant known to the proof: a column's name is none of the words.
     prove!(schema.columns() <= 64);
     let mut stack = Vec::new(alloc);
     let Some(pending) = read_fields(alloc, schema, fields, from, &mut stack)? else {

@@ -56,10 +56,8 @@ fn read_form(alloc: Global, word: &[u8], text: &[u8]) -> Result<Option<ColumnSpe
 fn read_slices(text: &[u8]) -> Option<ColumnSpec>
     ensures { option_and_then form_had result ≡ option_map Slices (number_within 1 63 text.now) }
 {
-    match read_within(1, u64::from(MAX_SLICES), text) {
-        None => None,
-        Some(width) => Some(ColumnSpec::Slices(width as u32)),
-    }
+    let width = read_within(1, u64::from(MAX_SLICES), text)?;
+    Some(ColumnSpec::Slices(width as u32))
 }
 
 // ---- columns

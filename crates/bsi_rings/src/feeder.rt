@@ -91,9 +91,7 @@ impl Feeder {
             schema,
             ring,
         } = self;
-        match ring.finish() {
-            Some(finished) => Some(Closing::new(number, schema, finished)),
-            None => None,
-        }
+        let finished = ring.finish()?;
+        Some(Closing::new(number, schema, finished))
     }
 }

@@ -323,10 +323,8 @@ fn stored_from(offset: i64, entry: Option<i64>) -> Option<u64>
     requires { IfSome entry (λ x. (offset ≤ℤ x) × (x <ℤ (offset +ℤ pos (2 ^ 63)))) }
     ensures { option_map (number_of offset) result ≡ entry }
 {
-    match entry {
-        None => None,
-        Some(number) => Some((number - offset) as u64),
-    }
+    let number = entry?;
+    Some((number - offset) as u64)
 }
 
 /// Writes what is stored of each entry of a block.
@@ -346,10 +344,8 @@ fn number_from(offset: i64, stored: Option<u64>) -> Option<i64>
     requires { IfSome stored (λ n. (n < 2 ^ 63) × (number_of offset n <ℤ pos (2 ^ 63))) }
     ensures { result ≡ option_map (number_of offset) stored }
 {
-    match stored {
-        None => None,
-        Some(n) => Some(offset + n as i64),
-    }
+    let number = stored?;
+    Some(offset + number as i64)
 }
 
 /// Returns the sum of `numbers` numbers, where `stored` is the sum of their stored numbers: each number is the offset

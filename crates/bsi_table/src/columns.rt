@@ -102,10 +102,8 @@ fn narrowed(entry: Option<i128>) -> Option<i64>
     requires { IsNarrow entry }
     ensures { result ≡ entry }
 {
-    match entry {
-        None => None,
-        Some(number) => Some(number as i64),
-    }
+    let number = entry?;
+    Some(number as i64)
 }
 
 /// Makes a second list of the same columns.

@@ -80,6 +80,7 @@ impl Schema {
     pub fn find(&self, name: &[u8]) -> Option<u32>
         ensures { result ≡ position_of self.now.columns name.now }
     {
+        // Reading a field makes the schema's invariant known to the proof.
         let _ = &self.columns;
         match from_utf8(name) {
             Ok(name) => self.position(name),
