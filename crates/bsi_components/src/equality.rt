@@ -336,6 +336,18 @@ impl Encoding for EqualityComponent {
         true
     }
 
+    // It is the provided body, under a clause that says that it is always done.
+    fn le_block_into(&self, d: u32, at: usize, block: &mut [u64]) -> bool
+        requires below { d < self.now.base }
+        requires within { at + length block.old ≤ (length self.now.digits + 63) / 64 }
+        ensures done { IsTrue result }
+        ensures bits { OnTrue result ((p : ℕ) → p < 64 * length block.old → 64 * at + p < length self.now.digits →
+            bit_of block.new p ≡ nat_le (slice_index self.now.digits (64 * at + p)) d) }
+    {
+        block.fill(u64::MAX);
+        self.le_block(d, at, block)
+    }
+
     // It reads the bitmaps from digit 0 up.
     fn least_in_block(&self, limit: u32, at: usize, block: &[u64]) -> EndDigit {
         let _base = self.base();
