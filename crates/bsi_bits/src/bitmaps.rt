@@ -58,14 +58,16 @@ impl Bitmaps {
     pub fn as_slice(&self) -> &[Bits]
         ensures vectors { result.now ≡ self.now.vectors }
         ensures some { 0 < length result.now }
-        ensures even { (j : ℕ) → j < length result.now → length (bits_at result.now j) ≡ length (bits_at result.now 0) }
+        ensures even { (j : ℕ) → j < length result.now →
+            length (bits_at result.now j) ≡ length (bits_at result.now 0) }
     {
         &self.vectors
     }
 
     /// Returns how many bits each vector has, at most 2^32.
     pub fn len(&self) -> u64
-        ensures len { (j : ℕ) → j < length self.now.vectors → length (bits_at self.now.vectors j) ≡ result }
+        ensures len { (j : ℕ) → j < length self.now.vectors →
+            length (bits_at self.now.vectors j) ≡ result }
         ensures first { result ≡ length (bits_at self.now.vectors 0) }
         ensures within { result ≤ 2 ^ 32 }
     {
@@ -113,7 +115,8 @@ impl Bitmaps {
         requires callable { F.IsAlwaysCallable bit_of }
         ensures count { length self.new.vectors ≡ length self.old.vectors }
         ensures bits { (bit : ℕ → Bool) → Says (F.post bit_of) (length self.old.vectors) bit →
-            (j : ℕ) → j < length self.old.vectors → bits_at self.new.vectors j ≡ bits_at self.old.vectors j ++ bit j ∷ [] }
+            (j : ℕ) → j < length self.old.vectors →
+            bits_at self.new.vectors j ≡ bits_at self.old.vectors j ++ bit j ∷ [] }
         ensures room { self.new.room + 1 ≡ self.old.room }
     {
         'vectors: for j in 0..self.vectors.len() {
@@ -131,7 +134,8 @@ impl Bitmaps {
         requires clear { (j : ℕ) → slice_index words.now j < 2 ^ count }
         ensures count { length self.new.vectors ≡ length self.old.vectors }
         ensures bits { (j : ℕ) → j < length self.old.vectors →
-            bits_at self.new.vectors j ≡ bits_at self.old.vectors j ++ bits_of count (slice_index words.now j ∷ []) }
+            bits_at self.new.vectors j
+            ≡ bits_at self.old.vectors j ++ bits_of count (slice_index words.now j ∷ []) }
         ensures room { self.new.room + count ≡ self.old.room }
     {
         'vectors: for j in 0..self.vectors.len() {

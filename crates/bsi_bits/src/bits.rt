@@ -31,7 +31,8 @@ impl Model for Bits {
 
     ghost Value = { BitList };
 
-    ghost view = { λ b. record { bits = bits_of b.len b.words.items; room = room_behind b.len (vec_capacity b.words) } };
+    ghost view = { λ b. record
+        { bits = bits_of b.len b.words.items; room = room_behind b.len (vec_capacity b.words) } };
 
     ghost invariant = { λ b. IsPacked b.len b.words.items };
 }

@@ -297,7 +297,8 @@ pub fn count_and(a: &[u64], b: &[u64]) -> u128
 /// Counts the bits that are set in `a` and clear in `b`, at most 64 per word.
 pub fn count_and_not(a: &[u64], b: &[u64]) -> u128
     requires { length a.now ≡ length b.now }
-    ensures ones { result ≡ sum_by count_ones (zip2 (λ x y. bit_and x (bit_not w64 y)) a.now b.now) }
+    ensures ones { result ≡ sum_by count_ones
+        (zip2 (λ x y. bit_and x (bit_not w64 y)) a.now b.now) }
     ensures few { result ≤ 64 * length a.now }
 {
     count_combined::<AndNotWords>(a, b)

@@ -46,7 +46,8 @@ pub fn push_word(words: &mut Vec<u64>, n: u64, word: u64, count: u64)
     requires packed { IsPacked n words.old.items }
     requires room { n + count ≤ 64 * vec_capacity words.old }
     ensures packed { IsPacked (n + count) words.new.items }
-    ensures bits { bits_of (n + count) words.new.items ≡ bits_of n words.old.items ++ bits_of count (word ∷ []) }
+    ensures bits { bits_of (n + count) words.new.items
+        ≡ bits_of n words.old.items ++ bits_of count (word ∷ []) }
     ensures capacity { vec_capacity words.new ≡ vec_capacity words.old }
 {
     let place = n % 64;

@@ -33,8 +33,10 @@ impl AnyColumn {
         requires few { length block.old ≤ 1024 }
         requires within { at + length block.old ≤ (length (any_entries self.now) + 63) / 64 }
         ensures kept { OnErr result (block.new ≡ block.old) }
-        ensures rows { OnOk result ((p : ℕ) → p < 64 * length block.old → 64 * at + p < length (any_entries self.now) → bit_of block.new p
-            ≡ (bit_of block.old p && selects op constant (slice_index_or (any_entries self.now) (64 * at + p) None))) }
+        ensures rows { OnOk result ((p : ℕ) → p < 64 * length block.old →
+            64 * at + p < length (any_entries self.now) → bit_of block.new p
+            ≡ (bit_of block.old p && selects op constant
+            (slice_index_or (any_entries self.now) (64 * at + p) None))) }
     {
         match self {
             AnyColumn::Slices(column) => {
@@ -49,8 +51,10 @@ impl AnyColumn {
     /// Keeps in a block of words the rows that are null. The first word stands for the 64 rows from row `64 * at` on.
     pub fn keep_nulls(&self, at: usize, block: &mut [u64])
         requires within { at + length block.old ≤ (length (any_entries self.now) + 63) / 64 }
-        ensures { (p : ℕ) → p < 64 * length block.old → 64 * at + p < length (any_entries self.now) → bit_of block.new p
-            ≡ (bit_of block.old p && is_none (slice_index_or (any_entries self.now) (64 * at + p) None)) }
+        ensures { (p : ℕ) → p < 64 * length block.old →
+            64 * at + p < length (any_entries self.now) → bit_of block.new p
+            ≡ (bit_of block.old p && is_none
+            (slice_index_or (any_entries self.now) (64 * at + p) None)) }
     {
         drop_in(self.present(), at, block);
     }
@@ -211,7 +215,8 @@ impl Column for AnyColumn {
     }
 
     fn copy(&self) -> Result<Self, NoMemory>
-        ensures same { IfOk result (λ c. (any_entries c ≡ any_entries self.now) × (any_size c ≡ any_size self.now) × (any_bases c ≡ any_bases self.now)) }
+        ensures same { IfOk result (λ c. (any_entries c ≡ any_entries self.now)
+            × (any_size c ≡ any_size self.now) × (any_bases c ≡ any_bases self.now)) }
         ensures form { IfOk result (λ c. IsSameForm c self.now) }
     {
         match self {

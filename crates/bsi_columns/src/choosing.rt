@@ -19,8 +19,10 @@ pub fn choose<E: Encoding>(
     requires scratch { length (E.digits component.now) ≡ length scratch.old.bits }
     requires there { rank < count_by (λ b. b) chosen.old.bits }
     ensures digit { result.digit < E.base_of component.now }
-    ensures chosen { chosen.new.bits ≡ zip2 (λ f v. f && nat_eq v result.digit) chosen.old.bits (E.digits component.now) }
-    ensures rank { rank ≡ count_where (λ v. nat_lt v result.digit) chosen.old.bits (E.digits component.now) + result.rank }
+    ensures chosen { chosen.new.bits
+        ≡ zip2 (λ f v. f && nat_eq v result.digit) chosen.old.bits (E.digits component.now) }
+    ensures rank { rank ≡ count_where (λ v. nat_lt v result.digit) chosen.old.bits
+        (E.digits component.now) + result.rank }
     ensures there { result.rank < count_by (λ b. b) chosen.new.bits }
     ensures scratch { length scratch.new.bits ≡ length scratch.old.bits }
 {

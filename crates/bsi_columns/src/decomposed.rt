@@ -41,8 +41,11 @@ impl<E: Encoding> Model for Decomposed<E> {
       room = c.room;
     } };
 
-    ghost invariant = { λ c. Decomposes c.bases c.present.bits (map E.digits c.components.items) (entries_of c.bases c.present.bits (map E.digits c.components.items))
-        × (map E.base_of c.components.items ≡ c.bases) × IsRoomy (length c.present.bits) c.room c.present.room (map E.room_of c.components.items) };
+    ghost invariant = { λ c. Decomposes c.bases c.present.bits (map E.digits c.components.items)
+        (entries_of c.bases c.present.bits (map E.digits c.components.items))
+        × (map E.base_of c.components.items ≡ c.bases)
+        × IsRoomy (length c.present.bits) c.room c.present.room
+        (map E.room_of c.components.items) };
 }
 
 impl<E: Encoding> Decomposed<E> {
@@ -70,7 +73,8 @@ impl<E: Encoding> Decomposed<E> {
     /// Returns the component of the digits at place `i`, least significant first. The digit of a null row is 0.
     pub fn component(&self, i: u32) -> &E
         requires { i < length self.now.bases }
-        ensures digits { E.digits result.now ≡ map (λ e. digit_of self.now.bases (number_or_zero e) i) self.now.entries }
+        ensures digits { E.digits result.now
+            ≡ map (λ e. digit_of self.now.bases (number_or_zero e) i) self.now.entries }
         ensures base { E.base_of result.now ≡ slice_index self.now.bases i }
     {
         &self.components[i as usize]
@@ -188,7 +192,8 @@ fn make_each<E: Encoding>(alloc: Global, bases: &Bases) -> Result<Vec<E>, NoMemo
 /// Copies each component.
 fn copy_each<E: Encoding>(components: &Vec<E>) -> Result<Vec<E>, NoMemory>
     ensures digits { IfOk result (λ cs. map E.digits cs.items ≡ map E.digits components.now.items) }
-    ensures bases { IfOk result (λ cs. map E.base_of cs.items ≡ map E.base_of components.now.items) }
+    ensures bases { IfOk result (λ cs. map E.base_of cs.items
+        ≡ map E.base_of components.now.items) }
 {
     let mut copies = Vec::with_capacity(*components.allocator(), components.len())?;
     for component in components {

@@ -12,8 +12,11 @@ pub(crate) fn reserve_each<E: Encoding>(components: &mut Vec<E>, more: u64) -> R
     requires { All (λ c. length (E.digits c) + more ≤ 2 ^ 32) components.old.items }
     ensures digits { map E.digits components.new.items ≡ map E.digits components.old.items }
     ensures bases { map E.base_of components.new.items ≡ map E.base_of components.old.items }
-    ensures kept { (i : ℕ) → slice_index (map E.room_of components.old.items) i ≤ slice_index (map E.room_of components.new.items) i }
-    ensures ok { OnOk result ((i : ℕ) → i < length components.old.items → more ≤ slice_index (map E.room_of components.new.items) i) }
+    ensures kept { (i : ℕ) →
+        slice_index (map E.room_of components.old.items) i
+        ≤ slice_index (map E.room_of components.new.items) i }
+    ensures ok { OnOk result ((i : ℕ) → i < length components.old.items →
+        more ≤ slice_index (map E.room_of components.new.items) i) }
 {
     for i in 0..components.len() {
         components[i].reserve(more)?;
@@ -24,12 +27,17 @@ pub(crate) fn reserve_each<E: Encoding>(components: &mut Vec<E>, more: u64) -> R
 /// Appends to each component its digit of a number, into room that is already there.
 pub(crate) fn push_digits<E: Encoding>(components: &mut Vec<E>, bases: &Bases, number: u64)
     requires bases { map E.base_of components.old.items ≡ bases.now }
-    requires room { (i : ℕ) → i < length components.old.items → 0 < slice_index (map E.room_of components.old.items) i }
+    requires room { (i : ℕ) → i < length components.old.items →
+        0 < slice_index (map E.room_of components.old.items) i }
     requires below { number < size_of bases.now }
-    ensures digits { (i : ℕ) → i < length bases.now → slice_index_or (map E.digits components.new.items) i []
-        ≡ slice_index_or (map E.digits components.old.items) i [] ++ digit_of bases.now number i ∷ [] }
+    ensures digits { (i : ℕ) → i < length bases.now →
+        slice_index_or (map E.digits components.new.items) i []
+        ≡ slice_index_or (map E.digits components.old.items) i []
+        ++ digit_of bases.now number i ∷ [] }
     ensures bases { map E.base_of components.new.items ≡ bases.now }
-    ensures room { (i : ℕ) → slice_index (map E.room_of components.old.items) i ≤ slice_index (map E.room_of components.new.items) i + 1 }
+    ensures room { (i : ℕ) →
+        slice_index (map E.room_of components.old.items) i
+        ≤ slice_index (map E.room_of components.new.items) i + 1 }
 {
     for i in 0..bases.len() {
         components[i as usize].push_reserved(bases.digit(number, i));
@@ -40,12 +48,18 @@ pub(crate) fn push_digits<E: Encoding>(components: &mut Vec<E>, bases: &Bases, n
 pub(crate) fn push_blocks<E: Encoding>(components: &mut Vec<E>, bases: &Bases, numbers: &[u64])
     requires bases { map E.base_of components.old.items ≡ bases.now }
     requires few { length numbers.now ≤ 64 }
-    requires room { (i : ℕ) → i < length components.old.items → length numbers.now ≤ slice_index (map E.room_of components.old.items) i }
-    requires below { (r : ℕ) → r < length numbers.now → slice_index numbers.now r < size_of bases.now }
-    ensures digits { (i : ℕ) → i < length bases.now → slice_index_or (map E.digits components.new.items) i []
-        ≡ slice_index_or (map E.digits components.old.items) i [] ++ map (λ n. digit_of bases.now n i) numbers.now }
+    requires room { (i : ℕ) → i < length components.old.items →
+        length numbers.now ≤ slice_index (map E.room_of components.old.items) i }
+    requires below { (r : ℕ) → r < length numbers.now →
+        slice_index numbers.now r < size_of bases.now }
+    ensures digits { (i : ℕ) → i < length bases.now →
+        slice_index_or (map E.digits components.new.items) i []
+        ≡ slice_index_or (map E.digits components.old.items) i []
+        ++ map (λ n. digit_of bases.now n i) numbers.now }
     ensures bases { map E.base_of components.new.items ≡ bases.now }
-    ensures room { (i : ℕ) → slice_index (map E.room_of components.old.items) i ≤ slice_index (map E.room_of components.new.items) i + length numbers.now }
+    ensures room { (i : ℕ) →
+        slice_index (map E.room_of components.old.items) i
+        ≤ slice_index (map E.room_of components.new.items) i + length numbers.now }
 {
     for i in 0..bases.len() {
         push_block(&mut components[i as usize], bases, i, numbers);
@@ -58,8 +72,10 @@ fn push_block<E: Encoding>(component: &mut E, bases: &Bases, i: u32, numbers: &[
     requires base { E.base_of component.old ≡ slice_index bases.now i }
     requires few { length numbers.now ≤ 64 }
     requires room { length numbers.now ≤ E.room_of component.old }
-    requires below { (r : ℕ) → r < length numbers.now → slice_index numbers.now r < size_of bases.now }
-    ensures digits { E.digits component.new ≡ E.digits component.old ++ map (λ n. digit_of bases.now n i) numbers.now }
+    requires below { (r : ℕ) → r < length numbers.now →
+        slice_index numbers.now r < size_of bases.now }
+    ensures digits { E.digits component.new
+        ≡ E.digits component.old ++ map (λ n. digit_of bases.now n i) numbers.now }
     ensures base { E.base_of component.new ≡ E.base_of component.old }
     ensures room { E.room_of component.old ≤ E.room_of component.new + length numbers.now }
 {
@@ -72,9 +88,11 @@ fn push_block<E: Encoding>(component: &mut E, bases: &Bases, i: u32, numbers: &[
 fn write_digits(bases: &Bases, i: u32, numbers: &[u64], digits: &mut [u32])
     requires within { i < length bases.now }
     requires same { length digits.old ≡ length numbers.now }
-    requires below { (r : ℕ) → r < length numbers.now → slice_index numbers.now r < size_of bases.now }
+    requires below { (r : ℕ) → r < length numbers.now →
+        slice_index numbers.now r < size_of bases.now }
     ensures digits { digits.new ≡ map (λ n. digit_of bases.now n i) numbers.now }
-    ensures below { (r : ℕ) → r < length numbers.now → slice_index digits.new r < slice_index bases.now i }
+    ensures below { (r : ℕ) → r < length numbers.now →
+        slice_index digits.new r < slice_index bases.now i }
 {
     for r in 0..numbers.len() {
         digits[r] = bases.digit(numbers[r], i);

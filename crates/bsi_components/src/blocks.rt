@@ -13,7 +13,8 @@ pub fn keep_in(bitmap: &Bits, at: usize, block: &mut [u64])
     requires { at + length block.old ≤ (length bitmap.now.bits + 63) / 64 }
     ensures len { length block.new ≡ length block.old }
     ensures bits { (p : ℕ) → p < 64 * length block.old →
-        bit_of block.new p ≡ (bit_of block.old p && slice_index_or bitmap.now.bits (64 * at + p) false) }
+        bit_of block.new p ≡ (bit_of block.old p
+        && slice_index_or bitmap.now.bits (64 * at + p) false) }
 {
     let words = bitmap.words();
     lanes::and(block, &words[at..at + block.len()]);
@@ -23,7 +24,8 @@ pub fn keep_in(bitmap: &Bits, at: usize, block: &mut [u64])
 pub fn copy_in(bitmap: &Bits, at: usize, block: &mut [u64])
     requires { at + length block.old ≤ (length bitmap.now.bits + 63) / 64 }
     ensures len { length block.new ≡ length block.old }
-    ensures bits { (p : ℕ) → p < 64 * length block.old → bit_of block.new p ≡ slice_index_or bitmap.now.bits (64 * at + p) false }
+    ensures bits { (p : ℕ) → p < 64 * length block.old →
+        bit_of block.new p ≡ slice_index_or bitmap.now.bits (64 * at + p) false }
 {
     let words = bitmap.words();
     block.copy_from_slice(&words[at..at + block.len()]);
@@ -34,7 +36,8 @@ pub fn drop_in(bitmap: &Bits, at: usize, block: &mut [u64])
     requires { at + length block.old ≤ (length bitmap.now.bits + 63) / 64 }
     ensures len { length block.new ≡ length block.old }
     ensures bits { (p : ℕ) → p < 64 * length block.old →
-        bit_of block.new p ≡ (bit_of block.old p && not (slice_index_or bitmap.now.bits (64 * at + p) false)) }
+        bit_of block.new p ≡ (bit_of block.old p
+        && not (slice_index_or bitmap.now.bits (64 * at + p) false)) }
 {
     let words = bitmap.words();
     know_fits(words);
@@ -46,7 +49,8 @@ pub fn add_in(bitmap: &Bits, at: usize, block: &mut [u64])
     requires { at + length block.old ≤ (length bitmap.now.bits + 63) / 64 }
     ensures len { length block.new ≡ length block.old }
     ensures bits { (p : ℕ) → p < 64 * length block.old →
-        bit_of block.new p ≡ (bit_of block.old p || slice_index_or bitmap.now.bits (64 * at + p) false) }
+        bit_of block.new p ≡ (bit_of block.old p
+        || slice_index_or bitmap.now.bits (64 * at + p) false) }
 {
     let words = bitmap.words();
     lanes::or(block, &words[at..at + block.len()]);
@@ -58,7 +62,8 @@ pub fn keep_and_add(kept: &Bits, added: &Bits, at: usize, block: &mut [u64])
     requires added { at + length block.old ≤ (length added.now.bits + 63) / 64 }
     ensures len { length block.new ≡ length block.old }
     ensures bits { (p : ℕ) → p < 64 * length block.old → bit_of block.new p
-        ≡ (bit_of block.old p && slice_index_or kept.now.bits (64 * at + p) false || slice_index_or added.now.bits (64 * at + p) false) }
+        ≡ (bit_of block.old p && slice_index_or kept.now.bits (64 * at + p) false
+        || slice_index_or added.now.bits (64 * at + p) false) }
 {
     let (first, second) = (kept.words(), added.words());
     let end = at + block.len();
@@ -71,7 +76,8 @@ pub fn keep_but_drop(kept: &Bits, dropped: &Bits, at: usize, block: &mut [u64])
     requires dropped { at + length block.old ≤ (length dropped.now.bits + 63) / 64 }
     ensures len { length block.new ≡ length block.old }
     ensures bits { (p : ℕ) → p < 64 * length block.old → bit_of block.new p
-        ≡ (bit_of block.old p && slice_index_or kept.now.bits (64 * at + p) false && not (slice_index_or dropped.now.bits (64 * at + p) false)) }
+        ≡ (bit_of block.old p && slice_index_or kept.now.bits (64 * at + p) false
+        && not (slice_index_or dropped.now.bits (64 * at + p) false)) }
 {
     let (first, second) = (kept.words(), dropped.words());
     know_fits(second);
@@ -82,7 +88,8 @@ pub fn keep_but_drop(kept: &Bits, dropped: &Bits, at: usize, block: &mut [u64])
 /// Inverts the bit of each row of the block.
 pub fn turn(block: &mut [u64])
     ensures len { length block.new ≡ length block.old }
-    ensures bits { (p : ℕ) → p < 64 * length block.old → bit_of block.new p ≡ not (bit_of block.old p) }
+    ensures bits { (p : ℕ) → p < 64 * length block.old →
+        bit_of block.new p ≡ not (bit_of block.old p) }
 {
     know_fits(block);
     lanes::not(block);
@@ -93,7 +100,8 @@ pub fn add_missing(bitmap: &Bits, at: usize, block: &mut [u64])
     requires { at + length block.old ≤ (length bitmap.now.bits + 63) / 64 }
     ensures len { length block.new ≡ length block.old }
     ensures bits { (p : ℕ) → p < 64 * length block.old →
-        bit_of block.new p ≡ (bit_of block.old p || not (slice_index_or bitmap.now.bits (64 * at + p) false)) }
+        bit_of block.new p ≡ (bit_of block.old p
+        || not (slice_index_or bitmap.now.bits (64 * at + p) false)) }
 {
     let words = bitmap.words();
     know_fits(words);
@@ -103,8 +111,11 @@ pub fn add_missing(bitmap: &Bits, at: usize, block: &mut [u64])
 /// Returns whether the block has a row that the bitmap has.
 pub fn meets(bitmap: &Bits, at: usize, block: &[u64]) -> bool
     requires { at + length block.now ≤ (length bitmap.now.bits + 63) / 64 }
-    ensures some { IsTrue result → HasRow (λ p. bit_of block.now p && slice_index_or bitmap.now.bits (64 * at + p) false) (64 * length block.now) }
-    ensures none { IsFalse result → (p : ℕ) → p < 64 * length block.now → (bit_of block.now p && slice_index_or bitmap.now.bits (64 * at + p) false) ≡ false }
+    ensures some { IsTrue result →
+        HasRow (λ p. bit_of block.now p
+        && slice_index_or bitmap.now.bits (64 * at + p) false) (64 * length block.now) }
+    ensures none { IsFalse result → (p : ℕ) → p < 64 * length block.now →
+        (bit_of block.now p && slice_index_or bitmap.now.bits (64 * at + p) false) ≡ false }
 {
     let words = bitmap.words();
     let part = &words[at..at + block.len()];
@@ -119,8 +130,11 @@ pub fn meets(bitmap: &Bits, at: usize, block: &[u64]) -> bool
 /// Returns whether the block has a row that the bitmap does not have.
 pub fn exceeds(bitmap: &Bits, at: usize, block: &[u64]) -> bool
     requires { at + length block.now ≤ (length bitmap.now.bits + 63) / 64 }
-    ensures some { IsTrue result → HasRow (λ p. bit_of block.now p && not (slice_index_or bitmap.now.bits (64 * at + p) false)) (64 * length block.now) }
-    ensures none { IsFalse result → (p : ℕ) → p < 64 * length block.now → (bit_of block.now p && not (slice_index_or bitmap.now.bits (64 * at + p) false)) ≡ false }
+    ensures some { IsTrue result →
+        HasRow (λ p. bit_of block.now p
+        && not (slice_index_or bitmap.now.bits (64 * at + p) false)) (64 * length block.now) }
+    ensures none { IsFalse result → (p : ℕ) → p < 64 * length block.now →
+        (bit_of block.now p && not (slice_index_or bitmap.now.bits (64 * at + p) false)) ≡ false }
 {
     let words = bitmap.words();
     let part = &words[at..at + block.len()];

@@ -85,7 +85,8 @@ pub trait Encoding: Drop {
     fn push_block_reserved(&mut self, block: &[u32])
         requires few { length block.now ≤ 64 }
         requires room { length block.now ≤ room_of self.old }
-        requires below { (k : ℕ) → k < length block.now → slice_index block.now k < base_of self.old }
+        requires below { (k : ℕ) → k < length block.now →
+            slice_index block.now k < base_of self.old }
         ensures digits { digits self.new ≡ digits self.old ++ block.now }
         ensures base { base_of self.new ≡ base_of self.old }
         ensures room { room_of self.old ≤ room_of self.new + length block.now }
@@ -155,8 +156,10 @@ pub trait Encoding: Drop {
         requires scratch { length (digits self.now) ≡ length scratch.old.bits }
         requires there { rank < count_by (λ b. b) found.now.bits }
         ensures digit { result.digit < base_of self.now }
-        ensures rank { rank ≡ count_where (λ v. nat_lt v result.digit) found.now.bits (digits self.now) + result.rank }
-        ensures there { rank < count_where (λ v. nat_le v result.digit) found.now.bits (digits self.now) }
+        ensures rank { rank ≡ count_where (λ v. nat_lt v result.digit) found.now.bits
+            (digits self.now) + result.rank }
+        ensures there { rank < count_where (λ v. nat_le v result.digit) found.now.bits
+            (digits self.now) }
         ensures scratch { length scratch.new.bits ≡ length scratch.old.bits }
     {
         let (mut low, mut high) = (0, self.base() - 1);
@@ -191,7 +194,8 @@ pub trait Encoding: Drop {
 
     /// Returns a second component of the same digits.
     fn copy(&self) -> Result<Self, NoMemory>
-        ensures { IfOk result (λ c. (digits c ≡ digits self.now) × (base_of c ≡ base_of self.now)) };
+        ensures { IfOk result (λ c. (digits c ≡ digits self.now)
+            × (base_of c ≡ base_of self.now)) };
 
     /// Clears in a block of words, which stand for the rows from `64 * at` on, the rows whose digit is not `d`. Answers
     /// `false`, and does nothing, where the encoding works on whole vectors alone.
@@ -199,8 +203,10 @@ pub trait Encoding: Drop {
         requires below { d < base_of self.now }
         requires within { at + length block.old ≤ (length (digits self.now) + 63) / 64 }
         ensures kept { OnFalse result (block.new ≡ block.old) }
-        ensures bits { OnTrue result ((p : ℕ) → p < 64 * length block.old → 64 * at + p < length (digits self.now) →
-            bit_of block.new p ≡ (bit_of block.old p && (slice_index (digits self.now) (64 * at + p) == d))) }
+        ensures bits { OnTrue result ((p : ℕ) → p < 64 * length block.old →
+            64 * at + p < length (digits self.now) →
+            bit_of block.new p ≡ (bit_of block.old p
+            && (slice_index (digits self.now) (64 * at + p) == d))) }
     {
         false
     }
@@ -213,8 +219,10 @@ pub trait Encoding: Drop {
         requires below { d < base_of self.now }
         requires within { at + length block.old ≤ (length (digits self.now) + 63) / 64 }
         ensures kept { OnFalse result (block.new ≡ block.old) }
-        ensures bits { OnTrue result ((p : ℕ) → p < 64 * length block.old → 64 * at + p < length (digits self.now) →
-            bit_of block.new p ≡ at_most_from (bit_of block.old p) (slice_index (digits self.now) (64 * at + p)) d) }
+        ensures bits { OnTrue result ((p : ℕ) → p < 64 * length block.old →
+            64 * at + p < length (digits self.now) →
+            bit_of block.new p ≡ at_most_from (bit_of block.old p)
+            (slice_index (digits self.now) (64 * at + p)) d) }
     {
         false
     }
@@ -225,7 +233,8 @@ pub trait Encoding: Drop {
     fn le_block_into(&self, d: u32, at: usize, block: &mut [u64]) -> bool
         requires below { d < base_of self.now }
         requires within { at + length block.old ≤ (length (digits self.now) + 63) / 64 }
-        ensures bits { OnTrue result ((p : ℕ) → p < 64 * length block.old → 64 * at + p < length (digits self.now) →
+        ensures bits { OnTrue result ((p : ℕ) → p < 64 * length block.old →
+            64 * at + p < length (digits self.now) →
             bit_of block.new p ≡ nat_le (slice_index (digits self.now) (64 * at + p)) d) }
     {
         block.fill(u64::MAX);
@@ -237,9 +246,11 @@ pub trait Encoding: Drop {
     fn least_in_block(&self, limit: u32, at: usize, block: &[u64]) -> EndDigit
         requires below { limit < base_of self.now }
         requires within { at + length block.now ≤ (length (digits self.now) + 63) / 64 }
-        requires rows { (p : ℕ) → p < 64 * length block.now → bit_of block.now p ≡ true → 64 * at + p < length (digits self.now) }
+        requires rows { (p : ℕ) → p < 64 * length block.now → bit_of block.now p ≡ true →
+            64 * at + p < length (digits self.now) }
         requires some { HasRow (bit_of block.now) (64 * length block.now) }
-        ensures { AnswersLeast limit (bit_of block.now) (λ p. slice_index (digits self.now) (64 * at + p)) (64 * length block.now) result }
+        ensures { AnswersLeast limit (bit_of block.now)
+            (λ p. slice_index (digits self.now) (64 * at + p)) (64 * length block.now) result }
     {
         EndDigit::Unanswered
     }
@@ -249,9 +260,11 @@ pub trait Encoding: Drop {
     fn greatest_in_block(&self, limit: u32, at: usize, block: &[u64]) -> EndDigit
         requires below { limit < base_of self.now }
         requires within { at + length block.now ≤ (length (digits self.now) + 63) / 64 }
-        requires rows { (p : ℕ) → p < 64 * length block.now → bit_of block.now p ≡ true → 64 * at + p < length (digits self.now) }
+        requires rows { (p : ℕ) → p < 64 * length block.now → bit_of block.now p ≡ true →
+            64 * at + p < length (digits self.now) }
         requires some { HasRow (bit_of block.now) (64 * length block.now) }
-        ensures { AnswersGreatest limit (bit_of block.now) (λ p. slice_index (digits self.now) (64 * at + p)) (64 * length block.now) result }
+        ensures { AnswersGreatest limit (bit_of block.now)
+            (λ p. slice_index (digits self.now) (64 * at + p)) (64 * length block.now) result }
     {
         EndDigit::Unanswered
     }

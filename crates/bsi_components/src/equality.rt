@@ -30,9 +30,14 @@ impl Model for EqualityComponent {
 
     ghost Value = { Component };
 
-    ghost view = { λ c. record { base = c.base; digits = equality_digits c.base c.bitmaps.vectors; room = c.bitmaps.room } };
+    ghost view = { λ c. record {
+      base = c.base;
+      digits = equality_digits c.base c.bitmaps.vectors;
+      room = c.bitmaps.room;
+    } };
 
-    ghost invariant = { λ c. IsEquality c.base c.bitmaps.vectors (equality_digits c.base c.bitmaps.vectors) };
+    ghost invariant = { λ c. IsEquality c.base c.bitmaps.vectors
+        (equality_digits c.base c.bitmaps.vectors) };
 }
 
 /// Returns the first digit that has a bitmap.
@@ -51,7 +56,8 @@ fn push_marked(bitmaps: &mut Bitmaps, first: u32, block: &[u32], words: &mut [u6
     requires below { (k : ℕ) → k < length block.now → slice_index block.now k < length words.old }
     ensures count { length bitmaps.new.vectors ≡ length bitmaps.old.vectors }
     ensures bits { (j : ℕ) → j < length bitmaps.old.vectors →
-        bitmap bitmaps.new.vectors j ≡ bitmap bitmaps.old.vectors j ++ map (λ v. v == first + j) block.now }
+        bitmap bitmaps.new.vectors j
+        ≡ bitmap bitmaps.old.vectors j ++ map (λ v. v == first + j) block.now }
     ensures room { bitmaps.new.room + length block.now ≡ bitmaps.old.room }
 {
     mark(block, words);
@@ -67,7 +73,8 @@ fn push_block(bitmaps: &mut Bitmaps, first: u32, base: u32, block: &[u32])
     requires below { (k : ℕ) → k < length block.now → slice_index block.now k < base }
     ensures count { length bitmaps.new.vectors ≡ length bitmaps.old.vectors }
     ensures bits { (j : ℕ) → j < length bitmaps.old.vectors →
-        bitmap bitmaps.new.vectors j ≡ bitmap bitmaps.old.vectors j ++ map (λ v. v == first + j) block.now }
+        bitmap bitmaps.new.vectors j
+        ≡ bitmap bitmaps.old.vectors j ++ map (λ v. v == first + j) block.now }
     ensures room { bitmaps.new.room + length block.now ≡ bitmaps.old.room }
 {
     if base <= SMALL_BASE {
@@ -134,9 +141,13 @@ impl EqualityComponent {
     fn has_digit(&self, d: u32, at: usize, block: &[u64]) -> bool
         requires below { d < self.now.base }
         requires within { at + length block.now ≤ (length self.now.digits + 63) / 64 }
-        requires rows { (p : ℕ) → p < 64 * length block.now → bit_of block.now p ≡ true → 64 * at + p < length self.now.digits }
-        ensures some { IsTrue result → HasRow (λ p. bit_of block.now p && (slice_index self.now.digits (64 * at + p) == d)) (64 * length block.now) }
-        ensures none { IsFalse result → (p : ℕ) → p < 64 * length block.now → bit_of block.now p ≡ true → slice_index self.now.digits (64 * at + p) ≢ d }
+        requires rows { (p : ℕ) → p < 64 * length block.now → bit_of block.now p ≡ true →
+            64 * at + p < length self.now.digits }
+        ensures some { IsTrue result →
+            HasRow (λ p. bit_of block.now p
+            && (slice_index self.now.digits (64 * at + p) == d)) (64 * length block.now) }
+        ensures none { IsFalse result → (p : ℕ) → p < 64 * length block.now →
+            bit_of block.now p ≡ true → slice_index self.now.digits (64 * at + p) ≢ d }
     {
         if d == 0 && self.base() == 2 {
             exceeds(self.bitmap(1), at, block)
@@ -152,7 +163,8 @@ impl EqualityComponent {
         requires rows { at + length block.old ≤ (length self.now.digits + 63) / 64 }
         ensures len { length block.new ≡ length block.old }
         ensures bits { (p : ℕ) → p < 64 * length block.old → 64 * at + p < length self.now.digits →
-            bit_of block.new p ≡ (bit_of block.old p || is_among from to (slice_index self.now.digits (64 * at + p))) }
+            bit_of block.new p ≡ (bit_of block.old p
+            || is_among from to (slice_index self.now.digits (64 * at + p))) }
     {
         'digits: for j in from..to {
             add_in(self.bitmap(j), at, block);
@@ -166,7 +178,8 @@ impl EqualityComponent {
         requires rows { at + length block.old ≤ (length self.now.digits + 63) / 64 }
         ensures len { length block.new ≡ length block.old }
         ensures bits { (p : ℕ) → p < 64 * length block.old → 64 * at + p < length self.now.digits →
-            bit_of block.new p ≡ (bit_of block.old p && not (is_among from to (slice_index self.now.digits (64 * at + p)))) }
+            bit_of block.new p ≡ (bit_of block.old p
+            && not (is_among from to (slice_index self.now.digits (64 * at + p)))) }
     {
         'digits: for j in from..to {
             drop_in(self.bitmap(j), at, block);
@@ -299,8 +312,10 @@ impl Encoding for EqualityComponent {
         requires within { at + length block.old ≤ (length self.now.digits + 63) / 64 }
         ensures done { IsTrue result }
         ensures kept { OnFalse result (block.new ≡ block.old) }
-        ensures bits { OnTrue result ((p : ℕ) → p < 64 * length block.old → 64 * at + p < length self.now.digits →
-            bit_of block.new p ≡ (bit_of block.old p && (slice_index self.now.digits (64 * at + p) == d))) }
+        ensures bits { OnTrue result ((p : ℕ) → p < 64 * length block.old →
+            64 * at + p < length self.now.digits →
+            bit_of block.new p ≡ (bit_of block.old p
+            && (slice_index self.now.digits (64 * at + p) == d))) }
     {
         if d == 0 && self.base() == 2 {
             drop_in(self.bitmap(1), at, block);
@@ -316,8 +331,10 @@ impl Encoding for EqualityComponent {
         requires within { at + length block.old ≤ (length self.now.digits + 63) / 64 }
         ensures done { IsTrue result }
         ensures kept { OnFalse result (block.new ≡ block.old) }
-        ensures bits { OnTrue result ((p : ℕ) → p < 64 * length block.old → 64 * at + p < length self.now.digits →
-            bit_of block.new p ≡ at_most_from (bit_of block.old p) (slice_index self.now.digits (64 * at + p)) d) }
+        ensures bits { OnTrue result ((p : ℕ) → p < 64 * length block.old →
+            64 * at + p < length self.now.digits →
+            bit_of block.new p ≡ at_most_from (bit_of block.old p)
+            (slice_index self.now.digits (64 * at + p)) d) }
     {
         let base = self.base();
         if base == 2 {
@@ -341,7 +358,8 @@ impl Encoding for EqualityComponent {
         requires below { d < self.now.base }
         requires within { at + length block.old ≤ (length self.now.digits + 63) / 64 }
         ensures done { IsTrue result }
-        ensures bits { OnTrue result ((p : ℕ) → p < 64 * length block.old → 64 * at + p < length self.now.digits →
+        ensures bits { OnTrue result ((p : ℕ) → p < 64 * length block.old →
+            64 * at + p < length self.now.digits →
             bit_of block.new p ≡ nat_le (slice_index self.now.digits (64 * at + p)) d) }
     {
         block.fill(u64::MAX);

@@ -32,7 +32,8 @@ impl Model for RangeComponent {
 
     ghost Value = { Component };
 
-    ghost view = { λ c. record { base = c.base; digits = range_digits c.bitmaps.vectors; room = c.bitmaps.room } };
+    ghost view = { λ c. record
+        { base = c.base; digits = range_digits c.bitmaps.vectors; room = c.bitmaps.room } };
 
     ghost invariant = { λ c. IsRange c.base c.bitmaps.vectors (range_digits c.bitmaps.vectors) };
 }
@@ -45,7 +46,8 @@ fn push_marked(bitmaps: &mut Bitmaps, block: &[u32], words: &mut [u64])
     requires below { (k : ℕ) → k < length block.now → slice_index block.now k < length words.old }
     ensures count { length bitmaps.new.vectors ≡ length bitmaps.old.vectors }
     ensures bits { (j : ℕ) → j < length bitmaps.old.vectors →
-        bitmap bitmaps.new.vectors j ≡ bitmap bitmaps.old.vectors j ++ map (λ v. nat_le v j) block.now }
+        bitmap bitmaps.new.vectors j
+        ≡ bitmap bitmaps.old.vectors j ++ map (λ v. nat_le v j) block.now }
     ensures room { bitmaps.new.room + length block.now ≡ bitmaps.old.room }
 {
     mark(block, words);
@@ -62,7 +64,8 @@ fn push_block(bitmaps: &mut Bitmaps, base: u32, block: &[u32])
     requires below { (k : ℕ) → k < length block.now → slice_index block.now k < base }
     ensures count { length bitmaps.new.vectors ≡ length bitmaps.old.vectors }
     ensures bits { (j : ℕ) → j < length bitmaps.old.vectors →
-        bitmap bitmaps.new.vectors j ≡ bitmap bitmaps.old.vectors j ++ map (λ v. nat_le v j) block.now }
+        bitmap bitmaps.new.vectors j
+        ≡ bitmap bitmaps.old.vectors j ++ map (λ v. nat_le v j) block.now }
     ensures room { bitmaps.new.room + length block.now ≡ bitmaps.old.room }
 {
     if base <= SMALL_BASE {
@@ -87,9 +90,13 @@ impl RangeComponent {
     fn has_upto(&self, d: u32, at: usize, block: &[u64]) -> bool
         requires below { d + 1 < self.now.base }
         requires within { at + length block.now ≤ (length self.now.digits + 63) / 64 }
-        requires rows { (p : ℕ) → p < 64 * length block.now → bit_of block.now p ≡ true → 64 * at + p < length self.now.digits }
-        ensures some { IsTrue result → HasRow (λ p. bit_of block.now p && nat_le (slice_index self.now.digits (64 * at + p)) d) (64 * length block.now) }
-        ensures none { IsFalse result → (p : ℕ) → p < 64 * length block.now → bit_of block.now p ≡ true → d < slice_index self.now.digits (64 * at + p) }
+        requires rows { (p : ℕ) → p < 64 * length block.now → bit_of block.now p ≡ true →
+            64 * at + p < length self.now.digits }
+        ensures some { IsTrue result →
+            HasRow (λ p. bit_of block.now p
+            && nat_le (slice_index self.now.digits (64 * at + p)) d) (64 * length block.now) }
+        ensures none { IsFalse result → (p : ℕ) → p < 64 * length block.now →
+            bit_of block.now p ≡ true → d < slice_index self.now.digits (64 * at + p) }
     {
         meets(self.bitmap(d), at, block)
     }
@@ -98,9 +105,13 @@ impl RangeComponent {
     fn has_above(&self, d: u32, at: usize, block: &[u64]) -> bool
         requires below { d + 1 < self.now.base }
         requires within { at + length block.now ≤ (length self.now.digits + 63) / 64 }
-        requires rows { (p : ℕ) → p < 64 * length block.now → bit_of block.now p ≡ true → 64 * at + p < length self.now.digits }
-        ensures some { IsTrue result → HasRow (λ p. bit_of block.now p && nat_lt d (slice_index self.now.digits (64 * at + p))) (64 * length block.now) }
-        ensures none { IsFalse result → (p : ℕ) → p < 64 * length block.now → bit_of block.now p ≡ true → slice_index self.now.digits (64 * at + p) ≤ d }
+        requires rows { (p : ℕ) → p < 64 * length block.now → bit_of block.now p ≡ true →
+            64 * at + p < length self.now.digits }
+        ensures some { IsTrue result →
+            HasRow (λ p. bit_of block.now p
+            && nat_lt d (slice_index self.now.digits (64 * at + p))) (64 * length block.now) }
+        ensures none { IsFalse result → (p : ℕ) → p < 64 * length block.now →
+            bit_of block.now p ≡ true → slice_index self.now.digits (64 * at + p) ≤ d }
     {
         exceeds(self.bitmap(d), at, block)
     }
@@ -219,8 +230,10 @@ impl Encoding for RangeComponent {
         requires within { at + length block.old ≤ (length self.now.digits + 63) / 64 }
         ensures done { IsTrue result }
         ensures kept { OnFalse result (block.new ≡ block.old) }
-        ensures bits { OnTrue result ((p : ℕ) → p < 64 * length block.old → 64 * at + p < length self.now.digits →
-            bit_of block.new p ≡ (bit_of block.old p && (slice_index self.now.digits (64 * at + p) == d))) }
+        ensures bits { OnTrue result ((p : ℕ) → p < 64 * length block.old →
+            64 * at + p < length self.now.digits →
+            bit_of block.new p ≡ (bit_of block.old p
+            && (slice_index self.now.digits (64 * at + p) == d))) }
     {
         if d == self.top() {
             drop_in(self.bitmap(d - 1), at, block);
@@ -237,8 +250,10 @@ impl Encoding for RangeComponent {
         requires within { at + length block.old ≤ (length self.now.digits + 63) / 64 }
         ensures done { IsTrue result }
         ensures kept { OnFalse result (block.new ≡ block.old) }
-        ensures bits { OnTrue result ((p : ℕ) → p < 64 * length block.old → 64 * at + p < length self.now.digits →
-            bit_of block.new p ≡ at_most_from (bit_of block.old p) (slice_index self.now.digits (64 * at + p)) d) }
+        ensures bits { OnTrue result ((p : ℕ) → p < 64 * length block.old →
+            64 * at + p < length self.now.digits →
+            bit_of block.new p ≡ at_most_from (bit_of block.old p)
+            (slice_index self.now.digits (64 * at + p)) d) }
     {
         if d == self.top() {
             add_in(self.bitmap(d - 1), at, block);
@@ -255,7 +270,8 @@ impl Encoding for RangeComponent {
         requires below { d < self.now.base }
         requires within { at + length block.old ≤ (length self.now.digits + 63) / 64 }
         ensures done { IsTrue result }
-        ensures bits { OnTrue result ((p : ℕ) → p < 64 * length block.old → 64 * at + p < length self.now.digits →
+        ensures bits { OnTrue result ((p : ℕ) → p < 64 * length block.old →
+            64 * at + p < length self.now.digits →
             bit_of block.new p ≡ nat_le (slice_index self.now.digits (64 * at + p)) d) }
     {
         if d == self.top() {

@@ -22,9 +22,11 @@ impl Model for Divisor {
 
     ghost invariant = { λ d. IsDivisor d.divisor d.reciprocal d.shift };
 
-    ghost inverse = { λ n. record { divisor = n; reciprocal = reciprocal_of n; shift = shift_of n } };
+    ghost inverse = { λ n. record
+        { divisor = n; reciprocal = reciprocal_of n; shift = shift_of n } };
 
-    ghost inverse_ok = { λ d h. λ i. record { divisor = d.divisor; reciprocal = sym h.reciprocal_is i; shift = sym h.shift_is i } };
+    ghost inverse_ok = { λ d h. λ i. record
+        { divisor = d.divisor; reciprocal = sym h.reciprocal_is i; shift = sym h.shift_is i } };
 }
 
 impl Divisor {

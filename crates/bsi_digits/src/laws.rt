@@ -14,7 +14,8 @@ pub fn digits_are_unique()
 
 /// States that the digits times their weights add up to the value, in whatever order of the components they are added.
 pub fn weighted_sum_in_any_order()
-    ensures { (bs ds order : List ℕ) (v : ℕ) → IsDigits bs v ds → IsPermutation (components bs) order →
+    ensures { (bs ds order : List ℕ) (v : ℕ) → IsDigits bs v ds →
+        IsPermutation (components bs) order →
         weighted_sum bs ds order ≡ v }
 {}
 

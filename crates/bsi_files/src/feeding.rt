@@ -54,7 +54,9 @@ pub fn feed<R: Wait, I: Read + Drop, G: Gate>(
 
     // The closing carries what was sent before, and then the rows that were accepted: the first good ones that the source still
     // had. Where nothing stopped the feeder and there is no fault, they are all of them, and the bad records are all others.
-    ensures fed { IfSome result.closing (λ closing. HasFed I.remaining source feeder.sent closing.rows result.accepted result.bad result.stopped result.fault) }
+    ensures fed { IfSome result.closing
+        (λ closing. HasFed I.remaining source feeder.sent closing.rows result.accepted result.bad
+        result.stopped result.fault) }
 {
     let mut feeder = feeder;
     let mut source = source;

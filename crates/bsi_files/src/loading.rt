@@ -118,7 +118,8 @@ pub(crate) fn load_all<B: Naming, R: Wait>(
     ends: Vec<FeedEnd>,
     fed: &mut Vec<Fed>,
 ) -> Result<(), FilesFault>
-    requires { All (λ end. IfSome end.closing (λ closing. IsOf closing loader.old.system)) ends.items }
+    requires { All (λ end. IfSome end.closing (λ closing. IsOf closing loader.old.system))
+        ends.items }
     ensures early { IfErr result (λ fault. is_early fault ≡ true) }
 {
     'ends: for end in ends {

@@ -43,7 +43,8 @@ pub fn run_files<
 >(rt: &R, schema: S, asks: A, sources: Vec<I>, writer: &mut W, gate: &G) -> Result<(), FilesFault>
     requires { 0 < length sources.items }
     ensures files { (result ≡ Err FilesFault.TooManyFiles) ↔ (64 < length sources.items) }
-    ensures quiet { IfErr result (λ fault. is_late fault ≡ false → W.contents writer.new ≡ W.contents writer.old) }
+    ensures quiet { IfErr result (λ fault. is_late fault ≡ false →
+        W.contents writer.new ≡ W.contents writer.old) }
 {
     if sources.len() > MAX_FEEDERS as usize {
         return Err(FilesFault::TooManyFiles);
@@ -99,7 +100,8 @@ fn run_in<
     requires history { history ≡ record { book = B.book; list = [] } }
     requires about { B.about ≡ no_rows columns (length capacities.items) limit }
     ensures counted { IfErr result (λ fault. fault ≢ FilesFault.TooManyFiles) }
-    ensures quiet { IfErr result (λ fault. is_late fault ≡ false → W.contents writer.new ≡ W.contents writer.old) }
+    ensures quiet { IfErr result (λ fault. is_late fault ≡ false →
+        W.contents writer.new ≡ W.contents writer.old) }
 {
     match open::<B>(rt.alloc(), history, columns, capacities, limit, 1) {
         Ok(system) => {
@@ -139,7 +141,8 @@ fn run_ends<
 ) -> Result<(), FilesFault>
     requires { All (λ feeder. IsFeederOf feeder loader.old.system) feeders.items }
     ensures counted { IfErr result (λ fault. fault ≢ FilesFault.TooManyFiles) }
-    ensures quiet { IfErr result (λ fault. is_late fault ≡ false → W.contents writer.new ≡ W.contents writer.old) }
+    ensures quiet { IfErr result (λ fault. is_late fault ≡ false →
+        W.contents writer.new ≡ W.contents writer.old) }
 {
     let Run {
         schema,

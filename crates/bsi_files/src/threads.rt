@@ -69,7 +69,9 @@ pub(crate) struct OfFeeder(Snapshot<Feeder>);
 impl Promise<FeedEnd> for OfFeeder {
     ghost use Rattle.std.specs.Prelude.{◌≡◌, IfSome};
 
-    ghost kept_by = { λ promise end. IfSome end.closing (λ closing. (closing.number ≡ promise.0.value.number) × (closing.lane ≡ promise.0.value.lane)) };
+    ghost kept_by = { λ promise end. IfSome end.closing
+        (λ closing. (closing.number ≡ promise.0.value.number)
+        × (closing.lane ≡ promise.0.value.lane)) };
 }
 
 /// A feeder's thread.
@@ -109,8 +111,10 @@ pub(crate) fn start_all<
     threads: &mut Vec<Thread>,
 ) -> bool
     requires own { All (λ feeder. IsFeederOf feeder loader.now.system) feeders.items }
-    requires before { All (λ thread. IsFeederOf thread.promise.0.value loader.now.system) threads.old.items }
-    ensures { All (λ thread. IsFeederOf thread.promise.0.value loader.now.system) threads.new.items }
+    requires before { All (λ thread. IsFeederOf thread.promise.0.value loader.now.system)
+        threads.old.items }
+    ensures { All (λ thread. IsFeederOf thread.promise.0.value loader.now.system)
+        threads.new.items }
 {
     let mut sources = sources.into_iter();
     'feeders: for feeder in feeders {
@@ -135,9 +139,12 @@ pub(crate) fn join_all<B: Naming, R: Threads>(
     threads: Vec<Thread>,
     ends: &mut Vec<FeedEnd>,
 ) -> Result<(), NoMemory>
-    requires own { All (λ thread. IsFeederOf thread.promise.0.value loader.now.system) threads.items }
-    requires before { All (λ end. IfSome end.closing (λ closing. IsOf closing loader.now.system)) ends.old.items }
-    ensures { All (λ end. IfSome end.closing (λ closing. IsOf closing loader.now.system)) ends.new.items }
+    requires own { All (λ thread. IsFeederOf thread.promise.0.value loader.now.system)
+        threads.items }
+    requires before { All (λ end. IfSome end.closing (λ closing. IsOf closing loader.now.system))
+        ends.old.items }
+    ensures { All (λ end. IfSome end.closing (λ closing. IsOf closing loader.now.system))
+        ends.new.items }
 {
     'threads: for thread in threads {
         let end = join_one(rt, loader, thread);

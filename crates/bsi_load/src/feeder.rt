@@ -20,7 +20,8 @@ impl Model for Feeder {
 
     ghost Value = { Waiting };
 
-    ghost view = { λ f. record { rows = f.queue.items; closed = f.closed; capacity = f.queue.capacity } };
+    ghost view = { λ f. record
+        { rows = f.queue.items; closed = f.closed; capacity = f.queue.capacity } };
 
     ghost invariant = { λ f. length f.queue.items ≤ f.queue.capacity };
 }

@@ -14,11 +14,13 @@ pub fn nothing_is_lost()
 
 /// States that a lawful run followed by one more lawful event is again one run, with one event more.
 pub fn runs_compose()
-    ensures { (s : Shown) → (past : List Done) → (e : Event) → (r : Reply) → AreLawful s past → IsLawful (shown_after s past) e r
+    ensures { (s : Shown) → (past : List Done) → (e : Event) → (r : Reply) → AreLawful s past →
+        IsLawful (shown_after s past) e r
         → shown_after (shown_after s past) ((e, r) ∷ []) ≡ shown_after s ((e, r) ∷ past) }
 {}
 
 /// States that, in a lawful run, a row that is submitted to a closed feeder adds nothing.
 pub fn closed_stays_closed()
-    ensures { (s : Shown) → (events : List Event) → (replies : List Reply) → AreLawful s (past_of events replies) → StaysClosed s events replies }
+    ensures { (s : Shown) → (events : List Event) → (replies : List Reply) →
+        AreLawful s (past_of events replies) → StaysClosed s events replies }
 {}

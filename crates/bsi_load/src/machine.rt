@@ -47,7 +47,8 @@ impl Core {
     ) -> Result<Core, MakeError>
         ensures ok { IfOk result (λ core. core ≡ new_machine schema capacities.items limit) }
         ensures taken { OnOk result (sizes_refusal schema capacities.items limit ≡ None) }
-        ensures refused { IfErr result (λ e. IsFirstOr MakeError.NoMemory (sizes_refusal schema capacities.items limit) e) }
+        ensures refused { IfErr result
+            (λ e. IsFirstOr MakeError.NoMemory (sizes_refusal schema capacities.items limit) e) }
     {
         check_sizes(&schema, &capacities, limit)?;
         let feeders = open_feeders(alloc, &capacities)?;
@@ -65,7 +66,8 @@ impl Core {
 
     /// Returns how many rows of a feeder wait, or none if there is no such feeder.
     pub fn waiting(&self, f: u32) -> Option<u32>
-        ensures { result ≡ (if is_unknown self.now f then None else Some (length (feeder_at self.now f).rows)) }
+        ensures { result ≡ (if is_unknown self.now f then None else Some
+            (length (feeder_at self.now f).rows)) }
     {
         if f >= self.feeders() {
             return None;
@@ -83,7 +85,8 @@ impl Core {
     /// Accepts a row of a feeder. From then on the row waits behind the feeder's other rows. It allocates no memory.
     pub fn submit(&mut self, f: u32, row: Row) -> Result<(), SubmitRefused>
         ensures reply { result ≡ submit_reply self.old f row }
-        ensures after { self.new ≡ shown_after self.old ((event.Submit f row, reply.Submitted result) ∷ []) }
+        ensures after { self.new
+            ≡ shown_after self.old ((event.Submit f row, reply.Submitted result) ∷ []) }
     {
         if f >= self.feeders() {
             return Err(SubmitRefused::UnknownFeeder(row));
@@ -122,7 +125,8 @@ impl Core {
     /// Closes a feeder. Its rows still wait. It allocates no memory.
     pub fn close(&mut self, f: u32) -> Result<(), CloseRefused>
         ensures reply { result ≡ close_reply self.old f }
-        ensures after { self.new ≡ shown_after self.old ((event.Close f, reply.Closed result) ∷ []) }
+        ensures after { self.new
+            ≡ shown_after self.old ((event.Close f, reply.Closed result) ∷ []) }
     {
         if f >= self.feeders() {
             return Err(CloseRefused::UnknownFeeder);
@@ -166,11 +170,16 @@ impl Core {
     /// replies, the events are handed back and none of them takes place.
     pub fn run(&mut self, events: Vec<Event>) -> Result<Vec<Reply>, RunRefused>
         ensures length { IfOk result (λ replies. length replies.items ≡ length events.items) }
-        ensures lawful { IfOk result (λ replies. AreLawful self.old (past_of events.items replies.items)) }
-        ensures after { IfOk result (λ replies. self.new ≡ shown_after self.old (past_of events.items replies.items)) }
-        ensures nothing_lost { IfOk result (λ replies. (n : ℕ) → IsConserved self.old (past_at events.items replies.items n)) }
-        ensures stays_closed { IfOk result (λ replies. StaysClosed self.old events.items replies.items) }
-        ensures refused { IfErr result (λ e. (e.events.items ≡ events.items) × (self.new ≡ self.old)) }
+        ensures lawful { IfOk result
+            (λ replies. AreLawful self.old (past_of events.items replies.items)) }
+        ensures after { IfOk result (λ replies. self.new
+            ≡ shown_after self.old (past_of events.items replies.items)) }
+        ensures nothing_lost { IfOk result (λ replies. (n : ℕ) →
+            IsConserved self.old (past_at events.items replies.items n)) }
+        ensures stays_closed { IfOk result
+            (λ replies. StaysClosed self.old events.items replies.items) }
+        ensures refused { IfErr result
+            (λ e. (e.events.items ≡ events.items) × (self.new ≡ self.old)) }
     {
         let alloc = *self.feeders.allocator();
         let Ok(mut replies) = Vec::with_capacity(alloc, events.len()) else {

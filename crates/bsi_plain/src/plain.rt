@@ -25,7 +25,11 @@ impl Model for PlainColumn {
 
     ghost Value = { PlainRows };
 
-    ghost view = { λ c. record { size = c.size; entries = c.entries.items; room = min c.present.room (vec_capacity c.entries - vec_len c.entries) } };
+    ghost view = { λ c. record {
+      size = c.size;
+      entries = c.entries.items;
+      room = min c.present.room (vec_capacity c.entries - vec_len c.entries);
+    } };
 
     ghost invariant = { λ c. IsPlain c.size c.entries.items c.present.bits };
 }

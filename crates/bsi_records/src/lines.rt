@@ -137,7 +137,8 @@ fn write_word<I: Integer>(word: &[u8], number: I, line: &mut Vec<u8>) -> Result<
 
 /// Appends a word and a number, and the line feed.
 fn write_number<I: Integer>(word: &[u8], number: I, line: &mut Vec<u8>) -> Result<(), NoMemory>
-    ensures ok { OnOk result (line.new.items ≡ line.old.items ++ (word.now ++ I.text number ++ codes "\n")) }
+    ensures ok { OnOk result (line.new.items
+        ≡ line.old.items ++ (word.now ++ I.text number ++ codes "\n")) }
     ensures begins { StartsWith line.new.items line.old.items }
 {
     write_word(word, number, line)?;
@@ -146,7 +147,8 @@ fn write_number<I: Integer>(word: &[u8], number: I, line: &mut Vec<u8>) -> Resul
 
 /// Appends the line of a selection.
 fn write_rows(rows: &[(u32, u64)], line: &mut Vec<u8>) -> Result<(), NoMemory>
-    ensures ok { OnOk result (line.new.items ≡ line.old.items ++ (codes "rows" ++ rows_text rows.now ++ codes "\n")) }
+    ensures ok { OnOk result (line.new.items
+        ≡ line.old.items ++ (codes "rows" ++ rows_text rows.now ++ codes "\n")) }
     ensures begins { StartsWith line.new.items line.old.items }
 {
     line.extend_from_slice(b"rows")?;
@@ -167,7 +169,8 @@ fn write_each_row(rows: &[(u32, u64)], line: &mut Vec<u8>) -> Result<(), NoMemor
 
 /// Appends a space, a row's feeder and the row's number among that feeder's rows.
 fn write_row(feeder: u32, number: u64, line: &mut Vec<u8>) -> Result<(), NoMemory>
-    ensures ok { OnOk result (line.new.items ≡ line.old.items ++ (codes " " ++ decimal feeder ++ codes ":" ++ decimal number)) }
+    ensures ok { OnOk result (line.new.items
+        ≡ line.old.items ++ (codes " " ++ decimal feeder ++ codes ":" ++ decimal number)) }
     ensures begins { StartsWith line.new.items line.old.items }
 {
     write_word(b" ", feeder, line)?;

@@ -34,7 +34,9 @@ pub(crate) fn read_predicate(
     fields: &ByteRecord,
     from: usize,
 ) -> Result<Option<Pred>, NoMemory>
-    ensures { IfOk result (λ read. MatchOption read ((pred : Pred) → IsPredicate schema.now (drop from (fields_of fields.now)) pred → ⊥) (IsPredicate schema.now (drop from (fields_of fields.now)))) }
+    ensures { IfOk result (λ read. MatchOption read ((pred : Pred) →
+        IsPredicate schema.now (drop from (fields_of fields.now)) pred →
+        ⊥) (IsPredicate schema.now (drop from (fields_of fields.now)))) }
 {
     if fields.len().saturating_sub(from) > MAX_FIELDS {
         return Ok(None);
@@ -57,7 +59,9 @@ fn read_fields(
     from: usize,
     stack: &mut Vec<Pred>,
 ) -> Result<Option<Pending>, NoMemory>
-    ensures { IfOk result (λ read. option_map (λ pending. (pending, shown stack.new.items)) read ≡ after_fields schema.now (drop from (fields_of fields.now)) Pending.Nothing (shown stack.old.items)) }
+    ensures { IfOk result (λ read. option_map (λ pending. (pending, shown stack.new.items)) read
+        ≡ after_fields schema.now (drop from (fields_of fields.now)) Pending.Nothing
+        (shown stack.old.items)) }
 {
     let mut pending = Pending::Nothing;
     'fields: for place in from..fields.len() {
@@ -80,7 +84,8 @@ fn read_field(
     field: &[u8],
     stack: &mut Vec<Pred>,
 ) -> Result<Option<Pending>, NoMemory>
-    ensures { IfOk result (λ read. option_map (λ next. (next, shown stack.new.items)) read ≡ after_field schema.now pending (shown stack.old.items) field.now) }
+    ensures { IfOk result (λ read. option_map (λ next. (next, shown stack.new.items)) read
+        ≡ after_field schema.now pending (shown stack.old.items) field.now) }
 {
     match pending {
         Pending::Nothing => read_word(alloc, schema, field, stack),
@@ -96,7 +101,8 @@ fn read_word(
     field: &[u8],
     stack: &mut Vec<Pred>,
 ) -> Result<Option<Pending>, NoMemory>
-    ensures { IfOk result (λ read. option_map (λ next. (next, shown stack.new.items)) read ≡ after_word schema.now (shown stack.old.items) field.now) }
+    ensures { IfOk result (λ read. option_map (λ next. (next, shown stack.new.items)) read
+        ≡ after_word schema.now (shown stack.old.items) field.now) }
 {
     if field == b"all".as_slice() {
         stack.push(Pred::All)?;
@@ -123,7 +129,8 @@ fn read_behind_name(
     field: &[u8],
     stack: &mut Vec<Pred>,
 ) -> Result<Option<Pending>, NoMemory>
-    ensures { IfOk result (λ read. option_map (λ next. (next, shown stack.new.items)) read ≡ after_name c (shown stack.old.items) field.now) }
+    ensures { IfOk result (λ read. option_map (λ next. (next, shown stack.new.items)) read
+        ≡ after_name c (shown stack.old.items) field.now) }
 {
     if field == b"null".as_slice() {
         stack.push(Pred::Null(c))?;
@@ -143,7 +150,8 @@ fn read_constant(
     field: &[u8],
     stack: &mut Vec<Pred>,
 ) -> Result<Option<Pending>, NoMemory>
-    ensures { IfOk result (λ read. option_map (λ next. (next, shown stack.new.items)) read ≡ after_sign signed c op (shown stack.old.items) field.now) }
+    ensures { IfOk result (λ read. option_map (λ next. (next, shown stack.new.items)) read
+        ≡ after_sign signed c op (shown stack.old.items) field.now) }
 {
     let Some(n) = read_in(signed, field) else {
         return Ok(None);
@@ -180,7 +188,8 @@ fn read_op(sign: &[u8]) -> Option<Op>
 /// Replaces the two newest predicates by one that holds where both of them hold or, if not `both`, where at least one
 /// holds.
 fn join(alloc: Global, both: bool, stack: &mut Vec<Pred>) -> Result<Option<Pending>, NoMemory>
-    ensures { IfOk result (λ read. option_map (λ next. (next, shown stack.new.items)) read ≡ joined both (shown stack.old.items)) }
+    ensures { IfOk result (λ read. option_map (λ next. (next, shown stack.new.items)) read
+        ≡ joined both (shown stack.old.items)) }
 {
     let Some(second) = stack.pop() else {
         return Ok(None);
@@ -200,7 +209,8 @@ fn join(alloc: Global, both: bool, stack: &mut Vec<Pred>) -> Result<Option<Pendi
 
 /// Replaces the newest predicate by its negation.
 fn negate(alloc: Global, stack: &mut Vec<Pred>) -> Result<Option<Pending>, NoMemory>
-    ensures { IfOk result (λ read. option_map (λ next. (next, shown stack.new.items)) read ≡ negated (shown stack.old.items)) }
+    ensures { IfOk result (λ read. option_map (λ next. (next, shown stack.new.items)) read
+        ≡ negated (shown stack.old.items)) }
 {
     let Some(pred) = stack.pop() else {
         return Ok(None);

@@ -18,7 +18,9 @@ pub fn read_query(
     schema: &Schema,
     fields: &ByteRecord,
 ) -> Result<Option<Query>, NoMemory>
-    ensures { IfOk result (λ read. MatchOption read ((query : Query) → IsQuery schema.now (fields_of fields.now) query → ⊥) (IsQuery schema.now (fields_of fields.now))) }
+    ensures { IfOk result (λ read. MatchOption read ((query : Query) →
+        IsQuery schema.now (fields_of fields.now) query →
+        ⊥) (IsQuery schema.now (fields_of fields.now))) }
 {
     let Some((total, from)) = read_total(schema, fields) else {
         return Ok(None);
@@ -31,7 +33,8 @@ pub fn read_query(
 
 /// Reads the total that a record asks for, and returns it with the place where the predicate begins.
 fn read_total(schema: &Schema, fields: &ByteRecord) -> Option<(Total, usize)>
-    ensures { option_map (λ found. (found.0, drop found.1 (fields_of fields.now))) result ≡ total_of schema.now (fields_of fields.now) }
+    ensures { option_map (λ found. (found.0, drop found.1 (fields_of fields.now))) result
+        ≡ total_of schema.now (fields_of fields.now) }
 {
     let Some(word) = fields.get(0) else {
         return None;

@@ -21,7 +21,8 @@ pub fn read_row(
     fields: &ByteRecord,
     from: usize,
 ) -> Result<Option<Row>, NoMemory>
-    ensures { IfOk result (λ read. read ≡ values_in schema.now.signed (drop from (fields_of fields.now))) }
+    ensures { IfOk result (λ read. read
+        ≡ values_in schema.now.signed (drop from (fields_of fields.now))) }
 {
     let signed = schema.signed();
     let count = fields.len();
@@ -43,7 +44,9 @@ pub fn read_event(
     schema: &Schema,
     fields: &ByteRecord,
 ) -> Result<Option<Event>, NoMemory>
-    ensures { IfOk result (λ read. MatchOption read ((event : AnEvent) → IsEvent schema.now (fields_of fields.now) event → ⊥) (IsEvent schema.now (fields_of fields.now))) }
+    ensures { IfOk result (λ read. MatchOption read ((event : AnEvent) →
+        IsEvent schema.now (fields_of fields.now) event →
+        ⊥) (IsEvent schema.now (fields_of fields.now))) }
 {
     let Some(word) = fields.get(0) else {
         return Ok(None);
@@ -75,7 +78,8 @@ fn read_submission(
     schema: &Schema,
     fields: &ByteRecord,
 ) -> Result<Option<Event>, NoMemory>
-    ensures { IfOk result (λ read. read ≡ plain_event schema.now (codes "submit" ∷ drop 1 (fields_of fields.now))) }
+    ensures { IfOk result (λ read. read
+        ≡ plain_event schema.now (codes "submit" ∷ drop 1 (fields_of fields.now))) }
 {
     let Some(text) = fields.get(1) else {
         return Ok(None);

@@ -70,7 +70,9 @@ fn add(
     spec: ColumnSpec,
     offset: Option<i64>,
 ) -> Result<bool, NoMemory>
-    ensures done { IfOk result (λ done. IsChange (added_after schema.old name.now spec offset) schema.old schema.new done) }
+    ensures done { IfOk result
+        (λ done. IsChange (added_after schema.old name.now spec offset) schema.old schema.new
+        done) }
     ensures kept { OnErr result (schema.new ≡ schema.old) }
 {
     match offset {
@@ -81,7 +83,9 @@ fn add(
 
 /// Tells whether a column was added. Refused memory stays an error.
 fn tell(added: Result<(), SchemaError>) -> Result<bool, NoMemory>
-    ensures told { IfOk result (λ done. MatchResult added (λ _. done ≡ true) (λ refused. (done ≡ false) × (refused ≢ SchemaError.NoMemory))) }
+    ensures told { IfOk result
+        (λ done. MatchResult added (λ _. done ≡ true)
+        (λ refused. (done ≡ false) × (refused ≢ SchemaError.NoMemory))) }
     ensures memory { OnErr result (IsErr added) }
 {
     match added {
@@ -110,7 +114,9 @@ fn read_given_offset(fields: &ByteRecord) -> Option<Option<i64>>
 /// Declares the column of a record `column,NAME,FORM,SIZES` or `column,NAME,FORM,SIZES,OFFSET`, and returns whether it
 /// did.
 fn declare_column(alloc: Global, schema: &mut Schema, fields: &ByteRecord) -> Result<bool, NoMemory>
-    ensures done { IfOk result (λ done. IsChange (column_after schema.old (drop 1 (fields_of fields.now))) schema.old schema.new done) }
+    ensures done { IfOk result
+        (λ done. IsChange (column_after schema.old (drop 1 (fields_of fields.now))) schema.old
+        schema.new done) }
     ensures kept { OnErr result (schema.new ≡ schema.old) }
 {
     if fields.len() < 4 {
@@ -139,7 +145,9 @@ pub fn read_setup(
     limit: &mut u64,
     fields: &ByteRecord,
 ) -> Result<bool, NoMemory>
-    ensures done { IfOk result (λ done. IsChange (table_after schema.old limit.old (fields_of fields.now)) (schema.old, limit.old) (schema.new, limit.new) done) }
+    ensures done { IfOk result
+        (λ done. IsChange (table_after schema.old limit.old (fields_of fields.now))
+        (schema.old, limit.old) (schema.new, limit.new) done) }
     ensures kept { OnErr result ((schema.new ≡ schema.old) × (limit.new ≡ limit.old)) }
 {
     let Some(word) = fields.get(0) else {
@@ -190,7 +198,8 @@ impl Model for Setup {
 
     ghost Value = { Setup };
 
-    ghost view = { λ s. record { schema = s.schema; capacities = s.capacities.items; limit = s.limit } };
+    ghost view = { λ s. record
+        { schema = s.schema; capacities = s.capacities.items; limit = s.limit } };
 
     ghost invariant = { λ s. IsSetup s.capacities.items s.limit };
 }
@@ -210,7 +219,9 @@ impl Setup {
     /// Carries out a `column`, `feeder` or `limit` record, and returns true. It returns false, and changes nothing, for
     /// a record that a script answers `bad`, or for another record. If memory is refused, it changes nothing.
     pub fn declare(&mut self, alloc: Global, fields: &ByteRecord) -> Result<bool, NoMemory>
-        ensures done { IfOk result (λ done. IsChange (declared_after self.old (fields_of fields.now)) self.old self.new done) }
+        ensures done { IfOk result
+            (λ done. IsChange (declared_after self.old (fields_of fields.now)) self.old self.new
+            done) }
         ensures kept { OnErr result (self.new ≡ self.old) }
     {
         let Some(word) = fields.get(0) else {
@@ -225,9 +236,12 @@ impl Setup {
     /// Makes the machine that was declared, and moves the columns and the feeders into it. It returns `None`, and
     /// changes nothing, if there is no column or no feeder. If memory is refused, it drops the columns and the feeders.
     pub fn begin(&mut self, alloc: Global) -> Result<Option<Core>, NoMemory>
-        ensures made { IfOk result (λ made. made ≡ (if can_begin self.old then Some (new_machine self.old.schema self.old.capacities self.old.limit) else None)) }
+        ensures made { IfOk result (λ made. made
+            ≡ (if can_begin self.old then Some
+            (new_machine self.old.schema self.old.capacities self.old.limit) else None)) }
         ensures kept { IfOk result (λ made. IfNone made (self.new ≡ self.old)) }
-        ensures emptied { OnErr result (self.new ≡ record { schema = no_columns; capacities = []; limit = self.old.limit }) }
+        ensures emptied { OnErr result (self.new
+            ≡ record { schema = no_columns; capacities = []; limit = self.old.limit }) }
     {
         if self.schema.columns() == 0 || self.capacities.is_empty() {
             return Ok(None);
@@ -250,7 +264,9 @@ fn only_memory(_refused: MakeError) -> NoMemory
 
 /// Declares the feeder of a record `feeder,CAPACITY`, if there are fewer than 64 feeders, and returns whether it did.
 fn declare_feeder(capacities: &mut Vec<u32>, fields: &ByteRecord) -> Result<bool, NoMemory>
-    ensures done { IfOk result (λ done. IsChange (feeder_after capacities.old.items (drop 1 (fields_of fields.now))) capacities.old.items capacities.new.items done) }
+    ensures done { IfOk result
+        (λ done. IsChange (feeder_after capacities.old.items (drop 1 (fields_of fields.now)))
+        capacities.old.items capacities.new.items done) }
     ensures kept { OnErr result (capacities.new.items ≡ capacities.old.items) }
 {
     if capacities.len() >= MAX_FEEDERS as usize {

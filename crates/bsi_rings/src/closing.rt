@@ -40,7 +40,11 @@ impl Closing {
     /// Makes the closing of a feeder whose rows all fit.
     pub(crate) fn new(number: u32, schema: Arc<Schema, Global>, finished: Finished<Row>) -> Closing
         requires { AllFit schema.value (all_sent finished) }
-        ensures { result ≡ record { number = number; lane = record { ring = ring_of finished.end; schema = schema.value }; rows = all_sent finished } }
+        ensures { result ≡ record {
+          number = number;
+          lane = record { ring = ring_of finished.end; schema = schema.value };
+          rows = all_sent finished;
+        } }
     {
         Closing {
             number,

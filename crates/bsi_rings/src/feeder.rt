@@ -50,7 +50,8 @@ impl Feeder {
     /// Makes the feeder of a ring to which nothing has been sent.
     pub(crate) fn new(number: u32, schema: Arc<Schema, Global>, ring: Producer<Row>) -> Feeder
         requires { sent ring ≡ [] }
-        ensures { result ≡ new_sending number (record { ring = ring_of ring.end; schema = schema.value }) (producer_capacity ring) }
+        ensures { result ≡ new_sending number
+            (record { ring = ring_of ring.end; schema = schema.value }) (producer_capacity ring) }
     {
         Feeder {
             number,

@@ -44,7 +44,8 @@ impl Model for Lane {
       told = option_map all_sent l.finished;
     } };
 
-    ghost invariant = { λ l. IsLane l.schema.value (received l.ring) (known_items l.ring) (option_map all_sent l.finished) };
+    ghost invariant = { λ l. IsLane l.schema.value (received l.ring) (known_items l.ring)
+        (option_map all_sent l.finished) };
 }
 
 impl Lane {

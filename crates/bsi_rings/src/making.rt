@@ -16,7 +16,8 @@ pub fn open_rings(
     capacities: &[u32],
 ) -> Result<(Vec<Feeder>, Vec<Lane>), NoMemory>
     requires { length capacities.now < 2 ^ 32 }
-    ensures { IfOk result (λ ends. AreOpened schema.now.value capacities.now ends.0.items ends.1.items) }
+    ensures { IfOk result (λ ends. AreOpened schema.now.value capacities.now ends.0.items
+        ends.1.items) }
 {
     let mut feeders = Vec::with_capacity(alloc, capacities.len())?;
     let mut lanes = Vec::with_capacity(alloc, capacities.len())?;

@@ -30,8 +30,12 @@ pub fn run_words<
 
     // Where the first word is not `files`: a run with no fault has answered the whole input. After status 1 what was written is
     // a first part of the lines that answer the whole input.
-    ensures answered { result ≡ 0 → ¬ BeginsWithFiles words.items → IfSome (I.remaining input) (λ bytes. IsAnswered bytes (O.contents output.old) (O.contents output.new)) }
-    ensures begun { result ≡ 1 → ¬ BeginsWithFiles words.items → IfSome (I.remaining input) (λ bytes. IsBegun bytes (O.contents output.old) (O.contents output.new)) }
+    ensures answered { result ≡ 0 → ¬ BeginsWithFiles words.items →
+        IfSome (I.remaining input)
+        (λ bytes. IsAnswered bytes (O.contents output.old) (O.contents output.new)) }
+    ensures begun { result ≡ 1 → ¬ BeginsWithFiles words.items →
+        IfSome (I.remaining input)
+        (λ bytes. IsBegun bytes (O.contents output.old) (O.contents output.new)) }
 
     // In each case: a run with no fault says nothing, and after status 2 nothing was written.
     ensures quiet { result ≡ 0 → F.contents faults.new ≡ F.contents faults.old }
@@ -58,8 +62,12 @@ fn run_to_end<I: Read + Drop, O: Write>(
     input: I,
     output: &mut O,
 ) -> Result<(), ScriptFault>
-    ensures ok { OnOk result (IfSome (I.remaining input) (λ bytes. IsAnswered bytes (O.contents output.old) (O.contents output.new))) }
-    ensures fault { OnErr result (IfSome (I.remaining input) (λ bytes. IsBegun bytes (O.contents output.old) (O.contents output.new))) }
+    ensures ok { OnOk result
+        (IfSome (I.remaining input)
+        (λ bytes. IsAnswered bytes (O.contents output.old) (O.contents output.new))) }
+    ensures fault { OnErr result
+        (IfSome (I.remaining input)
+        (λ bytes. IsBegun bytes (O.contents output.old) (O.contents output.new))) }
 {
     bsi_text::laws::begun();
     let run = run_script(alloc, input, output);

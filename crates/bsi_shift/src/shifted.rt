@@ -70,7 +70,8 @@ impl Shifted {
     pub fn size(&self) -> u64
         ensures size { result ≡ shifted_size self.now }
         ensures within { (2 ≤ result) × (result ≤ 2 ^ 63) }
-        ensures range { All (IsInRange self.now.offset (shifted_size self.now)) (shifted_entries self.now) }
+        ensures range { All (IsInRange self.now.offset (shifted_size self.now))
+            (shifted_entries self.now) }
     {
         self.size
     }
@@ -169,7 +170,8 @@ impl Shifted {
     /// Returns for each row whether it is a number that satisfies the comparison `op` with `constant`, which may be any
     /// number. A null row is never selected.
     pub fn compare(&self, op: Op, constant: i128) -> Result<Bits, NoMemory>
-        ensures { IfOk result (λ b. b.bits ≡ map (signed_selects op constant) (shifted_entries self.now)) }
+        ensures { IfOk result (λ b. b.bits
+            ≡ map (signed_selects op constant) (shifted_entries self.now)) }
     {
         let (op, constant) = stored_comparison(op, constant, self.offset);
         self.stored.compare(op, constant)
@@ -196,8 +198,10 @@ impl Shifted {
         requires few { length block.old ≤ 1024 }
         requires within { at + length block.old ≤ (length (shifted_entries self.now) + 63) / 64 }
         ensures kept { OnErr result (block.new ≡ block.old) }
-        ensures rows { OnOk result ((p : ℕ) → p < 64 * length block.old → 64 * at + p < length (shifted_entries self.now) → bit_of block.new p
-            ≡ (bit_of block.old p && signed_selects op constant (slice_index_or (shifted_entries self.now) (64 * at + p) None))) }
+        ensures rows { OnOk result ((p : ℕ) → p < 64 * length block.old →
+            64 * at + p < length (shifted_entries self.now) → bit_of block.new p
+            ≡ (bit_of block.old p && signed_selects op constant
+            (slice_index_or (shifted_entries self.now) (64 * at + p) None))) }
     {
         let (op, constant) = stored_comparison(op, constant, self.offset);
         self.stored.keep_selected(op, constant, at, block)
@@ -207,8 +211,10 @@ impl Shifted {
     /// It allocates no memory.
     pub fn keep_nulls(&self, at: usize, block: &mut [u64])
         requires { at + length block.old ≤ (length (shifted_entries self.now) + 63) / 64 }
-        ensures { (p : ℕ) → p < 64 * length block.old → 64 * at + p < length (shifted_entries self.now) → bit_of block.new p
-            ≡ (bit_of block.old p && is_none (slice_index_or (shifted_entries self.now) (64 * at + p) None)) }
+        ensures { (p : ℕ) → p < 64 * length block.old →
+            64 * at + p < length (shifted_entries self.now) → bit_of block.new p
+            ≡ (bit_of block.old p && is_none
+            (slice_index_or (shifted_entries self.now) (64 * at + p) None)) }
     {
         self.stored.keep_nulls(at, block);
     }
@@ -235,7 +241,8 @@ impl Shifted {
     /// Finds the number of a rank among those at the rows of a found set, or none if there is no number.
     fn of_rank(&self, found: &Bits, rank: Rank) -> Result<Option<i64>, NoMemory>
         requires { length (shifted_entries self.now) ≡ length found.now.bits }
-        ensures { IfOk result (λ o. IsSignedOfRank rank (values_at found.now.bits (shifted_entries self.now)) o) }
+        ensures { IfOk result (λ o. IsSignedOfRank rank
+            (values_at found.now.bits (shifted_entries self.now)) o) }
     {
         let stored = stored_of_rank(&self.stored, found, rank)?;
         Ok(number_from(self.offset, stored))
@@ -244,7 +251,8 @@ impl Shifted {
     /// Returns the least number at the rows of a found set, or none if there is no number.
     pub fn least(&self, found: &Bits) -> Result<Option<i64>, NoMemory>
         requires { length (shifted_entries self.now) ≡ length found.now.bits }
-        ensures { IfOk result (λ o. IsSignedLeastOf (values_at found.now.bits (shifted_entries self.now)) o) }
+        ensures { IfOk result (λ o. IsSignedLeastOf
+            (values_at found.now.bits (shifted_entries self.now)) o) }
     {
         self.of_rank(found, Rank::Least)
     }
@@ -252,7 +260,8 @@ impl Shifted {
     /// Returns the greatest number at the rows of a found set, or none if there is no number.
     pub fn greatest(&self, found: &Bits) -> Result<Option<i64>, NoMemory>
         requires { length (shifted_entries self.now) ≡ length found.now.bits }
-        ensures { IfOk result (λ o. IsSignedGreatestOf (values_at found.now.bits (shifted_entries self.now)) o) }
+        ensures { IfOk result (λ o. IsSignedGreatestOf
+            (values_at found.now.bits (shifted_entries self.now)) o) }
     {
         self.of_rank(found, Rank::Greatest)
     }
@@ -260,7 +269,8 @@ impl Shifted {
     /// Returns the lower median of the numbers at the rows of a found set, or none if there is no number.
     pub fn median(&self, found: &Bits) -> Result<Option<i64>, NoMemory>
         requires { length (shifted_entries self.now) ≡ length found.now.bits }
-        ensures { IfOk result (λ o. IsSignedMedianOf (values_at found.now.bits (shifted_entries self.now)) o) }
+        ensures { IfOk result (λ o. IsSignedMedianOf
+            (values_at found.now.bits (shifted_entries self.now)) o) }
     {
         self.of_rank(found, Rank::Median)
     }
@@ -285,7 +295,8 @@ impl Shifted {
 /// counts.
 fn stored_of_rank(stored: &AnyColumn, found: &Bits, rank: Rank) -> Result<Option<u64>, NoMemory>
     requires { length (any_entries stored.now) ≡ length found.now.bits }
-    ensures { IfOk result (λ o. IsOfRank rank (numbers_at found.now.bits (any_entries stored.now)) o) }
+    ensures { IfOk result (λ o. IsOfRank rank (numbers_at found.now.bits (any_entries stored.now))
+        o) }
 {
     match rank {
         Rank::Least => stored.least(found),
@@ -298,7 +309,9 @@ fn stored_of_rank(stored: &AnyColumn, found: &Bits, rank: Rank) -> Result<Option
 /// less the offset. Each stored number is below 2^63, so the greatest constant of 64 bits stands for each constant past
 /// it.
 fn stored_comparison(op: Op, constant: i128, offset: i64) -> (Op, u64)
-    ensures { (n : ℕ) → n < 2 ^ 63 → compares_by number_order result.0 n result.1 ≡ compares_by whole_order op (number_of offset n) constant }
+    ensures { (n : ℕ) → n < 2 ^ 63 →
+        compares_by number_order result.0 n result.1
+        ≡ compares_by whole_order op (number_of offset n) constant }
 {
     let above = constant.saturating_sub(i128::from(offset));
     if above < 0 {
@@ -310,7 +323,8 @@ fn stored_comparison(op: Op, constant: i128, offset: i64) -> (Op, u64)
 /// Returns the comparison with 0 that selects all stored numbers or none, as `op` does with a constant below each
 /// number.
 fn below_all(op: Op) -> Op
-    ensures { (n : ℕ) → (x constant : ℤ) → constant <ℤ x → compares_by number_order result n 0 ≡ compares_by whole_order op x constant }
+    ensures { (n : ℕ) → (x constant : ℤ) → constant <ℤ x →
+        compares_by number_order result n 0 ≡ compares_by whole_order op x constant }
 {
     match op {
         Op::Eq | Op::Lt | Op::Le => Op::Lt,
@@ -330,9 +344,12 @@ fn stored_from(offset: i64, entry: Option<i64>) -> Option<u64>
 /// Writes what is stored of each entry of a block.
 fn store_block(offset: i64, block: &[Option<i64>], stored: &mut [Option<u64>; 64])
     requires few { length block.now ≤ 64 }
-    requires range { All (λ entry. IfSome entry (λ x. (offset ≤ℤ x) × (x <ℤ (offset +ℤ pos (2 ^ 63))))) block.now }
+    requires range { All (λ entry. IfSome entry
+        (λ x. (offset ≤ℤ x) × (x <ℤ (offset +ℤ pos (2 ^ 63))))) block.now }
     ensures long { length stored.new ≡ 64 }
-    ensures each { (r : ℕ) → r < length block.now → option_map (number_of offset) (slice_index_or stored.new r None) ≡ slice_index_or block.now r None }
+    ensures each { (r : ℕ) → r < length block.now →
+        option_map (number_of offset) (slice_index_or stored.new r None)
+        ≡ slice_index_or block.now r None }
 {
     'entries: for r in 0..block.len() {
         stored[r] = stored_from(offset, block[r]);

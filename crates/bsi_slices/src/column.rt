@@ -154,7 +154,8 @@ pub trait Column: Drop {
     /// body counts the numbers and asks for the one at that place in order.
     fn of_rank(&self, found: &Bits, rank: Rank) -> Result<Option<u64>, NoMemory>
         requires { length (entries self.now) ≡ length found.now.bits }
-        ensures { IfOk result (λ o. IsOfRank rank (numbers_at found.now.bits (entries self.now)) o) }
+        ensures { IfOk result (λ o. IsOfRank rank (numbers_at found.now.bits (entries self.now))
+            o) }
     {
         let numbers = found.count_and(self.present());
         if numbers == 0 {
@@ -198,5 +199,6 @@ pub trait Column: Drop {
 
     /// Makes a second column of the same entries, with the same size and the same bases.
     fn copy(&self) -> Result<Self, NoMemory>
-        ensures { IfOk result (λ c. (entries c ≡ entries self.now) × (size_of c ≡ size_of self.now) × (bases_of c ≡ bases_of self.now)) };
+        ensures { IfOk result (λ c. (entries c ≡ entries self.now) × (size_of c ≡ size_of self.now)
+            × (bases_of c ≡ bases_of self.now)) };
 }

@@ -119,7 +119,8 @@ impl NotNull {
         requires { at + length block.old ≤ (length self.now.bits + 63) / 64 }
         ensures len { length block.new ≡ length block.old }
         ensures bits { (p : ℕ) → p < 64 * length block.old → 64 * at + p < length self.now.bits →
-            bit_of block.new p ≡ (bit_of block.old p && slice_index_or self.now.bits (64 * at + p) false) }
+            bit_of block.new p ≡ (bit_of block.old p
+            && slice_index_or self.now.bits (64 * at + p) false) }
     {
         if self.has_null {
             let words = self.bits.words();

@@ -37,7 +37,11 @@ impl Model for Slices {
 
     ghost Value = { SliceRows };
 
-    ghost view = { λ c. record { width = length c.slices.vectors; entries = entries_in c.present.bits c.slices.vectors; room = min c.slices.room c.present.room } };
+    ghost view = { λ c. record {
+      width = length c.slices.vectors;
+      entries = entries_in c.present.bits c.slices.vectors;
+      room = min c.slices.room c.present.room;
+    } };
 
     ghost invariant = { λ c. IsSliced c.present.bits c.slices.vectors };
 }
@@ -78,8 +82,10 @@ impl Slices {
     /// memory.
     pub fn keep_selected(&self, op: Op, constant: u64, at: usize, block: &mut [u64])
         requires { at + length block.old ≤ (length self.now.entries + 63) / 64 }
-        ensures { (p : ℕ) → p < 64 * length block.old → 64 * at + p < length self.now.entries → bit_of block.new p
-            ≡ (bit_of block.old p && selects op constant (slice_index_or self.now.entries (64 * at + p) None)) }
+        ensures { (p : ℕ) → p < 64 * length block.old → 64 * at + p < length self.now.entries →
+            bit_of block.new p
+            ≡ (bit_of block.old p && selects op constant
+            (slice_index_or self.now.entries (64 * at + p) None)) }
     {
         keep_selected(
             self.slices.as_slice(),
@@ -146,7 +152,8 @@ impl Column for Slices {
     // It passes once over the slices, and takes no memory.
     fn least(&self, found: &Bits) -> Result<Option<u64>, NoMemory>
         requires { length self.now.entries ≡ length found.now.bits }
-        ensures least { IfOk result (λ o. IsLeastOf (numbers_at found.now.bits self.now.entries) o) }
+        ensures least { IfOk result
+            (λ o. IsLeastOf (numbers_at found.now.bits self.now.entries) o) }
         ensures succeeds { IsOk result }
     {
         Ok(self.end_found(found, End::Least))
@@ -155,7 +162,8 @@ impl Column for Slices {
     // It passes once over the slices, and takes no memory.
     fn greatest(&self, found: &Bits) -> Result<Option<u64>, NoMemory>
         requires { length self.now.entries ≡ length found.now.bits }
-        ensures greatest { IfOk result (λ o. IsGreatestOf (numbers_at found.now.bits self.now.entries) o) }
+        ensures greatest { IfOk result
+            (λ o. IsGreatestOf (numbers_at found.now.bits self.now.entries) o) }
         ensures succeeds { IsOk result }
     {
         Ok(self.end_found(found, End::Greatest))
@@ -185,7 +193,8 @@ fn reserve_rows(slices: &mut Bitmaps, present: &mut NotNull, more: u64) -> Resul
     requires below { length present.old.bits + more ≤ 2 ^ 32 }
     ensures sliced { IsSliced present.new.bits slices.new.vectors }
     ensures width { length slices.new.vectors ≡ length slices.old.vectors }
-    ensures entries { entries_in present.new.bits slices.new.vectors ≡ entries_in present.old.bits slices.old.vectors }
+    ensures entries { entries_in present.new.bits slices.new.vectors
+        ≡ entries_in present.old.bits slices.old.vectors }
     ensures ok { OnOk result (more ≤ min slices.new.room present.new.room) }
     ensures kept { min slices.old.room present.old.room ≤ min slices.new.room present.new.room }
     ensures err { OnErr result (min slices.new.room present.new.room < more) }
@@ -203,7 +212,8 @@ fn push_row(slices: &mut Bitmaps, present: &mut NotNull, entry: Option<u64>)
     requires below { number_or_zero entry < 2 ^ length slices.old.vectors }
     ensures sliced { IsSliced present.new.bits slices.new.vectors }
     ensures width { length slices.new.vectors ≡ length slices.old.vectors }
-    ensures entries { entries_in present.new.bits slices.new.vectors ≡ entries_in present.old.bits slices.old.vectors ++ entry ∷ [] }
+    ensures entries { entries_in present.new.bits slices.new.vectors
+        ≡ entries_in present.old.bits slices.old.vectors ++ entry ∷ [] }
     ensures room { min slices.old.room present.old.room ≤ min slices.new.room present.new.room + 1 }
 {
     let number = entry.unwrap_or(0);
@@ -225,8 +235,10 @@ fn push_rows(slices: &mut Bitmaps, present: &mut NotNull, block: &[Option<u64>])
     requires below { All (λ e. number_or_zero e < 2 ^ length slices.old.vectors) block.now }
     ensures sliced { IsSliced present.new.bits slices.new.vectors }
     ensures width { length slices.new.vectors ≡ length slices.old.vectors }
-    ensures entries { entries_in present.new.bits slices.new.vectors ≡ entries_in present.old.bits slices.old.vectors ++ block.now }
-    ensures room { min slices.old.room present.old.room ≤ min slices.new.room present.new.room + length block.now }
+    ensures entries { entries_in present.new.bits slices.new.vectors
+        ≡ entries_in present.old.bits slices.old.vectors ++ block.now }
+    ensures room { min slices.old.room present.old.room
+        ≤ min slices.new.room present.new.room + length block.now }
 {
     let mut words = [0; 64];
     place_numbers(block, &mut words);

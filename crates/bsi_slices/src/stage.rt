@@ -12,7 +12,8 @@ use bsi_bits::know_fits;
 pub fn place_numbers(block: &[Option<u64>], numbers: &mut [u64; 64])
     requires { length block.now ≤ 64 }
     ensures long { length numbers.new ≡ 64 }
-    ensures numbers { (r : ℕ) → slice_index numbers.new r ≡ number_or_zero (slice_index_or block.now r None) }
+    ensures numbers { (r : ℕ) →
+        slice_index numbers.new r ≡ number_or_zero (slice_index_or block.now r None) }
 {
     numbers.fill(0);
     'entries: for r in 0..block.len() {
@@ -38,7 +39,8 @@ pub fn mark_present(block: &[Option<u64>]) -> u64
 pub(crate) fn transpose(words: &mut [u64; 64])
     ensures long { length words.new ≡ 64 }
     ensures fits { (k : ℕ) → slice_index words.new k < 2 ^ 64 }
-    ensures turned { (k r : ℕ) → k < 64 → r < 64 → bit_at (slice_index words.new k) r ≡ bit_at (slice_index words.old r) k }
+    ensures turned { (k r : ℕ) → k < 64 → r < 64 →
+        bit_at (slice_index words.new k) r ≡ bit_at (slice_index words.old r) k }
 {
     exchange(words, 32, 0x0000_0000_ffff_ffff);
     exchange(words, 16, 0x0000_ffff_0000_ffff);
@@ -56,7 +58,8 @@ fn exchange(words: &mut [u64; 64], s: usize, low: u64)
     requires low { IsLow s low }
     ensures long { length words.new ≡ 64 }
     ensures exchanged { (k r : ℕ) → k < 64 → r < 64 →
-        bit_at (slice_index words.new k) r ≡ bit_at (slice_index words.old (across s k r)) (across s r k) }
+        bit_at (slice_index words.new k) r
+        ≡ bit_at (slice_index words.old (across s k r)) (across s r k) }
 {
     'runs: for p in 0..32 / s {
         exchange_run(words, 2 * s * p, s, low);
@@ -70,11 +73,14 @@ fn exchange_run(words: &mut [u64; 64], from: usize, s: usize, low: u64)
     requires low { IsLow s low }
     ensures long { length words.new ≡ 64 }
     ensures first { (q r : ℕ) → q < s → r < 64 →
-        bit_at (slice_index words.new (from + q)) r ≡ bit_at (slice_index words.old (from + q + s * (r / s % 2))) (r - s * (r / s % 2)) }
+        bit_at (slice_index words.new (from + q)) r
+        ≡ bit_at (slice_index words.old (from + q + s * (r / s % 2))) (r - s * (r / s % 2)) }
     ensures second { (q r : ℕ) → q < s → r < 64 →
-        bit_at (slice_index words.new (from + s + q)) r ≡ bit_at (slice_index words.old (from + q + s * (r / s % 2))) (r - s * (r / s % 2) + s) }
+        bit_at (slice_index words.new (from + s + q)) r
+        ≡ bit_at (slice_index words.old (from + q + s * (r / s % 2))) (r - s * (r / s % 2) + s) }
     ensures before { (k : ℕ) → k < from → slice_index words.new k ≡ slice_index words.old k }
-    ensures behind { (k : ℕ) → from + 2 * s ≤ k → slice_index words.new k ≡ slice_index words.old k }
+    ensures behind { (k : ℕ) → from + 2 * s ≤ k →
+        slice_index words.new k ≡ slice_index words.old k }
 {
     'rows: for k in from..from + s {
         let (first, second) = (words[k], words[k + s]);

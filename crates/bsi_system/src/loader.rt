@@ -76,8 +76,10 @@ impl<B: Naming> Loader<B> {
     /// nobody.
     pub fn settle(&mut self, feeder: u32, closing: Closing) -> Result<(), SettleRefused>
         requires { IsOf closing self.old.system }
-        ensures ok { OnOk result ((closing.number ≡ feeder) × (self.new ≡ settled_as self.old feeder closing.rows)) }
-        ensures wrong { IfErr result (λ e. (e ≡ SettleRefused.WrongClosing closing) × (closing.number ≢ feeder)) }
+        ensures ok { OnOk result ((closing.number ≡ feeder)
+            × (self.new ≡ settled_as self.old feeder closing.rows)) }
+        ensures wrong { IfErr result (λ e. (e ≡ SettleRefused.WrongClosing closing)
+            × (closing.number ≢ feeder)) }
         ensures kept { OnErr result (self.new ≡ self.old) }
         ensures system { self.new.system ≡ self.old.system }
         ensures balanced { Balanced self.new }

@@ -29,11 +29,13 @@ pub fn open<B: Naming>(
     ensures loader { IfOk result (λ s. s.loader ≡ new_loading s.loader.system.lanes schema limit) }
     ensures lanes { IfOk result (λ s. length s.loader.system.lanes ≡ length capacities.items) }
     ensures alike { IfOk result (λ s. All (λ lane. lane.schema ≡ schema) s.loader.system.lanes) }
-    ensures feeders { IfOk result (λ s. s.feeders.items ≡ new_feeders 0 s.loader.system.lanes capacities.items) }
+    ensures feeders { IfOk result (λ s. s.feeders.items
+        ≡ new_feeders 0 s.loader.system.lanes capacities.items) }
     ensures own { IfOk result (λ s. All (λ f. IsFeederOf f s.loader.system) s.feeders.items) }
     ensures analysts { IfOk result (λ s. s.analysts.items ≡ replicate analysts []) }
     ensures taken { OnOk result (sizes_refusal schema capacities.items limit ≡ None) }
-    ensures refused { IfErr result (IsOpenRefusal (sizes_refusal schema capacities.items limit) schema limit) }
+    ensures refused { IfErr result
+        (IsOpenRefusal (sizes_refusal schema capacities.items limit) schema limit) }
 {
     let made = System::<B>::make(alloc, history, schema, &capacities, limit, analysts);
     let mut system = match made {
@@ -59,7 +61,8 @@ fn find_analysts<B: Naming>(
     analysts: &mut Vec<Analyst<B>>,
     count: u32,
 ) -> Result<(), NoMemory>
-    ensures { OnOk result (analysts.new.items ≡ analysts.old.items ++ replicate count loader.now.published) }
+    ensures { OnOk result (analysts.new.items
+        ≡ analysts.old.items ++ replicate count loader.now.published) }
 {
     'analysts: for found in 0..count {
         analysts.push(loader.analyst()?)?;

@@ -46,13 +46,17 @@ impl<B: Naming> System<B> {
         requires few { analysts ≤ 8 }
         requires history { history ≡ record { book = B.book; list = [] } }
         requires about { B.about ≡ no_rows schema (length capacities.now) limit }
-        ensures loader { IfOk result (λ s. s.loader ≡ new_loading s.loader.system.lanes schema limit) }
+        ensures loader { IfOk result
+            (λ s. s.loader ≡ new_loading s.loader.system.lanes schema limit) }
         ensures lanes { IfOk result (λ s. length s.loader.system.lanes ≡ length capacities.now) }
-        ensures alike { IfOk result (λ s. All (λ lane. lane.schema ≡ schema) s.loader.system.lanes) }
-        ensures feeders { IfOk result (λ s. s.feeders.items ≡ new_feeders 0 s.loader.system.lanes capacities.now) }
+        ensures alike { IfOk result
+            (λ s. All (λ lane. lane.schema ≡ schema) s.loader.system.lanes) }
+        ensures feeders { IfOk result (λ s. s.feeders.items
+            ≡ new_feeders 0 s.loader.system.lanes capacities.now) }
         ensures analysts { IfOk result (λ s. s.analysts.items ≡ []) }
         ensures taken { OnOk result (sizes_refusal schema capacities.now limit ≡ None) }
-        ensures refused { IfErr result (IsFirstOr MakeError.NoMemory (sizes_refusal schema capacities.now limit)) }
+        ensures refused { IfErr result
+            (IsFirstOr MakeError.NoMemory (sizes_refusal schema capacities.now limit)) }
     {
         check_sizes(&schema, capacities, limit)?;
         let shared = match Arc::new(alloc, schema.copy()?) {

@@ -48,7 +48,8 @@ fn make_stored(alloc: Global, form: &Form) -> Result<AnyColumn, NoMemory>
 
 /// Makes room for `more` further entries in each column. Whatever the result, the columns stay.
 pub(crate) fn reserve_each(columns: &mut [Shifted], more: u64) -> Result<(), NoMemory>
-    requires { (k : ℕ) → k < length columns.old → length (shifted_entries (kept_at columns.old k)) + more ≤ 2 ^ 32 }
+    requires { (k : ℕ) → k < length columns.old →
+        length (shifted_entries (kept_at columns.old k)) + more ≤ 2 ^ 32 }
     ensures same { AreSameColumns columns.old columns.new }
     ensures ok { OnOk result (HaveRoom columns.new (length columns.old) more) }
 {

@@ -41,9 +41,11 @@ impl Model for Index {
 
     ghost Value = { Table };
 
-    ghost view = { λ i. table i.schema i.origins.feeders i.limit (fed_rows i.origins.rows i.columns.items) };
+    ghost view = { λ i. table i.schema i.origins.feeders i.limit
+        (fed_rows i.origins.rows i.columns.items) };
 
-    ghost invariant = { λ i. IsTable i.schema.columns i.origins.feeders i.limit i.origins.rows i.columns.items };
+    ghost invariant = { λ i. IsTable i.schema.columns i.origins.feeders i.limit i.origins.rows
+        i.columns.items };
 }
 
 impl Index {
@@ -52,7 +54,8 @@ impl Index {
         requires { (1 ≤ feeders) × (feeders ≤ 64) }
         ensures ok { IfOk result (λ index. index ≡ no_rows schema feeders limit) }
         ensures taken { OnOk result (index_refusal schema limit ≡ None) }
-        ensures refused { IfErr result (IsFirstOr IndexError.NoMemory (index_refusal schema limit)) }
+        ensures refused { IfErr result
+            (IsFirstOr IndexError.NoMemory (index_refusal schema limit)) }
     {
         Index::check(&schema, limit)?;
         let columns = make_each(alloc, &schema)?;
@@ -120,7 +123,8 @@ impl Index {
         ensures appended { OnOk result (self.new ≡ with_rows self.old rows.now) }
         ensures position { IfOk result (λ position. position ≡ length self.old.rows) }
         ensures taken { OnOk result (rows_refusal self.old (length rows.now) ≡ None) }
-        ensures refused { IfErr result (IsFirstOr AppendError.NoMemory (rows_refusal self.old (length rows.now))) }
+        ensures refused { IfErr result
+            (IsFirstOr AppendError.NoMemory (rows_refusal self.old (length rows.now))) }
         ensures kept { OnErr result (self.new ≡ self.old) }
     {
         let first = self.len();
@@ -215,7 +219,8 @@ fn reserve_rows(
     origins: &mut Origins,
     more: u64,
 ) -> Result<(), NoMemory>
-    requires short { (k : ℕ) → k < length columns.old.items → length (shifted_entries (kept_at columns.old.items k)) + more ≤ 2 ^ 32 }
+    requires short { (k : ℕ) → k < length columns.old.items →
+        length (shifted_entries (kept_at columns.old.items k)) + more ≤ 2 ^ 32 }
     requires few { length origins.old.rows + more ≤ 2 ^ 32 }
     ensures long { length columns.new.items ≡ length columns.old.items }
     ensures same { AreSameColumns columns.old.items columns.new.items }

@@ -25,7 +25,8 @@ pub(crate) fn number_rows(
     origins: &Origins,
 ) -> Result<Vec<(u32, u64)>, NoMemory>
     requires { length found.now.bits ≡ length origins.now.rows }
-    ensures { IfOk result (λ rows. rows.items ≡ numbered_at origins.now.rows (set_places found.now.bits)) }
+    ensures { IfOk result (λ rows. rows.items
+        ≡ numbered_at origins.now.rows (set_places found.now.bits)) }
 {
     if found.count() > origins.len() / MANY {
         number_many(alloc, found, origins)
@@ -37,7 +38,8 @@ pub(crate) fn number_rows(
 /// Numbers the found rows, going from one to the next.
 fn number_few(alloc: Global, found: &Bits, origins: &Origins) -> Result<Vec<(u32, u64)>, NoMemory>
     requires { length found.now.bits ≡ length origins.now.rows }
-    ensures { IfOk result (λ rows. rows.items ≡ numbered_at origins.now.rows (set_places found.now.bits)) }
+    ensures { IfOk result (λ rows. rows.items
+        ≡ numbered_at origins.now.rows (set_places found.now.bits)) }
 {
     let mut counts = [0u64; MAX_FEEDERS as usize];
     let mut at = 0;
@@ -54,7 +56,8 @@ fn number_few(alloc: Global, found: &Bits, origins: &Origins) -> Result<Vec<(u32
 /// Numbers the found rows in one pass over all rows.
 fn number_many(alloc: Global, found: &Bits, origins: &Origins) -> Result<Vec<(u32, u64)>, NoMemory>
     requires { length found.now.bits ≡ length origins.now.rows }
-    ensures { IfOk result (λ rows. rows.items ≡ numbered_at origins.now.rows (set_places found.now.bits)) }
+    ensures { IfOk result (λ rows. rows.items
+        ≡ numbered_at origins.now.rows (set_places found.now.bits)) }
 {
     let mut counts = [0u64; MAX_FEEDERS as usize];
     let mut listed = Vec::with_capacity(alloc, found.count() as usize)?;

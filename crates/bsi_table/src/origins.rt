@@ -33,7 +33,9 @@ impl Model for Origins {
 
     ghost view = { λ o. record { rows = o.sources.items; feeders = o.feeders; room = o.room } };
 
-    ghost invariant = { λ o. IsMarked o.feeders o.sources.items o.counts o.marks.items × HasRoomFor o.room (length o.sources.items) o.feeders (vec_capacity o.sources) (vec_capacity o.marks) };
+    ghost invariant = { λ o. IsMarked o.feeders o.sources.items o.counts o.marks.items
+        × HasRoomFor o.room (length o.sources.items) o.feeders (vec_capacity o.sources)
+        (vec_capacity o.marks) };
 }
 
 impl Origins {

@@ -120,7 +120,8 @@ impl Schema {
     pub fn offset(&self, c: u32) -> i64
         requires { c < length self.now.columns }
         ensures offset { result ≡ (column_at self.now.columns c).offset }
-        ensures below { (result +ℤ pos (size_in (column_at self.now.columns c).form)) ≤ℤ pos (2 ^ 63) }
+        ensures below { (result +ℤ pos (size_in (column_at self.now.columns c).form)) ≤ℤ pos
+            (2 ^ 63) }
     {
         let (_, declared) = self.columns.get_index(c as usize).unwrap();
         declared.offset
@@ -160,9 +161,11 @@ impl Schema {
     /// Adds a column of numbers from 0 up, behind the others. If it is refused, the column is dropped and the schema
     /// stays.
     pub fn add(&mut self, name: &str, spec: ColumnSpec) -> Result<(), SchemaError>
-        ensures added { OnOk result (self.new ≡ with_column self.old (named_column name.now (form_of spec) (pos 0)) false) }
+        ensures added { OnOk result (self.new
+            ≡ with_column self.old (named_column name.now (form_of spec) (pos 0)) false) }
         ensures taken { OnOk result (column_refusal self.old name.now spec ≡ None) }
-        ensures refused { IfErr result (IsFirstOr SchemaError.NoMemory (column_refusal self.old name.now spec)) }
+        ensures refused { IfErr result
+            (IsFirstOr SchemaError.NoMemory (column_refusal self.old name.now spec)) }
         ensures kept { OnErr result (self.new ≡ self.old) }
     {
         let form = self.checked(name, spec)?;
@@ -178,9 +181,11 @@ impl Schema {
         spec: ColumnSpec,
         offset: i64,
     ) -> Result<(), SchemaError>
-        ensures added { OnOk result (self.new ≡ with_column self.old (named_column name.now (form_of spec) offset) true) }
+        ensures added { OnOk result (self.new
+            ≡ with_column self.old (named_column name.now (form_of spec) offset) true) }
         ensures taken { OnOk result (signed_refusal self.old name.now spec offset ≡ None) }
-        ensures refused { IfErr result (IsFirstOr SchemaError.NoMemory (signed_refusal self.old name.now spec offset)) }
+        ensures refused { IfErr result
+            (IsFirstOr SchemaError.NoMemory (signed_refusal self.old name.now spec offset)) }
         ensures kept { OnErr result (self.new ≡ self.old) }
     {
         let form = self.checked(name, spec)?;
@@ -225,7 +230,8 @@ impl Schema {
         requires few { length self.old.columns < 64 }
         requires form { IsForm kind.form }
         requires below { (kind.offset +ℤ pos (size_in kind.form)) ≤ℤ pos (2 ^ 63) }
-        ensures ok { OnOk result (self.new ≡ with_column self.old (named_column name.now kind.form kind.offset) signed) }
+        ensures ok { OnOk result (self.new
+            ≡ with_column self.old (named_column name.now kind.form kind.offset) signed) }
         ensures err { OnErr result (self.new ≡ self.old) }
     {
         let key = String::from_str(*self.columns.allocator(), name)?;

@@ -49,7 +49,8 @@ pub(crate) fn count_selected(
     requires few { count ≤ 2 ^ 32 }
     requires even { AreEven columns.now count }
     requires there { missing_of (length columns.now) (columns_of_pred pred.now) ≡ None }
-    ensures { IfOk result (λ selected. selected ≡ count_by (λ b. b) (map (holds pred.now) (rows_in columns.now count))) }
+    ensures { IfOk result (λ selected. selected
+        ≡ count_by (λ b. b) (map (holds pred.now) (rows_in columns.now count))) }
 {
     let mut spare = Vec::new(alloc);
     let mut words = vec![in alloc; u64::MAX; BLOCK]?;
@@ -172,7 +173,8 @@ fn has_row(block: &[u64]) -> bool
 fn swap_with_last(block: &mut [u64], spare: &mut Vec<u64>)
     requires { length block.old ≤ length spare.old.items }
     ensures block { block.new ≡ drop (length spare.old.items - length block.old) spare.old.items }
-    ensures spare { spare.new.items ≡ take (length spare.old.items - length block.old) spare.old.items ++ block.old }
+    ensures spare { spare.new.items
+        ≡ take (length spare.old.items - length block.old) spare.old.items ++ block.old }
 {
     let start = spare.len() - block.len();
     block.swap_with_slice(&mut spare[start..]);
@@ -181,8 +183,10 @@ fn swap_with_last(block: &mut [u64], spare: &mut Vec<u64>)
 /// Takes as many words as the block has from the end of `spare`, and sets, in the block, the rows that they have.
 fn add_last(block: &mut [u64], spare: &mut Vec<u64>)
     requires { length block.old ≤ length spare.old.items }
-    ensures block { block.new ≡ zip2 bit_or block.old (drop (length spare.old.items - length block.old) spare.old.items) }
-    ensures spare { spare.new.items ≡ take (length spare.old.items - length block.old) spare.old.items }
+    ensures block { block.new
+        ≡ zip2 bit_or block.old (drop (length spare.old.items - length block.old) spare.old.items) }
+    ensures spare { spare.new.items
+        ≡ take (length spare.old.items - length block.old) spare.old.items }
 {
     let start = spare.len() - block.len();
     lanes::or(block, &spare[start..]);
@@ -192,8 +196,11 @@ fn add_last(block: &mut [u64], spare: &mut Vec<u64>)
 /// Takes as many words as the block has from the end of `spare`, and inverts, in the block, the rows that they have.
 fn turn_among_last(block: &mut [u64], spare: &mut Vec<u64>)
     requires { length block.old ≤ length spare.old.items }
-    ensures block { block.new ≡ zip2 bit_xor block.old (drop (length spare.old.items - length block.old) spare.old.items) }
-    ensures spare { spare.new.items ≡ take (length spare.old.items - length block.old) spare.old.items }
+    ensures block { block.new
+        ≡ zip2 bit_xor block.old
+        (drop (length spare.old.items - length block.old) spare.old.items) }
+    ensures spare { spare.new.items
+        ≡ take (length spare.old.items - length block.old) spare.old.items }
 {
     let start = spare.len() - block.len();
     lanes::xor(block, &spare[start..]);

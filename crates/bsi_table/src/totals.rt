@@ -22,7 +22,8 @@ pub(crate) fn answer(
     query: &Query,
 ) -> Result<Answer, NoMemory>
     requires even { AreEven columns.now (length origins.now.rows) }
-    requires found { found.now.bits ≡ map (λ row. holds query.now.pred row.1) (fed_rows origins.now.rows columns.now) }
+    requires found { found.now.bits
+        ≡ map (λ row. holds query.now.pred row.1) (fed_rows origins.now.rows columns.now) }
     requires there { missing_of (length columns.now) (columns_of_total query.now.total) ≡ None }
     ensures { IfOk result (IsAnswer query.now (fed_rows origins.now.rows columns.now)) }
 {

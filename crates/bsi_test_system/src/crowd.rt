@@ -187,7 +187,8 @@ fn start_feeders<B: Naming + Send + Sync + 'static, R: Threads>(
     loader: &Loader<B>,
 ) -> Option<Vec<Sender>>
     requires { All (λ f. IsFeederOf f loader.now.system) feeders.items }
-    ensures { IfSome result (λ senders. All (λ s. IsFeederOf s.promise.0.value loader.now.system) senders.items) }
+    ensures { IfSome result (λ senders. All (λ s. IsFeederOf s.promise.0.value loader.now.system)
+        senders.items) }
 {
     let mut senders = Vec::with_capacity(alloc, feeders.len()).ok()?;
     'feeders: for feeder in feeders {
@@ -479,7 +480,8 @@ fn start<B: Naming + Send + Sync + 'static, R: Threads>(
     loader: &Loader<B>,
 ) -> Option<Started<B>>
     requires { All (λ f. IsFeederOf f loader.now.system) feeders.items }
-    ensures { IfSome result (λ all. All (λ s. IsFeederOf s.promise.0.value loader.now.system) all.senders.items) }
+    ensures { IfSome result (λ all. All (λ s. IsFeederOf s.promise.0.value loader.now.system)
+        all.senders.items) }
 {
     let board = make_board(alloc, analysts.len()).ok()?;
     let senders = start_feeders(rt, alloc, feeders, rows, &board, loader)?;

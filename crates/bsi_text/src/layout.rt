@@ -39,7 +39,8 @@ impl Model for Layout {
 
     ghost view = { λ l. record { schema = l.schema; header = fields_of l.header } };
 
-    ghost invariant = { λ l. (l.places.items ≡ map (λ column. place_of (fields_of l.header) column.name) l.schema.columns)
+    ghost invariant = { λ l. (l.places.items
+        ≡ map (λ column. place_of (fields_of l.header) column.name) l.schema.columns)
         × (l.limits.items ≡ map limits_of l.schema.columns) };
 }
 
@@ -50,7 +51,9 @@ impl Layout {
         schema: &Schema,
         header: ByteRecord,
     ) -> Result<Option<Layout>, NoMemory>
-        ensures { IfOk result (λ made. made ≡ (if is_header schema.now (fields_of header) then Some (record { schema = schema.now; header = fields_of header }) else None)) }
+        ensures { IfOk result (λ made. made
+            ≡ (if is_header schema.now (fields_of header) then Some
+            (record { schema = schema.now; header = fields_of header }) else None)) }
     {
         if !test_header(schema, &header) {
             return Ok(None);
@@ -84,8 +87,10 @@ impl Layout {
         fields: &ByteRecord,
         row: &mut Row,
     ) -> Result<bool, NoMemory>
-        ensures row { IfOk result (λ good. given good row.new ≡ good_row self.now.schema self.now.header (fields_of fields.now)) }
-        ensures fits { IfOk result (λ good. good ≡ true → IsTrue (fits self.now.schema.columns row.new)) }
+        ensures row { IfOk result (λ good. given good row.new
+            ≡ good_row self.now.schema self.now.header (fields_of fields.now)) }
+        ensures fits { IfOk result (λ good. good ≡ true →
+            IsTrue (fits self.now.schema.columns row.new)) }
     {
         if fields.len() != self.header.len() {
             return Ok(false);
@@ -119,7 +124,9 @@ impl Layout {
         fields: &ByteRecord,
         row: &mut Row,
     ) -> Result<bool, NoMemory>
-        ensures { IfOk result (λ read. given read row.new ≡ values_in self.now.schema.signed (in_order self.now.schema self.now.header (fields_of fields.now))) }
+        ensures { IfOk result (λ read. given read row.new
+            ≡ values_in self.now.schema.signed
+            (in_order self.now.schema self.now.header (fields_of fields.now))) }
     {
         let signed = self.schema.signed();
         let mut values = mem::replace(row, Row::new(Vec::new(alloc))).into_values();
@@ -192,7 +199,8 @@ fn test_fields(schema: &Schema, header: &ByteRecord) -> bool
 
 /// Returns for each column how many fields stand before its name.
 fn places_of(alloc: Global, schema: &Schema, header: &ByteRecord) -> Result<Vec<usize>, NoMemory>
-    ensures { IfOk result (λ places. places.items ≡ map (λ column. place_of (fields_of header.now) column.name) schema.now.columns) }
+    ensures { IfOk result (λ places. places.items
+        ≡ map (λ column. place_of (fields_of header.now) column.name) schema.now.columns) }
 {
     let mut places = Vec::with_capacity(alloc, schema.columns() as usize)?;
     'columns: for c in 0..schema.columns() {

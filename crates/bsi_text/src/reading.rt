@@ -28,7 +28,8 @@ pub(crate) fn read_next<R: Read + Drop>(
     fields: &mut ByteRecord,
 ) -> Result<bool, csv::Error>
     requires plain { IsPlain input.old }
-    ensures reads { IfOk result (λ found. ReadRecord R.remaining input.old input.new found (fields_of fields.new)) }
+    ensures reads { IfOk result
+        (λ found. ReadRecord R.remaining input.old input.new found (fields_of fields.new)) }
     ensures plain { OnOk result (IsPlain input.new) }
     ensures fault { IfErr result (λ e. IsReadFault (error_kind e)) }
 {

@@ -85,7 +85,8 @@ impl<R: Read + Drop> Model for RowSource<R> {
 
     ghost Value = { Source R };
 
-    ghost view = { λ s. record { layout = s.layout; input = s.input; tally = tally_of s.passed s.bad; end = s.end } };
+    ghost view = { λ s. record
+        { layout = s.layout; input = s.input; tally = tally_of s.passed s.bad; end = s.end } };
 
     ghost invariant = { λ s. IsTally (tally_of s.passed s.bad) × (s.end ≡ None → IsPlain s.input) };
 }
@@ -98,9 +99,13 @@ impl<R: Read + Drop> RowSource<R> {
     pub fn begin(alloc: Global, schema: &Schema, reader: R) -> Result<RowSource<R>, SourceFault>
         ensures schema { IfOk result (λ source. source.layout.schema ≡ schema.now) }
         ensures header { IfOk result (λ source. is_header schema.now source.layout.header ≡ true) }
-        ensures fresh { IfOk result (λ source. (source.tally ≡ record { passed = 0; bad = 0 }) × (source.end ≡ None)) }
-        ensures behind { IfOk result (λ source. IfSome (R.remaining reader) (λ bytes. StandsAfter R.remaining source.layout source.input (strip_bom bytes))) }
-        ensures bad_header { result ≡ Err SourceFault.BadHeader → IfSome (R.remaining reader) (λ bytes. HasNoHeader schema.now (strip_bom bytes)) }
+        ensures fresh { IfOk result (λ source. (source.tally ≡ record { passed = 0; bad = 0 })
+            × (source.end ≡ None)) }
+        ensures behind { IfOk result
+            (λ source. IfSome (R.remaining reader)
+            (λ bytes. StandsAfter R.remaining source.layout source.input (strip_bom bytes))) }
+        ensures bad_header { result ≡ Err SourceFault.BadHeader →
+            IfSome (R.remaining reader) (λ bytes. HasNoHeader schema.now (strip_bom bytes)) }
         ensures short { result ≢ Err SourceFault.TooLong }
     {
         let mut input = plain_reader(alloc, reader);
@@ -119,16 +124,23 @@ impl<R: Read + Drop> RowSource<R> {
     /// Returns the row of the next good record, or none once no record is left. It passes over bad records and counts
     /// them. After a fault, each later call answers the same fault. It takes at most 1,000,000 records.
     pub fn next_row(&mut self) -> Result<Option<Row>, SourceFault>
-        ensures failed { (fault : SourceFault) → self.old.end ≡ Some (Err fault) → (result ≡ Err fault) × (self.new ≡ self.old) }
+        ensures failed { (fault : SourceFault) → self.old.end ≡ Some (Err fault) →
+            (result ≡ Err fault) × (self.new ≡ self.old) }
         ensures ended { self.old.end ≡ Some (Ok tt) → (result ≡ Ok None) × (self.new ≡ self.old) }
-        ensures given { self.old.end ≡ None → IfOk result (HasGiven R.remaining self.old.layout self.old.input self.new.input self.old.tally self.new.tally) }
-        ensures goes_on { self.old.end ≡ None → IfOk result (λ found. self.new.end ≡ (if is_some found then None else Some (Ok tt))) }
-        ensures stopped { self.old.end ≡ None → IfErr result (λ fault. HasStopped R.remaining self.old.layout self.old.input self.old.tally self.new.tally fault × (self.new.end ≡ Some (Err fault))) }
+        ensures given { self.old.end ≡ None →
+            IfOk result (HasGiven R.remaining self.old.layout self.old.input self.new.input
+            self.old.tally self.new.tally) }
+        ensures goes_on { self.old.end ≡ None →
+            IfOk result (λ found. self.new.end ≡ (if is_some found then None else Some (Ok tt))) }
+        ensures stopped { self.old.end ≡ None →
+            IfErr result (λ fault. HasStopped R.remaining self.old.layout self.old.input
+            self.old.tally self.new.tally fault × (self.new.end ≡ Some (Err fault))) }
         ensures same { self.new.layout ≡ self.old.layout }
 
         // The row is the first of those that the source still had; it fits. No more records are taken than may be.
         ensures first { IfOk result (GivesFirst R.remaining self.old self.new) }
-        ensures fits { IfOk result (λ found. IfSome found (λ row. IsTrue (fits self.old.layout.schema.columns row))) }
+        ensures fits { IfOk result
+            (λ found. IfSome found (λ row. IsTrue (fits self.old.layout.schema.columns row))) }
         ensures few { self.new.tally.passed ≤ 1000000 }
     {
         let mut row = Row::new(Vec::new(self.alloc));
@@ -142,16 +154,24 @@ impl<R: Read + Drop> RowSource<R> {
     /// for a row that has had as many entries before it allocates no memory. If it returns no row, `row` may have any
     /// entries.
     pub fn next_into(&mut self, row: &mut Row) -> Result<bool, SourceFault>
-        ensures failed { (fault : SourceFault) → self.old.end ≡ Some (Err fault) → (result ≡ Err fault) × (self.new ≡ self.old) }
+        ensures failed { (fault : SourceFault) → self.old.end ≡ Some (Err fault) →
+            (result ≡ Err fault) × (self.new ≡ self.old) }
         ensures ended { self.old.end ≡ Some (Ok tt) → (result ≡ Ok false) × (self.new ≡ self.old) }
-        ensures given { self.old.end ≡ None → IfOk result (λ found. HasGiven R.remaining self.old.layout self.old.input self.new.input self.old.tally self.new.tally (given found row.new)) }
-        ensures goes_on { self.old.end ≡ None → IfOk result (λ found. self.new.end ≡ (if found then None else Some (Ok tt))) }
-        ensures stopped { self.old.end ≡ None → IfErr result (λ fault. HasStopped R.remaining self.old.layout self.old.input self.old.tally self.new.tally fault × (self.new.end ≡ Some (Err fault))) }
+        ensures given { self.old.end ≡ None →
+            IfOk result (λ found. HasGiven R.remaining self.old.layout self.old.input self.new.input
+            self.old.tally self.new.tally (given found row.new)) }
+        ensures goes_on { self.old.end ≡ None →
+            IfOk result (λ found. self.new.end ≡ (if found then None else Some (Ok tt))) }
+        ensures stopped { self.old.end ≡ None →
+            IfErr result (λ fault. HasStopped R.remaining self.old.layout self.old.input
+            self.old.tally self.new.tally fault × (self.new.end ≡ Some (Err fault))) }
         ensures same { self.new.layout ≡ self.old.layout }
 
         // The row is the first of those that the source still had; it fits. No more records are taken than may be.
-        ensures first { IfOk result (λ found. GivesFirst R.remaining self.old self.new (given found row.new)) }
-        ensures fits { IfOk result (λ found. found ≡ true → IsTrue (fits self.old.layout.schema.columns row.new)) }
+        ensures first { IfOk result
+            (λ found. GivesFirst R.remaining self.old self.new (given found row.new)) }
+        ensures fits { IfOk result (λ found. found ≡ true →
+            IsTrue (fits self.old.layout.schema.columns row.new)) }
         ensures few { self.new.tally.passed ≤ 1000000 }
     {
         match self.end {
@@ -195,8 +215,11 @@ fn read_layout<R: Read + Drop>(
     requires start { reader_state input.old ≡ st.StartRecord }
     ensures schema { IfOk result (λ layout. layout.schema ≡ schema.now) }
     ensures header { IfOk result (λ layout. is_header schema.now layout.header ≡ true) }
-    ensures behind { IfOk result (λ layout. IfSome (source_of R.remaining input.old) (StandsAfter R.remaining layout input.new)) }
-    ensures bad_header { result ≡ Err SourceFault.BadHeader → IfSome (source_of R.remaining input.old) (HasNoHeader schema.now) }
+    ensures behind { IfOk result
+        (λ layout. IfSome (source_of R.remaining input.old)
+        (StandsAfter R.remaining layout input.new)) }
+    ensures bad_header { result ≡ Err SourceFault.BadHeader →
+        IfSome (source_of R.remaining input.old) (HasNoHeader schema.now) }
     ensures short { result ≢ Err SourceFault.TooLong }
     ensures plain { OnOk result (IsPlain input.new) }
 {
@@ -223,9 +246,14 @@ fn take_row<R: Read + Drop>(
 ) -> Result<bool, SourceFault>
     requires plain { IsPlain input.old }
     requires tally { IsTally (tally_of passed.old bad.old) }
-    ensures given { IfOk result (λ found. HasGiven R.remaining layout.now input.old input.new (tally_of passed.old bad.old) (tally_of passed.new bad.new) (given found row.new)) }
-    ensures stopped { IfErr result (λ fault. HasStopped R.remaining layout.now input.old (tally_of passed.old bad.old) (tally_of passed.new bad.new) fault) }
-    ensures fits { IfOk result (λ found. found ≡ true → IsTrue (fits layout.now.schema.columns row.new)) }
+    ensures given { IfOk result
+        (λ found. HasGiven R.remaining layout.now input.old input.new (tally_of passed.old bad.old)
+        (tally_of passed.new bad.new) (given found row.new)) }
+    ensures stopped { IfErr result
+        (λ fault. HasStopped R.remaining layout.now input.old (tally_of passed.old bad.old)
+        (tally_of passed.new bad.new) fault) }
+    ensures fits { IfOk result (λ found. found ≡ true →
+        IsTrue (fits layout.now.schema.columns row.new)) }
     ensures plain { OnOk result (IsPlain input.new) }
     ensures tally { IsTally (tally_of passed.new bad.new) }
 {

@@ -84,10 +84,18 @@ pub fn run_script<R: Read + Drop, W: Write>(
     reader: R,
     writer: &mut W,
 ) -> Result<(), ScriptFault>
-    ensures ok { OnOk result (IfSome (R.remaining reader) (λ bytes. IsAnswered bytes (W.contents writer.old) (W.contents writer.new))) }
-    ensures too_long { result ≡ Err ScriptFault.TooLong → IfSome (R.remaining reader) (λ bytes. IsTooLong bytes (W.contents writer.old) (W.contents writer.new)) }
-    ensures fault { OnErr result (IfSome (R.remaining reader) (λ bytes. IsBegun bytes (W.contents writer.old) (W.contents writer.new))) }
-    ensures whole { IfErr result (λ fault. fault ≢ ScriptFault.Write → IfSome (R.remaining reader) (λ bytes. IsStopped bytes (W.contents writer.old) (W.contents writer.new))) }
+    ensures ok { OnOk result
+        (IfSome (R.remaining reader)
+        (λ bytes. IsAnswered bytes (W.contents writer.old) (W.contents writer.new))) }
+    ensures too_long { result ≡ Err ScriptFault.TooLong →
+        IfSome (R.remaining reader)
+        (λ bytes. IsTooLong bytes (W.contents writer.old) (W.contents writer.new)) }
+    ensures fault { OnErr result
+        (IfSome (R.remaining reader)
+        (λ bytes. IsBegun bytes (W.contents writer.old) (W.contents writer.new))) }
+    ensures whole { IfErr result (λ fault. fault ≢ ScriptFault.Write →
+        IfSome (R.remaining reader)
+        (λ bytes. IsStopped bytes (W.contents writer.old) (W.contents writer.new))) }
 {
     let mut input = plain_reader(alloc, Watched::new(reader));
     let mut session = Session::new(alloc);
@@ -122,10 +130,21 @@ fn serve<R: Read + Drop, W: Write>(
     requires plain { IsPlain input.old }
     requires start { reader_state input.old ≡ st.StartRecord }
     requires none { waiting.old.items ≡ [] }
-    ensures ok { OnOk result (FromText (source_of (λ w. R.remaining w.inner) input.old) (λ bytes. OnceWritten (W.contents writer.new) waiting.new.items (IsAnswered bytes (W.contents writer.old)))) }
-    ensures too_long { result ≡ Err ScriptFault.TooLong → FromText (source_of (λ w. R.remaining w.inner) input.old) (λ bytes. OnceWritten (W.contents writer.new) waiting.new.items (IsTooLong bytes (W.contents writer.old))) }
-    ensures whole { IfErr result (λ fault. fault ≢ ScriptFault.Write → FromText (source_of (λ w. R.remaining w.inner) input.old) (λ bytes. OnceWritten (W.contents writer.new) waiting.new.items (IsStopped bytes (W.contents writer.old)))) }
-    ensures part { FromText (source_of (λ w. R.remaining w.inner) input.old) (λ bytes. WhileWritten (W.contents writer.new) waiting.new.items (IsBegun bytes (W.contents writer.old))) }
+    ensures ok { OnOk result
+        (FromText (source_of (λ w. R.remaining w.inner) input.old)
+        (λ bytes. OnceWritten (W.contents writer.new) waiting.new.items
+        (IsAnswered bytes (W.contents writer.old)))) }
+    ensures too_long { result ≡ Err ScriptFault.TooLong →
+        FromText (source_of (λ w. R.remaining w.inner) input.old)
+        (λ bytes. OnceWritten (W.contents writer.new) waiting.new.items
+        (IsTooLong bytes (W.contents writer.old))) }
+    ensures whole { IfErr result (λ fault. fault ≢ ScriptFault.Write →
+        FromText (source_of (λ w. R.remaining w.inner) input.old)
+        (λ bytes. OnceWritten (W.contents writer.new) waiting.new.items
+        (IsStopped bytes (W.contents writer.old)))) }
+    ensures part { FromText (source_of (λ w. R.remaining w.inner) input.old)
+        (λ bytes. WhileWritten (W.contents writer.new) waiting.new.items
+        (IsBegun bytes (W.contents writer.old))) }
 {
     'records: for count in 0..MAX_RECORDS {
         make_way(input, waiting, writer)?;
@@ -148,8 +167,11 @@ fn make_way<R: Read + Drop, W: Write>(
     waiting: &mut Vec<u8>,
     writer: &mut W,
 ) -> Result<(), ScriptFault>
-    ensures ok { OnOk result (IsPut (W.contents writer.old) (W.contents writer.new) waiting.new.items waiting.old.items) }
-    ensures part { OnErr result (IsCut (W.contents writer.old) (W.contents writer.new) waiting.old.items) }
+    ensures ok { OnOk result
+        (IsPut (W.contents writer.old) (W.contents writer.new) waiting.new.items
+        waiting.old.items) }
+    ensures part { OnErr result
+        (IsCut (W.contents writer.old) (W.contents writer.new) waiting.old.items) }
     ensures none { OnErr result (waiting.new.items ≡ []) }
     ensures fault { IfErr result (λ fault. fault ≡ ScriptFault.Write) }
 {
@@ -161,8 +183,11 @@ fn make_way<R: Read + Drop, W: Write>(
 
 /// Lets a line wait behind the others. If there would be too many bytes, or memory is refused, it writes all lines.
 fn gather<W: Write>(line: &[u8], waiting: &mut Vec<u8>, writer: &mut W) -> Result<(), ScriptFault>
-    ensures ok { OnOk result (IsPut (W.contents writer.old) (W.contents writer.new) waiting.new.items (waiting.old.items ++ line.now)) }
-    ensures part { OnErr result (IsCut (W.contents writer.old) (W.contents writer.new) (waiting.old.items ++ line.now)) }
+    ensures ok { OnOk result
+        (IsPut (W.contents writer.old) (W.contents writer.new) waiting.new.items
+        (waiting.old.items ++ line.now)) }
+    ensures part { OnErr result
+        (IsCut (W.contents writer.old) (W.contents writer.new) (waiting.old.items ++ line.now)) }
     ensures none { OnErr result (waiting.new.items ≡ []) }
     ensures fault { IfErr result (λ fault. fault ≡ ScriptFault.Write) }
 {
@@ -176,8 +201,10 @@ fn gather<W: Write>(line: &[u8], waiting: &mut Vec<u8>, writer: &mut W) -> Resul
 
 /// Writes the waiting lines. From then on none waits.
 fn write_waiting<W: Write>(waiting: &mut Vec<u8>, writer: &mut W) -> Result<(), ScriptFault>
-    ensures ok { OnOk result (Appends (W.contents writer.old) (W.contents writer.new) waiting.old.items) }
-    ensures part { OnErr result (IsCut (W.contents writer.old) (W.contents writer.new) waiting.old.items) }
+    ensures ok { OnOk result
+        (Appends (W.contents writer.old) (W.contents writer.new) waiting.old.items) }
+    ensures part { OnErr result
+        (IsCut (W.contents writer.old) (W.contents writer.new) waiting.old.items) }
     ensures none { waiting.new.items ≡ [] }
     ensures fault { IfErr result (λ fault. fault ≡ ScriptFault.Write) }
 {

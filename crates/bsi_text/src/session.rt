@@ -44,7 +44,8 @@ impl Session {
         fields: &ByteRecord,
         line: &mut Vec<u8>,
     ) -> Result<(), NoMemory>
-        ensures { OnOk result (IsTurn (stage_of self.old) (fields_of fields.now) line.new.items (stage_of self.new)) }
+        ensures { OnOk result (IsTurn (stage_of self.old) (fields_of fields.now) line.new.items
+            (stage_of self.new)) }
     {
         line.clear();
         match self {
@@ -58,7 +59,8 @@ impl Session {
 
     /// Carries out a record of the setup, and returns whether it did.
     fn set_up(&mut self, alloc: Global, fields: &ByteRecord) -> Result<bool, NoMemory>
-        ensures { IfOk result (λ done. IsSetUp (stage_of self.old) (fields_of fields.now) done (stage_of self.new)) }
+        ensures { IfOk result (λ done. IsSetUp (stage_of self.old) (fields_of fields.now) done
+            (stage_of self.new)) }
     {
         let Session::Declaring(setup) = self else {
             return Ok(false);
@@ -78,7 +80,8 @@ impl Session {
 
 /// Writes the line that answers a record of the setup.
 fn write_word(done: bool, line: &mut Vec<u8>) -> Result<(), NoMemory>
-    ensures { OnOk result (line.new.items ≡ line.old.items ++ (if done then done_line else bad_line)) }
+    ensures { OnOk result (line.new.items
+        ≡ line.old.items ++ (if done then done_line else bad_line)) }
 {
     if !done {
         return write_bad(line);
@@ -94,7 +97,8 @@ fn run(
     line: &mut Vec<u8>,
 ) -> Result<(), NoMemory>
     requires { line.old.items ≡ [] }
-    ensures { OnOk result (IsTurn (Running core.old) (fields_of fields.now) line.new.items (Running core.new)) }
+    ensures { OnOk result (IsTurn (Running core.old) (fields_of fields.now) line.new.items
+        (Running core.new)) }
 {
     let Some(event) = read_event(alloc, core.schema(), fields)? else {
         return write_bad(line);

@@ -44,7 +44,8 @@ impl<R: Read + Drop> RecordSource<R> {
     pub fn new(alloc: Global, reader: R) -> RecordSource<R>
         ensures fresh { (result.taken ≡ 0) × (result.end ≡ None) }
         ensures start { reader_state result.input ≡ st.StartRecord }
-        ensures source { source_of R.remaining result.input ≡ option_map strip_bom (R.remaining reader) }
+        ensures source { source_of R.remaining result.input
+            ≡ option_map strip_bom (R.remaining reader) }
     {
         RecordSource {
             input: plain_reader(alloc, reader),
@@ -57,10 +58,13 @@ impl<R: Read + Drop> RecordSource<R> {
     /// answers `false`, and after a fault the same fault. The fault is `TooLong` if there is a record behind the first
     /// 1,000,000.
     pub fn next_record(&mut self, fields: &mut ByteRecord) -> Result<bool, SourceFault>
-        ensures failed { (fault : SourceFault) → self.old.end ≡ Some (Err fault) → (result ≡ Err fault) × (self.new ≡ self.old) }
+        ensures failed { (fault : SourceFault) → self.old.end ≡ Some (Err fault) →
+            (result ≡ Err fault) × (self.new ≡ self.old) }
         ensures ended { self.old.end ≡ Some (Ok tt) → (result ≡ Ok false) × (self.new ≡ self.old) }
-        ensures taken { self.old.end ≡ None → IfOk result (TakesNext R.remaining self.old self.new (fields_of fields.new)) }
-        ensures stopped { self.old.end ≡ None → IfErr result (StopsAt R.remaining self.old self.new) }
+        ensures taken { self.old.end ≡ None →
+            IfOk result (TakesNext R.remaining self.old self.new (fields_of fields.new)) }
+        ensures stopped { self.old.end ≡ None →
+            IfErr result (StopsAt R.remaining self.old self.new) }
         ensures few { self.new.taken ≤ 1000000 }
     {
         match self.end {
@@ -86,7 +90,8 @@ fn take_record<R: Read + Drop>(
 ) -> Result<bool, SourceFault>
     requires plain { IsPlain input.old }
     requires few { taken.old ≤ 1000000 }
-    ensures taken { IfOk result (Takes R.remaining input.old input.new taken.old taken.new (fields_of fields.new)) }
+    ensures taken { IfOk result
+        (Takes R.remaining input.old input.new taken.old taken.new (fields_of fields.new)) }
     ensures stopped { IfErr result (Stops R.remaining input.old taken.old taken.new) }
     ensures few { taken.new ≤ 1000000 }
     ensures plain { OnOk result (IsPlain input.new) }

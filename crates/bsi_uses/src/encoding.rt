@@ -115,7 +115,8 @@ pub(crate) fn make_column(alloc: Global, numbers: &[u64]) -> Result<Decomposed<B
 
 /// Sums the numbers up to a bound, whatever the encoding.
 pub(crate) fn sum_up_to<E: Encoding>(column: &Decomposed<E>, bound: u64) -> Result<u128, NoMemory>
-    ensures { IfOk result (λ total. total ≡ sum (numbers_at (map (selects Op.Le bound) column.now.entries) column.now.entries)) }
+    ensures { IfOk result (λ total. total
+        ≡ sum (numbers_at (map (selects Op.Le bound) column.now.entries) column.now.entries)) }
 {
     let found = column.compare(Op::Le, bound)?;
     Ok(column.sum(&found))

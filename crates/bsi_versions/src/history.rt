@@ -91,8 +91,10 @@ impl Reached {
     /// Shows that, of two lists of one history, the longer begins with the shorter.
     pub(crate) fn meet(&self, other: &Reached)
         requires { other.now.book ≡ self.now.book }
-        ensures this { length self.now.list ≤ length other.now.list → IsPrefix self.now.list other.now.list }
-        ensures that { length other.now.list ≤ length self.now.list → IsPrefix other.now.list self.now.list }
+        ensures this { length self.now.list ≤ length other.now.list →
+            IsPrefix self.now.list other.now.list }
+        ensures that { length other.now.list ≤ length self.now.list →
+            IsPrefix other.now.list self.now.list }
     {
         let mut both = self.seen.again();
         both.learn(&other.seen);

@@ -52,9 +52,12 @@ impl<B: Naming> Model for Publisher<B> {
 
     ghost Value = { Written };
 
-    ghost view = { λ p. written p.copies.desk.shown.value (drop p.copies.behind p.copies.log.items) p.stage.items };
+    ghost view = { λ p. written p.copies.desk.shown.value (drop p.copies.behind p.copies.log.items)
+        p.stage.items };
 
-    ghost invariant = { λ p. IsWriting B.book B.about p.copies.desk.shown.value (drop p.copies.behind p.copies.log.items) p.stage.items p.history p.free × (64 ≤ vec_capacity p.stage) };
+    ghost invariant = { λ p. IsWriting B.book B.about p.copies.desk.shown.value
+        (drop p.copies.behind p.copies.log.items) p.stage.items p.history p.free
+        × (64 ≤ vec_capacity p.stage) };
 }
 
 impl<B: Naming> Publisher<B> {
@@ -104,7 +107,8 @@ impl<B: Naming> Publisher<B> {
 
     /// Returns whether the published and the held rows together are as many as the limit.
     pub fn is_full(&self) -> bool
-        ensures full { IsTrue result ↔ (length self.now.table.rows + length self.now.held ≡ self.now.table.limit) }
+        ensures full { IsTrue result
+            ↔ (length self.now.table.rows + length self.now.held ≡ self.now.table.limit) }
         ensures within { length self.now.table.rows + length self.now.held ≤ self.now.table.limit }
     {
         self.free == 0
@@ -173,7 +177,8 @@ fn make_place<B: Naming>(
 ) -> Result<(), NoMemory>
     requires room { 64 ≤ vec_capacity stage.old }
     ensures desk { copies.new.desk ≡ copies.old.desk }
-    ensures staged { HasStaged (drop copies.old.behind copies.old.log.items) stage.old.items (drop copies.new.behind copies.new.log.items) stage.new.items }
+    ensures staged { HasStaged (drop copies.old.behind copies.old.log.items) stage.old.items
+        (drop copies.new.behind copies.new.log.items) stage.new.items }
     ensures room { 64 ≤ vec_capacity stage.new }
     ensures ok { OnOk result (vec_len stage.new < 64) }
 {
@@ -190,7 +195,8 @@ fn empty_stage<B: Naming>(
 ) -> Result<(), NoMemory>
     requires room { 64 ≤ vec_capacity stage.old }
     ensures desk { copies.new.desk ≡ copies.old.desk }
-    ensures staged { HasStaged (drop copies.old.behind copies.old.log.items) stage.old.items (drop copies.new.behind copies.new.log.items) stage.new.items }
+    ensures staged { HasStaged (drop copies.old.behind copies.old.log.items) stage.old.items
+        (drop copies.new.behind copies.new.log.items) stage.new.items }
     ensures room { 64 ≤ vec_capacity stage.new }
     ensures ok { OnOk result (stage.new.items ≡ []) }
 {
@@ -208,7 +214,8 @@ fn append_stage<B: Naming>(
 ) -> Result<(), NoMemory>
     requires room { 64 ≤ vec_capacity stage.old }
     ensures desk { copies.new.desk ≡ copies.old.desk }
-    ensures staged { HasStaged (drop copies.old.behind copies.old.log.items) stage.old.items (drop copies.new.behind copies.new.log.items) stage.new.items }
+    ensures staged { HasStaged (drop copies.old.behind copies.old.log.items) stage.old.items
+        (drop copies.new.behind copies.new.log.items) stage.new.items }
     ensures room { 64 ≤ vec_capacity stage.new }
     ensures ok { OnOk result (stage.new.items ≡ []) }
     ensures len { OnOk result (vec_len stage.new ≡ 0) }
@@ -226,13 +233,21 @@ fn append_stage<B: Naming>(
 
 /// Adds to the history the list that is to be shown, and appends its mark behind the pending rows.
 fn mark<B: Naming>(copies: &mut Copies<B>, history: &mut History, len: u64) -> Result<(), NoMemory>
-    requires begins { IsPrefix history.old.list (copies.old.desk.shown.value.table.rows ++ rows_of (drop copies.old.behind copies.old.log.items)) }
-    requires len { len ≡ length (copies.old.desk.shown.value.table.rows ++ rows_of (drop copies.old.behind copies.old.log.items)) }
+    requires begins { IsPrefix history.old.list (copies.old.desk.shown.value.table.rows
+        ++ rows_of (drop copies.old.behind copies.old.log.items)) }
+    requires len { len ≡ length (copies.old.desk.shown.value.table.rows
+        ++ rows_of (drop copies.old.behind copies.old.log.items)) }
     ensures desk { copies.new.desk ≡ copies.old.desk }
-    ensures history { (history.new ≡ history.old) ⊎ (history.new ≡ with_list history.old (copies.old.desk.shown.value.table.rows ++ rows_of (drop copies.old.behind copies.old.log.items))) }
-    ensures list { OnOk result (history.new ≡ with_list history.old (copies.old.desk.shown.value.table.rows ++ rows_of (drop copies.old.behind copies.old.log.items))) }
-    ensures ok { OnOk result (drop copies.new.behind copies.new.log.items ≡ drop copies.old.behind copies.old.log.items ++ Mark history.new ∷ []) }
-    ensures err { OnErr result (drop copies.new.behind copies.new.log.items ≡ drop copies.old.behind copies.old.log.items) }
+    ensures history { (history.new ≡ history.old)
+        ⊎ (history.new ≡ with_list history.old (copies.old.desk.shown.value.table.rows
+        ++ rows_of (drop copies.old.behind copies.old.log.items))) }
+    ensures list { OnOk result (history.new
+        ≡ with_list history.old (copies.old.desk.shown.value.table.rows
+        ++ rows_of (drop copies.old.behind copies.old.log.items))) }
+    ensures ok { OnOk result (drop copies.new.behind copies.new.log.items
+        ≡ drop copies.old.behind copies.old.log.items ++ Mark history.new ∷ []) }
+    ensures err { OnErr result (drop copies.new.behind copies.new.log.items
+        ≡ drop copies.old.behind copies.old.log.items) }
 {
     if !history.add::<Copies<B>, Next>(copies, len) {
         return Err(NoMemory);
@@ -245,22 +260,28 @@ fn mark<B: Naming>(copies: &mut Copies<B>, history: &mut History, len: u64) -> R
 
 /// Shows at one step the copy that has every pending operation.
 fn show<B: Naming, R: Wait>(copies: &mut Copies<B>, rt: &R) -> Result<(), NoMemory>
-    requires { Stands B.book B.about (fold after copies.old.desk.shown.value (drop copies.old.behind copies.old.log.items)) }
-    ensures shown { OnOk result (copies.new.desk.shown.value ≡ fold after copies.old.desk.shown.value (drop copies.old.behind copies.old.log.items)) }
+    requires { Stands B.book B.about
+        (fold after copies.old.desk.shown.value (drop copies.old.behind copies.old.log.items)) }
+    ensures shown { OnOk result (copies.new.desk.shown.value
+        ≡ fold after copies.old.desk.shown.value (drop copies.old.behind copies.old.log.items)) }
     ensures none { OnOk result (drop copies.new.behind copies.new.log.items ≡ []) }
     ensures kept { OnErr result (copies.new.desk.shown.value ≡ copies.old.desk.shown.value) }
-    ensures pending { OnErr result (drop copies.new.behind copies.new.log.items ≡ drop copies.old.behind copies.old.log.items) }
+    ensures pending { OnErr result (drop copies.new.behind copies.new.log.items
+        ≡ drop copies.old.behind copies.old.log.items) }
 {
     replace_with(copies, rt, turn::<B, R>)
 }
 
 /// Shows the copy that has every pending operation, of copies that are handed over, and hands them back.
 fn turn<B: Naming, R: Wait>(copies: Copies<B>, rt: &R) -> (Copies<B>, Result<(), NoMemory>)
-    requires { Stands B.book B.about (fold after copies.desk.shown.value (drop copies.behind copies.log.items)) }
-    ensures shown { OnOk result.1 (result.0.desk.shown.value ≡ fold after copies.desk.shown.value (drop copies.behind copies.log.items)) }
+    requires { Stands B.book B.about
+        (fold after copies.desk.shown.value (drop copies.behind copies.log.items)) }
+    ensures shown { OnOk result.1 (result.0.desk.shown.value
+        ≡ fold after copies.desk.shown.value (drop copies.behind copies.log.items)) }
     ensures none { OnOk result.1 (drop result.0.behind result.0.log.items ≡ []) }
     ensures kept { OnErr result.1 (result.0.desk.shown.value ≡ copies.desk.shown.value) }
-    ensures pending { OnErr result.1 (drop result.0.behind result.0.log.items ≡ drop copies.behind copies.log.items) }
+    ensures pending { OnErr result.1 (drop result.0.behind result.0.log.items
+        ≡ drop copies.behind copies.log.items) }
 {
     copies.publish_as::<Covers<B>, R>(rt)
 }

@@ -66,7 +66,8 @@ impl Version {
     /// Appends a block of rows. It refuses more than 64 rows as if memory were refused, and likewise a row that does
     /// not fit the schema or that is of no feeder. No pending operation has such rows.
     pub(crate) fn append(&mut self, rows: &[(u32, Row)]) -> Result<(), NoMemory>
-        ensures ok { OnOk result (self.new ≡ record self.old { table = with_rows self.old.table rows.now }) }
+        ensures ok { OnOk result (self.new
+            ≡ record self.old { table = with_rows self.old.table rows.now }) }
         ensures err { OnErr result (self.new ≡ self.old) }
     {
         if rows.len() > MAX_BLOCK_ROWS || !are_fitting(&self.index, rows) {

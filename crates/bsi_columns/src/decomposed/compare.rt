@@ -81,7 +81,8 @@ fn decide(op: Op, constant: u64, size: u64) -> Decision
 
 /// Returns the decision for the numbers that pass a test or, if they are not wanted, for those that fail it.
 fn tested(relation: Relation, constant: u64, wanted: bool) -> Decision
-    ensures { result ≡ Tested (record { relation = relation; constant = constant; wanted = wanted }) }
+    ensures { result ≡ Tested
+        (record { relation = relation; constant = constant; wanted = wanted }) }
 {
     Decision::Tested(Test {
         relation,
@@ -118,8 +119,10 @@ impl<E: Encoding> Decomposed<E> {
         requires few { length block.old ≤ 1024 }
         requires within { at + length block.old ≤ (length self.now.entries + 63) / 64 }
         ensures kept { OnErr result (block.new ≡ block.old) }
-        ensures rows { OnOk result ((p : ℕ) → p < 64 * length block.old → 64 * at + p < length self.now.entries → bit_of block.new p
-            ≡ (bit_of block.old p && selects op constant (slice_index_or self.now.entries (64 * at + p) None))) }
+        ensures rows { OnOk result ((p : ℕ) → p < 64 * length block.old →
+            64 * at + p < length self.now.entries → bit_of block.new p
+            ≡ (bit_of block.old p && selects op constant
+            (slice_index_or self.now.entries (64 * at + p) None))) }
     {
         match decide(op, constant, self.bases.size()) {
             Decision::Nothing => {
@@ -140,8 +143,10 @@ impl<E: Encoding> Decomposed<E> {
         requires few { length block.old ≤ 1024 }
         requires within { at + length block.old ≤ (length self.now.entries + 63) / 64 }
         ensures kept { OnErr result (block.new ≡ block.old) }
-        ensures rows { OnOk result ((p : ℕ) → p < 64 * length block.old → 64 * at + p < length self.now.entries → bit_of block.new p
-            ≡ (bit_of block.old p && answers (λ x. holds test.relation x test.constant) test.wanted (slice_index_or self.now.entries (64 * at + p) None))) }
+        ensures rows { OnOk result ((p : ℕ) → p < 64 * length block.old →
+            64 * at + p < length self.now.entries → bit_of block.new p
+            ≡ (bit_of block.old p && answers (λ x. holds test.relation x test.constant) test.wanted
+            (slice_index_or self.now.entries (64 * at + p) None))) }
     {
         let mut buffer = [0; SHORT_BLOCK];
         let found = &mut buffer[..block.len()];
@@ -157,7 +162,9 @@ impl<E: Encoding> Decomposed<E> {
     /// Returns the rows whose number passes a test with a constant that is below the size.
     fn select(&self, test: Test) -> Result<Bits, NoMemory>
         requires { test.constant < size_of self.now.bases }
-        ensures { IfOk result (λ b. b.bits ≡ map (answers (λ x. holds test.relation x test.constant) test.wanted) self.now.entries) }
+        ensures { IfOk result (λ b. b.bits
+            ≡ map (answers (λ x. holds test.relation x test.constant) test.wanted)
+            self.now.entries) }
     {
         match self.select_words(test)? {
             Some(words) => Ok(Bits::from_words(words, self.present.len())),
@@ -171,9 +178,12 @@ impl<E: Encoding> Decomposed<E> {
     /// Returns the words of those rows, or `None` if a component works on whole vectors alone.
     fn select_words(&self, test: Test) -> Result<Option<Vec<u64>>, NoMemory>
         requires { test.constant < size_of self.now.bases }
-        ensures few { IfOk result (λ o. IfSome o (λ words. length words.items ≡ (length self.now.entries + 63) / 64)) }
-        ensures bits { IfOk result (λ o. IfSome o (λ words. (p : ℕ) → p < length self.now.entries → bit_of words.items p
-            ≡ slice_index_or (map (answers (λ x. holds test.relation x test.constant) test.wanted) self.now.entries) p false)) }
+        ensures few { IfOk result (λ o. IfSome o (λ words. length words.items
+            ≡ (length self.now.entries + 63) / 64)) }
+        ensures bits { IfOk result (λ o. IfSome o (λ words. (p : ℕ) → p < length self.now.entries →
+            bit_of words.items p
+            ≡ slice_index_or (map (answers (λ x. holds test.relation x test.constant) test.wanted)
+            self.now.entries) p false)) }
     {
         let len = self.present.bits().words().len();
         let mut words = Vec::with_capacity(*self.components.allocator(), len)?;
@@ -190,8 +200,10 @@ impl<E: Encoding> Decomposed<E> {
         requires len { len ≡ (length self.now.entries + 63) / 64 }
         requires empty { words.old.items ≡ [] }
         ensures len { IfOk result (λ whole. OnTrue whole (length words.new.items ≡ len)) }
-        ensures bits { IfOk result (λ whole. OnTrue whole ((p : ℕ) → p < length self.now.entries → bit_of words.new.items p
-            ≡ slice_index_or (map (answers (λ x. holds test.relation x test.constant) test.wanted) self.now.entries) p false)) }
+        ensures bits { IfOk result (λ whole. OnTrue whole ((p : ℕ) → p < length self.now.entries →
+            bit_of words.new.items p
+            ≡ slice_index_or (map (answers (λ x. holds test.relation x test.constant) test.wanted)
+            self.now.entries) p false)) }
     {
         let mut buffer = [0; BLOCK];
         for k in 0..len.div_ceil(BLOCK) {
@@ -209,8 +221,10 @@ impl<E: Encoding> Decomposed<E> {
     fn select_block(&self, test: Test, at: usize, block: &mut [u64]) -> bool
         requires below { test.constant < size_of self.now.bases }
         requires within { at + length block.old ≤ (length self.now.entries + 63) / 64 }
-        ensures { OnTrue result ((p : ℕ) → p < 64 * length block.old → 64 * at + p < length self.now.entries → bit_of block.new p
-            ≡ slice_index_or (map (answers (λ x. holds test.relation x test.constant) test.wanted) self.now.entries) (64 * at + p) false) }
+        ensures { OnTrue result ((p : ℕ) → p < 64 * length block.old →
+            64 * at + p < length self.now.entries → bit_of block.new p
+            ≡ slice_index_or (map (answers (λ x. holds test.relation x test.constant) test.wanted)
+            self.now.entries) (64 * at + p) false) }
     {
         if !self.find_block(test, at, block) {
             return false;
@@ -226,8 +240,10 @@ impl<E: Encoding> Decomposed<E> {
     fn find_block(&self, test: Test, at: usize, block: &mut [u64]) -> bool
         requires below { test.constant < size_of self.now.bases }
         requires within { at + length block.old ≤ (length self.now.entries + 63) / 64 }
-        ensures { OnTrue result ((p : ℕ) → p < 64 * length block.old → 64 * at + p < length self.now.entries → bit_of block.new p
-            ≡ holds test.relation (number_or_zero (slice_index_or self.now.entries (64 * at + p) None)) test.constant) }
+        ensures { OnTrue result ((p : ℕ) → p < 64 * length block.old →
+            64 * at + p < length self.now.entries → bit_of block.new p
+            ≡ holds test.relation (number_or_zero
+            (slice_index_or self.now.entries (64 * at + p) None)) test.constant) }
     {
         for i in 0..self.bases.len() {
             let digit = self.bases.digit(test.constant, i);
@@ -250,7 +266,8 @@ impl<E: Encoding> Decomposed<E> {
 fn keep_wanted(found: &[u64], wanted: bool, block: &mut [u64])
     requires { length found.now ≡ length block.old }
     ensures len { length block.new ≡ length block.old }
-    ensures bits { (p : ℕ) → p < 64 * length block.old → bit_of block.new p ≡ (bit_of block.old p && as_wanted wanted (bit_of found.now p)) }
+    ensures bits { (p : ℕ) → p < 64 * length block.old →
+        bit_of block.new p ≡ (bit_of block.old p && as_wanted wanted (bit_of found.now p)) }
 {
     if wanted {
         lanes::and(block, found);
@@ -272,8 +289,10 @@ fn narrow_digit<E: Encoding>(
 ) -> bool
     requires below { digit < E.base_of component.now }
     requires within { at + length block.old ≤ (length (E.digits component.now) + 63) / 64 }
-    ensures { OnTrue result ((p : ℕ) → p < 64 * length block.old → 64 * at + p < length (E.digits component.now) → bit_of block.new p
-        ≡ holds_from relation (is_lowest || bit_of block.old p) (slice_index (E.digits component.now) (64 * at + p)) digit) }
+    ensures { OnTrue result ((p : ℕ) → p < 64 * length block.old →
+        64 * at + p < length (E.digits component.now) → bit_of block.new p
+        ≡ holds_from relation (is_lowest || bit_of block.old p)
+        (slice_index (E.digits component.now) (64 * at + p)) digit) }
 {
     know_rows(component);
     let len = block.len();
@@ -305,8 +324,10 @@ fn narrow_part<E: Encoding>(
 ) -> bool
     requires below { digit < E.base_of component.now }
     requires within { at + length block.old ≤ (length (E.digits component.now) + 63) / 64 }
-    ensures { OnTrue result ((p : ℕ) → p < 64 * length block.old → 64 * at + p < length (E.digits component.now) → bit_of block.new p
-        ≡ holds_from relation (is_lowest || bit_of block.old p) (slice_index (E.digits component.now) (64 * at + p)) digit) }
+    ensures { OnTrue result ((p : ℕ) → p < 64 * length block.old →
+        64 * at + p < length (E.digits component.now) → bit_of block.new p
+        ≡ holds_from relation (is_lowest || bit_of block.old p)
+        (slice_index (E.digits component.now) (64 * at + p)) digit) }
 {
     match relation {
         Relation::Equal if is_lowest => {

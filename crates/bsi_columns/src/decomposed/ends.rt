@@ -51,8 +51,10 @@ impl<E: Encoding> Decomposed<E> {
         block: &mut [u64],
     ) -> Option<Option<u64>>
         requires within { at + length block.old ≤ (length self.now.entries + 63) / 64 }
-        requires rows { (p : ℕ) → p < 64 * length block.old → bit_of block.old p ≡ true → is_some (slice_index_or self.now.entries (64 * at + p) None) ≡ true }
-        ensures { IfSome result (IsBetterIn end (bit_of block.old) (λ p. number_at self.now.entries (64 * at + p)) (64 * length block.old) best) }
+        requires rows { (p : ℕ) → p < 64 * length block.old → bit_of block.old p ≡ true →
+            is_some (slice_index_or self.now.entries (64 * at + p) None) ≡ true }
+        ensures { IfSome result (IsBetterIn end (bit_of block.old)
+            (λ p. number_at self.now.entries (64 * at + p)) (64 * length block.old) best) }
     {
         let present = self.present();
         if !meets(present, at, block) {
@@ -85,7 +87,8 @@ fn rows_into(found: &Bits, present: &Bits, at: usize, block: &mut [u64])
     requires present { at + length block.old ≤ (length present.now.bits + 63) / 64 }
     ensures len { length block.new ≡ length block.old }
     ensures bits { (p : ℕ) → p < 64 * length block.old → bit_of block.new p
-        ≡ (slice_index_or found.now.bits (64 * at + p) false && slice_index_or present.now.bits (64 * at + p) false) }
+        ≡ (slice_index_or found.now.bits (64 * at + p) false
+        && slice_index_or present.now.bits (64 * at + p) false) }
 {
     block.fill(u64::MAX);
     keep_in(found, at, block);
@@ -98,7 +101,8 @@ fn limit_of(end: End, best: Option<u64>, above: u64, base: u32, weight: u64) -> 
     requires some { 1 ≤ weight }
     requires base { 1 ≤ base }
     ensures below { result < base }
-    ensures past { (d x : ℕ) → d < base → IsPast end result d → comes_first end (above + d) (x / weight) → leads end best x }
+    ensures past { (d x : ℕ) → d < base → IsPast end result d →
+        comes_first end (above + d) (x / weight) → leads end best x }
 {
     match best {
         None => match end {
@@ -115,9 +119,11 @@ fn limit_of(end: End, best: Option<u64>, above: u64, base: u32, weight: u64) -> 
 fn end_digit<E: Encoding>(component: &E, end: End, limit: u32, at: usize, block: &[u64]) -> EndDigit
     requires below { limit < E.base_of component.now }
     requires within { at + length block.now ≤ (length (E.digits component.now) + 63) / 64 }
-    requires rows { (p : ℕ) → p < 64 * length block.now → bit_of block.now p ≡ true → 64 * at + p < length (E.digits component.now) }
+    requires rows { (p : ℕ) → p < 64 * length block.now → bit_of block.now p ≡ true →
+        64 * at + p < length (E.digits component.now) }
     requires some { HasMarked (bit_of block.now) (64 * length block.now) }
-    ensures { AnswersEnd end limit (bit_of block.now) (λ p. slice_index (E.digits component.now) (64 * at + p)) (64 * length block.now) result }
+    ensures { AnswersEnd end limit (bit_of block.now)
+        (λ p. slice_index (E.digits component.now) (64 * at + p)) (64 * length block.now) result }
 {
     match end {
         End::Least => component.least_in_block(limit, at, block),
@@ -137,10 +143,12 @@ fn keep_nearest<E: Encoding>(
     requires below { limit < E.base_of component.now }
     requires within { at + length block.old ≤ (length (E.digits component.now) + 63) / 64 }
     requires same { length present.now.bits ≡ length (E.digits component.now) }
-    requires rows { (p : ℕ) → p < 64 * length block.old → bit_of block.old p ≡ true → slice_index_or present.now.bits (64 * at + p) false ≡ true }
+    requires rows { (p : ℕ) → p < 64 * length block.old → bit_of block.old p ≡ true →
+        slice_index_or present.now.bits (64 * at + p) false ≡ true }
     requires some { HasMarked (bit_of block.old) (64 * length block.old) }
     ensures len { length block.new ≡ length block.old }
-    ensures digit { KeepsNearest end limit (bit_of block.old) (bit_of block.new) (λ p. slice_index (E.digits component.now) (64 * at + p)) (64 * length block.old) result }
+    ensures digit { KeepsNearest end limit (bit_of block.old) (bit_of block.new)
+        (λ p. slice_index (E.digits component.now) (64 * at + p)) (64 * length block.old) result }
 {
     let _base = component.base();
     match end_digit(component, end, limit, at, block) {

@@ -17,7 +17,9 @@ impl<E: Encoding> Decomposed<E> {
     pub(crate) fn select_vectors(&self, test: Test, mut found: Bits) -> Result<Bits, NoMemory>
         requires below { test.constant < size_of self.now.bases }
         requires same { length self.now.entries ≡ length found.bits }
-        ensures { IfOk result (λ b. b.bits ≡ map (answers (λ x. holds test.relation x test.constant) test.wanted) self.now.entries) }
+        ensures { IfOk result (λ b. b.bits
+            ≡ map (answers (λ x. holds test.relation x test.constant) test.wanted)
+            self.now.entries) }
     {
         let mut part = found.copy()?;
         self.narrow_vectors(test, &mut part, &mut found);
@@ -31,7 +33,8 @@ impl<E: Encoding> Decomposed<E> {
         requires below { test.constant < size_of self.now.bases }
         requires same_part { length self.now.entries ≡ length part.old.bits }
         requires same { length self.now.entries ≡ length found.old.bits }
-        ensures { found.new.bits ≡ map (λ e. holds test.relation (number_or_zero e) test.constant) self.now.entries }
+        ensures { found.new.bits
+            ≡ map (λ e. holds test.relation (number_or_zero e) test.constant) self.now.entries }
     {
         let places = self.bases.len();
         let lowest = self.bases.digit(test.constant, 0);
@@ -72,7 +75,8 @@ fn narrow_into<E: Encoding>(
     requires below { digit < E.base_of component.now }
     requires same_part { length (E.digits component.now) ≡ length part.old.bits }
     requires same { length (E.digits component.now) ≡ length found.old.bits }
-    ensures found { found.new.bits ≡ zip2 (λ low v. holds_from relation low v digit) found.old.bits (E.digits component.now) }
+    ensures found { found.new.bits
+        ≡ zip2 (λ low v. holds_from relation low v digit) found.old.bits (E.digits component.now) }
     ensures part { length part.new.bits ≡ length part.old.bits }
 {
     match relation {
@@ -94,7 +98,8 @@ fn narrow_into<E: Encoding>(
 /// Keeps the rows that are not null among those that pass a test or, as wanted, among those that fail it.
 fn cut(found: &mut Bits, wanted: bool, present: &Bits)
     requires { length found.old.bits ≡ length present.now.bits }
-    ensures { found.new.bits ≡ zip2 (λ answer there. as_wanted wanted answer && there) found.old.bits present.now.bits }
+    ensures { found.new.bits
+        ≡ zip2 (λ answer there. as_wanted wanted answer && there) found.old.bits present.now.bits }
 {
     if !wanted {
         found.flip();

@@ -60,7 +60,8 @@ pub fn select(
     constant: u64,
 ) -> Result<Bits, NoMemory>
     requires { IsSliced present.now.bits slices.now }
-    ensures { IfOk result (λ b. b.bits ≡ map (selects op constant) (entries_in present.now.bits slices.now)) }
+    ensures { IfOk result (λ b. b.bits
+        ≡ map (selects op constant) (entries_in present.now.bits slices.now)) }
 {
     match decide(op, constant, 1 << slices.len()) {
         Selection::Nothing => Bits::filled(alloc, present.len(), false),
@@ -85,8 +86,10 @@ pub fn keep_selected(
 )
     requires sliced { IsSliced present.now.bits slices.now }
     requires within { at + length block.old ≤ (length present.now.bits + 63) / 64 }
-    ensures { (p : ℕ) → p < 64 * length block.old → 64 * at + p < length present.now.bits → bit_of block.new p
-        ≡ (bit_of block.old p && selects op constant (slice_index_or (entries_in present.now.bits slices.now) (64 * at + p) None)) }
+    ensures { (p : ℕ) → p < 64 * length block.old → 64 * at + p < length present.now.bits →
+        bit_of block.new p
+        ≡ (bit_of block.old p && selects op constant
+        (slice_index_or (entries_in present.now.bits slices.now) (64 * at + p) None)) }
 {
     match decide(op, constant, 1 << slices.len()) {
         Selection::Nothing => block.fill(0),
@@ -123,7 +126,8 @@ fn decide(op: Op, constant: u64, size: u64) -> Selection
 
 /// Returns the selection of the numbers in a relation to a constant or, if the test is negated, of all other numbers.
 fn tested(relation: Relation, constant: u64, negated: bool) -> Selection
-    ensures { result ≡ Tested (record { relation = relation; constant = constant; negated = negated }) }
+    ensures { result ≡ Tested
+        (record { relation = relation; constant = constant; negated = negated }) }
 {
     Selection::Tested(Test {
         relation,
@@ -138,8 +142,10 @@ fn keep(slices: &[Bits], test: Test, start: usize, words: &mut [u64])
     requires few { length slices.now ≤ 63 }
     requires below { test.constant < 2 ^ length slices.now }
     requires small { start + length words.old ≤ 2 ^ 26 }
-    requires long { (i : ℕ) → i < length slices.now → start + length words.old ≤ (length (slice_at slices.now i) + 63) / 64 }
-    ensures { IsKept (λ r. passes test (number slices.now (64 * start + r))) 0 (length words.old) words.old words.new }
+    requires long { (i : ℕ) → i < length slices.now →
+        start + length words.old ≤ (length (slice_at slices.now i) + 63) / 64 }
+    ensures { IsKept (λ r. passes test (number slices.now (64 * start + r))) 0 (length words.old)
+        words.old words.new }
 {
     let whole = words.len() / BLOCK * BLOCK;
     keep_blocks::<BLOCK>(slices, test, start, 0, words);
@@ -159,8 +165,10 @@ fn keep_blocks<const N: usize>(
     requires below { test.constant < 2 ^ length slices.now }
     requires within { from ≤ length words.old }
     requires small { start + length words.old ≤ 2 ^ 26 }
-    requires long { (i : ℕ) → i < length slices.now → start + length words.old ≤ (length (slice_at slices.now i) + 63) / 64 }
-    ensures { IsKept (λ r. passes test (number slices.now (64 * start + r))) from (from + N * ((length words.old - from) / N)) words.old words.new }
+    requires long { (i : ℕ) → i < length slices.now →
+        start + length words.old ≤ (length (slice_at slices.now i) + 63) / 64 }
+    ensures { IsKept (λ r. passes test (number slices.now (64 * start + r))) from
+        (from + N * ((length words.old - from) / N)) words.old words.new }
 {
     let blocks = (words.len() - from) / N;
     'block: for k in 0..blocks {
@@ -181,10 +189,12 @@ fn related_block<const N: usize>(
     requires blocks { (1 ≤ N) × (N ≤ 64) }
     requires few { length slices.now ≤ 63 }
     requires below { constant < 2 ^ length slices.now }
-    requires long { (i : ℕ) → i < length slices.now → at + N ≤ (length (slice_at slices.now i) + 63) / 64 }
+    requires long { (i : ℕ) → i < length slices.now →
+        at + N ≤ (length (slice_at slices.now i) + 63) / 64 }
     ensures long { length result ≡ N }
     ensures fits { (k : ℕ) → slice_index result k < 2 ^ 64 }
-    ensures bits { (p : ℕ) → p < 64 * N → bit_of result p ≡ relates relation constant (number slices.now (64 * at + p)) }
+    ensures bits { (p : ℕ) → p < 64 * N →
+        bit_of result p ≡ relates relation constant (number slices.now (64 * at + p)) }
 {
     match relation {
         Relation::Above => above_block::<N>(slices, constant, at),
@@ -199,10 +209,12 @@ fn above_block<const N: usize>(slices: &[Bits], constant: u64, at: usize) -> Sim
     requires blocks { (1 ≤ N) × (N ≤ 64) }
     requires few { length slices.now ≤ 63 }
     requires below { constant < 2 ^ length slices.now }
-    requires long { (i : ℕ) → i < length slices.now → at + N ≤ (length (slice_at slices.now i) + 63) / 64 }
+    requires long { (i : ℕ) → i < length slices.now →
+        at + N ≤ (length (slice_at slices.now i) + 63) / 64 }
     ensures long { length result ≡ N }
     ensures fits { (k : ℕ) → slice_index result k < 2 ^ 64 }
-    ensures bits { (p : ℕ) → p < 64 * N → bit_of result p ≡ nat_lt constant (number slices.now (64 * at + p)) }
+    ensures bits { (p : ℕ) → p < 64 * N →
+        bit_of result p ≡ nat_lt constant (number slices.now (64 * at + p)) }
 {
     let mut above = Simd::<u64, N>::splat(0);
     'slices: for place in 0..slices.len() {
@@ -218,10 +230,12 @@ fn equal_block<const N: usize>(slices: &[Bits], constant: u64, at: usize) -> Sim
     requires blocks { (1 ≤ N) × (N ≤ 64) }
     requires few { length slices.now ≤ 63 }
     requires below { constant < 2 ^ length slices.now }
-    requires long { (i : ℕ) → i < length slices.now → at + N ≤ (length (slice_at slices.now i) + 63) / 64 }
+    requires long { (i : ℕ) → i < length slices.now →
+        at + N ≤ (length (slice_at slices.now i) + 63) / 64 }
     ensures long { length result ≡ N }
     ensures fits { (k : ℕ) → slice_index result k < 2 ^ 64 }
-    ensures bits { (p : ℕ) → p < 64 * N → bit_of result p ≡ (constant == number slices.now (64 * at + p)) }
+    ensures bits { (p : ℕ) → p < 64 * N →
+        bit_of result p ≡ (constant == number slices.now (64 * at + p)) }
 {
     let mut found = Simd::<u64, N>::splat(u64::MAX);
     'slices: for place in 0..slices.len() {
@@ -235,7 +249,8 @@ fn equal_block<const N: usize>(slices: &[Bits], constant: u64, at: usize) -> Sim
 /// Returns which rows are above the constant once one more binary place is taken in: `lanes` is the slice of that
 /// place, and `is_one` tells whether the place is 1 in the constant.
 fn stepped<const N: usize>(above: Simd<u64, N>, lanes: Simd<u64, N>, is_one: bool) -> Simd<u64, N>
-    ensures { result ≡ (if is_one then zip2 bit_and above.entry lanes.entry else zip2 bit_or above.entry lanes.entry) }
+    ensures { result ≡ (if is_one then zip2 bit_and above.entry lanes.entry else zip2 bit_or
+        above.entry lanes.entry) }
 {
     if is_one { above & lanes } else { above | lanes }
 }
@@ -246,7 +261,8 @@ pub(super) fn cut<const N: usize>(
     found: Simd<u64, N>,
     negated: bool,
 ) -> Simd<u64, N>
-    ensures { result ≡ (if negated then zip2 bit_and kept.entry (map (bit_not w64) found.entry) else zip2 bit_and kept.entry found.entry) }
+    ensures { result ≡ (if negated then zip2 bit_and kept.entry (map (bit_not w64) found.entry) else
+        zip2 bit_and kept.entry found.entry) }
 {
     if negated { kept & !found } else { kept & found }
 }
@@ -256,7 +272,8 @@ fn words_at(slices: &[Bits], place: usize) -> &[u64]
     requires { place < length slices.now }
     ensures few { length result.now ≡ (length (slice_at slices.now place) + 63) / 64 }
     ensures small { length result.now ≤ 2 ^ 26 }
-    ensures places { (i : ℕ) → bit_of result.now i ≡ slice_index_or (slice_at slices.now place) i false }
+    ensures places { (i : ℕ) →
+        bit_of result.now i ≡ slice_index_or (slice_at slices.now place) i false }
     ensures fits { (k : ℕ) → slice_index result.now k < 2 ^ 64 }
 {
     let slice = &slices[place];

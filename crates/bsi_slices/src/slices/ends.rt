@@ -35,7 +35,8 @@ impl End {
     pub fn leads_all(self, best: Option<u64>, number: u64, weight: u64) -> bool
         requires small { number * weight + weight ≤ 2 ^ 63 }
         requires some { 1 ≤ weight }
-        ensures leads { IsTrue result → (x : ℕ) → comes_first self number (x / weight) → leads self best x }
+        ensures leads { IsTrue result → (x : ℕ) → comes_first self number (x / weight) →
+            leads self best x }
         ensures yields { IsFalse result → weight ≡ 1 → yields self number best }
     {
         match (self, best) {
@@ -70,7 +71,8 @@ impl Slices {
         requires same { length self.now.entries ≡ length found.now.bits }
         requires within { from ≤ (length found.now.bits + 63) / 64 }
         requires before { IsEndUpto end found.now.bits self.now.entries (64 * from) before }
-        ensures { IsEndUpto end found.now.bits self.now.entries (64 * (from + N * (((length found.now.bits + 63) / 64 - from) / N))) result }
+        ensures { IsEndUpto end found.now.bits self.now.entries
+            (64 * (from + N * (((length found.now.bits + 63) / 64 - from) / N))) result }
     {
         prove!(found.len() <= 1 << 32);
         let mut best = before;
@@ -93,7 +95,8 @@ impl Slices {
     ) -> Option<u64>
         requires blocks { (1 ≤ N) × (N ≤ 64) }
         requires within { at + N ≤ (length self.now.entries + 63) / 64 }
-        ensures { IsBetterIn end (bit_of rows.entry) (λ p. number_at self.now.entries (64 * at + p)) (64 * N) best result }
+        ensures { IsBetterIn end (bit_of rows.entry) (λ p. number_at self.now.entries (64 * at + p))
+            (64 * N) best result }
     {
         let mut kept = rows;
         if !has_row(kept) {
@@ -159,7 +162,8 @@ fn block_at<const N: usize>(bits: &Bits, at: usize) -> Simd<u64, N>
     requires { at + N ≤ (length bits.now.bits + 63) / 64 }
     ensures long { length result ≡ N }
     ensures fits { (k : ℕ) → slice_index result k < 2 ^ 64 }
-    ensures places { (p : ℕ) → p < 64 * N → bit_of result p ≡ slice_index_or bits.now.bits (64 * at + p) false }
+    ensures places { (p : ℕ) → p < 64 * N →
+        bit_of result p ≡ slice_index_or bits.now.bits (64 * at + p) false }
 {
     prove!(bits.len() <= 1 << 32);
     let words = bits.words();

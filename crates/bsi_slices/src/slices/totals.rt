@@ -94,8 +94,10 @@ fn narrow(chosen: &mut [u64], slice: &Bits, is_set: bool, next: &Bits) -> u64
     requires same { length next.now.bits ≡ length slice.now.bits }
     ensures packed { IsPacked (length slice.now.bits) chosen.new }
     ensures chosen { bits_of (length slice.now.bits) chosen.new
-        ≡ zip2 (λ f b. f && (if is_set then b else not b)) (bits_of (length slice.now.bits) chosen.old) slice.now.bits }
-    ensures clear { result ≡ count_by (λ b. b) (zip2 without (bits_of (length slice.now.bits) chosen.new) next.now.bits) }
+        ≡ zip2 (λ f b. f && (if is_set then b else not b))
+        (bits_of (length slice.now.bits) chosen.old) slice.now.bits }
+    ensures clear { result ≡ count_by (λ b. b)
+        (zip2 without (bits_of (length slice.now.bits) chosen.new) next.now.bits) }
 {
     let (words, others) = (slice.words(), next.words());
     know_fits(words);
