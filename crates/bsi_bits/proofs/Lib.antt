@@ -1,6 +1,7 @@
 pub mod Counting
 pub mod CountingPairs
 pub mod Filling
+pub mod InWords
 pub mod Logic
 pub mod Reading
 pub mod Skipping

@@ -1,6 +1,7 @@
 -- What a contract sees of a 'Bits'.
-use Rattle.std.specs.Prelude.{ℕ, Bool, false, List, length, filter, slice_index_or, not, ◌&&◌, if◌then◌else◌}
+use Rattle.std.specs.Prelude.{ℕ, ◌-◌, ◌*◌, Bool, false, List, length, filter, slice_index_or, not, ◌&&◌, if◌then◌else◌}
 use Rattle.std.specs.List.{range_with_len}
+use Rattle.std.specs.Simd.Lanes.{chunk}
 
 -- the bits from place 0 up, and how many more can be appended with no memory
 pub record BitList : Type 0 where
@@ -18,3 +19,7 @@ without a b = a && not b
 -- the places of the bits that are set, rising
 abbrev pub set_places : List Bool → List ℕ
 set_places bits = filter (λ i. slice_index_or bits i false) (range_with_len 0 (length bits))
+
+-- of items that stand 64 to a word, those in the words from `start` on and before `end`
+abbrev pub in_words : {X : Type 0} → ℕ → ℕ → List X → List X
+in_words start end items = chunk (64 * start) (64 * (end - start)) items

@@ -1,5 +1,5 @@
 -- Steps on a block of words, bit by bit, by the words of a bitmap.
-use Rattle.std.proofs.Common.{◌≡◌, ℕ, ◌+◌, ◌-◌, ◌*◌, ◌/◌, ◌%◌, ◌^◌, ◌<◌, ◌≤◌, Bool, true, not, List, length, get_or, map, replicate, ap, ap₂, sym, ◌∙◌, arith}
+use Rattle.std.proofs.Common.{◌≡◌, ℕ, ◌+◌, ◌-◌, ◌*◌, ◌/◌, ◌%◌, ◌^◌, ◌<◌, ◌≤◌, Bool, true, not, List, length, get_or, map, replicate, ap, sym, ◌∙◌, arith}
 use Rattle.std.specs.Prelude.{◌==◌, ◌||◌, bit_or, max, nat_le}
 use Rattle.std.specs.Int.{bit_at, bit_not, w64}
 use Rattle.std.specs.Simd.Lanes.{zip2, chunk}
@@ -7,6 +7,7 @@ use Rattle.std.proofs.lemmas.Simd.{get_or-zip2, get_or-chunk, length-chunk, leng
 use Rattle.std.proofs.lemmas.List.{get_or-map, get_or-replicate}
 use Rattle.std.proofs.lemmas.Nat.Bits.{bit_at_or, bit_at_not, bit_at-lt}
 use Rattle.bsi_bits.specs.Packed.{bit_of}
+pub use Rattle.bsi_bits.proofs.InWords.{bit_of-chunk}
 use Rattle.bsi_bits.proofs.Reading.{all_set}
 use Rattle.bsi_components.specs.Component.{at_most_from}
 use Rattle.std.proofs.lemmas.Bool.Decides.{nat_tests}
@@ -18,14 +19,6 @@ ones_bit n p within = ap (λ w. bit_at w (p % 64) == 1) (get_or-replicate n (p /
 -- where no digit stands below, a digit alone decides
 pub at_most_first : (v d : ℕ) → at_most_from true v d ≡ nat_le v d
 at_most_first v d = grind (arith, nat_tests)
-
--- a place of the words from `at` on
-pub bit_of-chunk : (at n : ℕ) (words : List ℕ) (p : ℕ) → p < 64 * n → bit_of (chunk at n words) p ≡ bit_of words (64 * at + p)
-bit_of-chunk at n words p below =
-    let word : (64 * at + p) / 64 ≡ at + p / 64 = omega arith in
-    let place : (64 * at + p) % 64 ≡ p % 64 = omega arith in
-    ap (λ w. bit_at w (p % 64) == 1) (get_or-chunk at n words (p / 64) 0 (omega arith))
-    ∙ sym (ap₂ (λ q r. bit_at (get_or words q 0) r == 1) word place)
 
 -- a place of a block after a step with the words from `at` on, by what the step makes of two bits
 module _ (IsFit : ℕ → Type 0) (word_of : ℕ → ℕ → ℕ) (bit : Bool → Bool → Bool)

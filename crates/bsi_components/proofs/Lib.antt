@@ -2,6 +2,7 @@ pub mod BitmapDigits
 pub mod BitmapGrowth
 pub mod BlockBits
 pub mod BlockRows
+pub mod DigitBlocks
 pub mod DigitCounts
 pub mod DigitMaps
 pub mod EqualityDigits

@@ -8,6 +8,10 @@ ghost use Rattle.bsi_components.specs.EndDigits.{HasRow};
 
 use bsi_bits::{Bits, know_fits, lanes};
 
+/// The number of words in a block whose digits are summed. Its found rows stay in the first cache while the bitmaps are
+/// counted.
+pub(crate) const SUM_BLOCK: usize = 1024;
+
 /// Keeps in the block the rows that the bitmap has.
 pub fn keep_in(bitmap: &Bits, at: usize, block: &mut [u64])
     requires { at + length block.old ≤ (length bitmap.now.bits + 63) / 64 }

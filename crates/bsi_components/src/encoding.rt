@@ -227,6 +227,20 @@ pub trait Encoding: Drop {
         false
     }
 
+    /// Writes in a block of words, which stand for the rows from `64 * at` on, whether the digit of each row is `d`.
+    /// Returns `false` where the encoding works on whole vectors alone; what the block is left with is then left open. The
+    /// provided body lets `eq_block` step a block of ones.
+    fn eq_block_into(&self, d: u32, at: usize, block: &mut [u64]) -> bool
+        requires below { d < base_of self.now }
+        requires within { at + length block.old ≤ (length (digits self.now) + 63) / 64 }
+        ensures bits { OnTrue result ((p : ℕ) → p < 64 * length block.old →
+            64 * at + p < length (digits self.now) →
+            bit_of block.new p ≡ (slice_index (digits self.now) (64 * at + p) == d)) }
+    {
+        block.fill(u64::MAX);
+        self.eq_block(d, at, block)
+    }
+
     /// Writes in a block of words, which stand for the rows from `64 * at` on, whether the digit of each row is at most `d`. Returns
     /// `false` where the encoding works on whole vectors alone; what the block is left with is then left open. The provided
     /// body lets `le_block` step a block of ones.
@@ -249,7 +263,7 @@ pub trait Encoding: Drop {
         requires rows { (p : ℕ) → p < 64 * length block.now → bit_of block.now p ≡ true →
             64 * at + p < length (digits self.now) }
         requires some { HasRow (bit_of block.now) (64 * length block.now) }
-        ensures { AnswersLeast limit (bit_of block.now)
+        ensures answer { AnswersLeast limit (bit_of block.now)
             (λ p. slice_index (digits self.now) (64 * at + p)) (64 * length block.now) result }
     {
         EndDigit::Unanswered
@@ -263,7 +277,7 @@ pub trait Encoding: Drop {
         requires rows { (p : ℕ) → p < 64 * length block.now → bit_of block.now p ≡ true →
             64 * at + p < length (digits self.now) }
         requires some { HasRow (bit_of block.now) (64 * length block.now) }
-        ensures { AnswersGreatest limit (bit_of block.now)
+        ensures answer { AnswersGreatest limit (bit_of block.now)
             (λ p. slice_index (digits self.now) (64 * at + p)) (64 * length block.now) result }
     {
         EndDigit::Unanswered

@@ -1,20 +1,24 @@
 //! The equality encoded component: a bitmap for each digit says which rows have it.
 
-ghost use Rattle.std.specs.Prelude.{◌≡◌, ◌≢◌, ℕ, ◌+◌, ◌*◌, ◌/◌, ◌^◌, ◌<◌, ◌≤◌, ◌==◌, ◌&&◌, ◌||◌, not, [], ◌∷◌, ◌++◌, length, map, nat_le, nat_lt, true, slice_index, IsTrue, IsFalse};
+ghost use Rattle.std.specs.Prelude.{◌≡◌, ◌≢◌, ℕ, ◌+◌, ◌*◌, ◌/◌, ◌^◌, ◌<◌, ◌≤◌, ◌==◌, ◌&&◌, ◌||◌, not, [], ◌∷◌, ◌++◌, length, map, count_by, nat_le, nat_lt, true, slice_index, sum, IsTrue, IsFalse};
+ghost use Rattle.std.specs.List.{items_where_true};
 ghost use Rattle.std.specs.Bool.{OnTrue, OnFalse};
+ghost use Rattle.bsi_bits.specs.BitList.{in_words};
 ghost use Rattle.bsi_bits.specs.Packed.{bit_of};
 ghost use Rattle.bsi_components.specs.Bitmaps.{bitmap};
 ghost use Rattle.bsi_components.specs.Component.{at_most_from, count_where};
-ghost use Rattle.bsi_components.specs.EndDigits.{HasRow};
+ghost use Rattle.bsi_components.specs.EndDigits.{AnswersGreatest, AnswersLeast, HasRow};
 ghost use Rattle.bsi_components.specs.Equality.{first_digit, is_among};
 
 use crate::NoMemory;
-use crate::blocks::{add_in, add_missing, drop_in, exceeds, keep_in, meets};
+use crate::blocks::{SUM_BLOCK, add_in, add_missing, copy_in, drop_in, exceeds, keep_in, meets};
 use crate::encoding::{Encoding, EndDigit, RankedDigit};
 use crate::marks::{MAX_BASE, SMALL_BASE, mark};
 use bsi_bits::{Bitmaps, Bits};
 use std::alloc::Global;
 use std::marker::Model;
+
+mod counts;
 
 /// A component of a base from 2 to 1,024 that stores a bitmap for each digit. Under base 2 it stores that of digit 1 alone.
 #[derive(Drop)]
@@ -108,33 +112,6 @@ impl EqualityComponent {
         'digits: for j in from + 1..to {
             out.or_with(self.bitmap(j));
         }
-    }
-
-    /// Returns how many rows of a found set have a digit of `d`.
-    fn count_eq(&self, d: u32, found: &Bits) -> u64
-        requires below { d < self.now.base }
-        requires same { length self.now.digits ≡ length found.now.bits }
-        ensures { result ≡ count_where (λ v. v == d) found.now.bits self.now.digits }
-    {
-        if d == 0 && self.base() == 2 {
-            found.count_and_not(self.bitmap(1))
-        } else {
-            found.count_and(self.bitmap(d))
-        }
-    }
-
-    /// Returns how many rows of a found set have a digit from `from` on and below `to`.
-    fn count_among(&self, from: u32, to: u32, found: &Bits) -> u64
-        requires within { (from ≤ to) × (to ≤ self.now.base) }
-        requires same { length self.now.digits ≡ length found.now.bits }
-        ensures { result ≡ count_where (is_among from to) found.now.bits self.now.digits }
-    {
-        prove!(found.len() <= 1 << 32);
-        let mut rows = 0;
-        'digits: for j in from..to {
-            rows += self.count_eq(j, found);
-        }
-        rows
     }
 
     /// Returns whether a row of a block has the digit `d`.
@@ -256,10 +233,14 @@ impl Encoding for EqualityComponent {
         }
     }
 
+    // It goes over the rows block by block, so that the found rows of a block are read from memory once for all bitmaps.
     fn digit_sum(&self, found: &Bits) -> u128 {
+        prove!(found.len() <= 1 << 32);
+        let words = found.words().len();
         let mut sum = 0u128;
-        'digits: for j in 1..self.base() {
-            sum += j as u128 * found.count_and(self.bitmap(j)) as u128;
+        'blocks: for k in 0..words.div_ceil(SUM_BLOCK) {
+            let start = SUM_BLOCK * k;
+            sum += self.digit_sum_in(found, start, words.min(start + SUM_BLOCK));
         }
         sum
     }
@@ -274,20 +255,13 @@ impl Encoding for EqualityComponent {
         }
     }
 
-    // It counts the digits from 0 up, by one bitmap each, and writes no vector.
+    // It counts the digits from the end that is nearer to the rank, by one bitmap each, and writes no vector.
     fn digit_of_rank(&self, rank: u64, found: &Bits, _scratch: &mut Bits) -> RankedDigit {
-        let top = self.base() - 1;
-        let mut left = rank;
-        'digits: for digit in 0..top {
-            let rows = self.count_eq(digit, found);
-            if left < rows {
-                return RankedDigit { digit, rank: left };
-            }
-            left -= rows;
-        }
-        RankedDigit {
-            digit: top,
-            rank: left,
+        let rows = found.count();
+        if rank < rows / 2 {
+            self.rank_from_least(rank, found)
+        } else {
+            self.rank_from_greatest(rank, rows, found)
         }
     }
 
@@ -322,6 +296,23 @@ impl Encoding for EqualityComponent {
         } else {
             keep_in(self.bitmap(d), at, block);
         }
+        true
+    }
+
+    // It copies one bitmap, but for digit 0 under base 2, which has none.
+    fn eq_block_into(&self, d: u32, at: usize, block: &mut [u64]) -> bool
+        requires below { d < self.now.base }
+        requires within { at + length block.old ≤ (length self.now.digits + 63) / 64 }
+        ensures done { IsTrue result }
+        ensures bits { OnTrue result ((p : ℕ) → p < 64 * length block.old →
+            64 * at + p < length self.now.digits →
+            bit_of block.new p ≡ (slice_index self.now.digits (64 * at + p) == d)) }
+    {
+        if d == 0 && self.base() == 2 {
+            block.fill(u64::MAX);
+            return self.eq_block(d, at, block);
+        }
+        copy_in(self.bitmap(d), at, block);
         true
     }
 
@@ -367,7 +358,16 @@ impl Encoding for EqualityComponent {
     }
 
     // It reads the bitmaps from digit 0 up.
-    fn least_in_block(&self, limit: u32, at: usize, block: &[u64]) -> EndDigit {
+    fn least_in_block(&self, limit: u32, at: usize, block: &[u64]) -> EndDigit
+        requires below { limit < self.now.base }
+        requires within { at + length block.now ≤ (length self.now.digits + 63) / 64 }
+        requires rows { (p : ℕ) → p < 64 * length block.now → bit_of block.now p ≡ true →
+            64 * at + p < length self.now.digits }
+        requires some { HasRow (bit_of block.now) (64 * length block.now) }
+        ensures done { result ≢ EndDigit.Unanswered }
+        ensures answer { AnswersLeast limit (bit_of block.now)
+            (λ p. slice_index self.now.digits (64 * at + p)) (64 * length block.now) result }
+    {
         let _base = self.base();
         'digits: for digit in 0..limit + 1 {
             if self.has_digit(digit, at, block) {
@@ -378,7 +378,16 @@ impl Encoding for EqualityComponent {
     }
 
     // It reads the bitmaps from the greatest digit down.
-    fn greatest_in_block(&self, limit: u32, at: usize, block: &[u64]) -> EndDigit {
+    fn greatest_in_block(&self, limit: u32, at: usize, block: &[u64]) -> EndDigit
+        requires below { limit < self.now.base }
+        requires within { at + length block.now ≤ (length self.now.digits + 63) / 64 }
+        requires rows { (p : ℕ) → p < 64 * length block.now → bit_of block.now p ≡ true →
+            64 * at + p < length self.now.digits }
+        requires some { HasRow (bit_of block.now) (64 * length block.now) }
+        ensures done { result ≢ EndDigit.Unanswered }
+        ensures answer { AnswersGreatest limit (bit_of block.now)
+            (λ p. slice_index self.now.digits (64 * at + p)) (64 * length block.now) result }
+    {
         let mut digit = self.base();
         'digits: while digit > limit {
             digit -= 1;

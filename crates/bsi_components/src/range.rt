@@ -1,15 +1,17 @@
 //! The range encoded component: bitmap j says of each row whether its digit is at most j (Chan and Ioannidis 1998).
 
-ghost use Rattle.std.specs.Prelude.{◌≡◌, ℕ, ◌+◌, ◌*◌, ◌/◌, ◌<◌, ◌≤◌, ◌==◌, ◌&&◌, [], ◌∷◌, ◌++◌, length, map, nat_le, nat_lt, true, slice_index, IsTrue, IsFalse};
+ghost use Rattle.std.specs.Prelude.{◌≡◌, ◌≢◌, ℕ, ◌+◌, ◌*◌, ◌/◌, ◌^◌, ◌<◌, ◌≤◌, ◌==◌, ◌&&◌, [], ◌∷◌, ◌++◌, length, map, nat_le, nat_lt, true, slice_index, sum, IsTrue, IsFalse};
+ghost use Rattle.std.specs.List.{items_where_true};
 ghost use Rattle.std.specs.Bool.{OnTrue, OnFalse};
+ghost use Rattle.bsi_bits.specs.BitList.{in_words};
 ghost use Rattle.bsi_bits.specs.Packed.{bit_of};
 ghost use Rattle.bsi_components.specs.Bitmaps.{bitmap};
 ghost use Rattle.bsi_components.specs.Component.{at_most_from};
-ghost use Rattle.bsi_components.specs.EndDigits.{HasRow};
+ghost use Rattle.bsi_components.specs.EndDigits.{AnswersGreatest, AnswersLeast, HasRow};
 
 use crate::NoMemory;
 use crate::blocks::{
-    add_in, copy_in, drop_in, exceeds, keep_and_add, keep_but_drop, keep_in, meets,
+    SUM_BLOCK, add_in, copy_in, drop_in, exceeds, keep_and_add, keep_but_drop, keep_in, meets,
 };
 use crate::encoding::{Encoding, EndDigit};
 use crate::marks::{MAX_BASE, SMALL_BASE, join, mark};
@@ -124,6 +126,23 @@ impl RangeComponent {
     {
         self.base - 1
     }
+
+    /// Returns the sum of the digits of the found rows in the words from `start` on and before `end`: for each bitmap,
+    /// the number of these rows that it does not have.
+    fn digit_sum_in(&self, found: &Bits, start: usize, end: usize) -> u128
+        requires same { length self.now.digits ≡ length found.now.bits }
+        requires forward { start ≤ end }
+        requires within { end ≤ (length found.now.bits + 63) / 64 }
+        ensures sum { result ≡ sum (items_where_true
+            (in_words start end found.now.bits) (in_words start end self.now.digits)) }
+        ensures few { result ≤ 2 ^ 84 }
+    {
+        let mut sum = 0u128;
+        'bitmaps: for j in 0..self.top() {
+            sum += found.count_and_not_in(self.bitmap(j), start, end) as u128;
+        }
+        sum
+    }
 }
 
 impl Encoding for RangeComponent {
@@ -189,10 +208,14 @@ impl Encoding for RangeComponent {
         }
     }
 
+    // It goes over the rows block by block, so that the found rows of a block are read from memory once for all bitmaps.
     fn digit_sum(&self, found: &Bits) -> u128 {
+        prove!(found.len() <= 1 << 32);
+        let words = found.words().len();
         let mut sum = 0u128;
-        'bitmaps: for j in 0..self.top() {
-            sum += found.count_and_not(self.bitmap(j)) as u128;
+        'blocks: for k in 0..words.div_ceil(SUM_BLOCK) {
+            let start = SUM_BLOCK * k;
+            sum += self.digit_sum_in(found, start, words.min(start + SUM_BLOCK));
         }
         sum
     }
@@ -283,7 +306,16 @@ impl Encoding for RangeComponent {
     }
 
     // The first bitmap that it reads tells whether a digit is within the limit.
-    fn least_in_block(&self, limit: u32, at: usize, block: &[u64]) -> EndDigit {
+    fn least_in_block(&self, limit: u32, at: usize, block: &[u64]) -> EndDigit
+        requires below { limit < self.now.base }
+        requires within { at + length block.now ≤ (length self.now.digits + 63) / 64 }
+        requires rows { (p : ℕ) → p < 64 * length block.now → bit_of block.now p ≡ true →
+            64 * at + p < length self.now.digits }
+        requires some { HasRow (bit_of block.now) (64 * length block.now) }
+        ensures done { result ≢ EndDigit.Unanswered }
+        ensures answer { AnswersLeast limit (bit_of block.now)
+            (λ p. slice_index self.now.digits (64 * at + p)) (64 * length block.now) result }
+    {
         if limit < self.top() && !self.has_upto(limit, at, block) {
             return EndDigit::Past;
         }
@@ -298,7 +330,16 @@ impl Encoding for RangeComponent {
     }
 
     // The first bitmap that it reads tells whether a digit is within the limit.
-    fn greatest_in_block(&self, limit: u32, at: usize, block: &[u64]) -> EndDigit {
+    fn greatest_in_block(&self, limit: u32, at: usize, block: &[u64]) -> EndDigit
+        requires below { limit < self.now.base }
+        requires within { at + length block.now ≤ (length self.now.digits + 63) / 64 }
+        requires rows { (p : ℕ) → p < 64 * length block.now → bit_of block.now p ≡ true →
+            64 * at + p < length self.now.digits }
+        requires some { HasRow (bit_of block.now) (64 * length block.now) }
+        ensures done { result ≢ EndDigit.Unanswered }
+        ensures answer { AnswersGreatest limit (bit_of block.now)
+            (λ p. slice_index self.now.digits (64 * at + p)) (64 * length block.now) result }
+    {
         if limit > 0 && !self.has_above(limit - 1, at, block) {
             return EndDigit::Past;
         }

@@ -1,4 +1,5 @@
 pub mod Adding
+pub mod BlockSums
 pub mod CallerLemmas
 pub mod EndBlocks
 pub mod EndRows

@@ -40,14 +40,6 @@ empty_ones (x ∷ rows) none =
     let first : count_ones x ≡ count_ones 0 = ap count_ones (none 0) in
     sum_by-cons count_ones x rows ∙ ap₂ ◌+◌ first (empty_ones rows (λ k. none (suc k))) ∙ refl
 
--- the words that a bit vector shows
-module _ (bits : List Bool) (words : List ℕ) (few : length words ≡ (length bits + 63) / 64) (places : (i : ℕ) → bit_of words i ≡ get_or bits i false) where
-  pub shown_packed : length bits ≤ 2 ^ 32 → IsPacked (length bits) words
-  shown_packed within = record { within = within; few = few; clear = λ i past. places i ∙ get_or_past bits i false past }
-
-  pub shown_bits : bits ≡ bits_of (length bits) words
-  shown_bits = bits_are (length bits) words bits refl (λ i below. sym (places i))
-
 -- of a list that is written part by part the first m items are those of the target, and the others the old ones
 pub record IsPart (target old : List ℕ) (m : ℕ) (now : List ℕ) : Type 0 where
   pub long : length now ≡ length old

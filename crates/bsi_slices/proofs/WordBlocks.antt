@@ -10,6 +10,7 @@ use Rattle.std.proofs.lemmas.List.{get_or-map, get_or-replicate}
 use Rattle.std.proofs.lemmas.Nat.Bits.{bit_at_not, bit_at-lt}
 use Rattle.std.proofs.lemmas.Simd.{get_or-zip2, get_or-chunk, get_or-put_chunk_below, get_or-put_chunk_at, get_or-put_chunk_above}
 use Rattle.bsi_bits.specs.Packed.{bit_of}
+pub use Rattle.bsi_bits.proofs.InWords.{bit_of-chunk}
 use Rattle.bsi_bits.proofs.Logic.{IsBitwise, and_bitwise, or_bitwise}
 use Rattle.bsi_slices.specs.Blocks.{IsKept}
 
@@ -18,14 +19,6 @@ pub block_room : (n k len : ℕ) → 1 ≤ n → k < len / n → n * (k + 1) ≤
 block_room n k len some below =
     let m : n * (k + 1) ≤ n * (len / n) = mul-le-mul_left n (omega arith) in
     omega arith
-
--- bit p of a block is that of the words, from the block on
-pub bit_of-chunk : (at n : ℕ) (words : List ℕ) (p : ℕ) → p < 64 * n → bit_of (chunk at n words) p ≡ bit_of words (64 * at + p)
-bit_of-chunk at n words p within =
-    let word : (64 * at + p) / 64 ≡ at + p / 64 = omega arith in
-    let place : (64 * at + p) % 64 ≡ p % 64 = omega arith in
-    ap (λ w. bit_at w (p % 64) == 1) (get_or-chunk at n words (p / 64) 0 (omega arith) ∙ ap (λ k. get_or words k 0) (sym word))
-    ∙ ap (λ k. bit_at (get_or words ((64 * at + p) / 64) 0) k == 1) (sym place)
 
 module _ (at : ℕ) (words ys : List ℕ) (fits : at + length ys ≤ length words) where
   -- a bit within the block that was written, before it and behind it

@@ -184,6 +184,34 @@ fn lane_counts(rt: HostRuntime) -> Result<(), Fail> {
     Ok(())
 }
 
+// How many bits are set in both, and in the first alone, of those in some of the words.
+fn counts_in(a: &Bits, b: &Bits, start: usize, end: usize) -> Option<(u64, u64)> {
+    let words = a.len().div_ceil(64) as usize;
+    if a.len() == b.len() && start <= end && end <= words {
+        let both = a.count_and_in(b, start, end);
+        Some((both, a.count_and_not_in(b, start, end)))
+    } else {
+        None
+    }
+}
+
+#[test]
+fn counts_of_some_words(rt: HostRuntime) -> Result<(), Fail> {
+    let threes = multiples(rt.alloc(), 200, 3)?;
+    let twos = multiples(rt.alloc(), 200, 2)?;
+    for (start, end, sixes, odd_threes) in [
+        (0, 0, 0, 0),
+        (0, 1, 11, 11),
+        (1, 3, 21, 21),
+        (3, 4, 2, 1),
+        (0, 4, 34, 33),
+    ] {
+        let counts = counts_in(&threes, &twos, start, end);
+        assert_eq!(rt; counts, Some((sixes, odd_threes)), "{start} to {end}");
+    }
+    Ok(())
+}
+
 // How many of `n` bits are set: of all, none and all by flips, and of those that are filled.
 fn edge_counts(alloc: Global, n: u64) -> Result<[u64; 6], NoMemory>
     requires { n ≤ 2 ^ 32 }

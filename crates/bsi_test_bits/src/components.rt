@@ -305,6 +305,8 @@ enum Step {
     Le,
     /// What is at most a digit, whatever the block said before.
     Lowest,
+    /// What is the digit, whatever the block said before.
+    LowestEq,
 }
 
 impl Step {
@@ -314,6 +316,7 @@ impl Step {
             Step::Eq => before && digit == d,
             Step::Le => digit < d || digit == d && before,
             Step::Lowest => digit <= d,
+            Step::LowestEq => digit == d,
         }
     }
 
@@ -327,6 +330,7 @@ impl Step {
             Step::Eq => component.eq_block(d, at, block),
             Step::Le => component.le_block(d, at, block),
             Step::Lowest => component.le_block_into(d, at, block),
+            Step::LowestEq => component.eq_block_into(d, at, block),
         }
     }
 }
@@ -379,6 +383,7 @@ fn all_steps<E: Encoding>(rt: &impl Abort, component: &E) {
         steps(rt, component, Step::Eq, d, 3);
         steps(rt, component, Step::Le, d, 1);
         steps(rt, component, Step::Lowest, d, 2);
+        steps(rt, component, Step::LowestEq, d, 2);
     }
 }
 

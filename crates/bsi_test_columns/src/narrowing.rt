@@ -54,15 +54,28 @@ fn is_before(place: usize) -> bool {
     BEFORE >> (place % 64) & 1 == 1
 }
 
-// Of the rows of a block, those that it had before and that the comparison selects.
-fn same_rows(rt: &impl Abort, kept: &[u64], at: usize, op: Op, constant: u64, size: u64) {
+/// What a block is to keep of the rows that it had before.
+#[derive(Clone, Copy, Debug)]
+enum Kept {
+    Selected(Op, u64),
+    Nulls,
+}
+
+fn is_kept(wanted: Kept, entry: Option<u64>) -> bool {
+    match wanted {
+        Kept::Selected(op, constant) => entry.is_some_and(|n| compares(op, n, constant)),
+        Kept::Nulls => entry.is_none(),
+    }
+}
+
+// Asserts that a block has those of its rows that it had before and that are to be kept.
+fn same_rows(rt: &impl Abort, kept: &[u64], at: usize, size: u64, wanted: Kept) {
     for (word, bits) in kept.iter().enumerate() {
         for place in 0..64usize {
             let row = at.wrapping_add(word).wrapping_mul(64).wrapping_add(place) as u64;
             if row < ROWS {
-                let selected = entry(row, size).is_some_and(|n| compares(op, n, constant));
-                let wanted = is_before(place) && selected;
-                assert_eq!(rt; bits >> place & 1 == 1, wanted, "{op:?} {constant} {row}");
+                let stays = is_before(place) && is_kept(wanted, entry(row, size));
+                assert_eq!(rt; bits >> place & 1 == 1, stays, "{wanted:?} {row}");
             }
         }
     }
@@ -80,7 +93,7 @@ fn kept_by_any(rt: &impl Abort, column: &AnyColumn, op: Op, constant: u64) {
         let mut buffer = [BEFORE; 3];
         let block = &mut buffer[..words.min(3)];
         assert!(rt; keep_any(column, op, constant, at, block), "{at}");
-        same_rows(rt, block, at, op, constant, column.size());
+        same_rows(rt, block, at, column.size(), Kept::Selected(op, constant));
     }
 }
 
@@ -138,7 +151,7 @@ fn kept_by_vectors(
         let mut buffer = [BEFORE; 3];
         let block = &mut buffer[..words.min(3)];
         assert!(rt; keep_again(column, op, constant, at, block)?, "{at}");
-        same_rows(rt, block, at, op, constant, column.size());
+        same_rows(rt, block, at, column.size(), Kept::Selected(op, constant));
     }
     Ok(())
 }
@@ -160,18 +173,6 @@ fn nulls_of(column: &AnyColumn, at: usize, block: &mut [u64]) -> bool {
     true
 }
 
-fn same_nulls(rt: &impl Abort, kept: &[u64], at: usize, size: u64) {
-    for (word, bits) in kept.iter().enumerate() {
-        for place in 0..64usize {
-            let row = at.wrapping_add(word).wrapping_mul(64).wrapping_add(place) as u64;
-            if row < ROWS {
-                let wanted = is_before(place) && entry(row, size).is_none();
-                assert_eq!(rt; bits >> place & 1 == 1, wanted, "{row}");
-            }
-        }
-    }
-}
-
 #[test]
 fn nulls_are_kept_of_blocks(rt: HostRuntime) -> Result<(), Fail> {
     for form in FORMS {
@@ -180,7 +181,7 @@ fn nulls_are_kept_of_blocks(rt: HostRuntime) -> Result<(), Fail> {
             let mut buffer = [BEFORE; 3];
             let block = &mut buffer[..words.min(3)];
             assert!(&rt; nulls_of(&column, at, block), "{at}");
-            same_nulls(&rt, block, at, column.size());
+            same_rows(&rt, block, at, column.size(), Kept::Nulls);
         }
     }
     Ok(())

@@ -2,9 +2,9 @@
 //!
 //! Each call passes over its words once and allocates no memory. No operation in place changes the room for more bits.
 
-ghost use Rattle.std.specs.Prelude.{◌≡◌, ◌&&◌, ◌||◌, not, length, map, count_by};
+ghost use Rattle.std.specs.Prelude.{◌≡◌, ◌+◌, ◌/◌, ◌≤◌, ◌&&◌, ◌||◌, not, length, map, count_by};
 ghost use Rattle.std.specs.Simd.Lanes.{zip2};
-ghost use Rattle.bsi_bits.specs.BitList.{differ, without};
+ghost use Rattle.bsi_bits.specs.BitList.{differ, in_words, without};
 
 use crate::bits::Bits;
 use crate::lanes;
@@ -93,5 +93,37 @@ impl Bits {
         know_fits(&self.words);
         know_fits(&other.words);
         lanes::count_and_not(&self.words, &other.words) as u64
+    }
+
+    /// Returns how many bits are set both here and in `other`, of those in the words from `start` on and before `end`.
+    pub fn count_and_in(&self, other: &Bits, start: usize, end: usize) -> u64
+        requires same { length self.now.bits ≡ length other.now.bits }
+        requires forward { start ≤ end }
+        requires within { end ≤ (length self.now.bits + 63) / 64 }
+        ensures { result ≡ count_by (λ b. b)
+            (zip2 ◌&&◌ (in_words start end self.now.bits) (in_words start end other.now.bits)) }
+    {
+        prove!(self.len() <= 1 << 32);
+        let words = &self.words()[start..end];
+        let others = &other.words()[start..end];
+        know_fits(words);
+        know_fits(others);
+        lanes::count_and(words, others) as u64
+    }
+
+    /// Returns how many bits are set here and clear in `other`, of those in the words from `start` on and before `end`.
+    pub fn count_and_not_in(&self, other: &Bits, start: usize, end: usize) -> u64
+        requires same { length self.now.bits ≡ length other.now.bits }
+        requires forward { start ≤ end }
+        requires within { end ≤ (length self.now.bits + 63) / 64 }
+        ensures { result ≡ count_by (λ b. b)
+            (zip2 without (in_words start end self.now.bits) (in_words start end other.now.bits)) }
+    {
+        prove!(self.len() <= 1 << 32);
+        let words = &self.words()[start..end];
+        let others = &other.words()[start..end];
+        know_fits(words);
+        know_fits(others);
+        lanes::count_and_not(words, others) as u64
     }
 }

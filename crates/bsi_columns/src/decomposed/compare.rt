@@ -330,10 +330,7 @@ fn narrow_part<E: Encoding>(
         (slice_index (E.digits component.now) (64 * at + p)) digit) }
 {
     match relation {
-        Relation::Equal if is_lowest => {
-            block.fill(u64::MAX);
-            component.eq_block(digit, at, block)
-        }
+        Relation::Equal if is_lowest => component.eq_block_into(digit, at, block),
         Relation::Equal => component.eq_block(digit, at, block),
         Relation::AtMost if is_lowest => component.le_block_into(digit, at, block),
         Relation::AtMost => component.le_block(digit, at, block),

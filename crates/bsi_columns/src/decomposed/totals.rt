@@ -17,10 +17,8 @@ impl<E: Encoding> Decomposed<E> {
         ensures sum { result ≡ sum (numbers_at found.now.bits self.now.entries) }
         ensures within { result < 2 ^ 95 }
     {
-        let rows = found.len();
-        if rows == 0 {
-            return 0;
-        }
+        // at most 2^32 numbers, each below 2^63, add up to less than 2^95
+        prove!(found.len() <= 1 << 32);
         let bases = self.bases();
         let mut total = 0;
         'components: for i in 0..bases.len() {

@@ -1,9 +1,9 @@
-//! The totals of a found set: the sum, with one count per slice, and the number of a rank, by narrowing the found set
-//! from the most significant slice down.
+//! The totals of a found set: the sum, with one count per slice and block, and the number of a rank, by narrowing the
+//! found set from the most significant slice down.
 
-ghost use Rattle.std.specs.Prelude.{◌≡◌, ℕ, ◌+◌, ◌*◌, ◌^◌, ◌≤◌, ◌<◌, ◌&&◌, false, if◌then◌else◌, length, not, slice_index, sum, sum_by, count_by, count_ones, IfOk, IsTrue, ◌↔◌};
+ghost use Rattle.std.specs.Prelude.{◌≡◌, ℕ, ◌+◌, ◌*◌, ◌/◌, ◌^◌, ◌≤◌, ◌<◌, ◌&&◌, false, if◌then◌else◌, length, not, slice_index, sum, sum_by, count_by, count_ones, IfOk, IsTrue, ◌↔◌};
 ghost use Rattle.std.specs.Simd.Lanes.{zip2};
-ghost use Rattle.bsi_bits.specs.BitList.{without};
+ghost use Rattle.bsi_bits.specs.BitList.{in_words, without};
 ghost use Rattle.bsi_bits.specs.Packed.{bits_of, IsPacked};
 ghost use Rattle.bsi_slices.specs.Blocks.{word_kept};
 ghost use Rattle.bsi_slices.specs.Totals.{numbers_at, IsRanked};
@@ -12,24 +12,45 @@ use crate::slices::Slices;
 use crate::{Column, NoMemory};
 use bsi_bits::{Bits, know_fits, lanes};
 
-/// The number of words in a block. It is small, since narrowing leaves more and more blocks with no row.
+/// The number of words in a block that is narrowed. It is small, since narrowing leaves more and more blocks with no row.
 const BLOCK: usize = 32;
 
+/// The number of words in a block that is summed. Its found rows stay in the first cache while the slices are counted.
+const SUM_BLOCK: usize = 1024;
+
 impl Slices {
-    /// Returns the sum of the numbers at the rows of a found set: for each binary place, the number of found rows that
-    /// have it set, times two to the power of the place (O'Neil and Quass, 1997).
+    /// Returns the sum of the numbers at the rows of a found set. It goes over the rows block by block, so that the
+    /// found rows of a block are read from memory once for all slices.
     pub(crate) fn sum_found(&self, found: &Bits) -> u128
         requires { length self.now.entries ≡ length found.now.bits }
         ensures sum { result ≡ sum (numbers_at found.now.bits self.now.entries) }
         ensures within { result < 2 ^ 95 }
     {
-        let rows = found.len();
-        if rows == 0 {
-            return 0;
+        // at most 2^32 numbers, each below 2^63, add up to less than 2^95
+        prove!(found.len() <= 1 << 32);
+        prove!(self.width() <= 63);
+        let words = found.words().len();
+        let mut total = 0;
+        'blocks: for k in 0..words.div_ceil(SUM_BLOCK) {
+            let start = SUM_BLOCK * k;
+            total += self.sum_in(found, start, words.min(start + SUM_BLOCK));
         }
+        total
+    }
+
+    /// Returns the sum of the numbers at the found rows in the words from `start` on and before `end`: for each binary
+    /// place, the number of these rows that have it set, times two to the power of the place (O'Neil and Quass, 1997).
+    fn sum_in(&self, found: &Bits, start: usize, end: usize) -> u128
+        requires same { length self.now.entries ≡ length found.now.bits }
+        requires forward { start ≤ end }
+        requires within { end ≤ (length found.now.bits + 63) / 64 }
+        requires few { length found.now.bits ≤ 2 ^ 32 }
+        ensures { result ≡ sum (numbers_at
+            (in_words start end found.now.bits) (in_words start end self.now.entries)) }
+    {
         let mut total = 0;
         'slices: for i in 0..self.width() {
-            total += u128::from(found.count_and(self.slice(i))) << i;
+            total += u128::from(found.count_and_in(self.slice(i), start, end)) << i;
         }
         total
     }

@@ -27,7 +27,7 @@ bound : (g : given.Over) (c : goal.After-from g) → c.components.total + c.digi
 bound g c =
     let bs = c.bases-bases.result.now in
     let valid = c.len-i-end.ensures.valid in
-    let few : length c.args.self.now.entries ≤ 2 ^ 32 = omega (arith, c.len-rows.ensures.len, c.len-rows.ensures.within, c.requires) in
+    let few : length c.args.self.now.entries ≤ 2 ^ 32 = omega (arith, c.len.ensures.len, c.len.ensures.within, c.requires) in
     let small : weight bs (c.components.i + 1) ≤ 2 ^ 63 = omega (arith, weight_le_size valid (c.components.i + 1), valid.small) in
     omega (arith, more g c, sum_small (weight bs (c.components.i + 1)) c.args.found.now.bits c.args.self.now.entries (weight_pos valid (c.components.i + 1)) small few)
 
@@ -55,6 +55,6 @@ pub returns-clause-within : goal.returns-clause-within
 returns-clause-within g c =
     let bs = c.bases-bases.result.now in
     let valid = c.len-i-end.ensures.valid in
-    let few : length c.args.self.now.entries ≤ 2 ^ 32 = omega (arith, c.len-rows.ensures.len, c.len-rows.ensures.within, c.requires) in
+    let few : length c.args.self.now.entries ≤ 2 ^ 32 = omega (arith, c.len.ensures.len, c.len.ensures.within, c.requires) in
     let small : weight bs c.components.i ≤ 2 ^ 63 = omega (arith, weight_le_size valid c.components.i, valid.small) in
     omega (arith, c.components.invariant, sum_small (weight bs c.components.i) c.args.found.now.bits c.args.self.now.entries (weight_pos valid c.components.i) small few)

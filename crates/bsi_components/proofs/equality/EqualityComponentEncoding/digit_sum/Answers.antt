@@ -1,33 +1,35 @@
-use Rattle.std.proofs.Common.{◌≡◌, ap, ap₂, sym, ◌∙◌, arith, ◌+◌, ◌*◌, cond}
-use Rattle.std.specs.Prelude.{◌&&◌, nat_lt, count_by, sum_by}
-use Rattle.std.specs.List.{items_where_true}
-use Rattle.std.specs.Simd.Lanes.{zip2}
-use Rattle.bsi_components.proofs.EqualityReads.{lower_sum_more, lower_sum_none, lower_sum_all, small_product}
+use Rattle.std.proofs.Common.{◌≡◌, ◌+◌, ◌*◌, ◌<◌, length, ap, ◌∙◌, arith}
+use Rattle.std.specs.Prelude.{min}
+use Rattle.bsi_components.proofs.DigitBlocks.{sum_all, sum_before, sum_more, sum_none}
 use Rattle.bsi_components.proofs.equality.EqualityComponentEncoding.digit_sum.Goals as goal
 
-pub digits-init : goal.digits-init
-digits-init c = record {
-  summed = sym (lower_sum_none c.args.found.now.bits c.args.self.now.digits);
+pub blocks-2-init : goal.blocks-2-init
+blocks-2-init c = record {
+  summed = sum_none c.args.found.now.bits c.args.self.now.digits c.requires ∙ ap (sum_before c.args.found.now.bits c.args.self.now.digits) (omega arith);
   few = omega arith;
 }
 
--- each row that has the digit adds it
-pub digits-preserved : goal.digits-preserved
-digits-preserved c =
-    let found = c.args.found.now.bits in
-    record {
-      summed =
-          ap₂ (λ s n. s + c.digits.j * n) c.digits.invariant.summed (c.count_and.ensures ∙ ap (λ bits. count_by (λ b. b) (zip2 ◌&&◌ found bits)) c.bitmap.ensures)
-          ∙ lower_sum_more c.digits.j found c.args.self.now.digits;
-      few = omega (arith, small_product c.digits.j c.count_and.result (omega arith) c.count_and.type_inv);
-    }
-
--- the digits below the base are all
-pub returns : goal.returns
-returns c =
+-- one block more
+pub blocks-2-preserved : goal.blocks-2-preserved
+blocks-2-preserved c =
     let found = c.args.found.now.bits in
     let ds = c.args.self.now.digits in
-    let base = c.base-j-end.result in
-    let last : c.digits.j ≡ base = omega arith in
-    c.digits.invariant.summed ∙ ap (λ j. sum_by (λ v. cond (nat_lt v j) v 0) (items_where_true found ds)) last
-    ∙ lower_sum_all base found ds (omega arith) (λ k. let below = c.base-j-end.ensures.below k in omega arith)
+    let words = length c.words-words.result.now in
+    let start = 1024 * c.blocks-2.k in
+    let inside : c.blocks-2.k < c.div_ceil-k-end.result = omega (arith, c.blocks-2-test.true, c.blocks-2.auto.k-end) in
+    let from : min start words ≡ start = omega (arith, inside, c.div_ceil-k-end.ensures) in
+    let to : c.min.result ≡ min (1024 * (c.blocks-2.k + 1)) words = omega (arith, c.min.ensures) in
+    record {
+      summed =
+          sum_more found ds c.requires start c.min.result c.blocks-2.sum c.digit_sum_in-sum.result (omega (arith, c.min.ensures, from))
+          (c.blocks-2.invariant.summed ∙ ap (sum_before found ds) from) c.digit_sum_in-sum.ensures.sum
+          ∙ ap (sum_before found ds) to;
+      few = omega (arith, c.blocks-2.invariant.few, c.digit_sum_in-sum.ensures.few);
+    }
+
+-- no block is left
+pub returns : goal.returns
+returns c =
+    let words = length c.words-words.result.now in
+    sum_all c.args.found.now.bits c.args.self.now.digits c.requires (min (1024 * c.blocks-2.k) words) c.blocks-2.sum
+    (omega (arith, c.blocks-2-test.false, c.blocks-2.auto.k-end, c.div_ceil-k-end.ensures, c.words-words.ensures.few)) c.blocks-2.invariant.summed

@@ -1,10 +1,11 @@
-use Rattle.std.proofs.Common.{◌≡◌, ◌*◌, ◌≤◌, ◌^◌, cond}
-use Rattle.std.specs.Prelude.{sum_by, nat_lt}
-use Rattle.std.specs.List.{items_where_true}
+use Rattle.std.proofs.Common.{◌≡◌, ◌*◌, ◌≤◌, ◌^◌}
+use Rattle.std.specs.Prelude.{min}
+use Rattle.bsi_components.proofs.DigitBlocks.{sum_before}
 use Rattle.bsi_components.proofs.equality.EqualityComponentEncoding.digit_sum.Given as goal
 
-abbrev pub invariant-digits : goal.invariant-digits
-invariant-digits l = record {
-  summed : l.sum ≡ sum_by (λ v. cond (nat_lt v l.j) v 0) (items_where_true l.found.bits l.self.digits);
-  few : l.sum ≤ l.j * (1024 * 2 ^ 64);
+-- the sum of the blocks so far
+abbrev pub invariant-blocks-2 : goal.invariant-blocks-2
+invariant-blocks-2 l = record {
+  summed : l.sum ≡ sum_before l.found.bits l.self.digits (min (1024 * l.k) l.words);
+  few : l.sum ≤ l.k * 2 ^ 84;
 }

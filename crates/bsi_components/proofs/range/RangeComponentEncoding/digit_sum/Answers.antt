@@ -1,34 +1,35 @@
-use Rattle.std.proofs.Common.{ap, ap₂, sym, ◌∙◌, arith, ◌+◌, ◌≡◌}
-use Rattle.std.specs.Prelude.{count_by, sum_by, min}
-use Rattle.std.specs.List.{items_where_true}
-use Rattle.std.specs.Simd.Lanes.{zip2}
-use Rattle.bsi_bits.specs.BitList.{without}
-use Rattle.bsi_components.proofs.RangeReads.{capped_sum_more, capped_sum_none, capped_sum_all}
+use Rattle.std.proofs.Common.{◌≡◌, ◌+◌, ◌*◌, ◌<◌, length, ap, ◌∙◌, arith}
+use Rattle.std.specs.Prelude.{min}
+use Rattle.bsi_components.proofs.DigitBlocks.{sum_all, sum_before, sum_more, sum_none}
 use Rattle.bsi_components.proofs.range.RangeComponentEncoding.digit_sum.Goals as goal
 
-pub bitmaps-init : goal.bitmaps-init
-bitmaps-init c = record {
-  summed = sym (capped_sum_none c.args.found.now.bits c.args.self.now.digits);
+pub blocks-2-init : goal.blocks-2-init
+blocks-2-init c = record {
+  summed = sum_none c.args.found.now.bits c.args.self.now.digits c.requires ∙ ap (sum_before c.args.found.now.bits c.args.self.now.digits) (omega arith);
   few = omega arith;
 }
 
--- the rows that the bitmap does not have count once more
-pub bitmaps-preserved : goal.bitmaps-preserved
-bitmaps-preserved c =
-    let found = c.args.found.now.bits in
-    record {
-      summed =
-          ap₂ (λ s n. s + n) c.bitmaps.invariant.summed (c.count_and_not.ensures ∙ ap (λ bits. count_by (λ b. b) (zip2 without found bits)) c.bitmap.ensures)
-          ∙ capped_sum_more c.bitmaps.j found c.args.self.now.digits;
-      few = omega arith;
-    }
-
--- each digit counts up to the greatest
-pub returns : goal.returns
-returns c =
+-- one block more
+pub blocks-2-preserved : goal.blocks-2-preserved
+blocks-2-preserved c =
     let found = c.args.found.now.bits in
     let ds = c.args.self.now.digits in
-    let top = c.top-j-end.result in
-    let last : c.bitmaps.j ≡ top = omega arith in
-    c.bitmaps.invariant.summed ∙ ap (λ j. sum_by (λ v. min v j) (items_where_true found ds)) last
-    ∙ capped_sum_all top found ds c.top-j-end.ensures.most
+    let words = length c.words-words.result.now in
+    let start = 1024 * c.blocks-2.k in
+    let inside : c.blocks-2.k < c.div_ceil-k-end.result = omega (arith, c.blocks-2-test.true, c.blocks-2.auto.k-end) in
+    let from : min start words ≡ start = omega (arith, inside, c.div_ceil-k-end.ensures) in
+    let to : c.min.result ≡ min (1024 * (c.blocks-2.k + 1)) words = omega (arith, c.min.ensures) in
+    record {
+      summed =
+          sum_more found ds c.requires start c.min.result c.blocks-2.sum c.digit_sum_in-sum.result (omega (arith, c.min.ensures, from))
+          (c.blocks-2.invariant.summed ∙ ap (sum_before found ds) from) c.digit_sum_in-sum.ensures.sum
+          ∙ ap (sum_before found ds) to;
+      few = omega (arith, c.blocks-2.invariant.few, c.digit_sum_in-sum.ensures.few);
+    }
+
+-- no block is left
+pub returns : goal.returns
+returns c =
+    let words = length c.words-words.result.now in
+    sum_all c.args.found.now.bits c.args.self.now.digits c.requires (min (1024 * c.blocks-2.k) words) c.blocks-2.sum
+    (omega (arith, c.blocks-2-test.false, c.blocks-2.auto.k-end, c.div_ceil-k-end.ensures, c.words-words.ensures.few)) c.blocks-2.invariant.summed

@@ -7,7 +7,7 @@ use Rattle.bsi_bits.specs.Packed.{bits_of, IsPacked}
 use Rattle.bsi_bits.proofs.Logic.{written}
 use Rattle.bsi_bits.proofs.Reading.{length-bits_of}
 use Rattle.bsi_slices.specs.Rows.{number_or_zero}
-use Rattle.bsi_slices.proofs.Narrowing.{shown_packed, shown_bits}
+use Rattle.bsi_bits.proofs.InWords.{shown_packed, shown_bits}
 use Rattle.bsi_slices.proofs.Ranking.{narrowed_end}
 use Rattle.bsi_slices.proofs.Places.{IsPlace, place_start, place_step, rank_there}
 use Rattle.bsi_slices.proofs.slices.Slices.number_of_rank.Goals as goal

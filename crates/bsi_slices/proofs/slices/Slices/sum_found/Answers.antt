@@ -1,46 +1,50 @@
-use Rattle.std.proofs.Common.{◌≡◌, ◌+◌, ◌*◌, ◌%◌, ◌<◌, ◌≤◌, ◌^◌, ap, length, ◌∙◌, refl, arith, mod-eq_of_lt}
-use Rattle.std.specs.Prelude.{sum_by}
-use Rattle.std.proofs.lemmas.Nat.{pow_pos}
-use Rattle.std.proofs.Math.Nat.{pow-le-pow_right}
-use Rattle.bsi_slices.specs.Totals.{numbers_at}
-use Rattle.bsi_slices.proofs.Adding.{none_below_one, sum_slice, sum_small, sum_whole}
+use Rattle.std.proofs.Common.{◌≡◌, ◌+◌, ◌*◌, ◌<◌, length, ap, ◌∙◌, arith}
+use Rattle.std.specs.Prelude.{min}
+use Rattle.bsi_slices.proofs.BlockSums.{sum_all, sum_before, sum_below, sum_more, sum_none, sum_part}
 use Rattle.bsi_slices.proofs.slices.Slices.sum_found.Goals as goal
 
-pub slices-init : goal.slices-init
-slices-init c = none_below_one (numbers_at c.args.found.now.bits c.args.self.now.entries)
+pub blocks-2-init : goal.blocks-2-init
+blocks-2-init c = sum_none c.args.found.now.bits c.args.self.now.entries c.requires ∙ ap (sum_before c.args.found.now.bits c.args.self.now.entries) (omega arith)
 
--- the total with one slice more
-more : (c : goal.After-from) → c.slices.total + c.from.result * 2 ^ c.slices.i ≡ sum_by (λ n. n % 2 ^ (c.slices.i + 1)) (numbers_at c.args.found.now.bits c.args.self.now.entries)
-more c = sum_slice c.slices.i c.args.found.now.bits c.args.self.now.entries c.slice.result.now.bits c.slices.total c.from.result (2 ^ c.slices.i)
-    c.slices.invariant c.slice.ensures (c.from.ensures ∙ c.count_and.ensures) refl
-
-bound : (c : goal.After-from) → c.slices.total + c.from.result * 2 ^ c.slices.i < 2 ^ 95
-bound c =
-    let few : length c.args.self.now.entries ≤ 2 ^ 32 = omega (arith, c.len-rows.ensures.len, c.len-rows.ensures.within, c.requires) in
-    let within : c.slices.i + 1 ≤ 63 = omega (arith, c.slices-test.true, c.width-i-end.ensures.within) in
-    let small : 2 ^ (c.slices.i + 1) ≤ 2 ^ 63 = pow-le-pow_right (omega arith) within in
-    omega (arith, more c, sum_small (2 ^ (c.slices.i + 1)) c.args.found.now.bits c.args.self.now.entries (pow_pos (c.slices.i + 1)) small few)
-
-moved : (c : goal.After-from) → c.from.result * 2 ^ c.slices.i % 2 ^ 128 ≡ c.from.result * 2 ^ c.slices.i
-moved c = let small : c.from.result * 2 ^ c.slices.i < 2 ^ 128 = omega (arith, bound c) in mod-eq_of_lt small
+-- the total with one block more
+more : (c : goal.After-sum_in-total) → c.blocks-2.total + c.sum_in-total.result
+    ≡ sum_before c.args.found.now.bits c.args.self.now.entries (min (1024 * (c.blocks-2.k + 1)) (length c.words-words.result.now))
+more c =
+    let found = c.args.found.now.bits in
+    let entries = c.args.self.now.entries in
+    let words = length c.words-words.result.now in
+    let start = 1024 * c.blocks-2.k in
+    let inside : c.blocks-2.k < c.div_ceil-k-end.result = omega (arith, c.blocks-2-test.true, c.blocks-2.auto.k-end) in
+    let from : min start words ≡ start = omega (arith, inside, c.div_ceil-k-end.ensures) in
+    let to : c.min.result ≡ min (1024 * (c.blocks-2.k + 1)) words = omega (arith, c.min.ensures) in
+    sum_more found entries c.requires start c.min.result c.blocks-2.total c.sum_in-total.result (omega (arith, c.min.ensures, from))
+    (c.blocks-2.invariant ∙ ap (sum_before found entries) from) c.sum_in-total.ensures
+    ∙ ap (sum_before found entries) to
 
 pub overflow_add-total : goal.overflow_add-total
-overflow_add-total c = omega (arith, bound c, moved c)
+overflow_add-total c =
+    let found = c.args.found.now.bits in
+    let entries = c.args.self.now.entries in
+    let part = sum_part found entries c.requires (min (1024 * (c.blocks-2.k + 1)) (length c.words-words.result.now)) in
+    let whole = sum_below c.args.self.now.width found entries (omega (arith, c.width.ensures.width, c.width.ensures.within))
+    (omega (arith, c.requires, c.len.ensures.len, c.len.ensures.within)) c.width.ensures.below in
+    omega (arith, more c, part, whole)
 
-pub slices-preserved : goal.slices-preserved
-slices-preserved c = ap (λ t. c.slices.total + t) (moved c) ∙ more c
+pub blocks-2-preserved : goal.blocks-2-preserved
+blocks-2-preserved c = more c
 
--- all slices are added
+-- no block is left
 pub returns-clause-sum : goal.returns-clause-sum
 returns-clause-sum c =
-    let numbers = numbers_at c.args.found.now.bits c.args.self.now.entries in
-    let all : c.slices.i ≡ c.args.self.now.width = omega (arith, c.width-i-end.ensures.width) in
-    c.slices.invariant ∙ ap (λ i. sum_by (λ n. n % 2 ^ i) numbers) all
-    ∙ sum_whole (2 ^ c.args.self.now.width) c.args.found.now.bits c.args.self.now.entries c.width-i-end.ensures.below
+    let words = length c.words-words.result.now in
+    sum_all c.args.found.now.bits c.args.self.now.entries c.requires (min (1024 * c.blocks-2.k) words) c.blocks-2.total
+    (omega (arith, c.blocks-2-test.false, c.blocks-2.auto.k-end, c.div_ceil-k-end.ensures, c.words-words.ensures.few)) c.blocks-2.invariant
 
 pub returns-clause-within : goal.returns-clause-within
 returns-clause-within c =
-    let few : length c.args.self.now.entries ≤ 2 ^ 32 = omega (arith, c.len-rows.ensures.len, c.len-rows.ensures.within, c.requires) in
-    let within : c.slices.i ≤ 63 = omega (arith, c.width-i-end.ensures.within) in
-    let small : 2 ^ c.slices.i ≤ 2 ^ 63 = pow-le-pow_right (omega arith) within in
-    omega (arith, c.slices.invariant, sum_small (2 ^ c.slices.i) c.args.found.now.bits c.args.self.now.entries (pow_pos c.slices.i) small few)
+    let found = c.args.found.now.bits in
+    let entries = c.args.self.now.entries in
+    let part = sum_part found entries c.requires (min (1024 * c.blocks-2.k) (length c.words-words.result.now)) in
+    let whole = sum_below c.args.self.now.width found entries (omega (arith, c.width.ensures.width, c.width.ensures.within))
+    (omega (arith, c.requires, c.len.ensures.len, c.len.ensures.within)) c.width.ensures.below in
+    omega (arith, c.blocks-2.invariant, part, whole)

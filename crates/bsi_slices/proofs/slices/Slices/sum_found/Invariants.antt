@@ -1,7 +1,8 @@
-use Rattle.std.proofs.Common.{◌≡◌, ◌%◌, ◌^◌}
-use Rattle.std.specs.Prelude.{sum_by}
-use Rattle.bsi_slices.specs.Totals.{numbers_at}
+use Rattle.std.proofs.Common.{◌≡◌, ◌*◌}
+use Rattle.std.specs.Prelude.{min}
+use Rattle.bsi_slices.proofs.BlockSums.{sum_before}
 use Rattle.bsi_slices.proofs.slices.Slices.sum_found.Given as goal
 
-abbrev pub invariant-slices : goal.invariant-slices
-invariant-slices l = l.total ≡ sum_by (λ n. n % 2 ^ l.i) (numbers_at l.found.bits l.self.entries)
+-- the sum of the blocks so far
+abbrev pub invariant-blocks-2 : goal.invariant-blocks-2
+invariant-blocks-2 l = l.total ≡ sum_before l.found.bits l.self.entries (min (1024 * l.k) l.words)

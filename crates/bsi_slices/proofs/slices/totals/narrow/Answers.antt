@@ -6,7 +6,8 @@ use Rattle.bsi_bits.proofs.CountingPairs.{count_pairs}
 use Rattle.bsi_bits.proofs.Logic.{zipped_packed, zipped_bits}
 use Rattle.bsi_bits.proofs.Reading.{length-bits_of}
 use Rattle.bsi_slices.specs.Blocks.{word_kept}
-use Rattle.bsi_slices.proofs.Narrowing.{kept_bitwise, kept_less, shown_packed, shown_bits}
+use Rattle.bsi_bits.proofs.InWords.{shown_packed, shown_bits}
+use Rattle.bsi_slices.proofs.Narrowing.{kept_bitwise, kept_less}
 use Rattle.bsi_slices.proofs.slices.totals.narrow.Goals as goal
 
 pub returns-clause-packed : goal.returns-clause-packed

@@ -1,6 +1,6 @@
 use Rattle.std.proofs.Common.{ℕ, ◌-◌, ◌≤◌, ◌<◌, length, get_or, sym, arith}
 use Rattle.bsi_components.proofs.DigitCounts.{where_all, where_at_most, where_below_next, where_below_zero}
-use Rattle.bsi_components.proofs.equality.EqualityComponentEncoding.digit_of_rank.Goals as goal
+use Rattle.bsi_components.proofs.equality.EqualityComponent.rank_from_least.Goals as goal
 
 -- no digit is below 0
 pub digits-init : goal.digits-init

@@ -1,0 +1,111 @@
+//! Counts of an equality encoded component's found rows by digit, and the digits of a rank and of a sum that rest on them.
+
+ghost use Rattle.std.specs.Prelude.{◌≡◌, ◌+◌, ◌/◌, ◌^◌, ◌<◌, ◌≤◌, ◌==◌, length, count_by, nat_le, nat_lt, sum};
+ghost use Rattle.std.specs.List.{items_where_true};
+ghost use Rattle.bsi_bits.specs.BitList.{in_words};
+ghost use Rattle.bsi_components.specs.Component.{count_where};
+ghost use Rattle.bsi_components.specs.Equality.{is_among};
+
+use crate::encoding::{Encoding, RankedDigit};
+use crate::equality::EqualityComponent;
+use bsi_bits::Bits;
+
+impl EqualityComponent {
+    /// Returns how many rows of a found set have a digit of `d`.
+    pub(crate) fn count_eq(&self, d: u32, found: &Bits) -> u64
+        requires below { d < self.now.base }
+        requires same { length self.now.digits ≡ length found.now.bits }
+        ensures { result ≡ count_where (λ v. v == d) found.now.bits self.now.digits }
+    {
+        if d == 0 && self.base() == 2 {
+            found.count_and_not(self.bitmap(1))
+        } else {
+            found.count_and(self.bitmap(d))
+        }
+    }
+
+    /// Returns how many rows of a found set have a digit from `from` on and below `to`.
+    pub(crate) fn count_among(&self, from: u32, to: u32, found: &Bits) -> u64
+        requires within { (from ≤ to) × (to ≤ self.now.base) }
+        requires same { length self.now.digits ≡ length found.now.bits }
+        ensures { result ≡ count_where (is_among from to) found.now.bits self.now.digits }
+    {
+        prove!(found.len() <= 1 << 32);
+        let mut rows = 0;
+        'digits: for j in from..to {
+            rows += self.count_eq(j, found);
+        }
+        rows
+    }
+
+    /// Returns the digit of the row of rank `rank` among the rows of a found set, and its rank among those of its digit.
+    /// It counts the digits from 0 up.
+    pub(crate) fn rank_from_least(&self, rank: u64, found: &Bits) -> RankedDigit
+        requires same { length self.now.digits ≡ length found.now.bits }
+        requires there { rank < count_by (λ b. b) found.now.bits }
+        ensures digit { result.digit < self.now.base }
+        ensures rank { rank ≡ count_where (λ v. nat_lt v result.digit) found.now.bits
+            self.now.digits + result.rank }
+        ensures there { rank < count_where (λ v. nat_le v result.digit) found.now.bits
+            self.now.digits }
+    {
+        let top = self.base() - 1;
+        let mut left = rank;
+        'digits: for digit in 0..top {
+            let rows = self.count_eq(digit, found);
+            if left < rows {
+                return RankedDigit { digit, rank: left };
+            }
+            left -= rows;
+        }
+        RankedDigit {
+            digit: top,
+            rank: left,
+        }
+    }
+
+    /// Returns the digit of the row of rank `rank` among the rows of a found set, and its rank among those of its digit.
+    /// It counts the digits from the greatest down; `rows` is the number of all found rows.
+    pub(crate) fn rank_from_greatest(&self, rank: u64, rows: u64, found: &Bits) -> RankedDigit
+        requires same { length self.now.digits ≡ length found.now.bits }
+        requires all { rows ≡ count_by (λ b. b) found.now.bits }
+        requires there { rank < rows }
+        ensures digit { result.digit < self.now.base }
+        ensures rank { rank ≡ count_where (λ v. nat_lt v result.digit) found.now.bits
+            self.now.digits + result.rank }
+        ensures there { rank < count_where (λ v. nat_le v result.digit) found.now.bits
+            self.now.digits }
+    {
+        let mut digit = self.base() - 1;
+        let mut upto = rows;
+        'digits: while digit > 0 {
+            let below = upto - self.count_eq(digit, found);
+            if rank >= below {
+                return RankedDigit {
+                    digit,
+                    rank: rank - below,
+                };
+            }
+            upto = below;
+            digit -= 1;
+        }
+        RankedDigit { digit: 0, rank }
+    }
+
+    /// Returns the sum of the digits of the found rows in the words from `start` on and before `end`: the number of these
+    /// rows that have a digit, times the digit, for each but 0.
+    pub(crate) fn digit_sum_in(&self, found: &Bits, start: usize, end: usize) -> u128
+        requires same { length self.now.digits ≡ length found.now.bits }
+        requires forward { start ≤ end }
+        requires within { end ≤ (length found.now.bits + 63) / 64 }
+        ensures sum { result ≡ sum (items_where_true
+            (in_words start end found.now.bits) (in_words start end self.now.digits)) }
+        ensures few { result ≤ 2 ^ 84 }
+    {
+        let mut sum = 0u128;
+        'digits: for j in 1..self.base() {
+            sum += j as u128 * found.count_and_in(self.bitmap(j), start, end) as u128;
+        }
+        sum
+    }
+}
