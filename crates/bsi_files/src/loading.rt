@@ -124,13 +124,10 @@ pub(crate) fn load_all<B: Naming, R: Wait>(
 {
     'ends: for end in ends {
         let left = load_end(rt, loader, end)?;
-        match fed.push(left) {
-            Ok(()) => {}
-            Err(_) => return Err(FilesFault::NoMemory),
-        }
+        fed.push(left).map_err(|_| FilesFault::NoMemory)?;
     }
-    test_sources(fed.as_slice())?;
-    test_closings(fed.as_slice())
+    check_sources(fed.as_slice())?;
+    check_closings(fed.as_slice())
 }
 
 /// Takes all rows that a feeder left.
@@ -187,7 +184,7 @@ fn settle<B: Naming, R: Wait>(
 }
 
 /// Looks for the first file whose source answered a fault, and answers this fault.
-fn test_sources(fed: &[Fed]) -> Result<(), FilesFault>
+fn check_sources(fed: &[Fed]) -> Result<(), FilesFault>
     ensures { IfErr result (λ fault. is_early fault ≡ true) }
 {
     'files: for (file, end) in fed.iter().enumerate() {
@@ -199,7 +196,7 @@ fn test_sources(fed: &[Fed]) -> Result<(), FilesFault>
 }
 
 /// Looks for the first feeder that left no closing, and answers this fault.
-fn test_closings(fed: &[Fed]) -> Result<(), FilesFault>
+fn check_closings(fed: &[Fed]) -> Result<(), FilesFault>
     ensures { IfErr result (λ fault. is_early fault ≡ true) }
 {
     'files: for (file, end) in fed.iter().enumerate() {

@@ -69,10 +69,8 @@ impl Core {
         ensures { result ≡ (if is_unknown self.now f then None else Some
             (length (feeder_at self.now f).rows)) }
     {
-        if f >= self.feeders() {
-            return None;
-        }
-        Some(self.feeders[f as usize].queue.len() as u32)
+        let feeder = self.feeders.get(f as usize)?;
+        Some(feeder.queue.len() as u32)
     }
 
     /// Lends the schema of the index.

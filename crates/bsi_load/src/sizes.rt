@@ -60,10 +60,7 @@ pub fn check_sizes(schema: &Schema, capacities: &[u32], limit: u64) -> Result<()
         return Err(MakeError::TooManyFeeders);
     }
     check_capacities(capacities)?;
-    match Index::check(schema, limit) {
-        Err(refused) => Err(MakeError::Index(refused)),
-        Ok(()) => Ok(()),
-    }
+    Index::check(schema, limit).map_err(MakeError::Index)
 }
 
 /// Refuses the first capacity that is out of range.

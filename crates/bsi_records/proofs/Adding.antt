@@ -14,11 +14,11 @@ use Rattle.bsi_digits.specs.declared.bases_error.BasesError.{BasesError}
 use Rattle.bsi_digits.specs.declared.bases_error.BasesError.TheVariants.{TooWide, ProductTooLarge, Empty, TooMany}
 use Rattle.bsi_digits.specs.Digits.{product}
 use Rattle.bsi_digits.specs.Refusal.{is_bad_base, refusal, refusal_by_place}
-use Rattle.bsi_table.specs.declared.form.ColumnSpec.{ColumnSpec}
-use Rattle.bsi_table.specs.declared.form.ColumnSpec.TheVariants.{Slices, Equality, Range}
-use Rattle.bsi_table.specs.declared.form.Form.{Form}
-use Rattle.bsi_table.specs.declared.schema_error.SchemaError.{SchemaError}
-use Rattle.bsi_table.specs.declared.schema_error.SchemaError.TheVariants.{BadName, BadBases, BadOffset, NoMemory}
+use Rattle.bsi_schema.specs.declared.form.ColumnSpec.{ColumnSpec}
+use Rattle.bsi_schema.specs.declared.form.ColumnSpec.TheVariants.{Slices, Equality, Range}
+use Rattle.bsi_schema.specs.declared.form.Form.{Form}
+use Rattle.bsi_schema.specs.declared.schema_error.SchemaError.{SchemaError}
+use Rattle.bsi_schema.specs.declared.schema_error.SchemaError.TheVariants.{BadName, BadBases, BadOffset, NoMemory}
 use Rattle.bsi_table.specs.Columns.{Declared, form_of, named_column, size_in, with_column}
 use Rattle.bsi_table.specs.Names.{begins_lower, is_name, is_name_byte, is_word}
 use Rattle.bsi_table.specs.Refusals.{column_refusal, form_refusal, name_refusal, signed_refusal, IsFirstOr}

@@ -2,8 +2,8 @@
 use Rattle.std.proofs.Common.{◌≡◌, ◌^◌, ◌<◌, ◌≤◌, true, false, ◌&&◌, List, [], ◌∷◌, length, get_or, drop, Option, Some, None, is_none, is_some, unwrap_or, option_map, option_and_then, if◌then◌else◌, ℤ, pos, ◌+ℤ◌, refl, sym, ◌∙◌, ap, subst, arith}
 use Rattle.std.specs.Prelude.{int_le, IsUtf8}
 use Rattle.csv.specs.Records.{field_at}
-use Rattle.bsi_table.specs.declared.form.ColumnSpec.{ColumnSpec}
-use Rattle.bsi_table.specs.declared.form.Form.{Form}
+use Rattle.bsi_schema.specs.declared.form.ColumnSpec.{ColumnSpec}
+use Rattle.bsi_schema.specs.declared.form.Form.{Form}
 use Rattle.bsi_table.specs.Columns.{Declared, named_column, size_in, with_column}
 use Rattle.bsi_records.specs.Numbers.{Field, offset_of}
 use Rattle.bsi_records.specs.Setups.{added_after, column_after, form_had, form_in, given_offset, one_more}

@@ -3,9 +3,9 @@ use Rattle.std.specs.Prelude.{◌≡◌, is_some, unwrap_or, ℕ, ◌^◌, ◌�
 use Rattle.std.specs.Option.{is_none}
 use Rattle.std.specs.Str.{bytes_eq}
 use Rattle.bsi_digits.specs.Refusal.{refusal}
-use Rattle.bsi_table.specs.declared.form.ColumnSpec.{ColumnSpec}
-use Rattle.bsi_table.specs.declared.form.Form.{Form}
-use Rattle.bsi_table.specs.declared.form.Form.TheVariants.{Slices, Equality, Range}
+use Rattle.bsi_schema.specs.declared.form.ColumnSpec.{ColumnSpec}
+use Rattle.bsi_schema.specs.declared.form.Form.{Form}
+use Rattle.bsi_schema.specs.declared.form.Form.TheVariants.{Slices, Equality, Range}
 use Rattle.bsi_table.specs.Columns.{Declared, form_of, named_column, no_columns, size_in, with_column}
 use Rattle.bsi_table.specs.Refusals.{form_refusal, name_refusal}
 use Rattle.bsi_records.specs.Numbers.{Field, bases_of, number_within, offset_of}

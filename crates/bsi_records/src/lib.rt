@@ -12,5 +12,5 @@ pub use lines::{write_bad, write_fed, write_reply};
 pub use numbers::{read_number, read_signed, read_value};
 pub use queries::read_query;
 pub use records::{read_event, read_row};
-pub use setups::{Setup, read_setup, test_begin};
+pub use setups::{Setup, is_begin, read_setup};
 pub use std::alloc::AllocError as NoMemory;

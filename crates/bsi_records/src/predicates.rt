@@ -117,10 +117,7 @@ fn read_word(
     if field == b"not".as_slice() {
         return negate(alloc, stack);
     }
-    match schema.find(field) {
-        None => Ok(None),
-        Some(c) => Ok(Some(Pending::Column(c))),
-    }
+    Ok(schema.find(field).map(Pending::Column))
 }
 
 /// Reads the field that follows the name of column `c`.
@@ -136,10 +133,7 @@ fn read_behind_name(
         stack.push(Pred::Null(c))?;
         return Ok(Some(Pending::Nothing));
     }
-    match read_op(field) {
-        None => Ok(None),
-        Some(op) => Ok(Some(Pending::Comparison(c, op))),
-    }
+    Ok(read_op(field).map(|op| Pending::Comparison(c, op)))
 }
 
 /// Reads the number that column `c` is compared with.
@@ -227,8 +221,6 @@ fn take_only(pending: Pending, stack: &mut Vec<Pred>) -> Option<Pred>
     if pending != Pending::Nothing {
         return None;
     }
-    let Some(pred) = stack.pop() else {
-        return None;
-    };
+    let pred = stack.pop()?;
     if stack.is_empty() { Some(pred) } else { None }
 }

@@ -4,7 +4,7 @@ ghost use Rattle.std.specs.Prelude.{◌≡◌, ◌≢◌, ◌≤◌, ◌<◌, �
 ghost use Rattle.csv.specs.Records.{fields_of};
 ghost use Rattle.bsi_load.specs.Sizes.{new_machine};
 ghost use Rattle.bsi_table.specs.Columns.{no_columns};
-ghost use Rattle.bsi_table.specs.declared.form.Form.TheVariants.{Slices};
+ghost use Rattle.bsi_schema.specs.declared.form.Form.TheVariants.{Slices};
 ghost use Rattle.bsi_records.specs.Numbers.{number_within};
 ghost use Rattle.bsi_records.specs.Setups.{added_after, can_begin, column_after, declared_after, feeder_after, form_had, form_in, given_offset, is_begin, limit_of, nothing_declared, only_number, table_after, IsChange};
 
@@ -38,16 +38,10 @@ fn read_form(alloc: Global, word: &[u8], text: &[u8]) -> Result<Option<ColumnSpe
         return Ok(read_slices(text));
     }
     if word == b"equality".as_slice() {
-        return match read_bases(alloc, text)? {
-            None => Ok(None),
-            Some(bases) => Ok(Some(ColumnSpec::Equality(bases))),
-        };
+        return Ok(read_bases(alloc, text)?.map(ColumnSpec::Equality));
     }
     if word == b"range".as_slice() {
-        return match read_bases(alloc, text)? {
-            None => Ok(None),
-            Some(bases) => Ok(Some(ColumnSpec::Range(bases))),
-        };
+        return Ok(read_bases(alloc, text)?.map(ColumnSpec::Range));
     }
     Ok(None)
 }
@@ -174,7 +168,7 @@ fn declare_limit(limit: &mut u64, fields: &ByteRecord) -> bool
 }
 
 /// Returns whether the record is just `begin`, which ends what a script declares. It allocates no memory.
-pub fn test_begin(fields: &ByteRecord) -> bool
+pub fn is_begin(fields: &ByteRecord) -> bool
     ensures { result ≡ is_begin (fields_of fields.now) }
 {
     if fields.len() != 1 {

@@ -76,8 +76,5 @@ fn open_one<'a, R: Files<File = S>, S: Read + Drop>(
     rt: &R,
     path: &'a str,
 ) -> Result<S, Failure<'a>> {
-    match fs::open(rt, path) {
-        Ok(file) => Ok(file),
-        Err(_) => Err(Failure::CannotOpen(path)),
-    }
+    fs::open(rt, path).map_err(|_| Failure::CannotOpen(path))
 }

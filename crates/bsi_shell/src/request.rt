@@ -22,7 +22,7 @@ pub(crate) enum Request<'a> {
 }
 
 /// Reads the words. A request for help is not a command.
-pub(crate) fn read_words<'a>(alloc: Global, words: &'a [String]) -> Request<'a>
+pub(crate) fn read_request<'a>(alloc: Global, words: &'a [String]) -> Request<'a>
     ensures files { (paths : Paths) → result ≡ Files paths → BeginsWithFiles words.now }
 {
     match parse_words(alloc, words) {

@@ -4,7 +4,7 @@ ghost use Rattle.bsi_shell.specs.Commands.{BeginsWithFiles};
 ghost use Rattle.bsi_text.specs.Texts.{IsAnswered, IsBegun};
 
 use crate::files::run_over;
-use crate::request::{Request, read_words};
+use crate::request::{Request, read_request};
 use bsi_text::{ScriptFault, run_script};
 use std::alloc::Global;
 use std::fmt::Display;
@@ -42,7 +42,7 @@ pub fn run_words<
     ensures wrong { result ≡ 2 → O.contents output.new ≡ O.contents output.old }
 {
     bsi_text::laws::begun();
-    match read_words(rt.alloc(), &words) {
+    match read_request(rt.alloc(), &words) {
         Request::Script => match run_to_end(rt.alloc(), input, output) {
             Ok(()) => 0,
             Err(fault) => tell_fault(fault, faults),

@@ -53,16 +53,14 @@ impl<B: Naming> Loader<B> {
         loaded
     }
 
+    /// Takes the next row out of a feeder's ring, and holds it. If it is refused, the row stays in the ring.
     fn load_row(&mut self, feeder: u32) -> Result<(), LoadRefused>
         ensures reply { IsLoadReply self.old feeder result }
         ensures loaded { OnOk result (LoadsOne self.old feeder self.new) }
         ensures kept { OnErr result (self.new ≡ self.old) }
     {
         let full = self.publisher.is_full();
-        let row = match first_of(&mut self.lanes, feeder, full) {
-            Ok(row) => row,
-            Err(refused) => return Err(refused),
-        };
+        let row = first_of(&mut self.lanes, feeder, full)?;
         match self.publisher.hold(feeder, row) {
             Ok(()) => {}
             Err(_) => return Err(LoadRefused::NoMemory),
@@ -95,6 +93,7 @@ impl<B: Naming> Loader<B> {
         Ok(())
     }
 
+    /// Learns of a closing that is this feeder's.
     fn settle_lane(&mut self, feeder: u32, closing: Closing)
         requires closing { IsOf closing self.old.system }
         requires feeder { closing.number ≡ feeder }
@@ -119,15 +118,13 @@ impl<B: Naming> Loader<B> {
         published
     }
 
+    /// Publishes the held rows as `publish` does.
     fn publish_held<R: Wait>(&mut self, rt: &R) -> Result<u64, NoMemory>
         ensures len { IfOk result (λ len. len ≡ length self.new.published) }
         ensures ok { OnOk result (self.new ≡ published_all self.old) }
         ensures err { OnErr result (self.new ≡ self.old) }
     {
-        match self.publisher.publish(rt) {
-            Ok(len) => Ok(len),
-            Err(refused) => Err(refused),
-        }
+        self.publisher.publish(rt)
     }
 
     /// Returns how many rows are published, and how many are held. It allocates no memory.
@@ -175,6 +172,7 @@ impl<B: Naming> Loader<B> {
         ensures within { WithinTold self.now }
         ensures many { AreAsMany self.now }
     {
+        // Reading a field makes the loader's invariant known to the proof.
         let _ = &self.lanes;
     }
 }

@@ -10,12 +10,12 @@ use Rattle.bsi_columns.specs.declared.any.AnyColumn.{AnyColumn}
 use Rattle.bsi_columns.specs.declared.any.AnyColumn.TheVariants.{Slices as kept_slices, Equality as kept_equality, Range as kept_range}
 use Rattle.bsi_columns.specs.AnyRows.{any_entries, any_size, IsSameForm}
 use Rattle.bsi_shift.specs.Shifted.{number_of, shifted_entries, shifted_size, IsInRange, OffsetColumn}
-use Rattle.bsi_table.specs.declared.form.Form.{Form}
-use Rattle.bsi_table.specs.declared.form.Form.TheVariants.{Slices, Equality, Range}
-use Rattle.bsi_table.specs.Columns.{column_at, fits, is_taken_by, size_in, NamedColumn}
+use Rattle.bsi_schema.specs.declared.form.Form.{Form}
+use Rattle.bsi_schema.specs.declared.form.Form.TheVariants.{Slices, Equality, Range}
+use Rattle.bsi_schema.specs.Columns.{column_at, fits, is_taken_by, size_in, NamedColumn}
 use Rattle.bsi_table.specs.Rows.{column_of, entry_at, Entries, FedRow}
 use Rattle.bsi_table.specs.Table.{kept_at, row_in, AreFitting, AreInRange, AreKept, AreNarrow, HasMore, HaveMore, IsInForm, IsSameColumn, Keeps, Takes}
-use Rattle.bsi_table.proofs.Fitting.{fits-at, fits-each, fits-length}
+use Rattle.bsi_schema.proofs.Fitting.{fits-at, fits-each, fits-length}
 use Rattle.bsi_table.proofs.TableRows.{entry-row_in}
 
 -- what holds anyway holds after a refusal

@@ -1,13 +1,9 @@
 pub mod CallerLemmas
 pub mod Counting
-pub mod Fitting
 pub mod Keeping
-pub mod Marking
 pub mod Missing
-pub mod Naming
-pub mod NoNames
-pub mod Numbers
 pub mod Parts
 pub mod Selecting
 pub mod Selections
 pub mod TableRows
+pub use Rattle.bsi_schema.proofs.Fitting

@@ -1,16 +1,11 @@
 -- The positions at which a test passes, and what stands there.
-use Rattle.std.proofs.Common.{◌≡◌, ℕ, ◌+◌, zero, suc, Bool, true, false, cond, List, [], ◌∷◌, ◌++◌, Option, length, map, filter, refl, sym, ap, ap₂, ◌∙◌, arith, add-one}
+use Rattle.std.proofs.Common.{◌≡◌, ℕ, ◌+◌, zero, suc, Bool, true, false, cond, List, [], ◌∷◌, Option, length, map, filter, refl, sym, ap, ap₂, ◌∙◌, add-one}
 use Rattle.std.specs.Prelude.{count_by, filter_map, slice_index_or}
 use Rattle.std.specs.List.{range_with_len, items_where_true, cons_option}
 use Rattle.std.proofs.lemmas.List.{length-map}
 use Rattle.std.proofs.lemmas.List.Sums.{length-filter, sum_by-cons}
 use Rattle.bsi_bits.specs.BitList.{set_places}
 use Rattle.bsi_columns.specs.Orders.{values_at}
-
--- one more number at the end
-pub range_push : (a n : ℕ) → range_with_len a (suc n) ≡ range_with_len a n ++ (a + n) ∷ []
-range_push a zero = ap (λ k. k ∷ []) (omega arith)
-range_push a (suc n) = ap (λ xs. a ∷ xs) (range_push (a + 1) n ∙ ap (λ k. range_with_len (a + 1) n ++ k ∷ []) (omega arith))
 
 -- the numbers one further
 range_suc : (a n : ℕ) → range_with_len (a + 1) n ≡ map suc (range_with_len a n)

@@ -1,5 +1,6 @@
 -- What the answer to a query is.
-use Rattle.std.specs.Prelude.{◌≡◌, ℕ, List, [], ◌∷◌, ◌++◌, Option, Some, None, Result, Ok, Err, length, map, take, find, count_by, nat_eq, nat_le, slice_index, ℤ}
+use Rattle.std.specs.Prelude.{◌≡◌, ℕ, List, [], ◌∷◌, ◌++◌, Option, Some, None, Result, Ok, Err, length, find, nat_le, ℤ}
+use Rattle.bsi_origins.specs.Numbering.{numbered_at}
 use Rattle.bsi_shift.specs.WholeNumbers.{signed_sum, IsSignedLeastOf, IsSignedGreatestOf, IsSignedMedianOf}
 use Rattle.bsi_table.specs.declared.errors.AskError.{AskError}
 use Rattle.bsi_table.specs.declared.errors.AskError.TheVariants.{BadColumn, NoMemory}
@@ -9,16 +10,8 @@ use Rattle.bsi_table.specs.declared.query.Pred.{Pred, All, Compare, Null, Both',
 use Rattle.bsi_table.specs.declared.query.Query.{Query}
 use Rattle.bsi_table.specs.declared.query.Total.{Total}
 use Rattle.bsi_table.specs.declared.query.Total.TheVariants.{Count, Sum, Least, Greatest, Median, Rows}
-use Rattle.bsi_table.specs.Columns.{Declared}
+use Rattle.bsi_schema.specs.Columns.{Declared}
 use Rattle.bsi_table.specs.Rows.{FedRow, feeders_of, selected, values}
-
--- the number of row r among its feeder's, of rows from these feeders: how many before it came from the same feeder
-abbrev pub number_within : List ℕ → ℕ → ℕ
-number_within feeders r = count_by (λ feeder. nat_eq feeder (slice_index feeders r)) (take r feeders)
-
--- the rows at these positions, each by its feeder and its number among the feeder's
-abbrev pub numbered_at : List ℕ → List ℕ → List (ℕ × ℕ)
-numbered_at feeders positions = map (λ r. (slice_index feeders r, number_within feeders r)) positions
 
 -- the answer is a number or none, and this is so of it
 abbrev pub IsValue : (Option ℤ → Type 0) → Answer → Type 0

@@ -1,12 +1,9 @@
 -- The rows of a table, and which of them a predicate selects.
-use Rattle.std.specs.Prelude.{ℕ, Bool, true, ◌&&◌, ◌||◌, not, List, [], Option, None, is_none, length, filter, filter_map, map, slice_index_or, ℤ}
+use Rattle.std.specs.Prelude.{ℕ, Bool, true, ◌&&◌, ◌||◌, not, List, [], is_none, length, filter, filter_map, map, slice_index_or, ℤ}
 use Rattle.std.specs.List.{range_with_len}
 use Rattle.bsi_shift.specs.WholeNumbers.{signed_selects}
+pub use Rattle.bsi_schema.specs.Columns.{entry_at, Entries}
 use Rattle.bsi_table.specs.declared.query.Pred.{Pred, All, Compare, Null, Both', Either', Not'}
-
--- the entries of a row, one for each column
-abbrev pub Entries : Type 0
-Entries = List (Option ℤ)
 
 -- a row of a table: the feeder that it came from, and its entries
 abbrev pub FedRow : Type 0
@@ -15,10 +12,6 @@ FedRow = ℕ × Entries
 -- the feeders of rows
 abbrev pub feeders_of : List FedRow → List ℕ
 feeders_of rows = map (λ row. row.0) rows
-
--- the entry of column c
-abbrev pub entry_at : Entries → ℕ → Option ℤ
-entry_at row c = slice_index_or row c None
 
 -- the row at position r
 abbrev pub row_at : List FedRow → ℕ → FedRow

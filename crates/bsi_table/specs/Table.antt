@@ -5,9 +5,9 @@ use Rattle.bsi_columns.specs.declared.any.AnyColumn.{AnyColumn}
 use Rattle.bsi_columns.specs.declared.any.AnyColumn.TheVariants.{Slices as kept_slices, Equality as kept_equality, Range as kept_range}
 use Rattle.bsi_columns.specs.AnyRows.{IsSameForm}
 use Rattle.bsi_shift.specs.Shifted.{shifted_entries, shifted_room, shifted_size, IsInRange, OffsetColumn}
-use Rattle.bsi_table.specs.declared.form.Form.{Form}
-use Rattle.bsi_table.specs.declared.form.Form.TheVariants.{Slices, Equality, Range}
-use Rattle.bsi_table.specs.Columns.{column_at, fits, size_in, Declared, NamedColumn}
+use Rattle.bsi_schema.specs.declared.form.Form.{Form}
+use Rattle.bsi_schema.specs.declared.form.Form.TheVariants.{Slices, Equality, Range}
+use Rattle.bsi_schema.specs.Columns.{column_at, fits, size_in, Declared, NamedColumn}
 use Rattle.bsi_table.specs.Rows.{column_of, entry_at, Entries, FedRow}
 
 -- what a contract sees of an index: its schema, how many feeders there are, the most rows, and the rows

@@ -3,7 +3,7 @@
 ghost use Rattle.std.specs.Prelude.{◌≡◌, ℕ, ◌+◌, ◌<◌, ◌≤◌, ◌^◌, [], All, length, IfOk, OnOk};
 ghost use Rattle.bsi_columns.specs.AnyRows.{any_entries};
 ghost use Rattle.bsi_shift.specs.Shifted.{shifted_entries};
-ghost use Rattle.bsi_table.specs.Columns.{column_at, IsForm};
+ghost use Rattle.bsi_schema.specs.Columns.{column_at, IsForm};
 ghost use Rattle.bsi_table.specs.Rows.{column_of, entry_at};
 ghost use Rattle.bsi_table.specs.Table.{kept_at, AreInRange, AreKept, AreNarrow, AreSameColumns, HaveMore, HaveOneMore, HaveRoom, IsInForm, IsNarrow, Keeps, Takes};
 

@@ -4,16 +4,16 @@ ghost use Rattle.std.specs.Prelude.{◌≡◌, ℕ, ◌+◌, ◌<◌, ◌≤◌,
 ghost use Rattle.std.specs.Result.{result_err};
 ghost use Rattle.bsi_shift.specs.Shifted.{shifted_entries};
 ghost use Rattle.bsi_table.specs.Answers.{missing_column, IsAnswer, IsReply};
-ghost use Rattle.bsi_table.specs.Columns.{column_at, fits};
+ghost use Rattle.bsi_schema.specs.Columns.{column_at, fits};
 ghost use Rattle.bsi_table.specs.Refusals.{index_refusal, row_refusal, rows_refusal, IsFirstOr};
 ghost use Rattle.bsi_table.specs.Rows.{column_of, feeders_of};
 ghost use Rattle.bsi_table.specs.Table.{kept_at, no_rows, with_row, with_rows, AreFitting, AreFrom, AreInRange, AreNarrow, AreSameColumns, HaveMore, HaveOneMore, HaveRoom, IsInForm, Takes};
 
 use crate::columns::{copy_each, make_each, push_block_each, push_each, reserve_each};
-use crate::origins::Origins;
 use crate::select::{count_selected, select};
 use crate::totals::answer;
 use crate::{Answer, AppendError, AskError, IndexError, NoMemory, Query, Row, Schema, Total};
+use bsi_origins::Origins;
 use bsi_shift::Shifted;
 use std::alloc::Global;
 use std::marker::Model;
@@ -152,7 +152,7 @@ impl Index {
         requires { missing_column (length self.now.schema.columns) query.now ≡ None }
         ensures { IfOk result (IsAnswer query.now self.now.rows) }
     {
-        let alloc = *self.origins.allocator();
+        let alloc = *self.columns.allocator();
         let columns: &[Shifted] = &self.columns;
         let rows = self.len();
         if let Total::Count = query.total {
@@ -177,7 +177,7 @@ impl Index {
         ensures { IfOk result (λ index. index ≡ self.now) }
     {
         let schema = self.schema.copy()?;
-        let columns = copy_each(*self.origins.allocator(), &self.columns)?;
+        let columns = copy_each(*self.columns.allocator(), &self.columns)?;
         let origins = self.origins.copy()?;
         Ok(Index {
             schema,

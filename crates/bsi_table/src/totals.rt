@@ -5,10 +5,9 @@ ghost use Rattle.bsi_table.specs.Answers.{columns_of_total, missing_of, IsAnswer
 ghost use Rattle.bsi_table.specs.Rows.{holds};
 ghost use Rattle.bsi_table.specs.Table.{fed_rows, AreEven};
 
-use crate::numbering::number_rows;
-use crate::origins::Origins;
 use crate::{Answer, NoMemory, Query, Total};
 use bsi_bits::Bits;
+use bsi_origins::{Origins, number_rows};
 use bsi_shift::Shifted;
 use std::alloc::Global;
 

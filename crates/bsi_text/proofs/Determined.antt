@@ -14,7 +14,8 @@ use Rattle.bsi_load.specs.declared.event.LoadRefused.{LoadRefused}
 use Rattle.bsi_load.specs.declared.event.LoadRefused.TheVariants as load
 use Rattle.bsi_load.specs.declared.event.Reply.{Reply}
 use Rattle.bsi_load.specs.declared.event.Reply.TheVariants.{Submitted, Loaded, Closed, Answered}
-use Rattle.bsi_table.specs.Answers.{IsAnswer, IsReply, IsTotal, missing_column, numbered_at}
+use Rattle.bsi_table.specs.Answers.{IsAnswer, IsReply, IsTotal, missing_column}
+use Rattle.bsi_table.specs.Numbering.{numbered_at}
 use Rattle.bsi_table.specs.Columns.{Declared}
 use Rattle.bsi_table.specs.Rows.{Entries, FedRow, entry_at, feeders_of, holds, row_at, selected, values}
 use Rattle.bsi_table.specs.declared.errors.AskError.{AskError}

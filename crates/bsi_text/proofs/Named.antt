@@ -9,7 +9,7 @@ use Rattle.bsi_load.specs.Sizes.{new_machine}
 use Rattle.bsi_table.specs.Columns.{Declared, named_column, size_in, with_column}
 use Rattle.bsi_table.specs.Names.{is_name}
 use Rattle.bsi_table.specs.Refusals.{name_refusal}
-use Rattle.bsi_table.specs.declared.form.Form.{Form}
+use Rattle.bsi_schema.specs.declared.form.Form.{Form}
 use Rattle.bsi_records.specs.Lines.{bad_line, done_line}
 use Rattle.bsi_records.specs.Numbers.{Field, offset_of}
 use Rattle.bsi_text.specs.Scripts.{Stage, Declaring, Running, set_up, IsTurn, AreTurns}

@@ -9,7 +9,7 @@ ghost use Rattle.bsi_text.specs.Scripts.{IsTurn, Running};
 
 use crate::NoMemory;
 use bsi_load::{Core, Event, Reply};
-use bsi_records::{Setup, read_event, test_begin, write_bad, write_reply};
+use bsi_records::{Setup, is_begin, read_event, write_bad, write_reply};
 use csv::ByteRecord;
 use std::alloc::Global;
 
@@ -65,7 +65,7 @@ impl Session {
         let Session::Declaring(setup) = self else {
             return Ok(false);
         };
-        if !test_begin(fields) {
+        if !is_begin(fields) {
             return setup.declare(alloc, fields);
         }
         match setup.begin(alloc)? {

@@ -1,6 +1,6 @@
 //! A version of the index, with the list of the history that its rows make.
 
-ghost use Rattle.std.specs.Prelude.{◌≡◌, IfOk, IsTrue, OnErr, OnOk};
+ghost use Rattle.std.specs.Prelude.{◌≡◌, ◌≤◌, IfOk, IsTrue, OnErr, OnOk, length};
 ghost use Rattle.bsi_table.specs.Table.{AreFitting, AreFrom};
 
 use crate::NoMemory;
@@ -69,14 +69,13 @@ impl Version {
         ensures ok { OnOk result (self.new
             ≡ record self.old { table = with_rows self.old.table rows.now }) }
         ensures err { OnErr result (self.new ≡ self.old) }
+        ensures few { OnOk result (length rows.now ≤ 64) }
     {
         if rows.len() > MAX_BLOCK_ROWS || !are_fitting(&self.index, rows) {
             return Err(NoMemory);
         }
-        match self.index.append_rows(rows) {
-            Ok(_) => Ok(()),
-            Err(_) => Err(NoMemory),
-        }
+        self.index.append_rows(rows).map_err(|_| NoMemory)?;
+        Ok(())
     }
 }
 

@@ -1,5 +1,5 @@
 use Rattle.std.proofs.Common.{◌≡◌, ℕ, ◌<◌, length}
-use Rattle.bsi_table.specs.Columns.{column_at}
+use Rattle.bsi_schema.specs.Columns.{column_at}
 use Rattle.bsi_table.specs.Table.{kept_at, Keeps}
 use Rattle.bsi_table.proofs.columns.make_each.Given as goal
 

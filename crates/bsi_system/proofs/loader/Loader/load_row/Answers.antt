@@ -11,21 +11,21 @@ invariant_of-self-2 g c =
     let l = c.self.inside in
     let intakes = c.first_of.new.lanes.items in
     let row = c.take_of.result in
-    let same = same_row intakes c.args.feeder c.in-Ok.row row c.take_of.new.lanes.items c.in-Ok.ensures.first c.take_of.ensures in
-    let held = c.in-Ok-hold.ensures.ok ∙ ap (with_held l.publisher c.args.feeder) same in
+    let same = same_row intakes c.args.feeder c.in_ok-row.row row c.take_of.new.lanes.items c.in_ok-row.ensures.first c.take_of.ensures in
+    let held = c.in-Ok.ensures.ok ∙ ap (with_held l.publisher c.args.feeder) same in
     takes_loader intakes l.publisher c.args.feeder row c.take_of.new.lanes.items c.hold.new.self c.take_of.ensures held
-    (same_loader l.lanes.items l.publisher c.self.invariant intakes c.in-Ok.ensures.same)
+    (same_loader l.lanes.items l.publisher c.self.invariant intakes c.in_ok-row.ensures.same)
 
 pub returns-clause-loaded : goal.returns-clause-loaded
 returns-clause-loaded g c =
     let l = c.self.inside in
     let intakes = c.first_of.new.lanes.items in
     let row = c.take_of.result in
-    let same = same_row intakes c.args.feeder c.in-Ok.row row c.take_of.new.lanes.items c.in-Ok.ensures.first c.take_of.ensures in
-    let held = c.in-Ok-hold.ensures.ok ∙ ap (with_held l.publisher c.args.feeder) same in
-    let loader = same_loader l.lanes.items l.publisher c.self.invariant intakes c.in-Ok.ensures.same in
-    let old = same_loading l.lanes.items l.publisher c.self.invariant intakes c.in-Ok.ensures.same ∙ c.self.view_is in
-    let first = first_fits intakes l.publisher loader c.args.feeder c.in-Ok.row c.in-Ok.ensures.first in
+    let same = same_row intakes c.args.feeder c.in_ok-row.row row c.take_of.new.lanes.items c.in_ok-row.ensures.first c.take_of.ensures in
+    let held = c.in-Ok.ensures.ok ∙ ap (with_held l.publisher c.args.feeder) same in
+    let loader = same_loader l.lanes.items l.publisher c.self.invariant intakes c.in_ok-row.ensures.same in
+    let old = same_loading l.lanes.items l.publisher c.self.invariant intakes c.in_ok-row.ensures.same ∙ c.self.view_is in
+    let first = first_fits intakes l.publisher loader c.args.feeder c.in_ok-row.row c.in_ok-row.ensures.first in
     let fitting = subst (λ r. IsTrue (fits l.publisher.table.schema.columns r)) same first in (
       row,
       subst (λ s. IsTrue (fits s.system.schema.columns row)) old fitting,
@@ -37,10 +37,10 @@ pub hold-requires-clause-fits : goal.hold-requires-clause-fits
 hold-requires-clause-fits g c =
     let l = c.self.inside in
     let intakes = c.first_of.new.lanes.items in
-    first_fits intakes l.publisher (same_loader l.lanes.items l.publisher c.self.invariant intakes c.in-Ok.ensures.same) c.args.feeder c.in-Ok.row c.in-Ok.ensures.first
+    first_fits intakes l.publisher (same_loader l.lanes.items l.publisher c.self.invariant intakes c.in_ok-row.ensures.same) c.args.feeder c.in_ok-row.row c.in_ok-row.ensures.first
 
 pub hold-requires-clause-feeder : goal.hold-requires-clause-feeder
 hold-requires-clause-feeder g c =
     let l = c.self.inside in
     let intakes = c.first_of.new.lanes.items in
-    first_there intakes l.publisher (same_loader l.lanes.items l.publisher c.self.invariant intakes c.in-Ok.ensures.same) c.args.feeder c.in-Ok.row c.in-Ok.ensures.first
+    first_there intakes l.publisher (same_loader l.lanes.items l.publisher c.self.invariant intakes c.in_ok-row.ensures.same) c.args.feeder c.in_ok-row.row c.in_ok-row.ensures.first

@@ -1,6 +1,6 @@
 use Rattle.std.proofs.Common.{◌<◌, ℕ, List, length, ap, ap₂, sym, subst, ◌∙◌}
 use Rattle.bsi_shift.specs.Shifted.{OffsetColumn}
-use Rattle.bsi_table.specs.Columns.{Declared}
+use Rattle.bsi_schema.specs.Columns.{Declared}
 use Rattle.bsi_table.specs.Rows.{FedRow}
 use Rattle.bsi_table.specs.Table.{fed_rows, kept_at, IsSameColumn, IsTable, Table}
 use Rattle.bsi_table.proofs.Keeping.{are_kept_same}

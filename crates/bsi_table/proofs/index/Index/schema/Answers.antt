@@ -4,7 +4,7 @@ use Rattle.bsi_table.proofs.Keeping.{row_in-fits}
 use Rattle.bsi_table.proofs.TableRows.{All-fed_rows}
 use Rattle.bsi_table.specs.Table.{fed_rows}
 use Rattle.std.proofs.Common.{◌≡◌, length, true}
-use Rattle.bsi_table.specs.Columns.{fits}
+use Rattle.bsi_schema.specs.Columns.{fits}
 use Rattle.bsi_table.proofs.index.Index.schema.Goals as goal
 
 pub returns-clause-fitting : goal.returns-clause-fitting

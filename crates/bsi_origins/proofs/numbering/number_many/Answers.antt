@@ -1,0 +1,37 @@
+use Rattle.std.proofs.Common.{◌≡◌, ◌+◌, ◌<◌, ◌++◌, ◌∷◌, [], length, get_or, set, refl, sym, ap, subst, arith, length-set, ◌∙◌}
+use Rattle.std.specs.Prelude.{slice_index_or, false}
+use Rattle.std.proofs.lemmas.Option.{get_or_from_slice_get}
+use Rattle.bsi_origins.specs.Numbering.{number_within}
+use Rattle.bsi_origins.specs.Origins.{count_before, AreCounts}
+use Rattle.bsi_origins.proofs.Numbers.{counted_more, counted_none, numbered_found, numbered_passed}
+use Rattle.bsi_origins.proofs.numbering.number_many.Goals as goal
+use Rattle.bsi_origins.proofs.numbering.number_many.Goals.{then-get+in_ok-push, else-get}
+
+pub rows-init : goal.rows-init
+rows-init c = record { long = refl; counted = λ f below. counted_none 64 f; rows = c.in_ok-listed.ensures.items }
+
+pub rows-preserved : goal.rows-preserved
+rows-preserved c =
+    let feeders = c.args.origins.now.rows in
+    let bits = c.args.found.now.bits in
+    let r = c.rows.r in
+    let source = c.feeder-source.result in
+    let there = c.feeder-source.ensures.feeder in
+    let count = get_or c.rows.counts source 0 in
+    let within : r < length feeders = omega (arith, c.rows-test.true, c.len-r-end.ensures.len) in
+    let is : slice_index_or bits r false ≡ c.get.result = get_or_from_slice_get bits r c.get.result false c.get.ensures in
+    let counted : count ≡ number_within feeders r = c.rows.invariant.counted source c.feeder-source.ensures.within ∙ ap (count_before feeders r) there in
+    record {
+      long = length-set c.rows.counts source (count + 1) ∙ c.rows.invariant.long;
+      counted = subst (λ f. AreCounts c.args.origins.now.feeders feeders (r + 1) (set c.rows.counts f (get_or c.rows.counts f 0 + 1))) (sym there)
+          (counted_more c.args.origins.now.feeders c.rows.counts feeders r (omega (arith, c.rows.invariant.long, c.feeder-source.ensures.few)) within
+          (subst (λ f. f < c.args.origins.now.feeders) there c.feeder-source.ensures.within) c.rows.invariant.counted);
+      rows = elim c.if-get.branch [
+        | then-get+in_ok-push w ↦
+            ap (λ v. v.items) w.listed-is ∙ w.in_ok-push.ensures.items
+            ∙ ap (λ f. c.rows.listed.items ++ (f, count) ∷ []) (w.from.ensures ∙ there)
+            ∙ ap (λ rows. rows ++ (get_or feeders r 0, count) ∷ []) c.rows.invariant.rows
+            ∙ numbered_found bits feeders r count (is ∙ w.if-get.true) counted
+        | else-get w ↦ ap (λ v. v.items) w.listed-is ∙ c.rows.invariant.rows ∙ numbered_passed bits feeders r (is ∙ w.if-get.false)
+      ];
+    }

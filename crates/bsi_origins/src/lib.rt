@@ -1,0 +1,9 @@
+//! The feeder of each row of a table, and the rows of a found set, each by its feeder and its number among that feeder's.
+#![tactic(auto)]
+
+mod numbering;
+mod origins;
+
+pub use numbering::number_rows;
+pub use origins::{MAX_FEEDERS, Origins};
+pub use std::alloc::AllocError as NoMemory;

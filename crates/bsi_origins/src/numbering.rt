@@ -1,0 +1,100 @@
+//! The rows of a found set, each by its feeder and its number among the rows of that feeder.
+
+ghost use Rattle.std.specs.Prelude.{◌≡◌, ◌<◌, ◌≤◌, IfOk, length};
+ghost use Rattle.bsi_bits.specs.BitList.{set_places};
+ghost use Rattle.bsi_origins.specs.Numbering.{numbered_at};
+ghost use Rattle.bsi_origins.specs.Origins.{AreCounts};
+
+use crate::origins::{Counts, STRETCH};
+use crate::{MAX_FEEDERS, NoMemory, Origins};
+use bsi_bits::Bits;
+use std::alloc::Global;
+
+/// If more than one row in this many was found, the numbering goes over all rows.
+const MANY: u64 = 8;
+
+/// Returns the rows of a found set in order, each by its feeder and its number among that feeder's rows. `origins`
+/// gives the feeder of each row of the table. If few rows were found, it reads, in each stretch of 512 rows, the
+/// feeders up to the last found row, and none in a stretch with no found row.
+pub fn number_rows(
+    alloc: Global,
+    found: &Bits,
+    origins: &Origins,
+) -> Result<Vec<(u32, u64)>, NoMemory>
+    requires { length found.now.bits ≡ length origins.now.rows }
+    ensures { IfOk result (λ rows. rows.items
+        ≡ numbered_at origins.now.rows (set_places found.now.bits)) }
+{
+    if found.count() > origins.len() / MANY {
+        number_many(alloc, found, origins)
+    } else {
+        number_few(alloc, found, origins)
+    }
+}
+
+/// Numbers the found rows, going from one to the next.
+fn number_few(alloc: Global, found: &Bits, origins: &Origins) -> Result<Vec<(u32, u64)>, NoMemory>
+    requires { length found.now.bits ≡ length origins.now.rows }
+    ensures { IfOk result (λ rows. rows.items
+        ≡ numbered_at origins.now.rows (set_places found.now.bits)) }
+{
+    let mut counts = [0u64; MAX_FEEDERS as usize];
+    let mut at = 0;
+    let mut rows = Vec::with_capacity(alloc, found.count() as usize)?;
+    'rows: for r in found.ones() {
+        count_forward(origins, &mut counts, at, r);
+        at = r;
+        let feeder = origins.feeder(r);
+        rows.push((u32::from(feeder), counts[feeder as usize]))?;
+    }
+    Ok(rows)
+}
+
+/// Numbers the found rows in one pass over all rows.
+fn number_many(alloc: Global, found: &Bits, origins: &Origins) -> Result<Vec<(u32, u64)>, NoMemory>
+    requires { length found.now.bits ≡ length origins.now.rows }
+    ensures { IfOk result (λ rows. rows.items
+        ≡ numbered_at origins.now.rows (set_places found.now.bits)) }
+{
+    let mut counts = [0u64; MAX_FEEDERS as usize];
+    let mut listed = Vec::with_capacity(alloc, found.count() as usize)?;
+    'rows: for r in 0..origins.len() {
+        let source = origins.feeder(r);
+        let count = counts[source as usize];
+        if found.get(r) {
+            listed.push((u32::from(source), count))?;
+        }
+        counts[source as usize] = count + 1;
+    }
+    Ok(listed)
+}
+
+/// Moves the counts of the rows before `from` forward to those before `to`. Within the same stretch it counts on from
+/// there; for a later stretch it begins at its mark.
+fn count_forward(origins: &Origins, counts: &mut Counts, from: u64, to: u64)
+    requires forward { from ≤ to }
+    requires within { to < length origins.now.rows }
+    requires counted { AreCounts origins.now.feeders origins.now.rows from counts.old }
+    ensures { AreCounts origins.now.feeders origins.now.rows to counts.new }
+{
+    if origins.feeders() == 1 {
+        counts[0] = to;
+    } else if from / STRETCH < to / STRETCH {
+        origins.read_mark(to / STRETCH, counts);
+        count_rows(origins, counts, to / STRETCH * STRETCH, to);
+    } else {
+        count_rows(origins, counts, from, to);
+    }
+}
+
+/// Counts the rows from `from` on and before `to`, each for its feeder.
+fn count_rows(origins: &Origins, counts: &mut Counts, from: u64, to: u64)
+    requires forward { from ≤ to }
+    requires within { to ≤ length origins.now.rows }
+    requires counted { AreCounts origins.now.feeders origins.now.rows from counts.old }
+    ensures { AreCounts origins.now.feeders origins.now.rows to counts.new }
+{
+    'rows: for r in from..to {
+        counts[origins.feeder(r) as usize] += 1;
+    }
+}

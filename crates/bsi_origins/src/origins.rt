@@ -1,0 +1,172 @@
+//! The feeder of each row, and the counts by which a row's number among its feeder's rows is found.
+
+ghost use Rattle.std.specs.Prelude.{◌≡◌, ◌+◌, ◌*◌, ◌<◌, ◌≤◌, ◌^◌, ◌++◌, ◌∷◌, [], All, IfOk, IsOk, OnErr, OnOk, length, slice_index, vec_len, vec_capacity};
+ghost use Rattle.bsi_origins.specs.Origins.{mark_len, AreCounts};
+
+use crate::NoMemory;
+use std::alloc::Global;
+use std::marker::Model;
+
+/// The most feeders of a table.
+pub const MAX_FEEDERS: u32 = 64;
+
+/// The number of rows from one mark to the next.
+pub(crate) const STRETCH: u64 = 512;
+
+/// A count for each feeder.
+pub(crate) type Counts = [u64; MAX_FEEDERS as usize];
+
+/// The feeder of each of at most 2^32 rows, one byte per row. If there are several feeders, a mark stands before each
+/// stretch of 512 rows. It tells how many of the rows before came from each feeder, in 4 bytes per feeder.
+#[derive(Drop)]
+pub struct Origins {
+    feeders: u32,
+    sources: Vec<u8>,
+    counts: Counts,
+    marks: Vec<u32>,
+    room: u64,
+}
+
+// Clauses see the feeder of each row, the number of feeders, and for how many more rows there is room.
+impl Model for Origins {
+    ghost use Rattle.std.specs.Prelude.{length, vec_capacity};
+    ghost use Rattle.bsi_origins.specs.Origins.{HasRoomFor, IsMarked, OriginList};
+
+    ghost Value = { OriginList };
+
+    ghost view = { λ o. record { rows = o.sources.items; feeders = o.feeders; room = o.room } };
+
+    ghost invariant = { λ o. IsMarked o.feeders o.sources.items o.counts o.marks.items
+        × HasRoomFor o.room (length o.sources.items) o.feeders (vec_capacity o.sources)
+        (vec_capacity o.marks) };
+}
+
+impl Origins {
+    /// Makes the list of no rows. It allocates no memory until it grows.
+    pub fn new(alloc: Global, feeders: u32) -> Origins
+        requires { (1 ≤ feeders) × (feeders ≤ 64) }
+        ensures rows { result.rows ≡ [] }
+        ensures feeders { result.feeders ≡ feeders }
+    {
+        let counts = [0; MAX_FEEDERS as usize];
+        Origins {
+            feeders,
+            sources: Vec::new(alloc),
+            counts,
+            marks: Vec::new(alloc),
+            room: 0,
+        }
+    }
+
+    /// Returns the number of rows, at most 2^32.
+    pub fn len(&self) -> u64
+        ensures len { result ≡ length self.now.rows }
+        ensures within { result ≤ 2 ^ 32 }
+    {
+        self.sources.len() as u64
+    }
+
+    /// Returns the number of feeders, from 1 to 64. Each row came from one of them.
+    pub fn feeders(&self) -> u32
+        ensures feeders { result ≡ self.now.feeders }
+        ensures within { (1 ≤ result) × (result ≤ 64) }
+        ensures from { All (λ source. source < self.now.feeders) self.now.rows }
+    {
+        self.feeders
+    }
+
+    /// Returns the feeder of row `r`.
+    pub(crate) fn feeder(&self, r: u64) -> u8
+        requires { r < length self.now.rows }
+        ensures feeder { result ≡ slice_index self.now.rows r }
+        ensures within { result < self.now.feeders }
+        ensures few { self.now.feeders ≤ 64 }
+    {
+        self.sources[r as usize]
+    }
+
+    /// Makes room for `more` further rows. Whatever the result, the rows stay. It allocates memory only if there is not
+    /// enough room already.
+    pub fn reserve(&mut self, more: u64) -> Result<(), NoMemory>
+        requires { length self.old.rows + more ≤ 2 ^ 32 }
+        ensures rows { self.new.rows ≡ self.old.rows }
+        ensures feeders { self.new.feeders ≡ self.old.feeders }
+        ensures ok { OnOk result (more ≤ self.new.room) }
+        ensures err { OnErr result (self.new ≡ self.old) }
+        ensures succeeds { more ≤ self.old.room → IsOk result }
+    {
+        if more <= self.room {
+            return Ok(());
+        }
+        let rows = self.sources.len() as u64 + more;
+        let marks = mark_len(self.feeders) * rows.div_ceil(STRETCH) as usize;
+        self.sources.reserve(more as usize)?;
+        self.marks.reserve(marks - self.marks.len())?;
+        self.room = more;
+        Ok(())
+    }
+
+    /// Appends a row of a feeder, into room that is already there.
+    pub fn push_reserved(&mut self, feeder: u8)
+        requires feeder { feeder < self.old.feeders }
+        requires room { 0 < self.old.room }
+        ensures rows { self.new.rows ≡ self.old.rows ++ feeder ∷ [] }
+        ensures feeders { self.new.feeders ≡ self.old.feeders }
+        ensures room { self.new.room + 1 ≡ self.old.room }
+    {
+        if self.sources.len() as u64 % STRETCH == 0 {
+            push_mark(&mut self.marks, &self.counts[..mark_len(self.feeders)]);
+        }
+        self.sources.push_reserved(feeder);
+        self.counts[feeder as usize] += 1;
+        self.room -= 1;
+    }
+
+    /// Writes how many of the rows before stretch `k` came from each feeder. It requires several feeders.
+    pub(crate) fn read_mark(&self, k: u64, counts: &mut Counts)
+        requires several { 1 < self.now.feeders }
+        requires there { 512 * k < length self.now.rows }
+        ensures { AreCounts self.now.feeders self.now.rows (512 * k) counts.new }
+    {
+        let len = self.feeders as usize;
+        let start = len * k as usize;
+        'feeders: for f in 0..len {
+            counts[f] = u64::from(self.marks[start + f]);
+        }
+    }
+
+    /// Makes a second list of the same rows.
+    pub fn copy(&self) -> Result<Origins, NoMemory>
+        ensures rows { IfOk result (λ origins. origins.rows ≡ self.now.rows) }
+        ensures feeders { IfOk result (λ origins. origins.feeders ≡ self.now.feeders) }
+    {
+        let sources = self.sources.clone()?;
+        let marks = self.marks.clone()?;
+        Ok(Origins {
+            feeders: self.feeders,
+            sources,
+            counts: self.counts,
+            marks,
+            room: 0,
+        })
+    }
+}
+
+/// Returns how many counts a mark has.
+fn mark_len(feeders: u32) -> usize
+    ensures { result ≡ mark_len feeders }
+{
+    if feeders > 1 { feeders as usize } else { 0 }
+}
+
+/// Appends counts below 2^32 to the marks, into room that is already there.
+fn push_mark(marks: &mut Vec<u32>, counts: &[u64])
+    requires room { vec_len marks.old + length counts.now ≤ vec_capacity marks.old }
+    requires small { All (λ count. count < 2 ^ 32) counts.now }
+    ensures items { marks.new.items ≡ marks.old.items ++ counts.now }
+    ensures capacity { vec_capacity marks.new ≡ vec_capacity marks.old }
+{
+    'counts: for f in 0..counts.len() {
+        marks.push_reserved(counts[f] as u32);
+    }
+}

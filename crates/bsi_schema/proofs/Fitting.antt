@@ -1,0 +1,50 @@
+-- A row fits where it has as many entries as there are columns, and each column takes its entry.
+use Rattle.std.proofs.Common.{◌≡◌, ℕ, ◌<◌, zero, suc, Bool, true, false, ◌&&◌, List, [], ◌∷◌, length, Option, ℤ, refl, sym, ap, ap₂, ◌∙◌, true≢false, arith}
+use Rattle.bsi_schema.specs.Columns.{column_at, fits, is_taken_by, NamedColumn}
+use Rattle.bsi_schema.specs.Columns.{entry_at}
+
+-- both are true
+both : (a b : Bool) → a && b ≡ true → (a ≡ true) × (b ≡ true)
+both true true e = (refl, refl)
+both true false e = (refl, e)
+both false b e = absurd (true≢false (sym e))
+
+pub fits-length : (columns : List NamedColumn) (row : List (Option ℤ)) → fits columns row ≡ true → length row ≡ length columns
+fits-length [] [] e = refl
+fits-length [] (entry ∷ row) e = absurd (true≢false (sym e))
+fits-length (column ∷ columns) [] e = absurd (true≢false (sym e))
+fits-length (column ∷ columns) (entry ∷ row) e =
+    let rest = fits-length columns row (both (is_taken_by column entry) (fits columns row) e).1 in ap suc rest
+
+pub fits-at : (columns : List NamedColumn) (row : List (Option ℤ)) (c : ℕ) → fits columns row ≡ true → c < length columns
+    → is_taken_by (column_at columns c) (entry_at row c) ≡ true
+fits-at [] row c e within = absurd (omega arith)
+fits-at (column ∷ columns) [] c e within = absurd (true≢false (sym e))
+fits-at (column ∷ columns) (entry ∷ row) zero e within = (both (is_taken_by column entry) (fits columns row) e).0
+fits-at (column ∷ columns) (entry ∷ row) (suc c) e within =
+    fits-at columns row c (both (is_taken_by column entry) (fits columns row) e).1 (omega arith)
+
+pub fits-each : (columns : List NamedColumn) (row : List (Option ℤ)) → length row ≡ length columns
+    → ((c : ℕ) → c < length columns → is_taken_by (column_at columns c) (entry_at row c) ≡ true) → fits columns row ≡ true
+fits-each [] [] long each = refl
+fits-each [] (entry ∷ row) long each = absurd (omega arith)
+fits-each (column ∷ columns) [] long each = absurd (omega arith)
+fits-each (column ∷ columns) (entry ∷ row) long each =
+    ap₂ (λ a b. a && b) (each 0 (omega arith)) (fits-each columns row (omega arith) (λ c within. each (suc c) (omega arith)))
+
+-- a row of another length does not fit
+pub misfit-length : (columns : List NamedColumn) (row : List (Option ℤ)) → (length row ≡ length columns → ⊥) → false ≡ fits columns row
+misfit-length columns row other = by (fits columns row) (fits-length columns row)
+  where
+    by : (b : Bool) → (b ≡ true → length row ≡ length columns) → false ≡ b
+    by true long = absurd (other (long refl))
+    by false long = refl
+
+-- nor one of which a column does not take its entry
+pub misfit-at : (columns : List NamedColumn) (row : List (Option ℤ)) (c : ℕ) → c < length columns
+    → is_taken_by (column_at columns c) (entry_at row c) ≡ false → false ≡ fits columns row
+misfit-at columns row c within refused = by (fits columns row) (λ e. fits-at columns row c e within)
+  where
+    by : (b : Bool) → (b ≡ true → is_taken_by (column_at columns c) (entry_at row c) ≡ true) → false ≡ b
+    by true taken = absurd (true≢false (sym (taken refl) ∙ refused))
+    by false taken = refl

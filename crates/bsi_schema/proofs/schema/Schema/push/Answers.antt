@@ -1,0 +1,29 @@
+use Rattle.std.proofs.Common.{◌||◌, length, map, IsTrue, subst, sym, ap, arith, ◌∙◌}
+use Rattle.std.proofs.lemmas.List.Elements.{All-push}
+use Rattle.std.proofs.lemmas.List.{length-append}
+use Rattle.bsi_schema.specs.Columns.{named, position_of, with_column, IsColumn, IsSchema, NamedColumn}
+use Rattle.bsi_schema.specs.Names.{is_name}
+use Rattle.bsi_schema.proofs.Naming.{named-insert}
+use Rattle.bsi_schema.proofs.schema.Schema.push.Goals as goal
+
+-- the name is no column's, so the columns are those of before and this one
+pub invariant_of-self-2 : goal.invariant_of-self-2
+invariant_of-self-2 c =
+    let before = c.self.inside.columns in
+    let fresh = ap (λ s. position_of s.columns c.args.name.now) c.self.view_is ∙ c.requires.fresh in
+    let columns = ap (λ es. map named es) c.in_ok-insert.ensures.entries ∙ named-insert before c.in_ok-key.key c.args.kind c.args.name.now c.in_ok-key.ensures.ok fresh in
+    let column : NamedColumn = record { name = c.args.name.now; form = c.args.kind.form; offset = c.args.kind.offset } in
+    let valid : IsColumn column = record { form = c.requires.form; below = c.requires.below } in
+    subst IsSchema (sym columns) (record {
+      few = omega (arith, length-append {A = NamedColumn}, c.requires.few, ap (λ s. length s.columns) c.self.view_is);
+      named = All-push (λ c. IsTrue (is_name c.name)) (map named before.entries) column c.self.invariant.named c.requires.name;
+      each = All-push IsColumn (map named before.entries) column c.self.invariant.each valid;
+    })
+
+pub returns-clause-ok : goal.returns-clause-ok
+returns-clause-ok c =
+    let before = c.self.inside.columns in
+    let fresh = ap (λ s. position_of s.columns c.args.name.now) c.self.view_is ∙ c.requires.fresh in
+    let columns = ap (λ es. map named es) c.in_ok-insert.ensures.entries ∙ named-insert before c.in_ok-key.key c.args.kind c.args.name.now c.in_ok-key.ensures.ok fresh in
+    ap (λ cs. record { columns = cs; signed = c.self.inside.signed || c.args.signed }) columns
+    ∙ ap (λ s. with_column s (record { name = c.args.name.now; form = c.args.kind.form; offset = c.args.kind.offset }) c.args.signed) c.self.view_is

@@ -1,0 +1,99 @@
+-- The columns that a schema declares, and the rows that fit them.
+use Rattle.std.specs.Prelude.{ℕ, ◌^◌, ◌≤◌, Bool, true, false, ◌&&◌, ◌||◌, List, [], ◌∷◌, ◌++◌, length, position, All, Option, Some, None, reverse, slice_index_or, String, string_bytes, ℤ, pos, ◌+ℤ◌, ◌≤ℤ◌, int_le, int_lt, IsTrue}
+use Rattle.std.specs.Str.{bytes_eq}
+use Rattle.bsi_digits.specs.Digits.{size_of, IsBaseList}
+use Rattle.bsi_schema.specs.Names.{is_name}
+use Rattle.bsi_schema.specs.declared.form.ColumnSpec.{ColumnSpec}
+use Rattle.bsi_schema.specs.declared.form.ColumnSpec.TheVariants.{Slices as spec_slices, Equality as spec_equality, Range as spec_range}
+use Rattle.bsi_schema.specs.declared.form.Form.{Form}
+use Rattle.bsi_schema.specs.declared.form.Form.TheVariants.{Slices, Equality, Range}
+use Rattle.bsi_schema.specs.declared.form.Kind.{Kind}
+
+-- how many numbers a column of this form tells apart
+abbrev pub size_in : Form → ℕ
+size_in (Slices w) = 2 ^ w
+size_in (Equality bs) = size_of bs
+size_in (Range bs) = size_of bs
+
+-- 1 to 63 slices, or a list of bases
+abbrev pub IsForm : Form → Type 0
+IsForm (Slices w) = (1 ≤ w) × (w ≤ 63)
+IsForm (Equality bs) = IsBaseList bs
+IsForm (Range bs) = IsBaseList bs
+
+-- the form that is asked for; its bases stand least significant first
+abbrev pub form_of : ColumnSpec → Form
+form_of (spec_slices w) = Slices w
+form_of (spec_equality bases) = Equality (reverse bases.items)
+form_of (spec_range bases) = Range (reverse bases.items)
+
+-- a column as it was declared: its name, its form and the least number that it takes
+pub record NamedColumn : Type 0 where
+  pub name : List ℕ
+  pub form : Form
+  pub offset : ℤ
+
+abbrev pub named_column : List ℕ → Form → ℤ → NamedColumn
+named_column name form offset = record { name = name; form = form; offset = offset }
+
+-- what a contract sees of a schema: its columns in order, and whether one was declared with an offset
+pub record Declared : Type 0 where
+  pub columns : List NamedColumn
+  pub signed : Bool
+
+abbrev pub no_columns : Declared
+no_columns = record { columns = []; signed = false }
+
+-- one more column stands last
+abbrev pub with_column : Declared → NamedColumn → Bool → Declared
+with_column schema column signed = record { columns = schema.columns ++ column ∷ []; signed = schema.signed || signed }
+
+-- what a list of columns has past its end
+abbrev pub no_column : NamedColumn
+no_column = named_column [] (Slices 0) (pos 0)
+
+abbrev pub column_at : List NamedColumn → ℕ → NamedColumn
+column_at columns c = slice_index_or columns c no_column
+
+-- the column of this name
+abbrev pub position_of : List NamedColumn → List ℕ → Option ℕ
+position_of columns name = position (λ column. bytes_eq name column.name) columns
+
+-- the form may be had, and each number of the column is below 2^63
+pub record IsColumn (column : NamedColumn) : Type 0 where
+  pub form : IsForm column.form
+  pub below : (column.offset +ℤ pos (size_in column.form)) ≤ℤ pos (2 ^ 63)
+
+-- each has a name that columns may have
+abbrev pub AreNamed : List NamedColumn → Type 0
+AreNamed columns = All (λ column. IsTrue (is_name column.name)) columns
+
+-- the schemas that can be had
+pub record IsSchema (columns : List NamedColumn) : Type 0 where
+  pub few : length columns ≤ 64
+  pub named : AreNamed columns
+  pub each : All IsColumn columns
+
+-- the entry of a map of names, as a column
+abbrev pub named : {Z : Type 0} → String Z × Kind → NamedColumn
+named entry = named_column (string_bytes entry.0) entry.1.form entry.1.offset
+
+-- the entries of a row, one for each column
+abbrev pub Entries : Type 0
+Entries = List (Option ℤ)
+
+-- the entry of column c
+abbrev pub entry_at : Entries → ℕ → Option ℤ
+entry_at row c = slice_index_or row c None
+
+-- a null, or a number from the offset up, as many as the column tells apart
+abbrev pub is_taken_by : NamedColumn → Option ℤ → Bool
+is_taken_by column None = true
+is_taken_by column (Some x) = int_le column.offset x && int_lt x (column.offset +ℤ pos (size_in column.form))
+
+-- a row fits: it has one entry for each column, and the column takes it
+abbrev pub fits : List NamedColumn → List (Option ℤ) → Bool
+fits [] [] = true
+fits [] (entry ∷ row) = false
+fits (column ∷ columns) [] = false
+fits (column ∷ columns) (entry ∷ row) = is_taken_by column entry && fits columns row

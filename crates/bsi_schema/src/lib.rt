@@ -1,0 +1,14 @@
+//! What a schema is, and which rows fit it: named columns, each with its form and the least number that it takes.
+#![tactic(auto)]
+
+mod form;
+mod name;
+mod row;
+mod schema;
+mod schema_error;
+
+pub use form::{ColumnSpec, Form, MAX_SLICES};
+pub use row::Row;
+pub use schema::Schema;
+pub use schema_error::SchemaError;
+pub use std::alloc::AllocError as NoMemory;

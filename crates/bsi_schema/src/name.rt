@@ -1,0 +1,60 @@
+//! The texts that are names of columns.
+
+ghost use Rattle.std.specs.Prelude.{◌≡◌};
+ghost use Rattle.std.specs.List.{list_all};
+ghost use Rattle.bsi_schema.specs.Names.{begins_lower, is_name, is_name_byte, is_word};
+
+/// The most bytes of a name.
+const MAX_NAME: usize = 32;
+
+/// Returns whether the text is a name. A name has at most 32 bytes: first a lower-case letter, then lower-case letters,
+/// digits or `_`. The words that predicates are written with are no names.
+pub fn test_name(text: &[u8]) -> bool
+    ensures { result ≡ is_name text.now }
+{
+    if !test_first(text) {
+        return false;
+    }
+    if text.len() > MAX_NAME {
+        return false;
+    }
+    if !test_name_bytes(text) {
+        return false;
+    }
+    !test_word(text)
+}
+
+/// Returns whether the first byte is a lower-case letter.
+fn test_first(text: &[u8]) -> bool
+    ensures { result ≡ begins_lower text.now }
+{
+    match text {
+        [] => false,
+        [first, ..] => first.is_ascii_lowercase(),
+    }
+}
+
+/// Returns whether each byte may stand in a name.
+fn test_name_bytes(text: &[u8]) -> bool
+    ensures { result ≡ list_all is_name_byte text.now }
+{
+    text.iter().all(|byte| test_name_byte(*byte))
+}
+
+/// Returns whether the byte is a lower-case letter, a digit or `_`.
+fn test_name_byte(byte: u8) -> bool
+    ensures { result ≡ is_name_byte byte }
+{
+    byte.is_ascii_lowercase() || byte.is_ascii_digit() || byte == b'_'
+}
+
+/// Returns whether the text is one of the words that predicates are written with.
+fn test_word(text: &[u8]) -> bool
+    ensures { result ≡ is_word text.now }
+{
+    text == b"all".as_slice()
+        || text == b"null".as_slice()
+        || text == b"and".as_slice()
+        || text == b"or".as_slice()
+        || text == b"not".as_slice()
+}

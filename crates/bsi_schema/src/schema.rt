@@ -1,0 +1,252 @@
+//! The columns of a table: their names in order of declaration, their forms and offsets.
+
+ghost use Rattle.std.specs.Prelude.{◌≡◌, ◌<◌, ◌≤◌, ◌^◌, ◌++◌, ◌∷◌, [], Some, None, true, false, length, is_some, pos, ◌+ℤ◌, ◌≤ℤ◌, IfOk, IfErr, OnOk, OnErr, IsTrue, Ok};
+ghost use Rattle.std.specs.Result.{result_err};
+ghost use Rattle.bsi_schema.specs.Columns.{column_at, fits, form_of, is_taken_by, named_column, no_columns, position_of, size_in, with_column, AreNamed, IsColumn, IsForm};
+ghost use Rattle.bsi_schema.specs.Names.{is_name};
+ghost use Rattle.bsi_schema.specs.Refusals.{column_refusal, name_refusal, signed_refusal, IsFirstOr};
+
+use crate::form::{ColumnSpec, Form, Kind};
+use crate::name::test_name;
+use crate::{NoMemory, Row, SchemaError};
+use indexmap::IndexMap;
+use std::alloc::Global;
+use std::marker::Model;
+use std::str::from_utf8;
+
+/// The most columns of a schema.
+const MAX_COLUMNS: usize = 64;
+
+/// The most that the offset and the size of a column add up to.
+const MAX_END: i128 = 1 << 63;
+
+/// A list of at most 64 named columns, in order of declaration.
+#[derive(Drop)]
+pub struct Schema {
+    columns: IndexMap<String, Kind>,
+    signed: bool,
+}
+
+// Clauses see the list of columns, and whether one was declared with an offset.
+impl Model for Schema {
+    ghost use Rattle.std.specs.Prelude.{map};
+    ghost use Rattle.bsi_schema.specs.Columns.{named, Declared, IsSchema};
+
+    ghost Value = { Declared };
+
+    ghost view = { λ s. record { columns = map named s.columns.entries; signed = s.signed } };
+
+    ghost invariant = { λ s. IsSchema (map named s.columns.entries) };
+}
+
+impl Schema {
+    /// Makes a schema of no columns. It allocates no memory until a column is added.
+    pub fn new(alloc: Global) -> Schema
+        ensures { result ≡ no_columns }
+    {
+        Schema {
+            columns: IndexMap::new(alloc),
+            signed: false,
+        }
+    }
+
+    /// Returns the number of columns, at most 64.
+    pub fn columns(&self) -> u32
+        ensures columns { result ≡ length self.now.columns }
+        ensures within { result ≤ 64 }
+        ensures named { AreNamed self.now.columns }
+    {
+        self.columns.len() as u32
+    }
+
+    /// Returns whether some column was added with an offset.
+    pub fn signed(&self) -> bool
+        ensures { result ≡ self.now.signed }
+    {
+        self.signed
+    }
+
+    /// Returns the place of the column of this name, or none if there is no such column.
+    pub fn position(&self, name: &str) -> Option<u32>
+        ensures { result ≡ position_of self.now.columns name.now }
+    {
+        match self.columns.get_index_of(name) {
+            None => None,
+            Some(place) => Some(place as u32),
+        }
+    }
+
+    /// Returns the place of the column whose name has these bytes, or none if there is no such column.
+    pub fn find(&self, name: &[u8]) -> Option<u32>
+        ensures { result ≡ position_of self.now.columns name.now }
+    {
+        // Reading a field makes the schema's invariant known to the proof.
+        let _ = &self.columns;
+        match from_utf8(name) {
+            Ok(name) => self.position(name),
+            Err(_) => None,
+        }
+    }
+
+    /// Returns the name of column `c`.
+    pub fn name(&self, c: u32) -> &str
+        requires { c < length self.now.columns }
+        ensures { result.now ≡ (column_at self.now.columns c).name }
+    {
+        let (name, _) = self.columns.get_index(c as usize).unwrap();
+        name.as_str()
+    }
+
+    /// Returns the form of column `c`.
+    pub fn form(&self, c: u32) -> &Form
+        requires { c < length self.now.columns }
+        ensures form { result.now ≡ (column_at self.now.columns c).form }
+        ensures valid { IsForm result.now }
+    {
+        let (_, kind) = self.columns.get_index(c as usize).unwrap();
+        &kind.form
+    }
+
+    /// Returns how many numbers column `c` tells apart, at most 2^63.
+    pub fn size(&self, c: u32) -> u64
+        requires { c < length self.now.columns }
+        ensures size { result ≡ size_in (column_at self.now.columns c).form }
+        ensures within { result ≤ 2 ^ 63 }
+    {
+        self.form(c).size()
+    }
+
+    /// Returns the least number that column `c` takes.
+    pub fn offset(&self, c: u32) -> i64
+        requires { c < length self.now.columns }
+        ensures offset { result ≡ (column_at self.now.columns c).offset }
+        ensures below { (result +ℤ pos (size_in (column_at self.now.columns c).form)) ≤ℤ pos
+            (2 ^ 63) }
+    {
+        let (_, declared) = self.columns.get_index(c as usize).unwrap();
+        declared.offset
+    }
+
+    /// Returns whether a row has one entry for each column, each a null or a number that its column takes.
+    pub fn fits(&self, row: &Row) -> bool
+        ensures { result ≡ fits self.now.columns row.now }
+    {
+        let values = row.values();
+        if values.len() != self.columns.len() {
+            return false;
+        }
+        'columns: for c in 0..self.columns() {
+            if !self.takes(c, values[c as usize]) {
+                return false;
+            }
+        }
+        true
+    }
+
+    /// Returns whether column `c` takes an entry.
+    fn takes(&self, c: u32, entry: Option<i128>) -> bool
+        requires { c < length self.now.columns }
+        ensures { result ≡ is_taken_by (column_at self.now.columns c) entry }
+    {
+        let Some(number) = entry else {
+            return true;
+        };
+        let least = i128::from(self.offset(c));
+        if number < least {
+            return false;
+        }
+        number < least + i128::from(self.size(c))
+    }
+
+    /// Adds a column of numbers from 0 up, behind the others. If it is refused, the column is dropped and the schema
+    /// stays.
+    pub fn add(&mut self, name: &str, spec: ColumnSpec) -> Result<(), SchemaError>
+        ensures added { OnOk result (self.new
+            ≡ with_column self.old (named_column name.now (form_of spec) (pos 0)) false) }
+        ensures taken { OnOk result (column_refusal self.old name.now spec ≡ None) }
+        ensures refused { IfErr result
+            (IsFirstOr SchemaError.NoMemory (column_refusal self.old name.now spec)) }
+        ensures kept { OnErr result (self.new ≡ self.old) }
+    {
+        let form = self.checked(name, spec)?;
+        self.push(name, Kind { form, offset: 0 }, false)?;
+        Ok(())
+    }
+
+    /// Adds a column of numbers from `offset` up, behind the others. If it is refused, the column is dropped and the
+    /// schema stays.
+    pub fn add_signed(
+        &mut self,
+        name: &str,
+        spec: ColumnSpec,
+        offset: i64,
+    ) -> Result<(), SchemaError>
+        ensures added { OnOk result (self.new
+            ≡ with_column self.old (named_column name.now (form_of spec) offset) true) }
+        ensures taken { OnOk result (signed_refusal self.old name.now spec offset ≡ None) }
+        ensures refused { IfErr result
+            (IsFirstOr SchemaError.NoMemory (signed_refusal self.old name.now spec offset)) }
+        ensures kept { OnErr result (self.new ≡ self.old) }
+    {
+        let form = self.checked(name, spec)?;
+        if i128::from(offset) + i128::from(form.size()) > MAX_END {
+            return Err(SchemaError::BadOffset);
+        }
+        self.push(name, Kind { form, offset }, true)?;
+        Ok(())
+    }
+
+    /// Returns the form of a column that may be added under this name, or the refusal of the name or of the form.
+    fn checked(&self, name: &str, spec: ColumnSpec) -> Result<Form, SchemaError>
+        ensures refused { result_err result ≡ column_refusal self.now name.now spec }
+        ensures free { OnOk result (name_refusal self.now name.now ≡ None) }
+        ensures form { IfOk result (λ form. form ≡ form_of spec) }
+        ensures valid { IfOk result IsForm }
+    {
+        self.check_name(name)?;
+        Ok(Form::of(spec)?)
+    }
+
+    /// Refuses a name that is bad or taken, or a column past the 64th.
+    fn check_name(&self, name: &str) -> Result<(), SchemaError>
+        ensures { result_err result ≡ name_refusal self.now name.now }
+    {
+        if !test_name(name.as_bytes()) {
+            return Err(SchemaError::BadName);
+        }
+        if self.position(name).is_some() {
+            return Err(SchemaError::NameTaken);
+        }
+        if self.columns.len() >= MAX_COLUMNS {
+            return Err(SchemaError::TooManyColumns);
+        }
+        Ok(())
+    }
+
+    /// Adds a column behind the others, under a name that is not taken.
+    fn push(&mut self, name: &str, kind: Kind, signed: bool) -> Result<(), NoMemory>
+        requires fresh { position_of self.old.columns name.now ≡ None }
+        requires name { IsTrue (is_name name.now) }
+        requires few { length self.old.columns < 64 }
+        requires form { IsForm kind.form }
+        requires below { (kind.offset +ℤ pos (size_in kind.form)) ≤ℤ pos (2 ^ 63) }
+        ensures ok { OnOk result (self.new
+            ≡ with_column self.old (named_column name.now kind.form kind.offset) signed) }
+        ensures err { OnErr result (self.new ≡ self.old) }
+    {
+        let key = String::from_str(*self.columns.allocator(), name)?;
+        self.columns.insert(key, kind)?;
+        self.signed |= signed;
+        Ok(())
+    }
+
+    /// Makes a second schema of the same columns.
+    pub fn copy(&self) -> Result<Schema, NoMemory>
+        ensures { IfOk result (λ schema. schema ≡ self.now) }
+    {
+        Ok(Schema {
+            columns: self.columns.clone()?,
+            signed: self.signed,
+        })
+    }
+}

@@ -1,9 +1,0 @@
-use Rattle.std.proofs.Common.{◌≡◌, length}
-use Rattle.bsi_table.specs.Origins.{AreCounts}
-use Rattle.bsi_table.proofs.numbering.count_rows.Given as goal
-
-abbrev pub invariant-rows : goal.invariant-rows
-invariant-rows l = record {
-  long : length l.counts ≡ 64;
-  counted : AreCounts l.origins.feeders l.origins.rows l.r l.counts;
-}
