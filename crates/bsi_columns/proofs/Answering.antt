@@ -11,8 +11,8 @@ use Rattle.std.proofs.lemmas.Simd.{zip2_of_maps}
 use Rattle.bsi_digits.specs.Digits.{size_of, weight, digit_of, IsBaseList}
 use Rattle.bsi_digits.proofs.CallerLemmas.{low_le, low_eq, low_all}
 use Rattle.bsi_bits.proofs.Pairs.{zip2-map_right}
-use Rattle.bsi_columns.specs.declared.decomposed.compare.Relation.{Relation}
-use Rattle.bsi_columns.specs.declared.decomposed.compare.Relation.TheVariants.{Equal, AtMost}
+use Rattle.bsi_columns.specs.declared.decomposed.decision.DigitRelation.{DigitRelation}
+use Rattle.bsi_columns.specs.declared.decomposed.decision.DigitRelation.TheVariants.{Equal, AtMost}
 use Rattle.bsi_components.specs.Component.{at_most_from}
 use Rattle.bsi_columns.specs.Rows.{number_or_zero}
 use Rattle.bsi_columns.specs.Tests.{holds, holds_from, as_wanted, answers}
@@ -80,7 +80,7 @@ module _ (found : List Bool) (ds : List ℕ) (d : ℕ) where
 both_turned : (a b : Bool) → (a && b) ≡ (b && a)
 both_turned a b = grind (arith, nat_tests)
 
-pub holds_more : {bs : List ℕ} → IsBaseList bs → (relation : Relation) (u v i : ℕ) → i < length bs →
+pub holds_more : {bs : List ℕ} → IsBaseList bs → (relation : DigitRelation) (u v i : ℕ) → i < length bs →
     holds relation (u % weight bs (i + 1)) (v % weight bs (i + 1))
     ≡ holds_from relation (holds relation (u % weight bs i) (v % weight bs i)) (digit_of bs u i) (digit_of bs v i)
 holds_more {bs} valid Equal u v i h =
@@ -154,18 +154,18 @@ pub IfOk-same_bits : {X E : Type 0} (r : Result X E) (bits : X → List Bool) (x
 IfOk-same_bits r bits xs ys same ok = IfOk-weaker r (λ b. bits b ≡ xs) (λ b. bits b ≡ ys) (λ b h. h ∙ same) ok
 
 -- the parts of two numbers below the first component are nothing, so their lowest digits decide
-pub nothing_below : (relation : Relation) → holds relation 0 0 ≡ true
+pub nothing_below : (relation : DigitRelation) → holds relation 0 0 ≡ true
 nothing_below Equal = refl
 nothing_below AtMost = refl
 
 lt_or_eq : (d e : ℕ) → at_most_from true d e ≡ nat_le d e
 lt_or_eq d e = grind (arith, nat_tests)
 
-first_from : (relation : Relation) (d e : ℕ) → holds_from relation true d e ≡ holds relation d e
+first_from : (relation : DigitRelation) (d e : ℕ) → holds_from relation true d e ≡ holds relation d e
 first_from Equal d e = refl
 first_from AtMost d e = lt_or_eq d e
 
-pub holds_first : {bs : List ℕ} → IsBaseList bs → (relation : Relation) (u v : ℕ) →
+pub holds_first : {bs : List ℕ} → IsBaseList bs → (relation : DigitRelation) (u v : ℕ) →
     holds relation (digit_of bs u 0) (digit_of bs v 0) ≡ holds relation (u % weight bs 1) (v % weight bs 1)
 holds_first {bs} valid relation u v =
     let none : (n : ℕ) → n % 1 ≡ 0 = λ n. omega arith in
@@ -173,7 +173,7 @@ holds_first {bs} valid relation u v =
     ∙ ap (λ low. holds_from relation low (digit_of bs u 0) (digit_of bs v 0)) (ap₂ (holds relation) (none u) (none v) ∙ nothing_below relation)
     ∙ first_from relation (digit_of bs u 0) (digit_of bs v 0))
 
-module _ {bs : List ℕ} (valid : IsBaseList bs) (relation : Relation) (n : ℕ) (es : List (Option ℕ)) where
+module _ {bs : List ℕ} (valid : IsBaseList bs) (relation : DigitRelation) (n : ℕ) (es : List (Option ℕ)) where
   -- what the digits below component i say of each row
   abbrev pub low_answers : ℕ → List Bool
   low_answers i = map (λ e. holds relation (number_or_zero e % weight bs i) (n % weight bs i)) es

@@ -11,21 +11,21 @@ use Rattle.bsi_bits.specs.Packed.{bit_of}
 use Rattle.bsi_bits.proofs.Logic.{and_not_bitwise}
 use Rattle.bsi_digits.specs.Digits.{size_of, weight, digit_of, IsBaseList}
 use Rattle.bsi_digits.proofs.CallerLemmas.{low_all}
-use Rattle.bsi_columns.specs.declared.decomposed.compare.Relation.{Relation}
+use Rattle.bsi_columns.specs.declared.decomposed.decision.DigitRelation.{DigitRelation}
 use Rattle.bsi_columns.specs.Rows.{number_or_zero}
 use Rattle.bsi_columns.specs.Tests.{holds, holds_from, as_wanted, answers}
 use Rattle.bsi_columns.proofs.WordBlocks.{zipped_bit}
 use Rattle.bsi_columns.proofs.Answering.{holds_more, nothing_below, cut_answer}
 
 -- each bit says whether the digits below component i pass the test; below the first there are none, whatever the bits are
-pub record IsNarrowed (bs : List ℕ) (relation : Relation) (n : ℕ) (es : List (Option ℕ)) (at i : ℕ) (block : List ℕ) : Type 0 where
+pub record IsNarrowed (bs : List ℕ) (relation : DigitRelation) (n : ℕ) (es : List (Option ℕ)) (at i : ℕ) (block : List ℕ) : Type 0 where
   pub bits : (p : ℕ) → p < 64 * length block → 64 * at + p < length es
       → (nat_eq i 0 || bit_of block p) ≡ holds relation (number_or_zero (get_or es (64 * at + p) None) % weight bs i) (n % weight bs i)
 
 behind_first : (i : ℕ) (b : Bool) → 0 < i → (nat_eq i 0 || b) ≡ b
 behind_first i b some = grind (arith, nat_tests)
 
-module _ {bs : List ℕ} (valid : IsBaseList bs) (relation : Relation) (n : ℕ) (es : List (Option ℕ)) (at : ℕ) where
+module _ {bs : List ℕ} (valid : IsBaseList bs) (relation : DigitRelation) (n : ℕ) (es : List (Option ℕ)) (at : ℕ) where
   pub narrowed_start : (block : List ℕ) → IsNarrowed bs relation n es at 0 block
   narrowed_start block =
       let none : (x : ℕ) → 0 ≡ x % 1 = λ x. omega arith in

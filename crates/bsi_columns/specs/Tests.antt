@@ -1,17 +1,17 @@
 -- The two tests that the digits of a number decide, from the least significant up.
 use Rattle.std.specs.Prelude.{ℕ, Bool, true, false, ◌&&◌, ◌<◌, not, Option, Some, None, nat_eq, nat_le, if◌then◌else◌}
-use Rattle.bsi_columns.specs.declared.decomposed.compare.Relation.{Relation}
-use Rattle.bsi_columns.specs.declared.decomposed.compare.Relation.TheVariants.{Equal, AtMost}
-use Rattle.bsi_columns.specs.declared.decomposed.compare.Decision.{Decision}
-use Rattle.bsi_columns.specs.declared.decomposed.compare.Decision.TheVariants.{Nothing, Everything, Tested}
+use Rattle.bsi_columns.specs.declared.decomposed.decision.DigitRelation.{DigitRelation}
+use Rattle.bsi_columns.specs.declared.decomposed.decision.DigitRelation.TheVariants.{Equal, AtMost}
+use Rattle.bsi_columns.specs.declared.decomposed.decision.Decision.{Decision}
+use Rattle.bsi_columns.specs.declared.decomposed.decision.Decision.TheVariants.{Nothing, Everything, Tested}
 use Rattle.bsi_components.specs.Component.{at_most_from}
 
-abbrev pub holds : Relation → ℕ → ℕ → Bool
+abbrev pub holds : DigitRelation → ℕ → ℕ → Bool
 holds Equal x n = nat_eq x n
 holds AtMost x n = nat_le x n
 
 -- the test of a number by its digit and the constant's, where `low` is that of the digits below
-abbrev pub holds_from : Relation → Bool → ℕ → ℕ → Bool
+abbrev pub holds_from : DigitRelation → Bool → ℕ → ℕ → Bool
 holds_from Equal low digit constant = low && nat_eq digit constant
 holds_from AtMost low digit constant = at_most_from low digit constant
 

@@ -9,7 +9,7 @@ use bsi_bits::Bits;
 
 /// Finds the digit of the row of a rank, counted from 0 among the chosen rows in order of their digits. It leaves
 /// chosen those rows that have this digit.
-pub fn choose<E: Encoding>(
+pub fn choose_digit<E: Encoding>(
     component: &E,
     rank: u64,
     scratch: &mut Bits,

@@ -14,6 +14,7 @@ use std::alloc::Global;
 use std::marker::Model;
 
 mod compare;
+mod decision;
 mod ends;
 mod totals;
 mod vectors;

@@ -9,23 +9,23 @@ const MAX_NAME: usize = 32;
 
 /// Returns whether the text is a name. A name has at most 32 bytes: first a lower-case letter, then lower-case letters,
 /// digits or `_`. The words that predicates are written with are no names.
-pub fn test_name(text: &[u8]) -> bool
+pub fn is_valid_name(text: &[u8]) -> bool
     ensures { result ≡ is_name text.now }
 {
-    if !test_first(text) {
+    if !begins_lowercase(text) {
         return false;
     }
     if text.len() > MAX_NAME {
         return false;
     }
-    if !test_name_bytes(text) {
+    if !has_valid_bytes(text) {
         return false;
     }
-    !test_word(text)
+    !is_predicate_word(text)
 }
 
 /// Returns whether the first byte is a lower-case letter.
-fn test_first(text: &[u8]) -> bool
+fn begins_lowercase(text: &[u8]) -> bool
     ensures { result ≡ begins_lower text.now }
 {
     match text {
@@ -35,21 +35,21 @@ fn test_first(text: &[u8]) -> bool
 }
 
 /// Returns whether each byte may stand in a name.
-fn test_name_bytes(text: &[u8]) -> bool
+fn has_valid_bytes(text: &[u8]) -> bool
     ensures { result ≡ list_all is_name_byte text.now }
 {
-    text.iter().all(|byte| test_name_byte(*byte))
+    text.iter().all(|byte| is_valid_byte(*byte))
 }
 
 /// Returns whether the byte is a lower-case letter, a digit or `_`.
-fn test_name_byte(byte: u8) -> bool
+fn is_valid_byte(byte: u8) -> bool
     ensures { result ≡ is_name_byte byte }
 {
     byte.is_ascii_lowercase() || byte.is_ascii_digit() || byte == b'_'
 }
 
 /// Returns whether the text is one of the words that predicates are written with.
-fn test_word(text: &[u8]) -> bool
+fn is_predicate_word(text: &[u8]) -> bool
     ensures { result ≡ is_word text.now }
 {
     text == b"all".as_slice()

@@ -7,7 +7,7 @@ ghost use Rattle.bsi_schema.specs.Names.{is_name};
 ghost use Rattle.bsi_schema.specs.Refusals.{column_refusal, name_refusal, signed_refusal, IsFirstOr};
 
 use crate::form::{ColumnSpec, Form, Kind};
-use crate::name::test_name;
+use crate::name::is_valid_name;
 use crate::{NoMemory, Row, SchemaError};
 use indexmap::IndexMap;
 use std::alloc::Global;
@@ -70,10 +70,7 @@ impl Schema {
     pub fn position(&self, name: &str) -> Option<u32>
         ensures { result ≡ position_of self.now.columns name.now }
     {
-        match self.columns.get_index_of(name) {
-            None => None,
-            Some(place) => Some(place as u32),
-        }
+        Some(self.columns.get_index_of(name)? as u32)
     }
 
     /// Returns the place of the column whose name has these bytes, or none if there is no such column.
@@ -211,7 +208,7 @@ impl Schema {
     fn check_name(&self, name: &str) -> Result<(), SchemaError>
         ensures { result_err result ≡ name_refusal self.now name.now }
     {
-        if !test_name(name.as_bytes()) {
+        if !is_valid_name(name.as_bytes()) {
             return Err(SchemaError::BadName);
         }
         if self.position(name).is_some() {

@@ -3,12 +3,12 @@
 ghost use Rattle.std.specs.Prelude.{◌≡◌, ℕ, ℤ, pos, neg_ℤ, ◌+ℤ◌, ◌*ℤ◌, ◌≤ℤ◌, ◌<ℤ◌, ◌+◌, ◌*◌, ◌/◌, ◌&&◌, ◌<◌, ◌≤◌, ◌^◌, [], ◌∷◌, ◌++◌, All, length, map, None, slice_index_or, is_none, is_some, nat_lt, IsOk, IfOk, IfSome, OnOk, OnErr};
 ghost use Rattle.std.specs.Option.{option_map};
 ghost use Rattle.bsi_bits.specs.Packed.{bit_of};
-ghost use Rattle.bsi_columns.specs.AnyRows.{any_entries, any_size, any_bases, IsSameForm};
+ghost use Rattle.bsi_columns.specs.AnyRows.{any_entries, any_size};
 ghost use Rattle.bsi_slices.specs.Orders.{values_at, compares_by};
 ghost use Rattle.bsi_slices.specs.Ranks.{IsOfRank};
 ghost use Rattle.bsi_slices.specs.Rows.{number_order};
 ghost use Rattle.bsi_slices.specs.Totals.{numbers_at};
-ghost use Rattle.bsi_shift.specs.Shifted.{OffsetColumn, shifted_entries, shifted_size, shifted_room, number_of, IsInRange};
+ghost use Rattle.bsi_shift.specs.Shifted.{OffsetColumn, shifted_entries, shifted_size, shifted_room, number_of, IsAlike, IsInRange};
 ghost use Rattle.bsi_shift.specs.WholeNumbers.{whole_order, signed_selects, signed_sum, IsSignedLeastOf, IsSignedGreatestOf, IsSignedMedianOf, IsSignedOfRank};
 
 use crate::NoMemory;
@@ -98,10 +98,7 @@ impl Shifted {
     pub fn reserve(&mut self, more: u64) -> Result<(), NoMemory>
         requires { length (shifted_entries self.old) + more ≤ 2 ^ 32 }
         ensures entries { shifted_entries self.new ≡ shifted_entries self.old }
-        ensures offset { self.new.offset ≡ self.old.offset }
-        ensures size { shifted_size self.new ≡ shifted_size self.old }
-        ensures bases { any_bases self.new.stored ≡ any_bases self.old.stored }
-        ensures form { IsSameForm self.new.stored self.old.stored }
+        ensures alike { IsAlike self.old self.new }
         ensures ok { OnOk result (more ≤ shifted_room self.new) }
         ensures kept { shifted_room self.old ≤ shifted_room self.new }
         ensures err { OnErr result (shifted_room self.new < more) }
@@ -121,10 +118,7 @@ impl Shifted {
     pub fn reserve_one(&mut self) -> Result<(), NoMemory>
         requires { length (shifted_entries self.old) < 2 ^ 32 }
         ensures entries { shifted_entries self.new ≡ shifted_entries self.old }
-        ensures offset { self.new.offset ≡ self.old.offset }
-        ensures size { shifted_size self.new ≡ shifted_size self.old }
-        ensures bases { any_bases self.new.stored ≡ any_bases self.old.stored }
-        ensures form { IsSameForm self.new.stored self.old.stored }
+        ensures alike { IsAlike self.old self.new }
         ensures ok { OnOk result (0 < shifted_room self.new) }
         ensures kept { shifted_room self.old ≤ shifted_room self.new }
         ensures err { OnErr result (shifted_room self.new ≡ shifted_room self.old) }
@@ -139,10 +133,7 @@ impl Shifted {
         requires room { 0 < shifted_room self.old }
         requires range { IsInRange self.old.offset (shifted_size self.old) entry }
         ensures entries { shifted_entries self.new ≡ shifted_entries self.old ++ entry ∷ [] }
-        ensures offset { self.new.offset ≡ self.old.offset }
-        ensures size { shifted_size self.new ≡ shifted_size self.old }
-        ensures bases { any_bases self.new.stored ≡ any_bases self.old.stored }
-        ensures form { IsSameForm self.new.stored self.old.stored }
+        ensures alike { IsAlike self.old self.new }
         ensures room { shifted_room self.old ≤ shifted_room self.new + 1 }
     {
         let stored = stored_from(self.offset, entry);
@@ -156,10 +147,7 @@ impl Shifted {
         requires room { length block.now ≤ shifted_room self.old }
         requires range { All (IsInRange self.old.offset (shifted_size self.old)) block.now }
         ensures entries { shifted_entries self.new ≡ shifted_entries self.old ++ block.now }
-        ensures offset { self.new.offset ≡ self.old.offset }
-        ensures size { shifted_size self.new ≡ shifted_size self.old }
-        ensures bases { any_bases self.new.stored ≡ any_bases self.old.stored }
-        ensures form { IsSameForm self.new.stored self.old.stored }
+        ensures alike { IsAlike self.old self.new }
         ensures room { shifted_room self.old ≤ shifted_room self.new + length block.now }
     {
         let mut stored = [None; 64];
@@ -278,10 +266,7 @@ impl Shifted {
     /// Makes a second column of the same entries, in the same form.
     pub fn copy(&self) -> Result<Shifted, NoMemory>
         ensures entries { IfOk result (λ c. shifted_entries c ≡ shifted_entries self.now) }
-        ensures offset { IfOk result (λ c. c.offset ≡ self.now.offset) }
-        ensures size { IfOk result (λ c. shifted_size c ≡ shifted_size self.now) }
-        ensures bases { IfOk result (λ c. any_bases c.stored ≡ any_bases self.now.stored) }
-        ensures form { IfOk result (λ c. IsSameForm c.stored self.now.stored) }
+        ensures alike { IfOk result (IsAlike self.now) }
     {
         Ok(Shifted {
             stored: self.stored.copy()?,

@@ -82,23 +82,23 @@ module _ (column : NamedColumn) (old : OffsetColumn) (n : ℕ) (keeps : Keeps co
   -- the same entries
   pub keeps_same : (new : OffsetColumn) → IsSameColumn old new → Keeps column new n
   keeps_same new same = record {
-    form = same_form column.form old.stored new.stored keeps.form same.form;
-    offset = same.offset ∙ keeps.offset;
+    form = same_form column.form old.stored new.stored keeps.form same.alike.form;
+    offset = same.alike.offset ∙ keeps.offset;
     rows = ap length same.entries ∙ keeps.rows;
     low = keeps.low;
     high = keeps.high;
-    range = in_range_of new same.form same.offset (shifted_entries old) same.entries keeps.range;
+    range = in_range_of new same.alike.form same.alike.offset (shifted_entries old) same.entries keeps.range;
   }
 
   -- more entries
   pub keeps_more : (new : OffsetColumn) (added : Entries) → All (IsInRange old.offset (shifted_size old)) added → HasMore old new added → Keeps column new (n + length added)
   keeps_more new added taken more = record {
-    form = same_form column.form old.stored new.stored keeps.form more.form;
-    offset = more.offset ∙ keeps.offset;
+    form = same_form column.form old.stored new.stored keeps.form more.alike.form;
+    offset = more.alike.offset ∙ keeps.offset;
     rows = ap length more.entries ∙ omega (arith, length-append (shifted_entries old) added, keeps.rows);
     low = keeps.low;
     high = keeps.high;
-    range = in_range_of new more.form more.offset (shifted_entries old ++ added) more.entries
+    range = in_range_of new more.alike.form more.alike.offset (shifted_entries old ++ added) more.entries
         (All-append (IsInRange old.offset (shifted_size old)) (shifted_entries old) added keeps.range taken);
   }
 

@@ -3,8 +3,7 @@ use Rattle.std.specs.Prelude.{◌≡◌, ℕ, ◌^◌, ◌<◌, ◌≤◌, List,
 use Rattle.std.specs.List.{range_with_len}
 use Rattle.bsi_columns.specs.declared.any.AnyColumn.{AnyColumn}
 use Rattle.bsi_columns.specs.declared.any.AnyColumn.TheVariants.{Slices as kept_slices, Equality as kept_equality, Range as kept_range}
-use Rattle.bsi_columns.specs.AnyRows.{IsSameForm}
-use Rattle.bsi_shift.specs.Shifted.{shifted_entries, shifted_room, shifted_size, IsInRange, OffsetColumn}
+use Rattle.bsi_shift.specs.Shifted.{shifted_entries, shifted_room, shifted_size, IsAlike, IsInRange, OffsetColumn}
 use Rattle.bsi_schema.specs.declared.form.Form.{Form}
 use Rattle.bsi_schema.specs.declared.form.Form.TheVariants.{Slices, Equality, Range}
 use Rattle.bsi_schema.specs.Columns.{column_at, fits, size_in, Declared, NamedColumn}
@@ -91,14 +90,12 @@ pub record IsTable (columns : List NamedColumn) (feeders limit : ℕ) (sources :
 -- a column has the entries, the offset and the form of another
 pub record IsSameColumn (old new : OffsetColumn) : Type 0 where
   pub entries : shifted_entries new ≡ shifted_entries old
-  pub offset : new.offset ≡ old.offset
-  pub form : IsSameForm new.stored old.stored
+  pub alike : IsAlike old new
 
 -- a column is another one with these entries behind its own
 pub record HasMore (old new : OffsetColumn) (added : Entries) : Type 0 where
   pub entries : shifted_entries new ≡ shifted_entries old ++ added
-  pub offset : new.offset ≡ old.offset
-  pub form : IsSameForm new.stored old.stored
+  pub alike : IsAlike old new
 
 -- a column is another one with one more entry
 abbrev pub HasOneMore : OffsetColumn → OffsetColumn → Option ℤ → Type 0

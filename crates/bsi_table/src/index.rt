@@ -10,8 +10,8 @@ ghost use Rattle.bsi_table.specs.Rows.{column_of, feeders_of};
 ghost use Rattle.bsi_table.specs.Table.{kept_at, no_rows, with_row, with_rows, AreFitting, AreFrom, AreInRange, AreNarrow, AreSameColumns, HaveMore, HaveOneMore, HaveRoom, IsInForm, Takes};
 
 use crate::columns::{copy_each, make_each, push_block_each, push_each, reserve_each};
-use crate::select::{count_selected, select};
-use crate::totals::answer;
+use crate::found::{count_selected, find_rows};
+use crate::totals::answer_total;
 use crate::{Answer, AppendError, AskError, IndexError, NoMemory, Query, Row, Schema, Total};
 use bsi_origins::Origins;
 use bsi_shift::Shifted;
@@ -158,8 +158,8 @@ impl Index {
         if let Total::Count = query.total {
             return Ok(Answer::Count(count_selected(alloc, columns, rows, &query.pred)?));
         }
-        let found = select(alloc, columns, rows, &query.pred)?;
-        answer(alloc, columns, &self.origins, &found, query)
+        let found = find_rows(alloc, columns, rows, &query.pred)?;
+        answer_total(alloc, columns, &self.origins, &found, query)
     }
 
     /// Lends column `c`: the entries of all rows there, in the form and with the offset that the schema gives.

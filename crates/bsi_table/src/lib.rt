@@ -3,9 +3,9 @@
 
 mod columns;
 mod errors;
+mod found;
 mod index;
 mod query;
-mod select;
 mod totals;
 
 pub use bsi_columns::Op;

@@ -13,7 +13,7 @@ use std::alloc::Global;
 
 /// Returns the answer to a query whose predicate selects the found rows. The column that it reads is there. A count and
 /// a sum allocate no memory.
-pub(crate) fn answer(
+pub(crate) fn answer_total(
     alloc: Global,
     columns: &[Shifted],
     origins: &Origins,

@@ -1,95 +1,28 @@
 //! The evaluator of comparisons with a constant, digit by digit: Chan and Ioannidis' RangeEval-Opt.
 //!
-//! Each comes down to `=` or `<=`: `A < v` is `A <= v - 1`, and `A > v` and `A >= v` are complements. A constant that
-//! leaves nothing to ask is decided before any digit is read. What is found is cut with the not-null bitmap, so that a
-//! complement selects no null.
+//! It reads digits only for a constant that leaves something to ask. What is found is cut with the not-null bitmap, so
+//! that a complement selects no null.
 
 ghost use Rattle.std.specs.Prelude.{◌≡◌, ℕ, ◌+◌, ◌*◌, ◌/◌, ◌^◌, ◌≤◌, ◌<◌, ◌&&◌, ◌||◌, Bool, List, [], None, true, false, length, map, is_some, slice_index, slice_index_or, IfOk, IfSome, OnErr, OnOk};
 ghost use Rattle.std.specs.Bool.{OnTrue};
 ghost use Rattle.std.specs.Simd.Lanes.{zip2};
 ghost use Rattle.bsi_bits.specs.Packed.{bit_of};
 ghost use Rattle.bsi_digits.specs.Digits.{size_of};
-ghost use Rattle.bsi_columns.specs.Rows.{compares, number_or_zero, selects};
-ghost use Rattle.bsi_columns.specs.Tests.{answers, as_wanted, decides, holds, holds_from, IsBelowSize};
-ghost use Rattle.bsi_columns.specs.declared.decomposed.compare.Decision.TheVariants.{Tested};
+ghost use Rattle.bsi_columns.specs.Rows.{number_or_zero, selects};
+ghost use Rattle.bsi_columns.specs.Tests.{answers, as_wanted, holds, holds_from};
 
 use crate::decomposed::Decomposed;
+use crate::decomposed::decision::{Decision, DigitRelation, DigitTest, decide};
 use crate::{Encoding, NoMemory, Op};
 use bsi_bits::{Bits, know_fits, lanes};
 use bsi_components::blocks::{keep_in, turn};
 
-/// The words of a block, which stays in the first cache while each component narrows it.
+/// The most words of a block, which stays in the first cache while each component narrows it.
 const BLOCK: usize = 1024;
 
 /// The words of a part of a block, which a component narrows by all the bitmaps that it reads before it goes on to the
 /// next, so that it reads them side by side.
 const PART: usize = 64;
-
-/// The most words of a block that is narrowed in place.
-const SHORT_BLOCK: usize = 1024;
-
-/// A comparison that the digits decide.
-#[derive(Clone, Copy)]
-pub enum Relation {
-    /// `=`
-    Equal,
-    /// `<=`
-    AtMost,
-}
-
-/// A comparison with a constant, and whether the numbers are wanted that pass it or those that fail it.
-#[derive(Clone, Copy)]
-pub struct Test {
-    pub relation: Relation,
-    pub constant: u64,
-    pub wanted: bool,
-}
-
-/// How a comparison with a constant is decided for the numbers below a size.
-#[derive(Clone, Copy)]
-pub enum Decision {
-    /// None of them compares so.
-    Nothing,
-    /// Each of them does.
-    Everything,
-    /// Those do that pass a test, or fail it, whose constant is below the size.
-    Tested(Test),
-}
-
-/// Decides a comparison for the numbers below a size.
-fn decide(op: Op, constant: u64, size: u64) -> Decision
-    ensures decided { (x : ℕ) → x < size → decides result x ≡ compares op x constant }
-    ensures below { IsBelowSize result size }
-{
-    if constant >= size {
-        return match op {
-            Op::Eq | Op::Gt | Op::Ge => Decision::Nothing,
-            Op::Ne | Op::Lt | Op::Le => Decision::Everything,
-        };
-    }
-    match op {
-        Op::Eq => tested(Relation::Equal, constant, true),
-        Op::Ne => tested(Relation::Equal, constant, false),
-        Op::Le => tested(Relation::AtMost, constant, true),
-        Op::Gt => tested(Relation::AtMost, constant, false),
-        Op::Lt if constant == 0 => Decision::Nothing,
-        Op::Ge if constant == 0 => Decision::Everything,
-        Op::Lt => tested(Relation::AtMost, constant - 1, true),
-        Op::Ge => tested(Relation::AtMost, constant - 1, false),
-    }
-}
-
-/// Returns the decision for the numbers that pass a test or, if they are not wanted, for those that fail it.
-fn tested(relation: Relation, constant: u64, wanted: bool) -> Decision
-    ensures { result ≡ Tested
-        (record { relation = relation; constant = constant; wanted = wanted }) }
-{
-    Decision::Tested(Test {
-        relation,
-        constant,
-        wanted,
-    })
-}
 
 impl<E: Encoding> Decomposed<E> {
     /// Returns the rows whose number satisfies the comparison `op` with `constant`. It reads no component if the answer is known
@@ -138,7 +71,7 @@ impl<E: Encoding> Decomposed<E> {
     }
 
     /// Keeps in a block the rows whose number passes a test with a constant that is below the size.
-    fn keep_tested(&self, test: Test, at: usize, block: &mut [u64]) -> Result<(), NoMemory>
+    fn keep_tested(&self, test: DigitTest, at: usize, block: &mut [u64]) -> Result<(), NoMemory>
         requires below { test.constant < size_of self.now.bases }
         requires few { length block.old ≤ 1024 }
         requires within { at + length block.old ≤ (length self.now.entries + 63) / 64 }
@@ -148,7 +81,7 @@ impl<E: Encoding> Decomposed<E> {
             ≡ (bit_of block.old p && answers (λ x. holds test.relation x test.constant) test.wanted
             (slice_index_or self.now.entries (64 * at + p) None))) }
     {
-        let mut buffer = [0; SHORT_BLOCK];
+        let mut buffer = [0; BLOCK];
         let found = &mut buffer[..block.len()];
         if self.find_block(test, at, found) {
             keep_wanted(found, test.wanted, block);
@@ -160,7 +93,7 @@ impl<E: Encoding> Decomposed<E> {
     }
 
     /// Returns the rows whose number passes a test with a constant that is below the size.
-    fn select(&self, test: Test) -> Result<Bits, NoMemory>
+    fn select(&self, test: DigitTest) -> Result<Bits, NoMemory>
         requires { test.constant < size_of self.now.bases }
         ensures { IfOk result (λ b. b.bits
             ≡ map (answers (λ x. holds test.relation x test.constant) test.wanted)
@@ -176,7 +109,7 @@ impl<E: Encoding> Decomposed<E> {
     }
 
     /// Returns the words of those rows, or `None` if a component works on whole vectors alone.
-    fn select_words(&self, test: Test) -> Result<Option<Vec<u64>>, NoMemory>
+    fn select_words(&self, test: DigitTest) -> Result<Option<Vec<u64>>, NoMemory>
         requires { test.constant < size_of self.now.bases }
         ensures few { IfOk result (λ o. IfSome o (λ words. length words.items
             ≡ (length self.now.entries + 63) / 64)) }
@@ -195,7 +128,12 @@ impl<E: Encoding> Decomposed<E> {
     }
 
     /// Appends the words of those rows to none, block by block; `false` where a component works on whole vectors alone.
-    fn select_blocks(&self, test: Test, len: usize, words: &mut Vec<u64>) -> Result<bool, NoMemory>
+    fn select_blocks(
+        &self,
+        test: DigitTest,
+        len: usize,
+        words: &mut Vec<u64>,
+    ) -> Result<bool, NoMemory>
         requires below { test.constant < size_of self.now.bases }
         requires len { len ≡ (length self.now.entries + 63) / 64 }
         requires empty { words.old.items ≡ [] }
@@ -218,7 +156,7 @@ impl<E: Encoding> Decomposed<E> {
     }
 
     /// Writes a block of the words, which stand for the rows from `64 * at` on.
-    fn select_block(&self, test: Test, at: usize, block: &mut [u64]) -> bool
+    fn select_block(&self, test: DigitTest, at: usize, block: &mut [u64]) -> bool
         requires below { test.constant < size_of self.now.bases }
         requires within { at + length block.old ≤ (length self.now.entries + 63) / 64 }
         ensures { OnTrue result ((p : ℕ) → p < 64 * length block.old →
@@ -237,7 +175,7 @@ impl<E: Encoding> Decomposed<E> {
     }
 
     /// Writes in a block the rows whose number, as its digits weigh it, passes the test.
-    fn find_block(&self, test: Test, at: usize, block: &mut [u64]) -> bool
+    fn find_block(&self, test: DigitTest, at: usize, block: &mut [u64]) -> bool
         requires below { test.constant < size_of self.now.bases }
         requires within { at + length block.old ≤ (length self.now.entries + 63) / 64 }
         ensures { OnTrue result ((p : ℕ) → p < 64 * length block.old →
@@ -281,7 +219,7 @@ fn keep_wanted(found: &[u64], wanted: bool, block: &mut [u64])
 /// has. Returns `false` where the component works on whole vectors alone.
 fn narrow_digit<E: Encoding>(
     component: &E,
-    relation: Relation,
+    relation: DigitRelation,
     digit: u32,
     is_lowest: bool,
     at: usize,
@@ -316,7 +254,7 @@ fn know_rows<E: Encoding>(component: &E)
 /// Takes one digit more into the test of a part.
 fn narrow_part<E: Encoding>(
     component: &E,
-    relation: Relation,
+    relation: DigitRelation,
     digit: u32,
     is_lowest: bool,
     at: usize,
@@ -330,9 +268,9 @@ fn narrow_part<E: Encoding>(
         (slice_index (E.digits component.now) (64 * at + p)) digit) }
 {
     match relation {
-        Relation::Equal if is_lowest => component.eq_block_into(digit, at, block),
-        Relation::Equal => component.eq_block(digit, at, block),
-        Relation::AtMost if is_lowest => component.le_block_into(digit, at, block),
-        Relation::AtMost => component.le_block(digit, at, block),
+        DigitRelation::Equal if is_lowest => component.eq_block_into(digit, at, block),
+        DigitRelation::Equal => component.eq_block(digit, at, block),
+        DigitRelation::AtMost if is_lowest => component.le_block_into(digit, at, block),
+        DigitRelation::AtMost => component.le_block(digit, at, block),
     }
 }

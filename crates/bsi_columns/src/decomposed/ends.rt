@@ -17,7 +17,7 @@ use bsi_components::blocks::{keep_in, meets};
 use bsi_slices::End;
 
 /// The number of words in a block.
-const BLOCK: usize = 16;
+const BLOCK: usize = 32;
 
 impl<E: Encoding> Decomposed<E> {
     /// Returns the number at an end of those at the rows of a found set, or `Some(None)` if there is no number. It

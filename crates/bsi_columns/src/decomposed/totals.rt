@@ -4,7 +4,7 @@
 ghost use Rattle.std.specs.Prelude.{◌≡◌, ℕ, ◌^◌, ◌≤◌, ◌<◌, length, sum, IfOk};
 ghost use Rattle.bsi_columns.specs.Totals.{numbers_at, IsRanked};
 
-use crate::choosing::choose;
+use crate::choosing::choose_digit;
 use crate::decomposed::Decomposed;
 use crate::{Column, Encoding, NoMemory};
 use bsi_bits::Bits;
@@ -41,7 +41,7 @@ impl<E: Encoding> Decomposed<E> {
         let mut i = bases.len();
         'components: while i > 0 {
             i -= 1;
-            let choice = choose(self.component(i), rank, &mut scratch, &mut chosen);
+            let choice = choose_digit(self.component(i), rank, &mut scratch, &mut chosen);
             number = number * u64::from(bases.base(i)) + u64::from(choice.digit);
             rank = choice.rank;
         }

@@ -7,14 +7,14 @@ ghost use Rattle.bsi_columns.specs.Rows.{number_or_zero};
 ghost use Rattle.bsi_columns.specs.Tests.{holds, holds_from, as_wanted, answers};
 
 use crate::decomposed::Decomposed;
-use crate::decomposed::compare::{Relation, Test};
+use crate::decomposed::decision::{DigitRelation, DigitTest};
 use crate::{Encoding, NoMemory};
 use bsi_bits::Bits;
 
 impl<E: Encoding> Decomposed<E> {
     /// Selects the rows whose number passes a test, by whole vectors. It works in the memory of `found` and one further
     /// vector.
-    pub(crate) fn select_vectors(&self, test: Test, mut found: Bits) -> Result<Bits, NoMemory>
+    pub(crate) fn select_vectors(&self, test: DigitTest, mut found: Bits) -> Result<Bits, NoMemory>
         requires below { test.constant < size_of self.now.bases }
         requires same { length self.now.entries ≡ length found.bits }
         ensures { IfOk result (λ b. b.bits
@@ -23,13 +23,13 @@ impl<E: Encoding> Decomposed<E> {
     {
         let mut part = found.copy()?;
         self.narrow_vectors(test, &mut part, &mut found);
-        cut(&mut found, test.wanted, self.present.bits());
+        keep_answers(&mut found, test.wanted, self.present.bits());
         Ok(found)
     }
 
     /// Writes for each row whether its number is in the test's relation to the constant, be that wanted or not. A null
     /// row counts as 0.
-    fn narrow_vectors(&self, test: Test, part: &mut Bits, found: &mut Bits)
+    fn narrow_vectors(&self, test: DigitTest, part: &mut Bits, found: &mut Bits)
         requires below { test.constant < size_of self.now.bases }
         requires same_part { length self.now.entries ≡ length part.old.bits }
         requires same { length self.now.entries ≡ length found.old.bits }
@@ -53,21 +53,21 @@ impl<E: Encoding> Decomposed<E> {
 }
 
 /// Writes for each row whether its least significant digit is in the relation to the constant's digit.
-fn first_into<E: Encoding>(component: &E, relation: Relation, digit: u32, found: &mut Bits)
+fn first_into<E: Encoding>(component: &E, relation: DigitRelation, digit: u32, found: &mut Bits)
     requires below { digit < E.base_of component.now }
     requires same { length (E.digits component.now) ≡ length found.old.bits }
     ensures { found.new.bits ≡ map (λ v. holds relation v digit) (E.digits component.now) }
 {
     match relation {
-        Relation::Equal => component.eq_into(digit, found),
-        Relation::AtMost => component.le_into(digit, found),
+        DigitRelation::Equal => component.eq_into(digit, found),
+        DigitRelation::AtMost => component.le_into(digit, found),
     }
 }
 
 /// Takes one more digit into the test. It makes one call of the component for `=`, and one or two for `<=`.
 fn narrow_into<E: Encoding>(
     component: &E,
-    relation: Relation,
+    relation: DigitRelation,
     digit: u32,
     part: &mut Bits,
     found: &mut Bits,
@@ -80,11 +80,11 @@ fn narrow_into<E: Encoding>(
     ensures part { length part.new.bits ≡ length part.old.bits }
 {
     match relation {
-        Relation::Equal => {
+        DigitRelation::Equal => {
             component.eq_into(digit, part);
             found.and_with(part);
         }
-        Relation::AtMost => {
+        DigitRelation::AtMost => {
             component.le_into(digit, part);
             found.and_with(part);
             if digit > 0 {
@@ -96,7 +96,7 @@ fn narrow_into<E: Encoding>(
 }
 
 /// Keeps the rows that are not null among those that pass a test or, as wanted, among those that fail it.
-fn cut(found: &mut Bits, wanted: bool, present: &Bits)
+fn keep_answers(found: &mut Bits, wanted: bool, present: &Bits)
     requires { length found.old.bits ≡ length present.now.bits }
     ensures { found.new.bits
         ≡ zip2 (λ answer there. as_wanted wanted answer && there) found.old.bits present.now.bits }

@@ -11,12 +11,12 @@ block-preserved g c =
     let entries = c.args.self.now.entries in
     let found = c.args.found.now.bits in
     let len : ℕ = length c.words-len.result.now in
-    let at : ℕ = 16 * c.block.k in
+    let at : ℕ = 32 * c.block.k in
     let rows = c.rows_into.new.block in
     let n : ℕ = length rows in
     let from : min at len ≡ at = omega (arith, c.block-test.true, c.div_ceil-k-end.ensures) in
-    let long : n ≡ min 16 (len - at) = c.rows_into.ensures.len ∙ length-take c.min.result c.block.buffer ∙ omega (arith, c.min.ensures, c.min.array_long) in
-    let to : 64 * at + 64 * n ≡ 64 * min (16 * (c.block.k + 1)) len = omega (arith, long, c.block-test.true, c.div_ceil-k-end.ensures) in
+    let long : n ≡ min 32 (len - at) = c.rows_into.ensures.len ∙ length-take c.min.result c.block.buffer ∙ omega (arith, c.min.ensures, c.min.array_long) in
+    let to : 64 * at + 64 * n ≡ 64 * min (32 * (c.block.k + 1)) len = omega (arith, long, c.block-test.true, c.div_ceil-k-end.ensures) in
     let bits : (p : ℕ) → p < 64 * n → bit_of rows p ≡ has_number found entries (64 * at + p) = λ p below.
     c.rows_into.ensures.bits p (omega (arith, below, c.rows_into.ensures.len))
     ∙ ap (λ bs. get_or found (64 * at + p) false && get_or bs (64 * at + p) false) c.present.ensures ∙ number_row found entries (64 * at + p) in
@@ -29,5 +29,5 @@ block-preserved g c =
 pub returns : goal.returns
 returns g c =
     let len : ℕ = length c.words-len.result.now in
-    end_all c.args.found.now.bits c.args.self.now.entries (64 * min (16 * c.block.k) len) c.requires
+    end_all c.args.found.now.bits c.args.self.now.entries (64 * min (32 * c.block.k) len) c.requires
     (omega (arith, c.block-test.false, c.div_ceil-k-end.ensures, c.words-len.ensures.few)) c.args.end c.block.best c.block.invariant

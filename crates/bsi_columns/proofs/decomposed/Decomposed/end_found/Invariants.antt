@@ -5,4 +5,4 @@ use Rattle.bsi_columns.proofs.decomposed.Decomposed.end_found.Given as goal
 
 -- the best one of the blocks so far
 abbrev pub invariant-block : goal.invariant-block
-invariant-block g l = IsEndUpto l.end l.found.bits l.self.entries (64 * min (16 * l.k) l.len) l.best
+invariant-block g l = IsEndUpto l.end l.found.bits l.self.entries (64 * min (32 * l.k) l.len) l.best

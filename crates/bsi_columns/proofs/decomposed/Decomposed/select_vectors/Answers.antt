@@ -13,5 +13,5 @@ returns g c =
     let entries = entries_of inside.bases present (map g.E.Encoding.digits inside.components.items) in
     let test = λ (x : ℕ). holds c.args.test.relation x c.args.test.constant in
     let found : c.narrow_vectors.new.found.bits ≡ map (λ e. test (number_or_zero e)) entries = rw (← c.self.view_is) at c.narrow_vectors.ensures in
-    rw (← c.self.view_is) (c.cut.ensures ∙ ap (λ b. zip2 (λ answer there. as_wanted c.args.test.wanted answer && there) c.narrow_vectors.new.found.bits b.bits) c.bits.ensures
+    rw (← c.self.view_is) (c.keep_answers.ensures ∙ ap (λ b. zip2 (λ answer there. as_wanted c.args.test.wanted answer && there) c.narrow_vectors.new.found.bits b.bits) c.bits.ensures
     ∙ cut_answers test c.args.test.wanted entries c.narrow_vectors.new.found.bits present found c.self.invariant.0.present_is)

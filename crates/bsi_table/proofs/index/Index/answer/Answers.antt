@@ -34,16 +34,16 @@ returns-in-Count c =
     subst (λ rows. IsTotal c.args.query.now.total pred rows (Count selected)) (ap (λ t. t.rows) c.self.view_is)
     (subst (λ t. IsTotal t pred (fed_rows sources kept) (Count selected)) (sym c.in-Count.is) (ap Count (counted ∙ found)))
 
-pub select-requires-clause-even : goal.select-requires-clause-even
-select-requires-clause-even c =
+pub find_rows-requires-clause-even : goal.find_rows-requires-clause-even
+find_rows-requires-clause-even c =
     let kept = c.self.inside.columns.items in
     let invariant = c.self.invariant.columns_are in
     let rows = sym (length-fed_rows c.self.inside.origins.rows kept) ∙ ap (λ t. length t.rows) c.self.view_is ∙ sym c.len-rows.ensures.len in
     subst (λ columns. (k : ℕ) → k < length columns → length (shifted_entries (kept_at columns k)) ≡ c.len-rows.result) (sym c.deref-columns.ensures.value)
     (λ k within. (invariant.each k (omega (arith, within, invariant.long))).rows ∙ rows)
 
-pub answer-requires-clause-found : goal.answer-requires-clause-found
-answer-requires-clause-found c =
+pub answer_total-requires-clause-found : goal.answer_total-requires-clause-found
+answer_total-requires-clause-found c =
     let pred = c.args.query.now.pred in
     let rows = ap (λ t. length t.rows) (sym c.self.view_is) ∙ length-fed_rows c.self.inside.origins.rows c.self.inside.columns.items in
     c.in_ok-found.ensures

@@ -7,7 +7,7 @@ use Rattle.bsi_bits.proofs.Reading.{length-bits_of}
 use Rattle.bsi_table.specs.Rows.{holds}
 use Rattle.bsi_table.specs.Table.{row_in}
 use Rattle.bsi_table.proofs.Counting.{selected_before, all_selected, counted_more, none_selected}
-use Rattle.bsi_table.proofs.select.count_selected.Goals as goal
+use Rattle.bsi_table.proofs.found.count_selected.Goals as goal
 
 pub blocks-2-init : goal.blocks-2-init
 blocks-2-init c =
@@ -32,18 +32,18 @@ blocks-2-preserved c =
     let pred = c.args.pred.now in
     let n : ℕ = 65536 * c.blocks-2.k in
     let m : ℕ = c.min-rows.result in
-    let words = c.find.new.block in
+    let words = c.find_block.new.block in
     let left : n < c.args.count = omega (arith, c.blocks-2-test.true, c.div_ceil-k-end.ensures) in
     let rows : m ≡ min 65536 (c.args.count - n) = omega (arith, c.min-rows.ensures) in
     let items = c.deref_mut.result.now in
     let cut : length items ≡ (m + 63) / 64 = omega (arith, ap length c.deref_mut.ensures.value, c.truncate.ensures.len, c.div_ceil.ensures, c.blocks-2.invariant.long left, rows) in
-    let size : length words ≡ length items = c.find.auto.block in
+    let size : length words ≡ length items = c.find_block.auto.block in
     let stored : take c.truncate.new.self.len (words ++ drop (length words) c.truncate.new.self.items) ≡ words = written c.truncate.new.self.len words c.truncate.new.self.items (omega (arith, c.deref_mut.ensures.len)) (omega (arith, size)) in
     let bits : c.from_words-found.result.bits ≡ bits_of m words = c.from_words-found.ensures ∙ ap (bits_of m) stored in
     let each : (p : ℕ) → p < m → bit_of words p ≡ holds pred (row_in columns (n + p)) =
     λ p below.
     let place : 64 * (1024 * c.blocks-2.k) + p ≡ n + p = omega arith in
-    c.in_ok-find.ensures.rows p (omega (arith, below, size, cut)) (omega (arith, below, rows)) ∙ ap (λ r. holds pred (row_in columns r)) place in
+    c.in_ok-find_block.ensures.rows p (omega (arith, below, size, cut)) (omega (arith, below, rows)) ∙ ap (λ r. holds pred (row_in columns r)) place in
     let found = c.count-selected.ensures ∙ ap (count_by (λ b. b)) bits in
     let before : min n c.args.count ≡ n = omega (arith, left) in
     let after : n + m ≡ min (65536 * (c.blocks-2.k + 1)) c.args.count = omega (arith, rows, left) in

@@ -22,7 +22,7 @@ const BLOCK_ROWS: u64 = 65_536;
 /// Returns for each of `count` rows whether the predicate holds of it. Each column that it reads is there. It goes over
 /// the rows in blocks of 65,536, each by the whole predicate. It keeps one or two blocks for each `or` and `not` around
 /// the part that it is reading.
-pub(crate) fn select(
+pub(crate) fn find_rows(
     alloc: Global,
     columns: &[Shifted],
     count: u64,
@@ -38,7 +38,7 @@ pub(crate) fn select(
     Ok(Bits::from_words(words, count))
 }
 
-/// Returns how many of `count` rows the predicate selects. It reads columns that are there alone. It goes over the rows as `select`
+/// Returns how many of `count` rows the predicate selects. It reads columns that are there alone. It goes over the rows as `find_rows`
 /// does, but keeps the words of one block in place of a bit for each row.
 pub(crate) fn count_selected(
     alloc: Global,
@@ -58,7 +58,7 @@ pub(crate) fn count_selected(
     'blocks: for k in 0..count.div_ceil(BLOCK_ROWS) {
         let rows = BLOCK_ROWS.min(count - BLOCK_ROWS * k);
         words.truncate(rows.div_ceil(64) as usize);
-        find(
+        find_block(
             columns,
             count,
             pred,
@@ -98,7 +98,7 @@ fn narrow_each(
 }
 
 /// Writes in a block of words the rows of which the predicate holds, as `narrow` keeps them in a block of ones.
-fn find(
+fn find_block(
     columns: &[Shifted],
     count: u64,
     pred: &Pred,

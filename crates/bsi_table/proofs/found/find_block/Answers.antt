@@ -5,7 +5,7 @@ use Rattle.bsi_bits.proofs.Reading.{all_set}
 use Rattle.bsi_columns.proofs.WordBlocks.{replicate_bit}
 use Rattle.bsi_table.specs.Rows.{holds}
 use Rattle.bsi_table.specs.Table.{row_in}
-use Rattle.bsi_table.proofs.select.find.Goals as goal
+use Rattle.bsi_table.proofs.found.find_block.Goals as goal
 
 -- a block of ones has each row
 pub returns-clause-rows : goal.returns-clause-rows

@@ -11,7 +11,7 @@ use Rattle.bsi_table.specs.Table.{row_in}
 use Rattle.bsi_table.proofs.Missing.{none_missing_first, none_missing_second, there}
 use Rattle.bsi_table.proofs.Parts.{parts_of}
 use Rattle.bsi_table.proofs.Selecting.{entry_read, joined_bit, rows_read, saved_before, saved_last, turned_bit}
-use Rattle.bsi_table.proofs.select.+narrow.Goals as goal
+use Rattle.bsi_table.proofs.found.+narrow.Goals as goal
 
 pub returns-in_ok-keep_selected-in-Compare-clause-rows : goal.returns-in_ok-keep_selected-in-Compare-clause-rows
 returns-in_ok-keep_selected-in-Compare-clause-rows t c = λ p below row.

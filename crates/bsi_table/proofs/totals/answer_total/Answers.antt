@@ -7,7 +7,7 @@ use Rattle.bsi_table.specs.Answers.{columns_of_total, missing_of, IsTotal}
 use Rattle.bsi_table.specs.Table.{fed_rows}
 use Rattle.bsi_table.proofs.Missing.{there}
 use Rattle.bsi_table.proofs.TableRows.{count-found, even-found, feeders-fed_rows, length-found, set_places-found, values-found}
-use Rattle.bsi_table.proofs.totals.answer.Goals as goal
+use Rattle.bsi_table.proofs.totals.answer_total.Goals as goal
 
 pub returns-in-Count : goal.returns-in-Count
 returns-in-Count c =

@@ -2,8 +2,8 @@ use Rattle.std.proofs.Common.{ap, ◌∙◌}
 use Rattle.std.specs.Prelude.{not, ◌&&◌}
 use Rattle.std.specs.Simd.Lanes.{zip2}
 use Rattle.bsi_columns.proofs.Answering.{zip2-map_left}
-use Rattle.bsi_columns.proofs.decomposed.vectors.cut.Goals as goal
-use Rattle.bsi_columns.proofs.decomposed.vectors.cut.Goals.{then-not-wanted, else-not-wanted}
+use Rattle.bsi_columns.proofs.decomposed.vectors.keep_answers.Goals as goal
+use Rattle.bsi_columns.proofs.decomposed.vectors.keep_answers.Goals.{then-not-wanted, else-not-wanted}
 
 pub returns : goal.returns
 returns c =

@@ -6,7 +6,7 @@ use Rattle.bsi_bits.proofs.Logic.{written}
 use Rattle.bsi_table.specs.Rows.{holds}
 use Rattle.bsi_table.specs.Table.{row_in}
 use Rattle.bsi_table.proofs.Selecting.{selected_rows}
-use Rattle.bsi_table.proofs.select.select.Goals as goal
+use Rattle.bsi_table.proofs.found.find_rows.Goals as goal
 
 -- of all rows those are kept of which the predicate holds
 pub returns : goal.returns

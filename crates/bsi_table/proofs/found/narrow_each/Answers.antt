@@ -2,7 +2,7 @@ use Rattle.std.proofs.Common.{◌≡◌, ℕ, ◌+◌, ◌*◌, ◌-◌, ◌≤�
 use Rattle.std.specs.Simd.Lanes.{chunk}
 use Rattle.std.proofs.lemmas.Simd.{length-chunk}
 use Rattle.bsi_table.proofs.Selecting.{narrowed_more, narrowed_rest}
-use Rattle.bsi_table.proofs.select.narrow_each.Goals as goal
+use Rattle.bsi_table.proofs.found.narrow_each.Goals as goal
 
 -- one block more
 pub blocks-2-preserved : goal.blocks-2-preserved

@@ -1,7 +1,7 @@
 use Rattle.std.proofs.Common.{ap, arith}
 use Rattle.std.specs.Prelude.{count_by}
 use Rattle.bsi_components.proofs.DigitCounts.{where_at_most}
-use Rattle.bsi_columns.proofs.choosing.choose.Goals as goal
+use Rattle.bsi_columns.proofs.choosing.choose_digit.Goals as goal
 
 -- more rows have at most this digit than the rank, and not more than it have less
 pub returns-clause-there : goal.returns-clause-there

@@ -1,7 +1,7 @@
 use Rattle.std.proofs.Common.{◌≡◌, ◌*◌, ◌<◌, ◌≤◌, length}
 use Rattle.std.specs.Prelude.{min}
 use Rattle.bsi_table.proofs.Counting.{selected_before}
-use Rattle.bsi_table.proofs.select.count_selected.Given as goal
+use Rattle.bsi_table.proofs.found.count_selected.Given as goal
 
 -- the blocks so far are counted, and the words are those of a whole block where one is left
 abbrev pub invariant-blocks-2 : goal.invariant-blocks-2

@@ -3,7 +3,7 @@ use Rattle.std.specs.Prelude.{◌&&◌}
 use Rattle.bsi_bits.specs.Packed.{bit_of}
 use Rattle.bsi_table.specs.Rows.{holds}
 use Rattle.bsi_table.specs.Table.{row_in}
-use Rattle.bsi_table.proofs.select.narrow_each.Given as goal
+use Rattle.bsi_table.proofs.found.narrow_each.Given as goal
 
 -- the blocks so far are narrowed, and the others are as they were
 abbrev pub invariant-blocks-2 : goal.invariant-blocks-2
