@@ -51,6 +51,8 @@ fn number_few(alloc: Global, found: &Bits, origins: &Origins) -> Result<Vec<(u32
 }
 
 /// Numbers the found rows in one pass over all rows.
+// In a caller that has much else to hold, the loop would read its pointers from the stack for each row.
+#[inline(never)]
 fn number_many(alloc: Global, found: &Bits, origins: &Origins) -> Result<Vec<(u32, u64)>, NoMemory>
     requires { length found.now.bits ≡ length origins.now.rows }
     ensures { IfOk result (λ rows. rows.items
