@@ -1,5 +1,5 @@
 mod Adding
-mod Columns
+mod ColumnRecords
 mod Digits
 mod Events
 mod Fields

@@ -1,6 +1,7 @@
 //! Records and lines: from fields to events, rows and setups, and from replies to lines.
 #![tactic(auto)]
 
+mod columns;
 mod lines;
 mod numbers;
 mod predicates;

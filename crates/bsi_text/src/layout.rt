@@ -55,7 +55,7 @@ impl Layout {
             ≡ (if is_header schema.now (fields_of header) then Some
             (record { schema = schema.now; header = fields_of header }) else None)) }
     {
-        if !test_header(schema, &header) {
+        if !is_good_header(schema, &header) {
             return Ok(None);
         }
         let places = places_of(alloc, schema, &header)?;
@@ -154,14 +154,14 @@ fn field(fields: &ByteRecord, place: usize) -> &[u8]
 }
 
 /// Returns whether a header names each column exactly once, and nothing else.
-fn test_header(schema: &Schema, header: &ByteRecord) -> bool
+fn is_good_header(schema: &Schema, header: &ByteRecord) -> bool
     ensures { result ≡ is_header schema.now (fields_of header.now) }
 {
-    test_columns(schema, header) && test_fields(schema, header)
+    names_each_column_once(schema, header) && names_columns_only(schema, header)
 }
 
 /// Returns whether each column is named exactly once.
-fn test_columns(schema: &Schema, header: &ByteRecord) -> bool
+fn names_each_column_once(schema: &Schema, header: &ByteRecord) -> bool
     ensures { result ≡ list_all (is_named_once (fields_of header.now)) schema.now.columns }
 {
     'columns: for c in 0..schema.columns() {
@@ -186,7 +186,7 @@ fn count_named(header: &ByteRecord, name: &[u8]) -> usize
 }
 
 /// Returns whether each field is the name of a column.
-fn test_fields(schema: &Schema, header: &ByteRecord) -> bool
+fn names_columns_only(schema: &Schema, header: &ByteRecord) -> bool
     ensures { result ≡ list_all (is_known schema.now) (fields_of header.now) }
 {
     'fields: for place in 0..header.len() {

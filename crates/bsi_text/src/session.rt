@@ -1,10 +1,10 @@
 //! The state of a script: its setup, and from `begin` on its machine.
 
-ghost use Rattle.std.specs.Prelude.{◌≡◌, ◌++◌, ◌∷◌, [], IfOk, OnOk, if◌then◌else◌};
+ghost use Rattle.std.specs.Prelude.{◌≡◌, ◌++◌, ◌∷◌, [], IfOk, OnOk};
 ghost use Rattle.csv.specs.Records.{fields_of};
 ghost use Rattle.bsi_load.specs.Runs.{shown_after};
 ghost use Rattle.bsi_load.specs.Shown.{IsLawful};
-ghost use Rattle.bsi_records.specs.Lines.{bad_line, done_line};
+ghost use Rattle.bsi_records.specs.Lines.{done_line};
 ghost use Rattle.bsi_text.specs.Scripts.{IsTurn, Running};
 
 use crate::NoMemory;
@@ -27,7 +27,7 @@ impl Session {
     ghost use Rattle.csv.specs.Records.{fields_of};
     ghost use Rattle.bsi_records.specs.Setups.{nothing_declared};
     ghost use Rattle.bsi_text.specs.Scripts.{Declaring, IsTurn};
-    ghost use Rattle.bsi_text.specs.Sessions.{stage_of, IsSetUp};
+    ghost use Rattle.bsi_text.specs.Sessions.{stage_of};
 
     /// Makes a script of which no record has been read.
     pub(crate) fn new(alloc: Global) -> Session
@@ -50,42 +50,28 @@ impl Session {
         line.clear();
         match self {
             Session::Running(core) => run(alloc, core, fields, line),
-            Session::Declaring(_) => {
-                let done = self.set_up(alloc, fields)?;
-                write_word(done, line)
-            }
-        }
-    }
-
-    /// Carries out a record of the setup, and returns whether it did.
-    fn set_up(&mut self, alloc: Global, fields: &ByteRecord) -> Result<bool, NoMemory>
-        ensures { IfOk result (λ done. IsSetUp (stage_of self.old) (fields_of fields.now) done
-            (stage_of self.new)) }
-    {
-        let Session::Declaring(setup) = self else {
-            return Ok(false);
-        };
-        if !is_begin(fields) {
-            return setup.declare(alloc, fields);
-        }
-        match setup.begin(alloc)? {
-            None => Ok(false),
-            Some(core) => {
+            Session::Declaring(setup) if is_begin(fields) => {
+                let Some(core) = setup.begin(alloc)? else {
+                    return write_bad(line);
+                };
                 *self = Session::Running(core);
-                Ok(true)
+                write_done(line)
+            }
+            Session::Declaring(setup) => {
+                if setup.declare(alloc, fields)? {
+                    write_done(line)
+                } else {
+                    write_bad(line)
+                }
             }
         }
     }
 }
 
-/// Writes the line that answers a record of the setup.
-fn write_word(done: bool, line: &mut Vec<u8>) -> Result<(), NoMemory>
-    ensures { OnOk result (line.new.items
-        ≡ line.old.items ++ (if done then done_line else bad_line)) }
+/// Writes the line that answers a record of the setup that was carried out.
+fn write_done(line: &mut Vec<u8>) -> Result<(), NoMemory>
+    ensures { OnOk result (line.new.items ≡ line.old.items ++ done_line) }
 {
-    if !done {
-        return write_bad(line);
-    }
     line.extend_from_slice(b"ok\n")
 }
 

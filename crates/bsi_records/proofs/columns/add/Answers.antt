@@ -5,7 +5,7 @@ use Rattle.bsi_table.specs.Refusals.{column_refusal, signed_refusal, IsFirstOr}
 use Rattle.bsi_schema.specs.declared.schema_error.SchemaError.TheVariants.{NoMemory}
 use Rattle.bsi_records.specs.Setups.{added_after, IsChange}
 use Rattle.bsi_records.proofs.Adding.{added, added_signed, kept_by, refused, refused_signed, told}
-use Rattle.bsi_records.proofs.setups.add.Goals as goal
+use Rattle.bsi_records.proofs.columns.add.Goals as goal
 
 -- from 0 up
 pub returns-in-None-clause-done : goal.returns-in-None-clause-done

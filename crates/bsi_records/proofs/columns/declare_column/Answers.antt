@@ -3,8 +3,8 @@ use Rattle.std.proofs.lemmas.Result.{IfOk-weaker}
 use Rattle.csv.specs.Records.{fields_of}
 use Rattle.bsi_records.specs.Setups.{added_after, column_after, form_had, form_in, given_offset, IsChange}
 use Rattle.bsi_records.proofs.Adding.{not_done}
-use Rattle.bsi_records.proofs.Columns.{column_is, formless, too_few, unnamed, unplaced}
-use Rattle.bsi_records.proofs.setups.declare_column.Goals as goal
+use Rattle.bsi_records.proofs.ColumnRecords.{column_is, formless, too_few, unnamed, unplaced}
+use Rattle.bsi_records.proofs.columns.declare_column.Goals as goal
 
 -- fewer than four fields
 pub returns-then-len-lt4-clause-done : goal.returns-then-len-lt4-clause-done

@@ -2,9 +2,9 @@ use Rattle.std.proofs.Common.{◌≡◌, None, Some, option_map, sym, ◌∙◌,
 use Rattle.std.proofs.lemmas.Int.{to_z-of_z}
 use Rattle.csv.specs.Records.{field_at, fields_of}
 use Rattle.bsi_records.specs.Setups.{given_offset}
-use Rattle.bsi_records.proofs.Columns.{many_given}
+use Rattle.bsi_records.proofs.ColumnRecords.{many_given}
 use Rattle.bsi_records.proofs.Fields.{last_field, no_field}
-use Rattle.bsi_records.proofs.setups.read_given_offset.Goals as goal
+use Rattle.bsi_records.proofs.columns.read_given_offset.Goals as goal
 
 -- nothing
 pub returns-in_default : goal.returns-in_default
