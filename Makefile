@@ -22,7 +22,7 @@ test:
 	@tools/gate
 
 mutants:
-	@tools/mutants
+	@tools/wrong-bodies --mutants
 
 promises:
 	@tools/promises

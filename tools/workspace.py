@@ -98,14 +98,14 @@ def crates():
     return [line.partition(":")[0].split()[0] for line in lines if line]
 
 
-def crates_at_work():
-    """Returns the names of the crates in whose folder the kit's prover runs now, in the order of crates.txt."""
+def crates_at_work(top=TOP):
+    """Returns the names of the crates in whose folder below the top the kit's prover runs now, in the order of crates.txt."""
     folders = set()
     for process in (name for name in os.listdir("/proc") if name.isdigit()):
         with contextlib.suppress(OSError):
             if os.path.basename(os.readlink(f"/proc/{process}/exe")) == "rattle":
                 folders.add(os.readlink(f"/proc/{process}/cwd"))
-    return [name for name in crates() if os.path.join(TOP, "crates", name) in folders]
+    return [name for name in crates() if os.path.join(top, "crates", name) in folders]
 
 
 def source_files():

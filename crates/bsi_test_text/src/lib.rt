@@ -1,4 +1,4 @@
-//! Tests of the calls on texts, of row files, of readers and writers that fail, and of the command line. No crate uses it.
+//! Tests of the calls on texts, of row files, and of readers and writers that fail. No crate uses it.
 #![tactic(auto)]
 
 #[cfg(test)]
@@ -9,7 +9,5 @@ mod ends;
 mod records;
 #[cfg(test)]
 mod row_files;
-#[cfg(test)]
-mod shell;
 #[cfg(test)]
 mod threads;

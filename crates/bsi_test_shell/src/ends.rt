@@ -1,6 +1,5 @@
 //! How a command line ends, and how often its output is flushed.
 
-use crate::ends::{BrokenReader, buffer};
 use bsi_shell::run_words;
 use std::alloc::{AllocError, Global};
 use std::io;
@@ -9,6 +8,27 @@ use std::rt::Files;
 use std::sync::Wait;
 use std::test::Fail;
 use std::thread::Threads;
+
+// Gives a byte of the text a call. Behind the text it fails, or ends.
+#[derive(Drop)]
+struct TextReader<'a> {
+    text: &'a [u8],
+    fails: bool,
+}
+
+impl<'a> Read for TextReader<'a> {
+    fn read(&mut self, buf: &mut [u8]) -> io::Result<usize> {
+        match (self.text.split_first(), buf.first_mut()) {
+            (Some((byte, rest)), Some(place)) => {
+                *place = *byte;
+                self.text = rest;
+                Ok(1)
+            }
+            _ if self.fails => Err(io::Error::from(io::ErrorKind::BrokenPipe)),
+            _ => Ok(0),
+        }
+    }
+}
 
 // Takes a byte a call until it has `room` no more; then it fails once, or takes nothing once. It counts its flushes.
 #[derive(Drop)]
@@ -78,20 +98,18 @@ fn end_once<R: AllocGlobal + Files<File = S> + Threads + Wait + Sync, S: Read + 
 ) -> Result<Ended, AllocError> {
     let words = words_of(rt.alloc(), line.words)?;
     let mut output = NarrowWriter {
-        taken: buffer(rt.alloc())?,
+        taken: Vec::with_capacity(rt.alloc(), 4096)?,
         room: line.room,
         fails: line.fails,
         flushes: 0,
     };
-    let mut faults = buffer(rt.alloc())?;
-    let text = line.text.as_bytes();
-    let status = if line.is_broken {
-        run_words(rt, words, BrokenReader { text }, &mut output, &mut faults)
-    } else {
-        run_words(rt, words, text, &mut output, &mut faults)
+    let mut faults = Vec::with_capacity(rt.alloc(), 4096)?;
+    let reader = TextReader {
+        text: line.text.as_bytes(),
+        fails: line.is_broken,
     };
     Ok(Ended {
-        status,
+        status: run_words(rt, words, reader, &mut output, &mut faults),
         flushes: output.flushes,
         output: output.taken,
         faults,

@@ -1,0 +1,5 @@
+//! Tests of the command line. No crate uses it.
+#![tactic(auto)]
+
+#[cfg(test)]
+mod ends;
