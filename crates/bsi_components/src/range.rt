@@ -288,6 +288,19 @@ impl Encoding for RangeComponent {
         true
     }
 
+    // It is the provided body, under a clause that says that it is always done.
+    fn eq_block_into(&self, d: u32, at: usize, block: &mut [u64]) -> bool
+        requires below { d < self.now.base }
+        requires within { at + length block.old ≤ (length self.now.digits + 63) / 64 }
+        ensures done { IsTrue result }
+        ensures bits { OnTrue result ((p : ℕ) → p < 64 * length block.old →
+            64 * at + p < length self.now.digits →
+            bit_of block.new p ≡ (slice_index self.now.digits (64 * at + p) == d)) }
+    {
+        block.fill(u64::MAX);
+        self.eq_block(d, at, block)
+    }
+
     // It reads one bitmap, where `le_block` may read two.
     fn le_block_into(&self, d: u32, at: usize, block: &mut [u64]) -> bool
         requires below { d < self.now.base }
