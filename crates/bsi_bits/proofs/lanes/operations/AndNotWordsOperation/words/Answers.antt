@@ -1,7 +1,7 @@
 use Rattle.std.proofs.Common.{bit_and}
 use Rattle.std.specs.Int.{bit_not, w64}
 use Rattle.bsi_bits.proofs.Pairs.{zip2-map_right}
-use Rattle.bsi_bits.proofs.lanes.AndNotWordsOperation.words.Goals as goal
+use Rattle.bsi_bits.proofs.lanes.operations.AndNotWordsOperation.words.Goals as goal
 
 -- the complement of the second word is taken first
 pub returns : goal.returns
