@@ -1,6 +1,6 @@
 //! What a component is to a column: a list of digits below its base.
 
-ghost use Rattle.std.specs.Prelude.{◌≡◌, ℕ, ◌+◌, ◌*◌, ◌/◌, ◌^◌, ◌≤◌, ◌<◌, ◌==◌, ◌&&◌, Bool, true, List, [], ◌∷◌, ◌++◌, length, map, sum, count_by, slice_index, nat_lt, nat_le, IsTrue, IfOk, OnOk, OnErr, IsOk};
+ghost use Rattle.std.specs.Prelude.{◌≡◌, ℕ, ◌+◌, ◌*◌, ◌/◌, ◌^◌, ◌≤◌, ◌<◌, ◌==◌, ◌&&◌, true, List, [], ◌∷◌, ◌++◌, length, map, sum, count_by, slice_index, nat_lt, nat_le, IfOk, OnOk, OnErr, IsOk};
 ghost use Rattle.std.specs.List.{items_where_true};
 ghost use Rattle.std.specs.Bool.{OnTrue, OnFalse};
 ghost use Rattle.std.specs.Simd.Lanes.{zip2};
@@ -9,26 +9,9 @@ ghost use Rattle.bsi_components.specs.Component.{at_most_from, count_where};
 ghost use Rattle.bsi_components.specs.EndDigits.{HasRow, AnswersLeast, AnswersGreatest};
 
 use crate::NoMemory;
+use crate::answers::{EndDigit, RankedDigit};
 use bsi_bits::Bits;
 use std::alloc::Global;
-
-/// A digit, and a rank, from 0, among the rows that have it.
-#[derive(Clone, Copy, Debug, PartialEq, Eq)]
-pub struct RankedDigit {
-    pub digit: u32,
-    pub rank: u64,
-}
-
-/// What a component answers of the least or the greatest digit of some rows.
-#[derive(Clone, Copy, Debug, PartialEq, Eq)]
-pub enum EndDigit {
-    /// Nothing, since the encoding works on whole vectors alone.
-    Unanswered,
-    /// That each of the rows has a digit past the limit.
-    Past,
-    /// The digit, which is within the limit.
-    Digit(u32),
-}
 
 /// A component: the digits of one place of a column's numbers, a row each, kept as bitmaps.
 pub trait Encoding: Drop {

@@ -3,11 +3,12 @@
 ghost use Rattle.std.specs.Prelude.{◌≡◌, ℕ, ◌<◌, ◌≤◌, ◌==◌, length, slice_index};
 ghost use Rattle.bsi_components.specs.Marks.{joined, AreMarks};
 
-/// The most digits of a component.
-pub const MAX_BASE: u32 = 1024;
+/// The greatest base of a component, and so the most words that a block of digits takes. It is the greatest base of a list
+/// of bases too, which `bsi_digits` has a constant of its own for.
+pub const MAX_COMPONENT_BASE: u32 = 1024;
 
-/// The most digits for which a small array of words is enough.
-pub const SMALL_BASE: u32 = 64;
+/// The greatest base for which the words of a block stand in a small array, which takes less time to clear.
+pub const MAX_SMALL_BASE: u32 = 64;
 
 /// Sets in word `j` the bit of each digit that is `j`, and no other bit. For each digit it looks at one word.
 pub fn mark(block: &[u32], words: &mut [u64])

@@ -6,7 +6,8 @@ ghost use Rattle.bsi_bits.specs.BitList.{in_words};
 ghost use Rattle.bsi_components.specs.Component.{count_where};
 ghost use Rattle.bsi_components.specs.Equality.{is_among};
 
-use crate::encoding::{Encoding, RankedDigit};
+use crate::answers::RankedDigit;
+use crate::encoding::Encoding;
 use crate::equality::EqualityComponent;
 use bsi_bits::Bits;
 
@@ -30,6 +31,7 @@ impl EqualityComponent {
         requires same { length self.now.digits ≡ length found.now.bits }
         ensures { result ≡ count_where (is_among from to) found.now.bits self.now.digits }
     {
+        // The proof takes from this that there are at most 2^32 rows.
         prove!(found.len() <= 1 << 32);
         let mut rows = 0;
         'digits: for j in from..to {

@@ -1,7 +1,7 @@
 use Rattle.std.proofs.Common.{sym, refl}
 use Rattle.bsi_components.proofs.EqualityDigits.{equality_same, equality_digits_are, itself_equality}
 use Rattle.bsi_components.specs.Equality.{equality_digits}
-use Rattle.bsi_components.proofs.equality.EqualityComponentEncoding.copy.Goals as goal
+use Rattle.bsi_components.proofs.equality.encoding.EqualityComponentEncoding.copy.Goals as goal
 
 pub invariant_of-result : goal.invariant_of-result
 invariant_of-result c =

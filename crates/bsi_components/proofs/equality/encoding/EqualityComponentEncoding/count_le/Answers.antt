@@ -1,6 +1,6 @@
 use Rattle.std.proofs.Common.{◌∙◌, sym, arith}
 use Rattle.bsi_components.proofs.EqualityReads.{among_first, among_last}
-use Rattle.bsi_components.proofs.equality.EqualityComponentEncoding.count_le.Goals as goal
+use Rattle.bsi_components.proofs.equality.encoding.EqualityComponentEncoding.count_le.Goals as goal
 
 pub returns-then-d-base-clause-count : goal.returns-then-d-base-clause-count
 returns-then-d-base-clause-count c = c.count_among.ensures ∙ among_first c.args.found.now.bits c.args.self.now.digits c.args.d

@@ -1,7 +1,7 @@
 use Rattle.std.proofs.Common.{◌≡◌, ◌+◌, ◌*◌, ◌<◌, length, ap, ◌∙◌, arith}
 use Rattle.std.specs.Prelude.{min}
 use Rattle.bsi_components.proofs.DigitBlocks.{sum_all, sum_before, sum_more, sum_none}
-use Rattle.bsi_components.proofs.equality.EqualityComponentEncoding.digit_sum.Goals as goal
+use Rattle.bsi_components.proofs.equality.encoding.EqualityComponentEncoding.digit_sum.Goals as goal
 
 pub blocks-2-init : goal.blocks-2-init
 blocks-2-init c = record {

@@ -1,7 +1,7 @@
 use Rattle.std.proofs.Common.{◌≡◌, ◌*◌, ◌≤◌, ◌^◌}
 use Rattle.std.specs.Prelude.{min}
 use Rattle.bsi_components.proofs.DigitBlocks.{sum_before}
-use Rattle.bsi_components.proofs.equality.EqualityComponentEncoding.digit_sum.Given as goal
+use Rattle.bsi_components.proofs.equality.encoding.EqualityComponentEncoding.digit_sum.Given as goal
 
 -- the sum of the blocks so far
 abbrev pub invariant-blocks-2 : goal.invariant-blocks-2

@@ -1,7 +1,7 @@
 use Rattle.std.proofs.Common.{ℕ, map, not, ap, sym, ◌∙◌, arith}
 use Rattle.std.specs.Prelude.{◌==◌}
 use Rattle.bsi_components.proofs.EqualityReads.{zero_eq}
-use Rattle.bsi_components.proofs.equality.EqualityComponentEncoding.eq_into.Goals as goal
+use Rattle.bsi_components.proofs.equality.encoding.EqualityComponentEncoding.eq_into.Goals as goal
 
 pub returns-then-base-eq2-clause-bits : goal.returns-then-base-eq2-clause-bits
 returns-then-base-eq2-clause-bits c =

@@ -1,7 +1,7 @@
 use Rattle.std.proofs.Common.{◌≡◌, ℕ, ◌+◌, ◌-◌, ◌*◌, ◌<◌, ◌≤◌, true, length}
 use Rattle.std.specs.Prelude.{slice_index}
 use Rattle.bsi_bits.specs.Packed.{bit_of}
-use Rattle.bsi_components.proofs.equality.EqualityComponentEncoding.greatest_in_block.Given as goal
+use Rattle.bsi_components.proofs.equality.encoding.EqualityComponentEncoding.greatest_in_block.Given as goal
 
 -- each row's digit is below those so far
 abbrev pub invariant-digits : goal.invariant-digits

@@ -4,7 +4,7 @@ use Rattle.std.specs.Simd.Lanes.{zip2}
 use Rattle.bsi_bits.specs.BitList.{without}
 use Rattle.bsi_bits.proofs.Pairs.{zip2-map_right}
 use Rattle.bsi_components.proofs.EqualityReads.{keep_zero}
-use Rattle.bsi_components.proofs.equality.EqualityComponentEncoding.keep_digit.Goals as goal
+use Rattle.bsi_components.proofs.equality.encoding.EqualityComponentEncoding.keep_digit.Goals as goal
 
 -- digit 0 under base 2: the rows that the one bitmap does not have
 pub returns-then-base-eq2-clause-rows : goal.returns-then-base-eq2-clause-rows

@@ -3,7 +3,7 @@ use Rattle.std.proofs.lemmas.Bool.{OnTrue_at, OnTrue_from}
 use Rattle.bsi_bits.specs.Packed.{bit_of}
 use Rattle.bsi_components.specs.Component.{at_most_from}
 use Rattle.bsi_components.proofs.BlockBits.{ones_bit, at_most_first}
-use Rattle.bsi_components.proofs.equality.EqualityComponentEncoding.le_block_into.Goals as goal
+use Rattle.bsi_components.proofs.equality.encoding.EqualityComponentEncoding.le_block_into.Goals as goal
 
 -- a block of ones says that the digits below are at most those of any constant
 pub returns-clause-bits : goal.returns-clause-bits

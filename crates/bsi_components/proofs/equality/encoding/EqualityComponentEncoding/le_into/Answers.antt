@@ -3,7 +3,7 @@ use Rattle.std.specs.Prelude.{◌||◌, ◌==◌}
 use Rattle.std.specs.Simd.Lanes.{zip2}
 use Rattle.bsi_components.proofs.EqualityReads.{past_le}
 use Rattle.bsi_components.proofs.RangeReads.{top_le}
-use Rattle.bsi_components.proofs.equality.EqualityComponentEncoding.le_into.Goals as goal
+use Rattle.bsi_components.proofs.equality.encoding.EqualityComponentEncoding.le_into.Goals as goal
 
 -- none of the digits past it
 pub returns-then-d-base-2-clause-bits : goal.returns-then-d-base-2-clause-bits

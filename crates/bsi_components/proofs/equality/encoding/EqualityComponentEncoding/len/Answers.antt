@@ -1,7 +1,7 @@
 use Rattle.std.proofs.Common.{◌∙◌}
 use Rattle.bsi_components.proofs.EqualityDigits.{equality_rows}
 use Rattle.bsi_components.specs.Equality.{equality_digits}
-use Rattle.bsi_components.proofs.equality.EqualityComponentEncoding.len.Goals as goal
+use Rattle.bsi_components.proofs.equality.encoding.EqualityComponentEncoding.len.Goals as goal
 
 pub returns-clause-len : goal.returns-clause-len
 returns-clause-len c =

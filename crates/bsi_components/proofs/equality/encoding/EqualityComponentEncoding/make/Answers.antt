@@ -1,6 +1,6 @@
 use Rattle.std.proofs.Common.{[], refl, sym, arith}
 use Rattle.bsi_components.proofs.EqualityDigits.{equality_made, first_digit_most, equality_digits_are, itself_equality}
-use Rattle.bsi_components.proofs.equality.EqualityComponentEncoding.make.Goals as goal
+use Rattle.bsi_components.proofs.equality.encoding.EqualityComponentEncoding.make.Goals as goal
 
 pub invariant_of-result : goal.invariant_of-result
 invariant_of-result c =

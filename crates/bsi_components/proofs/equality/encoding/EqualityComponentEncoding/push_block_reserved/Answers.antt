@@ -1,7 +1,7 @@
 use Rattle.std.proofs.Common.{◌++◌, sym}
 use Rattle.bsi_components.specs.Equality.{equality_digits}
 use Rattle.bsi_components.proofs.EqualityDigits.{equality_more, equality_digits_are, itself_equality}
-use Rattle.bsi_components.proofs.equality.EqualityComponentEncoding.push_block_reserved.Goals as goal
+use Rattle.bsi_components.proofs.equality.encoding.EqualityComponentEncoding.push_block_reserved.Goals as goal
 
 pub invariant_of-self : goal.invariant_of-self
 invariant_of-self c =

@@ -2,7 +2,7 @@ use Rattle.std.proofs.Common.{◌∷◌, [], ◌++◌, ◌+◌, ap, sym, ◌∙�
 use Rattle.std.specs.Prelude.{◌==◌}
 use Rattle.bsi_components.specs.Equality.{equality_digits, first_digit}
 use Rattle.bsi_components.proofs.EqualityDigits.{equality_more, equality_digits_are, itself_equality, one_below}
-use Rattle.bsi_components.proofs.equality.EqualityComponentEncoding.push_reserved.Goals as goal
+use Rattle.bsi_components.proofs.equality.encoding.EqualityComponentEncoding.push_reserved.Goals as goal
 
 pub invariant_of-self : goal.invariant_of-self
 invariant_of-self c =

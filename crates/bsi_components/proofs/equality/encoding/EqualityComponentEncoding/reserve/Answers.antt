@@ -1,7 +1,7 @@
 use Rattle.std.proofs.Common.{◌≤◌, ◌+◌, ◌^◌, length, sym, arith}
 use Rattle.bsi_components.proofs.EqualityDigits.{equality_same, equality_rows, equality_digits_are, itself_equality}
 use Rattle.bsi_components.specs.Equality.{equality_digits}
-use Rattle.bsi_components.proofs.equality.EqualityComponentEncoding.reserve.Goals as goal
+use Rattle.bsi_components.proofs.equality.encoding.EqualityComponentEncoding.reserve.Goals as goal
 
 pub reserve-requires : goal.reserve-requires
 reserve-requires c =

@@ -1,7 +1,7 @@
 use Rattle.std.proofs.Common.{arith}
 use Rattle.bsi_components.proofs.EqualityDigits.{equality_rows}
 use Rattle.bsi_components.specs.Equality.{equality_digits}
-use Rattle.bsi_components.proofs.equality.EqualityComponentEncoding.room.Goals as goal
+use Rattle.bsi_components.proofs.equality.encoding.EqualityComponentEncoding.room.Goals as goal
 
 pub returns-clause-within : goal.returns-clause-within
 returns-clause-within c =

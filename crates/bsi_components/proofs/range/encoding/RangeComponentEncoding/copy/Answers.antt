@@ -1,7 +1,7 @@
 use Rattle.std.proofs.Common.{sym, refl}
 use Rattle.bsi_components.proofs.RangeDigits.{range_same, range_digits_are, itself_range}
 use Rattle.bsi_components.specs.Range.{range_digits}
-use Rattle.bsi_components.proofs.range.RangeComponentEncoding.copy.Goals as goal
+use Rattle.bsi_components.proofs.range.encoding.RangeComponentEncoding.copy.Goals as goal
 
 pub invariant_of-result : goal.invariant_of-result
 invariant_of-result c =

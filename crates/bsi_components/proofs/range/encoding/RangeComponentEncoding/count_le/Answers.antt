@@ -3,7 +3,7 @@ use Rattle.std.specs.Prelude.{count_by, nat_le, ◌&&◌}
 use Rattle.std.specs.Simd.Lanes.{zip2}
 use Rattle.bsi_bits.proofs.Pairs.{zip2-map_right}
 use Rattle.bsi_components.proofs.DigitCounts.{where_all}
-use Rattle.bsi_components.proofs.range.RangeComponentEncoding.count_le.Goals as goal
+use Rattle.bsi_components.proofs.range.encoding.RangeComponentEncoding.count_le.Goals as goal
 
 pub returns-then-d-top-clause-count : goal.returns-then-d-top-clause-count
 returns-then-d-top-clause-count c =

@@ -2,7 +2,7 @@ use Rattle.std.proofs.Common.{◌≡◌, ◌+◌, ◌*◌, ◌-◌, ◌^◌, ◌
 use Rattle.std.proofs.lemmas.Bool.{OnTrue_at, OnTrue_from}
 use Rattle.bsi_bits.specs.Packed.{bit_of}
 use Rattle.bsi_components.proofs.BlockBits.{ones_bit}
-use Rattle.bsi_components.proofs.range.RangeComponentEncoding.eq_block_into.Goals as goal
+use Rattle.bsi_components.proofs.range.encoding.RangeComponentEncoding.eq_block_into.Goals as goal
 
 -- of a block of ones the rows are kept that have the digit
 pub returns-clause-bits : goal.returns-clause-bits

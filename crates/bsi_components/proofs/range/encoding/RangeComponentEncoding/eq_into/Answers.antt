@@ -2,7 +2,7 @@ use Rattle.std.proofs.Common.{map, not, ap, ap₂, ◌∙◌, arith}
 use Rattle.std.specs.Simd.Lanes.{zip2}
 use Rattle.bsi_bits.specs.BitList.{without}
 use Rattle.bsi_components.proofs.RangeReads.{top_eq, between_eq}
-use Rattle.bsi_components.proofs.range.RangeComponentEncoding.eq_into.Goals as goal
+use Rattle.bsi_components.proofs.range.encoding.RangeComponentEncoding.eq_into.Goals as goal
 
 pub returns-then-d-top-clause-bits : goal.returns-then-d-top-clause-bits
 returns-then-d-top-clause-bits c =

@@ -1,7 +1,7 @@
 use Rattle.std.proofs.Common.{◌≡◌, ℕ, ◌+◌, ◌-◌, ◌*◌, ◌<◌, ◌≤◌, true, length}
 use Rattle.std.specs.Prelude.{slice_index}
 use Rattle.bsi_bits.specs.Packed.{bit_of}
-use Rattle.bsi_components.proofs.range.RangeComponentEncoding.greatest_in_block.Given as goal
+use Rattle.bsi_components.proofs.range.encoding.RangeComponentEncoding.greatest_in_block.Given as goal
 
 -- a row's digit is at least this one
 abbrev pub invariant-digits : goal.invariant-digits

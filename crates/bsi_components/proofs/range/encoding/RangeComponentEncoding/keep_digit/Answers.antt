@@ -5,7 +5,7 @@ use Rattle.std.proofs.lemmas.Simd.{length-zip2}
 use Rattle.std.proofs.lemmas.List.{length-map}
 use Rattle.bsi_bits.specs.BitList.{without}
 use Rattle.bsi_components.proofs.RangeReads.{keep_least, keep_between, keep_top}
-use Rattle.bsi_components.proofs.range.RangeComponentEncoding.keep_digit.Goals as goal
+use Rattle.bsi_components.proofs.range.encoding.RangeComponentEncoding.keep_digit.Goals as goal
 
 -- as many bits are left
 pub and_not_with-requires-then-d-gt0 : goal.and_not_with-requires-then-d-gt0

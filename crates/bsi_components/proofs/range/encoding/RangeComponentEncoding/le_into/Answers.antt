@@ -2,7 +2,7 @@ use Rattle.std.proofs.Common.{map, not, ap, ap₂, ◌∙◌, arith}
 use Rattle.std.specs.Prelude.{◌||◌, nat_le}
 use Rattle.std.specs.Simd.Lanes.{zip2}
 use Rattle.bsi_components.proofs.RangeReads.{top_le}
-use Rattle.bsi_components.proofs.range.RangeComponentEncoding.le_into.Goals as goal
+use Rattle.bsi_components.proofs.range.encoding.RangeComponentEncoding.le_into.Goals as goal
 
 pub returns-else-d-top-clause-bits : goal.returns-else-d-top-clause-bits
 returns-else-d-top-clause-bits c =

@@ -1,7 +1,7 @@
 use Rattle.std.proofs.Common.{◌∙◌}
 use Rattle.bsi_components.proofs.RangeDigits.{range_rows}
 use Rattle.bsi_components.specs.Range.{range_digits}
-use Rattle.bsi_components.proofs.range.RangeComponentEncoding.len.Goals as goal
+use Rattle.bsi_components.proofs.range.encoding.RangeComponentEncoding.len.Goals as goal
 
 pub returns-clause-len : goal.returns-clause-len
 returns-clause-len c =

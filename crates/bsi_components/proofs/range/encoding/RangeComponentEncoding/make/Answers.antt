@@ -1,6 +1,6 @@
 use Rattle.std.proofs.Common.{[], refl, sym, arith}
 use Rattle.bsi_components.proofs.RangeDigits.{range_made, range_digits_are, itself_range}
-use Rattle.bsi_components.proofs.range.RangeComponentEncoding.make.Goals as goal
+use Rattle.bsi_components.proofs.range.encoding.RangeComponentEncoding.make.Goals as goal
 
 pub invariant_of-result : goal.invariant_of-result
 invariant_of-result c =

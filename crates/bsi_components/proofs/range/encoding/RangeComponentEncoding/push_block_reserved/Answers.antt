@@ -1,7 +1,7 @@
 use Rattle.std.proofs.Common.{◌++◌, sym}
 use Rattle.bsi_components.specs.Range.{range_digits}
 use Rattle.bsi_components.proofs.RangeDigits.{range_more, range_digits_are, itself_range}
-use Rattle.bsi_components.proofs.range.RangeComponentEncoding.push_block_reserved.Goals as goal
+use Rattle.bsi_components.proofs.range.encoding.RangeComponentEncoding.push_block_reserved.Goals as goal
 
 pub invariant_of-self : goal.invariant_of-self
 invariant_of-self c =

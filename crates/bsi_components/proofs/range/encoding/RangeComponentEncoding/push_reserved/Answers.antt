@@ -2,7 +2,7 @@ use Rattle.std.proofs.Common.{◌∷◌, [], ◌++◌, sym}
 use Rattle.std.specs.Prelude.{nat_le}
 use Rattle.bsi_components.specs.Range.{range_digits}
 use Rattle.bsi_components.proofs.RangeDigits.{range_more, range_digits_are, itself_range, one_below}
-use Rattle.bsi_components.proofs.range.RangeComponentEncoding.push_reserved.Goals as goal
+use Rattle.bsi_components.proofs.range.encoding.RangeComponentEncoding.push_reserved.Goals as goal
 
 pub invariant_of-self : goal.invariant_of-self
 invariant_of-self c =

@@ -1,7 +1,7 @@
 use Rattle.std.proofs.Common.{◌≤◌, ◌+◌, ◌^◌, length, sym, arith}
 use Rattle.bsi_components.proofs.RangeDigits.{range_same, range_rows, range_digits_are, itself_range}
 use Rattle.bsi_components.specs.Range.{range_digits}
-use Rattle.bsi_components.proofs.range.RangeComponentEncoding.reserve.Goals as goal
+use Rattle.bsi_components.proofs.range.encoding.RangeComponentEncoding.reserve.Goals as goal
 
 pub reserve-requires : goal.reserve-requires
 reserve-requires c =

@@ -1,7 +1,7 @@
 use Rattle.std.proofs.Common.{arith}
 use Rattle.bsi_components.proofs.RangeDigits.{range_rows}
 use Rattle.bsi_components.specs.Range.{range_digits}
-use Rattle.bsi_components.proofs.range.RangeComponentEncoding.room.Goals as goal
+use Rattle.bsi_components.proofs.range.encoding.RangeComponentEncoding.room.Goals as goal
 
 pub returns-clause-within : goal.returns-clause-within
 returns-clause-within c =
