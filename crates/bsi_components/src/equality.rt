@@ -15,7 +15,8 @@ use std::marker::Model;
 mod counts;
 mod encoding;
 
-/// A component of a base from 2 to 1,024 that stores a bitmap for each digit. Under base 2 it stores that of digit 1 alone.
+/// A component of a base from 2 to 1,024 that stores a bitmap for each digit. Under base 2 it stores that of digit 1
+/// alone.
 #[derive(Drop)]
 pub struct EqualityComponent {
     base: u32,

@@ -3,7 +3,6 @@
 ghost use Rattle.std.specs.Prelude.{◌≡◌, ◌≢◌, ℕ, ◌+◌, ◌*◌, ◌/◌, ◌<◌, ◌≤◌, ◌==◌, ◌&&◌, length, nat_le, true, slice_index, sum, IsTrue};
 ghost use Rattle.std.specs.Bool.{OnTrue, OnFalse};
 ghost use Rattle.bsi_bits.specs.Packed.{bit_of};
-ghost use Rattle.bsi_components.specs.Bitmaps.{bitmap};
 ghost use Rattle.bsi_components.specs.Component.{at_most_from};
 ghost use Rattle.bsi_components.specs.EndDigits.{AnswersGreatest, AnswersLeast, HasRow};
 
@@ -84,7 +83,7 @@ impl Encoding for EqualityComponent {
         }
     }
 
-    // It goes over the rows block by block, so that the found rows of a block are read from memory once for all bitmaps.
+    // It goes over the rows block by block. So the found rows of a block are read from memory once for all bitmaps.
     fn digit_sum(&self, found: &Bits) -> u128 {
         // The proof takes from this that there are at most 2^32 rows.
         prove!(found.len() <= 1 << 32);
@@ -220,7 +219,7 @@ impl Encoding for EqualityComponent {
         ensures answer { AnswersLeast limit (bit_of block.now)
             (λ p. slice_index self.now.digits (64 * at + p)) (64 * length block.now) result }
     {
-        // The proof takes from this call that the base is at most 1,024, and so that `limit + 1` is a number of 32 bits.
+        // The proof takes from this call that the base is at most 1,024, so `limit + 1` is a number of 32 bits.
         let _base = self.base();
         'digits: for digit in 0..limit + 1 {
             if self.has_digit(digit, at, block) {

@@ -3,7 +3,6 @@
 ghost use Rattle.std.specs.Prelude.{◌≡◌, ◌≢◌, ℕ, ◌+◌, ◌*◌, ◌/◌, ◌<◌, ◌≤◌, ◌==◌, ◌&&◌, length, nat_le, true, slice_index, sum, IsTrue};
 ghost use Rattle.std.specs.Bool.{OnTrue, OnFalse};
 ghost use Rattle.bsi_bits.specs.Packed.{bit_of};
-ghost use Rattle.bsi_components.specs.Bitmaps.{bitmap};
 ghost use Rattle.bsi_components.specs.Component.{at_most_from};
 ghost use Rattle.bsi_components.specs.EndDigits.{AnswersGreatest, AnswersLeast, HasRow};
 
@@ -80,7 +79,7 @@ impl Encoding for RangeComponent {
         }
     }
 
-    // It goes over the rows block by block, so that the found rows of a block are read from memory once for all bitmaps.
+    // It goes over the rows block by block. So the found rows of a block are read from memory once for all bitmaps.
     fn digit_sum(&self, found: &Bits) -> u128 {
         // The proof takes from this that there are at most 2^32 rows.
         prove!(found.len() <= 1 << 32);
