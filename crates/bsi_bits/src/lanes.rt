@@ -6,95 +6,16 @@ ghost use Rattle.std.specs.Prelude.{◌≡◌, ℕ, ◌+◌, ◌*◌, ◌^◌, �
 ghost use Rattle.std.specs.Int.{bit_not, w64};
 ghost use Rattle.std.specs.Simd.Lanes.{zip2};
 
+use operations::{AndNotWords, AndWords, Operation, OrNotWords, OrWords, XorWords};
 use std::simd::u64x4;
+
+mod operations;
 
 /// The number of words that a kernel takes at a time.
 const LANES: usize = 4;
 
 /// The most words whose ones are counted in 64 bits. No memory holds more, so a count goes over a single such block.
 const MAX_COUNTED: usize = 1 << 57;
-
-/// A Boolean operation on two words, bit by bit: on single words, and on four side by side.
-trait Operation {
-    /// The word that it makes of two.
-    ghost word_of: { ℕ → ℕ → ℕ };
-
-    fn words(a: u64x4, b: u64x4) -> u64x4
-        ensures { result ≡ zip2 word_of a b };
-
-    fn word(a: u64, b: u64) -> u64
-        ensures { result ≡ word_of a b };
-}
-
-struct AndWords;
-
-impl Operation for AndWords {
-    ghost word_of = { bit_and };
-
-    fn words(a: u64x4, b: u64x4) -> u64x4 {
-        a & b
-    }
-
-    fn word(a: u64, b: u64) -> u64 {
-        a & b
-    }
-}
-
-struct OrWords;
-
-impl Operation for OrWords {
-    ghost word_of = { bit_or };
-
-    fn words(a: u64x4, b: u64x4) -> u64x4 {
-        a | b
-    }
-
-    fn word(a: u64, b: u64) -> u64 {
-        a | b
-    }
-}
-
-struct XorWords;
-
-impl Operation for XorWords {
-    ghost word_of = { bit_xor };
-
-    fn words(a: u64x4, b: u64x4) -> u64x4 {
-        a ^ b
-    }
-
-    fn word(a: u64, b: u64) -> u64 {
-        a ^ b
-    }
-}
-
-struct AndNotWords;
-
-impl Operation for AndNotWords {
-    ghost word_of = { λ x y. bit_and x (bit_not w64 y) };
-
-    fn words(a: u64x4, b: u64x4) -> u64x4 {
-        a & !b
-    }
-
-    fn word(a: u64, b: u64) -> u64 {
-        a & !b
-    }
-}
-
-struct OrNotWords;
-
-impl Operation for OrNotWords {
-    ghost word_of = { λ x y. bit_or x (bit_not w64 y) };
-
-    fn words(a: u64x4, b: u64x4) -> u64x4 {
-        a | !b
-    }
-
-    fn word(a: u64, b: u64) -> u64 {
-        a | !b
-    }
-}
 
 /// Writes the operation's word for each pair of words into `a`.
 fn combine<O: Operation>(a: &mut [u64], b: &[u64])

@@ -12,7 +12,7 @@ use Rattle.bsi_columns.specs.Rows.{number_or_zero}
 use Rattle.bsi_columns.specs.Ends.{comes_first, leads, number_at, HasMarked}
 use Rattle.bsi_columns.specs.BlockEnds.{IsPast, IsNarrowedTo, AnswersEnd}
 use Rattle.bsi_components.specs.EndDigits.{HasDigit}
-use Rattle.bsi_components.specs.declared.encoding.EndDigit.TheVariants.{Digit}
+use Rattle.bsi_components.specs.declared.answers.EndDigit.TheVariants.{Digit}
 use Rattle.bsi_columns.proofs.EndBlocks.{IsNearest, first_digit, nearest_step}
 
 -- past a limit that the best number so far gives, no number comes before it

@@ -4,8 +4,8 @@ use Rattle.bsi_slices.specs.Ends.{comes_first, HasMarked}
 use Rattle.bsi_slices.specs.declared.slices.ends.End.{End}
 use Rattle.bsi_slices.specs.declared.slices.ends.End.TheVariants.{Least, Greatest}
 use Rattle.bsi_components.specs.EndDigits.{AnswersLeast, AnswersGreatest}
-use Rattle.bsi_components.specs.declared.encoding.EndDigit.{EndDigit}
-use Rattle.bsi_components.specs.declared.encoding.EndDigit.TheVariants.{Unanswered, Past, Digit}
+use Rattle.bsi_components.specs.declared.answers.EndDigit.{EndDigit}
+use Rattle.bsi_components.specs.declared.answers.EndDigit.TheVariants.{Unanswered, Past, Digit}
 
 -- the digit is farther from the end than the limit
 abbrev pub IsPast : End → ℕ → ℕ → Type 0

@@ -9,7 +9,7 @@ use Rattle.std.proofs.lemmas.Bool.{cases_eq, cases_lt}
 use Rattle.std.proofs.lemmas.Bool.Decides.{nat_tests}
 use Rattle.bsi_bits.proofs.Reading.{bits_are, get_or-bits_of}
 use Rattle.bsi_bits.proofs.Splicing.{below_power, one_word}
-use Rattle.bsi_components.specs.Marks.{joined, AreMarks}
+use Rattle.bsi_components.specs.Marks.{joined, AreDigitMarks}
 
 -- bit p of word j says of each of the first n digits whether it holds there; the bits behind them are off
 pub record Marked (holds : ℕ → ℕ → Bool) (n : ℕ) (block words : List ℕ) : Type 0 where
@@ -25,7 +25,7 @@ ge_test : (p n : ℕ) (b : Bool) → n ≤ p → (nat_lt p n && b) ≡ false
 ge_test p n b from = grind (arith, nat_tests)
 
 -- so marked by the whole block
-pub marks_of : (holds : ℕ → ℕ → Bool) (n : ℕ) (block words : List ℕ) → n ≡ length block → n ≤ 64 → Marked holds n block words → AreMarks holds block words
+pub marks_of : (holds : ℕ → ℕ → Bool) (n : ℕ) (block words : List ℕ) → n ≡ length block → n ≤ 64 → Marked holds n block words → AreDigitMarks holds block words
 marks_of holds n block words all few marked = record {
   each = λ j within.
       sym (bits_are (length block) (get_or words j 0 ∷ []) (map (holds j) block) (length-map block (holds j)) (λ p below.
@@ -118,7 +118,7 @@ marked_joined n block words new marked long each = record {
 }
 
 -- words that are marks are so marked
-pub marks_marked : (holds : ℕ → ℕ → Bool) (block words : List ℕ) → length block ≤ 64 → AreMarks holds block words → Marked holds (length block) block words
+pub marks_marked : (holds : ℕ → ℕ → Bool) (block words : List ℕ) → length block ≤ 64 → AreDigitMarks holds block words → Marked holds (length block) block words
 marks_marked holds block words few marks = record {
   each = λ j p within. elim (cases_lt p (length block)) [
     | inl below ↦
@@ -134,7 +134,7 @@ marks_marked holds block words few marks = record {
 }
 
 -- the words joined are marks of the digits up to each
-pub marks_joined : (block words new : List ℕ) → length block ≤ 64 → AreMarks (λ j v. v == j) block words → length new ≡ length words → ((j : ℕ) → j < length words → get_or new j 0 ≡ joined words j) → AreMarks (λ j v. nat_le v j) block new
+pub marks_joined : (block words new : List ℕ) → length block ≤ 64 → AreDigitMarks (λ j v. v == j) block words → length new ≡ length words → ((j : ℕ) → j < length words → get_or new j 0 ≡ joined words j) → AreDigitMarks (λ j v. nat_le v j) block new
 marks_joined block words new few marks long each =
     marks_of (λ j v. nat_le v j) (length block) block new refl few
     (marked_joined (length block) block words new (marks_marked (λ j v. v == j) block words few marks) long each)

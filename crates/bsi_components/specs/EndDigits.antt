@@ -1,7 +1,7 @@
 -- The least or greatest digit of some rows of a block.
 use Rattle.std.specs.Prelude.{◌≡◌, ℕ, ◌<◌, ◌≤◌, Bool, true}
-use Rattle.bsi_components.specs.declared.encoding.EndDigit.{EndDigit}
-use Rattle.bsi_components.specs.declared.encoding.EndDigit.TheVariants.{Unanswered, Past, Digit}
+use Rattle.bsi_components.specs.declared.answers.EndDigit.{EndDigit}
+use Rattle.bsi_components.specs.declared.answers.EndDigit.TheVariants.{Unanswered, Past, Digit}
 
 -- one of n rows is marked
 abbrev pub HasRow : (ℕ → Bool) → ℕ → Type 0

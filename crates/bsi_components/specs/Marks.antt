@@ -3,7 +3,7 @@ use Rattle.std.specs.Prelude.{◌≡◌, ℕ, zero, suc, ◌<◌, ◌^◌, Bool,
 use Rattle.bsi_bits.specs.Packed.{bits_of}
 
 -- word j says of each digit of the block whether it holds there
-pub record AreMarks (holds : ℕ → ℕ → Bool) (block words : List ℕ) : Type 0 where
+pub record AreDigitMarks (holds : ℕ → ℕ → Bool) (block words : List ℕ) : Type 0 where
   pub each : (j : ℕ) → j < length words → bits_of (length block) (slice_index words j ∷ []) ≡ map (holds j) block
   pub clear : (j : ℕ) → slice_index words j < 2 ^ length block
 

@@ -8,9 +8,9 @@ ghost use Rattle.bsi_components.specs.EndDigits.{HasRow};
 
 use bsi_bits::{Bits, know_fits, lanes};
 
-/// The number of words in a block whose digits are summed. Its found rows stay in the first cache while the bitmaps are
-/// counted.
-pub(crate) const SUM_BLOCK: usize = 1024;
+/// The number of words of a found set in a block of rows whose digits are summed at a time. These words stay in the
+/// first cache while they are counted with one bitmap after the other.
+pub(crate) const SUM_BLOCK_WORDS: usize = 1024;
 
 /// Keeps in the block the rows that the bitmap has.
 pub fn keep_in(bitmap: &Bits, at: usize, block: &mut [u64])

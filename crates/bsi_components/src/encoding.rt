@@ -1,6 +1,6 @@
 //! What a component is to a column: a list of digits below its base.
 
-ghost use Rattle.std.specs.Prelude.{◌≡◌, ℕ, ◌+◌, ◌*◌, ◌/◌, ◌^◌, ◌≤◌, ◌<◌, ◌==◌, ◌&&◌, Bool, true, List, [], ◌∷◌, ◌++◌, length, map, sum, count_by, slice_index, nat_lt, nat_le, IsTrue, IfOk, OnOk, OnErr, IsOk};
+ghost use Rattle.std.specs.Prelude.{◌≡◌, ℕ, ◌+◌, ◌*◌, ◌/◌, ◌^◌, ◌≤◌, ◌<◌, ◌==◌, ◌&&◌, true, List, [], ◌∷◌, ◌++◌, length, map, sum, count_by, slice_index, nat_lt, nat_le, IfOk, OnOk, OnErr, IsOk};
 ghost use Rattle.std.specs.List.{items_where_true};
 ghost use Rattle.std.specs.Bool.{OnTrue, OnFalse};
 ghost use Rattle.std.specs.Simd.Lanes.{zip2};
@@ -9,26 +9,9 @@ ghost use Rattle.bsi_components.specs.Component.{at_most_from, count_where};
 ghost use Rattle.bsi_components.specs.EndDigits.{HasRow, AnswersLeast, AnswersGreatest};
 
 use crate::NoMemory;
+use crate::answers::{EndDigit, RankedDigit};
 use bsi_bits::Bits;
 use std::alloc::Global;
-
-/// A digit, and a rank, from 0, among the rows that have it.
-#[derive(Clone, Copy, Debug, PartialEq, Eq)]
-pub struct RankedDigit {
-    pub digit: u32,
-    pub rank: u64,
-}
-
-/// What a component answers of the least or the greatest digit of some rows.
-#[derive(Clone, Copy, Debug, PartialEq, Eq)]
-pub enum EndDigit {
-    /// Nothing, since the encoding works on whole vectors alone.
-    Unanswered,
-    /// That each of the rows has a digit past the limit.
-    Past,
-    /// The digit, which is within the limit.
-    Digit(u32),
-}
 
 /// A component: the digits of one place of a column's numbers, a row each, kept as bitmaps.
 pub trait Encoding: Drop {
@@ -62,8 +45,9 @@ pub trait Encoding: Drop {
         ensures room { result ≡ room_of self.now }
         ensures within { length (digits self.now) + result ≤ 2 ^ 32 };
 
-    /// Makes room for so many more digits. The digits stay, and there is no less room than before, whatever the result; where
-    /// it is refused, there is still not room for so many. It takes memory only where there is not.
+    /// Makes room for `more` further digits. Whatever the result, the digits stay and there is no less room than
+    /// before. If it is refused, there is still no room for so many. It allocates memory only if there is not enough
+    /// room already.
     fn reserve(&mut self, more: u64) -> Result<(), NoMemory>
         requires { length (digits self.old) + more ≤ 2 ^ 32 }
         ensures digits { digits self.new ≡ digits self.old }
@@ -73,7 +57,7 @@ pub trait Encoding: Drop {
         ensures err { OnErr result (room_of self.new < more) }
         ensures succeeds { more ≤ room_of self.old → IsOk result };
 
-    /// Appends a digit, in room that is there.
+    /// Appends a digit, into room that is already there.
     fn push_reserved(&mut self, digit: u32)
         requires room { 0 < room_of self.old }
         requires below { digit < base_of self.old }
@@ -81,7 +65,7 @@ pub trait Encoding: Drop {
         ensures base { base_of self.new ≡ base_of self.old }
         ensures room { room_of self.old ≤ room_of self.new + 1 };
 
-    /// Appends a block of at most 64 digits, in room that is there. The provided body appends them one by one.
+    /// Appends a block of at most 64 digits, into room that is already there. The provided body appends each in turn.
     fn push_block_reserved(&mut self, block: &[u32])
         requires few { length block.now ≤ 64 }
         requires room { length block.now ≤ room_of self.old }
@@ -103,7 +87,7 @@ pub trait Encoding: Drop {
         self.room() > 0
     }
 
-    /// Makes room for one more digit, as `reserve` does for many.
+    /// Makes room for one further digit, as `reserve` does for many.
     fn reserve_one(&mut self) -> Result<(), NoMemory>
         requires { length (digits self.old) < 2 ^ 32 }
         ensures digits { digits self.new ≡ digits self.old }
@@ -135,8 +119,8 @@ pub trait Encoding: Drop {
         requires { length (digits self.now) ≡ length found.now.bits }
         ensures { result ≡ sum (items_where_true found.now.bits (digits self.now)) };
 
-    /// Returns how many rows of a found set have a digit of at most `d`. What `scratch`, a vector of as many bits, holds afterwards
-    /// is left open.
+    /// Returns how many rows of a found set have a digit of at most `d`. `scratch` is a vector of as many bits, and
+    /// its bits are unspecified afterwards.
     fn count_le(&self, d: u32, found: &Bits, scratch: &mut Bits) -> u64
         requires below { d < base_of self.now }
         requires same { length (digits self.now) ≡ length found.now.bits }
@@ -148,9 +132,10 @@ pub trait Encoding: Drop {
         found.count_and(scratch)
     }
 
-    /// Returns the digit of the row of rank `rank`, from 0, among the rows of a found set in order of their digits, and the rank of
-    /// that row among those of its digit. What `scratch`, a vector of as many bits, is left with is left open. The provided
-    /// body halves the digits in question by one `count_le` each.
+    /// Returns the digit of the row of rank `rank`, from 0, among the rows of a found set in order of their digits,
+    /// and the rank of that row among the rows of its digit. `scratch` is a vector of as many bits, and its bits are
+    /// unspecified afterwards. The provided body halves the range of possible digits by one `count_le` after the
+    /// other.
     fn digit_of_rank(&self, rank: u64, found: &Bits, scratch: &mut Bits) -> RankedDigit
         requires same { length (digits self.now) ≡ length found.now.bits }
         requires scratch { length (digits self.now) ≡ length scratch.old.bits }
@@ -180,7 +165,8 @@ pub trait Encoding: Drop {
         }
     }
 
-    /// Keeps of a set of rows those whose digit is `d`. What `scratch`, a vector of as many bits, is left with is left open.
+    /// Keeps of a set of rows those whose digit is `d`. `scratch` is a vector of as many bits, and its bits are
+    /// unspecified afterwards.
     fn keep_digit(&self, d: u32, scratch: &mut Bits, rows: &mut Bits)
         requires below { d < base_of self.now }
         requires scratch { length (digits self.now) ≡ length scratch.old.bits }
@@ -197,8 +183,8 @@ pub trait Encoding: Drop {
         ensures { IfOk result (λ c. (digits c ≡ digits self.now)
             × (base_of c ≡ base_of self.now)) };
 
-    /// Clears in a block of words, which stand for the rows from `64 * at` on, the rows whose digit is not `d`. Answers
-    /// `false`, and does nothing, where the encoding works on whole vectors alone.
+    /// Clears in a block of words the rows whose digit is not `d`. The words stand for the rows from `64 * at` on. It
+    /// returns `false`, and does nothing, if the encoding works on whole vectors alone.
     fn eq_block(&self, d: u32, at: usize, block: &mut [u64]) -> bool
         requires below { d < base_of self.now }
         requires within { at + length block.old ≤ (length (digits self.now) + 63) / 64 }
@@ -211,10 +197,10 @@ pub trait Encoding: Drop {
         false
     }
 
-    /// Sets in a block of words, which stand for the rows from `64 * at` on, the rows whose digit is below `d`, and
-    /// clears those whose digit is above: what is left is whether the digits up to this one are at most those of a
-    /// constant, where the block said so of the digits before. Answers `false`, and does nothing, where the encoding works
-    /// on whole vectors alone.
+    /// Sets in a block of words the rows whose digit is below `d`, and clears those whose digit is above. The words
+    /// stand for the rows from `64 * at` on. Where a bit told whether a row's digits of the lower places are at most
+    /// those of a constant, it then tells so of the digits up to this one. It returns `false`, and does nothing, if
+    /// the encoding works on whole vectors alone.
     fn le_block(&self, d: u32, at: usize, block: &mut [u64]) -> bool
         requires below { d < base_of self.now }
         requires within { at + length block.old ≤ (length (digits self.now) + 63) / 64 }
@@ -227,9 +213,9 @@ pub trait Encoding: Drop {
         false
     }
 
-    /// Writes in a block of words, which stand for the rows from `64 * at` on, whether the digit of each row is `d`.
-    /// Returns `false` where the encoding works on whole vectors alone; what the block is left with is then left open. The
-    /// provided body lets `eq_block` step a block of ones.
+    /// Writes into a block of words whether the digit of each row is `d`. The words stand for the rows from `64 * at`
+    /// on. It returns `false` if the encoding works on whole vectors alone, and the words are then unspecified. The
+    /// provided body fills the block with ones and calls `eq_block`.
     fn eq_block_into(&self, d: u32, at: usize, block: &mut [u64]) -> bool
         requires below { d < base_of self.now }
         requires within { at + length block.old ≤ (length (digits self.now) + 63) / 64 }
@@ -241,9 +227,9 @@ pub trait Encoding: Drop {
         self.eq_block(d, at, block)
     }
 
-    /// Writes in a block of words, which stand for the rows from `64 * at` on, whether the digit of each row is at most `d`. Returns
-    /// `false` where the encoding works on whole vectors alone; what the block is left with is then left open. The provided
-    /// body lets `le_block` step a block of ones.
+    /// Writes into a block of words whether the digit of each row is at most `d`. The words stand for the rows from
+    /// `64 * at` on. It returns `false` if the encoding works on whole vectors alone, and the words are then
+    /// unspecified. The provided body fills the block with ones and calls `le_block`.
     fn le_block_into(&self, d: u32, at: usize, block: &mut [u64]) -> bool
         requires below { d < base_of self.now }
         requires within { at + length block.old ≤ (length (digits self.now) + 63) / 64 }
@@ -255,8 +241,8 @@ pub trait Encoding: Drop {
         self.le_block(d, at, block)
     }
 
-    /// Returns the least digit of the rows that a block of words has, where it is at most `limit`. The words stand for the
-    /// rows from `64 * at` on, and have none past the last.
+    /// Returns the least digit of the rows that a block of words has, if it is at most `limit`. The words stand for
+    /// the rows from `64 * at` on, and have no row past the last one. The provided body gives no answer.
     fn least_in_block(&self, limit: u32, at: usize, block: &[u64]) -> EndDigit
         requires below { limit < base_of self.now }
         requires within { at + length block.now ≤ (length (digits self.now) + 63) / 64 }
@@ -269,8 +255,8 @@ pub trait Encoding: Drop {
         EndDigit::Unanswered
     }
 
-    /// Returns the greatest digit of the rows that a block of words has, where it is at least `limit`. The words stand for
-    /// the rows from `64 * at` on, and have none past the last.
+    /// Returns the greatest digit of the rows that a block of words has, if it is at least `limit`. The words stand
+    /// for the rows from `64 * at` on, and have no row past the last one. The provided body gives no answer.
     fn greatest_in_block(&self, limit: u32, at: usize, block: &[u64]) -> EndDigit
         requires below { limit < base_of self.now }
         requires within { at + length block.now ≤ (length (digits self.now) + 63) / 64 }

@@ -1,13 +1,15 @@
 //! Components: each stores one digit of the numbers of a column, row by row, as bitmaps, equality or range encoded.
 #![tactic(auto)]
 
+mod answers;
 pub mod blocks;
 mod encoding;
 mod equality;
 mod marks;
 mod range;
 
-pub use encoding::{Encoding, EndDigit, RankedDigit};
+pub use answers::{EndDigit, RankedDigit};
+pub use encoding::Encoding;
 pub use equality::EqualityComponent;
 pub use range::RangeComponent;
 pub use std::alloc::AllocError as NoMemory;

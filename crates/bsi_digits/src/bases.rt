@@ -1,4 +1,5 @@
 //! A list of bases, under which a number has its digits.
+
 ghost use Rattle.std.specs.Prelude.{◌≡◌, ℕ, ◌^◌, ◌<◌, ◌≤◌, ◌↔◌, length, slice_index, position, sum, reverse, replicate, EachIndex, IsNone, IfNone, IfOk, IfErr, IfSome, IsErrOf};
 ghost use Rattle.std.specs.Result.{result_err};
 ghost use Rattle.bsi_digits.specs.Digits.{product, size_of, weight, digit_of, IsBase, IsBaseList};
@@ -10,14 +11,19 @@ use crate::{BasesError, NoMemory};
 use std::alloc::Global;
 use std::marker::Model;
 
+/// The most bases of a list.
 const MAX_BASES: usize = 63;
 
+/// The least base of a list.
 const MIN_BASE: u32 = 2;
 
+/// The greatest base of a list.
 const MAX_BASE: u32 = 1024;
 
+/// The greatest sum of a list's bases.
 const MAX_WIDTH: u64 = 4096;
 
+/// The greatest product of a list's bases.
 const MAX_SIZE: u64 = 1 << 63;
 
 /// A list of 1 to 63 bases. A contract sees the bases least significant first, as the components are numbered:

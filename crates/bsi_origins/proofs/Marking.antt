@@ -34,7 +34,7 @@ module _ (feeders : ℕ) (rows counts marks : List ℕ) (is : IsMarked feeders r
   with_marks after many each = record {
     some = is.some;
     few = is.few;
-    from = All-push (λ source. source < feeders) rows feeder is.from below;
+    from = All-push (λ f. f < feeders) rows feeder is.from below;
     long = length-set counts feeder (get_or counts feeder 0 + 1) ∙ is.long;
     counted = subst (λ k. AreCounts feeders (rows ++ feeder ∷ []) k (set counts feeder (get_or counts feeder 0 + 1))) (sym one)
         (subst (λ s. AreCounts feeders (rows ++ feeder ∷ []) (length rows + 1) (set counts s (get_or counts s 0 + 1))) (get_or-append_seam rows feeder [] 0)

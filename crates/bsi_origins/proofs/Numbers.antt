@@ -14,11 +14,11 @@ use Rattle.bsi_origins.specs.Origins.{count_before, AreCounts}
 
 -- no count is more than the rows
 pub count_before-le : (rows : List ℕ) (r f : ℕ) → r ≤ length rows → count_before rows r f ≤ r
-count_before-le rows r f within = omega (arith, count_by-le-length (λ source. nat_eq source f) (take r rows), length-take-le r rows within)
+count_before-le rows r f within = omega (arith, count_by-le-length (λ feeder. nat_eq feeder f) (take r rows), length-take-le r rows within)
 
 -- rows further on change none
 pub count_before-append : (rows more : List ℕ) (r f : ℕ) → r ≤ length rows → count_before (rows ++ more) r f ≡ count_before rows r f
-count_before-append rows more r f within = ap (count_by (λ source. nat_eq source f)) (take-append-le r rows more within)
+count_before-append rows more r f within = ap (count_by (λ feeder. nat_eq feeder f)) (take-append-le r rows more within)
 
 -- before the first row each feeder has none
 pub counted_none : (n f : ℕ) → let count : ℕ = get_or (replicate n 0) f 0 in count ≡ 0
@@ -27,13 +27,13 @@ counted_none (suc n) zero = refl
 counted_none (suc n) (suc f) = counted_none n f
 
 -- one feeder alone has them all
-pub counted_alone : (rows : List ℕ) (r : ℕ) → r ≤ length rows → All (λ source. source < 1) rows → count_before rows r 0 ≡ r
+pub counted_alone : (rows : List ℕ) (r : ℕ) → r ≤ length rows → All (λ feeder. feeder < 1) rows → count_before rows r 0 ≡ r
 counted_alone rows zero within from = refl
 counted_alone rows (suc r) within from =
     let there : r < length rows = omega arith in
-    let first : get_or rows r 0 < 1 = All-get_or (λ source. source < 1) rows r 0 there from in
+    let first : get_or rows r 0 < 1 = All-get_or (λ feeder. feeder < 1) rows r 0 there from in
     ap (λ k. count_before rows k 0) (sym (add-one r))
-    ∙ count_by_more_yes (λ source. nat_eq source 0) rows r 0 there (grind (arith, nat_tests, first))
+    ∙ count_by_more_yes (λ feeder. nat_eq feeder 0) rows r 0 there (grind (arith, nat_tests, first))
     ∙ ap (λ k. k + 1) (counted_alone rows r (omega arith) from) ∙ add-one r
 
 module _ (feeders : ℕ) (counts rows : List ℕ) (r : ℕ) (long : feeders ≤ length counts) (within : r < length rows) (small : get_or rows r 0 < feeders) where

@@ -10,7 +10,7 @@ pub record OriginList : Type 0 where
 
 -- how many of the first r rows came from a feeder
 abbrev pub count_before : List ℕ → ℕ → ℕ → ℕ
-count_before rows r feeder = count_by (λ source. nat_eq source feeder) (take r rows)
+count_before rows r feeder = count_by (λ row_feeder. nat_eq row_feeder feeder) (take r rows)
 
 -- these are the counts of the first r rows, by feeder
 abbrev pub AreCounts : ℕ → List ℕ → ℕ → List ℕ → Type 0
@@ -32,7 +32,7 @@ AreMarks len rows marks = (k f : ℕ) → 512 * k < length rows → f < len → 
 pub record IsMarked (feeders : ℕ) (rows counts marks : List ℕ) : Type 0 where
   pub some : 1 ≤ feeders
   pub few : feeders ≤ 64
-  pub from : All (λ source. source < feeders) rows
+  pub from : All (λ feeder. feeder < feeders) rows
   pub long : length counts ≡ 64
   pub counted : AreCounts feeders rows (length rows) counts
   pub many : length marks ≡ mark_len feeders * mark_count (length rows)

@@ -10,8 +10,8 @@ use crate::{MAX_FEEDERS, NoMemory, Origins};
 use bsi_bits::Bits;
 use std::alloc::Global;
 
-/// If more than one row in this many was found, the numbering goes over all rows.
-const MANY: u64 = 8;
+/// The fewest rows per found row with which the numbering goes from one found row to the next, and not over all rows.
+const MIN_ROWS_PER_FOUND: u64 = 8;
 
 /// Returns the rows of a found set in order, each by its feeder and its number among that feeder's rows. `origins`
 /// gives the feeder of each row of the table. If few rows were found, it reads, in each stretch of 512 rows, the
@@ -25,7 +25,7 @@ pub fn number_rows(
     ensures { IfOk result (λ rows. rows.items
         ≡ numbered_at origins.now.rows (set_places found.now.bits)) }
 {
-    if found.count() > origins.len() / MANY {
+    if found.count() > origins.len() / MIN_ROWS_PER_FOUND {
         number_many(alloc, found, origins)
     } else {
         number_few(alloc, found, origins)
@@ -61,12 +61,12 @@ fn number_many(alloc: Global, found: &Bits, origins: &Origins) -> Result<Vec<(u3
     let mut counts = [0u64; MAX_FEEDERS as usize];
     let mut listed = Vec::with_capacity(alloc, found.count() as usize)?;
     'rows: for r in 0..origins.len() {
-        let source = origins.feeder(r);
-        let count = counts[source as usize];
+        let feeder = origins.feeder(r);
+        let count = counts[feeder as usize];
         if found.get(r) {
-            listed.push((u32::from(source), count))?;
+            listed.push((u32::from(feeder), count))?;
         }
-        counts[source as usize] = count + 1;
+        counts[feeder as usize] = count + 1;
     }
     Ok(listed)
 }

@@ -21,7 +21,7 @@ pub(crate) type Counts = [u64; MAX_FEEDERS as usize];
 #[derive(Drop)]
 pub struct Origins {
     feeders: u32,
-    sources: Vec<u8>,
+    row_feeders: Vec<u8>,
     counts: Counts,
     marks: Vec<u32>,
     room: u64,
@@ -34,10 +34,10 @@ impl Model for Origins {
 
     ghost Value = { OriginList };
 
-    ghost view = { λ o. record { rows = o.sources.items; feeders = o.feeders; room = o.room } };
+    ghost view = { λ o. record { rows = o.row_feeders.items; feeders = o.feeders; room = o.room } };
 
-    ghost invariant = { λ o. IsMarked o.feeders o.sources.items o.counts o.marks.items
-        × HasRoomFor o.room (length o.sources.items) o.feeders (vec_capacity o.sources)
+    ghost invariant = { λ o. IsMarked o.feeders o.row_feeders.items o.counts o.marks.items
+        × HasRoomFor o.room (length o.row_feeders.items) o.feeders (vec_capacity o.row_feeders)
         (vec_capacity o.marks) };
 }
 
@@ -51,7 +51,7 @@ impl Origins {
         let counts = [0; MAX_FEEDERS as usize];
         Origins {
             feeders,
-            sources: Vec::new(alloc),
+            row_feeders: Vec::new(alloc),
             counts,
             marks: Vec::new(alloc),
             room: 0,
@@ -63,14 +63,14 @@ impl Origins {
         ensures len { result ≡ length self.now.rows }
         ensures within { result ≤ 2 ^ 32 }
     {
-        self.sources.len() as u64
+        self.row_feeders.len() as u64
     }
 
     /// Returns the number of feeders, from 1 to 64. Each row came from one of them.
     pub fn feeders(&self) -> u32
         ensures feeders { result ≡ self.now.feeders }
         ensures within { (1 ≤ result) × (result ≤ 64) }
-        ensures from { All (λ source. source < self.now.feeders) self.now.rows }
+        ensures from { All (λ feeder. feeder < self.now.feeders) self.now.rows }
     {
         self.feeders
     }
@@ -82,25 +82,26 @@ impl Origins {
         ensures within { result < self.now.feeders }
         ensures few { self.now.feeders ≤ 64 }
     {
-        self.sources[r as usize]
+        self.row_feeders[r as usize]
     }
 
-    /// Makes room for `more` further rows. Whatever the result, the rows stay. It allocates memory only if there is not
-    /// enough room already.
+    /// Makes room for `more` further rows. Whatever the result, the rows stay and there is no less room than before. It
+    /// allocates memory only if there is not enough room already.
     pub fn reserve(&mut self, more: u64) -> Result<(), NoMemory>
         requires { length self.old.rows + more ≤ 2 ^ 32 }
         ensures rows { self.new.rows ≡ self.old.rows }
         ensures feeders { self.new.feeders ≡ self.old.feeders }
         ensures ok { OnOk result (more ≤ self.new.room) }
+        ensures kept { self.old.room ≤ self.new.room }
         ensures err { OnErr result (self.new ≡ self.old) }
         ensures succeeds { more ≤ self.old.room → IsOk result }
     {
         if more <= self.room {
             return Ok(());
         }
-        let rows = self.sources.len() as u64 + more;
+        let rows = self.row_feeders.len() as u64 + more;
         let marks = mark_len(self.feeders) * rows.div_ceil(STRETCH) as usize;
-        self.sources.reserve(more as usize)?;
+        self.row_feeders.reserve(more as usize)?;
         self.marks.reserve(marks - self.marks.len())?;
         self.room = more;
         Ok(())
@@ -114,10 +115,10 @@ impl Origins {
         ensures feeders { self.new.feeders ≡ self.old.feeders }
         ensures room { self.new.room + 1 ≡ self.old.room }
     {
-        if self.sources.len() as u64 % STRETCH == 0 {
+        if self.row_feeders.len() as u64 % STRETCH == 0 {
             push_mark(&mut self.marks, &self.counts[..mark_len(self.feeders)]);
         }
-        self.sources.push_reserved(feeder);
+        self.row_feeders.push_reserved(feeder);
         self.counts[feeder as usize] += 1;
         self.room -= 1;
     }
@@ -140,11 +141,11 @@ impl Origins {
         ensures rows { IfOk result (λ origins. origins.rows ≡ self.now.rows) }
         ensures feeders { IfOk result (λ origins. origins.feeders ≡ self.now.feeders) }
     {
-        let sources = self.sources.clone()?;
+        let row_feeders = self.row_feeders.clone()?;
         let marks = self.marks.clone()?;
         Ok(Origins {
             feeders: self.feeders,
-            sources,
+            row_feeders,
             counts: self.counts,
             marks,
             room: 0,

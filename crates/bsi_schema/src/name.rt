@@ -12,16 +12,10 @@ const MAX_NAME: usize = 32;
 pub fn is_valid_name(text: &[u8]) -> bool
     ensures { result ≡ is_name text.now }
 {
-    if !begins_lowercase(text) {
-        return false;
-    }
-    if text.len() > MAX_NAME {
-        return false;
-    }
-    if !has_valid_bytes(text) {
-        return false;
-    }
-    !is_predicate_word(text)
+    begins_lowercase(text)
+        && text.len() <= MAX_NAME
+        && has_valid_bytes(text)
+        && !is_predicate_word(text)
 }
 
 /// Returns whether the first byte is a lower-case letter.

@@ -103,6 +103,7 @@ impl Bits {
         ensures { result ≡ count_by (λ b. b)
             (zip2 ◌&&◌ (in_words start end self.now.bits) (in_words start end other.now.bits)) }
     {
+        // The proof takes from this that there are at most 2^32 bits.
         prove!(self.len() <= 1 << 32);
         let words = &self.words()[start..end];
         let others = &other.words()[start..end];
@@ -119,6 +120,7 @@ impl Bits {
         ensures { result ≡ count_by (λ b. b)
             (zip2 without (in_words start end self.now.bits) (in_words start end other.now.bits)) }
     {
+        // The proof takes from this that there are at most 2^32 bits.
         prove!(self.len() <= 1 << 32);
         let words = &self.words()[start..end];
         let others = &other.words()[start..end];

@@ -1,4 +1,4 @@
-//! Counts of an equality encoded component's found rows by digit, and the digits of a rank and of a sum that rest on them.
+//! Counts of found rows by digit in an equality encoded component, and the digit of a rank and the sum by them.
 
 ghost use Rattle.std.specs.Prelude.{◌≡◌, ◌+◌, ◌/◌, ◌^◌, ◌<◌, ◌≤◌, ◌==◌, length, count_by, nat_le, nat_lt, sum};
 ghost use Rattle.std.specs.List.{items_where_true};
@@ -6,7 +6,8 @@ ghost use Rattle.bsi_bits.specs.BitList.{in_words};
 ghost use Rattle.bsi_components.specs.Component.{count_where};
 ghost use Rattle.bsi_components.specs.Equality.{is_among};
 
-use crate::encoding::{Encoding, RankedDigit};
+use crate::answers::RankedDigit;
+use crate::encoding::Encoding;
 use crate::equality::EqualityComponent;
 use bsi_bits::Bits;
 
@@ -30,6 +31,7 @@ impl EqualityComponent {
         requires same { length self.now.digits ≡ length found.now.bits }
         ensures { result ≡ count_where (is_among from to) found.now.bits self.now.digits }
     {
+        // The proof takes from this that there are at most 2^32 rows.
         prove!(found.len() <= 1 << 32);
         let mut rows = 0;
         'digits: for j in from..to {
@@ -38,8 +40,8 @@ impl EqualityComponent {
         rows
     }
 
-    /// Returns the digit of the row of rank `rank` among the rows of a found set, and its rank among those of its digit.
-    /// It counts the digits from 0 up.
+    /// Returns the digit of the row of rank `rank` among the rows of a found set, and its rank among those of its
+    /// digit. It counts the digits from 0 up.
     pub(crate) fn rank_from_least(&self, rank: u64, found: &Bits) -> RankedDigit
         requires same { length self.now.digits ≡ length found.now.bits }
         requires there { rank < count_by (λ b. b) found.now.bits }
@@ -64,8 +66,8 @@ impl EqualityComponent {
         }
     }
 
-    /// Returns the digit of the row of rank `rank` among the rows of a found set, and its rank among those of its digit.
-    /// It counts the digits from the greatest down; `rows` is the number of all found rows.
+    /// Returns the digit of the row of rank `rank` among the rows of a found set, and its rank among those of its
+    /// digit. It counts the digits from the greatest down; `rows` is the number of all found rows.
     pub(crate) fn rank_from_greatest(&self, rank: u64, rows: u64, found: &Bits) -> RankedDigit
         requires same { length self.now.digits ≡ length found.now.bits }
         requires all { rows ≡ count_by (λ b. b) found.now.bits }
@@ -92,8 +94,8 @@ impl EqualityComponent {
         RankedDigit { digit: 0, rank }
     }
 
-    /// Returns the sum of the digits of the found rows in the words from `start` on and before `end`: the number of these
-    /// rows that have a digit, times the digit, for each but 0.
+    /// Returns the sum of the digits of the found rows in the words from `start` on and before `end`: for each digit
+    /// but 0, the digit times the number of these rows that have it.
     pub(crate) fn digit_sum_in(&self, found: &Bits, start: usize, end: usize) -> u128
         requires same { length self.now.digits ≡ length found.now.bits }
         requires forward { start ≤ end }

@@ -9,7 +9,7 @@ returns-then-feeders-eq1 c = λ f below.
     let rows = c.args.origins.now.rows in
     let alone : c.args.origins.now.feeders ≡ 1 = omega arith in
     let first : f ≡ 0 = omega arith in
-    let from : All (λ source. source < 1) rows = subst (λ feeders. All (λ source. source < feeders) rows) alone c.feeders.ensures.from in
+    let from : All (λ feeder. feeder < 1) rows = subst (λ feeders. All (λ feeder. feeder < feeders) rows) alone c.feeders.ensures.from in
     ap (λ k. get_or (set c.args.counts.now 0 c.args.to) k 0) first
     ∙ get_or-set_same c.args.counts.now 0 c.args.to 0 (omega arith)
     ∙ sym (counted_alone rows c.args.to (omega arith) from)

@@ -15,17 +15,17 @@ rows-preserved c =
     let feeders = c.args.origins.now.rows in
     let bits = c.args.found.now.bits in
     let r = c.rows.r in
-    let source = c.feeder-source.result in
-    let there = c.feeder-source.ensures.feeder in
-    let count = get_or c.rows.counts source 0 in
+    let feeder = c.feeder-feeder.result in
+    let there = c.feeder-feeder.ensures.feeder in
+    let count = get_or c.rows.counts feeder 0 in
     let within : r < length feeders = omega (arith, c.rows-test.true, c.len-r-end.ensures.len) in
     let is : slice_index_or bits r false ≡ c.get.result = get_or_from_slice_get bits r c.get.result false c.get.ensures in
-    let counted : count ≡ number_within feeders r = c.rows.invariant.counted source c.feeder-source.ensures.within ∙ ap (count_before feeders r) there in
+    let counted : count ≡ number_within feeders r = c.rows.invariant.counted feeder c.feeder-feeder.ensures.within ∙ ap (count_before feeders r) there in
     record {
-      long = length-set c.rows.counts source (count + 1) ∙ c.rows.invariant.long;
+      long = length-set c.rows.counts feeder (count + 1) ∙ c.rows.invariant.long;
       counted = subst (λ f. AreCounts c.args.origins.now.feeders feeders (r + 1) (set c.rows.counts f (get_or c.rows.counts f 0 + 1))) (sym there)
-          (counted_more c.args.origins.now.feeders c.rows.counts feeders r (omega (arith, c.rows.invariant.long, c.feeder-source.ensures.few)) within
-          (subst (λ f. f < c.args.origins.now.feeders) there c.feeder-source.ensures.within) c.rows.invariant.counted);
+          (counted_more c.args.origins.now.feeders c.rows.counts feeders r (omega (arith, c.rows.invariant.long, c.feeder-feeder.ensures.few)) within
+          (subst (λ f. f < c.args.origins.now.feeders) there c.feeder-feeder.ensures.within) c.rows.invariant.counted);
       rows = elim c.if-get.branch [
         | then-get+in_ok-push w ↦
             ap (λ v. v.items) w.listed-is ∙ w.in_ok-push.ensures.items

@@ -3,7 +3,7 @@ use Rattle.std.specs.Prelude.{nat_eq}
 use Rattle.std.proofs.lemmas.Bool.{cases_lt}
 use Rattle.std.proofs.lemmas.List.{get_or_past}
 use Rattle.bsi_bits.specs.Packed.{bit_of}
-use Rattle.bsi_components.specs.declared.encoding.EndDigit.TheVariants.{Digit}
+use Rattle.bsi_components.specs.declared.answers.EndDigit.TheVariants.{Digit}
 use Rattle.bsi_columns.specs.BlockEnds.{AnswersEnd}
 use Rattle.bsi_columns.proofs.EndDigits.{end_member, end_first, kept_inside, kept_outside, kept_some}
 use Rattle.bsi_columns.proofs.decomposed.ends.keep_nearest.Goals as goal

@@ -9,36 +9,36 @@ pub push_mark-requires-clause-small : goal.push_mark-requires-clause-small
 push_mark-requires-clause-small c =
     let i = c.self.inside in
     let room = ap (λ o. o.room) c.self.view_is in
-    mark_small i.feeders i.sources.items i.counts i.marks.items c.self.invariant.0 c.mark_len.result c.mark_len.ensures
+    mark_small i.feeders i.row_feeders.items i.counts i.marks.items c.self.invariant.0 c.mark_len.result c.mark_len.ensures
     (omega (arith, c.self.invariant.1.within, c.requires.room, room))
 
 pub invariant_of-self : goal.invariant_of-self
 invariant_of-self c =
     let i = c.self.inside in
-    let rows = i.sources.items in
+    let rows = i.row_feeders.items in
     let feeder = c.args.feeder in
     let below : feeder < i.feeders = omega (arith, c.requires.feeder, ap (λ o. o.feeders) c.self.view_is) in
     let room : 0 < i.room = omega (arith, c.requires.room, ap (λ o. o.room) c.self.view_is) in
-    let len : c.len.result ≡ length rows = c.len.ensures ∙ i.sources.ok.0 in
+    let len : c.len.result ≡ length rows = c.len.ensures ∙ i.row_feeders.ok.0 in
     let marked : Inside → Type 0 = λ now. IsMarked now.feeders c.push_reserved.new.self.items (set now.counts feeder (get_or now.counts feeder 0 + 1)) now.marks.items
     × HasRoomFor (now.room - 1) (length c.push_reserved.new.self.items) now.feeders (vec_capacity c.push_reserved.new.self) (vec_capacity now.marks) in
     elim c.if-len-eq0.branch [
       | then-len-eq0 w ↦
           let begins : length rows % 512 ≡ 0 = ap (λ n. n % 512) (sym len) ∙ w.if-len-eq0.true in
-          let items = c.push_reserved.ensures.items ∙ ap (λ (now : Inside). now.sources.items ++ feeder ∷ []) w.self-inside-is in
-          let capacity = c.push_reserved.ensures.capacity ∙ ap (λ (now : Inside). vec_capacity now.sources) w.self-inside-is in
+          let items = c.push_reserved.ensures.items ∙ ap (λ (now : Inside). now.row_feeders.items ++ feeder ∷ []) w.self-inside-is in
+          let capacity = c.push_reserved.ensures.capacity ∙ ap (λ (now : Inside). vec_capacity now.row_feeders) w.self-inside-is in
           let marks = w.push_mark.ensures.items ∙ ap (λ n. i.marks.items ++ take n i.counts) w.mark_len.ensures in
           subst marked (sym w.self-inside-is)
-          (marked_push i.feeders i.room (vec_capacity i.sources) (vec_capacity i.marks) feeder rows i.counts c.push_reserved.new.self.items w.push_mark.new.marks.items
+          (marked_push i.feeders i.room (vec_capacity i.row_feeders) (vec_capacity i.marks) feeder rows i.counts c.push_reserved.new.self.items w.push_mark.new.marks.items
           c.self.invariant.1 room items (vec_capacity c.push_reserved.new.self) (vec_capacity w.push_mark.new.marks) capacity w.push_mark.ensures.capacity
           (subst (IsMarked i.feeders (rows ++ feeder ∷ []) (set i.counts feeder (get_or i.counts feeder 0 + 1))) (sym marks)
           (marked_begun i.feeders rows i.counts i.marks.items c.self.invariant.0 feeder below begins)))
       | else-len-eq0 w ↦
           let within : 0 < length rows % 512 = omega (arith, len, w.if-len-eq0.false) in
-          let items = c.push_reserved.ensures.items ∙ ap (λ (now : Inside). now.sources.items ++ feeder ∷ []) w.self-inside-is in
-          let capacity = c.push_reserved.ensures.capacity ∙ ap (λ (now : Inside). vec_capacity now.sources) w.self-inside-is in
+          let items = c.push_reserved.ensures.items ∙ ap (λ (now : Inside). now.row_feeders.items ++ feeder ∷ []) w.self-inside-is in
+          let capacity = c.push_reserved.ensures.capacity ∙ ap (λ (now : Inside). vec_capacity now.row_feeders) w.self-inside-is in
           subst marked (sym w.self-inside-is)
-          (marked_push i.feeders i.room (vec_capacity i.sources) (vec_capacity i.marks) feeder rows i.counts c.push_reserved.new.self.items i.marks.items
+          (marked_push i.feeders i.room (vec_capacity i.row_feeders) (vec_capacity i.marks) feeder rows i.counts c.push_reserved.new.self.items i.marks.items
           c.self.invariant.1 room items (vec_capacity c.push_reserved.new.self) (vec_capacity i.marks) capacity refl
           (marked_within i.feeders rows i.counts i.marks.items c.self.invariant.0 feeder below within))
     ]

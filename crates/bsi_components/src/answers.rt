@@ -1,0 +1,19 @@
+//! What a component answers of the digits of found rows: the digit of a rank, and the least or greatest of a block.
+
+/// A digit, and a rank, from 0, among the rows that have it.
+#[derive(Clone, Copy, Debug, PartialEq, Eq)]
+pub struct RankedDigit {
+    pub digit: u32,
+    pub rank: u64,
+}
+
+/// What a component answers of the least or the greatest digit of some rows.
+#[derive(Clone, Copy, Debug, PartialEq, Eq)]
+pub enum EndDigit {
+    /// Nothing, since the encoding works on whole vectors alone.
+    Unanswered,
+    /// That each of the rows has a digit past the limit.
+    Past,
+    /// The digit, which is within the limit.
+    Digit(u32),
+}

@@ -1,0 +1,252 @@
+//! The calls of an equality encoded component as an encoding.
+
+ghost use Rattle.std.specs.Prelude.{◌≡◌, ◌≢◌, ℕ, ◌+◌, ◌*◌, ◌/◌, ◌<◌, ◌≤◌, ◌==◌, ◌&&◌, length, nat_le, true, slice_index, sum, IsTrue};
+ghost use Rattle.std.specs.Bool.{OnTrue, OnFalse};
+ghost use Rattle.bsi_bits.specs.Packed.{bit_of};
+ghost use Rattle.bsi_components.specs.Component.{at_most_from};
+ghost use Rattle.bsi_components.specs.EndDigits.{AnswersGreatest, AnswersLeast, HasRow};
+
+use crate::NoMemory;
+use crate::answers::{EndDigit, RankedDigit};
+use crate::blocks::{SUM_BLOCK_WORDS, add_missing, copy_in, drop_in, keep_in};
+use crate::encoding::Encoding;
+use crate::equality::{EqualityComponent, first_stored, push_block};
+use bsi_bits::{Bitmaps, Bits};
+use std::alloc::Global;
+
+impl Encoding for EqualityComponent {
+    ghost base_of = { λ c. c.base };
+
+    ghost digits = { λ c. c.digits };
+
+    ghost room_of = { λ c. c.room };
+
+    fn make(alloc: Global, base: u32) -> Result<Self, NoMemory> {
+        let bitmaps = Bitmaps::new(alloc, (base - first_stored(base)) as usize)?;
+        Ok(EqualityComponent { base, bitmaps })
+    }
+
+    fn base(&self) -> u32
+        ensures base { result ≡ self.now.base }
+        ensures within { (2 ≤ result) × (result ≤ 1024) }
+        ensures below { (k : ℕ) → slice_index self.now.digits k < result }
+    {
+        self.base
+    }
+
+    fn len(&self) -> u64 {
+        self.bitmaps.len()
+    }
+
+    fn room(&self) -> u64 {
+        self.bitmaps.room()
+    }
+
+    fn reserve(&mut self, more: u64) -> Result<(), NoMemory> {
+        self.bitmaps.reserve(more)
+    }
+
+    fn push_reserved(&mut self, digit: u32) {
+        let first = first_stored(self.base);
+        self.bitmaps.push_each(
+            |j: usize| -> bool
+                ensures { result ≡ (digit == first + j) }
+            { digit >= first && (digit - first) as usize == j },
+        );
+    }
+
+    fn push_block_reserved(&mut self, block: &[u32]) {
+        push_block(&mut self.bitmaps, first_stored(self.base), self.base, block);
+    }
+
+    fn eq_into(&self, d: u32, out: &mut Bits) {
+        if d == 0 && self.base() == 2 {
+            out.copy_from(self.bitmap(1));
+            out.flip();
+        } else {
+            out.copy_from(self.bitmap(d));
+        }
+    }
+
+    // It reads the bitmaps up to the digit, or those past it, whichever are fewer.
+    fn le_into(&self, d: u32, out: &mut Bits) {
+        let base = self.base();
+        if base > 2 && 2 * (d + 1) <= base {
+            self.among_into(0, d + 1, out);
+        } else if d + 1 < base {
+            self.among_into(d + 1, base, out);
+            out.flip();
+        } else {
+            out.copy_from(self.bitmap(1));
+            out.flip();
+            out.or_with(self.bitmap(1));
+        }
+    }
+
+    // It goes over the rows block by block. So the found rows of a block are read from memory once for all bitmaps.
+    fn digit_sum(&self, found: &Bits) -> u128 {
+        // The proof takes from this that there are at most 2^32 rows.
+        prove!(found.len() <= 1 << 32);
+        let words = found.words().len();
+        let mut sum = 0u128;
+        'blocks: for k in 0..words.div_ceil(SUM_BLOCK_WORDS) {
+            let start = SUM_BLOCK_WORDS * k;
+            sum += self.digit_sum_in(found, start, words.min(start + SUM_BLOCK_WORDS));
+        }
+        sum
+    }
+
+    // It counts by the bitmaps up to the digit, or by those past it, whichever are fewer, and writes no vector.
+    fn count_le(&self, d: u32, found: &Bits, _scratch: &mut Bits) -> u64 {
+        let base = self.base();
+        if 2 * (d + 1) <= base {
+            self.count_among(0, d + 1, found)
+        } else {
+            found.count() - self.count_among(d + 1, base, found)
+        }
+    }
+
+    // It counts the digits from the end that is nearer to the rank, by one bitmap each, and writes no vector.
+    fn digit_of_rank(&self, rank: u64, found: &Bits, _scratch: &mut Bits) -> RankedDigit {
+        let rows = found.count();
+        if rank < rows / 2 {
+            self.rank_from_least(rank, found)
+        } else {
+            self.rank_from_greatest(rank, rows, found)
+        }
+    }
+
+    fn keep_digit(&self, d: u32, _scratch: &mut Bits, rows: &mut Bits) {
+        if d == 0 && self.base() == 2 {
+            rows.and_not_with(self.bitmap(1));
+        } else {
+            rows.and_with(self.bitmap(d));
+        }
+    }
+
+    fn copy(&self) -> Result<Self, NoMemory> {
+        let bitmaps = self.bitmaps.copy()?;
+        Ok(EqualityComponent {
+            base: self.base,
+            bitmaps,
+        })
+    }
+
+    fn eq_block(&self, d: u32, at: usize, block: &mut [u64]) -> bool
+        requires below { d < self.now.base }
+        requires within { at + length block.old ≤ (length self.now.digits + 63) / 64 }
+        ensures done { IsTrue result }
+        ensures kept { OnFalse result (block.new ≡ block.old) }
+        ensures bits { OnTrue result ((p : ℕ) → p < 64 * length block.old →
+            64 * at + p < length self.now.digits →
+            bit_of block.new p ≡ (bit_of block.old p
+            && (slice_index self.now.digits (64 * at + p) == d))) }
+    {
+        if d == 0 && self.base() == 2 {
+            drop_in(self.bitmap(1), at, block);
+        } else {
+            keep_in(self.bitmap(d), at, block);
+        }
+        true
+    }
+
+    // It copies one bitmap, but for digit 0 under base 2, which has none.
+    fn eq_block_into(&self, d: u32, at: usize, block: &mut [u64]) -> bool
+        requires below { d < self.now.base }
+        requires within { at + length block.old ≤ (length self.now.digits + 63) / 64 }
+        ensures done { IsTrue result }
+        ensures bits { OnTrue result ((p : ℕ) → p < 64 * length block.old →
+            64 * at + p < length self.now.digits →
+            bit_of block.new p ≡ (slice_index self.now.digits (64 * at + p) == d)) }
+    {
+        if d == 0 && self.base() == 2 {
+            block.fill(u64::MAX);
+            return self.eq_block(d, at, block);
+        }
+        copy_in(self.bitmap(d), at, block);
+        true
+    }
+
+    // It reads the bitmaps up to the digit, or those from it on, whichever are fewer.
+    fn le_block(&self, d: u32, at: usize, block: &mut [u64]) -> bool
+        requires below { d < self.now.base }
+        requires within { at + length block.old ≤ (length self.now.digits + 63) / 64 }
+        ensures done { IsTrue result }
+        ensures kept { OnFalse result (block.new ≡ block.old) }
+        ensures bits { OnTrue result ((p : ℕ) → p < 64 * length block.old →
+            64 * at + p < length self.now.digits →
+            bit_of block.new p ≡ at_most_from (bit_of block.old p)
+            (slice_index self.now.digits (64 * at + p)) d) }
+    {
+        let base = self.base();
+        if base == 2 {
+            if d == 0 {
+                drop_in(self.bitmap(1), at, block);
+            } else {
+                add_missing(self.bitmap(1), at, block);
+            }
+        } else if 2 * d < base {
+            keep_in(self.bitmap(d), at, block);
+            self.add_among(0, d, at, block);
+        } else {
+            add_missing(self.bitmap(d), at, block);
+            self.drop_among(d + 1, base, at, block);
+        }
+        true
+    }
+
+    // It is the provided body, under a clause that says that it is always done.
+    fn le_block_into(&self, d: u32, at: usize, block: &mut [u64]) -> bool
+        requires below { d < self.now.base }
+        requires within { at + length block.old ≤ (length self.now.digits + 63) / 64 }
+        ensures done { IsTrue result }
+        ensures bits { OnTrue result ((p : ℕ) → p < 64 * length block.old →
+            64 * at + p < length self.now.digits →
+            bit_of block.new p ≡ nat_le (slice_index self.now.digits (64 * at + p)) d) }
+    {
+        block.fill(u64::MAX);
+        self.le_block(d, at, block)
+    }
+
+    // It reads the bitmaps from digit 0 up.
+    fn least_in_block(&self, limit: u32, at: usize, block: &[u64]) -> EndDigit
+        requires below { limit < self.now.base }
+        requires within { at + length block.now ≤ (length self.now.digits + 63) / 64 }
+        requires rows { (p : ℕ) → p < 64 * length block.now → bit_of block.now p ≡ true →
+            64 * at + p < length self.now.digits }
+        requires some { HasRow (bit_of block.now) (64 * length block.now) }
+        ensures done { result ≢ EndDigit.Unanswered }
+        ensures answer { AnswersLeast limit (bit_of block.now)
+            (λ p. slice_index self.now.digits (64 * at + p)) (64 * length block.now) result }
+    {
+        // The proof takes from this call that the base is at most 1,024, so `limit + 1` is a number of 32 bits.
+        let _base = self.base();
+        'digits: for digit in 0..limit + 1 {
+            if self.has_digit(digit, at, block) {
+                return EndDigit::Digit(digit);
+            }
+        }
+        EndDigit::Past
+    }
+
+    // It reads the bitmaps from the greatest digit down.
+    fn greatest_in_block(&self, limit: u32, at: usize, block: &[u64]) -> EndDigit
+        requires below { limit < self.now.base }
+        requires within { at + length block.now ≤ (length self.now.digits + 63) / 64 }
+        requires rows { (p : ℕ) → p < 64 * length block.now → bit_of block.now p ≡ true →
+            64 * at + p < length self.now.digits }
+        requires some { HasRow (bit_of block.now) (64 * length block.now) }
+        ensures done { result ≢ EndDigit.Unanswered }
+        ensures answer { AnswersGreatest limit (bit_of block.now)
+            (λ p. slice_index self.now.digits (64 * at + p)) (64 * length block.now) result }
+    {
+        let mut digit = self.base();
+        'digits: while digit > limit {
+            digit -= 1;
+            if self.has_digit(digit, at, block) {
+                return EndDigit::Digit(digit);
+            }
+        }
+        EndDigit::Past
+    }
+}

@@ -1,0 +1,240 @@
+//! The calls of a range encoded component as an encoding.
+
+ghost use Rattle.std.specs.Prelude.{◌≡◌, ◌≢◌, ℕ, ◌+◌, ◌*◌, ◌/◌, ◌<◌, ◌≤◌, ◌==◌, ◌&&◌, length, nat_le, true, slice_index, sum, IsTrue};
+ghost use Rattle.std.specs.Bool.{OnTrue, OnFalse};
+ghost use Rattle.bsi_bits.specs.Packed.{bit_of};
+ghost use Rattle.bsi_components.specs.Component.{at_most_from};
+ghost use Rattle.bsi_components.specs.EndDigits.{AnswersGreatest, AnswersLeast, HasRow};
+
+use crate::NoMemory;
+use crate::answers::EndDigit;
+use crate::blocks::{
+    SUM_BLOCK_WORDS, add_in, copy_in, drop_in, keep_and_add, keep_but_drop, keep_in,
+};
+use crate::encoding::Encoding;
+use crate::range::{RangeComponent, push_block};
+use bsi_bits::{Bitmaps, Bits};
+use std::alloc::Global;
+
+impl Encoding for RangeComponent {
+    ghost base_of = { λ c. c.base };
+
+    ghost digits = { λ c. c.digits };
+
+    ghost room_of = { λ c. c.room };
+
+    fn make(alloc: Global, base: u32) -> Result<Self, NoMemory> {
+        let bitmaps = Bitmaps::new(alloc, base as usize - 1)?;
+        Ok(RangeComponent { base, bitmaps })
+    }
+
+    fn base(&self) -> u32 {
+        self.base
+    }
+
+    fn len(&self) -> u64 {
+        self.bitmaps.len()
+    }
+
+    fn room(&self) -> u64 {
+        self.bitmaps.room()
+    }
+
+    fn reserve(&mut self, more: u64) -> Result<(), NoMemory> {
+        self.bitmaps.reserve(more)
+    }
+
+    fn push_reserved(&mut self, digit: u32) {
+        self.bitmaps.push_each(
+            |j: usize| -> bool
+                ensures { result ≡ nat_le digit j }
+            { digit as usize <= j },
+        );
+    }
+
+    fn push_block_reserved(&mut self, block: &[u32]) {
+        push_block(&mut self.bitmaps, self.base, block);
+    }
+
+    fn eq_into(&self, d: u32, out: &mut Bits) {
+        if d == self.top() {
+            out.copy_from(self.bitmap(d - 1));
+            out.flip();
+        } else {
+            out.copy_from(self.bitmap(d));
+            if d > 0 {
+                out.and_not_with(self.bitmap(d - 1));
+            }
+        }
+    }
+
+    fn le_into(&self, d: u32, out: &mut Bits) {
+        let top = self.top();
+        if d < top {
+            out.copy_from(self.bitmap(d));
+        } else {
+            out.copy_from(self.bitmap(0));
+            out.flip();
+            out.or_with(self.bitmap(0));
+        }
+    }
+
+    // It goes over the rows block by block. So the found rows of a block are read from memory once for all bitmaps.
+    fn digit_sum(&self, found: &Bits) -> u128 {
+        // The proof takes from this that there are at most 2^32 rows.
+        prove!(found.len() <= 1 << 32);
+        let words = found.words().len();
+        let mut sum = 0u128;
+        'blocks: for k in 0..words.div_ceil(SUM_BLOCK_WORDS) {
+            let start = SUM_BLOCK_WORDS * k;
+            sum += self.digit_sum_in(found, start, words.min(start + SUM_BLOCK_WORDS));
+        }
+        sum
+    }
+
+    // It writes no vector.
+    fn count_le(&self, d: u32, found: &Bits, _scratch: &mut Bits) -> u64 {
+        if d < self.top() {
+            found.count_and(self.bitmap(d))
+        } else {
+            found.count()
+        }
+    }
+
+    fn keep_digit(&self, d: u32, _scratch: &mut Bits, rows: &mut Bits) {
+        if d == self.top() {
+            rows.and_not_with(self.bitmap(d - 1));
+        } else if d > 0 {
+            rows.and_with(self.bitmap(d));
+            rows.and_not_with(self.bitmap(d - 1));
+        } else {
+            rows.and_with(self.bitmap(0));
+        }
+    }
+
+    fn copy(&self) -> Result<Self, NoMemory> {
+        let bitmaps = self.bitmaps.copy()?;
+        Ok(RangeComponent {
+            base: self.base,
+            bitmaps,
+        })
+    }
+
+    fn eq_block(&self, d: u32, at: usize, block: &mut [u64]) -> bool
+        requires below { d < self.now.base }
+        requires within { at + length block.old ≤ (length self.now.digits + 63) / 64 }
+        ensures done { IsTrue result }
+        ensures kept { OnFalse result (block.new ≡ block.old) }
+        ensures bits { OnTrue result ((p : ℕ) → p < 64 * length block.old →
+            64 * at + p < length self.now.digits →
+            bit_of block.new p ≡ (bit_of block.old p
+            && (slice_index self.now.digits (64 * at + p) == d))) }
+    {
+        if d == self.top() {
+            drop_in(self.bitmap(d - 1), at, block);
+        } else if d > 0 {
+            keep_but_drop(self.bitmap(d), self.bitmap(d - 1), at, block);
+        } else {
+            keep_in(self.bitmap(0), at, block);
+        }
+        true
+    }
+
+    fn le_block(&self, d: u32, at: usize, block: &mut [u64]) -> bool
+        requires below { d < self.now.base }
+        requires within { at + length block.old ≤ (length self.now.digits + 63) / 64 }
+        ensures done { IsTrue result }
+        ensures kept { OnFalse result (block.new ≡ block.old) }
+        ensures bits { OnTrue result ((p : ℕ) → p < 64 * length block.old →
+            64 * at + p < length self.now.digits →
+            bit_of block.new p ≡ at_most_from (bit_of block.old p)
+            (slice_index self.now.digits (64 * at + p)) d) }
+    {
+        if d == self.top() {
+            add_in(self.bitmap(d - 1), at, block);
+        } else if d > 0 {
+            keep_and_add(self.bitmap(d), self.bitmap(d - 1), at, block);
+        } else {
+            keep_in(self.bitmap(0), at, block);
+        }
+        true
+    }
+
+    // It is the provided body, under a clause that says that it is always done.
+    fn eq_block_into(&self, d: u32, at: usize, block: &mut [u64]) -> bool
+        requires below { d < self.now.base }
+        requires within { at + length block.old ≤ (length self.now.digits + 63) / 64 }
+        ensures done { IsTrue result }
+        ensures bits { OnTrue result ((p : ℕ) → p < 64 * length block.old →
+            64 * at + p < length self.now.digits →
+            bit_of block.new p ≡ (slice_index self.now.digits (64 * at + p) == d)) }
+    {
+        block.fill(u64::MAX);
+        self.eq_block(d, at, block)
+    }
+
+    // It reads one bitmap, where `le_block` may read two.
+    fn le_block_into(&self, d: u32, at: usize, block: &mut [u64]) -> bool
+        requires below { d < self.now.base }
+        requires within { at + length block.old ≤ (length self.now.digits + 63) / 64 }
+        ensures done { IsTrue result }
+        ensures bits { OnTrue result ((p : ℕ) → p < 64 * length block.old →
+            64 * at + p < length self.now.digits →
+            bit_of block.new p ≡ nat_le (slice_index self.now.digits (64 * at + p)) d) }
+    {
+        if d == self.top() {
+            block.fill(u64::MAX);
+        } else {
+            copy_in(self.bitmap(d), at, block);
+        }
+        true
+    }
+
+    // The first bitmap that it reads tells whether a digit is within the limit.
+    fn least_in_block(&self, limit: u32, at: usize, block: &[u64]) -> EndDigit
+        requires below { limit < self.now.base }
+        requires within { at + length block.now ≤ (length self.now.digits + 63) / 64 }
+        requires rows { (p : ℕ) → p < 64 * length block.now → bit_of block.now p ≡ true →
+            64 * at + p < length self.now.digits }
+        requires some { HasRow (bit_of block.now) (64 * length block.now) }
+        ensures done { result ≢ EndDigit.Unanswered }
+        ensures answer { AnswersLeast limit (bit_of block.now)
+            (λ p. slice_index self.now.digits (64 * at + p)) (64 * length block.now) result }
+    {
+        if limit < self.top() && !self.has_upto(limit, at, block) {
+            return EndDigit::Past;
+        }
+        let mut digit = limit;
+        'digits: while digit > 0 {
+            if !self.has_upto(digit - 1, at, block) {
+                return EndDigit::Digit(digit);
+            }
+            digit -= 1;
+        }
+        EndDigit::Digit(0)
+    }
+
+    // The first bitmap that it reads tells whether a digit is within the limit.
+    fn greatest_in_block(&self, limit: u32, at: usize, block: &[u64]) -> EndDigit
+        requires below { limit < self.now.base }
+        requires within { at + length block.now ≤ (length self.now.digits + 63) / 64 }
+        requires rows { (p : ℕ) → p < 64 * length block.now → bit_of block.now p ≡ true →
+            64 * at + p < length self.now.digits }
+        requires some { HasRow (bit_of block.now) (64 * length block.now) }
+        ensures done { result ≢ EndDigit.Unanswered }
+        ensures answer { AnswersGreatest limit (bit_of block.now)
+            (λ p. slice_index self.now.digits (64 * at + p)) (64 * length block.now) result }
+    {
+        if limit > 0 && !self.has_above(limit - 1, at, block) {
+            return EndDigit::Past;
+        }
+        let mut digit = limit;
+        'digits: while digit < self.top() {
+            if !self.has_above(digit, at, block) {
+                return EndDigit::Digit(digit);
+            }
+            digit += 1;
+        }
+        EndDigit::Digit(digit)
+    }
+}
