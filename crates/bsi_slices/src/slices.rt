@@ -99,9 +99,13 @@ impl Slices {
 }
 
 impl Column for Slices {
-    ghost size_of = { λ c. 2 ^ c.width };
+    ghost Form = { ℕ };
 
-    ghost bases_of = { λ c. replicate c.width 2 };
+    ghost form_of = { λ c. c.width };
+
+    ghost size_of = { λ width. 2 ^ width };
+
+    ghost bases_of = { λ width. replicate width 2 };
 
     ghost entries = { λ c. c.entries };
 
