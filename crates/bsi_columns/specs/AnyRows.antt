@@ -1,20 +1,35 @@
 -- What a contract sees of a column of any form.
-use Rattle.std.specs.Prelude.{ℕ, ◌≡◌, ◌^◌, List, Option, replicate}
+use Rattle.std.specs.Prelude.{ℕ, ◌^◌, List, Option, replicate}
 use Rattle.bsi_digits.specs.Digits.{size_of}
 use Rattle.bsi_columns.specs.declared.any.AnyColumn.{AnyColumn}
 use Rattle.bsi_columns.specs.declared.any.AnyColumn.TheVariants.{Slices, Equality, Range}
 
+-- a form: slices of a width, or components of an encoding under bases
+pub data AnyForm : Type 0 where
+  slices_of : ℕ → AnyForm
+  equality_under : List ℕ → AnyForm
+  range_under : List ℕ → AnyForm
+
+abbrev pub any_form : AnyColumn → AnyForm
+any_form (Slices c) = slices_of c.width
+any_form (Equality c) = equality_under c.bases
+any_form (Range c) = range_under c.bases
+
+-- what each number of a form is below
+abbrev pub size_in_form : AnyForm → ℕ
+size_in_form (slices_of width) = 2 ^ width
+size_in_form (equality_under bs) = size_of bs
+size_in_form (range_under bs) = size_of bs
+
+-- the bases of the digits that a form keeps a number as
+abbrev pub bases_in_form : AnyForm → List ℕ
+bases_in_form (slices_of width) = replicate width 2
+bases_in_form (equality_under bs) = bs
+bases_in_form (range_under bs) = bs
+
 -- what each number is below
 abbrev pub any_size : AnyColumn → ℕ
-any_size (Slices c) = 2 ^ c.width
-any_size (Equality c) = size_of c.bases
-any_size (Range c) = size_of c.bases
-
--- the bases of the digits that a number is kept as
-abbrev pub any_bases : AnyColumn → List ℕ
-any_bases (Slices c) = replicate c.width 2
-any_bases (Equality c) = c.bases
-any_bases (Range c) = c.bases
+any_size c = size_in_form (any_form c)
 
 abbrev pub any_entries : AnyColumn → List (Option ℕ)
 any_entries (Slices c) = c.entries
@@ -26,10 +41,3 @@ abbrev pub any_room : AnyColumn → ℕ
 any_room (Slices c) = c.room
 any_room (Equality c) = c.room
 any_room (Range c) = c.room
-
--- both are slices of one width, or of one encoding under the same bases
-abbrev pub IsSameForm : AnyColumn → AnyColumn → Type 0
-IsSameForm (Slices a) (Slices b) = a.width ≡ b.width
-IsSameForm (Equality a) (Equality b) = a.bases ≡ b.bases
-IsSameForm (Range a) (Range b) = a.bases ≡ b.bases
-IsSameForm a b = ⊥

@@ -2,7 +2,7 @@
 
 ghost use Rattle.std.specs.Prelude.{◌≡◌, ℕ, ◌+◌, ◌*◌, ◌/◌, ◌<◌, ◌≤◌, ◌^◌, ◌&&◌, [], ◌∷◌, ◌++◌, All, None, is_none, length, slice_index_or, IsOk, IfOk, OnOk, OnErr};
 ghost use Rattle.bsi_bits.specs.Packed.{bit_of};
-ghost use Rattle.bsi_columns.specs.AnyRows.{any_size, any_bases, any_entries, any_room, IsSameForm};
+ghost use Rattle.bsi_columns.specs.AnyRows.{any_entries, any_form, any_room, bases_in_form, size_in_form, AnyForm};
 ghost use Rattle.bsi_columns.specs.Rows.{number_or_zero, selects};
 
 use crate::{Column, Decomposed, EqualityComponent, NoMemory, Op, RangeComponent, Slices};
@@ -61,9 +61,13 @@ impl AnyColumn {
 }
 
 impl Column for AnyColumn {
-    ghost size_of = { any_size };
+    ghost Form = { AnyForm };
 
-    ghost bases_of = { any_bases };
+    ghost form_of = { any_form };
+
+    ghost size_of = { size_in_form };
+
+    ghost bases_of = { bases_in_form };
 
     ghost entries = { any_entries };
 
@@ -93,17 +97,7 @@ impl Column for AnyColumn {
         }
     }
 
-    fn reserve(&mut self, more: u64) -> Result<(), NoMemory>
-        requires { length (any_entries self.old) + more ≤ 2 ^ 32 }
-        ensures entries { any_entries self.new ≡ any_entries self.old }
-        ensures size { any_size self.new ≡ any_size self.old }
-        ensures bases { any_bases self.new ≡ any_bases self.old }
-        ensures form { IsSameForm self.new self.old }
-        ensures ok { OnOk result (more ≤ any_room self.new) }
-        ensures kept { any_room self.old ≤ any_room self.new }
-        ensures err { OnErr result (any_room self.new < more) }
-        ensures succeeds { more ≤ any_room self.old → IsOk result }
-    {
+    fn reserve(&mut self, more: u64) -> Result<(), NoMemory> {
         match self {
             AnyColumn::Slices(column) => column.reserve(more),
             AnyColumn::Equality(column) => column.reserve(more),
@@ -111,15 +105,7 @@ impl Column for AnyColumn {
         }
     }
 
-    fn push_reserved(&mut self, entry: Option<u64>)
-        requires room { 0 < any_room self.old }
-        requires below { number_or_zero entry < any_size self.old }
-        ensures entries { any_entries self.new ≡ any_entries self.old ++ entry ∷ [] }
-        ensures size { any_size self.new ≡ any_size self.old }
-        ensures bases { any_bases self.new ≡ any_bases self.old }
-        ensures form { IsSameForm self.new self.old }
-        ensures room { any_room self.old ≤ any_room self.new + 1 }
-    {
+    fn push_reserved(&mut self, entry: Option<u64>) {
         match self {
             AnyColumn::Slices(column) => column.push_reserved(entry),
             AnyColumn::Equality(column) => column.push_reserved(entry),
@@ -127,35 +113,12 @@ impl Column for AnyColumn {
         }
     }
 
-    fn push_block_reserved(&mut self, block: &[Option<u64>])
-        requires few { length block.now ≤ 64 }
-        requires room { length block.now ≤ any_room self.old }
-        requires below { All (λ e. number_or_zero e < any_size self.old) block.now }
-        ensures entries { any_entries self.new ≡ any_entries self.old ++ block.now }
-        ensures size { any_size self.new ≡ any_size self.old }
-        ensures bases { any_bases self.new ≡ any_bases self.old }
-        ensures form { IsSameForm self.new self.old }
-        ensures room { any_room self.old ≤ any_room self.new + length block.now }
-    {
+    fn push_block_reserved(&mut self, block: &[Option<u64>]) {
         match self {
             AnyColumn::Slices(column) => column.push_block_reserved(block),
             AnyColumn::Equality(column) => column.push_block_reserved(block),
             AnyColumn::Range(column) => column.push_block_reserved(block),
         }
-    }
-
-    fn reserve_one(&mut self) -> Result<(), NoMemory>
-        requires { length (any_entries self.old) < 2 ^ 32 }
-        ensures entries { any_entries self.new ≡ any_entries self.old }
-        ensures size { any_size self.new ≡ any_size self.old }
-        ensures bases { any_bases self.new ≡ any_bases self.old }
-        ensures form { IsSameForm self.new self.old }
-        ensures ok { OnOk result (0 < any_room self.new) }
-        ensures kept { any_room self.old ≤ any_room self.new }
-        ensures err { OnErr result (any_room self.new ≡ any_room self.old) }
-        ensures succeeds { 0 < any_room self.old → IsOk result }
-    {
-        self.reserve(1)
     }
 
     fn compare(&self, op: Op, constant: u64) -> Result<Bits, NoMemory> {
@@ -214,11 +177,7 @@ impl Column for AnyColumn {
         }
     }
 
-    fn copy(&self) -> Result<Self, NoMemory>
-        ensures same { IfOk result (λ c. (any_entries c ≡ any_entries self.now)
-            × (any_size c ≡ any_size self.now) × (any_bases c ≡ any_bases self.now)) }
-        ensures form { IfOk result (λ c. IsSameForm c self.now) }
-    {
+    fn copy(&self) -> Result<Self, NoMemory> {
         match self {
             AnyColumn::Slices(column) => Ok(AnyColumn::Slices(column.copy()?)),
             AnyColumn::Equality(column) => Ok(AnyColumn::Equality(column.copy()?)),

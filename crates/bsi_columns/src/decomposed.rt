@@ -85,9 +85,13 @@ impl<E: Encoding> Decomposed<E> {
 impl<E: Encoding> Column for Decomposed<E> {
     ghost use Rattle.bsi_digits.specs.Digits.{size_of as product_of};
 
-    ghost size_of = { λ c. product_of c.bases };
+    ghost Form = { List ℕ };
 
-    ghost bases_of = { λ c. c.bases };
+    ghost form_of = { λ c. c.bases };
+
+    ghost size_of = { product_of };
+
+    ghost bases_of = { λ bs. bs };
 
     ghost entries = { λ c. c.entries };
 

@@ -53,15 +53,20 @@ impl PlainColumn {
         requires { row < length self.now.entries }
         ensures { result ≡ selects op constant (slice_index_or self.now.entries row None) }
     {
+        // `len` says that there are at most 2^32 rows
         let _rows = self.present.len();
         selected(op, constant, self.entries[row as usize])
     }
 }
 
 impl Column for PlainColumn {
-    ghost size_of = { λ c. c.size };
+    ghost Form = { ℕ };
 
-    ghost bases_of = { λ c. c.size ∷ [] };
+    ghost form_of = { λ c. c.size };
+
+    ghost size_of = { λ size. size };
+
+    ghost bases_of = { λ size. size ∷ [] };
 
     ghost entries = { λ c. c.entries };
 
@@ -91,6 +96,7 @@ impl Column for PlainColumn {
     }
 
     fn compare(&self, op: Op, constant: u64) -> Result<Bits, NoMemory> {
+        // `len` says that there are at most 2^32 rows
         let _rows = self.present.len();
         let mut found = Bits::new(*self.entries.allocator());
         select_each(&self.entries, op, constant, &mut found)?;
@@ -103,11 +109,13 @@ impl Column for PlainColumn {
     }
 
     fn sum(&self, found: &Bits) -> u128 {
+        // `len` says that there are at most 2^32 rows
         let _rows = found.len();
         sum_each(&self.entries, found)
     }
 
     fn ranked(&self, found: &Bits, k: u64) -> Result<u64, NoMemory> {
+        // `len` says that there are at most 2^32 rows
         let _rows = found.len();
         let alloc = *self.entries.allocator();
         let mut numbers = Vec::with_capacity(alloc, self.entries.len())?;

@@ -2,7 +2,7 @@
 use Rattle.std.specs.Prelude.{◌≡◌, ℕ, ◌<◌, ◌≤◌, ◌^◌, All, ℤ, pos, ◌+ℤ◌, ◌≤ℤ◌, ◌<ℤ◌, List, Option, IfSome, map}
 use Rattle.std.specs.Option.{option_map}
 use Rattle.bsi_columns.specs.declared.any.AnyColumn.{AnyColumn}
-use Rattle.bsi_columns.specs.AnyRows.{any_bases, any_entries, any_room, any_size, IsSameForm}
+use Rattle.bsi_columns.specs.AnyRows.{any_entries, any_form, any_room, any_size}
 use Rattle.bsi_slices.specs.Rows.{number_or_zero}
 
 -- what a contract sees of it: the column of stored numbers, and the offset
@@ -26,12 +26,10 @@ shifted_size c = any_size c.stored
 abbrev pub shifted_room : OffsetColumn → ℕ
 shifted_room c = any_room c.stored
 
--- a column is another one with its entries left aside: of the same offset, size, bases and form
+-- a column is another one with its entries left aside: of the same offset and form, so of the same size and bases
 pub record IsAlike (old new : OffsetColumn) : Type 0 where
   pub offset : new.offset ≡ old.offset
-  pub size : shifted_size new ≡ shifted_size old
-  pub bases : any_bases new.stored ≡ any_bases old.stored
-  pub form : IsSameForm new.stored old.stored
+  pub form : any_form new.stored ≡ any_form old.stored
 
 -- the entry is a null, or one of as many numbers as the size, from the offset on
 abbrev pub IsInRange : ℤ → ℕ → Option ℤ → Type 0

@@ -8,23 +8,23 @@ use Rattle.bsi_bits.specs.Packed.{bit_of, bits_of}
 use Rattle.bsi_bits.proofs.Reading.{length-bits_of, get_or-bits_of}
 use Rattle.bsi_slices.specs.Rows.{compares, selects}
 use Rattle.bsi_slices.specs.declared.column.Op.{Op}
-use Rattle.bsi_slices.specs.declared.slices.compare.Test.{Test}
-use Rattle.bsi_slices.specs.declared.slices.compare.Selection.{Selection}
-use Rattle.bsi_slices.specs.declared.slices.compare.Selection.TheVariants.{Nothing, Everything, Tested}
+use Rattle.bsi_slices.specs.declared.slices.decision.Test.{Test}
+use Rattle.bsi_slices.specs.declared.slices.decision.Decision.{Decision}
+use Rattle.bsi_slices.specs.declared.slices.decision.Decision.TheVariants.{Nothing, Everything, Tested}
 use Rattle.bsi_slices.specs.Slices.{number, entries_in}
 use Rattle.bsi_slices.specs.Blocks.{IsKept}
-use Rattle.bsi_slices.specs.SliceTests.{chosen, passes}
+use Rattle.bsi_slices.specs.SliceTests.{decides, passes}
 use Rattle.bsi_slices.proofs.SliceEntries.{by_entries, get_or-entries_in}
 use Rattle.bsi_slices.proofs.SliceNumbers.{number_below}
 
-module _ (present : List Bool) (slices : List BitList) (op : Op) (n size : ℕ) (size_is : size ≡ 2 ^ length slices) (choice : Selection)
-    (agree : (x : ℕ) → x < size → chosen choice x ≡ compares op x n) where
-  of_mark : (there : Bool) (m : ℕ) → m < size → (there && chosen choice m) ≡ selects op n (if there then Some m else None)
+module _ (present : List Bool) (slices : List BitList) (op : Op) (n size : ℕ) (size_is : size ≡ 2 ^ length slices) (choice : Decision)
+    (agree : (x : ℕ) → x < size → decides choice x ≡ compares op x n) where
+  of_mark : (there : Bool) (m : ℕ) → m < size → (there && decides choice m) ≡ selects op n (if there then Some m else None)
   of_mark true m small = agree m small
   of_mark false m small = refl
 
-  -- the rows that are there and chosen are those that the comparison selects
-  selected : (bits : List Bool) → length bits ≡ length present → ((r : ℕ) → r < length present → get_or bits r false ≡ (get_or present r false && chosen choice (number slices r)))
+  -- the rows that are there and decided for are those that the comparison selects
+  selected : (bits : List Bool) → length bits ≡ length present → ((r : ℕ) → r < length present → get_or bits r false ≡ (get_or present r false && decides choice (number slices r)))
       → bits ≡ map (selects op n) (entries_in present slices)
   selected bits long each =
       by_entries (selects op n) present slices false bits long
@@ -34,12 +34,12 @@ module _ (present : List Bool) (slices : List BitList) (op : Op) (n size : ℕ) 
   selected_none is bits count long none =
       selected bits (ap length none ∙ length-replicate count false ∙ long)
       (λ r below. ap (λ b. get_or b r false) none ∙ get_or-replicate count r false false (omega arith)
-      ∙ sym (ap (λ s. get_or present r false && chosen s (number slices r)) is ∙ and-false (get_or present r false)))
+      ∙ sym (ap (λ s. get_or present r false && decides s (number slices r)) is ∙ and-false (get_or present r false)))
 
   pub selected_all : choice ≡ Everything → (bits : List Bool) → bits ≡ present → bits ≡ map (selects op n) (entries_in present slices)
   selected_all is bits all =
       selected bits (ap length all)
-      (λ r below. ap (λ b. get_or b r false) all ∙ sym (ap (λ s. get_or present r false && chosen s (number slices r)) is ∙ and-true (get_or present r false)))
+      (λ r below. ap (λ b. get_or b r false) all ∙ sym (ap (λ s. get_or present r false && decides s (number slices r)) is ∙ and-true (get_or present r false)))
 
   pub selected_tested : (test : Test) → choice ≡ Tested test
       → (bits : List Bool) (old new : List ℕ) (count : ℕ) → count ≡ length present → length old ≡ (length present + 63) / 64 → ((r : ℕ) → bit_of old r ≡ get_or present r false)
@@ -50,12 +50,12 @@ module _ (present : List Bool) (slices : List BitList) (op : Op) (n size : ℕ) 
       (λ r below. ap (λ b. get_or b r false) are ∙ get_or-bits_of count new r false (omega arith)
       ∙ kept.inside r (omega arith) (omega arith)
       ∙ (λ j. places r j && passes test (number slices (zero-add r j)))
-      ∙ sym (ap (λ s. get_or present r false && chosen s (number slices r)) is))
+      ∙ sym (ap (λ s. get_or present r false && decides s (number slices r)) is))
 
-  -- a row of a block that is there and chosen is one that the comparison selects
-  pub kept_chosen : (was : Bool) (r : ℕ) → r < length present → (was && (get_or present r false && chosen choice (number slices r)))
+  -- a row of a block that is there and decided for is one that the comparison selects
+  pub kept_decided : (was : Bool) (r : ℕ) → r < length present → (was && (get_or present r false && decides choice (number slices r)))
       ≡ (was && selects op n (get_or (entries_in present slices) r None))
-  kept_chosen was r below =
+  kept_decided was r below =
       ap (λ b. was && b)
       (of_mark (get_or present r false) (number slices r) (omega (arith, size_is, number_below slices r))
       ∙ ap (selects op n) (sym (get_or-entries_in present slices r None below)))

@@ -38,11 +38,18 @@ pub enum Rank {
 
 /// A column: a list of entries, each a number below the column's size or a null.
 pub trait Column: Drop {
-    /// The size: each number is below it.
-    ghost size_of: { Self → ℕ };
+    /// The forms that such a column can have.
+    ghost Form: { Type 0 };
 
-    /// The bases of the digits that a number is stored as, least significant first. A slice is a digit under base 2.
-    ghost bases_of: { Self → List ℕ };
+    /// The form: how the entries are stored, and which numbers they can be. No call changes it.
+    ghost form_of: { Self → Form };
+
+    /// The size of a column of a form: each number is below it.
+    ghost size_of: { Form → ℕ };
+
+    /// The bases of the digits that a number is stored as in a form, least significant first. A slice is a digit under
+    /// base 2.
+    ghost bases_of: { Form → List ℕ };
 
     /// The numbers and nulls, in order of the rows.
     ghost entries: { Self → List (Option ℕ) };
@@ -52,9 +59,10 @@ pub trait Column: Drop {
 
     /// Returns the size, at most 2^63. Each number is below it.
     fn size(&self) -> u64
-        ensures size { result ≡ size_of self.now }
+        ensures size { result ≡ size_of (form_of self.now) }
         ensures within { (2 ≤ result) × (result ≤ 2 ^ 63) }
-        ensures below { All (λ e. number_or_zero e < size_of self.now) (entries self.now) };
+        ensures below { All (λ e. number_or_zero e < size_of (form_of self.now))
+            (entries self.now) };
 
     /// Returns the number of rows, at most 2^32.
     fn len(&self) -> u64
@@ -72,8 +80,7 @@ pub trait Column: Drop {
     fn reserve(&mut self, more: u64) -> Result<(), NoMemory>
         requires { length (entries self.old) + more ≤ 2 ^ 32 }
         ensures entries { entries self.new ≡ entries self.old }
-        ensures size { size_of self.new ≡ size_of self.old }
-        ensures bases { bases_of self.new ≡ bases_of self.old }
+        ensures form { form_of self.new ≡ form_of self.old }
         ensures ok { OnOk result (more ≤ room_of self.new) }
         ensures kept { room_of self.old ≤ room_of self.new }
         ensures err { OnErr result (room_of self.new < more) }
@@ -82,10 +89,9 @@ pub trait Column: Drop {
     /// Appends a number below the size, or a null, into room that is already there.
     fn push_reserved(&mut self, entry: Option<u64>)
         requires room { 0 < room_of self.old }
-        requires below { number_or_zero entry < size_of self.old }
+        requires below { number_or_zero entry < size_of (form_of self.old) }
         ensures entries { entries self.new ≡ entries self.old ++ entry ∷ [] }
-        ensures size { size_of self.new ≡ size_of self.old }
-        ensures bases { bases_of self.new ≡ bases_of self.old }
+        ensures form { form_of self.new ≡ form_of self.old }
         ensures room { room_of self.old ≤ room_of self.new + 1 };
 
     /// Appends a block of at most 64 entries, numbers below the size and nulls, into room that is already there. The
@@ -93,10 +99,9 @@ pub trait Column: Drop {
     fn push_block_reserved(&mut self, block: &[Option<u64>])
         requires few { length block.now ≤ 64 }
         requires room { length block.now ≤ room_of self.old }
-        requires below { All (λ e. number_or_zero e < size_of self.old) block.now }
+        requires below { All (λ e. number_or_zero e < size_of (form_of self.old)) block.now }
         ensures entries { entries self.new ≡ entries self.old ++ block.now }
-        ensures size { size_of self.new ≡ size_of self.old }
-        ensures bases { bases_of self.new ≡ bases_of self.old }
+        ensures form { form_of self.new ≡ form_of self.old }
         ensures room { room_of self.old ≤ room_of self.new + length block.now }
     {
         'entries: for k in 0..block.len() {
@@ -115,8 +120,7 @@ pub trait Column: Drop {
     fn reserve_one(&mut self) -> Result<(), NoMemory>
         requires { length (entries self.old) < 2 ^ 32 }
         ensures entries { entries self.new ≡ entries self.old }
-        ensures size { size_of self.new ≡ size_of self.old }
-        ensures bases { bases_of self.new ≡ bases_of self.old }
+        ensures form { form_of self.new ≡ form_of self.old }
         ensures ok { OnOk result (0 < room_of self.new) }
         ensures kept { room_of self.old ≤ room_of self.new }
         ensures err { OnErr result (room_of self.new ≡ room_of self.old) }
@@ -197,8 +201,8 @@ pub trait Column: Drop {
     fn present(&self) -> &Bits
         ensures { result.now.bits ≡ map is_some (entries self.now) };
 
-    /// Makes a second column of the same entries, with the same size and the same bases.
+    /// Makes a second column of the same entries, in the same form.
     fn copy(&self) -> Result<Self, NoMemory>
-        ensures { IfOk result (λ c. (entries c ≡ entries self.now) × (size_of c ≡ size_of self.now)
-            × (bases_of c ≡ bases_of self.now)) };
+        ensures entries { IfOk result (λ c. entries c ≡ entries self.now) }
+        ensures form { IfOk result (λ c. form_of c ≡ form_of self.now) };
 }

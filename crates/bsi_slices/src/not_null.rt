@@ -1,4 +1,4 @@
-//! The not-null bitmap of a column, which knows whether a row is null at all.
+//! The not-null bitmap of a column, and whether any row is null.
 
 ghost use Rattle.std.specs.Prelude.{◌≡◌, ℕ, ◌+◌, ◌*◌, ◌/◌, ◌^◌, ◌≤◌, ◌<◌, ◌&&◌, [], ◌∷◌, ◌++◌, length, false, slice_index_or, IsTrue, IfOk, IsOk, OnOk, OnErr};
 ghost use Rattle.std.specs.Int.{bit_at};
@@ -9,11 +9,11 @@ use bsi_bits::{Bits, lanes};
 use std::alloc::Global;
 use std::marker::Model;
 
-/// The bitmap of the rows that have a number. Where each row has one, a comparison of a block does not read it.
+/// The bitmap of the rows that have a number. If each row has one, a comparison of a block does not read it.
 #[derive(Drop)]
 pub struct NotNull {
     bits: Bits,
-    // (clear only where no row is null)
+    // (false only if no row is null)
     has_null: bool,
 }
 
@@ -30,7 +30,7 @@ impl Model for NotNull {
 }
 
 impl NotNull {
-    /// Makes the bitmap of no rows, which takes no memory until it grows.
+    /// Makes an empty bitmap. It allocates no memory until it grows.
     pub fn new(alloc: Global) -> NotNull
         ensures { result.bits ≡ [] }
     {
@@ -40,7 +40,7 @@ impl NotNull {
         }
     }
 
-    /// Returns the bits, one a row.
+    /// Returns the bits, one for each row.
     pub fn bits(&self) -> &Bits
         ensures { result.now ≡ self.now }
     {
@@ -56,7 +56,7 @@ impl NotNull {
         self.bits.len()
     }
 
-    /// Returns for how many more rows there is room. There are never more than 2^32 in all.
+    /// Returns how many more rows can be appended without allocating memory. There are never more than 2^32 in all.
     pub fn room(&self) -> u64
         ensures room { result ≡ self.now.room }
         ensures within { length self.now.bits + result ≤ 2 ^ 32 }
@@ -64,7 +64,7 @@ impl NotNull {
         self.bits.room()
     }
 
-    /// Makes room for so many more rows, as `Bits::reserve` does for bits.
+    /// Makes room for `more` further rows, as `Bits::reserve` does for bits.
     pub fn reserve(&mut self, more: u64) -> Result<(), NoMemory>
         requires { length self.old.bits + more ≤ 2 ^ 32 }
         ensures bits { self.new.bits ≡ self.old.bits }
@@ -76,7 +76,7 @@ impl NotNull {
         self.bits.reserve(more)
     }
 
-    /// Appends a row, which has a number or not, in room that is there.
+    /// Appends a row, which has a number or not, into room that is already there.
     pub fn push_reserved(&mut self, is_number: bool)
         requires { 0 < self.old.room }
         ensures bits { self.new.bits ≡ self.old.bits ++ is_number ∷ [] }
@@ -88,8 +88,8 @@ impl NotNull {
         }
     }
 
-    /// Appends a row for each of the first `count` binary places of a word, the least one first, in room that is there. The
-    /// other places are 0.
+    /// Appends a row for each of the first `count` binary places of a word, the least one first, into room that is
+    /// already there. The other places are 0.
     pub fn push_word_reserved(&mut self, word: u64, count: u64)
         requires room { count ≤ self.old.room }
         requires few { count ≤ 64 }
@@ -103,7 +103,7 @@ impl NotNull {
         }
     }
 
-    /// Returns a second bitmap of the same rows.
+    /// Makes a second bitmap of the same rows.
     pub fn copy(&self) -> Result<NotNull, NoMemory>
         ensures { IfOk result (λ n. n.bits ≡ self.now.bits) }
     {
@@ -113,8 +113,8 @@ impl NotNull {
         })
     }
 
-    /// Keeps in a block of words, whose first stands for the 64 rows from row `64 * at` on, the rows that have a number. What the
-    /// block has past the last row is open. It reads nothing where no row is null.
+    /// Keeps in a block of words the rows that have a number. The first word stands for the 64 rows from row `64 * at`
+    /// on. Bits past the last row are unspecified. It reads no bit if no row is null.
     pub fn keep_in(&self, at: usize, block: &mut [u64])
         requires { at + length block.old ≤ (length self.now.bits + 63) / 64 }
         ensures len { length block.new ≡ length block.old }
@@ -129,7 +129,7 @@ impl NotNull {
     }
 }
 
-/// Returns true only where the first `count` binary places of a word are all 1.
+/// Returns true only if the first `count` binary places of a word are all 1.
 fn begins_with_ones(word: u64, count: u64) -> bool
     requires { count ≤ 64 }
     ensures { IsTrue result → (i : ℕ) → i < count → bit_at word i ≡ 1 }

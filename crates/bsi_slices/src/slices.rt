@@ -17,6 +17,7 @@ use std::alloc::Global;
 use std::marker::Model;
 
 mod compare;
+mod decision;
 mod ends;
 mod totals;
 
@@ -99,9 +100,13 @@ impl Slices {
 }
 
 impl Column for Slices {
-    ghost size_of = { λ c. 2 ^ c.width };
+    ghost Form = { ℕ };
 
-    ghost bases_of = { λ c. replicate c.width 2 };
+    ghost form_of = { λ c. c.width };
+
+    ghost size_of = { λ width. 2 ^ width };
+
+    ghost bases_of = { λ width. replicate width 2 };
 
     ghost entries = { λ c. c.entries };
 
@@ -223,6 +228,7 @@ fn push_row(slices: &mut Bitmaps, present: &mut NotNull, entry: Option<u64>)
         { place < 64 && number >> place & 1 == 1 },
     );
     present.push_reserved(entry.is_some());
+    // a column of slices has at most 2^32 rows
     prove!(present.len() <= 1 << 32);
 }
 
@@ -246,5 +252,6 @@ fn push_rows(slices: &mut Bitmaps, present: &mut NotNull, block: &[Option<u64>])
     let count = block.len() as u64;
     slices.push_words(&words[..slices.as_slice().len()], count);
     present.push_word_reserved(mark_present(block), count);
+    // a column of slices has at most 2^32 rows
     prove!(present.len() <= 1 << 32);
 }

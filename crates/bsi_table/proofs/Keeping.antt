@@ -5,16 +5,14 @@ use Rattle.std.specs.Prelude.{int_le, int_lt, slice_index_or, IfSome, IsTrue, On
 use Rattle.std.proofs.lemmas.Int.{ints}
 use Rattle.std.proofs.lemmas.List.{length-append, length-map}
 use Rattle.std.proofs.lemmas.List.Elements.{All-append, All-cons, All-get_or, All-map, All-nil, All-weaker}
-use Rattle.bsi_digits.specs.Digits.{size_of}
 use Rattle.bsi_columns.specs.declared.any.AnyColumn.{AnyColumn}
-use Rattle.bsi_columns.specs.declared.any.AnyColumn.TheVariants.{Slices as kept_slices, Equality as kept_equality, Range as kept_range}
-use Rattle.bsi_columns.specs.AnyRows.{any_entries, any_size, IsSameForm}
+use Rattle.bsi_columns.specs.AnyRows.{any_entries, any_form, any_size, size_in_form}
 use Rattle.bsi_shift.specs.Shifted.{number_of, shifted_entries, shifted_size, IsInRange, OffsetColumn}
 use Rattle.bsi_schema.specs.declared.form.Form.{Form}
 use Rattle.bsi_schema.specs.declared.form.Form.TheVariants.{Slices, Equality, Range}
 use Rattle.bsi_schema.specs.Columns.{column_at, fits, is_taken_by, size_in, NamedColumn}
 use Rattle.bsi_table.specs.Rows.{column_of, entry_at, Entries, FedRow}
-use Rattle.bsi_table.specs.Table.{kept_at, row_in, AreFitting, AreInRange, AreKept, AreNarrow, HasMore, HaveMore, IsInForm, IsSameColumn, Keeps, Takes}
+use Rattle.bsi_table.specs.Table.{kept_at, kept_form, row_in, AreFitting, AreInRange, AreKept, AreNarrow, HasMore, HaveMore, IsInForm, IsSameColumn, Keeps, Takes}
 use Rattle.bsi_schema.proofs.Fitting.{fits-at, fits-each, fits-length}
 use Rattle.bsi_table.proofs.TableRows.{entry-row_in}
 
@@ -32,35 +30,15 @@ pub shifted_nothing : (c : OffsetColumn) (stored : AnyColumn) → c.stored ≡ s
 unfolding shifted_entries
 shifted_nothing c stored is nothing = ap (λ es. map (option_map (number_of c.offset)) es) (ap any_entries is ∙ nothing)
 
--- a form is kept
-pub same_form : (form : Form) (old new : AnyColumn) → IsInForm form old → IsSameForm new old → IsInForm form new
-same_form (Slices w) (kept_slices a) (kept_slices b) kept same = same ∙ kept
-same_form (Slices w) (kept_slices a) (kept_equality b) kept same = absurd same
-same_form (Slices w) (kept_slices a) (kept_range b) kept same = absurd same
-same_form (Slices w) (kept_equality a) new kept same = absurd kept
-same_form (Slices w) (kept_range a) new kept same = absurd kept
-same_form (Equality bs) (kept_equality a) (kept_equality b) kept same = same ∙ kept
-same_form (Equality bs) (kept_equality a) (kept_slices b) kept same = absurd same
-same_form (Equality bs) (kept_equality a) (kept_range b) kept same = absurd same
-same_form (Equality bs) (kept_slices a) new kept same = absurd kept
-same_form (Equality bs) (kept_range a) new kept same = absurd kept
-same_form (Range bs) (kept_range a) (kept_range b) kept same = same ∙ kept
-same_form (Range bs) (kept_range a) (kept_slices b) kept same = absurd same
-same_form (Range bs) (kept_range a) (kept_equality b) kept same = absurd same
-same_form (Range bs) (kept_slices a) new kept same = absurd kept
-same_form (Range bs) (kept_equality a) new kept same = absurd kept
+-- a form has the size of the form that a column of it is kept in
+size-kept_form : (form : Form) → size_in_form (kept_form form) ≡ size_in form
+size-kept_form (Slices w) = refl
+size-kept_form (Equality bs) = refl
+size-kept_form (Range bs) = refl
 
 -- a column has the size of its form
 pub size-IsInForm : (form : Form) (stored : AnyColumn) → IsInForm form stored → any_size stored ≡ size_in form
-size-IsInForm (Slices w) (kept_slices a) kept = ap (λ n. 2 ^ n) kept
-size-IsInForm (Slices w) (kept_equality a) kept = absurd kept
-size-IsInForm (Slices w) (kept_range a) kept = absurd kept
-size-IsInForm (Equality bs) (kept_equality a) kept = ap size_of kept
-size-IsInForm (Equality bs) (kept_slices a) kept = absurd kept
-size-IsInForm (Equality bs) (kept_range a) kept = absurd kept
-size-IsInForm (Range bs) (kept_range a) kept = ap size_of kept
-size-IsInForm (Range bs) (kept_slices a) kept = absurd kept
-size-IsInForm (Range bs) (kept_equality a) kept = absurd kept
+size-IsInForm form stored kept = ap size_in_form kept ∙ size-kept_form form
 
 -- two tests of a number
 within : (low x high : ℤ) → int_le low x && int_lt x high ≡ true → (low ≤ℤ x) × (x <ℤ high)
@@ -71,18 +49,17 @@ both_so low x high above below = grind (arith, ints)
 
 module _ (column : NamedColumn) (old : OffsetColumn) (n : ℕ) (keeps : Keeps column old n) where
   -- a column of the same form and offset takes the same numbers
-  in_range_of : (new : OffsetColumn) → IsSameForm new.stored old.stored → new.offset ≡ old.offset → (entries : Entries)
+  in_range_of : (new : OffsetColumn) → any_form new.stored ≡ any_form old.stored → new.offset ≡ old.offset → (entries : Entries)
       → shifted_entries new ≡ entries → All (IsInRange old.offset (shifted_size old)) entries → All (IsInRange new.offset (shifted_size new)) (shifted_entries new)
   in_range_of new form offset entries are all =
-      let size : shifted_size new ≡ shifted_size old =
-      size-IsInForm column.form new.stored (same_form column.form old.stored new.stored keeps.form form) ∙ sym (size-IsInForm column.form old.stored keeps.form) in
+      let size : shifted_size new ≡ shifted_size old = ap size_in_form form in
       subst (All (IsInRange new.offset (shifted_size new))) (sym are)
       (subst (λ o. All (IsInRange o (shifted_size new)) entries) (sym offset) (subst (λ s. All (IsInRange old.offset s) entries) (sym size) all))
 
   -- the same entries
   pub keeps_same : (new : OffsetColumn) → IsSameColumn old new → Keeps column new n
   keeps_same new same = record {
-    form = same_form column.form old.stored new.stored keeps.form same.alike.form;
+    form = same.alike.form ∙ keeps.form;
     offset = same.alike.offset ∙ keeps.offset;
     rows = ap length same.entries ∙ keeps.rows;
     low = keeps.low;
@@ -93,7 +70,7 @@ module _ (column : NamedColumn) (old : OffsetColumn) (n : ℕ) (keeps : Keeps co
   -- more entries
   pub keeps_more : (new : OffsetColumn) (added : Entries) → All (IsInRange old.offset (shifted_size old)) added → HasMore old new added → Keeps column new (n + length added)
   keeps_more new added taken more = record {
-    form = same_form column.form old.stored new.stored keeps.form more.alike.form;
+    form = more.alike.form ∙ keeps.form;
     offset = more.alike.offset ∙ keeps.offset;
     rows = ap length more.entries ∙ omega (arith, length-append (shifted_entries old) added, keeps.rows);
     low = keeps.low;

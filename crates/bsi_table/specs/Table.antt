@@ -2,7 +2,8 @@
 use Rattle.std.specs.Prelude.{◌≡◌, ℕ, ◌^◌, ◌<◌, ◌≤◌, List, [], ◌∷◌, ◌++◌, Option, None, All, length, map, slice_index, slice_index_or, ℤ, pos, neg_ℤ, ◌+ℤ◌, ◌≤ℤ◌, ◌<ℤ◌, IfSome, IsTrue}
 use Rattle.std.specs.List.{range_with_len}
 use Rattle.bsi_columns.specs.declared.any.AnyColumn.{AnyColumn}
-use Rattle.bsi_columns.specs.declared.any.AnyColumn.TheVariants.{Slices as kept_slices, Equality as kept_equality, Range as kept_range}
+use Rattle.bsi_columns.specs.declared.any.AnyColumn.TheVariants.{Slices as kept_slices}
+use Rattle.bsi_columns.specs.AnyRows.{any_form, equality_under, range_under, slices_of, AnyForm}
 use Rattle.bsi_shift.specs.Shifted.{shifted_entries, shifted_room, shifted_size, IsAlike, IsInRange, OffsetColumn}
 use Rattle.bsi_schema.specs.declared.form.Form.{Form}
 use Rattle.bsi_schema.specs.declared.form.Form.TheVariants.{Slices, Equality, Range}
@@ -38,12 +39,15 @@ AreFitting columns rows = All (λ row. IsTrue (fits columns row.1)) rows
 abbrev pub AreFrom : ℕ → List FedRow → Type 0
 AreFrom feeders rows = All (λ row. row.0 < feeders) rows
 
+-- the form that a column of a schema's form is kept in
+abbrev pub kept_form : Form → AnyForm
+kept_form (Slices w) = slices_of w
+kept_form (Equality bs) = equality_under bs
+kept_form (Range bs) = range_under bs
+
 -- the column is kept in this form
 abbrev pub IsInForm : Form → AnyColumn → Type 0
-IsInForm (Slices w) (kept_slices column) = column.width ≡ w
-IsInForm (Equality bs) (kept_equality column) = column.bases ≡ bs
-IsInForm (Range bs) (kept_range column) = column.bases ≡ bs
-IsInForm form column = ⊥
+IsInForm form column = any_form column ≡ kept_form form
 
 -- what a list of kept columns has past its end
 abbrev pub no_entries : OffsetColumn

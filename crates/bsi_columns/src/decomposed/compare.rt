@@ -1,7 +1,7 @@
 //! The evaluator of comparisons with a constant, digit by digit: Chan and Ioannidis' RangeEval-Opt.
 //!
-//! It reads digits only for a constant that leaves something to ask. What is found is cut with the not-null bitmap, so
-//! that a complement selects no null.
+//! It reads digits only where the constant alone does not decide. The rows that it finds are narrowed by the not-null
+//! bitmap, so that a complement selects no null.
 
 ghost use Rattle.std.specs.Prelude.{◌≡◌, ℕ, ◌+◌, ◌*◌, ◌/◌, ◌^◌, ◌≤◌, ◌<◌, ◌&&◌, ◌||◌, Bool, List, [], None, true, false, length, map, is_some, slice_index, slice_index_or, IfOk, IfSome, OnErr, OnOk};
 ghost use Rattle.std.specs.Bool.{OnTrue};
@@ -25,8 +25,8 @@ const BLOCK: usize = 1024;
 const PART: usize = 64;
 
 impl<E: Encoding> Decomposed<E> {
-    /// Returns the rows whose number satisfies the comparison `op` with `constant`. It reads no component if the answer is known
-    /// beforehand.
+    /// Returns the rows whose number satisfies the comparison `op` with `constant`. It reads no component if the answer
+    /// is known beforehand.
     pub(crate) fn selected(&self, op: Op, constant: u64) -> Result<Bits, NoMemory>
         ensures { IfOk result (λ b. b.bits ≡ map (selects op constant) self.now.entries) }
     {
@@ -39,9 +39,10 @@ impl<E: Encoding> Decomposed<E> {
         }
     }
 
-    /// Keeps in a block of at most 1,024 words, whose first stands for the 64 rows from row `64 * at` on, the rows whose number
-    /// compares so with `constant`, which may be past the size. A null row is not kept. What the block has past the last row is
-    /// open. Where a component works on whole vectors alone, each call goes over all rows, and takes memory for them.
+    /// Keeps in a block of at most 1,024 words the rows whose number satisfies the comparison `op` with `constant`,
+    /// which may be past the size. The first word stands for the 64 rows from row `64 * at` on. A null row is not kept.
+    /// Bits past the last row are unspecified. If a component works on whole vectors alone, each call reads all rows
+    /// and allocates memory for them.
     pub fn keep_selected(
         &self,
         op: Op,
@@ -70,7 +71,7 @@ impl<E: Encoding> Decomposed<E> {
         }
     }
 
-    /// Keeps in a block the rows whose number passes a test with a constant that is below the size.
+    /// Keeps in a block the rows that a test wants, whose constant is below the size.
     fn keep_tested(&self, test: DigitTest, at: usize, block: &mut [u64]) -> Result<(), NoMemory>
         requires below { test.constant < size_of self.now.bases }
         requires few { length block.old ≤ 1024 }
@@ -92,7 +93,7 @@ impl<E: Encoding> Decomposed<E> {
         Ok(())
     }
 
-    /// Returns the rows whose number passes a test with a constant that is below the size.
+    /// Returns the rows that a test wants, whose constant is below the size.
     fn select(&self, test: DigitTest) -> Result<Bits, NoMemory>
         requires { test.constant < size_of self.now.bases }
         ensures { IfOk result (λ b. b.bits
@@ -108,7 +109,7 @@ impl<E: Encoding> Decomposed<E> {
         }
     }
 
-    /// Returns the words of those rows, or `None` if a component works on whole vectors alone.
+    /// Returns the words of the rows that a test wants, or `None` if a component works on whole vectors alone.
     fn select_words(&self, test: DigitTest) -> Result<Option<Vec<u64>>, NoMemory>
         requires { test.constant < size_of self.now.bases }
         ensures few { IfOk result (λ o. IfSome o (λ words. length words.items
@@ -127,7 +128,8 @@ impl<E: Encoding> Decomposed<E> {
         }
     }
 
-    /// Appends the words of those rows to none, block by block; `false` where a component works on whole vectors alone.
+    /// Appends to an empty list the words of the rows that a test wants, block by block. It returns `false` if a
+    /// component works on whole vectors alone.
     fn select_blocks(
         &self,
         test: DigitTest,
@@ -155,7 +157,8 @@ impl<E: Encoding> Decomposed<E> {
         Ok(true)
     }
 
-    /// Writes a block of the words, which stand for the rows from `64 * at` on.
+    /// Writes in a block the rows that a test wants. The first word stands for the 64 rows from row `64 * at` on. It
+    /// returns `false` if a component works on whole vectors alone.
     fn select_block(&self, test: DigitTest, at: usize, block: &mut [u64]) -> bool
         requires below { test.constant < size_of self.now.bases }
         requires within { at + length block.old ≤ (length self.now.entries + 63) / 64 }
@@ -174,7 +177,8 @@ impl<E: Encoding> Decomposed<E> {
         true
     }
 
-    /// Writes in a block the rows whose number, as its digits weigh it, passes the test.
+    /// Writes in a block the rows whose number is in the test's relation to the constant, be that wanted or not. A null
+    /// row counts as 0. It returns `false` if a component works on whole vectors alone.
     fn find_block(&self, test: DigitTest, at: usize, block: &mut [u64]) -> bool
         requires below { test.constant < size_of self.now.bases }
         requires within { at + length block.old ≤ (length self.now.entries + 63) / 64 }
@@ -215,8 +219,8 @@ fn keep_wanted(found: &[u64], wanted: bool, block: &mut [u64])
     }
 }
 
-/// Takes one digit more into the test of a block, part by part. Of the lowest digit nothing is known before, whatever the block
-/// has. Returns `false` where the component works on whole vectors alone.
+/// Takes one more digit into the test of a block, part by part. At the lowest digit it ignores what the block holds. It
+/// returns `false` if the component works on whole vectors alone.
 fn narrow_digit<E: Encoding>(
     component: &E,
     relation: DigitRelation,
@@ -244,14 +248,14 @@ fn narrow_digit<E: Encoding>(
     true
 }
 
-/// Says of a component how many rows it has at most.
+/// Returns nothing: its contract bounds the rows of a component, as `len` does, for loops that do not call `len`.
 fn know_rows<E: Encoding>(component: &E)
     ensures { length (E.digits component.now) ≤ 2 ^ 32 }
 {
     let _rows = component.len();
 }
 
-/// Takes one digit more into the test of a part.
+/// Takes one more digit into the test of a part of a block.
 fn narrow_part<E: Encoding>(
     component: &E,
     relation: DigitRelation,

@@ -26,6 +26,7 @@ impl<E: Encoding> Decomposed<E> {
         requires { length self.now.entries ≡ length found.now.bits }
         ensures { IfSome result (IsEndOf end (numbers_at found.now.bits self.now.entries)) }
     {
+        // a found set has at most 2^32 rows, so at most 2^26 words
         prove!(found.len() <= 1 << 32);
         let len = found.words().len();
         let mut buffer = [0; BLOCK];
@@ -150,6 +151,7 @@ fn keep_nearest<E: Encoding>(
     ensures digit { KeepsNearest end limit (bit_of block.old) (bit_of block.new)
         (λ p. slice_index (E.digits component.now) (64 * at + p)) (64 * length block.old) result }
 {
+    // `base` says that each digit is below the base, so the digit at the end is
     let _base = component.base();
     match end_digit(component, end, limit, at, block) {
         EndDigit::Digit(digit) => {

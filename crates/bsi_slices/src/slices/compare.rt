@@ -5,50 +5,20 @@ ghost use Rattle.std.specs.Int.{bit_not, w64};
 ghost use Rattle.std.specs.Simd.Lanes.{zip2};
 ghost use Rattle.bsi_bits.specs.Packed.{bit_of};
 ghost use Rattle.bsi_slices.specs.Blocks.{IsKept};
-ghost use Rattle.bsi_slices.specs.Rows.{compares, selects};
-ghost use Rattle.bsi_slices.specs.SliceTests.{chosen, passes, relates, IsBelowSize};
+ghost use Rattle.bsi_slices.specs.Rows.{selects};
+ghost use Rattle.bsi_slices.specs.SliceTests.{passes, relates};
 ghost use Rattle.bsi_slices.specs.Slices.{entries_in, number, slice_at, IsSliced};
-ghost use Rattle.bsi_slices.specs.declared.slices.compare.Selection.TheVariants.{Tested};
 
 use crate::NoMemory;
 use crate::column::Op;
 use crate::not_null::NotNull;
+use crate::slices::decision::{Decision, Relation, Test, decide};
 use bsi_bits::{Bits, know_fits};
 use std::alloc::Global;
 use std::simd::Simd;
 
 /// The number of words in a block. A block of this length fills half of a processor's 16 registers of two words.
 const BLOCK: usize = 16;
-
-/// The relation of a number to a constant.
-#[derive(Clone, Copy)]
-enum Relation {
-    /// Above the constant.
-    Above,
-    /// Equal to the constant.
-    Equal,
-}
-
-/// The numbers below a size that a comparison selects.
-#[derive(Clone, Copy)]
-enum Selection {
-    /// None of them.
-    Nothing,
-    /// Each of them.
-    Everything,
-    /// Those that pass a test, whose constant is below the size.
-    Tested(Test),
-}
-
-/// A test of numbers.
-#[derive(Clone, Copy)]
-struct Test {
-    /// The relation of a number to the constant.
-    relation: Relation,
-    constant: u64,
-    /// Whether the numbers outside the relation pass, in place of those in it.
-    negated: bool,
-}
 
 /// Returns for each row whether it is a number that satisfies the comparison `op` with `constant`. It reads no slice if
 /// the answer is already known.
@@ -64,9 +34,9 @@ pub fn select(
         ≡ map (selects op constant) (entries_in present.now.bits slices.now)) }
 {
     match decide(op, constant, 1 << slices.len()) {
-        Selection::Nothing => Bits::filled(alloc, present.len(), false),
-        Selection::Everything => present.copy(),
-        Selection::Tested(test) => {
+        Decision::Nothing => Bits::filled(alloc, present.len(), false),
+        Decision::Everything => present.copy(),
+        Decision::Tested(test) => {
             let mut words = present.copy()?.into_words();
             keep(slices, test, 0, &mut words);
             Ok(Bits::from_words(words, present.len()))
@@ -92,48 +62,13 @@ pub fn keep_selected(
         (slice_index_or (entries_in present.now.bits slices.now) (64 * at + p) None)) }
 {
     match decide(op, constant, 1 << slices.len()) {
-        Selection::Nothing => block.fill(0),
-        Selection::Everything => present.keep_in(at, block),
-        Selection::Tested(test) => {
+        Decision::Nothing => block.fill(0),
+        Decision::Everything => present.keep_in(at, block),
+        Decision::Tested(test) => {
             present.keep_in(at, block);
             keep(slices, test, at, block);
         }
     }
-}
-
-/// Returns which numbers below a size satisfy a comparison with a constant.
-fn decide(op: Op, constant: u64, size: u64) -> Selection
-    ensures chosen { (x : ℕ) → x < size → chosen result x ≡ compares op x constant }
-    ensures below { IsBelowSize result size }
-{
-    if constant >= size {
-        return match op {
-            Op::Eq | Op::Gt | Op::Ge => Selection::Nothing,
-            Op::Ne | Op::Lt | Op::Le => Selection::Everything,
-        };
-    }
-    match op {
-        Op::Eq => tested(Relation::Equal, constant, false),
-        Op::Ne => tested(Relation::Equal, constant, true),
-        Op::Gt => tested(Relation::Above, constant, false),
-        Op::Le => tested(Relation::Above, constant, true),
-        Op::Lt if constant == 0 => Selection::Nothing,
-        Op::Ge if constant == 0 => Selection::Everything,
-        Op::Lt => tested(Relation::Above, constant - 1, true),
-        Op::Ge => tested(Relation::Above, constant - 1, false),
-    }
-}
-
-/// Returns the selection of the numbers in a relation to a constant or, if the test is negated, of all other numbers.
-fn tested(relation: Relation, constant: u64, negated: bool) -> Selection
-    ensures { result ≡ Tested
-        (record { relation = relation; constant = constant; negated = negated }) }
-{
-    Selection::Tested(Test {
-        relation,
-        constant,
-        negated,
-    })
 }
 
 /// Keeps in `words` the rows whose numbers pass the test. The first word stands for the 64 rows from row `64 * start`
@@ -175,7 +110,7 @@ fn keep_blocks<const N: usize>(
         let at = from + N * k;
         let found = related_block::<N>(slices, test.relation, test.constant, start + at);
         let kept = Simd::<u64, N>::from_slice(&words[at..]);
-        cut(kept, found, test.negated).copy_to_slice(&mut words[at..]);
+        cut(kept, found, !test.wanted).copy_to_slice(&mut words[at..]);
     }
 }
 
@@ -277,6 +212,7 @@ fn words_at(slices: &[Bits], place: usize) -> &[u64]
     ensures fits { (k : ℕ) → slice_index result.now k < 2 ^ 64 }
 {
     let slice = &slices[place];
+    // a vector has at most 2^32 bits, so at most 2^26 words
     prove!(slice.len() <= 1 << 32);
     let words = slice.words();
     know_fits(words);

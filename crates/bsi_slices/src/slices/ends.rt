@@ -74,6 +74,7 @@ impl Slices {
         ensures { IsEndUpto end found.now.bits self.now.entries
             (64 * (from + N * (((length found.now.bits + 63) / 64 - from) / N))) result }
     {
+        // a found set has at most 2^32 rows, so at most 2^26 words
         prove!(found.len() <= 1 << 32);
         let mut best = before;
         'block: for k in 0..(found.words().len() - from) / N {
@@ -165,6 +166,7 @@ fn block_at<const N: usize>(bits: &Bits, at: usize) -> Simd<u64, N>
     ensures places { (p : ℕ) → p < 64 * N →
         bit_of result p ≡ slice_index_or bits.now.bits (64 * at + p) false }
 {
+    // a vector has at most 2^32 bits, so at most 2^26 words
     prove!(bits.len() <= 1 << 32);
     let words = bits.words();
     know_fits(words);

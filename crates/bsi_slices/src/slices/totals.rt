@@ -12,14 +12,16 @@ use crate::slices::Slices;
 use crate::{Column, NoMemory};
 use bsi_bits::{Bits, know_fits, lanes};
 
-/// The number of words in a block that is narrowed. It is small, since narrowing leaves more and more blocks with no row.
+/// The number of words in a block that is narrowed. It is small, since narrowing leaves more and more blocks with no
+/// row.
 const BLOCK: usize = 32;
 
-/// The number of words in a block that is summed. Its found rows stay in the first cache while the slices are counted.
-const SUM_BLOCK: usize = 1024;
+/// The number of words of a found set in which all slices are counted before the next words are read. They take 8 KiB,
+/// so they stay in the first cache meanwhile.
+const COUNTED_WORDS: usize = 1024;
 
 impl Slices {
-    /// Returns the sum of the numbers at the rows of a found set. It goes over the rows block by block, so that the
+    /// Returns the sum of the numbers at the rows of a found set. It reads the rows block by block, so that the
     /// found rows of a block are read from memory once for all slices.
     pub(crate) fn sum_found(&self, found: &Bits) -> u128
         requires { length self.now.entries ≡ length found.now.bits }
@@ -31,9 +33,9 @@ impl Slices {
         prove!(self.width() <= 63);
         let words = found.words().len();
         let mut total = 0;
-        'blocks: for k in 0..words.div_ceil(SUM_BLOCK) {
-            let start = SUM_BLOCK * k;
-            total += self.sum_in(found, start, words.min(start + SUM_BLOCK));
+        'blocks: for k in 0..words.div_ceil(COUNTED_WORDS) {
+            let start = COUNTED_WORDS * k;
+            total += self.sum_in(found, start, words.min(start + COUNTED_WORDS));
         }
         total
     }
@@ -62,6 +64,7 @@ impl Slices {
         requires there { k < length (numbers_at found.now.bits self.now.entries) }
         ensures { IfOk result (IsRanked (numbers_at found.now.bits self.now.entries) k) }
     {
+        // a found set has at most 2^32 rows, so each count below fits
         prove!(found.len() <= 1 << 32);
         let mut chosen = found.copy()?.into_words();
         let mut last = self.present();

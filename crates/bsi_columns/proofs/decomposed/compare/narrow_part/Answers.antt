@@ -1,4 +1,4 @@
-use Rattle.std.proofs.Common.{◌≡◌, ◌+◌, ◌*◌, ◌||◌, get_or, sym, ap₂, ◌∙◌}
+use Rattle.std.proofs.Common.{◌+◌, ◌*◌, ◌||◌, get_or, sym, ap₂, ◌∙◌}
 use Rattle.std.proofs.lemmas.Bool.{OnTrue_at, OnTrue_from}
 use Rattle.bsi_bits.specs.Packed.{bit_of}
 use Rattle.bsi_columns.specs.Tests.{holds_from}

@@ -9,5 +9,5 @@ pub returns-clause-entries : goal.returns-clause-entries
 returns-clause-entries c =
     let inside = c.self.inside in
     shifted_entries-is _ ∙ ap (λ o. entries_from o (any_entries c.in_ok-copy.field-0)) (to_z-of_z w64 inside.offset (search rules))
-    ∙ ap (entries_from inside.offset) c.in_ok-copy.ensures.same.0
+    ∙ ap (entries_from inside.offset) c.in_ok-copy.ensures.entries
     ∙ ap (λ v. entries_from v.offset (any_entries v.stored)) c.self.view_is ∙ sym (shifted_entries-is c.args.self.now)

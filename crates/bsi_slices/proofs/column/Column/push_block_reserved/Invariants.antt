@@ -5,7 +5,6 @@ use Rattle.bsi_slices.proofs.column.Column.push_block_reserved.Given as goal
 abbrev pub invariant-entries : goal.invariant-entries
 invariant-entries g l = record {
   entries : g.Self.Column.entries l.self ≡ g.Self.Column.entries l.fn.self ++ take l.k l.block;
-  size : g.Self.Column.size_of l.self ≡ g.Self.Column.size_of l.fn.self;
-  bases : g.Self.Column.bases_of l.self ≡ g.Self.Column.bases_of l.fn.self;
+  form : g.Self.Column.form_of l.self ≡ g.Self.Column.form_of l.fn.self;
   room : g.Self.Column.room_of l.fn.self ≤ g.Self.Column.room_of l.self + l.k;
 }

@@ -1,4 +1,4 @@
-use Rattle.std.proofs.Common.{replicate, ◌^◌, ap, ◌∙◌}
+use Rattle.std.proofs.Common.{ap, ◌∙◌}
 use Rattle.bsi_slices.proofs.SliceEntries.{entries_same, sliced_same}
 use Rattle.bsi_slices.proofs.slices.SlicesColumn.copy.Goals as goal
 
@@ -8,11 +8,11 @@ invariant_of-result c =
     sliced_same c.self.inside.present.bits c.in_ok-copy.field-0.bits c.self.inside.slices.vectors c.in_ok-slices.slices.vectors
     c.in_ok-copy.ensures same.count (λ k within. same.bits k) c.self.invariant
 
-pub returns : goal.returns
-returns c =
-    let same = c.in_ok-slices.ensures.same in (
-      entries_same c.self.inside.present.bits c.in_ok-copy.field-0.bits c.self.inside.slices.vectors c.in_ok-slices.slices.vectors
-          c.in_ok-copy.ensures same.count (λ k within. same.bits k) ∙ ap (λ e. e.entries) c.self.view_is,
-      ap (λ w. 2 ^ w) same.count ∙ ap (λ e. 2 ^ e.width) c.self.view_is,
-      ap (λ w. replicate w 2) same.count ∙ ap (λ e. replicate e.width 2) c.self.view_is,
-    )
+pub returns-clause-entries : goal.returns-clause-entries
+returns-clause-entries c =
+    let same = c.in_ok-slices.ensures.same in
+    entries_same c.self.inside.present.bits c.in_ok-copy.field-0.bits c.self.inside.slices.vectors c.in_ok-slices.slices.vectors
+    c.in_ok-copy.ensures same.count (λ k within. same.bits k) ∙ ap (λ e. e.entries) c.self.view_is
+
+pub returns-clause-form : goal.returns-clause-form
+returns-clause-form c = c.in_ok-slices.ensures.same.count ∙ ap (λ e. e.width) c.self.view_is

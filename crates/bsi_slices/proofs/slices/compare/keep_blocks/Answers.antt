@@ -1,4 +1,4 @@
-use Rattle.std.proofs.Common.{◌≡◌, ℕ, ◌+◌, ◌*◌, ◌-◌, ◌≤◌, ◌&&◌, length, ◌∙◌, ap, arith}
+use Rattle.std.proofs.Common.{◌≡◌, ℕ, ◌+◌, ◌*◌, ◌-◌, ◌≤◌, ◌&&◌, not, length, ◌∙◌, ap, arith}
 use Rattle.std.specs.Simd.Lanes.{chunk}
 use Rattle.std.proofs.lemmas.Simd.{length-chunk}
 use Rattle.bsi_bits.specs.Packed.{bit_of}
@@ -19,9 +19,9 @@ block-preserved g c =
     let long : length (chunk at g.row.N c.block.words) ≡ g.row.N = length-chunk at g.row.N c.block.words enough in
     kept_more (λ r. passes c.args.test (number c.args.slices.now (64 * c.args.start + r))) c.args.from at g.row.N (c.args.from + g.row.N * (c.block.k + 1)) c.args.words.now c.block.words c.cut.result
     (omega arith) (omega arith)
-    (ap length c.cut.ensures ∙ cut_long g.row.N (chunk at g.row.N c.block.words) c.related_block-found.result long c.related_block-found.ensures.long c.args.test.negated)
+    (ap length c.cut.ensures ∙ cut_long g.row.N (chunk at g.row.N c.block.words) c.related_block-found.result long c.related_block-found.ensures.long (not c.args.test.wanted))
     (omega arith) c.block.invariant
     (λ p below. ap (λ ws. bit_of ws p) c.cut.ensures
-    ∙ cut_bit g.row.N (chunk at g.row.N c.block.words) c.related_block-found.result long c.related_block-found.ensures.long c.args.test.negated c.related_block-found.ensures.fits p below
-    ∙ (λ j. bit_of-chunk at g.row.N c.block.words p below j && turned c.args.test.negated ((c.related_block-found.ensures.bits p below
+    ∙ cut_bit g.row.N (chunk at g.row.N c.block.words) c.related_block-found.result long c.related_block-found.ensures.long (not c.args.test.wanted) c.related_block-found.ensures.fits p below
+    ∙ (λ j. bit_of-chunk at g.row.N c.block.words p below j && turned (not c.args.test.wanted) ((c.related_block-found.ensures.bits p below
     ∙ ap (λ r. relates c.args.test.relation c.args.test.constant (number c.args.slices.now r)) (place p)) j)))

@@ -4,9 +4,9 @@ use Rattle.std.proofs.lemmas.Nat.{one_shl}
 use Rattle.bsi_bits.specs.Packed.{bit_of}
 use Rattle.bsi_bits.proofs.Reading.{none_set}
 use Rattle.bsi_slices.specs.Slices.{number}
-use Rattle.bsi_slices.specs.SliceTests.{chosen, passes}
+use Rattle.bsi_slices.specs.SliceTests.{decides, passes}
 use Rattle.bsi_slices.proofs.WordBlocks.{replicate_bit}
-use Rattle.bsi_slices.proofs.SliceSelections.{and_assoc, kept_chosen}
+use Rattle.bsi_slices.proofs.SliceSelections.{and_assoc, kept_decided}
 use Rattle.bsi_slices.proofs.slices.compare.keep_selected.Goals as goal
 
 -- no number below the size
@@ -19,8 +19,8 @@ returns-in-Nothing c = λ p below row.
     let present = c.args.present.now.bits in
     let filled : c.fill.new.self ≡ replicate (length c.args.block.now) 0 = c.fill.ensures.after (λ y same. same) in
     ap (λ ws. bit_of ws p) filled ∙ replicate_bit (length c.args.block.now) 0 false none_set p below
-    ∙ sym (and-false was) ∙ ap (λ b. was && b) (sym (ap (λ s. get_or present r false && chosen s (number c.args.slices.now r)) c.in-Nothing.is ∙ and-false (get_or present r false)))
-    ∙ kept_chosen present c.args.slices.now c.args.op c.args.constant (1 * 2 ^ length c.args.slices.now % 2 ^ 64) size_is c.decide.result c.decide.ensures.chosen was r row
+    ∙ sym (and-false was) ∙ ap (λ b. was && b) (sym (ap (λ s. get_or present r false && decides s (number c.args.slices.now r)) c.in-Nothing.is ∙ and-false (get_or present r false)))
+    ∙ kept_decided present c.args.slices.now c.args.op c.args.constant (1 * 2 ^ length c.args.slices.now % 2 ^ 64) size_is c.decide.result c.decide.ensures.decided was r row
 
 -- each number below the size
 pub returns-in-Everything : goal.returns-in-Everything
@@ -31,8 +31,8 @@ returns-in-Everything c = λ p below row.
     let was = bit_of c.args.block.now p in
     let present = c.args.present.now.bits in
     c.keep_in.ensures.bits p below row
-    ∙ ap (λ b. was && b) (sym (ap (λ s. get_or present r false && chosen s (number c.args.slices.now r)) c.in-Everything.is ∙ and-true (get_or present r false)))
-    ∙ kept_chosen present c.args.slices.now c.args.op c.args.constant (1 * 2 ^ length c.args.slices.now % 2 ^ 64) size_is c.decide.result c.decide.ensures.chosen was r row
+    ∙ ap (λ b. was && b) (sym (ap (λ s. get_or present r false && decides s (number c.args.slices.now r)) c.in-Everything.is ∙ and-true (get_or present r false)))
+    ∙ kept_decided present c.args.slices.now c.args.op c.args.constant (1 * 2 ^ length c.args.slices.now % 2 ^ 64) size_is c.decide.result c.decide.ensures.decided was r row
 
 -- the numbers that pass the test, of which those of the rows that are there are kept
 pub returns-in-Tested : goal.returns-in-Tested
@@ -46,5 +46,5 @@ returns-in-Tested c = λ p below row.
     c.keep.ensures.inside p (omega arith) (omega (arith, below, long))
     ∙ ap (λ b. b && passes c.in-Tested.test (number c.args.slices.now r)) (c.keep_in-in-Tested.ensures.bits p below row)
     ∙ and_assoc was (get_or present r false) (passes c.in-Tested.test (number c.args.slices.now r))
-    ∙ ap (λ b. was && b) (sym (ap (λ s. get_or present r false && chosen s (number c.args.slices.now r)) c.in-Tested.is))
-    ∙ kept_chosen present c.args.slices.now c.args.op c.args.constant (1 * 2 ^ length c.args.slices.now % 2 ^ 64) size_is c.decide.result c.decide.ensures.chosen was r row
+    ∙ ap (λ b. was && b) (sym (ap (λ s. get_or present r false && decides s (number c.args.slices.now r)) c.in-Tested.is))
+    ∙ kept_decided present c.args.slices.now c.args.op c.args.constant (1 * 2 ^ length c.args.slices.now % 2 ^ 64) size_is c.decide.result c.decide.ensures.decided was r row

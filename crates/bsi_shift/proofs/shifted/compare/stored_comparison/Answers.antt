@@ -6,7 +6,7 @@ use Rattle.std.specs.Prelude.{◌-ℤ◌, OkIff, unsigned_abs}
 use Rattle.std.proofs.lemmas.Int.{to_z-of_z}
 use Rattle.bsi_shift.specs.Shifted.{number_of}
 use Rattle.bsi_shift.proofs.Comparing.{before, compared_after}
-use Rattle.bsi_shift.proofs.shifted.stored_comparison.Goals as goal
+use Rattle.bsi_shift.proofs.shifted.compare.stored_comparison.Goals as goal
 
 pub returns-then-above-lt0 : goal.returns-then-above-lt0
 returns-then-above-lt0 c =

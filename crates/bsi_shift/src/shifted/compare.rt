@@ -1,0 +1,93 @@
+//! Comparisons of whole numbers with a constant, as comparisons of the stored numbers.
+
+ghost use Rattle.std.specs.Prelude.{◌≡◌, ℕ, ℤ, ◌<ℤ◌, ◌+◌, ◌*◌, ◌/◌, ◌&&◌, ◌<◌, ◌≤◌, ◌^◌, length, map, None, slice_index_or, is_none, IfOk, OnOk, OnErr};
+ghost use Rattle.bsi_bits.specs.Packed.{bit_of};
+ghost use Rattle.bsi_slices.specs.Orders.{compares_by};
+ghost use Rattle.bsi_slices.specs.Rows.{number_order};
+ghost use Rattle.bsi_shift.specs.Shifted.{shifted_entries, number_of};
+ghost use Rattle.bsi_shift.specs.WholeNumbers.{whole_order, signed_selects};
+
+use crate::{NoMemory, Shifted};
+use bsi_bits::Bits;
+use bsi_columns::{Column, Op};
+
+impl Shifted {
+    /// Returns for each row whether it is a number that satisfies the comparison `op` with `constant`, which may be any
+    /// number. A null row is never selected.
+    pub fn compare(&self, op: Op, constant: i128) -> Result<Bits, NoMemory>
+        ensures { IfOk result (λ b. b.bits
+            ≡ map (signed_selects op constant) (shifted_entries self.now)) }
+    {
+        let (op, constant) = stored_comparison(op, constant, self.offset);
+        self.stored.compare(op, constant)
+    }
+
+    /// Writes for each row whether it is null.
+    pub fn nulls_into(&self, out: &mut Bits)
+        requires { length (shifted_entries self.now) ≡ length out.old.bits }
+        ensures bits { out.new.bits ≡ map is_none (shifted_entries self.now) }
+        ensures room { out.new.room ≡ out.old.room }
+    {
+        self.stored.nulls_into(out);
+    }
+
+    /// Keeps in a block of at most 1,024 words the rows whose number satisfies the comparison `op` with `constant`,
+    /// which may be any number. The first word stands for the 64 rows from row `64 * at` on. A null row is not kept.
+    pub fn keep_selected(
+        &self,
+        op: Op,
+        constant: i128,
+        at: usize,
+        block: &mut [u64],
+    ) -> Result<(), NoMemory>
+        requires few { length block.old ≤ 1024 }
+        requires within { at + length block.old ≤ (length (shifted_entries self.now) + 63) / 64 }
+        ensures kept { OnErr result (block.new ≡ block.old) }
+        ensures rows { OnOk result ((p : ℕ) → p < 64 * length block.old →
+            64 * at + p < length (shifted_entries self.now) → bit_of block.new p
+            ≡ (bit_of block.old p && signed_selects op constant
+            (slice_index_or (shifted_entries self.now) (64 * at + p) None))) }
+    {
+        let (op, constant) = stored_comparison(op, constant, self.offset);
+        self.stored.keep_selected(op, constant, at, block)
+    }
+
+    /// Keeps in a block of words the rows that are null. The first word stands for the 64 rows from row `64 * at` on.
+    /// It allocates no memory.
+    pub fn keep_nulls(&self, at: usize, block: &mut [u64])
+        requires { at + length block.old ≤ (length (shifted_entries self.now) + 63) / 64 }
+        ensures { (p : ℕ) → p < 64 * length block.old →
+            64 * at + p < length (shifted_entries self.now) → bit_of block.new p
+            ≡ (bit_of block.old p && is_none
+            (slice_index_or (shifted_entries self.now) (64 * at + p) None)) }
+    {
+        self.stored.keep_nulls(at, block);
+    }
+}
+
+/// Returns the comparison of stored numbers that selects the same rows as `op` does with `constant`: a number is stored
+/// less the offset. Each stored number is below 2^63, so the greatest constant of 64 bits stands for each constant past
+/// it.
+fn stored_comparison(op: Op, constant: i128, offset: i64) -> (Op, u64)
+    ensures { (n : ℕ) → n < 2 ^ 63 →
+        compares_by number_order result.0 n result.1
+        ≡ compares_by whole_order op (number_of offset n) constant }
+{
+    let above = constant.saturating_sub(i128::from(offset));
+    if above < 0 {
+        return (below_all(op), 0);
+    }
+    (op, u64::try_from(above).unwrap_or(u64::MAX))
+}
+
+/// Returns the comparison with 0 that selects all stored numbers or none, as `op` does with a constant below each
+/// number.
+fn below_all(op: Op) -> Op
+    ensures { (n : ℕ) → (x constant : ℤ) → constant <ℤ x →
+        compares_by number_order result n 0 ≡ compares_by whole_order op x constant }
+{
+    match op {
+        Op::Eq | Op::Lt | Op::Le => Op::Lt,
+        Op::Ne | Op::Gt | Op::Ge => Op::Ge,
+    }
+}

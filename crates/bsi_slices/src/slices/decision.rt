@@ -1,0 +1,74 @@
+//! What a comparison with a constant asks of the binary places.
+//!
+//! Each comes down to `=` or `>`: `A >= v` is `A > v - 1`, and `A < v` and `A <= v` are complements. A constant that
+//! leaves nothing to ask is decided before any slice is read.
+
+ghost use Rattle.std.specs.Prelude.{◌≡◌, ℕ, ◌<◌};
+ghost use Rattle.bsi_slices.specs.Rows.{compares};
+ghost use Rattle.bsi_slices.specs.SliceTests.{decides, IsBelowSize};
+ghost use Rattle.bsi_slices.specs.declared.slices.decision.Decision.TheVariants.{Tested};
+
+use crate::column::Op;
+
+/// The relation of a number to a constant.
+#[derive(Clone, Copy)]
+pub enum Relation {
+    /// Above the constant.
+    Above,
+    /// Equal to the constant.
+    Equal,
+}
+
+/// A relation to a constant, and whether the numbers are wanted that are in it or those that are not.
+#[derive(Clone, Copy)]
+pub struct Test {
+    pub relation: Relation,
+    pub constant: u64,
+    pub wanted: bool,
+}
+
+/// How a comparison with a constant is decided for the numbers below a size.
+#[derive(Clone, Copy)]
+pub enum Decision {
+    /// None of them compares so.
+    Nothing,
+    /// Each of them does.
+    Everything,
+    /// Those do that a test wants, whose constant is below the size.
+    Tested(Test),
+}
+
+/// Decides a comparison for the numbers below a size.
+pub(crate) fn decide(op: Op, constant: u64, size: u64) -> Decision
+    ensures decided { (x : ℕ) → x < size → decides result x ≡ compares op x constant }
+    ensures below { IsBelowSize result size }
+{
+    if constant >= size {
+        return match op {
+            Op::Eq | Op::Gt | Op::Ge => Decision::Nothing,
+            Op::Ne | Op::Lt | Op::Le => Decision::Everything,
+        };
+    }
+    match op {
+        Op::Eq => tested(Relation::Equal, constant, true),
+        Op::Ne => tested(Relation::Equal, constant, false),
+        Op::Gt => tested(Relation::Above, constant, true),
+        Op::Le => tested(Relation::Above, constant, false),
+        Op::Lt if constant == 0 => Decision::Nothing,
+        Op::Ge if constant == 0 => Decision::Everything,
+        Op::Lt => tested(Relation::Above, constant - 1, false),
+        Op::Ge => tested(Relation::Above, constant - 1, true),
+    }
+}
+
+/// Returns the decision for the numbers in a relation to a constant or, if they are not wanted, for all other numbers.
+fn tested(relation: Relation, constant: u64, wanted: bool) -> Decision
+    ensures { result ≡ Tested
+        (record { relation = relation; constant = constant; wanted = wanted }) }
+{
+    Decision::Tested(Test {
+        relation,
+        constant,
+        wanted,
+    })
+}
