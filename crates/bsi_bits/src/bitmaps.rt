@@ -20,7 +20,7 @@ const MIN_ROOM: u64 = 256;
 #[derive(Drop)]
 pub struct Bitmaps {
     vectors: Vec<Bits>,
-    // (no vector has less)
+    // No vector has less.
     room: u64,
 }
 

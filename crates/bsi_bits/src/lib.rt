@@ -1,4 +1,4 @@
-//! Packed vectors of bits: appending, Boolean operations in place, population counts, and the kernels over words below them.
+//! Packed vectors of bits: appending, Boolean operations in place, population counts, and the kernels for them.
 #![tactic(auto)]
 
 mod bitmaps;
@@ -10,5 +10,6 @@ mod packing;
 pub use bitmaps::{Bitmaps, room_to_make};
 pub use bits::Bits;
 pub use ones::Ones;
+#[doc(hidden)]
 pub use packing::know_fits;
 pub use std::alloc::AllocError as NoMemory;

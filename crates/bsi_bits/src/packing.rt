@@ -66,6 +66,7 @@ pub fn push_word(words: &mut Vec<u64>, n: u64, word: u64, count: u64)
 
 /// Does nothing when the program runs. Its clause tells a proof that each word is below 2^64, which the words behind a
 /// shared reference do not tell by themselves; it is public for the proofs of the crates above.
+#[doc(hidden)]
 pub fn know_fits(words: &[u64])
     ensures { (k : ℕ) → slice_index words.now k < 2 ^ 64 }
 {}

@@ -1,4 +1,4 @@
-//! The feeder of each row of a table, and the rows of a found set, each by its feeder and its number among that feeder's.
+//! The feeder of each row of a table, and the rows of a found set by their feeders and numbers.
 #![tactic(auto)]
 
 mod numbering;
