@@ -15,7 +15,7 @@ use Rattle.bsi_columns.specs.declared.decomposed.decision.DigitRelation.{DigitRe
 use Rattle.bsi_columns.specs.declared.decomposed.decision.DigitRelation.TheVariants.{Equal, AtMost}
 use Rattle.bsi_components.specs.Component.{at_most_from}
 use Rattle.bsi_columns.specs.Rows.{number_or_zero}
-use Rattle.bsi_columns.specs.Tests.{holds, holds_from, as_wanted, answers}
+use Rattle.bsi_columns.specs.DigitTests.{holds, holds_from, as_wanted, answers}
 
 -- a row that is not not a null
 pub nulls_are : (es : List (Option ℕ)) → map not (map is_some es) ≡ map is_none es

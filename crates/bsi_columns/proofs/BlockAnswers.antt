@@ -13,7 +13,7 @@ use Rattle.bsi_digits.specs.Digits.{size_of, weight, digit_of, IsBaseList}
 use Rattle.bsi_digits.proofs.CallerLemmas.{low_all}
 use Rattle.bsi_columns.specs.declared.decomposed.decision.DigitRelation.{DigitRelation}
 use Rattle.bsi_columns.specs.Rows.{number_or_zero}
-use Rattle.bsi_columns.specs.Tests.{holds, holds_from, as_wanted, answers}
+use Rattle.bsi_columns.specs.DigitTests.{holds, holds_from, as_wanted, answers}
 use Rattle.bsi_columns.proofs.WordBlocks.{zipped_bit}
 use Rattle.bsi_columns.proofs.Answering.{holds_more, nothing_below, cut_answer}
 

@@ -7,7 +7,7 @@ use Rattle.bsi_columns.specs.declared.decomposed.decision.Decision.{Decision}
 use Rattle.bsi_columns.specs.declared.decomposed.decision.Decision.TheVariants.{Nothing, Everything, Tested}
 use Rattle.bsi_columns.specs.declared.decomposed.decision.DigitTest.{DigitTest}
 use Rattle.bsi_columns.specs.Rows.{compares, number_or_zero, selects}
-use Rattle.bsi_columns.specs.Tests.{answers, decides, holds}
+use Rattle.bsi_columns.specs.DigitTests.{answers, decides, holds}
 use Rattle.bsi_columns.proofs.Answering.{map_alike}
 
 module _ (op : Op) (n size : ℕ) (choice : Decision) (agree : (x : ℕ) → x < size → decides choice x ≡ compares op x n) where

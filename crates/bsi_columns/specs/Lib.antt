@@ -1,7 +1,7 @@
 pub mod AnyRows
 pub mod BlockEnds
 pub mod Decomposed
-pub mod Tests
+pub mod DigitTests
 pub use Rattle.bsi_components.specs.Bitmaps
 pub use Rattle.bsi_components.specs.Component
 pub use Rattle.bsi_components.specs.EndDigits

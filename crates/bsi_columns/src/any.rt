@@ -1,9 +1,9 @@
 //! A column of whichever form, chosen when the program runs.
 
-ghost use Rattle.std.specs.Prelude.{◌≡◌, ℕ, ◌+◌, ◌*◌, ◌/◌, ◌<◌, ◌≤◌, ◌^◌, ◌&&◌, [], ◌∷◌, ◌++◌, All, None, is_none, length, slice_index_or, IsOk, IfOk, OnOk, OnErr};
+ghost use Rattle.std.specs.Prelude.{◌≡◌, ℕ, ◌+◌, ◌*◌, ◌/◌, ◌<◌, ◌≤◌, ◌&&◌, None, is_none, length, slice_index_or, OnOk, OnErr};
 ghost use Rattle.bsi_bits.specs.Packed.{bit_of};
 ghost use Rattle.bsi_columns.specs.AnyRows.{any_entries, any_form, any_room, bases_in_form, size_in_form, AnyForm};
-ghost use Rattle.bsi_columns.specs.Rows.{number_or_zero, selects};
+ghost use Rattle.bsi_columns.specs.Rows.{selects};
 
 use crate::{Column, Decomposed, EqualityComponent, NoMemory, Op, RangeComponent, Slices};
 use bsi_bits::Bits;

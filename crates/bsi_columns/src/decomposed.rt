@@ -16,6 +16,7 @@ use std::marker::Model;
 mod compare;
 mod decision;
 mod ends;
+mod narrowing;
 mod totals;
 mod vectors;
 

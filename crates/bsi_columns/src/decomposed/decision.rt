@@ -5,7 +5,7 @@
 
 ghost use Rattle.std.specs.Prelude.{◌≡◌, ℕ, ◌<◌};
 ghost use Rattle.bsi_columns.specs.Rows.{compares};
-ghost use Rattle.bsi_columns.specs.Tests.{decides, IsBelowSize};
+ghost use Rattle.bsi_columns.specs.DigitTests.{decides, IsBelowSize};
 ghost use Rattle.bsi_columns.specs.declared.decomposed.decision.Decision.TheVariants.{Tested};
 
 use crate::Op;

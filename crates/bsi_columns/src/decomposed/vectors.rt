@@ -4,7 +4,7 @@ ghost use Rattle.std.specs.Prelude.{◌≡◌, ◌<◌, ◌&&◌, length, map, I
 ghost use Rattle.std.specs.Simd.Lanes.{zip2};
 ghost use Rattle.bsi_digits.specs.Digits.{size_of};
 ghost use Rattle.bsi_columns.specs.Rows.{number_or_zero};
-ghost use Rattle.bsi_columns.specs.Tests.{holds, holds_from, as_wanted, answers};
+ghost use Rattle.bsi_columns.specs.DigitTests.{holds, holds_from, as_wanted, answers};
 
 use crate::decomposed::Decomposed;
 use crate::decomposed::decision::{DigitRelation, DigitTest};

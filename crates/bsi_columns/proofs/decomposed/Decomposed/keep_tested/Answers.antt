@@ -3,7 +3,7 @@ use Rattle.std.specs.Prelude.{None, is_some}
 use Rattle.std.proofs.lemmas.List.{get_or-map, length-map, length-take}
 use Rattle.bsi_bits.specs.Packed.{bit_of}
 use Rattle.bsi_columns.specs.Rows.{number_or_zero}
-use Rattle.bsi_columns.specs.Tests.{as_wanted, holds}
+use Rattle.bsi_columns.specs.DigitTests.{as_wanted, holds}
 use Rattle.bsi_columns.specs.Decomposed.{entries_of}
 use Rattle.bsi_columns.proofs.Answering.{and_assoc, cut_answer}
 use Rattle.bsi_columns.proofs.decomposed.Decomposed.keep_tested.Goals as goal

@@ -1,7 +1,7 @@
 use Rattle.std.proofs.Common.{◌≡◌, ◌%◌, length, map}
 use Rattle.bsi_digits.specs.Digits.{weight}
 use Rattle.bsi_columns.specs.Rows.{number_or_zero}
-use Rattle.bsi_columns.specs.Tests.{holds}
+use Rattle.bsi_columns.specs.DigitTests.{holds}
 use Rattle.bsi_columns.proofs.decomposed.Decomposed.narrow_vectors.Given as goal
 
 abbrev pub invariant-loop-i : goal.invariant-loop-i

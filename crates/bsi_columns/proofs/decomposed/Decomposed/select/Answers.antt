@@ -3,7 +3,7 @@ use Rattle.std.specs.Prelude.{IfSome}
 use Rattle.std.proofs.lemmas.List.{length-map}
 use Rattle.bsi_bits.specs.Packed.{bit_of}
 use Rattle.bsi_bits.proofs.Reading.{bits_are}
-use Rattle.bsi_columns.specs.Tests.{holds, answers}
+use Rattle.bsi_columns.specs.DigitTests.{holds, answers}
 use Rattle.bsi_columns.specs.Decomposed.{entries_of}
 use Rattle.bsi_columns.proofs.EntriesFrom.{rows_of}
 use Rattle.bsi_columns.proofs.decomposed.Decomposed.select.Goals as goal

@@ -3,7 +3,7 @@ use Rattle.std.specs.Prelude.{None, is_some}
 use Rattle.std.proofs.lemmas.List.{length-map}
 use Rattle.bsi_bits.specs.Packed.{bit_of}
 use Rattle.bsi_columns.specs.Rows.{number_or_zero}
-use Rattle.bsi_columns.specs.Tests.{holds, as_wanted}
+use Rattle.bsi_columns.specs.DigitTests.{holds, as_wanted}
 use Rattle.bsi_columns.specs.Decomposed.{entries_of}
 use Rattle.bsi_columns.proofs.BlockAnswers.{row_answer, answer_turned, answer_kept}
 use Rattle.bsi_columns.proofs.decomposed.Decomposed.select_block.Goals as goal

@@ -1,7 +1,7 @@
 use Rattle.std.proofs.Common.{◌≡◌, ◌-◌, ◌*◌, ◌++◌, ℕ, false, length, get_or, map, arith}
 use Rattle.std.specs.Prelude.{min}
 use Rattle.std.proofs.lemmas.List.{length-append, length-take}
-use Rattle.bsi_columns.specs.Tests.{holds, answers}
+use Rattle.bsi_columns.specs.DigitTests.{holds, answers}
 use Rattle.bsi_columns.proofs.BlockAnswers.{appended_bits}
 use Rattle.bsi_columns.proofs.decomposed.Decomposed.select_blocks.Goals as goal
 

@@ -1,7 +1,7 @@
 use Rattle.std.proofs.Common.{◌≡◌, ◌<◌, ◌*◌, ℕ, false, length, map, get_or}
 use Rattle.std.specs.Prelude.{min}
 use Rattle.bsi_bits.specs.Packed.{bit_of}
-use Rattle.bsi_columns.specs.Tests.{holds, answers}
+use Rattle.bsi_columns.specs.DigitTests.{holds, answers}
 use Rattle.bsi_columns.proofs.decomposed.Decomposed.select_blocks.Given as goal
 
 abbrev pub invariant-loop-k : goal.invariant-loop-k

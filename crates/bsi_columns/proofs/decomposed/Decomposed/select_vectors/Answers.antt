@@ -1,7 +1,7 @@
 use Rattle.std.proofs.Common.{◌≡◌, ℕ, ◌&&◌, map, ap, ◌∙◌}
 use Rattle.bsi_columns.specs.Rows.{number_or_zero}
 use Rattle.std.specs.Simd.Lanes.{zip2}
-use Rattle.bsi_columns.specs.Tests.{holds, as_wanted}
+use Rattle.bsi_columns.specs.DigitTests.{holds, as_wanted}
 use Rattle.bsi_columns.specs.Decomposed.{entries_of}
 use Rattle.bsi_columns.proofs.Answering.{cut_answers}
 use Rattle.bsi_columns.proofs.decomposed.Decomposed.select_vectors.Goals as goal

@@ -2,7 +2,7 @@ use Rattle.std.proofs.Common.{◌≡◌, ◌<◌, ℕ, false, replicate, map, ap
 use Rattle.bsi_bits.specs.BitList.{BitList}
 use Rattle.bsi_digits.specs.Digits.{size_of}
 use Rattle.bsi_columns.specs.Rows.{compares, selects}
-use Rattle.bsi_columns.specs.Tests.{answers, decides, holds}
+use Rattle.bsi_columns.specs.DigitTests.{answers, decides, holds}
 use Rattle.bsi_columns.specs.Decomposed.{entries_of}
 use Rattle.bsi_columns.proofs.EntriesFrom.{rows_of}
 use Rattle.bsi_columns.proofs.Answering.{IfOk-same_bits}

@@ -1,8 +1,8 @@
 use Rattle.std.proofs.Common.{◌+◌, ◌*◌, ◌||◌, get_or, sym, ap₂, ◌∙◌}
 use Rattle.std.proofs.lemmas.Bool.{OnTrue_at, OnTrue_from}
 use Rattle.bsi_bits.specs.Packed.{bit_of}
-use Rattle.bsi_columns.specs.Tests.{holds_from}
-use Rattle.bsi_columns.proofs.decomposed.compare.narrow_part.Goals as goal
+use Rattle.bsi_columns.specs.DigitTests.{holds_from}
+use Rattle.bsi_columns.proofs.decomposed.narrowing.narrow_part.Goals as goal
 
 -- of the lowest digit nothing is known before
 pub returns-in-Equal : goal.returns-in-Equal

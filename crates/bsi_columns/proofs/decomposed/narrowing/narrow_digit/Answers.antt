@@ -1,9 +1,9 @@
 use Rattle.std.proofs.Common.{◌≡◌, ◌<◌, ◌+◌, ◌-◌, ◌*◌, ◌||◌, length, take, drop, arith}
 use Rattle.std.specs.Prelude.{min}
 use Rattle.std.proofs.lemmas.List.{length-take, length-drop}
-use Rattle.bsi_columns.specs.Tests.{holds_from}
+use Rattle.bsi_columns.specs.DigitTests.{holds_from}
 use Rattle.bsi_columns.proofs.BlockParts.{stepped_more}
-use Rattle.bsi_columns.proofs.decomposed.compare.narrow_digit.Goals as goal
+use Rattle.bsi_columns.proofs.decomposed.narrowing.narrow_digit.Goals as goal
 
 -- the part that is stepped ends where the next one begins, or the block does
 pub parts-preserved : goal.parts-preserved

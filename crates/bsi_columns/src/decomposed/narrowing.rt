@@ -1,0 +1,73 @@
+//! One digit of a test, taken into a block of words.
+
+ghost use Rattle.std.specs.Prelude.{◌≡◌, ℕ, ◌+◌, ◌*◌, ◌/◌, ◌^◌, ◌≤◌, ◌<◌, ◌||◌, length, slice_index};
+ghost use Rattle.std.specs.Bool.{OnTrue};
+ghost use Rattle.bsi_bits.specs.Packed.{bit_of};
+ghost use Rattle.bsi_columns.specs.DigitTests.{holds_from};
+
+use crate::Encoding;
+use crate::decomposed::decision::DigitRelation;
+
+/// The words of a part of a block, which a component narrows by all the bitmaps that it reads before it goes on to the
+/// next, so that it reads them side by side.
+const PART: usize = 64;
+
+/// Takes one more digit into the test of a block, part by part. At the lowest digit it ignores what the block holds. It
+/// returns `false` if the component works on whole vectors alone.
+pub(crate) fn narrow_digit<E: Encoding>(
+    component: &E,
+    relation: DigitRelation,
+    digit: u32,
+    is_lowest: bool,
+    at: usize,
+    block: &mut [u64],
+) -> bool
+    requires below { digit < E.base_of component.now }
+    requires within { at + length block.old ≤ (length (E.digits component.now) + 63) / 64 }
+    ensures { OnTrue result ((p : ℕ) → p < 64 * length block.old →
+        64 * at + p < length (E.digits component.now) → bit_of block.new p
+        ≡ holds_from relation (is_lowest || bit_of block.old p)
+        (slice_index (E.digits component.now) (64 * at + p)) digit) }
+{
+    know_rows(component);
+    let len = block.len();
+    'parts: for k in 0..len.div_ceil(PART) {
+        let from = PART * k;
+        let part = &mut block[from..from + PART.min(len - from)];
+        if !narrow_part(component, relation, digit, is_lowest, at + from, part) {
+            return false;
+        }
+    }
+    true
+}
+
+/// Returns nothing: its contract bounds the rows of a component, as `len` does, for loops that do not call `len`.
+fn know_rows<E: Encoding>(component: &E)
+    ensures { length (E.digits component.now) ≤ 2 ^ 32 }
+{
+    let _rows = component.len();
+}
+
+/// Takes one more digit into the test of a part of a block.
+fn narrow_part<E: Encoding>(
+    component: &E,
+    relation: DigitRelation,
+    digit: u32,
+    is_lowest: bool,
+    at: usize,
+    block: &mut [u64],
+) -> bool
+    requires below { digit < E.base_of component.now }
+    requires within { at + length block.old ≤ (length (E.digits component.now) + 63) / 64 }
+    ensures { OnTrue result ((p : ℕ) → p < 64 * length block.old →
+        64 * at + p < length (E.digits component.now) → bit_of block.new p
+        ≡ holds_from relation (is_lowest || bit_of block.old p)
+        (slice_index (E.digits component.now) (64 * at + p)) digit) }
+{
+    match relation {
+        DigitRelation::Equal if is_lowest => component.eq_block_into(digit, at, block),
+        DigitRelation::Equal => component.eq_block(digit, at, block),
+        DigitRelation::AtMost if is_lowest => component.le_block_into(digit, at, block),
+        DigitRelation::AtMost => component.le_block(digit, at, block),
+    }
+}
