@@ -1,6 +1,6 @@
 -- A machine of which one feeder changes is still a machine.
 use Rattle.std.proofs.Common.{◌≡◌, ℕ, ◌+◌, ◌<◌, ◌≤◌, true, false, cond, ◌++◌, ◌∷◌, [], List, Option, Some, None, Bool, map, Result, Ok, Err, length, drop, get_or, set, ap, ap₂, sym, ◌∙◌, subst, refl, arith}
-use Rattle.std.specs.Prelude.{All, IsTrue, IsOk, IsErr, OnOk, IfErr, MatchOption, ◌↔◌, ◌⊎◌, ◌==◌, slice_get, unwrap_or, position, nat_eq, nat_lt}
+use Rattle.std.specs.Prelude.{All, IsTrue, IsOk, IsErr, IsErrAnd, OnOk, IfErr, MatchOption, MatchResult, ◌↔◌, ◌⊎◌, ◌==◌, slice_get, unwrap_or, position, nat_eq, nat_lt}
 use Rattle.std.proofs.lemmas.Bool.Decides.{nat_tests}
 use Rattle.std.proofs.lemmas.Iterator.Adapters.{position_from-zero}
 use Rattle.std.proofs.lemmas.List.{length-append, length-map, length-set}
@@ -18,6 +18,8 @@ use Rattle.bsi_load.specs.declared.event.Event.TheVariants.{Load}
 use Rattle.bsi_load.specs.declared.event.LoadRefused.{LoadRefused}
 use Rattle.bsi_load.specs.declared.event.LoadRefused.TheVariants as load
 use Rattle.bsi_load.specs.declared.event.Reply.TheVariants.{Loaded}
+use Rattle.bsi_load.specs.declared.event.SubmitRefused.{SubmitRefused}
+use Rattle.bsi_load.specs.declared.event.SubmitRefused.TheVariants as submit
 use Rattle.bsi_load.specs.Runs.{shown_after}
 use Rattle.bsi_load.proofs.Changes.{load_refused}
 use Rattle.bsi_load.specs.Shown.{Shown, Waiting, feeder_at, is_unknown, load_refusal, IsLoadReply, IsMachine}
@@ -123,3 +125,11 @@ machine_new schema capacities limit is =
       small = All-map (λ w. w.capacity ≤ 65536) new_feeder capacities (All-weaker (λ n. is_out_of_range n ≡ false) (λ n. n ≤ 65536) (λ n test. grind (arith, nat_tests)) capacities (all_in_range 0 capacities (sym (position_from-zero is_out_of_range capacities) ∙ in_range)));
       fitting = All-map (λ w. All (λ row. IsTrue (fits schema.columns row)) w.rows) new_feeder capacities (λ k d within. All-nil (λ row. IsTrue (fits schema.columns row)));
     }
+
+-- what is so of a submission, by whether its row was put into the queue
+pub by_push : {A : Type 0} {B : Entries → Type 0} (G : Result (Unit {0}) SubmitRefused → Type 0) (r : Result (Unit {0}) Entries) (m : Result (Unit {0}) SubmitRefused)
+    → MatchResult r (λ done. m ≡ Ok done) (λ row. IsErrAnd m (λ refused. refused ≡ submit.Full row)) → OnOk r A → IfErr r B
+    → (A → G (Ok tt)) → ((row : Entries) → B row → G (Err (submit.Full row))) → G m
+by_push G (Ok done) m is ok err then_ok then_err = subst G (sym is) (then_ok ok)
+by_push G (Err row) (Ok done) is ok err then_ok then_err = absurd is
+by_push G (Err row) (Err refused) is ok err then_ok then_err = subst (λ e. G (Err e)) (sym is) (then_err row err)

@@ -1,4 +1,5 @@
--- A run of events: what was accepted, what is indexed, what waits, and who was closed, by the events and their replies alone.
+-- A run of events: what was accepted, what is indexed, what waits, and who was closed, by the events and their replies
+-- alone.
 use Rattle.std.specs.Prelude.{◌≡◌, ℕ, ◌+◌, Bool, true, false, ◌||◌, List, [], ◌∷◌, ◌++◌, Some, None, Ok, length, map, take, drop, filter_map, nat_eq, if◌then◌else◌, slice_get, ⊤}
 use Rattle.std.specs.List.{range_with_len}
 use Rattle.std.specs.Option.{option_map, option_to_list}
@@ -40,7 +41,8 @@ loads s f (done ∷ past) = loads s f past + loaded_by f done.0 done.1
 -- ---- the indexed rows: a load adds the first row of its feeder that was accepted and not loaded before
 
 abbrev pub loaded_row : Shown → List Done → Event → Reply → List FedRow
-loaded_row s past (Load g) (Loaded (Ok position)) = option_to_list (option_map (λ row. (g, row)) (slice_get (accepted s g past) (loads s g past)))
+loaded_row s past (Load g) (Loaded (Ok position)) =
+    option_to_list (option_map (λ row. (g, row)) (slice_get (accepted s g past) (loads s g past)))
 loaded_row s past event reply = []
 
 unfoldable pub indexed : Shown → List Done → List FedRow
@@ -65,7 +67,8 @@ closed s f (done ∷ past) = closed s f past || closed_by f done.0 done.1
 -- ---- what the machine shows after a run
 
 abbrev pub feeder_after : Shown → List Done → ℕ → Waiting
-feeder_after s past f = record { rows = waiting s f past; closed = closed s f past; capacity = (feeder_at s f).capacity }
+feeder_after s past f =
+    record { rows = waiting s f past; closed = closed s f past; capacity = (feeder_at s f).capacity }
 
 unfoldable pub shown_after : Shown → List Done → Shown
 shown_after s past = record {

@@ -17,7 +17,8 @@ use Rattle.bsi_load.specs.declared.event.Reply.TheVariants.{Submitted, Loaded, C
 use Rattle.bsi_load.specs.declared.event.SubmitRefused.{SubmitRefused}
 use Rattle.bsi_load.specs.declared.event.SubmitRefused.TheVariants as submit
 
--- what is seen of a feeder: its waiting rows, the first of them first, whether it was closed, and how many rows may wait
+-- what is seen of a feeder: its waiting rows, the first of them first, whether it was closed, and how many rows may
+-- wait
 pub record Waiting : Type 0 where
   pub rows : List Entries
   pub closed : Bool
@@ -64,7 +65,8 @@ load_refusal s f =
 -- the reply to a load: that refusal, or the position of the row, or that there is no memory
 abbrev pub IsLoadReply : Shown → ℕ → Result ℕ LoadRefused → Type 0
 IsLoadReply s f reply =
-    MatchOption (load_refusal s f) ((reply ≡ Ok (length s.index.rows)) ⊎ (reply ≡ Err load.NoMemory)) (λ refused. reply ≡ Err refused)
+    MatchOption (load_refusal s f) ((reply ≡ Ok (length s.index.rows)) ⊎ (reply ≡ Err load.NoMemory))
+    (λ refused. reply ≡ Err refused)
 
 -- the reply to a closing
 abbrev pub close_reply : Shown → ℕ → Result (Unit {0}) CloseRefused

@@ -96,10 +96,8 @@ impl Core {
         if !self.index.schema().fits(&row) {
             return Err(SubmitRefused::Misfit(row));
         }
-        match self.feeders[place].queue.try_push_back(row) {
-            Err(row) => Err(SubmitRefused::Full(row)),
-            Ok(()) => Ok(()),
-        }
+        let queue = &mut self.feeders[place].queue;
+        queue.try_push_back(row).map_err(SubmitRefused::Full)
     }
 
     /// Moves the row of a feeder that has waited longest into the index, and returns its row position there. If the
@@ -159,10 +157,10 @@ impl Core {
 
     /// Carries out a list of events in order, and returns their replies in the same order.
     ///
-    /// For every list of submissions, loads, closings and queries, each feeder's indexed rows followed by its waiting rows
-    /// are exactly its accepted rows, each once and in order of submission; none submitted after its closing is among them;
-    /// and every answered selection and total equals the plain definition over the rows indexed at that step, whatever bases
-    /// and encodings were chosen.
+    /// For every list of submissions, loads, closings and queries, each feeder's indexed rows followed by its waiting
+    /// rows are exactly its accepted rows, each once and in order of submission; none submitted after its closing is
+    /// among them; and every answered selection and total equals the plain definition over the rows indexed at that
+    /// step, whatever bases and encodings were chosen.
     ///
     /// A load or a query may be refused memory, and then it changes nothing. If memory is refused for the list of
     /// replies, the events are handed back and none of them takes place.

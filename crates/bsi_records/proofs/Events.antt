@@ -1,5 +1,5 @@
 -- The events of records: those that are no query, and the queries.
-use Rattle.std.proofs.Common.{◌≡◌, ◌≢◌, ℕ, Bool, true, false, List, [], ◌∷◌, length, drop, Option, Some, None, MatchOption, option_map, option_and_then, if◌then◌else◌, ℤ, codes, refl, sym, ◌∙◌, ap, subst}
+use Rattle.std.proofs.Common.{◌≡◌, ◌≢◌, ℕ, Bool, true, false, List, [], ◌∷◌, length, drop, Option, Some, None, MatchOption, option_map, option_and_then, IsSomeAnd, if◌then◌else◌, ℤ, codes, refl, sym, ◌∙◌, ap, subst}
 use Rattle.std.specs.Str.{bytes_eq}
 use Rattle.csv.specs.Records.{field_at}
 use Rattle.bsi_load.specs.declared.event.Event.{Event}
@@ -57,19 +57,6 @@ not_alone [] other = refl
 not_alone (word ∷ []) other = refl
 not_alone (word ∷ text ∷ []) other = absurd (other refl)
 not_alone (word ∷ text ∷ value ∷ rest) other = refl
-
--- such a record asks for no query
-pub no_submit_total : (schema : Declared) (rest : List Field) → total_of schema (codes "submit" ∷ rest) ≡ None
-no_submit_total schema [] = refl
-no_submit_total schema (name ∷ rest) = refl
-
-pub no_load_total : (schema : Declared) (rest : List Field) → total_of schema (codes "load" ∷ rest) ≡ None
-no_load_total schema [] = refl
-no_load_total schema (name ∷ rest) = refl
-
-pub no_close_total : (schema : Declared) (rest : List Field) → total_of schema (codes "close" ∷ rest) ≡ None
-no_close_total schema [] = refl
-no_close_total schema (name ∷ rest) = refl
 
 -- ---- a record with another word
 
@@ -156,3 +143,23 @@ plain_read schema fields no_total read is = by read is
     by : (read : Option Event) → read ≡ plain_event schema fields → MatchOption read ((event : Event) → IsEvent schema fields event → ⊥) (IsEvent schema fields)
     by None is = none (sym is)
     by (Some event) is = some event (sym is)
+
+-- ---- an event that is made of what was read
+
+-- a part that was read makes an event
+pub mapped : {A B : Type 0} (make : A → B) (read : Option A) (made : Option B) → MatchOption read (made ≡ None) (λ x. IsSomeAnd made (λ y. y ≡ make x))
+    → made ≡ option_map make read
+mapped make None made is = is
+mapped make (Some x) None is = absurd is
+mapped make (Some x) (Some y) is = ap (λ v. Some v) is
+
+-- a query that was read, or that there is none
+pub query_event : (schema : Declared) (fields : List Field)
+    → (((query : Query) → IsQuery schema fields query → ⊥) → (event : Event) → IsEvent schema fields event → ⊥)
+    → (read : Option Query) (made : Option Event)
+    → MatchOption read ((query : Query) → IsQuery schema fields query → ⊥) (IsQuery schema fields)
+    → MatchOption read (made ≡ None) (λ x. IsSomeAnd made (λ y. y ≡ Ask x))
+    → MatchOption made ((event : Event) → IsEvent schema fields event → ⊥) (IsEvent schema fields)
+query_event schema fields other None made none is = subst (λ o. MatchOption o ((event : Event) → IsEvent schema fields event → ⊥) (IsEvent schema fields)) (sym is) (other none)
+query_event schema fields other (Some query) None asked is = absurd is
+query_event schema fields other (Some query) (Some event) asked is = subst (IsEvent schema fields) (sym is) asked

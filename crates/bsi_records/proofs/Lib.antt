@@ -1,6 +1,7 @@
 mod Adding
 mod ColumnRecords
 mod Digits
+pub mod EventWords
 mod Events
 mod Fields
 mod Machines

@@ -19,11 +19,13 @@ total_of_column word =
     else (if bytes_eq word (codes "median") then Some Median
     else None)))
 
--- the total of a record that begins with this word, and the fields of its predicate: behind the column's name, if it reads one
+-- the total of a record that begins with this word, and the fields of its predicate: behind the column's name, if it
+-- reads one
 abbrev pub column_total : Declared → Field → List Field → Option (Total × List Field)
 column_total schema word [] = None
 column_total schema word (name ∷ rest) =
-    option_and_then (λ total. option_map (λ c. (total c, rest)) (position_of schema.columns name)) (total_of_column word)
+    option_and_then (λ total. option_map (λ c. (total c, rest)) (position_of schema.columns name))
+    (total_of_column word)
 
 abbrev pub total_of : Declared → List Field → Option (Total × List Field)
 total_of schema [] = None
@@ -45,7 +47,8 @@ feeder_event schema word feeder [] =
     else (if bytes_eq word (codes "close") then Some (Close feeder)
     else None))
 feeder_event schema word feeder (value ∷ values) =
-    if bytes_eq word (codes "submit") then option_map (Submit feeder) (values_in schema.signed (value ∷ values)) else None
+    if bytes_eq word (codes "submit") then option_map (Submit feeder) (values_in schema.signed (value ∷ values))
+    else None
 
 -- the event of a record that is no query
 abbrev pub plain_event : Declared → List Field → Option Event

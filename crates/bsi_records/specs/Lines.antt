@@ -25,7 +25,8 @@ no_memory_line = codes "no memory\n"
 
 -- how many rows of a feeder were accepted, and how many of its records were bad
 abbrev pub fed_line : ℕ → ℕ → ℕ → List ℕ
-fed_line feeder accepted bad = codes "fed " ++ decimal feeder ++ codes " " ++ decimal accepted ++ codes " " ++ decimal bad ++ codes "\n"
+fed_line feeder accepted bad =
+    codes "fed " ++ decimal feeder ++ codes " " ++ decimal accepted ++ codes " " ++ decimal bad ++ codes "\n"
 
 abbrev pub submit_line : Result (Unit {0}) SubmitRefused → List ℕ
 submit_line (Ok done) = codes "accepted\n"

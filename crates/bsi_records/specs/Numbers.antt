@@ -10,7 +10,9 @@ Field = List ℕ
 
 -- one to twenty digits, whose value is below 2 ^ 64
 abbrev pub is_number : Field → Bool
-is_number text = nat_lt 0 (length text) && nat_le (length text) 20 && list_all is_ascii_digit text && nat_lt (digits_value 10 text) (2 ^ 64)
+is_number text =
+    nat_lt 0 (length text) && nat_le (length text) 20 && list_all is_ascii_digit text
+    && nat_lt (digits_value 10 text) (2 ^ 64)
 
 -- the number that a text spells
 abbrev pub number_of : Field → Option ℕ
@@ -19,7 +21,8 @@ number_of text = if is_number text then Some (digits_value 10 text) else None
 -- the whole number that a text spells: a number, with one minus sign before it or none
 abbrev pub signed_of : Field → Option ℤ
 signed_of [] = None
-signed_of (first ∷ rest) = if first == 45 then option_map (λ n. neg_ℤ (pos n)) (number_of rest) else option_map pos (number_of (first ∷ rest))
+signed_of (first ∷ rest) =
+    if first == 45 then option_map (λ n. neg_ℤ (pos n)) (number_of rest) else option_map pos (number_of (first ∷ rest))
 
 -- the number of a text, with a minus sign where numbers are signed alone
 abbrev pub number_in : Bool → Field → Option ℤ
@@ -32,11 +35,13 @@ value_in signed text = if length text == 0 then Some None else option_map (λ n.
 -- the values of fields, none where one of them is no value
 unfoldable pub values_in : Bool → List Field → Option (List (Option ℤ))
 values_in signed [] = Some []
-values_in signed (field ∷ fields) = option_and_then (λ value. option_map (λ values. value ∷ values) (values_in signed fields)) (value_in signed field)
+values_in signed (field ∷ fields) =
+    option_and_then (λ value. option_map (λ values. value ∷ values) (values_in signed fields)) (value_in signed field)
 
 -- the number from `least` to `most` that a text spells
 abbrev pub number_within : ℕ → ℕ → Field → Option ℕ
-number_within least most text = option_and_then (λ n. if nat_le least n && nat_le n most then Some n else None) (number_of text)
+number_within least most text =
+    option_and_then (λ n. if nat_le least n && nat_le n most then Some n else None) (number_of text)
 
 -- a number of 32 bits
 abbrev pub small_of : Field → Option ℕ
@@ -45,7 +50,8 @@ small_of text = number_within 0 4294967295 text
 -- the numbers of 32 bits that fields spell, none where one of them is no such number
 unfoldable pub smalls_of : List Field → Option (List ℕ)
 smalls_of [] = Some []
-smalls_of (field ∷ fields) = option_and_then (λ n. option_map (λ numbers. n ∷ numbers) (smalls_of fields)) (small_of field)
+smalls_of (field ∷ fields) =
+    option_and_then (λ n. option_map (λ numbers. n ∷ numbers) (smalls_of fields)) (small_of field)
 
 -- a list of bases: numbers with one space between two
 abbrev pub bases_of : Field → Option (List ℕ)
@@ -57,4 +63,6 @@ feeder_of text = option_map (λ n. min n 4294967295) (number_of text)
 
 -- the least number of a column: a whole number of 64 bits
 abbrev pub offset_of : Field → Option ℤ
-offset_of text = option_and_then (λ x. if int_le (neg_ℤ (pos (2 ^ 63))) x && int_lt x (pos (2 ^ 63)) then Some x else None) (signed_of text)
+offset_of text =
+    option_and_then (λ x. if int_le (neg_ℤ (pos (2 ^ 63))) x && int_lt x (pos (2 ^ 63)) then Some x else None)
+    (signed_of text)

@@ -75,7 +75,8 @@ op_of sign =
 -- behind the field that follows a column's name
 abbrev pub after_name : ℕ → List Pred → Field → Option State
 after_name c stack field =
-    if bytes_eq field (codes "null") then ready (Null c ∷ stack) else option_map (λ op. (Comparison c op, stack)) (op_of field)
+    if bytes_eq field (codes "null") then ready (Null c ∷ stack)
+    else option_map (λ op. (Comparison c op, stack)) (op_of field)
 
 -- behind the field that follows a sign
 abbrev pub after_sign : Bool → ℕ → Op → List Pred → Field → Option State

@@ -19,12 +19,16 @@ sign_of Ge = codes ">="
 unfoldable pub Spells : Declared → List Field → Pred → Type 0
 Spells schema fields All = fields ≡ codes "all" ∷ []
 Spells schema fields (Compare c op n) =
-    (name number : Field) × (fields ≡ name ∷ sign_of op ∷ number ∷ []) × (position_of schema.columns name ≡ Some c) × (number_in schema.signed number ≡ Some n)
-Spells schema fields (Null c) = (name : Field) × (fields ≡ name ∷ codes "null" ∷ []) × (position_of schema.columns name ≡ Some c)
+    (name number : Field) × (fields ≡ name ∷ sign_of op ∷ number ∷ []) × (position_of schema.columns name ≡ Some c)
+    × (number_in schema.signed number ≡ Some n)
+Spells schema fields (Null c) =
+    (name : Field) × (fields ≡ name ∷ codes "null" ∷ []) × (position_of schema.columns name ≡ Some c)
 Spells schema fields (Both' p first q second) =
-    (one two : List Field) × (fields ≡ one ++ two ++ codes "and" ∷ []) × Spells schema one first × Spells schema two second
+    (one two : List Field) × (fields ≡ one ++ two ++ codes "and" ∷ []) × Spells schema one first
+    × Spells schema two second
 Spells schema fields (Either' p first q second) =
-    (one two : List Field) × (fields ≡ one ++ two ++ codes "or" ∷ []) × Spells schema one first × Spells schema two second
+    (one two : List Field) × (fields ≡ one ++ two ++ codes "or" ∷ []) × Spells schema one first
+    × Spells schema two second
 Spells schema fields (Not' p pred) = (one : List Field) × (fields ≡ one ++ codes "not" ∷ []) × Spells schema one pred
 
 -- a predicate of a record: at most 1,000 fields

@@ -33,7 +33,8 @@ form_in word text =
     else (if bytes_eq word (codes "range") then option_map Range (option_and_then checked_bases (bases_of text))
     else None))
 
--- the columns after one more, none where it can't be had: its name, its form, the least number, and whether that was given
+-- the columns after one more, none where it can't be had: its name, its form, the least number, and whether that was
+-- given
 abbrev pub one_more : Declared → Field → Bool → Form → ℤ → Option Declared
 one_more schema name signed form offset =
     if is_none (name_refusal schema name) && int_le (offset +ℤ pos (size_in form)) (pos (2 ^ 63))
@@ -41,7 +42,8 @@ one_more schema name signed form offset =
 
 -- `NAME,FORM,SIZES` and `NAME,FORM,SIZES,OFFSET`
 abbrev pub column_after : Declared → List Field → Option Declared
-column_after schema (name ∷ form ∷ sizes ∷ []) = option_and_then (λ f. one_more schema name false f (pos 0)) (form_in form sizes)
+column_after schema (name ∷ form ∷ sizes ∷ []) =
+    option_and_then (λ f. one_more schema name false f (pos 0)) (form_in form sizes)
 column_after schema (name ∷ form ∷ sizes ∷ offset ∷ []) =
     option_and_then (λ f. option_and_then (λ o. one_more schema name true f o) (offset_of offset)) (form_in form sizes)
 column_after schema fields = None
@@ -55,7 +57,8 @@ only_number most fields = None
 
 -- the capacities after one more, of at most 64
 abbrev pub feeder_after : List ℕ → List Field → Option (List ℕ)
-feeder_after capacities fields = if nat_lt (length capacities) 64 then option_map (λ n. capacities ++ n ∷ []) (only_number 65536 fields) else None
+feeder_after capacities fields =
+    if nat_lt (length capacities) 64 then option_map (λ n. capacities ++ n ∷ []) (only_number 65536 fields) else None
 
 abbrev pub limit_of : List Field → Option ℕ
 limit_of fields = only_number 4294967296 fields
@@ -74,8 +77,10 @@ table_after schema limit (word ∷ fields) =
 abbrev pub declared_after : Setup → List Field → Option Setup
 declared_after before [] = None
 declared_after before (word ∷ fields) =
-    if bytes_eq word (codes "feeder") then option_map (λ capacities. record before { capacities = capacities }) (feeder_after before.capacities fields)
-    else option_map (λ after. record before { schema = after.0; limit = after.1 }) (table_after before.schema before.limit (word ∷ fields))
+    if bytes_eq word (codes "feeder")
+    then option_map (λ capacities. record before { capacities = capacities }) (feeder_after before.capacities fields)
+    else option_map (λ after. record before { schema = after.0; limit = after.1 })
+    (table_after before.schema before.limit (word ∷ fields))
 
 -- the record is `begin`
 abbrev pub is_begin : List Field → Bool
@@ -100,7 +105,8 @@ given_offset fields = None
 
 -- the columns after one more, of the form that is asked for, from the offset, or with none from 0
 abbrev pub added_after : Declared → Field → ColumnSpec → Option ℤ → Option Declared
-added_after schema name spec offset = option_and_then (λ f. one_more schema name (is_some offset) f (unwrap_or offset (pos 0))) (form_had spec)
+added_after schema name spec offset =
+    option_and_then (λ f. one_more schema name (is_some offset) f (unwrap_or offset (pos 0))) (form_had spec)
 
 -- a record was done, so that `new` stands; or it can't be done, and `old` still stands
 abbrev pub IsChange : {T : Type 0} → Option T → T → T → Bool → Type 0

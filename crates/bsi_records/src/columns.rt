@@ -50,13 +50,13 @@ fn add(
     ensures kept { OnErr result (schema.new ≡ schema.old) }
 {
     match offset {
-        None => tell(schema.add(name, spec)),
-        Some(least) => tell(schema.add_signed(name, spec, least)),
+        None => check_added(schema.add(name, spec)),
+        Some(least) => check_added(schema.add_signed(name, spec, least)),
     }
 }
 
-/// Tells whether a column was added. Refused memory stays an error.
-fn tell(added: Result<(), SchemaError>) -> Result<bool, NoMemory>
+/// Returns whether a column was added. Refused memory stays an error.
+fn check_added(added: Result<(), SchemaError>) -> Result<bool, NoMemory>
     ensures told { IfOk result
         (λ done. MatchResult added (λ _. done ≡ true)
         (λ refused. (done ≡ false) × (refused ≢ SchemaError.NoMemory))) }
@@ -79,10 +79,8 @@ fn read_given_offset(fields: &ByteRecord) -> Option<Option<i64>>
     if fields.len() > 5 {
         return None;
     }
-    match read_offset(text) {
-        None => None,
-        Some(offset) => Some(Some(offset)),
-    }
+    let offset = read_offset(text)?;
+    Some(Some(offset))
 }
 
 /// Declares the column of a record `column,NAME,FORM,SIZES` or `column,NAME,FORM,SIZES,OFFSET`, and returns whether it

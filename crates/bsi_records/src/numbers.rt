@@ -9,7 +9,7 @@ use std::alloc::{AllocError as NoMemory, Global};
 const MAX_DIGITS: usize = 20;
 
 /// The greatest number behind which every further digit still gives a `u64`.
-const SMALL: u64 = (u64::MAX - 9) / 10;
+const MAX_BEFORE_DIGIT: u64 = (u64::MAX - 9) / 10;
 
 /// Reads a number of one to twenty digits, with leading zeros or without, whose value is a `u64`. It allocates no
 /// memory.
@@ -51,17 +51,11 @@ fn read_long(text: &[u8]) -> Option<u64>
             return None;
         }
         let digit = u64::from(*byte - b'0');
-        if value <= SMALL {
+        if value <= MAX_BEFORE_DIGIT {
             value = value * 10 + digit;
             continue;
         }
-        let Some(tens) = value.checked_mul(10) else {
-            return None;
-        };
-        let Some(next) = tens.checked_add(digit) else {
-            return None;
-        };
-        value = next;
+        value = value.checked_mul(10)?.checked_add(digit)?;
     }
     Some(value)
 }

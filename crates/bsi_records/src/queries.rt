@@ -36,24 +36,16 @@ fn read_total(schema: &Schema, fields: &ByteRecord) -> Option<(Total, usize)>
     ensures { option_map (λ found. (found.0, drop found.1 (fields_of fields.now))) result
         ≡ total_of schema.now (fields_of fields.now) }
 {
-    let Some(word) = fields.get(0) else {
-        return None;
-    };
+    let word = fields.get(0)?;
     if word == b"count".as_slice() {
         return Some((Total::Count, 1));
     }
     if word == b"list".as_slice() {
         return Some((Total::Rows, 1));
     }
-    let Some(name) = fields.get(1) else {
-        return None;
-    };
-    let Some(c) = schema.find(name) else {
-        return None;
-    };
-    let Some(total) = read_column_total(word, c) else {
-        return None;
-    };
+    let name = fields.get(1)?;
+    let c = schema.find(name)?;
+    let total = read_column_total(word, c)?;
     Some((total, 2))
 }
 

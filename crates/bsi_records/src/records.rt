@@ -55,21 +55,12 @@ pub fn read_event(
         return read_submission(alloc, schema, fields);
     }
     if word == b"load".as_slice() {
-        return match read_only_feeder(fields) {
-            None => Ok(None),
-            Some(feeder) => Ok(Some(Event::Load(feeder))),
-        };
+        return Ok(read_only_feeder(fields).map(Event::Load));
     }
     if word == b"close".as_slice() {
-        return match read_only_feeder(fields) {
-            None => Ok(None),
-            Some(feeder) => Ok(Some(Event::Close(feeder))),
-        };
+        return Ok(read_only_feeder(fields).map(Event::Close));
     }
-    match read_query(alloc, schema, fields)? {
-        None => Ok(None),
-        Some(query) => Ok(Some(Event::Ask(query))),
-    }
+    Ok(read_query(alloc, schema, fields)?.map(Event::Ask))
 }
 
 /// Reads the feeder and the row that a record submits.

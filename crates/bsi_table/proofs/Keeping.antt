@@ -12,7 +12,7 @@ use Rattle.bsi_schema.specs.declared.form.Form.{Form}
 use Rattle.bsi_schema.specs.declared.form.Form.TheVariants.{Slices, Equality, Range}
 use Rattle.bsi_schema.specs.Columns.{column_at, fits, is_taken_by, size_in, NamedColumn}
 use Rattle.bsi_table.specs.Rows.{column_of, entry_at, Entries, FedRow}
-use Rattle.bsi_table.specs.Table.{kept_at, kept_form, row_in, AreFitting, AreInRange, AreKept, AreNarrow, HasMore, HaveMore, IsInForm, IsSameColumn, Keeps, Takes}
+use Rattle.bsi_table.specs.Table.{kept_at, kept_form, row_in, AreFitting, AreInRange, AreKept, AreI64, HasMore, HaveMore, IsInForm, IsSameColumn, Keeps, Takes}
 use Rattle.bsi_schema.proofs.Fitting.{fits-at, fits-each, fits-length}
 use Rattle.bsi_table.proofs.TableRows.{entry-row_in}
 
@@ -88,9 +88,9 @@ module _ (column : NamedColumn) (old : OffsetColumn) (n : ℕ) (keeps : Keeps co
       (within column.offset x (column.offset +ℤ pos (size_in column.form)) taken))
 
   -- and a number of 64 bits
-  pub taken_narrow : (entry : Option ℤ) → is_taken_by column entry ≡ true → IfSome entry (λ x. (neg_ℤ (pos (2 ^ 63)) ≤ℤ x) × (x <ℤ pos (2 ^ 63)))
-  taken_narrow None taken = tt
-  taken_narrow (Some x) taken =
+  pub taken_small : (entry : Option ℤ) → is_taken_by column entry ≡ true → IfSome entry (λ x. (neg_ℤ (pos (2 ^ 63)) ≤ℤ x) × (x <ℤ pos (2 ^ 63)))
+  taken_small None taken = tt
+  taken_small (Some x) taken =
       let range = within column.offset x (column.offset +ℤ pos (size_in column.form)) taken in
       (omega (arith, ints, range.0, keeps.low), omega (arith, ints, range.1, keeps.high))
 
@@ -134,14 +134,14 @@ module _ (columns : List NamedColumn) (kept : List OffsetColumn) (n : ℕ) (are 
         taken_in_range (column_at columns k) (kept_at kept k) n (are.each k there) (entry_at row k) (fits-at columns row k fitting there)
 
     -- which is a null or a number of 64 bits
-    pub row_narrow : AreNarrow kept row
-    row_narrow k within =
+    pub row_small : AreI64 kept row
+    row_small k within =
         let there : k < length columns = omega (arith, within, are.long) in
-        taken_narrow (column_at columns k) (kept_at kept k) n (are.each k there) (entry_at row k) (fits-at columns row k fitting there)
+        taken_small (column_at columns k) (kept_at kept k) n (are.each k there) (entry_at row k) (fits-at columns row k fitting there)
 
     -- the columns take the row
     pub row_taken : Takes kept row
-    row_taken = record { wide = fits-length columns row fitting ∙ sym are.long; range = row_in_range; narrow = row_narrow }
+    row_taken = record { wide = fits-length columns row fitting ∙ sym are.long; range = row_in_range; small = row_small }
 
   -- and rows that fit
   pub rows_taken : (rows : List FedRow) → AreFitting columns rows → All (λ row. Takes kept row.1) rows

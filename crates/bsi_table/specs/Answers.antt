@@ -57,12 +57,18 @@ columns_of_pred (Not' p pred) = columns_of_pred pred
 abbrev pub missing_of : ℕ → List ℕ → Option ℕ
 missing_of count columns = find (λ c. nat_le count c) columns
 
+-- each column that a predicate reads is one of the first `count`
+abbrev pub ReadsAmong : ℕ → Pred → Type 0
+ReadsAmong count pred = missing_of count (columns_of_pred pred) ≡ None
+
 -- the first column that a query reads and that is not there: its total's, else the first of its predicate
 abbrev pub missing_column : ℕ → Query → Option ℕ
 missing_column count query = missing_of count (columns_of_total query.total ++ columns_of_pred query.pred)
 
--- the reply to a query over rows of a schema: the first column that is not there, else the answer, or that there is no memory
+-- the reply to a query over rows of a schema: the first column that is not there, else the answer, or that memory was
+-- refused
 abbrev pub IsReply : Declared → List FedRow → Query → Result Answer AskError → Type 0
-IsReply schema rows query (Ok answer) = (missing_column (length schema.columns) query ≡ None) × IsAnswer query rows answer
+IsReply schema rows query (Ok answer) =
+    (missing_column (length schema.columns) query ≡ None) × IsAnswer query rows answer
 IsReply schema rows query (Err (BadColumn c)) = missing_column (length schema.columns) query ≡ Some c
 IsReply schema rows query (Err NoMemory) = missing_column (length schema.columns) query ≡ None

@@ -9,7 +9,8 @@ use Rattle.bsi_table.specs.Table.{row_in}
 -- of the rows that the words from `at` on stand for those are kept of which the predicate holds
 abbrev pub AreNarrowed : List OffsetColumn → ℕ → Pred → ℕ → List ℕ → List ℕ → Type 0
 AreNarrowed kept count pred at old now =
-    (p : ℕ) → p < 64 * length old → 64 * at + p < count → bit_of now p ≡ (bit_of old p && holds pred (row_in kept (64 * at + p)))
+    (p : ℕ) → p < 64 * length old → 64 * at + p < count
+    → bit_of now p ≡ (bit_of old p && holds pred (row_in kept (64 * at + p)))
 
 -- the words from `at` on have, of the rows that they stand for, those of which the predicate holds
 abbrev pub AreFound : List OffsetColumn → ℕ → Pred → ℕ → List ℕ → Type 0

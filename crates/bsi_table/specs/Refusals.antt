@@ -1,14 +1,10 @@
 -- Which refusal a call meets first.
-use Rattle.std.specs.Prelude.{◌||◌, ℕ, ◌+◌, length, Option, Some, None, option_map, nat_eq, nat_lt, if◌then◌else◌}
+use Rattle.std.specs.Prelude.{◌||◌, ℕ, ◌+◌, length, Option, Some, None, nat_eq, nat_lt, if◌then◌else◌}
 use Rattle.bsi_table.specs.declared.errors.IndexError.{IndexError}
 use Rattle.bsi_table.specs.declared.errors.IndexError.TheVariants.{NoColumns, LimitOutOfRange}
 use Rattle.bsi_table.specs.declared.errors.AppendError.{AppendError}
 use Rattle.bsi_table.specs.declared.errors.AppendError.TheVariants.{IndexFull}
-use Rattle.bsi_table.specs.declared.errors.AskError.{AskError}
-use Rattle.bsi_table.specs.declared.errors.AskError.TheVariants.{BadColumn}
-use Rattle.bsi_table.specs.declared.query.Query.{Query}
 use Rattle.bsi_schema.specs.Columns.{Declared}
-use Rattle.bsi_table.specs.Answers.{missing_column}
 use Rattle.bsi_table.specs.Table.{Table}
 pub use Rattle.bsi_schema.specs.Refusals.{column_refusal, form_refusal, name_refusal, offset_refusal, signed_refusal, slices_refusal, IsFirstOr}
 
@@ -25,7 +21,3 @@ row_refusal table = if nat_eq (length table.rows) table.limit then Some IndexFul
 -- of so many more rows
 abbrev pub rows_refusal : Table → ℕ → Option AppendError
 rows_refusal table more = if nat_lt table.limit (length table.rows + more) then Some IndexFull else None
-
--- of a query to a table of this schema
-abbrev pub ask_refusal : Declared → Query → Option AskError
-ask_refusal schema query = option_map BadColumn (missing_column (length schema.columns) query)

@@ -113,21 +113,24 @@ AreEven kept n = (k : ℕ) → k < length kept → length (shifted_entries (kept
 abbrev pub HaveRoom : List OffsetColumn → ℕ → ℕ → Type 0
 HaveRoom kept n more = (k : ℕ) → k < n → more ≤ shifted_room (kept_at kept k)
 
--- each column takes its entry of a row, which is a null or a number of 64 bits
+-- each column takes its entry of a row
 abbrev pub AreInRange : List OffsetColumn → Entries → Type 0
-AreInRange kept row = (k : ℕ) → k < length kept → IsInRange (kept_at kept k).offset (shifted_size (kept_at kept k)) (entry_at row k)
+AreInRange kept row =
+    (k : ℕ) → k < length kept → IsInRange (kept_at kept k).offset (shifted_size (kept_at kept k)) (entry_at row k)
 
-abbrev pub IsNarrow : Option ℤ → Type 0
-IsNarrow entry = IfSome entry (λ x. (neg_ℤ (pos (2 ^ 63)) ≤ℤ x) × (x <ℤ pos (2 ^ 63)))
+-- an entry is a null or a number of 64 bits
+abbrev pub IsI64 : Option ℤ → Type 0
+IsI64 entry = IfSome entry (λ x. (neg_ℤ (pos (2 ^ 63)) ≤ℤ x) × (x <ℤ pos (2 ^ 63)))
 
-abbrev pub AreNarrow : List OffsetColumn → Entries → Type 0
-AreNarrow kept row = (k : ℕ) → k < length kept → IsNarrow (entry_at row k)
+-- for each column the entry of a row is
+abbrev pub AreI64 : List OffsetColumn → Entries → Type 0
+AreI64 kept row = (k : ℕ) → k < length kept → IsI64 (entry_at row k)
 
 -- kept columns take a row: it has an entry for each, and each takes its own
 pub record Takes (kept : List OffsetColumn) (row : Entries) : Type 0 where
   pub wide : length row ≡ length kept
   pub range : AreInRange kept row
-  pub narrow : AreNarrow kept row
+  pub small : AreI64 kept row
 
 -- each column has the entries, the offset and the form that it had
 abbrev pub AreSameColumns : List OffsetColumn → List OffsetColumn → Type 0

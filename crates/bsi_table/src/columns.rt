@@ -5,7 +5,7 @@ ghost use Rattle.bsi_columns.specs.AnyRows.{any_entries};
 ghost use Rattle.bsi_shift.specs.Shifted.{shifted_entries};
 ghost use Rattle.bsi_schema.specs.Columns.{column_at, IsForm};
 ghost use Rattle.bsi_table.specs.Rows.{column_of, entry_at};
-ghost use Rattle.bsi_table.specs.Table.{kept_at, AreInRange, AreKept, AreNarrow, AreSameColumns, HaveMore, HaveOneMore, HaveRoom, IsInForm, IsNarrow, Keeps, Takes};
+ghost use Rattle.bsi_table.specs.Table.{kept_at, AreInRange, AreKept, AreI64, AreSameColumns, HaveMore, HaveOneMore, HaveRoom, IsInForm, IsI64, Keeps, Takes};
 
 use crate::index::MAX_BLOCK_ROWS;
 use crate::{Form, NoMemory, Row, Schema};
@@ -64,11 +64,11 @@ pub(crate) fn push_each(columns: &mut [Shifted], values: &[Option<i128>])
     requires long { length values.now ≡ length columns.old }
     requires room { HaveRoom columns.old (length columns.old) 1 }
     requires range { AreInRange columns.old values.now }
-    requires narrow { AreNarrow columns.old values.now }
+    requires small { AreI64 columns.old values.now }
     ensures { HaveOneMore columns.old columns.new values.now }
 {
     'columns: for c in 0..columns.len() {
-        columns[c].push_reserved(narrowed(values[c]));
+        columns[c].push_reserved(to_i64(values[c]));
     }
 }
 
@@ -90,17 +90,17 @@ pub(crate) fn push_block_each(columns: &mut [Shifted], rows: &[(u32, Row)])
 fn gather(rows: &[(u32, Row)], c: usize, entries: &mut [Option<i64>])
     requires same { length entries.old ≡ length rows.now }
     requires wide { All (λ row. c < length row.1) rows.now }
-    requires narrow { All (λ row. IsNarrow (entry_at row.1 c)) rows.now }
+    requires small { All (λ row. IsI64 (entry_at row.1 c)) rows.now }
     ensures { entries.new ≡ column_of rows.now c }
 {
     'rows: for r in 0..rows.len() {
-        entries[r] = narrowed(rows[r].1.values()[c]);
+        entries[r] = to_i64(rows[r].1.values()[c]);
     }
 }
 
 /// Returns the same entry, as a number of 64 bits.
-fn narrowed(entry: Option<i128>) -> Option<i64>
-    requires { IsNarrow entry }
+fn to_i64(entry: Option<i128>) -> Option<i64>
+    requires { IsI64 entry }
     ensures { result ≡ entry }
 {
     let number = entry?;

@@ -1,9 +1,9 @@
 //! The rows that a predicate selects, one block of rows after another.
 
-ghost use Rattle.std.specs.Prelude.{◌≡◌, ℕ, ◌+◌, ◌-◌, ◌/◌, ◌^◌, ◌≤◌, ◌++◌, None, bit_or, bit_xor, count_by, drop, false, length, map, take, IfOk, IsFalse, OnOk};
+ghost use Rattle.std.specs.Prelude.{◌≡◌, ℕ, ◌+◌, ◌-◌, ◌/◌, ◌^◌, ◌≤◌, ◌++◌, bit_or, bit_xor, count_by, drop, false, length, map, take, IfOk, IsFalse, OnOk};
 ghost use Rattle.bsi_bits.specs.Packed.{bit_of};
 ghost use Rattle.std.specs.Simd.Lanes.{zip2};
-ghost use Rattle.bsi_table.specs.Answers.{columns_of_pred, missing_of};
+ghost use Rattle.bsi_table.specs.Answers.{ReadsAmong};
 ghost use Rattle.bsi_table.specs.Rows.{holds};
 ghost use Rattle.bsi_table.specs.Table.{rows_in, AreEven};
 ghost use Rattle.bsi_table.specs.Blocks.{AreFound, AreNarrowed};
@@ -30,7 +30,7 @@ pub(crate) fn find_rows(
 ) -> Result<Bits, NoMemory>
     requires few { count ≤ 2 ^ 32 }
     requires even { AreEven columns.now count }
-    requires there { missing_of (length columns.now) (columns_of_pred pred.now) ≡ None }
+    requires there { ReadsAmong (length columns.now) pred.now }
     ensures { IfOk result (λ found. found.bits ≡ map (holds pred.now) (rows_in columns.now count)) }
 {
     let mut words = Bits::filled(alloc, count, true)?.into_words();
@@ -38,8 +38,8 @@ pub(crate) fn find_rows(
     Ok(Bits::from_words(words, count))
 }
 
-/// Returns how many of `count` rows the predicate selects. It reads columns that are there alone. It goes over the rows as `find_rows`
-/// does, but keeps the words of one block in place of a bit for each row.
+/// Returns how many of `count` rows the predicate selects. Each column that it reads is there. It goes over the rows as
+/// `find_rows` does, but keeps the words of one block in place of a bit for each row.
 pub(crate) fn count_selected(
     alloc: Global,
     columns: &[Shifted],
@@ -48,7 +48,7 @@ pub(crate) fn count_selected(
 ) -> Result<u64, NoMemory>
     requires few { count ≤ 2 ^ 32 }
     requires even { AreEven columns.now count }
-    requires there { missing_of (length columns.now) (columns_of_pred pred.now) ≡ None }
+    requires there { ReadsAmong (length columns.now) pred.now }
     ensures { IfOk result (λ selected. selected
         ≡ count_by (λ b. b) (map (holds pred.now) (rows_in columns.now count))) }
 {
@@ -84,7 +84,7 @@ fn narrow_each(
     requires few { count ≤ 2 ^ 32 }
     requires long { length words.old ≡ (count + 63) / 64 }
     requires even { AreEven columns.now count }
-    requires there { missing_of (length columns.now) (columns_of_pred pred.now) ≡ None }
+    requires there { ReadsAmong (length columns.now) pred.now }
     ensures { OnOk result (AreNarrowed columns.now count pred.now 0 words.old words.new) }
 {
     let mut spare = Vec::new(alloc);
@@ -109,7 +109,7 @@ fn find_block(
     requires few { length block.old ≤ 1024 }
     requires within { at + length block.old ≤ (count + 63) / 64 }
     requires even { AreEven columns.now count }
-    requires there { missing_of (length columns.now) (columns_of_pred pred.now) ≡ None }
+    requires there { ReadsAmong (length columns.now) pred.now }
     ensures rows { OnOk result (AreFound columns.now count pred.now at block.new) }
     ensures spare { OnOk result (spare.new.items ≡ spare.old.items) }
 {
@@ -130,7 +130,7 @@ fn narrow(
     requires few { length block.old ≤ 1024 }
     requires within { at + length block.old ≤ (count + 63) / 64 }
     requires even { AreEven columns.now count }
-    requires there { missing_of (length columns.now) (columns_of_pred pred.now) ≡ None }
+    requires there { ReadsAmong (length columns.now) pred.now }
     ensures rows { OnOk result (AreNarrowed columns.now count pred.now at block.old block.new) }
     ensures spare { OnOk result (spare.new.items ≡ spare.old.items) }
 {

@@ -1,16 +1,17 @@
 //! The index: rows from feeders, stored column by column, and the answers to queries over them.
 
-ghost use Rattle.std.specs.Prelude.{◌≡◌, ℕ, ◌+◌, ◌<◌, ◌≤◌, ◌^◌, ◌++◌, ◌∷◌, [], All, None, length, IfErr, IfOk, IsTrue, OnErr, OnOk};
+ghost use Rattle.std.specs.Prelude.{◌≡◌, ◌<◌, ◌≤◌, ◌^◌, None, length, IfErr, IfOk, IsTrue, OnErr, OnOk};
 ghost use Rattle.std.specs.Result.{result_err};
 ghost use Rattle.bsi_shift.specs.Shifted.{shifted_entries};
 ghost use Rattle.bsi_table.specs.Answers.{missing_column, IsAnswer, IsReply};
 ghost use Rattle.bsi_schema.specs.Columns.{column_at, fits};
 ghost use Rattle.bsi_table.specs.Refusals.{index_refusal, row_refusal, rows_refusal, IsFirstOr};
-ghost use Rattle.bsi_table.specs.Rows.{column_of, feeders_of};
-ghost use Rattle.bsi_table.specs.Table.{kept_at, no_rows, with_row, with_rows, AreFitting, AreFrom, AreInRange, AreNarrow, AreSameColumns, HaveMore, HaveOneMore, HaveRoom, IsInForm, Takes};
+ghost use Rattle.bsi_table.specs.Rows.{column_of};
+ghost use Rattle.bsi_table.specs.Table.{no_rows, with_row, with_rows, AreFitting, AreFrom, IsInForm};
 
-use crate::columns::{copy_each, make_each, push_block_each, push_each, reserve_each};
+use crate::columns::{copy_each, make_each};
 use crate::found::{count_selected, find_rows};
+use crate::growth::{push_row, push_rows, reserve_rows};
 use crate::totals::answer_total;
 use crate::{Answer, AppendError, AskError, IndexError, NoMemory, Query, Row, Schema, Total};
 use bsi_origins::Origins;
@@ -210,72 +211,5 @@ impl Index {
         ensures within { result ≤ 2 ^ 32 }
     {
         self.limit
-    }
-}
-
-/// Makes room for `more` further rows. Whatever the result, the rows stay.
-fn reserve_rows(
-    columns: &mut Vec<Shifted>,
-    origins: &mut Origins,
-    more: u64,
-) -> Result<(), NoMemory>
-    requires short { (k : ℕ) → k < length columns.old.items →
-        length (shifted_entries (kept_at columns.old.items k)) + more ≤ 2 ^ 32 }
-    requires few { length origins.old.rows + more ≤ 2 ^ 32 }
-    ensures long { length columns.new.items ≡ length columns.old.items }
-    ensures same { AreSameColumns columns.old.items columns.new.items }
-    ensures sources { origins.new.rows ≡ origins.old.rows }
-    ensures feeders { origins.new.feeders ≡ origins.old.feeders }
-    ensures ok { OnOk result (HaveRoom columns.new.items (length columns.old.items) more) }
-    ensures room { OnOk result (more ≤ origins.new.room) }
-{
-    reserve_each(columns, more)?;
-    origins.reserve(more)
-}
-
-/// Appends a row, into room that is already there.
-fn push_row(columns: &mut Vec<Shifted>, origins: &mut Origins, source: u8, values: &[Option<i128>])
-    requires long { length values.now ≡ length columns.old.items }
-    requires room { HaveRoom columns.old.items (length columns.old.items) 1 }
-    requires reserved { 0 < origins.old.room }
-    requires source { source < origins.old.feeders }
-    requires range { AreInRange columns.old.items values.now }
-    requires narrow { AreNarrow columns.old.items values.now }
-    ensures long { length columns.new.items ≡ length columns.old.items }
-    ensures more { HaveOneMore columns.old.items columns.new.items values.now }
-    ensures sources { origins.new.rows ≡ origins.old.rows ++ source ∷ [] }
-    ensures feeders { origins.new.feeders ≡ origins.old.feeders }
-{
-    push_each(columns, values);
-    origins.push_reserved(source);
-}
-
-/// Appends a block of rows, into room that is already there.
-fn push_rows(columns: &mut Vec<Shifted>, origins: &mut Origins, rows: &[(u32, Row)])
-    requires few { length rows.now ≤ 64 }
-    requires room { HaveRoom columns.old.items (length columns.old.items) (length rows.now) }
-    requires reserved { length rows.now ≤ origins.old.room }
-    requires taken { All (λ row. Takes columns.old.items row.1) rows.now }
-    requires from { AreFrom origins.old.feeders rows.now }
-    requires bytes { origins.old.feeders ≤ 64 }
-    ensures long { length columns.new.items ≡ length columns.old.items }
-    ensures more { HaveMore columns.old.items columns.new.items rows.now }
-    ensures sources { origins.new.rows ≡ origins.old.rows ++ feeders_of rows.now }
-    ensures feeders { origins.new.feeders ≡ origins.old.feeders }
-{
-    push_block_each(columns, rows);
-    push_sources(origins, rows);
-}
-
-/// Appends the feeder of each row, into room that is already there.
-fn push_sources(origins: &mut Origins, rows: &[(u32, Row)])
-    requires reserved { length rows.now ≤ origins.old.room }
-    requires from { AreFrom origins.old.feeders rows.now }
-    requires bytes { origins.old.feeders ≤ 64 }
-    ensures sources { origins.new.rows ≡ origins.old.rows ++ feeders_of rows.now }
-    ensures feeders { origins.new.feeders ≡ origins.old.feeders }
-{
-    'rows: for r in 0..rows.len() {
-        origins.push_reserved(rows[r].0 as u8);
     }
 }

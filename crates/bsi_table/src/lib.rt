@@ -4,6 +4,7 @@
 mod columns;
 mod errors;
 mod found;
+mod growth;
 mod index;
 mod query;
 mod totals;

@@ -51,9 +51,10 @@ pub record HasStaged (pending : List Operation) (stage : Rows) (more : List Oper
   pub held : rows_of more ++ left ≡ rows_of pending ++ stage
   pub begins : IsPrefix (rows_of pending) (rows_of more)
 
--- what the writing end keeps to, of the edition that is shown, the pending operations, the stage, the history, and the places
--- that are free
-pub record IsWriting (book : Book) (about : Table) (shown : Edition) (pending : List Operation) (stage : Rows) (history : Known) (free : ℕ)
+-- what the writing end keeps to, of the edition that is shown, the pending operations, the stage, the history, and the
+-- places that are free
+pub record IsWriting (book : Book) (about : Table) (shown : Edition) (pending : List Operation) (stage : Rows)
+    (history : Known) (free : ℕ)
     : Type 0 where
   pub stands : Stands book about shown
   pub same_book : history.book ≡ book

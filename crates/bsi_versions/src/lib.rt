@@ -1,7 +1,9 @@
-//! A table that grows by publishing: a writing end whose held rows become visible at one step, and readers who never go back.
+//! A table that grows by publishing: a writing end whose held rows become visible at one step, and readers who never go
+//! back.
 #![tactic(auto)]
 
 mod analyst;
+mod copies;
 mod history;
 mod naming;
 mod operation;

@@ -1,39 +1,18 @@
 //! The writing end: it holds rows back, and makes them visible at one step.
 
-ghost use Rattle.std.specs.Prelude.{◌≡◌, ◌+◌, ◌<◌, ◌≤◌, ◌++◌, ◌∷◌, [], ◌⊎◌, IfOk, IsTrue, OnErr, OnOk, drop, fold, length, vec_capacity, vec_len, ◌↔◌};
-ghost use mathlib.Core.List.{IsPrefix};
+ghost use Rattle.std.specs.Prelude.{◌≡◌, ◌+◌, ◌<◌, ◌≤◌, [], IfOk, IsTrue, OnErr, OnOk, length, ◌↔◌};
 ghost use Rattle.bsi_table.specs.Columns.{fits};
-ghost use Rattle.bsi_versions.specs.Pages.{with_list};
-ghost use Rattle.bsi_versions.specs.Editions.{after, published_all, rows_of, with_held, HasStaged, Stands};
-ghost use Rattle.bsi_versions.specs.declared.operation.Operation.TheVariants.{Mark};
+ghost use Rattle.bsi_versions.specs.Editions.{published_all, with_held};
 
-use crate::history::{History, Page};
-use crate::naming::Covers;
-use crate::operation::Operation;
+use crate::copies::{Copies, empty_stage, make_place, mark, show};
+use crate::history::History;
 use crate::version::Version;
 use crate::{Analyst, Naming, NoMemory, Told};
 use bsi_table::{Index, MAX_BLOCK_ROWS, Row};
-use core::mem::{replace, replace_with};
 use left_right::writer::Writer;
-use logbook::Plain;
 use std::alloc::Global;
 use std::marker::Model;
 use std::sync::Wait;
-
-/// The two copies of the table, and the operations that are pending.
-type Copies<B> = Writer<Version, Operation, (), Covers<B>>;
-
-/// What a publish adds to the history: the rows that are shown, followed by those that are held.
-struct Next;
-
-impl<B: Naming> Plain<Copies<B>, Page, u64> for Next {
-    ghost use Rattle.std.specs.Prelude.{◌++◌, None, drop};
-    ghost use Rattle.bsi_versions.specs.Editions.{rows_of};
-
-    ghost ask = { λ w. w.desk.shown.value.table.rows ++ rows_of (drop w.behind w.log.items) };
-
-    ghost state = { λ w. None };
-}
 
 /// The only writer of a table that analysts read. It is not `Drop`: end it by `end`.
 pub struct Publisher<B: Naming> {
@@ -168,120 +147,4 @@ impl<B: Naming> Publisher<B> {
         } = self;
         copies.take(rt);
     }
-}
-
-/// Makes a place for one more row in the stage. If the block is full, it goes to the pending operations.
-fn make_place<B: Naming>(
-    copies: &mut Copies<B>,
-    stage: &mut Vec<(u32, Row)>,
-) -> Result<(), NoMemory>
-    requires room { 64 ≤ vec_capacity stage.old }
-    ensures desk { copies.new.desk ≡ copies.old.desk }
-    ensures staged { HasStaged (drop copies.old.behind copies.old.log.items) stage.old.items
-        (drop copies.new.behind copies.new.log.items) stage.new.items }
-    ensures room { 64 ≤ vec_capacity stage.new }
-    ensures ok { OnOk result (vec_len stage.new < 64) }
-{
-    if stage.len() < MAX_BLOCK_ROWS {
-        return Ok(());
-    }
-    append_stage(copies, stage)
-}
-
-/// Empties the stage: its rows go to the pending operations, as one block.
-fn empty_stage<B: Naming>(
-    copies: &mut Copies<B>,
-    stage: &mut Vec<(u32, Row)>,
-) -> Result<(), NoMemory>
-    requires room { 64 ≤ vec_capacity stage.old }
-    ensures desk { copies.new.desk ≡ copies.old.desk }
-    ensures staged { HasStaged (drop copies.old.behind copies.old.log.items) stage.old.items
-        (drop copies.new.behind copies.new.log.items) stage.new.items }
-    ensures room { 64 ≤ vec_capacity stage.new }
-    ensures ok { OnOk result (stage.new.items ≡ []) }
-{
-    if stage.is_empty() {
-        return Ok(());
-    }
-    append_stage(copies, stage)
-}
-
-/// Appends the rows of the stage to the pending operations. It replaces the stage by another one with room for as many
-/// rows, so it asks for memory before it changes anything.
-fn append_stage<B: Naming>(
-    copies: &mut Copies<B>,
-    stage: &mut Vec<(u32, Row)>,
-) -> Result<(), NoMemory>
-    requires room { 64 ≤ vec_capacity stage.old }
-    ensures desk { copies.new.desk ≡ copies.old.desk }
-    ensures staged { HasStaged (drop copies.old.behind copies.old.log.items) stage.old.items
-        (drop copies.new.behind copies.new.log.items) stage.new.items }
-    ensures room { 64 ≤ vec_capacity stage.new }
-    ensures ok { OnOk result (stage.new.items ≡ []) }
-    ensures len { OnOk result (vec_len stage.new ≡ 0) }
-{
-    let next = Vec::with_capacity(*stage.allocator(), MAX_BLOCK_ROWS)?;
-    match copies.append(Operation::Rows(replace(stage, next))) {
-        Ok(()) => Ok(()),
-        Err(Operation::Rows(rows)) => {
-            *stage = rows;
-            Err(NoMemory)
-        }
-        Err(Operation::Mark(_)) => Err(NoMemory),
-    }
-}
-
-/// Adds to the history the list that is to be shown, and appends its mark behind the pending rows.
-fn mark<B: Naming>(copies: &mut Copies<B>, history: &mut History, len: u64) -> Result<(), NoMemory>
-    requires begins { IsPrefix history.old.list (copies.old.desk.shown.value.table.rows
-        ++ rows_of (drop copies.old.behind copies.old.log.items)) }
-    requires len { len ≡ length (copies.old.desk.shown.value.table.rows
-        ++ rows_of (drop copies.old.behind copies.old.log.items)) }
-    ensures desk { copies.new.desk ≡ copies.old.desk }
-    ensures history { (history.new ≡ history.old)
-        ⊎ (history.new ≡ with_list history.old (copies.old.desk.shown.value.table.rows
-        ++ rows_of (drop copies.old.behind copies.old.log.items))) }
-    ensures list { OnOk result (history.new
-        ≡ with_list history.old (copies.old.desk.shown.value.table.rows
-        ++ rows_of (drop copies.old.behind copies.old.log.items))) }
-    ensures ok { OnOk result (drop copies.new.behind copies.new.log.items
-        ≡ drop copies.old.behind copies.old.log.items ++ Mark history.new ∷ []) }
-    ensures err { OnErr result (drop copies.new.behind copies.new.log.items
-        ≡ drop copies.old.behind copies.old.log.items) }
-{
-    if !history.add::<Copies<B>, Next>(copies, len) {
-        return Err(NoMemory);
-    }
-    match copies.append(Operation::Mark(history.known())) {
-        Ok(()) => Ok(()),
-        Err(_) => Err(NoMemory),
-    }
-}
-
-/// Shows at one step the copy that has every pending operation.
-fn show<B: Naming, R: Wait>(copies: &mut Copies<B>, rt: &R) -> Result<(), NoMemory>
-    requires { Stands B.book B.about
-        (fold after copies.old.desk.shown.value (drop copies.old.behind copies.old.log.items)) }
-    ensures shown { OnOk result (copies.new.desk.shown.value
-        ≡ fold after copies.old.desk.shown.value (drop copies.old.behind copies.old.log.items)) }
-    ensures none { OnOk result (drop copies.new.behind copies.new.log.items ≡ []) }
-    ensures kept { OnErr result (copies.new.desk.shown.value ≡ copies.old.desk.shown.value) }
-    ensures pending { OnErr result (drop copies.new.behind copies.new.log.items
-        ≡ drop copies.old.behind copies.old.log.items) }
-{
-    replace_with(copies, rt, turn::<B, R>)
-}
-
-/// Shows the copy that has every pending operation, of copies that are handed over, and hands them back.
-fn turn<B: Naming, R: Wait>(copies: Copies<B>, rt: &R) -> (Copies<B>, Result<(), NoMemory>)
-    requires { Stands B.book B.about
-        (fold after copies.desk.shown.value (drop copies.behind copies.log.items)) }
-    ensures shown { OnOk result.1 (result.0.desk.shown.value
-        ≡ fold after copies.desk.shown.value (drop copies.behind copies.log.items)) }
-    ensures none { OnOk result.1 (drop result.0.behind result.0.log.items ≡ []) }
-    ensures kept { OnErr result.1 (result.0.desk.shown.value ≡ copies.desk.shown.value) }
-    ensures pending { OnErr result.1 (drop result.0.behind result.0.log.items
-        ≡ drop copies.behind copies.log.items) }
-{
-    copies.publish_as::<Covers<B>, R>(rt)
 }

@@ -20,16 +20,16 @@ returns-then-len-gt5 c =
     sym (many_given (drop 4 fields) (omega (arith, length-drop 4 fields, c.len.ensures, c.if-len-gt5.true)))
 
 -- an offset
-pub returns-in-None : goal.returns-in-None
-returns-in-None c =
+pub returns-in_err-offset : goal.returns-in_err-offset
+returns-in_err-offset c =
     let fields = fields_of c.args.fields.now in
     let there : field_at fields 4 ≡ Some c.in-Some.text.now = search (rules, c.get.ensures.value, c.in-Some.is) in
     let last = last_field fields 4 c.in-Some.text.now there (omega (arith, c.len.ensures, c.if-len-gt5.false)) in
-    sym (ap given_offset last ∙ ap (option_map (λ x. Some x)) (sym c.read_offset.ensures ∙ c.in-None.is))
+    c.from_residual.ensures ∙ sym (ap given_offset last ∙ ap (option_map (λ x. Some x)) (sym c.in_err-offset.ensures))
 
-pub returns-in-Some-read_offset : goal.returns-in-Some-read_offset
-returns-in-Some-read_offset c =
+pub returns : goal.returns
+returns c =
     let fields = fields_of c.args.fields.now in
     let there : field_at fields 4 ≡ Some c.in-Some.text.now = search (rules, c.get.ensures.value, c.in-Some.is) in
     let last = last_field fields 4 c.in-Some.text.now there (omega (arith, c.len.ensures, c.if-len-gt5.false)) in
-    ap (λ x. Some (Some x)) (to_z-of_z w64 c.in-Some-read_offset.offset (search rules)) ∙ sym (ap given_offset last ∙ ap (option_map (λ x. Some x)) (sym c.read_offset.ensures ∙ c.in-Some-read_offset.is))
+    ap (λ x. Some (Some x)) (to_z-of_z w64 c.in_ok-offset.offset (search rules)) ∙ sym (ap given_offset last ∙ ap (option_map (λ x. Some x)) (sym c.in_ok-offset.ensures))

@@ -7,27 +7,28 @@ use Rattle.bsi_records.proofs.Digits.{value_more, digits_more, too_large, is_som
 use Rattle.bsi_records.proofs.numbers.read_long.Goals as goal
 
 -- ten times the value so far is too large, so the value with one more digit is
-pub returns-in_default : goal.returns-in_default
-returns-in_default c =
+pub returns-in_err-checked_mul : goal.returns-in_err-checked_mul
+returns-in_err-checked_mul c =
     let digit = c.if-not-is_ascii_digit.ensures.cases in
     let value = c.digits.invariant.value_is in
     let more = value_more c.args.text.now c.digits.byte-index (omega arith) digit.0 digit.1 in
-    let large = c.in_default.ensures in
-    too_large c.args.text.now (c.digits.byte-index + 1) (omega (arith, more, value, large))
+    let large = c.in_err-checked_mul.ensures in
+    c.from_residual.ensures ∙ too_large c.args.text.now (c.digits.byte-index + 1) (omega (arith, more, value, large))
 
 -- the value with one more digit is too large
-pub returns-in_default-checked_add : goal.returns-in_default-checked_add
-returns-in_default-checked_add c =
+pub returns-in_err-value : goal.returns-in_err-value
+returns-in_err-value c =
     let digit = c.if-not-is_ascii_digit.ensures.cases in
     let value = c.digits.invariant.value_is in
     let more = value_more c.args.text.now c.digits.byte-index (omega arith) digit.0 digit.1 in
-    let large = c.in_default-checked_add.ensures in
-    let tens = c.in-Some.ensures.1 in
-    too_large c.args.text.now (c.digits.byte-index + 1) (omega (arith, more, value, large, tens, c.from-digit.ensures))
+    let large = c.in_err-value.ensures in
+    let tens = c.in_ok-checked_mul.ensures.1 in
+    c.from_residual-in_err-value.ensures
+    ∙ too_large c.args.text.now (c.digits.byte-index + 1) (omega (arith, more, value, large, tens, c.from-digit.ensures))
 
 -- the value is small enough for one more digit, whichever it is
-pub digits-preserved-then-value-le-SMALL : goal.digits-preserved-then-value-le-SMALL
-digits-preserved-then-value-le-SMALL c =
+pub digits-preserved-then-value-le-MAX_BEFORE_DIGIT : goal.digits-preserved-then-value-le-MAX_BEFORE_DIGIT
+digits-preserved-then-value-le-MAX_BEFORE_DIGIT c =
     let digit = c.if-not-is_ascii_digit.ensures.cases in
     let value = c.digits.invariant.value_is in
     let more = value_more c.args.text.now c.digits.byte-index (omega arith) digit.0 digit.1 in
@@ -42,11 +43,11 @@ digits-preserved c =
     let digit = c.if-not-is_ascii_digit.ensures.cases in
     let value = c.digits.invariant.value_is in
     let more = value_more c.args.text.now c.digits.byte-index (omega arith) digit.0 digit.1 in
-    let tens = c.in-Some.ensures.1 in
-    let next = c.in-Some-checked_add.ensures.1 in
+    let tens = c.in_ok-checked_mul.ensures.1 in
+    let next = c.in_ok-value.ensures.1 in
     record {
       value_is = omega (arith, more, value, tens, next, c.from-digit.ensures);
-      small = omega (arith, next, c.in-Some-checked_add.ensures.0);
+      small = omega (arith, next, c.in_ok-value.ensures.0);
       all_digits = digits_more c.args.text.now c.digits.byte-index (omega arith) digit.0 digit.1 c.digits.invariant.all_digits;
     }
 

@@ -4,7 +4,8 @@ use Rattle.std.proofs.lemmas.Result.{IfOk-weaker}
 use Rattle.csv.specs.Records.{field_at, fields_of}
 use Rattle.bsi_load.specs.declared.event.Event.TheVariants.{Load, Close}
 use Rattle.bsi_records.specs.Events.{plain_event, total_of}
-use Rattle.bsi_records.proofs.Events.{begins, closed, loaded, no_close_total, no_event, no_load_total, no_submit_total, no_word, plain_read}
+use Rattle.bsi_records.proofs.EventWords.{no_close_total, no_load_total, no_submit_total}
+use Rattle.bsi_records.proofs.Events.{begins, closed, loaded, mapped, no_event, no_word, plain_read, query_event}
 use Rattle.bsi_records.proofs.records.read_event.Goals as goal
 
 -- the record has no field
@@ -26,52 +27,34 @@ returns-then-eq c =
     (λ read told. plain_read schema fields (ap (total_of schema) own ∙ no_submit_total schema (drop 1 fields)) read (told ∙ sym (ap (plain_event schema) own))) c.read_submission.ensures
 
 -- a load
-pub returns-in-None : goal.returns-in-None
-returns-in-None c =
+pub returns-then-eq-2 : goal.returns-then-eq-2
+returns-then-eq-2 c =
     let schema = c.args.schema.now in
     let fields = fields_of c.args.fields.now in
     let word = c.in-Some.word.now in
     let first : field_at fields 0 ≡ Some word = search (rules, c.get.ensures.value, c.in-Some.is) in
     let is : bytes_eq word (codes "load") ≡ true = ap (bytes_eq word) (sym c.as_slice-2.ensures) ∙ sym c.eq-2.ensures ∙ c.if-eq-2.true in
     let own = begins fields word (codes "load") first is in
-    plain_read schema fields (ap (total_of schema) own ∙ no_load_total schema (drop 1 fields)) None
-    (sym (ap (plain_event schema) own ∙ loaded schema (drop 1 fields) ∙ ap (option_map Load) (sym c.read_only_feeder.ensures ∙ c.in-None.is)))
-
-pub returns-in-Some-read_only_feeder : goal.returns-in-Some-read_only_feeder
-returns-in-Some-read_only_feeder c =
-    let schema = c.args.schema.now in
-    let fields = fields_of c.args.fields.now in
-    let word = c.in-Some.word.now in
-    let first : field_at fields 0 ≡ Some word = search (rules, c.get.ensures.value, c.in-Some.is) in
-    let is : bytes_eq word (codes "load") ≡ true = ap (bytes_eq word) (sym c.as_slice-2.ensures) ∙ sym c.eq-2.ensures ∙ c.if-eq-2.true in
-    ap (plain_event schema) (begins fields word (codes "load") first is) ∙ loaded schema (drop 1 fields)
-    ∙ ap (option_map Load) (sym c.read_only_feeder.ensures ∙ c.in-Some-read_only_feeder.is)
+    plain_read schema fields (ap (total_of schema) own ∙ no_load_total schema (drop 1 fields)) c.map.result
+    (mapped Load c.read_only_feeder.result c.map.result c.map.ensures.cases ∙ ap (option_map Load) c.read_only_feeder.ensures
+    ∙ sym (ap (plain_event schema) own ∙ loaded schema (drop 1 fields)))
 
 -- a close
-pub returns-in-None-read_only_feeder : goal.returns-in-None-read_only_feeder
-returns-in-None-read_only_feeder c =
+pub returns-then-eq-3 : goal.returns-then-eq-3
+returns-then-eq-3 c =
     let schema = c.args.schema.now in
     let fields = fields_of c.args.fields.now in
     let word = c.in-Some.word.now in
     let first : field_at fields 0 ≡ Some word = search (rules, c.get.ensures.value, c.in-Some.is) in
     let is : bytes_eq word (codes "close") ≡ true = ap (bytes_eq word) (sym c.as_slice-3.ensures) ∙ sym c.eq-3.ensures ∙ c.if-eq-3.true in
     let own = begins fields word (codes "close") first is in
-    plain_read schema fields (ap (total_of schema) own ∙ no_close_total schema (drop 1 fields)) None
-    (sym (ap (plain_event schema) own ∙ closed schema (drop 1 fields) ∙ ap (option_map Close) (sym c.read_only_feeder-then-eq-3.ensures ∙ c.in-None-read_only_feeder.is)))
+    plain_read schema fields (ap (total_of schema) own ∙ no_close_total schema (drop 1 fields)) c.map-then-eq-3.result
+    (mapped Close c.read_only_feeder-then-eq-3.result c.map-then-eq-3.result c.map-then-eq-3.ensures.cases ∙ ap (option_map Close) c.read_only_feeder-then-eq-3.ensures
+    ∙ sym (ap (plain_event schema) own ∙ closed schema (drop 1 fields)))
 
-pub returns-in-Some-read_only_feeder-2 : goal.returns-in-Some-read_only_feeder-2
-returns-in-Some-read_only_feeder-2 c =
-    let schema = c.args.schema.now in
-    let fields = fields_of c.args.fields.now in
-    let word = c.in-Some.word.now in
-    let first : field_at fields 0 ≡ Some word = search (rules, c.get.ensures.value, c.in-Some.is) in
-    let is : bytes_eq word (codes "close") ≡ true = ap (bytes_eq word) (sym c.as_slice-3.ensures) ∙ sym c.eq-3.ensures ∙ c.if-eq-3.true in
-    ap (plain_event schema) (begins fields word (codes "close") first is) ∙ closed schema (drop 1 fields)
-    ∙ ap (option_map Close) (sym c.read_only_feeder-then-eq-3.ensures ∙ c.in-Some-read_only_feeder-2.is)
-
--- no query
-pub returns-in-None-2 : goal.returns-in-None-2
-returns-in-None-2 c =
+-- a query, or none
+pub returns : goal.returns
+returns c =
     let schema = c.args.schema.now in
     let fields = fields_of c.args.fields.now in
     let word = c.in-Some.word.now in
@@ -79,4 +62,4 @@ returns-in-None-2 c =
     let no_submit : bytes_eq word (codes "submit") ≡ false = ap (bytes_eq word) (sym c.as_slice.ensures) ∙ sym c.eq.ensures ∙ c.if-eq.false in
     let no_load : bytes_eq word (codes "load") ≡ false = ap (bytes_eq word) (sym c.as_slice-2.ensures) ∙ sym c.eq-2.ensures ∙ c.if-eq-2.false in
     let no_close : bytes_eq word (codes "close") ≡ false = ap (bytes_eq word) (sym c.as_slice-3.ensures) ∙ sym c.eq-3.ensures ∙ c.if-eq-3.false in
-    no_event schema word no_submit no_load no_close fields first (search (rules, c.in_ok-read_query.ensures, c.in-None-2.is))
+    query_event schema fields (no_event schema word no_submit no_load no_close fields first) c.in_ok-read_query.field-0 c.map-2.result c.in_ok-read_query.ensures c.map-2.ensures.cases

@@ -1,8 +1,9 @@
-use Rattle.std.proofs.Common.{◌<◌, ◌≤◌, set, length, ◌++◌, ap, sym, ◌∙◌, subst, [], ◌∷◌, Ok, rules, arith}
+use Rattle.std.proofs.Common.{◌≡◌, ◌<◌, ◌≤◌, set, length, ◌++◌, ap, sym, ◌∙◌, subst, [], ◌∷◌, Result, Ok, rules, arith}
 use Rattle.std.specs.Prelude.{All, IsTrue}
 use Rattle.std.proofs.lemmas.List.{get_or_default, set-get_or}
 use Rattle.bsi_table.specs.Columns.{fits}
 use Rattle.bsi_table.specs.Rows.{Entries}
+use Rattle.bsi_load.specs.declared.event.SubmitRefused.{SubmitRefused}
 use Rattle.bsi_load.specs.declared.event.SubmitRefused.TheVariants as submit
 use Rattle.bsi_load.specs.declared.event.Event.TheVariants.{Submit}
 use Rattle.bsi_load.specs.declared.event.Reply.TheVariants.{Submitted}
@@ -10,9 +11,8 @@ use Rattle.bsi_load.specs.Runs.{shown_after}
 use Rattle.bsi_load.specs.Shown.{Shown, no_feeder}
 use Rattle.bsi_load.proofs.Changes.{submit_refused, submit_accepted, with_feeders}
 use Rattle.bsi_load.proofs.Composing.{feeder}
-use Rattle.bsi_load.proofs.Machines.{machine_set, old_fitting, old_small, pushed_all, pushed_capacity, pushed_within}
+use Rattle.bsi_load.proofs.Machines.{by_push, machine_set, old_fitting, old_small, pushed_all, pushed_capacity, pushed_within}
 use Rattle.bsi_load.proofs.machine.Core.submit.Goals as goal
-use Rattle.bsi_load.proofs.machine.Core.submit.Goals.{in-Err, in-Ok}
 
 pub returns-then-f-feeders-clause-after : goal.returns-then-f-feeders-clause-after
 returns-then-f-feeders-clause-after c = submit_refused c.args.self.now c.args.f c.args.row (submit.UnknownFeeder c.args.row)
@@ -50,18 +50,18 @@ returns-clause-after c =
     let there : c.args.f < length items = omega (arith, c.if-f-feeders.false, c.feeders.ensures.feeders, many) in
     let old_is = c.behind-self-2.view_is ∙ c.index_mut.ensures.value ∙ get_or_default items c.args.f c.index_mut.result.now no_feeder there in
     let closed = c.behind-self-2.inside.closed in
-    elim c.match-try_push_back.branch [
-      | in-Err w ↦
-          ap (λ q. with_feeders c.self.inside.index (set items c.args.f (feeder q.items closed q.capacity))) w.in-Err.ensures.err.1
-          ∙ ap (λ v. with_feeders c.self.inside.index (set items c.args.f v)) old_is
-          ∙ ap (with_feeders c.self.inside.index) (set-get_or items c.args.f no_feeder)
-          ∙ c.self.view_is
-          ∙ submit_refused c.args.self.now c.args.f c.args.row (submit.Full w.in-Err.row)
-          ∙ ap (λ r. shown_after c.args.self.now ((Submit c.args.f c.args.row, Submitted r) ∷ [])) (sym w.result-is)
-      | in-Ok w ↦
-          ap (λ q. with_feeders c.self.inside.index (set items c.args.f (feeder q.items closed q.capacity))) w.in-Ok.ensures.ok
-          ∙ ap (λ v. with_feeders c.self.inside.index (set items c.args.f (feeder (v.rows ++ c.args.row ∷ []) v.closed v.capacity))) old_is
-          ∙ submit_accepted s c.args.f there c.args.row
-          ∙ ap (λ v. shown_after v ((Submit c.args.f c.args.row, Submitted (Ok tt)) ∷ [])) c.self.view_is
-          ∙ ap (λ r. shown_after c.args.self.now ((Submit c.args.f c.args.row, Submitted r) ∷ [])) (sym w.result-is)
-    ]
+    let After : Result (Unit {0}) SubmitRefused → Type 0 = λ r.
+    with_feeders c.self.inside.index (set items c.args.f (feeder c.try_push_back.new.self.items closed c.try_push_back.new.self.capacity))
+    ≡ shown_after c.args.self.now ((Submit c.args.f c.args.row, Submitted r) ∷ []) in
+    by_push After c.try_push_back.result c.map_err.result c.map_err.ensures.cases c.try_push_back.ensures.ok c.try_push_back.ensures.err
+    (λ ok.
+    ap (λ q. with_feeders c.self.inside.index (set items c.args.f (feeder q.items closed q.capacity))) ok
+    ∙ ap (λ v. with_feeders c.self.inside.index (set items c.args.f (feeder (v.rows ++ c.args.row ∷ []) v.closed v.capacity))) old_is
+    ∙ submit_accepted s c.args.f there c.args.row
+    ∙ ap (λ v. shown_after v ((Submit c.args.f c.args.row, Submitted (Ok tt)) ∷ [])) c.self.view_is)
+    (λ row err.
+    ap (λ q. with_feeders c.self.inside.index (set items c.args.f (feeder q.items closed q.capacity))) err.1
+    ∙ ap (λ v. with_feeders c.self.inside.index (set items c.args.f v)) old_is
+    ∙ ap (with_feeders c.self.inside.index) (set-get_or items c.args.f no_feeder)
+    ∙ c.self.view_is
+    ∙ submit_refused c.args.self.now c.args.f c.args.row (submit.Full row))

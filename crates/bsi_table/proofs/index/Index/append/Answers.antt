@@ -5,7 +5,7 @@ use Rattle.bsi_schema.specs.Columns.{fits}
 use Rattle.bsi_table.specs.Rows.{Entries, FedRow}
 use Rattle.bsi_table.specs.Table.{fed_rows, with_row, AreInRange, AreKept, Table}
 use Rattle.bsi_schema.proofs.Fitting.{fits-length}
-use Rattle.bsi_table.proofs.Keeping.{All-one, are_kept_same, are_kept_more, on_err, row_in_range, row_narrow}
+use Rattle.bsi_table.proofs.Keeping.{All-one, are_kept_same, are_kept_more, on_err, row_in_range, row_small}
 use Rattle.bsi_table.proofs.TableRows.{fed_rows-more, fed_rows-same, length-fed_rows}
 use Rattle.bsi_table.proofs.index.Index.append.Goals as goal
 
@@ -29,7 +29,7 @@ returns-in_err-reserve_rows-clause-kept c =
     let i = c.self.inside in
     let e = c.in_err-reserve_rows.ensures in
     let table : ℕ → List FedRow → Table = λ feeders rows. record { schema = i.schema; feeders = feeders; limit = i.limit; rows = rows } in
-    let same = ap (λ xs. fed_rows xs c.reserve_rows.new.columns.items) e.sources
+    let same = ap (λ xs. fed_rows xs c.reserve_rows.new.columns.items) e.rows
     ∙ fed_rows-same i.origins.rows i.columns.items c.reserve_rows.new.columns.items e.long (λ k within. (e.same k within).entries) in
     on_err c.from_residual.result (ap₂ table e.feeders same ∙ c.self.view_is)
 
@@ -48,14 +48,14 @@ push_row-requires-clause-range c =
     let fit = ap (fits i.schema.columns) c.values.ensures ∙ ap (λ t. fits t.schema.columns c.args.row.now) c.self.view_is ∙ c.requires.fits in
     row_in_range i.schema.columns c.reserve_rows.new.columns.items n grown c.values.result.now fit
 
-pub push_row-requires-clause-narrow : goal.push_row-requires-clause-narrow
-push_row-requires-clause-narrow c =
+pub push_row-requires-clause-small : goal.push_row-requires-clause-small
+push_row-requires-clause-small c =
     let i = c.self.inside in
     let e = c.in_ok-reserve_rows.ensures in
     let n = length i.origins.rows in
     let grown = are_kept_same i.schema.columns i.columns.items n c.self.invariant.columns_are c.reserve_rows.new.columns.items e.long e.same in
     let fit = ap (fits i.schema.columns) c.values.ensures ∙ ap (λ t. fits t.schema.columns c.args.row.now) c.self.view_is ∙ c.requires.fits in
-    row_narrow i.schema.columns c.reserve_rows.new.columns.items n grown c.values.result.now fit
+    row_small i.schema.columns c.reserve_rows.new.columns.items n grown c.values.result.now fit
 
 pub invariant_of-self-2 : goal.invariant_of-self-2
 invariant_of-self-2 c =
@@ -64,7 +64,7 @@ invariant_of-self-2 c =
     let columns = i.schema.columns in
     let n = length i.origins.rows in
     let grown = are_kept_same columns i.columns.items n c.self.invariant.columns_are c.reserve_rows.new.columns.items e.long e.same in
-    let sources = c.push_row.ensures.sources ∙ ap (λ xs. xs ++ c.args.feeder ∷ []) e.sources in
+    let sources = c.push_row.ensures.rows ∙ ap (λ xs. xs ++ c.args.feeder ∷ []) e.rows in
     let rows = ap (λ t. length t.rows) (sym c.self.view_is) ∙ length-fed_rows i.origins.rows i.columns.items in
     let fit = ap (fits columns) c.values.ensures ∙ ap (λ t. fits t.schema.columns c.args.row.now) c.self.view_is ∙ c.requires.fits in
     let taken = row_in_range columns c.reserve_rows.new.columns.items n grown c.values.result.now fit in
@@ -90,7 +90,7 @@ returns-clause-appended c =
     let old = i.columns.items in
     let grown = c.reserve_rows.new.columns.items in
     let pushed = c.push_row.new.columns.items in
-    let sources = c.push_row.ensures.sources ∙ ap (λ xs. xs ++ c.args.feeder ∷ []) e.sources in
+    let sources = c.push_row.ensures.rows ∙ ap (λ xs. xs ++ c.args.feeder ∷ []) e.rows in
     let kept = are_kept_same i.schema.columns old (length i.origins.rows) c.self.invariant.columns_are grown e.long e.same in
     let columns = ap (λ t. length t.schema.columns) c.self.view_is in
     let wide = ap length c.values.ensures ∙ fits-length c.args.self.now.schema.columns c.args.row.now c.requires.fits ∙ sym columns ∙ sym kept.long in

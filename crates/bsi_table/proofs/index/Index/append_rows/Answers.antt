@@ -27,7 +27,7 @@ returns-in_err-reserve_rows-clause-kept c =
     let i = c.self.inside in
     let e = c.in_err-reserve_rows.ensures in
     let table : ℕ → List FedRow → Table = λ feeders rows. record { schema = i.schema; feeders = feeders; limit = i.limit; rows = rows } in
-    let same = ap (λ xs. fed_rows xs c.reserve_rows.new.columns.items) e.sources
+    let same = ap (λ xs. fed_rows xs c.reserve_rows.new.columns.items) e.rows
     ∙ fed_rows-same i.origins.rows i.columns.items c.reserve_rows.new.columns.items e.long (λ k within. (e.same k within).entries) in
     on_err c.from_residual.result (ap₂ table e.feeders same ∙ c.self.view_is)
 
@@ -49,7 +49,7 @@ invariant_of-self-2 c =
     let n = length i.origins.rows in
     let reserved = c.reserve_rows.new.columns.items in
     let grown = are_kept_same columns i.columns.items n c.self.invariant.columns_are reserved e.long e.same in
-    let sources = c.push_rows.ensures.sources ∙ ap (λ xs. xs ++ feeders_of rows) e.sources in
+    let sources = c.push_rows.ensures.rows ∙ ap (λ xs. xs ++ feeders_of rows) e.rows in
     let before = ap (λ t. length t.rows) (sym c.self.view_is) ∙ length-fed_rows i.origins.rows i.columns.items in
     let fit : AreFitting columns rows = subst (λ (t : Table). AreFitting t.schema.columns rows) (sym c.self.view_is) c.requires.fits in
     let taken = All-weaker (λ row. Takes reserved row.1) (λ row. AreInRange reserved row.1) (λ row takes. takes.range) rows (rows_taken columns reserved n grown rows fit) in
@@ -76,7 +76,7 @@ returns-clause-appended c =
     let old = i.columns.items in
     let grown = c.reserve_rows.new.columns.items in
     let pushed = c.push_rows.new.columns.items in
-    let sources = c.push_rows.ensures.sources ∙ ap (λ xs. xs ++ feeders_of rows) e.sources in
+    let sources = c.push_rows.ensures.rows ∙ ap (λ xs. xs ++ feeders_of rows) e.rows in
     let kept = are_kept_same i.schema.columns old (length i.origins.rows) c.self.invariant.columns_are grown e.long e.same in
     let fit : AreFitting i.schema.columns rows = subst (λ (t : Table). AreFitting t.schema.columns rows) (sym c.self.view_is) c.requires.fits in
     let wide = All-weaker (λ row. Takes grown row.1) (λ row. length row.1 ≡ length grown) (λ row takes. takes.wide) rows (rows_taken i.schema.columns grown (length i.origins.rows) kept rows fit) in

@@ -3,7 +3,7 @@ use Rattle.std.proofs.lemmas.List.{append-nil}
 use Rattle.bsi_versions.specs.Editions.{rows_of}
 use Rattle.bsi_versions.specs.declared.operation.Operation.TheVariants.{Rows as rows_operation}
 use Rattle.bsi_versions.proofs.Writing.{rows_of-append, staged_all}
-use Rattle.bsi_versions.proofs.publisher.append_stage.Goals as goal
+use Rattle.bsi_versions.proofs.copies.append_stage.Goals as goal
 
 -- the block stands last among the pending operations
 pub returns-in-Ok-clause-staged : goal.returns-in-Ok-clause-staged

@@ -1,0 +1,83 @@
+//! The growth of an index: the columns take the entries of further rows, and the origins their feeders.
+
+ghost use Rattle.std.specs.Prelude.{◌≡◌, ℕ, ◌+◌, ◌<◌, ◌≤◌, ◌^◌, ◌++◌, ◌∷◌, [], All, length, OnOk};
+ghost use Rattle.bsi_shift.specs.Shifted.{shifted_entries};
+ghost use Rattle.bsi_table.specs.Rows.{feeders_of};
+ghost use Rattle.bsi_table.specs.Table.{kept_at, AreFrom, AreI64, AreInRange, AreSameColumns, HaveMore, HaveOneMore, HaveRoom, Takes};
+
+use crate::columns::{push_block_each, push_each, reserve_each};
+use crate::{NoMemory, Row};
+use bsi_origins::Origins;
+use bsi_shift::Shifted;
+
+/// Makes room for `more` further rows. Whatever the result, the rows stay.
+pub(crate) fn reserve_rows(
+    columns: &mut Vec<Shifted>,
+    origins: &mut Origins,
+    more: u64,
+) -> Result<(), NoMemory>
+    requires short { (k : ℕ) → k < length columns.old.items →
+        length (shifted_entries (kept_at columns.old.items k)) + more ≤ 2 ^ 32 }
+    requires few { length origins.old.rows + more ≤ 2 ^ 32 }
+    ensures long { length columns.new.items ≡ length columns.old.items }
+    ensures same { AreSameColumns columns.old.items columns.new.items }
+    ensures rows { origins.new.rows ≡ origins.old.rows }
+    ensures feeders { origins.new.feeders ≡ origins.old.feeders }
+    ensures ok { OnOk result (HaveRoom columns.new.items (length columns.old.items) more) }
+    ensures room { OnOk result (more ≤ origins.new.room) }
+{
+    reserve_each(columns, more)?;
+    origins.reserve(more)
+}
+
+/// Appends a row, into room that is already there.
+pub(crate) fn push_row(
+    columns: &mut Vec<Shifted>,
+    origins: &mut Origins,
+    feeder: u8,
+    values: &[Option<i128>],
+)
+    requires long { length values.now ≡ length columns.old.items }
+    requires room { HaveRoom columns.old.items (length columns.old.items) 1 }
+    requires reserved { 0 < origins.old.room }
+    requires feeder { feeder < origins.old.feeders }
+    requires range { AreInRange columns.old.items values.now }
+    requires small { AreI64 columns.old.items values.now }
+    ensures long { length columns.new.items ≡ length columns.old.items }
+    ensures more { HaveOneMore columns.old.items columns.new.items values.now }
+    ensures rows { origins.new.rows ≡ origins.old.rows ++ feeder ∷ [] }
+    ensures feeders { origins.new.feeders ≡ origins.old.feeders }
+{
+    push_each(columns, values);
+    origins.push_reserved(feeder);
+}
+
+/// Appends a block of rows, into room that is already there.
+pub(crate) fn push_rows(columns: &mut Vec<Shifted>, origins: &mut Origins, rows: &[(u32, Row)])
+    requires few { length rows.now ≤ 64 }
+    requires room { HaveRoom columns.old.items (length columns.old.items) (length rows.now) }
+    requires reserved { length rows.now ≤ origins.old.room }
+    requires taken { All (λ row. Takes columns.old.items row.1) rows.now }
+    requires from { AreFrom origins.old.feeders rows.now }
+    requires bytes { origins.old.feeders ≤ 64 }
+    ensures long { length columns.new.items ≡ length columns.old.items }
+    ensures more { HaveMore columns.old.items columns.new.items rows.now }
+    ensures rows { origins.new.rows ≡ origins.old.rows ++ feeders_of rows.now }
+    ensures feeders { origins.new.feeders ≡ origins.old.feeders }
+{
+    push_block_each(columns, rows);
+    push_feeders(origins, rows);
+}
+
+/// Appends the feeder of each row, into room that is already there.
+fn push_feeders(origins: &mut Origins, rows: &[(u32, Row)])
+    requires reserved { length rows.now ≤ origins.old.room }
+    requires from { AreFrom origins.old.feeders rows.now }
+    requires bytes { origins.old.feeders ≤ 64 }
+    ensures rows { origins.new.rows ≡ origins.old.rows ++ feeders_of rows.now }
+    ensures feeders { origins.new.feeders ≡ origins.old.feeders }
+{
+    'rows: for r in 0..rows.len() {
+        origins.push_reserved(rows[r].0 as u8);
+    }
+}
