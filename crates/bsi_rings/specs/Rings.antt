@@ -48,7 +48,8 @@ AllFit schema rows = All (λ row. IsTrue (fits schema.columns row)) rows
 abbrev pub IsSubmitReply : Sending → Entries → Result (Unit {0}) SubmitRefused → Type 0
 IsSubmitReply s row (Ok done) = IsTrue (fits s.lane.schema.columns row)
 IsSubmitReply s row (Err (Misfit back)) = (back ≡ row) × (fits s.lane.schema.columns row ≡ false)
-IsSubmitReply s row (Err (Full back)) = (back ≡ row) × IsTrue (fits s.lane.schema.columns row) × (s.capacity ≤ length s.sent)
+IsSubmitReply s row (Err (Full back)) =
+    (back ≡ row) × IsTrue (fits s.lane.schema.columns row) × (s.capacity ≤ length s.sent)
 
 -- ---- a closing
 
@@ -99,7 +100,8 @@ Settles old closing new = new ≡ record old { told = Some closing.rows; seen = 
 
 -- what stands at the front of a ring: a row that fits, nothing, or nothing for good
 abbrev pub IsFront : Intake → Front → Type 0
-IsFront i front.Row = (row : Entries) × (rest : List Entries) × (i.seen ≡ row ∷ rest) × IsTrue (fits i.lane.schema.columns row)
+IsFront i front.Row =
+    (row : Entries) × (rest : List Entries) × (i.seen ≡ row ∷ rest) × IsTrue (fits i.lane.schema.columns row)
 IsFront i front.Empty = i.told ≡ None
 IsFront i front.Ended = i.told ≡ Some i.taken
 
@@ -109,14 +111,16 @@ IsFront i front.Ended = i.told ≡ Some i.taken
 abbrev pub new_feeders : ℕ → List LaneName → List ℕ → List Sending
 new_feeders n [] capacities = []
 new_feeders n (lane ∷ lanes) [] = []
-new_feeders n (lane ∷ lanes) (capacity ∷ capacities) = new_sending n lane capacity ∷ new_feeders (suc n) lanes capacities
+new_feeders n (lane ∷ lanes) (capacity ∷ capacities) =
+    new_sending n lane capacity ∷ new_feeders (suc n) lanes capacities
 
 -- the lanes of a list of intakes
 abbrev pub lanes_of : List Intake → List LaneName
 lanes_of intakes = map (λ i. i.lane) intakes
 
 -- a ring was made for each capacity, empty, under this schema: the feeders' ends, and the loader's
-pub record AreOpened (schema : Declared) (capacities : List ℕ) (feeders : List Sending) (intakes : List Intake) : Type 0 where
+pub record AreOpened (schema : Declared) (capacities : List ℕ) (feeders : List Sending) (intakes : List Intake)
+    : Type 0 where
   pub many : length intakes ≡ length capacities
   pub alike : All (λ i. i.lane.schema ≡ schema) intakes
   pub intakes_are : intakes ≡ map new_intake (lanes_of intakes)

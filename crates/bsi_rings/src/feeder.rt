@@ -26,7 +26,8 @@ pub struct Feeder {
     ring: Producer<Row>,
 }
 
-// Clauses see the feeder's number, which ring it sends to, the schema, the ring's capacity, and the rows that were sent.
+// Clauses see the feeder's number, which ring it sends to, the schema, the ring's capacity, and the rows that were
+// sent.
 impl Model for Feeder {
     ghost use Rattle.rtrb.specs.Ring.{sent};
     ghost use Rattle.bsi_rings.specs.Rings.{ring_of, AllFit, Sending};
