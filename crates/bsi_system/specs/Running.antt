@@ -20,7 +20,8 @@ pub record Taking : Type 0 where
   pub taken : List Entries
   pub told : Option (List Entries)
 
--- what is seen of a loader: its system, what was taken of each feeder, the rows that are published, and those that are held
+-- what is seen of a loader: its system, what was taken of each feeder, the rows that are published, and those that are
+-- held
 pub record Loading : Type 0 where
   pub system : System
   pub takings : List Taking
@@ -75,8 +76,8 @@ IsSettled takings f = (taking_at takings f).told ≡ Some (taking_at takings f).
 abbrev pub MayLoad : List Taking → ℕ → Type 0
 MayLoad takings f = (f < length takings) × ((taking_at takings f).told ≢ Some (taking_at takings f).taken)
 
--- the reply to a load: there is no such feeder; it is settled; no row was seen, and none was told of; the published and the
--- held rows are as many as the limit; else the row is loaded, or there is no memory
+-- the reply to a load: there is no such feeder; it is settled; no row was seen, and none was told of; the published and
+-- the held rows are as many as the limit; else the row is loaded, or there is no memory
 abbrev pub IsLoadReply : Loading → ℕ → Result (Unit {0}) LoadRefused → Type 0
 IsLoadReply s f (Ok done) = MayLoad s.takings f × (length s.published + length s.held < s.system.limit)
 IsLoadReply s f (Err load.UnknownFeeder) = length s.takings ≤ f
@@ -92,7 +93,10 @@ with_taken t row = record t { taken = t.taken ++ row ∷ [] }
 -- the row is the next one that is taken of the feeder, and it is held, last
 abbrev pub Loads : Loading → ℕ → Entries → Loading → Type 0
 Loads s f row t =
-    t ≡ record s { takings = slice_set s.takings f (with_taken (taking_at s.takings f) row); held = s.held ++ (f, row) ∷ [] }
+    t ≡ record s {
+      takings = slice_set s.takings f (with_taken (taking_at s.takings f) row);
+      held = s.held ++ (f, row) ∷ [];
+    }
 
 -- a row that fits is loaded
 abbrev pub LoadsOne : Loading → ℕ → Loading → Type 0

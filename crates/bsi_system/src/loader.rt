@@ -24,8 +24,8 @@ pub struct Loader<B: Naming> {
     pub(crate) publisher: Publisher<B>,
 }
 
-// Clauses see which rings there are, the schema and the limit, what was taken of each feeder and what its closing told, the
-// rows that are published, and those that are held.
+// Clauses see which rings there are, the schema and the limit, what was taken of each feeder and what its closing told,
+// the rows that are published, and those that are held.
 impl<B: Naming> Model for Loader<B> {
     ghost use Rattle.bsi_system.specs.Running.{loading, IsLoader, Loading};
 
