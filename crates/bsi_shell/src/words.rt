@@ -1,7 +1,7 @@
 //! The command line: the words behind the program's name, and the status that they end with.
-ghost use Rattle.std.specs.Prelude.{◌≡◌, ◌≤◌, IfSome, OnErr, OnOk};
+ghost use Rattle.std.specs.Prelude.{◌≡◌, ◌≤◌, OnErr, OnOk};
 ghost use Rattle.bsi_shell.specs.Commands.{BeginsWithFiles};
-ghost use Rattle.bsi_text.specs.Texts.{IsAnswered, IsBegun};
+ghost use Rattle.bsi_text.specs.Texts.{IfKnown, IsAnswered, IsBegun};
 
 use crate::files::run_over;
 use crate::request::{Request, read_request};
@@ -28,14 +28,12 @@ pub fn run_words<
 >(rt: &R, words: Vec<String>, input: I, output: &mut O, faults: &mut F) -> u8
     ensures status { result ≤ 2 }
 
-    // Where the first word is not `files`: a run with no fault has answered the whole input. After status 1 what was written is
-    // a first part of the lines that answer the whole input.
+    // Where the first word is not `files`: a run with no fault has answered the whole input. After status 1 what was
+    // written is a first part of the lines that answer the whole input.
     ensures answered { result ≡ 0 → ¬ BeginsWithFiles words.items →
-        IfSome (I.remaining input)
-        (λ bytes. IsAnswered bytes (O.contents output.old) (O.contents output.new)) }
+        IfKnown (I.remaining input) IsAnswered (O.contents output.old) (O.contents output.new) }
     ensures begun { result ≡ 1 → ¬ BeginsWithFiles words.items →
-        IfSome (I.remaining input)
-        (λ bytes. IsBegun bytes (O.contents output.old) (O.contents output.new)) }
+        IfKnown (I.remaining input) IsBegun (O.contents output.old) (O.contents output.new) }
 
     // In each case: a run with no fault says nothing, and after status 2 nothing was written.
     ensures quiet { result ≡ 0 → F.contents faults.new ≡ F.contents faults.old }
@@ -63,11 +61,9 @@ fn run_to_end<I: Read + Drop, O: Write>(
     output: &mut O,
 ) -> Result<(), ScriptFault>
     ensures ok { OnOk result
-        (IfSome (I.remaining input)
-        (λ bytes. IsAnswered bytes (O.contents output.old) (O.contents output.new))) }
+        (IfKnown (I.remaining input) IsAnswered (O.contents output.old) (O.contents output.new)) }
     ensures fault { OnErr result
-        (IfSome (I.remaining input)
-        (λ bytes. IsBegun bytes (O.contents output.old) (O.contents output.new))) }
+        (IfKnown (I.remaining input) IsBegun (O.contents output.old) (O.contents output.new)) }
 {
     bsi_text::laws::begun();
     let run = run_script(alloc, input, output);
@@ -81,6 +77,7 @@ fn run_to_end<I: Read + Drop, O: Write>(
 fn tell_fault<D: Display + Drop, F: Write>(fault: D, faults: &mut F) -> u8
     ensures { result ≡ 1 }
 {
+    // The status tells of the fault, even if its line cannot be written.
     let _ = writeln!(faults, "{fault}");
     1
 }
@@ -89,6 +86,7 @@ fn tell_fault<D: Display + Drop, F: Write>(fault: D, faults: &mut F) -> u8
 fn tell_usage<F: Write>(faults: &mut F) -> u8
     ensures { result ≡ 2 }
 {
+    // The status tells of the wrong words, even if the usage line cannot be written.
     let _ = writeln!(faults, "{USAGE}");
     2
 }

@@ -36,6 +36,7 @@ use Rattle.bsi_text.specs.Scripts.{AreTurns, Declaring, IsTurn, Running, Stage, 
 use Rattle.bsi_records.specs.Setups.{nothing_declared}
 use Rattle.bsi_text.proofs.Named.{HasNames, turn_named}
 use Rattle.bsi_table.specs.Columns.{AreNamed}
+use Rattle.bsi_records.proofs.EventWords.{no_close_total, no_load_total, no_submit_total}
 use Rattle.bsi_records.proofs.Spelling.{query_is_there, same_query}
 use Rattle.bsi_text.proofs.Turns.{IsPlain, plain}
 use Rattle.bsi_text.proofs.Unique.{one_greatest, one_least, one_median}
@@ -150,18 +151,6 @@ is_text word text is = (bytes_eq-Decides word text).0 is
 no_total : (schema : Declared) (word text : Field) (rest : List Field) → bytes_eq word text ≡ true → total_of schema (text ∷ rest) ≡ None → total_of schema (word ∷ rest) ≡ None
 no_total schema word text rest is none = ap (λ w. total_of schema (w ∷ rest)) (is_text word text is) ∙ none
 
-submit_no_total : (schema : Declared) (rest : List Field) → total_of schema (codes "submit" ∷ rest) ≡ None
-submit_no_total schema [] = refl
-submit_no_total schema (name ∷ rest) = refl
-
-load_no_total : (schema : Declared) (rest : List Field) → total_of schema (codes "load" ∷ rest) ≡ None
-load_no_total schema [] = refl
-load_no_total schema (name ∷ rest) = refl
-
-close_no_total : (schema : Declared) (rest : List Field) → total_of schema (codes "close" ∷ rest) ≡ None
-close_no_total schema [] = refl
-close_no_total schema (name ∷ rest) = refl
-
 none_is_event : {P : Type 0} (e : Event) → None ≡ Some e → P
 none_is_event e is = cc is
 
@@ -170,15 +159,15 @@ no_query schema word feeder all [] e = by (bytes_eq word (codes "submit")) (byte
   where
     by : (a b c : Bool) → bytes_eq word (codes "submit") ≡ a → bytes_eq word (codes "load") ≡ b → bytes_eq word (codes "close") ≡ c
         → (if a then Some (Submit feeder []) else (if b then Some (Load feeder) else (if c then Some (Close feeder) else None))) ≡ Some e → total_of schema (word ∷ all) ≡ None
-    by true b c submit load close is = no_total schema word (codes "submit") all submit (submit_no_total schema all)
-    by false true c submit load close is = no_total schema word (codes "load") all load (load_no_total schema all)
-    by false false true submit load close is = no_total schema word (codes "close") all close (close_no_total schema all)
+    by true b c submit load close is = no_total schema word (codes "submit") all submit (no_submit_total schema all)
+    by false true c submit load close is = no_total schema word (codes "load") all load (no_load_total schema all)
+    by false false true submit load close is = no_total schema word (codes "close") all close (no_close_total schema all)
     by false false false submit load close is = none_is_event e is
 no_query schema word feeder all (value ∷ values) e = by (bytes_eq word (codes "submit")) refl
   where
     by : (a : Bool) → bytes_eq word (codes "submit") ≡ a
         → (if a then option_map (Submit feeder) (values_in schema.signed (value ∷ values)) else None) ≡ Some e → total_of schema (word ∷ all) ≡ None
-    by true submit is = no_total schema word (codes "submit") all submit (submit_no_total schema all)
+    by true submit is = no_total schema word (codes "submit") all submit (no_submit_total schema all)
     by false submit is = none_is_event e is
 
 no_query_of : (schema : Declared) (word : Field) (all rest : List Field) (e : Event) (feeder : Option ℕ)

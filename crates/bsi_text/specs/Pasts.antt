@@ -17,7 +17,8 @@ abbrev pub machine_of : Setup → Shown
 machine_of setup = new_machine setup.schema setup.capacities setup.limit
 
 -- the record asks for nothing, and adds nothing to what was done
-pub record AddsNothing (schema : Declared) (fields : List Field) (line : List ℕ) (before after : List Done) : Type 0 where
+pub record AddsNothing (schema : Declared) (fields : List Field) (line : List ℕ) (before after : List Done)
+    : Type 0 where
   pub none : (event : Event) → IsEvent schema fields event → ⊥
   pub line_is : line ≡ bad_line
   pub same : after ≡ before
@@ -31,7 +32,8 @@ pub record AddsEvent (schema : Declared) (fields : List Field) (line : List ℕ)
   pub more : after ≡ (event, reply) ∷ before
 
 abbrev pub IsAddedBy : Declared → List Field → List ℕ → List Done → List Done → Type 0
-IsAddedBy schema fields line before after = AddsNothing schema fields line before after ⊎ AddsEvent schema fields line before after
+IsAddedBy schema fields line before after =
+    AddsNothing schema fields line before after ⊎ AddsEvent schema fields line before after
 
 -- what records and their lines add to what was done before them, the newest first
 unfoldable pub AreAddedBy : Declared → List (List Field) → List (List ℕ) → List Done → List Done → Type 0
@@ -41,7 +43,8 @@ AreAddedBy schema (fields ∷ records) (line ∷ lines) before after =
 AreAddedBy schema records lines before after = ⊥
 
 -- a script's records and lines up to `begin`, that record and its line, and those from then on
-pub record HasBegun (records : List (List Field)) (lines : List (List ℕ)) (setup : Setup) (later : List (List Field)) (told : List (List ℕ)) : Type 0 where
+pub record HasBegun (records : List (List Field)) (lines : List (List ℕ)) (setup : Setup)
+    (later : List (List Field)) (told : List (List ℕ)) : Type 0 where
   pub declaring : List (List Field)
   pub answers : List (List ℕ)
   pub begin : List Field
@@ -51,8 +54,8 @@ pub record HasBegun (records : List (List Field)) (lines : List (List ℕ)) (set
   pub is_begin : is_begin begin ≡ true
   pub can_begin : can_begin setup ≡ true
 
--- the events of the records from then on, with their replies: each is lawful as the machine then stands, the machine shows what
--- they come to, and each feeder's indexed rows followed by its waiting rows are exactly its accepted rows
+-- the events of the records from then on, with their replies: each is lawful as the machine then stands, the machine
+-- shows what they come to, and each feeder's indexed rows followed by its waiting rows are exactly its accepted rows
 pub record HasPast (records : List (List Field)) (lines : List (List ℕ)) (shown : Shown) : Type 0 where
   pub setup : Setup
   pub later : List (List Field)

@@ -28,7 +28,8 @@ end_after true = None
 end_after false = Some (Ok tt)
 
 abbrev pub TakesNext : {R : Type 0} → (R → Option (List ℕ)) → RecordText R → RecordText R → List Field → Bool → Type 0
-TakesNext rem old new fields found = Takes rem old.input new.input old.taken new.taken fields found × (new.end ≡ end_after found)
+TakesNext rem old new fields found =
+    Takes rem old.input new.input old.taken new.taken fields found × (new.end ≡ end_after found)
 
 -- and after a fault
 abbrev pub StopsAt : {R : Type 0} → (R → Option (List ℕ)) → RecordText R → RecordText R → SourceFault → Type 0

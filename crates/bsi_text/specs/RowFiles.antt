@@ -37,7 +37,8 @@ given found row = if found then Some row else None
 
 abbrev pub good_row : Declared → List Field → List Field → Option Entries
 good_row schema header fields =
-    if nat_eq (length fields) (length header) then fitting schema (values_in schema.signed (in_order schema header fields)) else None
+    if nat_eq (length fields) (length header)
+    then fitting schema (values_in schema.signed (in_order schema header fields)) else None
 
 -- the rows of the good records, and how many are bad
 abbrev pub good_rows : Declared → List Field → List (List Field) → List Entries

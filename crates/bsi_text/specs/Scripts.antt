@@ -40,13 +40,15 @@ pub record IsDone (shown : Shown) (fields : List Field) (line : List ℕ) (next 
 -- a record, the line that answers it, and what the script has come to by it
 abbrev pub IsTurn : Stage → List Field → List ℕ → Stage → Type 0
 IsTurn (Declaring setup) fields line next =
-    MatchOption (set_up setup fields) ((line ≡ bad_line) × (next ≡ Declaring setup)) (λ after. (line ≡ done_line) × (next ≡ after))
+    MatchOption (set_up setup fields) ((line ≡ bad_line) × (next ≡ Declaring setup))
+    (λ after. (line ≡ done_line) × (next ≡ after))
 IsTurn (Running shown) fields line next = IsBad shown fields line next ⊎ IsDone shown fields line next
 
 -- records, a line for each, and what the script has come to by all of them
 unfoldable pub AreTurns : Stage → List (List Field) → List (List ℕ) → Stage → Type 0
 AreTurns stage [] [] last = last ≡ stage
-AreTurns stage (fields ∷ records) (line ∷ lines) last = (next : Stage) × IsTurn stage fields line next × AreTurns next records lines last
+AreTurns stage (fields ∷ records) (line ∷ lines) last =
+    (next : Stage) × IsTurn stage fields line next × AreTurns next records lines last
 AreTurns stage records lines last = ⊥
 
 -- a script run of records

@@ -31,8 +31,8 @@ tally_of passed bad = record { passed = passed; bad = bad }
 abbrev pub End : Type 0
 End = Option (Result (Unit {0}) SourceFault)
 
--- a row source: its file's layout, what it reads from, how many records it took behind the header and how many of these were
--- bad, and how it ended
+-- a row source: its file's layout, what it reads from, how many records it took behind the header and how many of these
+-- were bad, and how it ended
 pub record Source (R : Type 0) : Type 0 where
   pub layout : Layout
   pub input : Reader R
@@ -53,7 +53,8 @@ IsReadFault kind = IsTrue (is_io kind) ⊎ (kind ≡ error.OutOfMemory)
 -- a reader that had these bytes left has read these records of them
 abbrev pub HasReadOf : {R : Type 0} → (R → Option (List ℕ)) → Reader R → Reader R → List (List Field) → List ℕ → Type 0
 HasReadOf rem old new records bytes =
-    MatchOption (source_of rem new) ⊥ (λ rest. Reached default_config (reader_state old) bytes records (reader_state new) rest)
+    MatchOption (source_of rem new) ⊥
+    (λ rest. Reached default_config (reader_state old) bytes records (reader_state new) rest)
 
 -- a reader has read these records, if its bytes are known
 abbrev pub HasRead : {R : Type 0} → (R → Option (List ℕ)) → Reader R → Reader R → List (List Field) → Type 0
@@ -61,13 +62,16 @@ HasRead rem old new records = IfSome (source_of rem old) (HasReadOf rem old new 
 
 -- a reader has no record left, if its bytes are known, or has one more
 abbrev pub IsOver : {R : Type 0} → (R → Option (List ℕ)) → Reader R → Type 0
-IsOver rem input = IfSome (source_of rem input) (λ rest. next_record default_config (reader_state input) [] [] rest ≡ None)
+IsOver rem input =
+    IfSome (source_of rem input) (λ rest. next_record default_config (reader_state input) [] [] rest ≡ None)
 
 abbrev pub HasMore : {R : Type 0} → (R → Option (List ℕ)) → Reader R → Type 0
-HasMore rem input = IfSome (source_of rem input) (λ rest. IsSome (next_record default_config (reader_state input) [] [] rest))
+HasMore rem input =
+    IfSome (source_of rem input) (λ rest. IsSome (next_record default_config (reader_state input) [] [] rest))
 
 -- records were read and counted, and these are the rows of the good ones
-pub record HasTaken {R : Type 0} (rem : R → Option (List ℕ)) (layout : Layout) (old new : Reader R) (before after : Tally) (rows : List Entries) : Type 0 where
+pub record HasTaken {R : Type 0} (rem : R → Option (List ℕ)) (layout : Layout) (old new : Reader R)
+    (before after : Tally) (rows : List Entries) : Type 0 where
   pub records : List (List Field)
   pub read : HasRead rem old new records
   pub good : good_rows layout.schema layout.header records ≡ rows
@@ -75,23 +79,27 @@ pub record HasTaken {R : Type 0} (rem : R → Option (List ℕ)) (layout : Layou
   pub bad : after.bad ≡ before.bad + bad_count layout.schema layout.header records
 
 -- all records that were left were read and counted, all of them bad
-pub record HasEnded {R : Type 0} (rem : R → Option (List ℕ)) (layout : Layout) (old : Reader R) (before after : Tally) : Type 0 where
+pub record HasEnded {R : Type 0} (rem : R → Option (List ℕ)) (layout : Layout) (old : Reader R) (before after : Tally)
+    : Type 0 where
   pub at : Reader R
   pub taken : HasTaken rem layout old at before after []
   pub over : IsOver rem at
 
--- a fault, none of the header, was met where these records, all of them bad, had been read; a file is too long where these are 1,000,000 with those
--- before, and there is one more
-pub record HasStopped {R : Type 0} (rem : R → Option (List ℕ)) (layout : Layout) (old : Reader R) (before after : Tally) (fault : SourceFault) : Type 0 where
+-- a fault, none of the header, was met where these records, all of them bad, had been read; a file is too long where
+-- these are 1,000,000 with those before, and there is one more
+pub record HasStopped {R : Type 0} (rem : R → Option (List ℕ)) (layout : Layout) (old : Reader R)
+    (before after : Tally) (fault : SourceFault) : Type 0 where
   pub at : Reader R
   pub taken : HasTaken rem layout old at before after []
   pub later : fault ≢ BadHeader
   pub too_long : fault ≡ TooLong → (after.passed ≡ 1000000) × HasMore rem at
 
 -- what a call leaves that gives a row, or finds that none is left
-abbrev pub HasGiven : {R : Type 0} → (R → Option (List ℕ)) → Layout → Reader R → Reader R → Tally → Tally → Option Entries → Type 0
+abbrev pub HasGiven : {R : Type 0} → (R → Option (List ℕ)) → Layout → Reader R → Reader R → Tally → Tally
+    → Option Entries → Type 0
 HasGiven rem layout old new before after found =
-    MatchOption found (HasEnded rem layout old before after) (λ row. HasTaken rem layout old new before after (row ∷ []))
+    MatchOption found (HasEnded rem layout old before after)
+    (λ row. HasTaken rem layout old new before after (row ∷ []))
 
 -- the counts of a source
 pub record IsTally (tally : Tally) : Type 0 where
@@ -102,10 +110,12 @@ pub record IsTally (tally : Tally) : Type 0 where
 
 -- these are all records that a reader has left, of bytes that are known
 abbrev pub AreLeft : {R : Type 0} → (R → Option (List ℕ)) → Reader R → List (List Field) → Type 0
-AreLeft rem input records = MatchOption (source_of rem input) ⊥ (λ rest. AreRecords default_config (reader_state input) rest records)
+AreLeft rem input records =
+    MatchOption (source_of rem input) ⊥ (λ rest. AreRecords default_config (reader_state input) rest records)
 
 -- these are the rows of the good ones among them, and so many are bad
-pub record HasLeft {R : Type 0} (rem : R → Option (List ℕ)) (layout : Layout) (input : Reader R) (rows : List Entries) (bad : ℕ) : Type 0 where
+pub record HasLeft {R : Type 0} (rem : R → Option (List ℕ)) (layout : Layout) (input : Reader R)
+    (rows : List Entries) (bad : ℕ) : Type 0 where
   pub records : List (List Field)
   pub left : AreLeft rem input records
   pub good : good_rows layout.schema layout.header records ≡ rows
@@ -113,14 +123,17 @@ pub record HasLeft {R : Type 0} (rem : R → Option (List ℕ)) (layout : Layout
 
 -- the good rows that a source still has, and how many bad records: none once it has ended
 abbrev pub StillHas : {R : Type 0} → (R → Option (List ℕ)) → Source R → List Entries → ℕ → Type 0
-StillHas rem source rows bad = MatchOption source.end (HasLeft rem source.layout source.input rows bad) (λ end. (rows ≡ []) × (bad ≡ 0))
+StillHas rem source rows bad =
+    MatchOption source.end (HasLeft rem source.layout source.input rows bad) (λ end. (rows ≡ []) × (bad ≡ 0))
 
--- a source gave the first row of those that it still had, and has the others now; or it had none. Bad records were counted.
+-- a source gave the first row of those that it still had, and has the others now; or it had none. Bad records were
+-- counted.
 abbrev pub GivesFirst : {R : Type 0} → (R → Option (List ℕ)) → Source R → Source R → Option Entries → Type 0
 GivesFirst rem old new found =
     (rows : List Entries) → (bad : ℕ) → StillHas rem old rows bad
     → MatchOption found ((rows ≡ []) × (new.tally.bad ≡ old.tally.bad + bad))
-    (λ row. (rest : List Entries) × (left : ℕ) × (rows ≡ row ∷ rest) × StillHas rem new rest left × (new.tally.bad + left ≡ old.tally.bad + bad))
+    (λ row. (rest : List Entries) × (left : ℕ) × (rows ≡ row ∷ rest) × StillHas rem new rest left
+    × (new.tally.bad + left ≡ old.tally.bad + bad))
 
 -- a reader stands after the first record of a text, which is the header
 abbrev pub StandsAfter : {R : Type 0} → (R → Option (List ℕ)) → Layout → Reader R → List ℕ → Type 0
@@ -130,9 +143,11 @@ StandsAfter rem layout input text =
 
 -- the first record of a text is no header of these columns, or there is none
 abbrev pub HasNoHeader : Declared → List ℕ → Type 0
-HasNoHeader schema text = IfSome (next_record default_config st.StartRecord [] [] text) (λ read. is_header schema read.0 ≡ false)
+HasNoHeader schema text =
+    IfSome (next_record default_config st.StartRecord [] [] text) (λ read. is_header schema read.0 ≡ false)
 
--- the records of a whole text are the header and these, and the rows are those of the good ones, and the counts have grown by them
+-- the records of a whole text are the header and these, and the rows are those of the good ones, and the counts have
+-- grown by them
 pub record IsWhole (layout : Layout) (text : List ℕ) (before after : Tally) (rows : List Entries) : Type 0 where
   pub records : List (List Field)
   pub all : AreRecords default_config st.StartRecord text (layout.header ∷ records)

@@ -227,10 +227,7 @@ fn read_layout<R: Read + Drop>(
     if !read_next(input, &mut header)? {
         return Err(SourceFault::BadHeader);
     }
-    match Layout::new(alloc, schema, header)? {
-        None => Err(SourceFault::BadHeader),
-        Some(layout) => Ok(layout),
-    }
+    Layout::new(alloc, schema, header)?.ok_or(SourceFault::BadHeader)
 }
 
 /// Takes records until one is good and makes `row` its row, and returns whether there was one. It asks first for the

@@ -1,6 +1,6 @@
 //! A script: records from a reader, and one line for each record to a writer.
 
-ghost use Rattle.std.specs.Prelude.{◌≡◌, ◌≢◌, ◌++◌, [], Err, OnOk, OnErr, IfErr, IfOk, IfSome};
+ghost use Rattle.std.specs.Prelude.{◌≡◌, ◌≢◌, ◌++◌, [], Err, OnOk, OnErr, IfErr, IfOk};
 ghost use Rattle.std.specs.Io.KnownBytes.{Appends};
 ghost use Rattle.csv.specs.Reading.{reader_state, source_of};
 ghost use Rattle.csv.specs.declared.parser.State.TheVariants as st;
@@ -8,8 +8,8 @@ ghost use Rattle.bsi_records.specs.Setups.{nothing_declared};
 ghost use Rattle.bsi_text.specs.Scripts.{Declaring};
 ghost use Rattle.bsi_text.specs.Sessions.{stage_of};
 ghost use Rattle.bsi_text.specs.Sources.{IsPlain};
-ghost use Rattle.bsi_text.specs.Texts.{FromText, IsAnswered, IsBegun, IsStopped, IsTooLong};
-ghost use Rattle.bsi_text.specs.Waiting.{IsCut, IsPut, OnceWritten, WhileWritten};
+ghost use Rattle.bsi_text.specs.Texts.{FromText, IfKnown, IsAnswered, IsBegun, IsStopped, IsTooLong, OnceServed};
+ghost use Rattle.bsi_text.specs.Waiting.{IsCut, IsPut, WhileWritten};
 
 use crate::reading::{plain_reader, read_next};
 use crate::session::Session;
@@ -85,17 +85,13 @@ pub fn run_script<R: Read + Drop, W: Write>(
     writer: &mut W,
 ) -> Result<(), ScriptFault>
     ensures ok { OnOk result
-        (IfSome (R.remaining reader)
-        (λ bytes. IsAnswered bytes (W.contents writer.old) (W.contents writer.new))) }
+        (IfKnown (R.remaining reader) IsAnswered (W.contents writer.old) (W.contents writer.new)) }
     ensures too_long { result ≡ Err ScriptFault.TooLong →
-        IfSome (R.remaining reader)
-        (λ bytes. IsTooLong bytes (W.contents writer.old) (W.contents writer.new)) }
+        IfKnown (R.remaining reader) IsTooLong (W.contents writer.old) (W.contents writer.new) }
     ensures fault { OnErr result
-        (IfSome (R.remaining reader)
-        (λ bytes. IsBegun bytes (W.contents writer.old) (W.contents writer.new))) }
+        (IfKnown (R.remaining reader) IsBegun (W.contents writer.old) (W.contents writer.new)) }
     ensures whole { IfErr result (λ fault. fault ≢ ScriptFault.Write →
-        IfSome (R.remaining reader)
-        (λ bytes. IsStopped bytes (W.contents writer.old) (W.contents writer.new))) }
+        IfKnown (R.remaining reader) IsStopped (W.contents writer.old) (W.contents writer.new)) }
 {
     let mut input = plain_reader(alloc, Watched::new(reader));
     let mut session = Session::new(alloc);
@@ -131,17 +127,14 @@ fn serve<R: Read + Drop, W: Write>(
     requires start { reader_state input.old ≡ st.StartRecord }
     requires none { waiting.old.items ≡ [] }
     ensures ok { OnOk result
-        (FromText (source_of (λ w. R.remaining w.inner) input.old)
-        (λ bytes. OnceWritten (W.contents writer.new) waiting.new.items
-        (IsAnswered bytes (W.contents writer.old)))) }
+        (OnceServed (source_of (λ w. R.remaining w.inner) input.old) IsAnswered
+        (W.contents writer.old) (W.contents writer.new) waiting.new.items) }
     ensures too_long { result ≡ Err ScriptFault.TooLong →
-        FromText (source_of (λ w. R.remaining w.inner) input.old)
-        (λ bytes. OnceWritten (W.contents writer.new) waiting.new.items
-        (IsTooLong bytes (W.contents writer.old))) }
+        OnceServed (source_of (λ w. R.remaining w.inner) input.old) IsTooLong
+        (W.contents writer.old) (W.contents writer.new) waiting.new.items }
     ensures whole { IfErr result (λ fault. fault ≢ ScriptFault.Write →
-        FromText (source_of (λ w. R.remaining w.inner) input.old)
-        (λ bytes. OnceWritten (W.contents writer.new) waiting.new.items
-        (IsStopped bytes (W.contents writer.old)))) }
+        OnceServed (source_of (λ w. R.remaining w.inner) input.old) IsStopped
+        (W.contents writer.old) (W.contents writer.new) waiting.new.items) }
     ensures part { FromText (source_of (λ w. R.remaining w.inner) input.old)
         (λ bytes. WhileWritten (W.contents writer.new) waiting.new.items
         (IsBegun bytes (W.contents writer.old))) }

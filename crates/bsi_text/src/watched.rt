@@ -10,7 +10,8 @@ use std::io::Read;
 #[derive(Drop)]
 pub(crate) struct Watched<R: Read + Drop> {
     inner: R,
-    // (how many bytes were read, and how many of them stand up to the end of the last line that is surely that of a record)
+    // (how many bytes were read, and how many of them stand up to the end of the last line that is surely that of a
+    // record)
     read: u64,
     whole: u64,
 }
