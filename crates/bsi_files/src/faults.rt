@@ -19,8 +19,8 @@ pub enum Which {
 }
 
 /// Why a run over row files ends early; `run_files` says in which order it looks for the causes. A fault of the
-/// questions, of a reader, of memory or of the writer may come after some lines were written; before the others, nothing
-/// was written.
+/// questions, of a reader, of memory or of the writer may come after some lines were written; before the others,
+/// nothing was written.
 #[derive(Clone, Copy, Debug, PartialEq, Eq, Error)]
 pub enum FilesFault {
     /// There are more than 64 row files.

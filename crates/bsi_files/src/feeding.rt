@@ -52,8 +52,9 @@ pub fn feed<R: Wait, I: Read + Drop, G: Gate>(
     ensures number { IfSome result.closing (λ closing. closing.number ≡ feeder.number) }
     ensures lane { IfSome result.closing (λ closing. closing.lane ≡ feeder.lane) }
 
-    // The closing carries what was sent before, and then the rows that were accepted: the first good ones that the source still
-    // had. Where nothing stopped the feeder and there is no fault, they are all of them, and the bad records are all others.
+    // The closing carries what was sent before, and then the rows that were accepted: the first good ones that the
+    // source still had. Where nothing stopped the feeder and there is no fault, they are all of them, and the bad
+    // records are all others.
     ensures fed { IfSome result.closing
         (λ closing. HasFed I.remaining source feeder.sent closing.rows result.accepted result.bad
         result.stopped result.fault) }

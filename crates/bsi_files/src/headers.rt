@@ -9,8 +9,8 @@ use bsi_text::RowSource;
 use std::alloc::Global;
 use std::io::Read;
 
-/// How many rows of one file may wait for the loader.
-const CAPACITY: u32 = 1_024;
+/// The capacity of each file's ring: how many of its rows may wait for the loader.
+const RING_CAPACITY: u32 = 1_024;
 
 /// Returns the number of the file at a place. There are at most 64 files.
 pub(crate) fn number_of(place: usize) -> u32 {
@@ -43,7 +43,7 @@ pub(crate) fn begin_all<I: Read + Drop>(
 pub(crate) fn capacities(alloc: Global, files: usize) -> Result<Vec<u32>, NoMemory> {
     let mut capacities = Vec::with_capacity(alloc, files)?;
     'files: for _ in 0..files {
-        capacities.push(CAPACITY)?;
+        capacities.push(RING_CAPACITY)?;
     }
     Ok(capacities)
 }

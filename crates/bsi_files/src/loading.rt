@@ -15,7 +15,7 @@ use std::sync::Wait;
 /// How many rows of one feeder are taken before the next feeder's turn.
 const MAX_IN_TURN: u32 = 256;
 
-/// The number of held rows from which on they are published.
+/// The number of held rows at which they are published.
 const MAX_HELD: u64 = 4_096;
 
 /// What a feeder that read a file leaves, except for its closing.
@@ -106,6 +106,7 @@ fn publish_many<B: Naming, R: Wait>(rt: &R, loader: &mut Loader<B>)
     ensures { loader.new.system ≡ loader.old.system }
 {
     if loader.counts().1 >= MAX_HELD {
+        // After a refusal the rows are still held, and a later publish shows them.
         let _ = loader.publish(rt);
     }
 }
@@ -173,6 +174,7 @@ fn settle<B: Naming, R: Wait>(
     ensures early { IfErr result (λ fault. is_early fault ≡ true) }
 {
     let feeder = closing.feeder();
+    // A closing is refused only for another feeder's number, and this number is its own.
     let _ = loader.settle(feeder, closing);
     'rows: for _ in rt.forever() {
         if !load_one(loader, feeder)? {

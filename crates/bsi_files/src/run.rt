@@ -29,10 +29,10 @@ use std::thread::{Scope, Threads};
 /// the gate stops is no fault, and the rows that it sent count.
 ///
 /// It looks for faults in this order: the number of files; the schema file; the header of each row file; a reader of
-/// the table and a thread for each feeder; once the threads have ended the row limit, then the first row file that gives
-/// no more rows, then the first feeder without a closing; and, while it writes answers, the questions, a reader and the
-/// writer. Refused memory is answered where it is met. It keeps two copies of the table, and beside them some thousand
-/// rows.
+/// the table and a thread for each feeder; once the threads have ended the row limit, then the first row file that
+/// gives no more rows, then the first feeder without a closing; and, while it writes answers, the questions, a reader
+/// and the writer. Refused memory is answered where it is met. It keeps two copies of the table, and beside them some
+/// thousand rows.
 pub fn run_files<
     R: Threads + Wait + AllocGlobal + Sync,
     S: Read + Drop,
