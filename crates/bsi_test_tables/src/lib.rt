@@ -1,4 +1,4 @@
-//! Tests of tables and of the step machine, on worked rows and beside plain ones. No crate uses it.
+//! Tests of tables, on worked rows and beside a plain one. No crate uses it.
 #![tactic(auto)]
 
 #[cfg(test)]
@@ -8,14 +8,6 @@ mod blocks;
 #[cfg(test)]
 mod lists;
 #[cfg(test)]
-mod machine;
-#[cfg(test)]
-mod plain;
-#[cfg(test)]
-mod runs;
-#[cfg(test)]
 mod selections;
-#[cfg(test)]
-mod tables;
 #[cfg(test)]
 mod worked;

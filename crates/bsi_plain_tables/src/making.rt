@@ -9,50 +9,64 @@ use std::alloc::Global;
 
 /// The forms of a column.
 #[derive(Clone, Copy, Debug)]
-pub(crate) enum Form {
+pub enum Form {
+    /// Slices.
     Slices,
+    /// Equality encoded components.
     Equality,
+    /// Range encoded components.
     Range,
 }
 
-pub(crate) const FORMS: [Form; 3] = [Form::Slices, Form::Equality, Form::Range];
+/// Each form, once.
+pub const FORMS: [Form; 3] = [Form::Slices, Form::Equality, Form::Range];
 
 /// How wide a column is: in slices, and in bases, most significant first.
 #[derive(Clone, Copy)]
-pub(crate) struct Wide<'a> {
-    pub(crate) width: u32,
-    pub(crate) bases: &'a [u32],
+pub struct Wide<'a> {
+    /// How many slices.
+    pub width: u32,
+    /// The bases.
+    pub bases: &'a [u32],
 }
 
-pub(crate) const SLICES_3: Wide<'static> = Wide {
+/// Numbers below 8.
+pub const SLICES_3: Wide<'static> = Wide {
     width: 3,
     bases: &[8],
 };
 
 /// A column that is declared: its name, its form, and the least number that it takes.
 #[derive(Clone, Copy)]
-pub(crate) struct Declared<'a> {
-    pub(crate) name: &'a str,
-    pub(crate) form: Form,
-    pub(crate) wide: Wide<'a>,
-    pub(crate) offset: i64,
+pub struct Declared<'a> {
+    /// The name.
+    pub name: &'a str,
+    /// The form.
+    pub form: Form,
+    /// How wide it is.
+    pub wide: Wide<'a>,
+    /// The least number.
+    pub offset: i64,
 }
 
-pub(crate) const QTY: Declared<'static> = Declared {
+/// A column of three slices.
+pub const QTY: Declared<'static> = Declared {
     name: "qty",
     form: Form::Slices,
     wide: SLICES_3,
     offset: 0,
 };
 
-pub(crate) fn list(alloc: Global, numbers: &[u32]) -> Result<Vec<u32>, NoMemory> {
+/// Copies a list of numbers.
+pub fn list(alloc: Global, numbers: &[u32]) -> Result<Vec<u32>, NoMemory> {
     match Vec::from_slice(alloc, numbers) {
         Err(_) => Vec::from_slice(alloc, numbers),
         made => made,
     }
 }
 
-pub(crate) fn spec(alloc: Global, form: Form, wide: Wide) -> Result<ColumnSpec, NoMemory> {
+/// Returns how a column of this form and width is declared.
+pub fn spec(alloc: Global, form: Form, wide: Wide) -> Result<ColumnSpec, NoMemory> {
     match form {
         Form::Slices => Ok(ColumnSpec::Slices(wide.width)),
         Form::Equality => Ok(ColumnSpec::Equality(list(alloc, wide.bases)?)),
@@ -60,11 +74,8 @@ pub(crate) fn spec(alloc: Global, form: Form, wide: Wide) -> Result<ColumnSpec, 
     }
 }
 
-pub(crate) fn add_once(
-    alloc: Global,
-    schema: &mut Schema,
-    column: Declared,
-) -> Result<(), SchemaError> {
+/// Adds a column to the schema.
+pub fn add_once(alloc: Global, schema: &mut Schema, column: Declared) -> Result<(), SchemaError> {
     let spec = spec(alloc, column.form, column.wide)?;
     if column.offset == 0 {
         schema.add(column.name, spec)
@@ -73,8 +84,8 @@ pub(crate) fn add_once(
     }
 }
 
-// Adds a column. A refused growth changes nothing, and the same call is made again.
-pub(crate) fn add(alloc: Global, schema: &mut Schema, column: Declared) -> Result<(), SchemaError> {
+/// Adds a column to the schema. A refused growth changes nothing, and the same call is made again.
+pub fn add(alloc: Global, schema: &mut Schema, column: Declared) -> Result<(), SchemaError> {
     let before = schema.columns();
     match add_once(alloc, schema, column) {
         Err(SchemaError::NoMemory) if schema.columns() == before => {
@@ -84,7 +95,8 @@ pub(crate) fn add(alloc: Global, schema: &mut Schema, column: Declared) -> Resul
     }
 }
 
-pub(crate) fn schema_of(alloc: Global, columns: &[Declared]) -> Result<Schema, SchemaError> {
+/// Makes a schema of these columns.
+pub fn schema_of(alloc: Global, columns: &[Declared]) -> Result<Schema, SchemaError> {
     let mut schema = Schema::new(alloc);
     for column in columns {
         add(alloc, &mut schema, *column)?;
@@ -92,7 +104,8 @@ pub(crate) fn schema_of(alloc: Global, columns: &[Declared]) -> Result<Schema, S
     Ok(schema)
 }
 
-pub(crate) fn index_once(
+/// Makes an index of no rows.
+pub fn index_once(
     alloc: Global,
     columns: &[Declared],
     feeders: u32,
@@ -104,8 +117,8 @@ pub(crate) fn index_once(
     }
 }
 
-/// Makes an index of no rows. If memory is refused, it makes the same call again.
-pub(crate) fn index_of(
+/// Makes an index of no rows. Where memory is refused, it makes the same call again.
+pub fn index_of(
     alloc: Global,
     columns: &[Declared],
     feeders: u32,
@@ -117,19 +130,16 @@ pub(crate) fn index_of(
     }
 }
 
-pub(crate) fn row_of(alloc: Global, entries: &[Option<i128>]) -> Result<Row, NoMemory> {
+/// Makes a row of these entries.
+pub fn row_of(alloc: Global, entries: &[Option<i128>]) -> Result<Row, NoMemory> {
     match Vec::from_slice(alloc, entries) {
         Err(_) => Ok(Row::new(Vec::from_slice(alloc, entries)?)),
         Ok(values) => Ok(Row::new(values)),
     }
 }
 
-// Appends a row that fits. A refused growth changes nothing, and the same call is made again.
-pub(crate) fn append_row(
-    index: &mut Index,
-    feeder: u32,
-    row: &Row,
-) -> Option<Result<u64, AppendError>> {
+/// Appends a row that fits. A refused growth changes nothing, and the same call is made again.
+pub fn append_row(index: &mut Index, feeder: u32, row: &Row) -> Option<Result<u64, AppendError>> {
     if !index.schema().fits(row) || feeder >= index.feeders() {
         return None;
     }
@@ -140,32 +150,38 @@ pub(crate) fn append_row(
     }
 }
 
-pub(crate) fn asked(index: &Index, query: &Query) -> Result<Answer, AskError> {
+/// Asks the index. Where memory is refused, it asks again.
+pub fn asked(index: &Index, query: &Query) -> Result<Answer, AskError> {
     match index.ask(query) {
         Err(AskError::NoMemory) => index.ask(query),
         answer => answer,
     }
 }
 
-pub(crate) fn answer(index: &Index, total: Total, pred: Pred) -> Result<Answer, AskError> {
+/// Asks the index for this total of the rows of which the predicate holds.
+pub fn answer(index: &Index, total: Total, pred: Pred) -> Result<Answer, AskError> {
     asked(index, &Query { total, pred })
 }
 
-pub(crate) fn boxed(alloc: Global, pred: Pred) -> Result<Box<Pred>, NoMemory> {
+/// Boxes a predicate.
+pub fn boxed(alloc: Global, pred: Pred) -> Result<Box<Pred>, NoMemory> {
     match Box::new(alloc, pred) {
         Ok(boxed) => Ok(boxed),
         Err(refused) => Ok(Box::new(alloc, refused.value)?),
     }
 }
 
-pub(crate) fn not(alloc: Global, pred: Pred) -> Result<Pred, NoMemory> {
+/// Returns the negation of a predicate.
+pub fn not(alloc: Global, pred: Pred) -> Result<Pred, NoMemory> {
     Ok(Pred::Not(boxed(alloc, pred)?))
 }
 
-pub(crate) fn both(alloc: Global, first: Pred, second: Pred) -> Result<Pred, NoMemory> {
+/// Returns the conjunction of two predicates.
+pub fn both(alloc: Global, first: Pred, second: Pred) -> Result<Pred, NoMemory> {
     Ok(Pred::Both(boxed(alloc, first)?, boxed(alloc, second)?))
 }
 
-pub(crate) fn either(alloc: Global, first: Pred, second: Pred) -> Result<Pred, NoMemory> {
+/// Returns the disjunction of two predicates.
+pub fn either(alloc: Global, first: Pred, second: Pred) -> Result<Pred, NoMemory> {
     Ok(Pred::Either(boxed(alloc, first)?, boxed(alloc, second)?))
 }

@@ -1,10 +1,10 @@
 //! Step machines: what their makers refuse, runs, and calls that are refused memory.
 
-use crate::tables::*;
 use bsi_columns::NoMemory;
 use bsi_load::{
     CloseRefused, Core, Event, LoadRefused, MakeError, Reply, RunRefused, SubmitRefused,
 };
+use bsi_plain_tables::{Declared, QTY, list, row_of, schema_of};
 use bsi_table::{Answer, AskError, IndexError, Pred, Query, Row, Total};
 use std::alloc::Global;
 use std::process::Abort;
