@@ -144,48 +144,50 @@ fn text_of(alloc: Global, fault: FilesFault) -> Result<String, AllocError> {
     }
 }
 
+// The text of each fault.
+const TEXTS: [(FilesFault, &str); 16] = [
+    (FilesFault::TooManyFiles, "bsi: more than 64 files"),
+    (
+        FilesFault::Read(Which::SchemaFile),
+        "bsi: schema: read failed",
+    ),
+    (FilesFault::Read(Which::AsksFile), "bsi: asks: read failed"),
+    (
+        FilesFault::TooLong(Which::SchemaFile),
+        "bsi: schema: input too long",
+    ),
+    (
+        FilesFault::TooLong(Which::AsksFile),
+        "bsi: asks: input too long",
+    ),
+    (FilesFault::BadSchema(2), "bsi: schema: bad record 2"),
+    (FilesFault::NoColumns, "bsi: schema: no columns"),
+    (
+        FilesFault::Source(0, SourceFault::BadHeader),
+        "bsi: file 0: bad header",
+    ),
+    (
+        FilesFault::Source(63, SourceFault::Read),
+        "bsi: file 63: read failed",
+    ),
+    (
+        FilesFault::Source(1, SourceFault::NoMemory),
+        "bsi: file 1: no memory",
+    ),
+    (
+        FilesFault::Source(2, SourceFault::TooLong),
+        "bsi: file 2: input too long",
+    ),
+    (FilesFault::IndexFull, "bsi: index full"),
+    (FilesFault::NotClosed(3), "bsi: file 3: not closed"),
+    (FilesFault::Readers, "bsi: no reader"),
+    (FilesFault::NoMemory, "bsi: no memory"),
+    (FilesFault::Write, "bsi: write failed"),
+];
+
 #[test]
 fn texts_of_faults(rt: HostRuntime) -> Result<(), Fail> {
-    let cases = [
-        (FilesFault::TooManyFiles, "bsi: more than 64 files"),
-        (
-            FilesFault::Read(Which::SchemaFile),
-            "bsi: schema: read failed",
-        ),
-        (FilesFault::Read(Which::AsksFile), "bsi: asks: read failed"),
-        (
-            FilesFault::TooLong(Which::SchemaFile),
-            "bsi: schema: input too long",
-        ),
-        (
-            FilesFault::TooLong(Which::AsksFile),
-            "bsi: asks: input too long",
-        ),
-        (FilesFault::BadSchema(2), "bsi: schema: bad record 2"),
-        (FilesFault::NoColumns, "bsi: schema: no columns"),
-        (
-            FilesFault::Source(0, SourceFault::BadHeader),
-            "bsi: file 0: bad header",
-        ),
-        (
-            FilesFault::Source(63, SourceFault::Read),
-            "bsi: file 63: read failed",
-        ),
-        (
-            FilesFault::Source(1, SourceFault::NoMemory),
-            "bsi: file 1: no memory",
-        ),
-        (
-            FilesFault::Source(2, SourceFault::TooLong),
-            "bsi: file 2: input too long",
-        ),
-        (FilesFault::IndexFull, "bsi: index full"),
-        (FilesFault::NotClosed(3), "bsi: file 3: not closed"),
-        (FilesFault::Readers, "bsi: no reader"),
-        (FilesFault::NoMemory, "bsi: no memory"),
-        (FilesFault::Write, "bsi: write failed"),
-    ];
-    for (fault, want) in cases {
+    for (fault, want) in TEXTS {
         assert_eq!(&rt; text_of(rt.alloc(), fault)?.as_str(), want);
     }
     Ok(())

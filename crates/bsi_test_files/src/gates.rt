@@ -8,8 +8,8 @@ use std::thread;
 /// The most turns that a held feeder waits.
 const MAX_TURNS: u64 = 10_000_000;
 
-// Holds feeder 0 before its first row until feeder 1 is before its second, and feeder 1 before its first until feeder 0 is
-// before its first. On one thread, in whatever order, a feeder is late.
+// Holds feeder 0 before its first row until feeder 1 is before its second, and feeder 1 before its first until feeder 0
+// is before its first. On one thread, in whatever order, a feeder is late.
 #[derive(Drop)]
 pub(crate) struct Meeting {
     first: AtomicBool,
