@@ -1,5 +1,5 @@
 -- Several bits of a word appended to packed words.
-use Rattle.std.proofs.Common.{◌≡◌, ◌≢◌, ℕ, ◌+◌, ◌-◌, ◌*◌, ◌/◌, ◌%◌, ◌^◌, ◌<◌, ◌≤◌, Bool, true, false, List, [], ◌∷◌, ◌++◌, length, get_or, set, inl, inr, ap, ap₂, sym, ◌∙◌, refl, arith, length-append, length-set}
+use Rattle.std.proofs.Common.{◌≡◌, ◌≢◌, ℕ, ◌+◌, ◌-◌, ◌*◌, ◌/◌, ◌%◌, ◌^◌, ◌<◌, ◌≤◌, false, List, [], ◌∷◌, ◌++◌, length, get_or, set, inl, inr, ap, ap₂, sym, ◌∙◌, refl, arith, length-append, length-set}
 use Rattle.std.specs.Prelude.{◌==◌, bit_or, max}
 use Rattle.std.specs.Int.{bit_at}
 use Rattle.std.proofs.lemmas.Nat.{shr_split, pow_pos, mod_below}

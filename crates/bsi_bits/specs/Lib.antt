@@ -1,3 +1,4 @@
 pub mod BitList
 pub mod BitLists
+pub mod Marked
 pub mod Packed

@@ -1,6 +1,6 @@
 //! Vectors of one length that grow together.
 
-ghost use Rattle.std.specs.Prelude.{◌≡◌, ℕ, ◌+◌, ◌^◌, ◌≤◌, ◌<◌, Bool, [], ◌∷◌, ◌++◌, length, slice_index, IfOk, IsOk, OnErr, OnOk};
+ghost use Rattle.std.specs.Prelude.{◌≡◌, ℕ, ◌+◌, ◌^◌, ◌≤◌, ◌<◌, Bool, [], ◌∷◌, ◌++◌, ◌-◌, length, min, slice_index, IfOk, IsOk, OnErr, OnOk};
 ghost use Rattle.bsi_bits.specs.BitLists.{bits_at, room_at, AreSame, Says};
 ghost use Rattle.bsi_bits.specs.Packed.{bits_of};
 
@@ -82,7 +82,7 @@ impl Bitmaps {
         self.room
     }
 
-    /// Lends the allocator.
+    /// Lends the allocator, of which no contract speaks.
     pub fn allocator(&self) -> &Global {
         self.vectors.allocator()
     }
@@ -94,6 +94,9 @@ impl Bitmaps {
         requires { length (bits_at self.old.vectors 0) + more ≤ 2 ^ 32 }
         ensures same { AreSame self.old.vectors self.new.vectors }
         ensures ok { OnOk result (more ≤ self.new.room) }
+        ensures doubles { OnOk result (self.old.room < more →
+            min (length (bits_at self.old.vectors 0)) (2 ^ 32 - length (bits_at self.old.vectors 0))
+            ≤ self.new.room) }
         ensures kept { self.old.room ≤ self.new.room }
         ensures err { OnErr result (self.new.room ≡ self.old.room) }
         ensures refused { OnErr result (self.new.room < more) }
@@ -150,6 +153,7 @@ impl Bitmaps {
 pub fn room_to_make(len: u64, more: u64) -> u64
     requires { len + more ≤ 2 ^ 32 }
     ensures enough { more ≤ result }
+    ensures doubles { min len (2 ^ 32 - len) ≤ result }
     ensures within { len + result ≤ 2 ^ 32 }
 {
     more.max(len).max(MIN_ROOM).min(MAX_LEN - len)

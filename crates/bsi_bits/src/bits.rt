@@ -1,7 +1,6 @@
 //! The packed vector of bits.
 
-ghost use Rattle.std.specs.Prelude.{◌≡◌, ◌↔◌, ℕ, ◌+◌, ◌*◌, ◌/◌, ◌%◌, ◌^◌, ◌≤◌, ◌<◌, ◌&&◌, ◌||◌, not, Some, [], ◌∷◌, ◌++◌, length, map, count_by, nat_lt, slice_get, slice_index_or, false, replicate, IsTrue, IsOk, IfOk, OnOk, OnErr};
-ghost use Rattle.std.specs.Simd.Lanes.{zip2};
+ghost use Rattle.std.specs.Prelude.{◌≡◌, ◌↔◌, ℕ, ◌+◌, ◌*◌, ◌/◌, ◌%◌, ◌^◌, ◌≤◌, ◌<◌, ◌&&◌, ◌||◌, Some, [], ◌∷◌, ◌++◌, length, nat_lt, slice_get, slice_index_or, false, replicate, IsTrue, IsOk, IfOk, OnOk, OnErr};
 ghost use Rattle.bsi_bits.specs.BitList.{set_places};
 ghost use Rattle.bsi_bits.specs.Packed.{bit_of, bits_of, IsPacked};
 
@@ -69,7 +68,7 @@ impl Bits {
         Bits { words, len: n }
     }
 
-    /// Gives up the vector and returns its words, as `words` shows them.
+    /// Consumes the vector and returns its words, as `words` shows them.
     pub fn into_words(self) -> Vec<u64>
         ensures few { length result.items ≡ (length self.bits + 63) / 64 }
         ensures places { (i : ℕ) → bit_of result.items i ≡ slice_index_or self.bits i false }

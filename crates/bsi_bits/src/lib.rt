@@ -7,7 +7,9 @@ pub mod lanes;
 mod ones;
 mod packing;
 
-pub use bitmaps::{Bitmaps, room_to_make};
+pub use bitmaps::Bitmaps;
+#[doc(hidden)]
+pub use bitmaps::room_to_make;
 pub use bits::Bits;
 pub use ones::Ones;
 #[doc(hidden)]

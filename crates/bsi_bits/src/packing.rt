@@ -1,4 +1,4 @@
-//! Writes of single bits in words that are kept packed.
+//! Writes of bits and words at the end of packed words.
 
 ghost use Rattle.std.specs.Prelude.{◌≡◌, ℕ, ◌+◌, ◌*◌, ◌/◌, ◌%◌, ◌^◌, ◌≤◌, ◌<◌, [], ◌∷◌, ◌++◌, length, slice_index, vec_len, vec_capacity};
 ghost use Rattle.bsi_bits.specs.Packed.{bits_of, IsPacked};

@@ -11,11 +11,12 @@ use Rattle.std.proofs.lemmas.Simd.{zip2_of_maps}
 use Rattle.bsi_digits.specs.Digits.{size_of, weight, digit_of, IsBaseList}
 use Rattle.bsi_digits.proofs.CallerLemmas.{low_le, low_eq, low_all}
 use Rattle.bsi_bits.proofs.Pairs.{zip2-map_right}
-use Rattle.bsi_columns.specs.declared.decomposed.decision.DigitRelation.{DigitRelation}
-use Rattle.bsi_columns.specs.declared.decomposed.decision.DigitRelation.TheVariants.{Equal, AtMost}
+use Rattle.bsi_slices.specs.declared.decision.Relation.{Relation}
+use Rattle.bsi_slices.specs.declared.decision.Relation.TheVariants.{Equal, AtMost}
 use Rattle.bsi_components.specs.Component.{at_most_from}
 use Rattle.bsi_columns.specs.Rows.{number_or_zero}
-use Rattle.bsi_columns.specs.DigitTests.{holds, holds_from, as_wanted, answers}
+use Rattle.bsi_slices.specs.Decisions.{as_wanted, relates}
+use Rattle.bsi_columns.specs.DigitTests.{relates_from, answers}
 
 -- a row that is not not a null
 pub nulls_are : (es : List (Option ℕ)) → map not (map is_some es) ≡ map is_none es
@@ -57,17 +58,17 @@ one_call low v d none = grind (arith, nat_tests)
 
 module _ (found : List Bool) (ds : List ℕ) (d : ℕ) where
   -- a digit more of `=`
-  pub narrowed_equal : zip2 ◌&&◌ found (map (λ v. v == d) ds) ≡ zip2 (λ low v. holds_from Equal low v d) found ds
+  pub narrowed_equal : zip2 ◌&&◌ found (map (λ v. v == d) ds) ≡ zip2 (λ low v. relates_from Equal low v d) found ds
   narrowed_equal = zip2-map_right ◌&&◌ (λ (v : ℕ). v == d) found ds
 
   -- a digit more of `<=`, by one call or by two
-  pub narrowed_by_one : d ≤ 0 → zip2 ◌&&◌ found (map (λ v. nat_le v d) ds) ≡ zip2 (λ low v. holds_from AtMost low v d) found ds
+  pub narrowed_by_one : d ≤ 0 → zip2 ◌&&◌ found (map (λ v. nat_le v d) ds) ≡ zip2 (λ low v. relates_from AtMost low v d) found ds
   narrowed_by_one none =
       zip2-map_right ◌&&◌ (λ (v : ℕ). nat_le v d) found ds
       ∙ zip2_alike (λ (low : Bool) (v : ℕ). low && nat_le v d) (λ low v. at_most_from low v d) (λ low v. one_call low v d none) found ds
 
   pub narrowed_by_two : 0 < d → zip2 ◌||◌ (zip2 ◌&&◌ found (map (λ v. nat_le v d) ds)) (map (λ v. nat_le v (d - 1)) ds)
-      ≡ zip2 (λ low v. holds_from AtMost low v d) found ds
+      ≡ zip2 (λ low v. relates_from AtMost low v d) found ds
   narrowed_by_two some =
       let low_or = λ (b : Bool) (v : ℕ). b || nat_le v (d - 1) in
       let low_and = λ (low : Bool) (v : ℕ). low && nat_le v d in
@@ -80,9 +81,9 @@ module _ (found : List Bool) (ds : List ℕ) (d : ℕ) where
 both_turned : (a b : Bool) → (a && b) ≡ (b && a)
 both_turned a b = grind (arith, nat_tests)
 
-pub holds_more : {bs : List ℕ} → IsBaseList bs → (relation : DigitRelation) (u v i : ℕ) → i < length bs →
-    holds relation (u % weight bs (i + 1)) (v % weight bs (i + 1))
-    ≡ holds_from relation (holds relation (u % weight bs i) (v % weight bs i)) (digit_of bs u i) (digit_of bs v i)
+pub holds_more : {bs : List ℕ} → IsBaseList bs → (relation : Relation) (u v i : ℕ) → i < length bs →
+    relates relation (u % weight bs (i + 1)) (v % weight bs (i + 1))
+    ≡ relates_from relation (relates relation (u % weight bs i) (v % weight bs i)) (digit_of bs u i) (digit_of bs v i)
 holds_more {bs} valid Equal u v i h =
     low_eq valid u v i h ∙ both_turned (digit_of bs u i == digit_of bs v i) (u % weight bs i == v % weight bs i)
 holds_more {bs} valid AtMost u v i h = low_le valid u v i h
@@ -154,46 +155,46 @@ pub IfOk-same_bits : {X E : Type 0} (r : Result X E) (bits : X → List Bool) (x
 IfOk-same_bits r bits xs ys same ok = IfOk-weaker r (λ b. bits b ≡ xs) (λ b. bits b ≡ ys) (λ b h. h ∙ same) ok
 
 -- the parts of two numbers below the first component are nothing, so their lowest digits decide
-pub nothing_below : (relation : DigitRelation) → holds relation 0 0 ≡ true
+pub nothing_below : (relation : Relation) → relates relation 0 0 ≡ true
 nothing_below Equal = refl
 nothing_below AtMost = refl
 
 lt_or_eq : (d e : ℕ) → at_most_from true d e ≡ nat_le d e
 lt_or_eq d e = grind (arith, nat_tests)
 
-first_from : (relation : DigitRelation) (d e : ℕ) → holds_from relation true d e ≡ holds relation d e
+first_from : (relation : Relation) (d e : ℕ) → relates_from relation true d e ≡ relates relation d e
 first_from Equal d e = refl
 first_from AtMost d e = lt_or_eq d e
 
-pub holds_first : {bs : List ℕ} → IsBaseList bs → (relation : DigitRelation) (u v : ℕ) →
-    holds relation (digit_of bs u 0) (digit_of bs v 0) ≡ holds relation (u % weight bs 1) (v % weight bs 1)
+pub holds_first : {bs : List ℕ} → IsBaseList bs → (relation : Relation) (u v : ℕ) →
+    relates relation (digit_of bs u 0) (digit_of bs v 0) ≡ relates relation (u % weight bs 1) (v % weight bs 1)
 holds_first {bs} valid relation u v =
     let none : (n : ℕ) → n % 1 ≡ 0 = λ n. omega arith in
     sym (holds_more valid relation u v 0 valid.some
-    ∙ ap (λ low. holds_from relation low (digit_of bs u 0) (digit_of bs v 0)) (ap₂ (holds relation) (none u) (none v) ∙ nothing_below relation)
+    ∙ ap (λ low. relates_from relation low (digit_of bs u 0) (digit_of bs v 0)) (ap₂ (relates relation) (none u) (none v) ∙ nothing_below relation)
     ∙ first_from relation (digit_of bs u 0) (digit_of bs v 0))
 
-module _ {bs : List ℕ} (valid : IsBaseList bs) (relation : DigitRelation) (n : ℕ) (es : List (Option ℕ)) where
+module _ {bs : List ℕ} (valid : IsBaseList bs) (relation : Relation) (n : ℕ) (es : List (Option ℕ)) where
   -- what the digits below component i say of each row
   abbrev pub low_answers : ℕ → List Bool
-  low_answers i = map (λ e. holds relation (number_or_zero e % weight bs i) (n % weight bs i)) es
+  low_answers i = map (λ e. relates relation (number_or_zero e % weight bs i) (n % weight bs i)) es
 
   pub low_answers_first : (d : ℕ) (found : List Bool) (ds : List ℕ) → d ≡ digit_of bs n 0 → ds ≡ map (λ e. digit_of bs (number_or_zero e) 0) es
-      → found ≡ map (λ v. holds relation v d) ds → found ≡ low_answers 1
+      → found ≡ map (λ v. relates relation v d) ds → found ≡ low_answers 1
   low_answers_first d found ds d_is ds_is found_is =
-      found_is ∙ ap₂ (λ (c : ℕ) (xs : List ℕ). map (λ v. holds relation v c) xs) d_is ds_is
-      ∙ map_map (λ (v : ℕ). holds relation v (digit_of bs n 0)) (λ (e : Option ℕ). digit_of bs (number_or_zero e) 0) es
+      found_is ∙ ap₂ (λ (c : ℕ) (xs : List ℕ). map (λ v. relates relation v c) xs) d_is ds_is
+      ∙ map_map (λ (v : ℕ). relates relation v (digit_of bs n 0)) (λ (e : Option ℕ). digit_of bs (number_or_zero e) 0) es
       ∙ map_alike _ _ (λ e. Unit {0}) (λ e u. holds_first valid relation (number_or_zero e) n) es (λ k d h. tt)
 
   pub low_answers_more : (i d : ℕ) (found after : List Bool) (ds : List ℕ) → i < length bs → d ≡ digit_of bs n i → ds ≡ map (λ e. digit_of bs (number_or_zero e) i) es
-      → found ≡ low_answers i → after ≡ zip2 (λ low v. holds_from relation low v d) found ds → after ≡ low_answers (i + 1)
+      → found ≡ low_answers i → after ≡ zip2 (λ low v. relates_from relation low v d) found ds → after ≡ low_answers (i + 1)
   low_answers_more i d found after ds within d_is ds_is found_is after_is =
-      after_is ∙ ap (λ (c : ℕ). zip2 (λ low v. holds_from relation low v c) found ds) d_is
-      ∙ zip2_of_maps (λ low v. holds_from relation low v (digit_of bs n i)) (λ (e : Option ℕ). holds relation (number_or_zero e % weight bs i) (n % weight bs i))
+      after_is ∙ ap (λ (c : ℕ). zip2 (λ low v. relates_from relation low v c) found ds) d_is
+      ∙ zip2_of_maps (λ low v. relates_from relation low v (digit_of bs n i)) (λ (e : Option ℕ). relates relation (number_or_zero e % weight bs i) (n % weight bs i))
       (λ (e : Option ℕ). digit_of bs (number_or_zero e) i) es found_is ds_is
       ∙ map_alike _ _ (λ e. Unit {0}) (λ e u. sym (holds_more valid relation (number_or_zero e) n i within)) es (λ k d h. tt)
 
-  pub low_answers_all : n < size_of bs → All (λ e. number_or_zero e < size_of bs) es → low_answers (length bs) ≡ map (λ e. holds relation (number_or_zero e) n) es
+  pub low_answers_all : n < size_of bs → All (λ e. number_or_zero e < size_of bs) es → low_answers (length bs) ≡ map (λ e. relates relation (number_or_zero e) n) es
   low_answers_all small below =
       map_alike _ _ (λ e. number_or_zero e < size_of bs)
-      (λ e h. ap₂ (holds relation) (low_all bs (number_or_zero e) h) (low_all bs n small)) es below
+      (λ e h. ap₂ (relates relation) (low_all bs (number_or_zero e) h) (low_all bs n small)) es below

@@ -11,32 +11,33 @@ use Rattle.bsi_bits.specs.Packed.{bit_of}
 use Rattle.bsi_bits.proofs.Logic.{and_not_bitwise}
 use Rattle.bsi_digits.specs.Digits.{size_of, weight, digit_of, IsBaseList}
 use Rattle.bsi_digits.proofs.CallerLemmas.{low_all}
-use Rattle.bsi_columns.specs.declared.decomposed.decision.DigitRelation.{DigitRelation}
+use Rattle.bsi_slices.specs.declared.decision.Relation.{Relation}
 use Rattle.bsi_columns.specs.Rows.{number_or_zero}
-use Rattle.bsi_columns.specs.DigitTests.{holds, holds_from, as_wanted, answers}
+use Rattle.bsi_slices.specs.Decisions.{as_wanted, relates}
+use Rattle.bsi_columns.specs.DigitTests.{relates_from, answers}
 use Rattle.bsi_columns.proofs.WordBlocks.{zipped_bit}
 use Rattle.bsi_columns.proofs.Answering.{holds_more, nothing_below, cut_answer}
 
 -- each bit says whether the digits below component i pass the test; below the first there are none, whatever the bits are
-pub record IsNarrowed (bs : List ℕ) (relation : DigitRelation) (n : ℕ) (es : List (Option ℕ)) (at i : ℕ) (block : List ℕ) : Type 0 where
+pub record IsNarrowed (bs : List ℕ) (relation : Relation) (n : ℕ) (es : List (Option ℕ)) (at i : ℕ) (block : List ℕ) : Type 0 where
   pub bits : (p : ℕ) → p < 64 * length block → 64 * at + p < length es
-      → (nat_eq i 0 || bit_of block p) ≡ holds relation (number_or_zero (get_or es (64 * at + p) None) % weight bs i) (n % weight bs i)
+      → (nat_eq i 0 || bit_of block p) ≡ relates relation (number_or_zero (get_or es (64 * at + p) None) % weight bs i) (n % weight bs i)
 
 behind_first : (i : ℕ) (b : Bool) → 0 < i → (nat_eq i 0 || b) ≡ b
 behind_first i b some = grind (arith, nat_tests)
 
-module _ {bs : List ℕ} (valid : IsBaseList bs) (relation : DigitRelation) (n : ℕ) (es : List (Option ℕ)) (at : ℕ) where
+module _ {bs : List ℕ} (valid : IsBaseList bs) (relation : Relation) (n : ℕ) (es : List (Option ℕ)) (at : ℕ) where
   pub narrowed_start : (block : List ℕ) → IsNarrowed bs relation n es at 0 block
   narrowed_start block =
       let none : (x : ℕ) → 0 ≡ x % 1 = λ x. omega arith in
       record {
         bits = λ p below row.
-            sym (nothing_below relation) ∙ ap₂ (holds relation) (none (number_or_zero (get_or es (64 * at + p) None))) (none n);
+            sym (nothing_below relation) ∙ ap₂ (relates relation) (none (number_or_zero (get_or es (64 * at + p) None))) (none n);
       }
 
   pub narrowed_more : (i d : ℕ) (block after ds : List ℕ) → i < length bs → d ≡ digit_of bs n i → ds ≡ map (λ e. digit_of bs (number_or_zero e) i) es
       → length after ≡ length block → IsNarrowed bs relation n es at i block
-      → ((p : ℕ) → p < 64 * length block → 64 * at + p < length ds → bit_of after p ≡ holds_from relation (nat_eq i 0 || bit_of block p) (get_or ds (64 * at + p) 0) d)
+      → ((p : ℕ) → p < 64 * length block → 64 * at + p < length ds → bit_of after p ≡ relates_from relation (nat_eq i 0 || bit_of block p) (get_or ds (64 * at + p) 0) d)
       → IsNarrowed bs relation n es at (i + 1) after
   narrowed_more i d block after ds within d_is ds_is same before step = record {
     bits = λ p below row.
@@ -47,15 +48,15 @@ module _ {bs : List ℕ} (valid : IsBaseList bs) (relation : DigitRelation) (n :
         ap (λ xs. get_or xs (64 * at + p) 0) ds_is ∙ get_or-map (λ (e : Option ℕ). digit_of bs (number_or_zero e) i) es (64 * at + p) None 0 row in
         behind_first (i + 1) (bit_of after p) (omega arith)
         ∙ step p in_block (omega (arith, rows))
-        ∙ ap (λ low. holds_from relation low (get_or ds (64 * at + p) 0) d) (before.bits p in_block row)
-        ∙ ap₂ (holds_from relation (holds relation (number % weight bs i) (n % weight bs i))) digit d_is
+        ∙ ap (λ low. relates_from relation low (get_or ds (64 * at + p) 0) d) (before.bits p in_block row)
+        ∙ ap₂ (relates_from relation (relates relation (number % weight bs i) (n % weight bs i))) digit d_is
         ∙ sym (holds_more valid relation number n i within);
   }
 
   pub narrowed_all : (block : List ℕ) → n < size_of bs → All (λ e. number_or_zero e < size_of bs) es → IsNarrowed bs relation n es at (length bs) block
-      → (p : ℕ) → p < 64 * length block → 64 * at + p < length es → bit_of block p ≡ holds relation (number_or_zero (get_or es (64 * at + p) None)) n
+      → (p : ℕ) → p < 64 * length block → 64 * at + p < length es → bit_of block p ≡ relates relation (number_or_zero (get_or es (64 * at + p) None)) n
   narrowed_all block small all narrowed p below row =
-      sym (behind_first (length bs) (bit_of block p) valid.some) ∙ narrowed.bits p below row ∙ ap₂ (holds relation) (low_all bs (number_or_zero (get_or es (64 * at + p) None)) (all (64 * at + p) None row)) (low_all bs n small)
+      sym (behind_first (length bs) (bit_of block p) valid.some) ∙ narrowed.bits p below row ∙ ap₂ (relates relation) (low_all bs (number_or_zero (get_or es (64 * at + p) None)) (all (64 * at + p) None row)) (low_all bs n small)
 
 -- the words that begin a list, and those appended to it
 module _ (P : ℕ → Bool) (n at : ℕ) (words block : List ℕ) (long : length words ≡ at) where

@@ -9,7 +9,8 @@ use Rattle.std.proofs.lemmas.List.{get_or-map, get_or_past, length-map}
 use Rattle.bsi_slices.specs.declared.slices.ends.End.{End}
 use Rattle.bsi_slices.specs.declared.slices.ends.End.TheVariants.{Least, Greatest}
 use Rattle.bsi_columns.specs.Rows.{number_or_zero}
-use Rattle.bsi_columns.specs.Ends.{comes_first, leads, number_at, HasMarked}
+use Rattle.bsi_bits.specs.Marked.{HasMarked}
+use Rattle.bsi_columns.specs.Ends.{comes_first, leads, number_at}
 use Rattle.bsi_columns.specs.BlockEnds.{IsPast, IsNarrowedTo, AnswersEnd}
 use Rattle.bsi_components.specs.EndDigits.{HasDigit}
 use Rattle.bsi_components.specs.declared.answers.EndDigit.TheVariants.{Digit}

@@ -7,7 +7,7 @@ use Rattle.std.proofs.lemmas.List.FromFn.{fill_by_all}
 use Rattle.bsi_digits.specs.Digits.{size_of, digit_of, digits_of, components, weighted_sum}
 use Rattle.bsi_digits.proofs.CallerLemmas.{weighted_sum-digits_of}
 use Rattle.bsi_columns.specs.Rows.{number_or_zero}
-use Rattle.bsi_columns.specs.Decomposed.{digits_at, entry_at, entries_of, Decomposes, IsRoomy}
+use Rattle.bsi_columns.specs.Decomposed.{digits_at, weighed_entry, entries_of, Decomposes, IsRoomy}
 
 -- an entry, from whether it is a number and from the number
 entry_of_number : (e : Option ℕ) → cond (is_some e) (Some (number_or_zero e)) None ≡ e
@@ -34,7 +34,7 @@ module _ (bs : List ℕ) (present : List Bool) (ds : List (List ℕ)) (entries :
   -- so the entries are those
   pub entries_from : entries_of bs present ds ≡ entries
   unfolding entries_of
-  entries_from = sym (fill_by_all (entry_at bs present ds) entries (length present) None (sym rows_of) (λ r below.
+  entries_from = sym (fill_by_all (weighed_entry bs present ds) entries (length present) None (sym rows_of) (λ r below.
       let within : r < length entries = omega (arith, rows_of) in
       let e : Option ℕ = get_or entries r None in
       let is_there : get_or present r false ≡ is_some e = ap (λ bits. get_or bits r false) kept.present_is ∙ get_or-map is_some entries r None false within in
@@ -92,6 +92,6 @@ pub roomy_less : (rows room present used rows' present' : ℕ) (rooms rooms' : L
     → length rooms' ≡ length rooms → ((k : ℕ) → get_or rooms k 0 ≤ get_or rooms' k 0 + used) → IsRoomy rows' (room - used) present' rooms'
 roomy_less rows room present used rows' present' rooms rooms' roomy enough more marks long spent = record {
   within = omega (arith, roomy.within);
-  marks = omega (arith, roomy.marks);
+  bitmap = omega (arith, roomy.bitmap);
   each = λ k within. omega (arith, roomy.each k (omega (arith, long, within)), spent k);
 }

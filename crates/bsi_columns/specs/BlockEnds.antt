@@ -1,6 +1,7 @@
 -- The digit at an end of those of a block's rows.
 use Rattle.std.specs.Prelude.{◌≡◌, ℕ, ◌<◌, ◌&&◌, Bool, true, nat_eq}
-use Rattle.bsi_slices.specs.Ends.{comes_first, HasMarked}
+use Rattle.bsi_bits.specs.Marked.{HasMarked}
+use Rattle.bsi_slices.specs.Ends.{comes_first}
 use Rattle.bsi_slices.specs.declared.slices.ends.End.{End}
 use Rattle.bsi_slices.specs.declared.slices.ends.End.TheVariants.{Least, Greatest}
 use Rattle.bsi_components.specs.EndDigits.{AnswersLeast, AnswersGreatest}

@@ -16,13 +16,13 @@ abbrev pub digits_at : List (List ℕ) → ℕ → List ℕ
 digits_at ds r = map (λ d. slice_index d r) ds
 
 -- the entry of row r: a null, or the number that its digits weigh
-abbrev pub entry_at : List ℕ → List Bool → List (List ℕ) → ℕ → Option ℕ
-entry_at bs present ds r =
+abbrev pub weighed_entry : List ℕ → List Bool → List (List ℕ) → ℕ → Option ℕ
+weighed_entry bs present ds r =
     if slice_index_or present r false then Some (weighted_sum bs (digits_at ds r) (components bs)) else None
 
 -- the entries that a not-null bitmap and the components' digits stand for
 unfoldable pub entries_of : List ℕ → List Bool → List (List ℕ) → List (Option ℕ)
-entries_of bs present ds = map (entry_at bs present ds) (range_with_len 0 (length present))
+entries_of bs present ds = map (weighed_entry bs present ds) (range_with_len 0 (length present))
 
 -- the not-null bitmap and the digits of each component are those of the entries, whose numbers are below the size; a
 -- null's digits are 0
@@ -35,5 +35,5 @@ pub record Decomposes (bs : List ℕ) (present : List Bool) (ds : List (List ℕ
 -- behind so many rows the not-null bitmap and each component have room for so many more
 pub record IsRoomy (rows room present : ℕ) (rooms : List ℕ) : Type 0 where
   pub within : rows + room ≤ 2 ^ 32
-  pub marks : room ≤ present
+  pub bitmap : room ≤ present
   pub each : (i : ℕ) → i < length rooms → room ≤ slice_index rooms i

@@ -1,7 +1,7 @@
 //! A column of whichever form, chosen when the program runs.
 
-ghost use Rattle.std.specs.Prelude.{◌≡◌, ℕ, ◌+◌, ◌*◌, ◌/◌, ◌<◌, ◌≤◌, ◌&&◌, None, is_none, length, slice_index_or, OnOk, OnErr};
-ghost use Rattle.bsi_bits.specs.Packed.{bit_of};
+ghost use Rattle.std.specs.Prelude.{◌≡◌, ◌+◌, ◌*◌, ◌/◌, ◌<◌, ◌≤◌, ◌&&◌, is_none, length, OnOk, OnErr};
+ghost use Rattle.bsi_slices.specs.Blocks.{KeepsRows};
 ghost use Rattle.bsi_columns.specs.AnyRows.{any_entries, any_form, any_room, bases_in_form, size_in_form, AnyForm};
 ghost use Rattle.bsi_columns.specs.Rows.{selects};
 
@@ -33,10 +33,8 @@ impl AnyColumn {
         requires few { length block.old ≤ 1024 }
         requires within { at + length block.old ≤ (length (any_entries self.now) + 63) / 64 }
         ensures kept { OnErr result (block.new ≡ block.old) }
-        ensures rows { OnOk result ((p : ℕ) → p < 64 * length block.old →
-            64 * at + p < length (any_entries self.now) → bit_of block.new p
-            ≡ (bit_of block.old p && selects op constant
-            (slice_index_or (any_entries self.now) (64 * at + p) None))) }
+        ensures rows { OnOk result
+            (KeepsRows (selects op constant) (any_entries self.now) at block.old block.new) }
     {
         match self {
             AnyColumn::Slices(column) => {
@@ -51,10 +49,7 @@ impl AnyColumn {
     /// Keeps in a block of words the rows that are null. The first word stands for the 64 rows from row `64 * at` on.
     pub fn keep_nulls(&self, at: usize, block: &mut [u64])
         requires within { at + length block.old ≤ (length (any_entries self.now) + 63) / 64 }
-        ensures { (p : ℕ) → p < 64 * length block.old →
-            64 * at + p < length (any_entries self.now) → bit_of block.new p
-            ≡ (bit_of block.old p && is_none
-            (slice_index_or (any_entries self.now) (64 * at + p) None)) }
+        ensures { KeepsRows is_none (any_entries self.now) at block.old block.new }
     {
         drop_in(self.present(), at, block);
     }

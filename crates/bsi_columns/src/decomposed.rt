@@ -1,8 +1,8 @@
 //! A column of numbers that keeps the digits of each number under a list of bases, a component a digit.
 
-ghost use Rattle.std.specs.Prelude.{◌≡◌, ℕ, ◌+◌, ◌*◌, ◌^◌, ◌≤◌, ◌<◌, Bool, List, Option, [], ◌∷◌, ◌++◌, All, length, map, is_some, is_none, replicate, slice_index, slice_index_or, IsTrue, IsFalse, IfOk, OnOk, OnErr};
-ghost use Rattle.bsi_digits.specs.Digits.{digit_of, size_of, IsBaseList};
-ghost use Rattle.bsi_columns.specs.Rows.{number_or_zero, selects};
+ghost use Rattle.std.specs.Prelude.{◌≡◌, ℕ, ◌+◌, ◌*◌, ◌^◌, ◌≤◌, ◌<◌, List, [], ◌∷◌, ◌++◌, All, length, map, is_some, replicate, slice_index, IfOk};
+ghost use Rattle.bsi_digits.specs.Digits.{digit_of, size_of};
+ghost use Rattle.bsi_columns.specs.Rows.{number_or_zero};
 
 use crate::growth::{push_blocks, push_digits, reserve_each};
 use crate::{Column, Encoding, NoMemory, Op, Rank};
@@ -14,7 +14,6 @@ use std::alloc::Global;
 use std::marker::Model;
 
 mod compare;
-mod decision;
 mod ends;
 mod narrowing;
 mod totals;

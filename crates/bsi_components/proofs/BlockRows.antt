@@ -1,44 +1,17 @@
 -- Rows of a block that a bitmap has, or does not have.
-use Rattle.std.proofs.Common.{◌≡◌, ℕ, zero, suc, ◌+◌, ◌*◌, ◌/◌, ◌%◌, ◌^◌, ◌<◌, ◌≤◌, Bool, true, false, not, List, [], ◌∷◌, length, get_or, inl, inr, ap, ap₂, sym, ◌∙◌, refl, arith, ◌==◌}
+use Rattle.std.proofs.Common.{◌≡◌, ℕ, zero, ◌+◌, ◌*◌, ◌^◌, ◌<◌, ◌≤◌, Bool, true, false, not, List, length, get_or, inl, inr, ap, ap₂, sym, ◌∙◌, refl, arith, ◌==◌}
 use Rattle.std.specs.Prelude.{bit_or}
-use Rattle.std.specs.Int.{bit_at, trailing_zeros, w64}
+use Rattle.std.specs.Int.{bit_at}
 use Rattle.std.specs.Simd.Lanes.{zip2, chunk}
-use Rattle.std.proofs.lemmas.Bool.{cases_eq, cases_lt}
+use Rattle.std.proofs.lemmas.Bool.{cases_lt}
 use Rattle.std.proofs.lemmas.Bool.Decides.{nat_tests}
 use Rattle.std.proofs.lemmas.List.{get_or_past}
 use Rattle.std.proofs.lemmas.Nat.{le_or_l, le_or_r}
-use Rattle.std.proofs.lemmas.Nat.Bits.{bit_at-zero, bit_at-trailing_zeros}
 use Rattle.std.proofs.lemmas.Simd.{get_or-zip2, length-zip2, length-chunk}
+use Rattle.bsi_bits.specs.Marked.{HasMarked}
 use Rattle.bsi_bits.specs.Packed.{bit_of}
-use Rattle.bsi_components.specs.EndDigits.{HasRow}
+use Rattle.bsi_bits.proofs.Marked.{none_marked, some_marked}
 use Rattle.bsi_components.proofs.BlockBits.{stepped_place}
-
--- words that are all 0 have no row, and others one
-none_marked : (words : List ℕ) → ((k : ℕ) → get_or words k 0 ≡ 0) → (p : ℕ) → bit_of words p ≡ false
-none_marked words none p = ap (λ w. bit_at w (p % 64) == 1) (none (p / 64)) ∙ ap (λ b. b == 1) (bit_at-zero (p % 64))
-
-some_marked : (words : List ℕ) → ((k : ℕ) → get_or words k 0 < 2 ^ 64) → (((k : ℕ) → get_or words k 0 ≡ 0) → ⊥) → HasRow (bit_of words) (64 * length words)
-some_marked [] fits some = absurd (some (λ k. refl))
-some_marked (x ∷ words) fits some = elim (cases_eq x 0) [
-  | inl zero_is ↦
-      let later = some_marked words (λ k. fits (suc k)) (λ none. some (λ k. elim k as (λ k. get_or (x ∷ words) k 0 ≡ 0) [ zero ↦ zero_is | suc j ↦ none j ])) in (
-        later.0 + 64,
-        omega (arith, later.1),
-        (let word : (later.0 + 64) / 64 ≡ suc (later.0 / 64) = omega arith in
-            let place : (later.0 + 64) % 64 ≡ later.0 % 64 = omega arith in
-            ap₂ (λ q r. bit_at (get_or (x ∷ words) q 0) r == 1) word place ∙ later.2),
-      )
-  | inr apart ↦
-      let lowest = bit_at-trailing_zeros w64 x (omega arith) (fits 0) in
-      let p : ℕ = trailing_zeros w64 x in
-      let below : p < 64 = lowest.0 in (
-        p,
-        omega (arith, below),
-        (let word : p / 64 ≡ 0 = omega (arith, below) in
-            let place : p % 64 ≡ p = omega (arith, below) in
-            ap₂ (λ q r. bit_at (get_or (x ∷ words) q 0) r == 1) word place ∙ ap (λ b. b == 1) lowest.1),
-      )
-]
 
 -- what was seen of the words that a step makes of a block and others, up to word i
 pub record IsSeen (word_of : ℕ → ℕ → ℕ) (block part : List ℕ) (i seen : ℕ) : Type 0 where
@@ -92,7 +65,7 @@ module _ (IsFit : ℕ → Type 0) (word_of : ℕ → ℕ → ℕ) (bit : Bool �
         | inr above ↦ past k above
       ]) p
 
-  pub some_seen : not (seen == 0) ≡ true → HasRow (λ p. bit (bit_of block p) (bit_of words (64 * at + p))) (64 * length block)
+  pub some_seen : not (seen == 0) ≡ true → HasMarked (λ p. bit (bit_of block p) (bit_of words (64 * at + p))) (64 * length block)
   some_seen test =
       let row = some_marked made
       (λ k. elim (cases_lt k (length block)) [

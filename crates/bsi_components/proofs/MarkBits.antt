@@ -9,7 +9,7 @@ use Rattle.std.proofs.lemmas.Bool.{cases_eq, cases_lt}
 use Rattle.std.proofs.lemmas.Bool.Decides.{nat_tests}
 use Rattle.bsi_bits.proofs.Reading.{bits_are, get_or-bits_of}
 use Rattle.bsi_bits.proofs.Splicing.{below_power, one_word}
-use Rattle.bsi_components.specs.Marks.{joined, AreDigitMarks}
+use Rattle.bsi_components.specs.Marks.{union_upto, AreDigitMarks}
 
 -- bit p of word j says of each of the first n digits whether it holds there; the bits behind them are off
 pub record Marked (holds : ℕ → ℕ → Bool) (n : ℕ) (block words : List ℕ) : Type 0 where
@@ -102,15 +102,15 @@ next_digit_joined true d j = grind (arith, nat_tests)
 next_digit_joined false d j = refl
 
 -- the words up to word j, joined, have the digits up to j
-pub joined_marks : (n : ℕ) (block words : List ℕ) → Marked (λ j v. v == j) n block words → (j p : ℕ) → j < length words → (bit_at (joined words j) p == 1) ≡ (nat_lt p n && nat_le (get_or block p 0) j)
+pub joined_marks : (n : ℕ) (block words : List ℕ) → Marked (λ j v. v == j) n block words → (j p : ℕ) → j < length words → (bit_at (union_upto words j) p == 1) ≡ (nat_lt p n && nat_le (get_or block p 0) j)
 joined_marks n block words marked zero p within = marked.each 0 p within ∙ first_digit_joined (nat_lt p n) (get_or block p 0)
 joined_marks n block words marked (suc j) p within =
-    ap (λ b. b == 1) (bit_at_or (get_or words (suc j) 0) (joined words j) p)
-    ∙ or_one (bit_at (get_or words (suc j) 0) p) (bit_at (joined words j) p) (bit_at-lt (get_or words (suc j) 0) p) (bit_at-lt (joined words j) p)
+    ap (λ b. b == 1) (bit_at_or (get_or words (suc j) 0) (union_upto words j) p)
+    ∙ or_one (bit_at (get_or words (suc j) 0) p) (bit_at (union_upto words j) p) (bit_at-lt (get_or words (suc j) 0) p) (bit_at-lt (union_upto words j) p)
     ∙ ap₂ ◌||◌ (marked.each (suc j) p within) (joined_marks n block words marked j p (omega arith))
     ∙ next_digit_joined (nat_lt p n) (get_or block p 0) j
 
-pub marked_joined : (n : ℕ) (block words new : List ℕ) → Marked (λ j v. v == j) n block words → length new ≡ length words → ((j : ℕ) → j < length words → get_or new j 0 ≡ joined words j) → Marked (λ j v. nat_le v j) n block new
+pub marked_joined : (n : ℕ) (block words new : List ℕ) → Marked (λ j v. v == j) n block words → length new ≡ length words → ((j : ℕ) → j < length words → get_or new j 0 ≡ union_upto words j) → Marked (λ j v. nat_le v j) n block new
 marked_joined n block words new marked long each = record {
   each = λ j p within.
       let in_words : j < length words = omega arith in
@@ -134,7 +134,7 @@ marks_marked holds block words few marks = record {
 }
 
 -- the words joined are marks of the digits up to each
-pub marks_joined : (block words new : List ℕ) → length block ≤ 64 → AreDigitMarks (λ j v. v == j) block words → length new ≡ length words → ((j : ℕ) → j < length words → get_or new j 0 ≡ joined words j) → AreDigitMarks (λ j v. nat_le v j) block new
+pub marks_joined : (block words new : List ℕ) → length block ≤ 64 → AreDigitMarks (λ j v. v == j) block words → length new ≡ length words → ((j : ℕ) → j < length words → get_or new j 0 ≡ union_upto words j) → AreDigitMarks (λ j v. nat_le v j) block new
 marks_joined block words new few marks long each =
     marks_of (λ j v. nat_le v j) (length block) block new refl few
     (marked_joined (length block) block words new (marks_marked (λ j v. v == j) block words few marks) long each)

@@ -4,12 +4,6 @@ use Rattle.std.specs.List.{range_with_len}
 use Rattle.bsi_bits.specs.BitList.{BitList}
 use Rattle.bsi_bits.specs.BitLists.{bits_at}
 
--- what a contract sees of a component: its base, its digits, and how many more can be appended with no memory
-pub record Component : Type 0 where
-  pub base : ℕ
-  pub digits : List ℕ
-  pub room : ℕ
-
 -- the bits of bitmap j
 abbrev pub bitmap : List BitList → ℕ → List Bool
 bitmap = bits_at

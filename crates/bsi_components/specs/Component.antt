@@ -1,6 +1,12 @@
--- The digits of a component, and how they decide a comparison.
+-- A component: its digits, and how they decide a comparison.
 use Rattle.std.specs.Prelude.{ℕ, Bool, List, ◌&&◌, ◌||◌, count_by, nat_lt, nat_eq}
 use Rattle.std.specs.Simd.Lanes.{zip2}
+
+-- what a contract sees of a component: its base, its digits, and how many more can be appended with no memory
+pub record Component : Type 0 where
+  pub base : ℕ
+  pub digits : List ℕ
+  pub room : ℕ
 
 -- a number is at most a constant, by its digit and the constant's, where `low` says so of the digits below
 abbrev pub at_most_from : Bool → ℕ → ℕ → Bool

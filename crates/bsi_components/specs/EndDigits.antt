@@ -3,10 +3,6 @@ use Rattle.std.specs.Prelude.{◌≡◌, ℕ, ◌<◌, ◌≤◌, Bool, true}
 use Rattle.bsi_components.specs.declared.answers.EndDigit.{EndDigit}
 use Rattle.bsi_components.specs.declared.answers.EndDigit.TheVariants.{Unanswered, Past, Digit}
 
--- one of n rows is marked
-abbrev pub HasRow : (ℕ → Bool) → ℕ → Type 0
-HasRow marked n = (p : ℕ) × (p < n) × (marked p ≡ true)
-
 -- one of n rows is marked, and has this digit
 abbrev pub HasDigit : (ℕ → Bool) → (ℕ → ℕ) → ℕ → ℕ → Type 0
 HasDigit marked digit n d = (p : ℕ) × (p < n) × (marked p ≡ true) × (digit p ≡ d)

@@ -8,6 +8,6 @@ pub record AreDigitMarks (holds : ℕ → ℕ → Bool) (block words : List ℕ)
   pub clear : (j : ℕ) → slice_index words j < 2 ^ length block
 
 -- the bits of the words up to word j
-abbrev pub joined : List ℕ → ℕ → ℕ
-joined words zero = slice_index words zero
-joined words (suc j) = bit_or (slice_index words (suc j)) (joined words j)
+abbrev pub union_upto : List ℕ → ℕ → ℕ
+union_upto words zero = slice_index words zero
+union_upto words (suc j) = bit_or (slice_index words (suc j)) (union_upto words j)

@@ -1,10 +1,9 @@
 //! Boolean steps on a block of words, by the words of a bitmap that stand for the same rows.
 
-ghost use Rattle.std.specs.Prelude.{◌≡◌, ℕ, ◌+◌, ◌*◌, ◌/◌, ◌<◌, ◌≤◌, ◌&&◌, ◌||◌, not, true, false, bit_and, length, slice_index_or};
-ghost use Rattle.std.specs.Prelude.{slice_index, IsTrue, IsFalse};
-ghost use Rattle.std.specs.Int.{bit_not, w64};
+ghost use Rattle.std.specs.Prelude.{◌≡◌, ℕ, ◌+◌, ◌*◌, ◌/◌, ◌<◌, ◌≤◌, ◌&&◌, ◌||◌, not, true, false, length, slice_index_or};
+ghost use Rattle.std.specs.Prelude.{IsTrue, IsFalse};
 ghost use Rattle.bsi_bits.specs.Packed.{bit_of};
-ghost use Rattle.bsi_components.specs.EndDigits.{HasRow};
+ghost use Rattle.bsi_bits.specs.Marked.{HasMarked};
 
 use bsi_bits::{Bits, know_fits, lanes};
 
@@ -116,7 +115,7 @@ pub fn add_missing(bitmap: &Bits, at: usize, block: &mut [u64])
 pub fn meets(bitmap: &Bits, at: usize, block: &[u64]) -> bool
     requires { at + length block.now ≤ (length bitmap.now.bits + 63) / 64 }
     ensures some { IsTrue result →
-        HasRow (λ p. bit_of block.now p
+        HasMarked (λ p. bit_of block.now p
         && slice_index_or bitmap.now.bits (64 * at + p) false) (64 * length block.now) }
     ensures none { IsFalse result → (p : ℕ) → p < 64 * length block.now →
         (bit_of block.now p && slice_index_or bitmap.now.bits (64 * at + p) false) ≡ false }
@@ -135,7 +134,7 @@ pub fn meets(bitmap: &Bits, at: usize, block: &[u64]) -> bool
 pub fn exceeds(bitmap: &Bits, at: usize, block: &[u64]) -> bool
     requires { at + length block.now ≤ (length bitmap.now.bits + 63) / 64 }
     ensures some { IsTrue result →
-        HasRow (λ p. bit_of block.now p
+        HasMarked (λ p. bit_of block.now p
         && not (slice_index_or bitmap.now.bits (64 * at + p) false)) (64 * length block.now) }
     ensures none { IsFalse result → (p : ℕ) → p < 64 * length block.now →
         (bit_of block.now p && not (slice_index_or bitmap.now.bits (64 * at + p) false)) ≡ false }

@@ -6,7 +6,8 @@ ghost use Rattle.std.specs.Bool.{OnTrue, OnFalse};
 ghost use Rattle.std.specs.Simd.Lanes.{zip2};
 ghost use Rattle.bsi_bits.specs.Packed.{bit_of};
 ghost use Rattle.bsi_components.specs.Component.{at_most_from, count_where};
-ghost use Rattle.bsi_components.specs.EndDigits.{HasRow, AnswersLeast, AnswersGreatest};
+ghost use Rattle.bsi_bits.specs.Marked.{HasMarked};
+ghost use Rattle.bsi_components.specs.EndDigits.{AnswersLeast, AnswersGreatest};
 
 use crate::NoMemory;
 use crate::answers::{EndDigit, RankedDigit};
@@ -178,7 +179,7 @@ pub trait Encoding: Drop {
         rows.and_with(scratch);
     }
 
-    /// Returns a second component of the same digits.
+    /// Makes a second component of the same digits.
     fn copy(&self) -> Result<Self, NoMemory>
         ensures { IfOk result (λ c. (digits c ≡ digits self.now)
             × (base_of c ≡ base_of self.now)) };
@@ -248,7 +249,7 @@ pub trait Encoding: Drop {
         requires within { at + length block.now ≤ (length (digits self.now) + 63) / 64 }
         requires rows { (p : ℕ) → p < 64 * length block.now → bit_of block.now p ≡ true →
             64 * at + p < length (digits self.now) }
-        requires some { HasRow (bit_of block.now) (64 * length block.now) }
+        requires some { HasMarked (bit_of block.now) (64 * length block.now) }
         ensures answer { AnswersLeast limit (bit_of block.now)
             (λ p. slice_index (digits self.now) (64 * at + p)) (64 * length block.now) result }
     {
@@ -262,7 +263,7 @@ pub trait Encoding: Drop {
         requires within { at + length block.now ≤ (length (digits self.now) + 63) / 64 }
         requires rows { (p : ℕ) → p < 64 * length block.now → bit_of block.now p ≡ true →
             64 * at + p < length (digits self.now) }
-        requires some { HasRow (bit_of block.now) (64 * length block.now) }
+        requires some { HasMarked (bit_of block.now) (64 * length block.now) }
         ensures answer { AnswersGreatest limit (bit_of block.now)
             (λ p. slice_index (digits self.now) (64 * at + p)) (64 * length block.now) result }
     {

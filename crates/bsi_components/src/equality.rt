@@ -3,7 +3,7 @@
 ghost use Rattle.std.specs.Prelude.{◌≡◌, ◌≢◌, ℕ, ◌+◌, ◌*◌, ◌/◌, ◌<◌, ◌≤◌, ◌==◌, ◌&&◌, ◌||◌, not, ◌++◌, length, map, true, slice_index, IsTrue, IsFalse};
 ghost use Rattle.bsi_bits.specs.Packed.{bit_of};
 ghost use Rattle.bsi_components.specs.Bitmaps.{bitmap};
-ghost use Rattle.bsi_components.specs.EndDigits.{HasRow};
+ghost use Rattle.bsi_bits.specs.Marked.{HasMarked};
 ghost use Rattle.bsi_components.specs.Equality.{first_digit, is_among};
 
 use crate::blocks::{add_in, drop_in, exceeds, meets};
@@ -25,7 +25,7 @@ pub struct EqualityComponent {
 
 // Clauses see the base, the digits and for how many more there is room.
 impl Model for EqualityComponent {
-    ghost use Rattle.bsi_components.specs.Bitmaps.{Component};
+    ghost use Rattle.bsi_components.specs.Component.{Component};
     ghost use Rattle.bsi_components.specs.Equality.{equality_digits, IsEquality};
 
     ghost Value = { Component };
@@ -117,7 +117,7 @@ impl EqualityComponent {
         requires rows { (p : ℕ) → p < 64 * length block.now → bit_of block.now p ≡ true →
             64 * at + p < length self.now.digits }
         ensures some { IsTrue result →
-            HasRow (λ p. bit_of block.now p
+            HasMarked (λ p. bit_of block.now p
             && (slice_index self.now.digits (64 * at + p) == d)) (64 * length block.now) }
         ensures none { IsFalse result → (p : ℕ) → p < 64 * length block.now →
             bit_of block.now p ≡ true → slice_index self.now.digits (64 * at + p) ≢ d }

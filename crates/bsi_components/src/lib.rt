@@ -2,6 +2,7 @@
 #![tactic(auto)]
 
 mod answers;
+#[doc(hidden)]
 pub mod blocks;
 mod encoding;
 mod equality;

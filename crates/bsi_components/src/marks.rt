@@ -1,7 +1,7 @@
 //! A block of digits as words: bit `k` of word `j` tells something of digit `k`.
 
 ghost use Rattle.std.specs.Prelude.{◌≡◌, ℕ, ◌<◌, ◌≤◌, ◌==◌, length, slice_index};
-ghost use Rattle.bsi_components.specs.Marks.{joined, AreDigitMarks};
+ghost use Rattle.bsi_components.specs.Marks.{union_upto, AreDigitMarks};
 
 /// The greatest base of a component, and so the most words that a block of digits takes. `bsi_digits` allows no greater
 /// base in a list.
@@ -26,7 +26,8 @@ pub fn mark(block: &[u32], words: &mut [u64])
 /// Sets in each word the bits of the words before it.
 pub fn join(words: &mut [u64])
     ensures long { length words.new ≡ length words.old }
-    ensures joined { (j : ℕ) → j < length words.old → slice_index words.new j ≡ joined words.old j }
+    ensures joined { (j : ℕ) → j < length words.old →
+        slice_index words.new j ≡ union_upto words.old j }
 {
     'words: for j in 1..words.len() {
         words[j] |= words[j - 1];

@@ -5,7 +5,7 @@ ghost use Rattle.std.specs.List.{items_where_true};
 ghost use Rattle.bsi_bits.specs.BitList.{in_words};
 ghost use Rattle.bsi_bits.specs.Packed.{bit_of};
 ghost use Rattle.bsi_components.specs.Bitmaps.{bitmap};
-ghost use Rattle.bsi_components.specs.EndDigits.{HasRow};
+ghost use Rattle.bsi_bits.specs.Marked.{HasMarked};
 
 use crate::blocks::{exceeds, meets};
 use crate::marks::{MAX_COMPONENT_BASE, MAX_SMALL_BASE, join, mark};
@@ -14,8 +14,8 @@ use std::marker::Model;
 
 mod encoding;
 
-/// A component of a base from 2 to 1,024 that stores a bitmap of "the digit is at most j" for each j but the greatest
-/// digit, of which it would be all ones.
+/// A component of a base from 2 to 1,024. For each digit j but the greatest it stores the bitmap of the rows whose digit
+/// is at most j. That of the greatest digit would be all ones.
 #[derive(Drop)]
 pub struct RangeComponent {
     base: u32,
@@ -24,7 +24,7 @@ pub struct RangeComponent {
 
 // Clauses see the base, the digits and for how many more there is room.
 impl Model for RangeComponent {
-    ghost use Rattle.bsi_components.specs.Bitmaps.{Component};
+    ghost use Rattle.bsi_components.specs.Component.{Component};
     ghost use Rattle.bsi_components.specs.Range.{range_digits, IsRange};
 
     ghost Value = { Component };
@@ -90,7 +90,7 @@ impl RangeComponent {
         requires rows { (p : ℕ) → p < 64 * length block.now → bit_of block.now p ≡ true →
             64 * at + p < length self.now.digits }
         ensures some { IsTrue result →
-            HasRow (λ p. bit_of block.now p
+            HasMarked (λ p. bit_of block.now p
             && nat_le (slice_index self.now.digits (64 * at + p)) d) (64 * length block.now) }
         ensures none { IsFalse result → (p : ℕ) → p < 64 * length block.now →
             bit_of block.now p ≡ true → d < slice_index self.now.digits (64 * at + p) }
@@ -105,7 +105,7 @@ impl RangeComponent {
         requires rows { (p : ℕ) → p < 64 * length block.now → bit_of block.now p ≡ true →
             64 * at + p < length self.now.digits }
         ensures some { IsTrue result →
-            HasRow (λ p. bit_of block.now p
+            HasMarked (λ p. bit_of block.now p
             && nat_lt d (slice_index self.now.digits (64 * at + p))) (64 * length block.now) }
         ensures none { IsFalse result → (p : ℕ) → p < 64 * length block.now →
             bit_of block.now p ≡ true → slice_index self.now.digits (64 * at + p) ≤ d }

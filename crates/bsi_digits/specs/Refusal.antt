@@ -1,13 +1,13 @@
 -- Which refusal a list of bases meets first.
 use Rattle.std.specs.Prelude.{◌≡◌, ℕ, ◌^◌, Bool, ◌||◌, List, length, Option, Some, None, position, sum, nat_eq, nat_lt, if◌then◌else◌}
 use Rattle.bsi_digits.specs.declared.bases_error.BasesError.{BasesError}
-use Rattle.bsi_digits.specs.declared.bases_error.BasesError.TheVariants.{Empty, TooMany, BaseOutOfRange, TooWide, ProductTooLarge, NoMemory}
+use Rattle.bsi_digits.specs.declared.bases_error.BasesError.TheVariants.{Empty, TooMany, BaseOutOfRange, TooWide, ProductTooLarge}
 use Rattle.bsi_digits.specs.Digits.{product}
 
 abbrev pub is_bad_base : ℕ → Bool
 is_bad_base b = nat_lt b 2 || nat_lt 1024 b
 
--- of bases of which the first that is out of range stands at this place
+-- the first refusal of bases of which the first that is out of range stands at this place
 abbrev pub refusal_by_place : Option ℕ → List ℕ → Option BasesError
 refusal_by_place (Some place) bs = Some (BaseOutOfRange place)
 refusal_by_place None bs =
@@ -22,7 +22,7 @@ refusal bs =
     else if nat_lt 63 (length bs) then Some TooMany
     else refusal_by_place (position is_bad_base bs) bs
 
--- the refusal that applies or, where none does, want of memory
-abbrev pub IsRefusalOrNoMemory : Option BasesError → BasesError → Type 0
-IsRefusalOrNoMemory (Some first) e = e ≡ first
-IsRefusalOrNoMemory None e = e ≡ NoMemory
+-- the refusal that applies or, if none does, that memory was refused
+abbrev pub IsFirstOr : {E : Type 0} → E → Option E → E → Type 0
+IsFirstOr no_memory (Some first) e = e ≡ first
+IsFirstOr no_memory None e = e ≡ no_memory

@@ -3,7 +3,7 @@
 ghost use Rattle.std.specs.Prelude.{◌≡◌, ℕ, ◌^◌, ◌<◌, ◌≤◌, ◌↔◌, length, slice_index, position, sum, reverse, replicate, EachIndex, IsNone, IfNone, IfOk, IfErr, IfSome, IsErrOf};
 ghost use Rattle.std.specs.Result.{result_err};
 ghost use Rattle.bsi_digits.specs.Digits.{product, size_of, weight, digit_of, IsBase, IsBaseList};
-ghost use Rattle.bsi_digits.specs.Refusal.{refusal, is_bad_base, IsRefusalOrNoMemory};
+ghost use Rattle.bsi_digits.specs.Refusal.{refusal, is_bad_base, IsFirstOr};
 ghost use Rattle.bsi_digits.specs.Weights.{HoldsWeights};
 
 use crate::divisor::Divisor;
@@ -21,7 +21,7 @@ const MIN_BASE: u32 = 2;
 const MAX_BASE: u32 = 1024;
 
 /// The greatest sum of a list's bases.
-const MAX_WIDTH: u64 = 4096;
+const MAX_SUM: u64 = 4096;
 
 /// The greatest product of a list's bases.
 const MAX_SIZE: u64 = 1 << 63;
@@ -61,7 +61,7 @@ impl Bases {
         if let Some(place) = bad_place(&bases) {
             return Err(BasesError::BaseOutOfRange(place as u32));
         }
-        if width(&bases) > MAX_WIDTH {
+        if sum_of(&bases) > MAX_SUM {
             return Err(BasesError::TooWide);
         }
         bases.reverse();
@@ -76,7 +76,7 @@ impl Bases {
     pub fn twos(alloc: Global, w: u32) -> Result<Bases, BasesError>
         ensures empty { IsErrOf result BasesError.Empty ↔ (w ≡ 0) }
         ensures too_many { IsErrOf result BasesError.TooMany ↔ (63 < w) }
-        ensures refused { IfErr result (λ e. IsRefusalOrNoMemory (refusal (replicate w 2)) e) }
+        ensures refused { IfErr result (IsFirstOr BasesError.NoMemory (refusal (replicate w 2))) }
         ensures ok { IfOk result (λ b. b ≡ replicate w 2) }
     {
         if w == 0 {
@@ -170,7 +170,7 @@ fn bad_place(bases: &[u32]) -> Option<usize>
 }
 
 /// Returns the sum of the bases.
-fn width(bases: &[u32]) -> u64
+fn sum_of(bases: &[u32]) -> u64
     requires { length bases.now ≤ 63 }
     ensures { result ≡ sum bases.now }
 {

@@ -5,7 +5,7 @@ ghost use Rattle.bsi_bits.specs.BitList.{set_places};
 ghost use Rattle.bsi_origins.specs.Numbering.{numbered_at};
 ghost use Rattle.bsi_origins.specs.Origins.{AreCounts};
 
-use crate::origins::{Counts, STRETCH};
+use crate::origins::{Counts, STRETCH_ROWS};
 use crate::{MAX_FEEDERS, NoMemory, Origins};
 use bsi_bits::Bits;
 use std::alloc::Global;
@@ -81,9 +81,9 @@ fn count_forward(origins: &Origins, counts: &mut Counts, from: u64, to: u64)
 {
     if origins.feeders() == 1 {
         counts[0] = to;
-    } else if from / STRETCH < to / STRETCH {
-        origins.read_mark(to / STRETCH, counts);
-        count_rows(origins, counts, to / STRETCH * STRETCH, to);
+    } else if from / STRETCH_ROWS < to / STRETCH_ROWS {
+        origins.read_mark(to / STRETCH_ROWS, counts);
+        count_rows(origins, counts, to / STRETCH_ROWS * STRETCH_ROWS, to);
     } else {
         count_rows(origins, counts, from, to);
     }

@@ -11,7 +11,7 @@ use std::marker::Model;
 pub const MAX_FEEDERS: u32 = 64;
 
 /// The number of rows from one mark to the next.
-pub(crate) const STRETCH: u64 = 512;
+pub(crate) const STRETCH_ROWS: u64 = 512;
 
 /// A count for each feeder.
 pub(crate) type Counts = [u64; MAX_FEEDERS as usize];
@@ -100,7 +100,7 @@ impl Origins {
             return Ok(());
         }
         let rows = self.row_feeders.len() as u64 + more;
-        let marks = mark_len(self.feeders) * rows.div_ceil(STRETCH) as usize;
+        let marks = mark_len(self.feeders) * rows.div_ceil(STRETCH_ROWS) as usize;
         self.row_feeders.reserve(more as usize)?;
         self.marks.reserve(marks - self.marks.len())?;
         self.room = more;
@@ -115,7 +115,7 @@ impl Origins {
         ensures feeders { self.new.feeders ≡ self.old.feeders }
         ensures room { self.new.room + 1 ≡ self.old.room }
     {
-        if self.row_feeders.len() as u64 % STRETCH == 0 {
+        if self.row_feeders.len() as u64 % STRETCH_ROWS == 0 {
             push_mark(&mut self.marks, &self.counts[..mark_len(self.feeders)]);
         }
         self.row_feeders.push_reserved(feeder);

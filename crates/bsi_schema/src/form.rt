@@ -1,6 +1,6 @@
 //! The form in which a column stores its numbers.
 
-ghost use Rattle.std.specs.Prelude.{◌≡◌, ◌≤◌, ◌^◌, IfErr, IfOk};
+ghost use Rattle.std.specs.Prelude.{◌≡◌, ◌≤◌, ◌^◌, IfOk};
 ghost use Rattle.std.specs.Result.{result_err};
 
 use crate::{NoMemory, SchemaError};
@@ -40,7 +40,6 @@ pub(crate) struct Kind {
 }
 
 impl Form {
-    ghost use Rattle.bsi_digits.specs.declared.bases_error.BasesError.TheVariants.{NoMemory as bases_no_memory};
     ghost use Rattle.bsi_schema.specs.Columns.{form_of, size_in, IsForm};
     ghost use Rattle.bsi_schema.specs.Refusals.{form_refusal};
 

@@ -56,7 +56,7 @@ impl Row {
         &self.values
     }
 
-    /// Gives up the row and returns its list of entries, so that it can be filled again.
+    /// Consumes the row and returns its list of entries, so that it can be filled again.
     pub fn into_values(self) -> Vec<Option<i128>>
         ensures { result.items ≡ self }
     {

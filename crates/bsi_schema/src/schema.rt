@@ -2,7 +2,7 @@
 
 ghost use Rattle.std.specs.Prelude.{◌≡◌, ◌<◌, ◌≤◌, ◌^◌, ◌++◌, ◌∷◌, [], Some, None, true, false, length, is_some, pos, ◌+ℤ◌, ◌≤ℤ◌, IfOk, IfErr, OnOk, OnErr, IsTrue, Ok};
 ghost use Rattle.std.specs.Result.{result_err};
-ghost use Rattle.bsi_schema.specs.Columns.{column_at, fits, form_of, is_taken_by, named_column, no_columns, position_of, size_in, with_column, AreNamed, IsColumn, IsForm};
+ghost use Rattle.bsi_schema.specs.Columns.{column_at, fits, form_of, is_taken_by, named_column, no_columns, position_of, size_in, with_column, AreNamed, IsForm};
 ghost use Rattle.bsi_schema.specs.Names.{is_name};
 ghost use Rattle.bsi_schema.specs.Refusals.{column_refusal, name_refusal, signed_refusal, IsFirstOr};
 
@@ -120,8 +120,8 @@ impl Schema {
         ensures below { (result +ℤ pos (size_in (column_at self.now.columns c).form)) ≤ℤ pos
             (2 ^ 63) }
     {
-        let (_, declared) = self.columns.get_index(c as usize).unwrap();
-        declared.offset
+        let (_, kind) = self.columns.get_index(c as usize).unwrap();
+        kind.offset
     }
 
     /// Returns whether a row has one entry for each column, each a null or a number that its column takes.
@@ -149,10 +149,7 @@ impl Schema {
             return true;
         };
         let least = i128::from(self.offset(c));
-        if number < least {
-            return false;
-        }
-        number < least + i128::from(self.size(c))
+        least <= number && number < least + i128::from(self.size(c))
     }
 
     /// Adds a column of numbers from 0 up, behind the others. If it is refused, the column is dropped and the schema

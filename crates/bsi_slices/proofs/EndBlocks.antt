@@ -1,52 +1,23 @@
 -- The number at an end of some rows, by its digits from the most significant down.
-use Rattle.std.proofs.Common.{◌≡◌, ℕ, zero, suc, ◌+◌, ◌-◌, ◌*◌, ◌/◌, ◌%◌, ◌^◌, ◌<◌, ◌≤◌, Bool, true, false, ◌&&◌, not, List, [], ◌∷◌, Option, None, length, get_or, map, inl, inr, ap, ap₂, subst, sym, ◌∙◌, refl, arith}
+use Rattle.std.proofs.Common.{◌≡◌, ℕ, ◌+◌, ◌-◌, ◌*◌, ◌/◌, ◌%◌, ◌^◌, ◌<◌, ◌≤◌, Bool, true, false, ◌&&◌, not, List, Option, None, length, get_or, map, inl, inr, ap, ap₂, subst, sym, ◌∙◌, refl, arith}
 use Rattle.std.specs.Prelude.{nat_eq, ◌==◌, if◌then◌else◌, bit_and, All}
 use Rattle.std.specs.Int.{bit_at, bit_not, w64}
-use Rattle.std.specs.Int.{trailing_zeros}
 use Rattle.std.proofs.Math.Nat.{div-div-eq-div-mul, div-mul-le_self, div-eq_of_lt}
 use Rattle.std.proofs.lemmas.Bool.{cases_eq, cases_lt}
 use Rattle.std.proofs.lemmas.Bool.Decides.{nat_tests}
 use Rattle.std.proofs.lemmas.Nat.{div-add-mod', mod_below, mul-le, pow_pos}
 use Rattle.std.proofs.lemmas.List.{get_or-map, get_or_past, length-map}
 use Rattle.std.specs.Simd.Lanes.{zip2}
-use Rattle.std.proofs.lemmas.Nat.Bits.{bit_at-zero, bit_at-trailing_zeros, bit_at-lt}
+use Rattle.std.proofs.lemmas.Nat.Bits.{bit_at-zero, bit_at-lt}
+use Rattle.bsi_bits.specs.Marked.{HasMarked}
 use Rattle.bsi_bits.specs.Packed.{bit_of}
-use Rattle.bsi_slices.specs.Slices.{place_value}
-use Rattle.bsi_slices.specs.SliceTests.{turned}
+use Rattle.bsi_slices.specs.Slices.{bit_value}
 use Rattle.bsi_slices.specs.declared.slices.ends.End.{End}
 use Rattle.bsi_slices.specs.declared.slices.ends.End.TheVariants.{Least, Greatest}
-use Rattle.bsi_slices.specs.Ends.{comes_first, first_is_clear, nearest_place, number_at, HasMarked, IsEndAmong}
+use Rattle.bsi_slices.specs.Ends.{comes_first, first_is_clear, nearest_place, number_at, IsEndAmong}
 use Rattle.bsi_slices.specs.Rows.{number_or_zero}
-use Rattle.bsi_slices.proofs.SliceBlocks.{cut_bit}
+use Rattle.bsi_slices.proofs.SliceBlocks.{cut_bit, turned}
 use Rattle.bsi_slices.proofs.Ranking.{same_parts}
-
--- ---- words with and without a row
-
-pub none_marked : (words : List ℕ) → ((k : ℕ) → get_or words k 0 ≡ 0) → (p : ℕ) → bit_of words p ≡ false
-none_marked words none p = ap (λ w. bit_at w (p % 64) == 1) (none (p / 64)) ∙ ap (λ b. b == 1) (bit_at-zero (p % 64))
-
-pub some_marked : (words : List ℕ) → ((k : ℕ) → get_or words k 0 < 2 ^ 64) → (((k : ℕ) → get_or words k 0 ≡ 0) → ⊥) → HasMarked (bit_of words) (64 * length words)
-some_marked [] fits some = absurd (some (λ k. refl))
-some_marked (x ∷ words) fits some = elim (cases_eq x 0) [
-  | inl zero_is ↦
-      let later = some_marked words (λ k. fits (suc k)) (λ none. some (λ k. elim k as (λ k. get_or (x ∷ words) k 0 ≡ 0) [ zero ↦ zero_is | suc j ↦ none j ])) in (
-        later.0 + 64,
-        omega (arith, later.1),
-        (let word : (later.0 + 64) / 64 ≡ suc (later.0 / 64) = omega arith in
-            let place : (later.0 + 64) % 64 ≡ later.0 % 64 = omega arith in
-            ap₂ (λ q r. bit_at (get_or (x ∷ words) q 0) r == 1) word place ∙ later.2),
-      )
-  | inr apart ↦
-      let lowest = bit_at-trailing_zeros w64 x (omega arith) (fits 0) in
-      let p : ℕ = trailing_zeros w64 x in
-      let below : p < 64 = lowest.0 in (
-        p,
-        omega (arith, below),
-        (let word : p / 64 ≡ 0 = omega (arith, below) in
-            let place : p % 64 ≡ p = omega (arith, below) in
-            ap₂ (λ q r. bit_at (get_or (x ∷ words) q 0) r == 1) word place ∙ ap (λ b. b == 1) lowest.1),
-      )
-]
 
 -- ---- what leads
 
@@ -147,25 +118,25 @@ module _ (end : End) (marked : ℕ → Bool) (number : ℕ → ℕ) (n : ℕ) wh
 
 -- ---- one slice more
 
-digit_met : (end : End) (s : Bool) → turned (first_is_clear end) s ≡ nat_eq (place_value s) (nearest_place end true)
+digit_met : (end : End) (s : Bool) → turned (first_is_clear end) s ≡ nat_eq (bit_value s) (nearest_place end true)
 digit_met Least true = refl
 digit_met Least false = refl
 digit_met Greatest true = refl
 digit_met Greatest false = refl
 
-digit_missed : (end : End) (s : Bool) → turned (first_is_clear end) s ≡ false → nat_eq (place_value s) (nearest_place end false) ≡ true
+digit_missed : (end : End) (s : Bool) → turned (first_is_clear end) s ≡ false → nat_eq (bit_value s) (nearest_place end false) ≡ true
 digit_missed Least true off = refl
 digit_missed Least false off = sym off
 digit_missed Greatest true off = sym off
 digit_missed Greatest false off = refl
 
-met_first : (end : End) (s : Bool) → comes_first end (nearest_place end true) (place_value s)
+met_first : (end : End) (s : Bool) → comes_first end (nearest_place end true) (bit_value s)
 met_first Least true = omega arith
 met_first Least false = omega arith
 met_first Greatest true = omega arith
 met_first Greatest false = omega arith
 
-missed_first : (end : End) (s : Bool) → turned (first_is_clear end) s ≡ false → comes_first end (nearest_place end false) (place_value s)
+missed_first : (end : End) (s : Bool) → turned (first_is_clear end) s ≡ false → comes_first end (nearest_place end false) (bit_value s)
 missed_first Least true off = omega arith
 missed_first Least false off = absurd (cc)
 missed_first Greatest true off = absurd (cc)
@@ -180,16 +151,16 @@ place_small Greatest false = omega arith
 -- the rows kept by one more slice
 module _ (end : End) (n : ℕ) (kept slice first : ℕ → Bool) (cut : (p : ℕ) → p < n → first p ≡ (kept p && turned (first_is_clear end) (slice p))) where
   pub place_kept : (met : Bool) → (met ≡ false → (p : ℕ) → p < n → first p ≡ false) → (p : ℕ) → p < n
-      → (if met then first p else kept p) ≡ (kept p && nat_eq (place_value (slice p)) (nearest_place end met))
+      → (if met then first p else kept p) ≡ (kept p && nat_eq (bit_value (slice p)) (nearest_place end met))
   place_kept true none p within = cut p within ∙ ap (λ b. kept p && b) (digit_met end (slice p))
   place_kept false none p within = missed (kept p) (slice p) (sym (cut p within) ∙ none refl p within)
     where
-      missed : (k s : Bool) → (k && turned (first_is_clear end) s) ≡ false → k ≡ (k && nat_eq (place_value s) (nearest_place end false))
+      missed : (k s : Bool) → (k && turned (first_is_clear end) s) ≡ false → k ≡ (k && nat_eq (bit_value s) (nearest_place end false))
       missed true s off = sym (digit_missed end s off)
       missed false s off = refl
 
   pub place_first : (met : Bool) → (met ≡ false → (p : ℕ) → p < n → first p ≡ false) → (p : ℕ) → p < n → kept p ≡ true
-      → comes_first end (nearest_place end met) (place_value (slice p))
+      → comes_first end (nearest_place end met) (bit_value (slice p))
   place_first true none p within there = met_first end (slice p)
   place_first false none p within there =
       missed_first end (slice p) (sym (ap (λ k. k && turned (first_is_clear end) (slice p)) there) ∙ sym (cut p within) ∙ none refl p within)
@@ -210,7 +181,7 @@ number_small entries size some below r = elim (cases_lt r (length entries)) [
   | inr past ↦ let none : number_at entries r ≡ 0 = ap number_or_zero (get_or_past entries r None past) in omega (arith, none)
 ]
 
-place_is : (b : ℕ) → b < 2 → place_value (b == 1) ≡ b
+place_is : (b : ℕ) → b < 2 → bit_value (b == 1) ≡ b
 place_is b low = elim (cases_eq b 1) [
   | inl one ↦ let t : (b == 1) ≡ true = grind (arith, nat_tests) in rw t (sym one)
   | inr other ↦ let t : (b == 1) ≡ false = grind (arith, nat_tests) in rw t (omega arith)
@@ -229,8 +200,8 @@ nearest_slice end marked number n i above prefix kept slice first kept' met abov
     let cut : (p : ℕ) → p < 64 * n → bit_of first p ≡ (bit_of kept p && turned (first_is_clear end) (bit_of slice p)) =
     λ p within. ap (λ ws. bit_of ws p) first_is ∙ cut_bit n kept slice long same (first_is_clear end) fits p within in
     let missed : met ≡ false → (p : ℕ) → p < 64 * n → bit_of first p ≡ false = λ off p within. none off p in
-    let digit : (p : ℕ) → p < 64 * n → place_value (bit_of slice p) ≡ number p / 2 ^ i % 2 =
-    λ p within. ap place_value (places p within) ∙ place_is (bit_at (number p) i) (bit_at-lt (number p) i) ∙ bit_at_is (number p) i in
+    let digit : (p : ℕ) → p < 64 * n → bit_value (bit_of slice p) ≡ number p / 2 ^ i % 2 =
+    λ p within. ap bit_value (places p within) ∙ place_is (bit_at (number p) i) (bit_at-lt (number p) i) ∙ bit_at_is (number p) i in
     nearest_step end marked number (64 * n) (2 ^ i) 2 prefix (nearest_place end met) (bit_of kept) (bit_of kept') (pow_pos i) (place_small end met) (subst AtWeight above_is state)
     (λ p within. ap (λ ws. bit_of ws p) kept_is ∙ either_bit met first kept p ∙ place_kept end (64 * n) (bit_of kept) (bit_of slice) (bit_of first) cut met missed p within
     ∙ ap (λ d. bit_of kept p && nat_eq d (nearest_place end met)) (digit p within))

@@ -11,9 +11,12 @@ use Rattle.std.proofs.lemmas.Simd.{length-zip2, length-chunk, get_or-chunk}
 use Rattle.bsi_bits.specs.BitList.{BitList}
 use Rattle.bsi_bits.specs.Packed.{bit_of}
 use Rattle.bsi_slices.specs.Slices.{slice_at, number}
-use Rattle.bsi_slices.specs.SliceTests.{turned}
 use Rattle.bsi_slices.proofs.WordBlocks.{bit_of-chunk, and_bit, or_bit, not_bit}
 use Rattle.bsi_slices.proofs.SliceNumbers.{above_more, equal_more}
+
+-- a truth value, turned if it is to be
+abbrev pub turned : Bool → Bool → Bool
+turned negated b = if negated then not b else b
 
 -- a block of words below 2^64 is of such words
 pub chunk_fits : (at n : ℕ) (words : List ℕ) → ((k : ℕ) → get_or words k 0 < 2 ^ 64) → at + n ≤ length words → (k : ℕ) → get_or (chunk at n words) k 0 < 2 ^ 64

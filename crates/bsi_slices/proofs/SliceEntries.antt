@@ -9,7 +9,7 @@ use Rattle.std.proofs.lemmas.List.Elements.{All-from_get_or}
 use Rattle.std.proofs.lemmas.List.FromFn.{length-map-range_with_len, get_or-map-range_with_len, fill_by_all}
 use Rattle.bsi_bits.specs.BitList.{BitList}
 use Rattle.bsi_slices.specs.Rows.{number_or_zero}
-use Rattle.bsi_slices.specs.Slices.{empty_slice, slice_at, place_value, number, entry_at, entries_in, IsSliced}
+use Rattle.bsi_slices.specs.Slices.{empty_slice, slice_at, bit_value, number, sliced_entry, entries_in, IsSliced}
 use Rattle.bsi_slices.proofs.SliceNumbers.{number_below, number_place}
 
 -- two functions that agree below n
@@ -34,26 +34,26 @@ slice_before slices last k below = ap (λ s. s.bits) (get_or_append_left slices 
 -- as many entries as there are marks
 pub length-entries_in : (present : List Bool) (slices : List BitList) → length (entries_in present slices) ≡ length present
 unfolding entries_in
-length-entries_in present slices = length-map-range_with_len (entry_at present slices) 0 (length present)
+length-entries_in present slices = length-map-range_with_len (sliced_entry present slices) 0 (length present)
 
 -- entry r
-pub get_or-entries_in : (present : List Bool) (slices : List BitList) (r : ℕ) (d : Option ℕ) → r < length present → get_or (entries_in present slices) r d ≡ entry_at present slices r
+pub get_or-entries_in : (present : List Bool) (slices : List BitList) (r : ℕ) (d : Option ℕ) → r < length present → get_or (entries_in present slices) r d ≡ sliced_entry present slices r
 unfolding entries_in
-get_or-entries_in present slices r d within = get_or-map-range_with_len (entry_at present slices) 0 (length present) r r d within (omega arith)
+get_or-entries_in present slices r d within = get_or-map-range_with_len (sliced_entry present slices) 0 (length present) r r d within (omega arith)
 
 -- a list that has at each row a function of its entry
 pub by_entries : {X : Type 0} (f : Option ℕ → X) (present : List Bool) (slices : List BitList) (d : X) (xs : List X) → length xs ≡ length present
-    → ((r : ℕ) → r < length present → get_or xs r d ≡ f (entry_at present slices r)) → xs ≡ map f (entries_in present slices)
+    → ((r : ℕ) → r < length present → get_or xs r d ≡ f (sliced_entry present slices r)) → xs ≡ map f (entries_in present slices)
 by_entries f present slices d xs long each =
-    fill_by_all (λ r. f (entry_at present slices r)) xs (length present) d long each
-    ∙ sym (fill_by_all (λ r. f (entry_at present slices r)) (map f (entries_in present slices)) (length present) d
+    fill_by_all (λ r. f (sliced_entry present slices r)) xs (length present) d long each
+    ∙ sym (fill_by_all (λ r. f (sliced_entry present slices r)) (map f (entries_in present slices)) (length present) d
     (length-map (entries_in present slices) f ∙ length-entries_in present slices)
     (λ r within. get_or-map f (entries_in present slices) r None d (omega (arith, length-entries_in present slices)) ∙ ap f (get_or-entries_in present slices r None within)))
 
 -- no mark, no row
 pub entries_in-nil : (present : List Bool) (slices : List BitList) → present ≡ [] → entries_in present slices ≡ []
 unfolding entries_in
-entries_in-nil present slices none = ap (λ p. map (entry_at p slices) (range_with_len 0 (length p))) none
+entries_in-nil present slices none = ap (λ p. map (sliced_entry p slices) (range_with_len 0 (length p))) none
 
 -- the marks of the entries that are there, and of the others
 pub present_of : (present : List Bool) (slices : List BitList) → present ≡ map is_some (entries_in present slices)
@@ -73,7 +73,7 @@ nulls_of present slices =
     marked false m = refl
 
 -- what is stored of row r
-pub stored_number : (present : List Bool) (slices : List BitList) → IsSliced present slices → (r : ℕ) → r < length present → number_or_zero (entry_at present slices r) ≡ number slices r
+pub stored_number : (present : List Bool) (slices : List BitList) → IsSliced present slices → (r : ℕ) → r < length present → number_or_zero (sliced_entry present slices r) ≡ number slices r
 stored_number present slices sliced r within = of_mark (get_or present r false) (number slices r) (sliced.clear r within)
   where
     of_mark : (there : Bool) (m : ℕ) → (there ≡ false → m ≡ 0) → number_or_zero (if there then Some m else None) ≡ m
@@ -107,7 +107,7 @@ number_same [] [] r long same = refl
 number_same [] (s ∷ new) r long same = absurd (omega arith)
 number_same (t ∷ old) [] r long same = absurd (omega arith)
 number_same (t ∷ old) (s ∷ new) r long same =
-    (λ i. place_value (same 0 (omega arith) i) + 2 * number_same old new r (omega arith) (λ k below. same (suc k) (omega arith)) i)
+    (λ i. bit_value (same 0 (omega arith) i) + 2 * number_same old new r (omega arith) (λ k below. same (suc k) (omega arith)) i)
 
 module _ (present now : List Bool) (old new : List BitList) (marks : now ≡ present) (long : length new ≡ length old) (same : (k : ℕ) → k < length old → slice_at new k ≡ slice_at old k) where
   alike : (r : ℕ) → number new r ≡ number old r
@@ -117,8 +117,8 @@ module _ (present now : List Bool) (old new : List BitList) (marks : now ≡ pre
   pub entries_same : entries_in now new ≡ entries_in present old
   unfolding entries_in
   entries_same =
-      ap (λ p. map (entry_at p new) (range_with_len 0 (length p))) marks
-      ∙ same_below None (entry_at present new) (entry_at present old) (length present)
+      ap (λ p. map (sliced_entry p new) (range_with_len 0 (length p))) marks
+      ∙ same_below None (sliced_entry present new) (sliced_entry present old) (length present)
       (λ r below. ap (λ m. if get_or present r false then Some m else None) (alike r))
 
   -- and are a column's as well

@@ -8,7 +8,7 @@ use Rattle.std.proofs.lemmas.List.{get_or_append_left, get_or-append_right, take
 use Rattle.std.proofs.lemmas.List.FromFn.{fill_by_all}
 use Rattle.bsi_bits.specs.BitList.{BitList}
 use Rattle.bsi_slices.specs.Rows.{number_or_zero}
-use Rattle.bsi_slices.specs.Slices.{slice_at, place_value, number, entry_at, entries_in, IsSliced}
+use Rattle.bsi_slices.specs.Slices.{slice_at, bit_value, number, sliced_entry, entries_in, IsSliced}
 use Rattle.bsi_slices.proofs.SliceNumbers.{number_more, number_none, places_more}
 use Rattle.bsi_slices.proofs.SliceEntries.{number_same, length-entries_in, get_or-entries_in}
 
@@ -20,7 +20,7 @@ module _ (slices : List BitList) (x r : ℕ) (placed : (k : ℕ) → k < length 
       let e : suc i ≡ i + 1 = omega arith in
       ap (λ j. number (take j slices) r) e
       ∙ number_more slices r i (omega arith)
-      ∙ (λ j. number_low i (omega arith) j + place_value (placed i (omega arith) j) * 2 ^ i)
+      ∙ (λ j. number_low i (omega arith) j + bit_value (placed i (omega arith) j) * 2 ^ i)
       ∙ sym (places_more x i)
       ∙ ap (λ j. x % 2 ^ j) (sym e)
 
@@ -68,7 +68,7 @@ module _ (present now : List Bool) (old new : List BitList) (block : List (Optio
   unfolding entries_in
   entries_more =
       let long_old = length-entries_in present old in
-      sym (fill_by_all (entry_at now new) (entries_in present old ++ block) (length now) None
+      sym (fill_by_all (sliced_entry now new) (entries_in present old ++ block) (length now) None
       (length-append (entries_in present old) block ∙ ap (λ n. n + length block) long_old ∙ sym marks_long)
       (λ r below. elim (cases_lt r (length present)) [
         | inl before ↦

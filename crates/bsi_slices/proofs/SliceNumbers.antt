@@ -9,28 +9,28 @@ use Rattle.std.proofs.lemmas.Nat.Bits.{bit_at-suc}
 use Rattle.std.proofs.lemmas.List.{take_all}
 use Rattle.std.proofs.Math.Nat.{mod-eq_of_lt}
 use Rattle.bsi_bits.specs.BitList.{BitList}
-use Rattle.bsi_slices.specs.Slices.{slice_at, place_value, number}
+use Rattle.bsi_slices.specs.Slices.{slice_at, bit_value, number}
 
 -- twice a power
 two_pow : (i : ℕ) → 2 ^ (suc i) ≡ 2 * 2 ^ i
 two_pow i = let e : suc i ≡ 1 + i = omega arith in ap (λ k. 2 ^ k) e ∙ pow-add 2 1 i
 
 -- a bit is at most 1
-place_small : (bit : Bool) → place_value bit ≤ 1
+place_small : (bit : Bool) → bit_value bit ≤ 1
 place_small true = omega arith
 place_small false = omega arith
 
 -- the number in the first i + 1 slices
 pub number_more : (slices : List BitList) (r i : ℕ) → i < length slices
-    → number (take (i + 1) slices) r ≡ number (take i slices) r + place_value (get_or (slice_at slices i) r false) * 2 ^ i
+    → number (take (i + 1) slices) r ≡ number (take i slices) r + bit_value (get_or (slice_at slices i) r false) * 2 ^ i
 unfolding number
 number_more [] r i within = absurd (omega arith)
 number_more (s ∷ slices) r zero within = grind arith
 number_more (s ∷ slices) r (suc i) within =
     let next : suc i + 1 ≡ suc (i + 1) = omega arith in
     ap (λ k. number (take k (s ∷ slices)) r) next
-    ∙ ap (λ m. place_value (get_or s.bits r false) + 2 * m) (number_more slices r i (omega arith))
-    ∙ (let d : ℕ = place_value (get_or (slice_at slices i) r false) in let p = two_pow i in grind arith)
+    ∙ ap (λ m. bit_value (get_or s.bits r false) + 2 * m) (number_more slices r i (omega arith))
+    ∙ (let d : ℕ = bit_value (get_or (slice_at slices i) r false) in let p = two_pow i in grind arith)
 
 -- it is below two to the power of their number
 pub number_below : (slices : List BitList) (r : ℕ) → number slices r < 2 ^ length slices
@@ -49,25 +49,25 @@ unfolding number
 number_place [] r k within = absurd (omega arith)
 number_place (s ∷ slices) r zero within = lowest (get_or s.bits r false) (number slices r)
   where
-    lowest : (b : Bool) (m : ℕ) → (bit_at (place_value b + 2 * m) 0 == 1) ≡ b
+    lowest : (b : Bool) (m : ℕ) → (bit_at (bit_value b + 2 * m) 0 == 1) ≡ b
     lowest true m = grind (arith, nat_tests)
     lowest false m = grind (arith, nat_tests)
 number_place (s ∷ slices) r (suc k) within =
-    ap (λ x. x == 1) (bit_at-suc (place_value (get_or s.bits r false) + 2 * number slices r) k ∙ ap (λ x. bit_at x k) (half (get_or s.bits r false) (number slices r)))
+    ap (λ x. x == 1) (bit_at-suc (bit_value (get_or s.bits r false) + 2 * number slices r) k ∙ ap (λ x. bit_at x k) (half (get_or s.bits r false) (number slices r)))
     ∙ number_place slices r k (omega arith)
   where
-    half : (b : Bool) (m : ℕ) → (place_value b + 2 * m) / 2 ≡ m
+    half : (b : Bool) (m : ℕ) → (bit_value b + 2 * m) / 2 ≡ m
     half b m = omega (arith, place_small b)
 
 -- the lowest i + 1 places of a number
-pub places_more : (n i : ℕ) → n % 2 ^ (i + 1) ≡ n % 2 ^ i + place_value (bit_at n i == 1) * 2 ^ i
+pub places_more : (n i : ℕ) → n % 2 ^ (i + 1) ≡ n % 2 ^ i + bit_value (bit_at n i == 1) * 2 ^ i
 places_more n i =
     let e : i + 1 ≡ 1 + i = omega arith in
     let top : n % 2 ^ (1 + i) ≡ (bit_at n i) * 2 ^ i + n % 2 ^ i = mod-pow-add n 1 i in
-    let d : bit_at n i ≡ place_value (bit_at n i == 1) = value_is (bit_at n i) (omega arith) in
-    ap (λ k. n % 2 ^ k) e ∙ top ∙ ap (λ b. b * 2 ^ i + n % 2 ^ i) d ∙ (let x : ℕ = place_value (bit_at n i == 1) * 2 ^ i in omega arith)
+    let d : bit_at n i ≡ bit_value (bit_at n i == 1) = value_is (bit_at n i) (omega arith) in
+    ap (λ k. n % 2 ^ k) e ∙ top ∙ ap (λ b. b * 2 ^ i + n % 2 ^ i) d ∙ (let x : ℕ = bit_value (bit_at n i == 1) * 2 ^ i in omega arith)
   where
-    value_is : (b : ℕ) → b < 2 → b ≡ place_value (b == 1)
+    value_is : (b : ℕ) → b < 2 → b ≡ bit_value (b == 1)
     value_is b small = elim (cases_eq b 1) [
       | inl one ↦ let t : (b == 1) ≡ true = grind (arith, nat_tests) in rw t one
       | inr other ↦ let t : (b == 1) ≡ false = grind (arith, nat_tests) in rw t (omega arith)
@@ -75,14 +75,14 @@ places_more n i =
 
 -- a higher place decides over the lower ones
 above_place : (t m p : ℕ) (c s : Bool) → t < p → m < p
-    → nat_lt (t + place_value c * p) (m + place_value s * p) ≡ (if c then nat_lt t m && s else (nat_lt t m || s))
+    → nat_lt (t + bit_value c * p) (m + bit_value s * p) ≡ (if c then nat_lt t m && s else (nat_lt t m || s))
 above_place t m p true true small below = grind (arith, nat_tests)
 above_place t m p true false small below = grind (arith, nat_tests)
 above_place t m p false true small below = grind (arith, nat_tests)
 above_place t m p false false small below = grind (arith, nat_tests)
 
 equal_place : (t m p : ℕ) (c s : Bool) → t < p → m < p
-    → (t + place_value c * p == m + place_value s * p) ≡ ((t == m) && (if c then s else not s))
+    → (t + bit_value c * p == m + bit_value s * p) ≡ ((t == m) && (if c then s else not s))
 equal_place t m p true true small below = grind (arith, nat_tests)
 equal_place t m p true false small below = grind (arith, nat_tests)
 equal_place t m p false true small below = grind (arith, nat_tests)

@@ -8,12 +8,12 @@ use Rattle.bsi_bits.specs.Packed.{bit_of, bits_of}
 use Rattle.bsi_bits.proofs.Reading.{length-bits_of, get_or-bits_of}
 use Rattle.bsi_slices.specs.Rows.{compares, selects}
 use Rattle.bsi_slices.specs.declared.column.Op.{Op}
-use Rattle.bsi_slices.specs.declared.slices.decision.Test.{Test}
-use Rattle.bsi_slices.specs.declared.slices.decision.Decision.{Decision}
-use Rattle.bsi_slices.specs.declared.slices.decision.Decision.TheVariants.{Nothing, Everything, Tested}
+use Rattle.bsi_slices.specs.declared.decision.Test.{Test}
+use Rattle.bsi_slices.specs.declared.decision.Decision.{Decision}
+use Rattle.bsi_slices.specs.declared.decision.Decision.TheVariants.{Nothing, Everything, Tested}
 use Rattle.bsi_slices.specs.Slices.{number, entries_in}
 use Rattle.bsi_slices.specs.Blocks.{IsKept}
-use Rattle.bsi_slices.specs.SliceTests.{decides, passes}
+use Rattle.bsi_slices.specs.Decisions.{decides, passes}
 use Rattle.bsi_slices.proofs.SliceEntries.{by_entries, get_or-entries_in}
 use Rattle.bsi_slices.proofs.SliceNumbers.{number_below}
 

@@ -1,5 +1,5 @@
 -- Words that are written block by block.
-use Rattle.std.specs.Prelude.{◌≡◌, ℕ, ◌*◌, ◌<◌, ◌≤◌, ◌&&◌, Bool, true, false, List, bit_and}
+use Rattle.std.specs.Prelude.{◌≡◌, ℕ, ◌+◌, ◌*◌, ◌<◌, ◌≤◌, ◌&&◌, Bool, true, false, List, length, slice_index_or, Option, None, bit_and}
 use Rattle.std.specs.Int.{bit_not, w64}
 use Rattle.bsi_bits.specs.Packed.{bit_of}
 
@@ -8,6 +8,12 @@ pub record IsKept (kept : ℕ → Bool) (from to : ℕ) (old now : List ℕ) : T
   pub inside : (r : ℕ) → 64 * from ≤ r → r < 64 * to → bit_of now r ≡ (bit_of old r && kept r)
   pub before : (r : ℕ) → r < 64 * from → bit_of now r ≡ bit_of old r
   pub after : (r : ℕ) → 64 * to ≤ r → bit_of now r ≡ bit_of old r
+
+-- of the rows that the words from `at` on stand for, those are kept whose entry passes; bits past the last row are open
+abbrev pub KeepsRows : {X : Type 0} → (Option X → Bool) → List (Option X) → ℕ → List ℕ → List ℕ → Type 0
+KeepsRows passes entries at old now =
+    (p : ℕ) → p < 64 * length old → 64 * at + p < length entries
+    → bit_of now p ≡ (bit_of old p && passes (slice_index_or entries (64 * at + p) None))
 
 -- of the rows of a word those are kept that are set in another one or, as wanted, those that are clear there
 abbrev pub word_kept : Bool → ℕ → ℕ → ℕ

@@ -1,7 +1,7 @@
 -- The number at an end of a found set, row by row.
 use Rattle.std.specs.Prelude.{◌≡◌, ℕ, ◌<◌, ◌≤◌, ◌&&◌, Bool, true, false, not, List, Option, Some, None, MatchOption, is_some, slice_index_or}
 use Rattle.bsi_slices.specs.Rows.{number_or_zero}
-use Rattle.bsi_slices.specs.Slices.{place_value}
+use Rattle.bsi_slices.specs.Slices.{bit_value}
 use Rattle.bsi_slices.specs.Totals.{IsLeastOf, IsGreatestOf}
 use Rattle.bsi_slices.specs.declared.slices.ends.End.{End}
 use Rattle.bsi_slices.specs.declared.slices.ends.End.TheVariants.{Least, Greatest}
@@ -18,8 +18,8 @@ first_is_clear Greatest = false
 
 -- the place that is nearest to the end, by whether the one is met that comes first
 abbrev pub nearest_place : End → Bool → ℕ
-nearest_place Least is_met = place_value (not is_met)
-nearest_place Greatest is_met = place_value is_met
+nearest_place Least is_met = bit_value (not is_met)
+nearest_place Greatest is_met = bit_value is_met
 
 -- a is at least as near to the end as b
 abbrev pub comes_first : End → ℕ → ℕ → Type 0
@@ -43,10 +43,6 @@ number_at entries r = number_or_zero (slice_index_or entries r None)
 -- row r is found, and has a number
 abbrev pub has_number : List Bool → List (Option ℕ) → ℕ → Bool
 has_number found entries r = slice_index_or found r false && is_some (slice_index_or entries r None)
-
--- one of n rows is marked
-abbrev pub HasMarked : (ℕ → Bool) → ℕ → Type 0
-HasMarked marked n = (p : ℕ) × (p < n) × (marked p ≡ true)
 
 -- m is the number of one of the n rows that are marked, and the nearest
 pub record IsEndAmong (end : End) (marked : ℕ → Bool) (number : ℕ → ℕ) (n m : ℕ) : Type 0 where

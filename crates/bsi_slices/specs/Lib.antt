@@ -1,10 +1,10 @@
 pub mod Blocks
+pub mod Decisions
 pub mod Ends
 pub mod Exchanges
 pub mod NotNull
 pub mod Orders
 pub mod Ranks
 pub mod Rows
-pub mod SliceTests
 pub mod Slices
 pub mod Totals

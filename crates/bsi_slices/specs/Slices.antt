@@ -19,21 +19,21 @@ abbrev pub slice_at : List BitList → ℕ → List Bool
 slice_at slices k = (slice_index_or slices k empty_slice).bits
 
 -- a bit as a number
-abbrev pub place_value : Bool → ℕ
-place_value bit = if bit then 1 else 0
+abbrev pub bit_value : Bool → ℕ
+bit_value bit = if bit then 1 else 0
 
 -- the number of row r, the slice of the least place first
 unfoldable pub number : List BitList → ℕ → ℕ
 number [] r = 0
-number (slice ∷ slices) r = place_value (slice_index_or slice.bits r false) + 2 * number slices r
+number (slice ∷ slices) r = bit_value (slice_index_or slice.bits r false) + 2 * number slices r
 
 -- the entry of row r: null where it is not present
-abbrev pub entry_at : List Bool → List BitList → ℕ → Option ℕ
-entry_at present slices r = if slice_index_or present r false then Some (number slices r) else None
+abbrev pub sliced_entry : List Bool → List BitList → ℕ → Option ℕ
+sliced_entry present slices r = if slice_index_or present r false then Some (number slices r) else None
 
 -- the entries of a column
 unfoldable pub entries_in : List Bool → List BitList → List (Option ℕ)
-entries_in present slices = map (entry_at present slices) (range_with_len 0 (length present))
+entries_in present slices = map (sliced_entry present slices) (range_with_len 0 (length present))
 
 -- there are 1 to 63 slices, each with a bit for each row, which is off where the row is null
 pub record IsSliced (present : List Bool) (slices : List BitList) : Type 0 where

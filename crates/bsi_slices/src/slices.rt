@@ -1,8 +1,8 @@
 //! A column as bit slices: one bit vector for each binary place of its numbers, as O'Neil and Quass described in 1997.
 
-ghost use Rattle.std.specs.Prelude.{◌≡◌, ℕ, ◌++◌, ◌∷◌, [], All, ◌<◌, ◌≤◌, ◌^◌, ◌+◌, ◌*◌, ◌/◌, ◌&&◌, ◌==◌, None, slice_index_or, length, map, min, replicate, IfOk, IsOk, OnOk, OnErr};
+ghost use Rattle.std.specs.Prelude.{◌≡◌, ℕ, ◌++◌, ◌∷◌, [], All, ◌<◌, ◌≤◌, ◌^◌, ◌+◌, ◌*◌, ◌/◌, ◌&&◌, ◌==◌, length, map, min, replicate, IfOk, IsOk, OnOk, OnErr};
 ghost use Rattle.std.specs.Int.{bit_at};
-ghost use Rattle.bsi_bits.specs.Packed.{bit_of};
+ghost use Rattle.bsi_slices.specs.Blocks.{KeepsRows};
 ghost use Rattle.bsi_slices.specs.Rows.{number_or_zero, selects};
 ghost use Rattle.bsi_slices.specs.Slices.{entries_in, IsSliced};
 ghost use Rattle.bsi_slices.specs.Totals.{numbers_at, IsLeastOf, IsGreatestOf};
@@ -17,7 +17,6 @@ use std::alloc::Global;
 use std::marker::Model;
 
 mod compare;
-mod decision;
 mod ends;
 mod totals;
 
@@ -83,10 +82,7 @@ impl Slices {
     /// memory.
     pub fn keep_selected(&self, op: Op, constant: u64, at: usize, block: &mut [u64])
         requires { at + length block.old ≤ (length self.now.entries + 63) / 64 }
-        ensures { (p : ℕ) → p < 64 * length block.old → 64 * at + p < length self.now.entries →
-            bit_of block.new p
-            ≡ (bit_of block.old p && selects op constant
-            (slice_index_or self.now.entries (64 * at + p) None)) }
+        ensures { KeepsRows (selects op constant) self.now.entries at block.old block.new }
     {
         keep_selected(
             self.slices.as_slice(),

@@ -11,9 +11,11 @@ pub(crate) trait Operation {
     /// The word that it makes of two.
     ghost word_of: { ℕ → ℕ → ℕ };
 
+    /// Applies it to four pairs of words.
     fn words(a: u64x4, b: u64x4) -> u64x4
         ensures { result ≡ zip2 word_of a b };
 
+    /// Applies it to a pair of words.
     fn word(a: u64, b: u64) -> u64
         ensures { result ≡ word_of a b };
 }

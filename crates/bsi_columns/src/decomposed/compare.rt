@@ -8,17 +8,19 @@ ghost use Rattle.std.specs.Bool.{OnTrue};
 ghost use Rattle.bsi_bits.specs.Packed.{bit_of};
 ghost use Rattle.bsi_digits.specs.Digits.{size_of};
 ghost use Rattle.bsi_columns.specs.Rows.{number_or_zero, selects};
-ghost use Rattle.bsi_columns.specs.DigitTests.{answers, as_wanted, holds};
+ghost use Rattle.bsi_columns.specs.DigitTests.{wants};
+ghost use Rattle.bsi_slices.specs.Blocks.{KeepsRows};
+ghost use Rattle.bsi_slices.specs.Decisions.{as_wanted, relates};
 
 use crate::decomposed::Decomposed;
-use crate::decomposed::decision::{Decision, DigitTest, decide};
 use crate::decomposed::narrowing::narrow_digit;
 use crate::{Encoding, NoMemory, Op};
 use bsi_bits::{Bits, know_fits, lanes};
 use bsi_components::blocks::{keep_in, turn};
+use bsi_slices::{Decision, Test, decide};
 
 /// The most words of a block, which stays in the first cache while each component narrows it.
-const BLOCK: usize = 1024;
+const BLOCK_WORDS: usize = 1024;
 
 impl<E: Encoding> Decomposed<E> {
     /// Returns the rows whose number satisfies the comparison `op` with `constant`. It reads no component if the answer
@@ -49,10 +51,8 @@ impl<E: Encoding> Decomposed<E> {
         requires few { length block.old ≤ 1024 }
         requires within { at + length block.old ≤ (length self.now.entries + 63) / 64 }
         ensures kept { OnErr result (block.new ≡ block.old) }
-        ensures rows { OnOk result ((p : ℕ) → p < 64 * length block.old →
-            64 * at + p < length self.now.entries → bit_of block.new p
-            ≡ (bit_of block.old p && selects op constant
-            (slice_index_or self.now.entries (64 * at + p) None))) }
+        ensures rows { OnOk result
+            (KeepsRows (selects op constant) self.now.entries at block.old block.new) }
     {
         match decide(op, constant, self.bases.size()) {
             Decision::Nothing => {
@@ -68,17 +68,15 @@ impl<E: Encoding> Decomposed<E> {
     }
 
     /// Keeps in a block the rows that a test wants, whose constant is below the size.
-    fn keep_tested(&self, test: DigitTest, at: usize, block: &mut [u64]) -> Result<(), NoMemory>
+    fn keep_tested(&self, test: Test, at: usize, block: &mut [u64]) -> Result<(), NoMemory>
         requires below { test.constant < size_of self.now.bases }
         requires few { length block.old ≤ 1024 }
         requires within { at + length block.old ≤ (length self.now.entries + 63) / 64 }
         ensures kept { OnErr result (block.new ≡ block.old) }
-        ensures rows { OnOk result ((p : ℕ) → p < 64 * length block.old →
-            64 * at + p < length self.now.entries → bit_of block.new p
-            ≡ (bit_of block.old p && answers (λ x. holds test.relation x test.constant) test.wanted
-            (slice_index_or self.now.entries (64 * at + p) None))) }
+        ensures rows { OnOk result
+            (KeepsRows (wants test) self.now.entries at block.old block.new) }
     {
-        let mut buffer = [0; BLOCK];
+        let mut buffer = [0; BLOCK_WORDS];
         let found = &mut buffer[..block.len()];
         if self.find_block(test, at, found) {
             keep_wanted(found, test.wanted, block);
@@ -90,11 +88,9 @@ impl<E: Encoding> Decomposed<E> {
     }
 
     /// Returns the rows that a test wants, whose constant is below the size.
-    fn select(&self, test: DigitTest) -> Result<Bits, NoMemory>
+    fn select(&self, test: Test) -> Result<Bits, NoMemory>
         requires { test.constant < size_of self.now.bases }
-        ensures { IfOk result (λ b. b.bits
-            ≡ map (answers (λ x. holds test.relation x test.constant) test.wanted)
-            self.now.entries) }
+        ensures { IfOk result (λ b. b.bits ≡ map (wants test) self.now.entries) }
     {
         match self.select_words(test)? {
             Some(words) => Ok(Bits::from_words(words, self.present.len())),
@@ -106,14 +102,12 @@ impl<E: Encoding> Decomposed<E> {
     }
 
     /// Returns the words of the rows that a test wants, or `None` if a component works on whole vectors alone.
-    fn select_words(&self, test: DigitTest) -> Result<Option<Vec<u64>>, NoMemory>
+    fn select_words(&self, test: Test) -> Result<Option<Vec<u64>>, NoMemory>
         requires { test.constant < size_of self.now.bases }
         ensures few { IfOk result (λ o. IfSome o (λ words. length words.items
             ≡ (length self.now.entries + 63) / 64)) }
         ensures bits { IfOk result (λ o. IfSome o (λ words. (p : ℕ) → p < length self.now.entries →
-            bit_of words.items p
-            ≡ slice_index_or (map (answers (λ x. holds test.relation x test.constant) test.wanted)
-            self.now.entries) p false)) }
+            bit_of words.items p ≡ slice_index_or (map (wants test) self.now.entries) p false)) }
     {
         let len = self.present.bits().words().len();
         let mut words = Vec::with_capacity(*self.components.allocator(), len)?;
@@ -126,25 +120,19 @@ impl<E: Encoding> Decomposed<E> {
 
     /// Appends to an empty list the words of the rows that a test wants, block by block. It returns `false` if a
     /// component works on whole vectors alone.
-    fn select_blocks(
-        &self,
-        test: DigitTest,
-        len: usize,
-        words: &mut Vec<u64>,
-    ) -> Result<bool, NoMemory>
+    fn select_blocks(&self, test: Test, len: usize, words: &mut Vec<u64>) -> Result<bool, NoMemory>
         requires below { test.constant < size_of self.now.bases }
         requires len { len ≡ (length self.now.entries + 63) / 64 }
         requires empty { words.old.items ≡ [] }
         ensures len { IfOk result (λ whole. OnTrue whole (length words.new.items ≡ len)) }
         ensures bits { IfOk result (λ whole. OnTrue whole ((p : ℕ) → p < length self.now.entries →
             bit_of words.new.items p
-            ≡ slice_index_or (map (answers (λ x. holds test.relation x test.constant) test.wanted)
-            self.now.entries) p false)) }
+            ≡ slice_index_or (map (wants test) self.now.entries) p false)) }
     {
-        let mut buffer = [0; BLOCK];
-        for k in 0..len.div_ceil(BLOCK) {
-            let at = BLOCK * k;
-            let block = &mut buffer[..BLOCK.min(len - at)];
+        let mut buffer = [0; BLOCK_WORDS];
+        for k in 0..len.div_ceil(BLOCK_WORDS) {
+            let at = BLOCK_WORDS * k;
+            let block = &mut buffer[..BLOCK_WORDS.min(len - at)];
             if !self.select_block(test, at, block) {
                 return Ok(false);
             }
@@ -155,13 +143,12 @@ impl<E: Encoding> Decomposed<E> {
 
     /// Writes in a block the rows that a test wants. The first word stands for the 64 rows from row `64 * at` on. It
     /// returns `false` if a component works on whole vectors alone.
-    fn select_block(&self, test: DigitTest, at: usize, block: &mut [u64]) -> bool
+    fn select_block(&self, test: Test, at: usize, block: &mut [u64]) -> bool
         requires below { test.constant < size_of self.now.bases }
         requires within { at + length block.old ≤ (length self.now.entries + 63) / 64 }
         ensures { OnTrue result ((p : ℕ) → p < 64 * length block.old →
             64 * at + p < length self.now.entries → bit_of block.new p
-            ≡ slice_index_or (map (answers (λ x. holds test.relation x test.constant) test.wanted)
-            self.now.entries) (64 * at + p) false) }
+            ≡ slice_index_or (map (wants test) self.now.entries) (64 * at + p) false) }
     {
         if !self.find_block(test, at, block) {
             return false;
@@ -175,12 +162,12 @@ impl<E: Encoding> Decomposed<E> {
 
     /// Writes in a block the rows whose number is in the test's relation to the constant, be that wanted or not. A null
     /// row counts as 0. It returns `false` if a component works on whole vectors alone.
-    fn find_block(&self, test: DigitTest, at: usize, block: &mut [u64]) -> bool
+    fn find_block(&self, test: Test, at: usize, block: &mut [u64]) -> bool
         requires below { test.constant < size_of self.now.bases }
         requires within { at + length block.old ≤ (length self.now.entries + 63) / 64 }
         ensures { OnTrue result ((p : ℕ) → p < 64 * length block.old →
             64 * at + p < length self.now.entries → bit_of block.new p
-            ≡ holds test.relation (number_or_zero
+            ≡ relates test.relation (number_or_zero
             (slice_index_or self.now.entries (64 * at + p) None)) test.constant) }
     {
         for i in 0..self.bases.len() {

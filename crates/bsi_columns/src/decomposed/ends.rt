@@ -7,7 +7,8 @@
 ghost use Rattle.std.specs.Prelude.{◌≡◌, ℕ, ◌+◌, ◌*◌, ◌/◌, ◌<◌, ◌≤◌, ◌&&◌, true, false, length, slice_index, slice_index_or, is_some, None, IfSome};
 ghost use Rattle.bsi_bits.specs.Packed.{bit_of};
 ghost use Rattle.bsi_columns.specs.BlockEnds.{AnswersEnd, IsPast, KeepsNearest};
-ghost use Rattle.bsi_columns.specs.Ends.{comes_first, leads, number_at, HasMarked, IsBetterIn, IsEndOf};
+ghost use Rattle.bsi_bits.specs.Marked.{HasMarked};
+ghost use Rattle.bsi_columns.specs.Ends.{comes_first, leads, number_at, IsBetterIn, IsEndOf};
 ghost use Rattle.bsi_columns.specs.Totals.{numbers_at};
 
 use crate::decomposed::Decomposed;
@@ -17,7 +18,7 @@ use bsi_components::blocks::{keep_in, meets};
 use bsi_slices::End;
 
 /// The number of words in a block.
-const BLOCK: usize = 32;
+const BLOCK_WORDS: usize = 32;
 
 impl<E: Encoding> Decomposed<E> {
     /// Returns the number at an end of those at the rows of a found set, or `Some(None)` if there is no number. It
@@ -29,11 +30,11 @@ impl<E: Encoding> Decomposed<E> {
         // a found set has at most 2^32 rows, so at most 2^26 words
         prove!(found.len() <= 1 << 32);
         let len = found.words().len();
-        let mut buffer = [0; BLOCK];
+        let mut buffer = [0; BLOCK_WORDS];
         let mut best = None;
-        'block: for k in 0..len.div_ceil(BLOCK) {
-            let at = BLOCK * k;
-            let block = &mut buffer[..BLOCK.min(len - at)];
+        'block: for k in 0..len.div_ceil(BLOCK_WORDS) {
+            let at = BLOCK_WORDS * k;
+            let block = &mut buffer[..BLOCK_WORDS.min(len - at)];
             rows_into(found, self.present(), at, block);
             let better = self.better_in_block(end, best, at, block)?;
             best = better.or(best);

@@ -3,20 +3,20 @@
 ghost use Rattle.std.specs.Prelude.{◌≡◌, ℕ, ◌+◌, ◌*◌, ◌/◌, ◌^◌, ◌≤◌, ◌<◌, ◌||◌, length, slice_index};
 ghost use Rattle.std.specs.Bool.{OnTrue};
 ghost use Rattle.bsi_bits.specs.Packed.{bit_of};
-ghost use Rattle.bsi_columns.specs.DigitTests.{holds_from};
+ghost use Rattle.bsi_columns.specs.DigitTests.{relates_from};
 
 use crate::Encoding;
-use crate::decomposed::decision::DigitRelation;
+use bsi_slices::Relation;
 
 /// The words of a part of a block, which a component narrows by all the bitmaps that it reads before it goes on to the
 /// next, so that it reads them side by side.
-const PART: usize = 64;
+const PART_WORDS: usize = 64;
 
 /// Takes one more digit into the test of a block, part by part. At the lowest digit it ignores what the block holds. It
 /// returns `false` if the component works on whole vectors alone.
 pub(crate) fn narrow_digit<E: Encoding>(
     component: &E,
-    relation: DigitRelation,
+    relation: Relation,
     digit: u32,
     is_lowest: bool,
     at: usize,
@@ -26,14 +26,14 @@ pub(crate) fn narrow_digit<E: Encoding>(
     requires within { at + length block.old ≤ (length (E.digits component.now) + 63) / 64 }
     ensures { OnTrue result ((p : ℕ) → p < 64 * length block.old →
         64 * at + p < length (E.digits component.now) → bit_of block.new p
-        ≡ holds_from relation (is_lowest || bit_of block.old p)
+        ≡ relates_from relation (is_lowest || bit_of block.old p)
         (slice_index (E.digits component.now) (64 * at + p)) digit) }
 {
     know_rows(component);
     let len = block.len();
-    'parts: for k in 0..len.div_ceil(PART) {
-        let from = PART * k;
-        let part = &mut block[from..from + PART.min(len - from)];
+    'parts: for k in 0..len.div_ceil(PART_WORDS) {
+        let from = PART_WORDS * k;
+        let part = &mut block[from..from + PART_WORDS.min(len - from)];
         if !narrow_part(component, relation, digit, is_lowest, at + from, part) {
             return false;
         }
@@ -41,7 +41,7 @@ pub(crate) fn narrow_digit<E: Encoding>(
     true
 }
 
-/// Returns nothing: its contract bounds the rows of a component, as `len` does, for loops that do not call `len`.
+/// Does nothing when the program runs. Its clause tells a proof that a component has at most 2^32 rows.
 fn know_rows<E: Encoding>(component: &E)
     ensures { length (E.digits component.now) ≤ 2 ^ 32 }
 {
@@ -51,7 +51,7 @@ fn know_rows<E: Encoding>(component: &E)
 /// Takes one more digit into the test of a part of a block.
 fn narrow_part<E: Encoding>(
     component: &E,
-    relation: DigitRelation,
+    relation: Relation,
     digit: u32,
     is_lowest: bool,
     at: usize,
@@ -61,13 +61,13 @@ fn narrow_part<E: Encoding>(
     requires within { at + length block.old ≤ (length (E.digits component.now) + 63) / 64 }
     ensures { OnTrue result ((p : ℕ) → p < 64 * length block.old →
         64 * at + p < length (E.digits component.now) → bit_of block.new p
-        ≡ holds_from relation (is_lowest || bit_of block.old p)
+        ≡ relates_from relation (is_lowest || bit_of block.old p)
         (slice_index (E.digits component.now) (64 * at + p)) digit) }
 {
     match relation {
-        DigitRelation::Equal if is_lowest => component.eq_block_into(digit, at, block),
-        DigitRelation::Equal => component.eq_block(digit, at, block),
-        DigitRelation::AtMost if is_lowest => component.le_block_into(digit, at, block),
-        DigitRelation::AtMost => component.le_block(digit, at, block),
+        Relation::Equal if is_lowest => component.eq_block_into(digit, at, block),
+        Relation::Equal => component.eq_block(digit, at, block),
+        Relation::AtMost if is_lowest => component.le_block_into(digit, at, block),
+        Relation::AtMost => component.le_block(digit, at, block),
     }
 }

@@ -1,7 +1,7 @@
 //! The totals of a found set: the sum, by the sums of the digits, and the number of a rank, by narrowing the found set
 //! from the most significant component down.
 
-ghost use Rattle.std.specs.Prelude.{◌≡◌, ℕ, ◌^◌, ◌≤◌, ◌<◌, length, sum, IfOk};
+ghost use Rattle.std.specs.Prelude.{◌≡◌, ◌^◌, ◌≤◌, ◌<◌, length, sum, IfOk};
 ghost use Rattle.bsi_columns.specs.Totals.{numbers_at, IsRanked};
 
 use crate::choosing::choose_digit;

@@ -4,22 +4,21 @@ ghost use Rattle.std.specs.Prelude.{◌≡◌, ◌<◌, ◌&&◌, length, map, I
 ghost use Rattle.std.specs.Simd.Lanes.{zip2};
 ghost use Rattle.bsi_digits.specs.Digits.{size_of};
 ghost use Rattle.bsi_columns.specs.Rows.{number_or_zero};
-ghost use Rattle.bsi_columns.specs.DigitTests.{holds, holds_from, as_wanted, answers};
+ghost use Rattle.bsi_columns.specs.DigitTests.{relates_from, wants};
+ghost use Rattle.bsi_slices.specs.Decisions.{as_wanted, relates};
 
 use crate::decomposed::Decomposed;
-use crate::decomposed::decision::{DigitRelation, DigitTest};
 use crate::{Encoding, NoMemory};
 use bsi_bits::Bits;
+use bsi_slices::{Relation, Test};
 
 impl<E: Encoding> Decomposed<E> {
     /// Selects the rows whose number passes a test, by whole vectors. It works in the memory of `found` and one further
     /// vector.
-    pub(crate) fn select_vectors(&self, test: DigitTest, mut found: Bits) -> Result<Bits, NoMemory>
+    pub(crate) fn select_vectors(&self, test: Test, mut found: Bits) -> Result<Bits, NoMemory>
         requires below { test.constant < size_of self.now.bases }
         requires same { length self.now.entries ≡ length found.bits }
-        ensures { IfOk result (λ b. b.bits
-            ≡ map (answers (λ x. holds test.relation x test.constant) test.wanted)
-            self.now.entries) }
+        ensures { IfOk result (λ b. b.bits ≡ map (wants test) self.now.entries) }
     {
         let mut part = found.copy()?;
         self.narrow_vectors(test, &mut part, &mut found);
@@ -29,12 +28,12 @@ impl<E: Encoding> Decomposed<E> {
 
     /// Writes for each row whether its number is in the test's relation to the constant, be that wanted or not. A null
     /// row counts as 0.
-    fn narrow_vectors(&self, test: DigitTest, part: &mut Bits, found: &mut Bits)
+    fn narrow_vectors(&self, test: Test, part: &mut Bits, found: &mut Bits)
         requires below { test.constant < size_of self.now.bases }
         requires same_part { length self.now.entries ≡ length part.old.bits }
         requires same { length self.now.entries ≡ length found.old.bits }
         ensures { found.new.bits
-            ≡ map (λ e. holds test.relation (number_or_zero e) test.constant) self.now.entries }
+            ≡ map (λ e. relates test.relation (number_or_zero e) test.constant) self.now.entries }
     {
         let places = self.bases.len();
         let lowest = self.bases.digit(test.constant, 0);
@@ -53,21 +52,21 @@ impl<E: Encoding> Decomposed<E> {
 }
 
 /// Writes for each row whether its least significant digit is in the relation to the constant's digit.
-fn first_into<E: Encoding>(component: &E, relation: DigitRelation, digit: u32, found: &mut Bits)
+fn first_into<E: Encoding>(component: &E, relation: Relation, digit: u32, found: &mut Bits)
     requires below { digit < E.base_of component.now }
     requires same { length (E.digits component.now) ≡ length found.old.bits }
-    ensures { found.new.bits ≡ map (λ v. holds relation v digit) (E.digits component.now) }
+    ensures { found.new.bits ≡ map (λ v. relates relation v digit) (E.digits component.now) }
 {
     match relation {
-        DigitRelation::Equal => component.eq_into(digit, found),
-        DigitRelation::AtMost => component.le_into(digit, found),
+        Relation::Equal => component.eq_into(digit, found),
+        Relation::AtMost => component.le_into(digit, found),
     }
 }
 
 /// Takes one more digit into the test. It makes one call of the component for `=`, and one or two for `<=`.
 fn narrow_into<E: Encoding>(
     component: &E,
-    relation: DigitRelation,
+    relation: Relation,
     digit: u32,
     part: &mut Bits,
     found: &mut Bits,
@@ -76,15 +75,15 @@ fn narrow_into<E: Encoding>(
     requires same_part { length (E.digits component.now) ≡ length part.old.bits }
     requires same { length (E.digits component.now) ≡ length found.old.bits }
     ensures found { found.new.bits
-        ≡ zip2 (λ low v. holds_from relation low v digit) found.old.bits (E.digits component.now) }
+        ≡ zip2 (λ low v. relates_from relation low v digit) found.old.bits (E.digits component.now) }
     ensures part { length part.new.bits ≡ length part.old.bits }
 {
     match relation {
-        DigitRelation::Equal => {
+        Relation::Equal => {
             component.eq_into(digit, part);
             found.and_with(part);
         }
-        DigitRelation::AtMost => {
+        Relation::AtMost => {
             component.le_into(digit, part);
             found.and_with(part);
             if digit > 0 {

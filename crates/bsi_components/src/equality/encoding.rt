@@ -4,7 +4,8 @@ ghost use Rattle.std.specs.Prelude.{◌≡◌, ◌≢◌, ℕ, ◌+◌, ◌*◌,
 ghost use Rattle.std.specs.Bool.{OnTrue, OnFalse};
 ghost use Rattle.bsi_bits.specs.Packed.{bit_of};
 ghost use Rattle.bsi_components.specs.Component.{at_most_from};
-ghost use Rattle.bsi_components.specs.EndDigits.{AnswersGreatest, AnswersLeast, HasRow};
+ghost use Rattle.bsi_bits.specs.Marked.{HasMarked};
+ghost use Rattle.bsi_components.specs.EndDigits.{AnswersGreatest, AnswersLeast};
 
 use crate::NoMemory;
 use crate::answers::{EndDigit, RankedDigit};
@@ -214,7 +215,7 @@ impl Encoding for EqualityComponent {
         requires within { at + length block.now ≤ (length self.now.digits + 63) / 64 }
         requires rows { (p : ℕ) → p < 64 * length block.now → bit_of block.now p ≡ true →
             64 * at + p < length self.now.digits }
-        requires some { HasRow (bit_of block.now) (64 * length block.now) }
+        requires some { HasMarked (bit_of block.now) (64 * length block.now) }
         ensures done { result ≢ EndDigit.Unanswered }
         ensures answer { AnswersLeast limit (bit_of block.now)
             (λ p. slice_index self.now.digits (64 * at + p)) (64 * length block.now) result }
@@ -235,7 +236,7 @@ impl Encoding for EqualityComponent {
         requires within { at + length block.now ≤ (length self.now.digits + 63) / 64 }
         requires rows { (p : ℕ) → p < 64 * length block.now → bit_of block.now p ≡ true →
             64 * at + p < length self.now.digits }
-        requires some { HasRow (bit_of block.now) (64 * length block.now) }
+        requires some { HasMarked (bit_of block.now) (64 * length block.now) }
         ensures done { result ≢ EndDigit.Unanswered }
         ensures answer { AnswersGreatest limit (bit_of block.now)
             (λ p. slice_index self.now.digits (64 * at + p)) (64 * length block.now) result }

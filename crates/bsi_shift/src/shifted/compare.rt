@@ -1,7 +1,7 @@
 //! Comparisons of whole numbers with a constant, as comparisons of the stored numbers.
 
-ghost use Rattle.std.specs.Prelude.{◌≡◌, ℕ, ℤ, ◌<ℤ◌, ◌+◌, ◌*◌, ◌/◌, ◌&&◌, ◌<◌, ◌≤◌, ◌^◌, length, map, None, slice_index_or, is_none, IfOk, OnOk, OnErr};
-ghost use Rattle.bsi_bits.specs.Packed.{bit_of};
+ghost use Rattle.std.specs.Prelude.{◌≡◌, ℕ, ℤ, ◌<ℤ◌, ◌+◌, ◌*◌, ◌/◌, ◌&&◌, ◌<◌, ◌≤◌, ◌^◌, length, map, is_none, IfOk, OnOk, OnErr};
+ghost use Rattle.bsi_slices.specs.Blocks.{KeepsRows};
 ghost use Rattle.bsi_slices.specs.Orders.{compares_by};
 ghost use Rattle.bsi_slices.specs.Rows.{number_order};
 ghost use Rattle.bsi_shift.specs.Shifted.{shifted_entries, number_of};
@@ -43,10 +43,8 @@ impl Shifted {
         requires few { length block.old ≤ 1024 }
         requires within { at + length block.old ≤ (length (shifted_entries self.now) + 63) / 64 }
         ensures kept { OnErr result (block.new ≡ block.old) }
-        ensures rows { OnOk result ((p : ℕ) → p < 64 * length block.old →
-            64 * at + p < length (shifted_entries self.now) → bit_of block.new p
-            ≡ (bit_of block.old p && signed_selects op constant
-            (slice_index_or (shifted_entries self.now) (64 * at + p) None))) }
+        ensures rows { OnOk result (KeepsRows
+            (signed_selects op constant) (shifted_entries self.now) at block.old block.new) }
     {
         let (op, constant) = stored_comparison(op, constant, self.offset);
         self.stored.keep_selected(op, constant, at, block)
@@ -56,10 +54,7 @@ impl Shifted {
     /// It allocates no memory.
     pub fn keep_nulls(&self, at: usize, block: &mut [u64])
         requires { at + length block.old ≤ (length (shifted_entries self.now) + 63) / 64 }
-        ensures { (p : ℕ) → p < 64 * length block.old →
-            64 * at + p < length (shifted_entries self.now) → bit_of block.new p
-            ≡ (bit_of block.old p && is_none
-            (slice_index_or (shifted_entries self.now) (64 * at + p) None)) }
+        ensures { KeepsRows is_none (shifted_entries self.now) at block.old block.new }
     {
         self.stored.keep_nulls(at, block);
     }

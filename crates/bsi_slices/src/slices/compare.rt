@@ -5,20 +5,20 @@ ghost use Rattle.std.specs.Int.{bit_not, w64};
 ghost use Rattle.std.specs.Simd.Lanes.{zip2};
 ghost use Rattle.bsi_bits.specs.Packed.{bit_of};
 ghost use Rattle.bsi_slices.specs.Blocks.{IsKept};
+ghost use Rattle.bsi_slices.specs.Decisions.{passes};
 ghost use Rattle.bsi_slices.specs.Rows.{selects};
-ghost use Rattle.bsi_slices.specs.SliceTests.{passes, relates};
 ghost use Rattle.bsi_slices.specs.Slices.{entries_in, number, slice_at, IsSliced};
 
 use crate::NoMemory;
 use crate::column::Op;
+use crate::decision::{Decision, Relation, Test, decide};
 use crate::not_null::NotNull;
-use crate::slices::decision::{Decision, Relation, Test, decide};
 use bsi_bits::{Bits, know_fits};
 use std::alloc::Global;
 use std::simd::Simd;
 
 /// The number of words in a block. A block of this length fills half of a processor's 16 registers of two words.
-const BLOCK: usize = 16;
+const BLOCK_WORDS: usize = 16;
 
 /// Returns for each row whether it is a number that satisfies the comparison `op` with `constant`. It reads no slice if
 /// the answer is already known.
@@ -82,8 +82,8 @@ fn keep(slices: &[Bits], test: Test, start: usize, words: &mut [u64])
     ensures { IsKept (λ r. passes test (number slices.now (64 * start + r))) 0 (length words.old)
         words.old words.new }
 {
-    let whole = words.len() / BLOCK * BLOCK;
-    keep_blocks::<BLOCK>(slices, test, start, 0, words);
+    let whole = words.len() / BLOCK_WORDS * BLOCK_WORDS;
+    keep_blocks::<BLOCK_WORDS>(slices, test, start, 0, words);
     keep_blocks::<1>(slices, test, start, whole, words);
 }
 
@@ -108,32 +108,30 @@ fn keep_blocks<const N: usize>(
     let blocks = (words.len() - from) / N;
     'block: for k in 0..blocks {
         let at = from + N * k;
-        let found = related_block::<N>(slices, test.relation, test.constant, start + at);
-        let kept = Simd::<u64, N>::from_slice(&words[at..]);
-        cut(kept, found, !test.wanted).copy_to_slice(&mut words[at..]);
+        let block = Simd::<u64, N>::from_slice(&words[at..]);
+        kept_block(slices, test, start + at, block).copy_to_slice(&mut words[at..]);
     }
 }
 
-/// Returns for the rows of a block whether their numbers are in the relation to the constant.
-fn related_block<const N: usize>(
+/// Keeps in a block the rows whose numbers pass the test. The rows at most the constant are those not above it.
+fn kept_block<const N: usize>(
     slices: &[Bits],
-    relation: Relation,
-    constant: u64,
+    test: Test,
     at: usize,
+    block: Simd<u64, N>,
 ) -> Simd<u64, N>
     requires blocks { (1 ≤ N) × (N ≤ 64) }
     requires few { length slices.now ≤ 63 }
-    requires below { constant < 2 ^ length slices.now }
+    requires below { test.constant < 2 ^ length slices.now }
     requires long { (i : ℕ) → i < length slices.now →
         at + N ≤ (length (slice_at slices.now i) + 63) / 64 }
     ensures long { length result ≡ N }
-    ensures fits { (k : ℕ) → slice_index result k < 2 ^ 64 }
-    ensures bits { (p : ℕ) → p < 64 * N →
-        bit_of result p ≡ relates relation constant (number slices.now (64 * at + p)) }
+    ensures bits { (p : ℕ) → p < 64 * N → bit_of result p
+        ≡ (bit_of block.entry p && passes test (number slices.now (64 * at + p))) }
 {
-    match relation {
-        Relation::Above => above_block::<N>(slices, constant, at),
-        Relation::Equal => equal_block::<N>(slices, constant, at),
+    match test.relation {
+        Relation::Equal => cut(block, equal_block(slices, test.constant, at), !test.wanted),
+        Relation::AtMost => cut(block, above_block(slices, test.constant, at), test.wanted),
     }
 }
 

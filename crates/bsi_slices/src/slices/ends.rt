@@ -6,7 +6,8 @@
 
 ghost use Rattle.std.specs.Prelude.{◌≡◌, ℕ, ◌+◌, ◌*◌, ◌-◌, ◌/◌, ◌^◌, ◌<◌, ◌≤◌, ◌==◌, ◌&&◌, Some, None, false, if◌then◌else◌, length, slice_index, slice_index_or, IsTrue, IsFalse};
 ghost use Rattle.bsi_bits.specs.Packed.{bit_of};
-ghost use Rattle.bsi_slices.specs.Ends.{comes_first, leads, yields, IsBetterIn, IsEndUpto, IsEndOf, HasMarked, first_is_clear, nearest_place, number_at};
+ghost use Rattle.bsi_bits.specs.Marked.{HasMarked};
+ghost use Rattle.bsi_slices.specs.Ends.{comes_first, leads, yields, IsBetterIn, IsEndUpto, IsEndOf, first_is_clear, nearest_place, number_at};
 ghost use Rattle.bsi_slices.specs.Totals.{numbers_at};
 
 use crate::Column;
@@ -17,7 +18,7 @@ use bsi_bits::{Bits, know_fits};
 use std::simd::Simd;
 
 /// The number of words in a block. A block of this length fills half of a processor's 16 registers of two words.
-const BLOCK: usize = 16;
+const BLOCK_WORDS: usize = 16;
 
 /// An end of some numbers in order.
 #[derive(Clone, Copy)]
@@ -53,8 +54,8 @@ impl Slices {
         requires { length self.now.entries ≡ length found.now.bits }
         ensures { IsEndOf end (numbers_at found.now.bits self.now.entries) result }
     {
-        let whole = found.words().len() / BLOCK * BLOCK;
-        let best = self.end_upto::<BLOCK>(found, end, 0, None);
+        let whole = found.words().len() / BLOCK_WORDS * BLOCK_WORDS;
+        let best = self.end_upto::<BLOCK_WORDS>(found, end, 0, None);
         self.end_upto::<1>(found, end, whole, best)
     }
 

@@ -14,11 +14,11 @@ use bsi_bits::{Bits, know_fits, lanes};
 
 /// The number of words in a block that is narrowed. It is small, since narrowing leaves more and more blocks with no
 /// row.
-const BLOCK: usize = 32;
+const BLOCK_WORDS: usize = 32;
 
 /// The number of words of a found set in which all slices are counted before the next words are read. They take 8 KiB,
 /// so they stay in the first cache meanwhile.
-const COUNTED_WORDS: usize = 1024;
+const SUM_BLOCK_WORDS: usize = 1024;
 
 impl Slices {
     /// Returns the sum of the numbers at the rows of a found set. It reads the rows block by block, so that the
@@ -33,9 +33,9 @@ impl Slices {
         prove!(self.width() <= 63);
         let words = found.words().len();
         let mut total = 0;
-        'blocks: for k in 0..words.div_ceil(COUNTED_WORDS) {
-            let start = COUNTED_WORDS * k;
-            total += self.sum_in(found, start, words.min(start + COUNTED_WORDS));
+        'blocks: for k in 0..words.div_ceil(SUM_BLOCK_WORDS) {
+            let start = SUM_BLOCK_WORDS * k;
+            total += self.sum_in(found, start, words.min(start + SUM_BLOCK_WORDS));
         }
         total
     }
@@ -139,9 +139,9 @@ fn narrow_words(chosen: &mut [u64], words: &[u64], is_set: bool, next: &[u64]) -
 {
     let len = chosen.len();
     let mut clear = 0;
-    'blocks: for k in 0..len.div_ceil(BLOCK) {
-        let at = BLOCK * k;
-        let end = len.min(at + BLOCK);
+    'blocks: for k in 0..len.div_ceil(BLOCK_WORDS) {
+        let at = BLOCK_WORDS * k;
+        let end = len.min(at + BLOCK_WORDS);
         clear += narrow_block(
             &mut chosen[at..end],
             &words[at..end],
@@ -154,12 +154,12 @@ fn narrow_words(chosen: &mut [u64], words: &[u64], is_set: bool, next: &[u64]) -
 
 /// Narrows the words of a block as `narrow` does. If no row of them is chosen any more, it reads nothing else.
 fn narrow_block(chosen: &mut [u64], words: &[u64], is_set: bool, next: &[u64]) -> u64
-    requires few { length chosen.old ≤ BLOCK }
+    requires few { length chosen.old ≤ BLOCK_WORDS }
     requires same { length words.now ≡ length chosen.old }
     requires same_next { length next.now ≡ length chosen.old }
     ensures chosen { chosen.new ≡ zip2 (word_kept is_set) chosen.old words.now }
     ensures clear { result ≡ sum_by count_ones (zip2 (word_kept false) chosen.new next.now) }
-    ensures few { result ≤ 64 * BLOCK }
+    ensures few { result ≤ 64 * BLOCK_WORDS }
 {
     if is_empty(chosen) {
         return 0;

@@ -7,7 +7,7 @@ use Rattle.bsi_bits.specs.Packed.{bit_of}
 use Rattle.bsi_bits.proofs.Reading.{none_set}
 use Rattle.bsi_digits.specs.Digits.{size_of}
 use Rattle.bsi_columns.specs.Rows.{compares, number_or_zero}
-use Rattle.bsi_columns.specs.DigitTests.{decides}
+use Rattle.bsi_slices.specs.Decisions.{decides}
 use Rattle.bsi_columns.specs.Decomposed.{entries_of}
 use Rattle.bsi_columns.proofs.WordBlocks.{replicate_bit}
 use Rattle.bsi_columns.proofs.Answering.{and_false}

@@ -3,7 +3,7 @@ use Rattle.std.specs.Prelude.{None, is_some}
 use Rattle.std.proofs.lemmas.List.{get_or-map, length-map, length-take}
 use Rattle.bsi_bits.specs.Packed.{bit_of}
 use Rattle.bsi_columns.specs.Rows.{number_or_zero}
-use Rattle.bsi_columns.specs.DigitTests.{as_wanted, holds}
+use Rattle.bsi_slices.specs.Decisions.{as_wanted, relates}
 use Rattle.bsi_columns.specs.Decomposed.{entries_of}
 use Rattle.bsi_columns.proofs.Answering.{and_assoc, cut_answer}
 use Rattle.bsi_columns.proofs.decomposed.Decomposed.keep_tested.Goals as goal
@@ -15,7 +15,7 @@ returns-then-find_block-clause-rows g c =
     let present = inside.present.bits in
     let entries = entries_of inside.bases present (map g.E.Encoding.digits inside.components.items) in
     let block = c.args.block.now in
-    let test = λ (x : ℕ). holds c.args.test.relation x c.args.test.constant in
+    let test = λ (x : ℕ). relates c.args.test.relation x c.args.test.constant in
     let wanted = c.args.test.wanted in
     let size : length c.find_block.new.block ≡ length block =
     omega (arith, c.find_block.auto.block, c.requires.few, length-take {A = ℕ} (length block) (replicate 1024 0)) in

@@ -10,7 +10,7 @@ invariant_of-result g c =
       c.in_ok-components.ensures.bases,
       record {
         within = omega (arith, ap length c.new.ensures);
-        marks = omega arith;
+        bitmap = omega arith;
         each = λ i below. omega arith;
       },
     )

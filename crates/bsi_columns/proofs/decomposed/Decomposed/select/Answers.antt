@@ -3,7 +3,8 @@ use Rattle.std.specs.Prelude.{IfSome}
 use Rattle.std.proofs.lemmas.List.{length-map}
 use Rattle.bsi_bits.specs.Packed.{bit_of}
 use Rattle.bsi_bits.proofs.Reading.{bits_are}
-use Rattle.bsi_columns.specs.DigitTests.{holds, answers}
+use Rattle.bsi_slices.specs.Decisions.{relates}
+use Rattle.bsi_columns.specs.DigitTests.{answers}
 use Rattle.bsi_columns.specs.Decomposed.{entries_of}
 use Rattle.bsi_columns.proofs.EntriesFrom.{rows_of}
 use Rattle.bsi_columns.proofs.decomposed.Decomposed.select.Goals as goal
@@ -15,7 +16,7 @@ returns-in-Some g c =
     let present = inside.present.bits in
     let ds = map g.E.Encoding.digits inside.components.items in
     let entries = entries_of bs present ds in
-    let chosen = map (answers (λ x. holds c.args.test.relation x c.args.test.constant) c.args.test.wanted) entries in
+    let chosen = map (answers (λ x. relates c.args.test.relation x c.args.test.constant) c.args.test.wanted) entries in
     let told : IfSome c.in_ok-words.field-0 (λ words. (p : ℕ) → p < length entries → bit_of words.items p ≡ get_or chosen p false) =
     rw (← c.self.view_is) at c.in_ok-words.ensures.bits in
     let bits = rw c.in-Some.is at told in

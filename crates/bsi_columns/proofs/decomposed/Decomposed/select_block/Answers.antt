@@ -3,7 +3,7 @@ use Rattle.std.specs.Prelude.{None, is_some}
 use Rattle.std.proofs.lemmas.List.{length-map}
 use Rattle.bsi_bits.specs.Packed.{bit_of}
 use Rattle.bsi_columns.specs.Rows.{number_or_zero}
-use Rattle.bsi_columns.specs.DigitTests.{holds, as_wanted}
+use Rattle.bsi_slices.specs.Decisions.{as_wanted, relates}
 use Rattle.bsi_columns.specs.Decomposed.{entries_of}
 use Rattle.bsi_columns.proofs.BlockAnswers.{row_answer, answer_turned, answer_kept}
 use Rattle.bsi_columns.proofs.decomposed.Decomposed.select_block.Goals as goal
@@ -15,7 +15,7 @@ returns g c = λ p below row.
     let present = inside.present.bits in
     let entries = entries_of inside.bases present (map g.E.Encoding.digits inside.components.items) in
     let at = c.args.at in
-    let test = λ (x : ℕ). holds c.args.test.relation x c.args.test.constant in
+    let test = λ (x : ℕ). relates c.args.test.relation x c.args.test.constant in
     let in_row : 64 * at + p < length entries = rw (← c.self.view_is) at row in
     let number : ℕ = number_or_zero (get_or entries (64 * at + p) None) in
     let narrowed : bit_of c.find_block.new.block p ≡ test number = rw (← c.self.view_is) at (c.if-not-find_block.ensures p below row) in

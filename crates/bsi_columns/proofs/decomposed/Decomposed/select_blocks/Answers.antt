@@ -1,7 +1,8 @@
 use Rattle.std.proofs.Common.{◌≡◌, ◌-◌, ◌*◌, ◌++◌, ℕ, false, length, get_or, map, arith}
 use Rattle.std.specs.Prelude.{min}
 use Rattle.std.proofs.lemmas.List.{length-append, length-take}
-use Rattle.bsi_columns.specs.DigitTests.{holds, answers}
+use Rattle.bsi_slices.specs.Decisions.{relates}
+use Rattle.bsi_columns.specs.DigitTests.{answers}
 use Rattle.bsi_columns.proofs.BlockAnswers.{appended_bits}
 use Rattle.bsi_columns.proofs.decomposed.Decomposed.select_blocks.Goals as goal
 
@@ -10,7 +11,7 @@ loop-k-preserved g c =
     let words = c.loop-k.words.items in
     let block = c.select_block.new.block in
     let entries = c.args.self.now.entries in
-    let chosen = λ (r : ℕ). get_or (map (answers (λ x. holds c.args.test.relation x c.args.test.constant) c.args.test.wanted) entries) r false in
+    let chosen = λ (r : ℕ). get_or (map (answers (λ x. relates c.args.test.relation x c.args.test.constant) c.args.test.wanted) entries) r false in
     let after : c.extend_from_slice.new.self.items ≡ words ++ block = c.in_ok-extend_from_slice.ensures.items in
     let size : length block ≡ min 1024 (c.args.len - 1024 * c.loop-k.k) =
     omega (arith, c.select_block.auto.block, length-take c.min.result c.loop-k.buffer, c.min.array_long, c.min.ensures) in

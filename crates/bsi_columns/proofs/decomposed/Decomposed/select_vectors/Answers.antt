@@ -1,7 +1,7 @@
 use Rattle.std.proofs.Common.{◌≡◌, ℕ, ◌&&◌, map, ap, ◌∙◌}
 use Rattle.bsi_columns.specs.Rows.{number_or_zero}
 use Rattle.std.specs.Simd.Lanes.{zip2}
-use Rattle.bsi_columns.specs.DigitTests.{holds, as_wanted}
+use Rattle.bsi_slices.specs.Decisions.{as_wanted, relates}
 use Rattle.bsi_columns.specs.Decomposed.{entries_of}
 use Rattle.bsi_columns.proofs.Answering.{cut_answers}
 use Rattle.bsi_columns.proofs.decomposed.Decomposed.select_vectors.Goals as goal
@@ -11,7 +11,7 @@ returns g c =
     let inside = c.self.inside in
     let present = inside.present.bits in
     let entries = entries_of inside.bases present (map g.E.Encoding.digits inside.components.items) in
-    let test = λ (x : ℕ). holds c.args.test.relation x c.args.test.constant in
+    let test = λ (x : ℕ). relates c.args.test.relation x c.args.test.constant in
     let found : c.narrow_vectors.new.found.bits ≡ map (λ e. test (number_or_zero e)) entries = rw (← c.self.view_is) at c.narrow_vectors.ensures in
     rw (← c.self.view_is) (c.keep_answers.ensures ∙ ap (λ b. zip2 (λ answer there. as_wanted c.args.test.wanted answer && there) c.narrow_vectors.new.found.bits b.bits) c.bits.ensures
     ∙ cut_answers test c.args.test.wanted entries c.narrow_vectors.new.found.bits present found c.self.invariant.0.present_is)

@@ -1,6 +1,6 @@
 use Rattle.std.proofs.Common.{◌&&◌, sym, ap, ◌∙◌}
 use Rattle.bsi_bits.specs.Packed.{bit_of}
-use Rattle.bsi_columns.specs.DigitTests.{as_wanted}
+use Rattle.bsi_slices.specs.Decisions.{as_wanted}
 use Rattle.bsi_columns.proofs.BlockAnswers.{and_not_bit}
 use Rattle.bsi_columns.proofs.WordBlocks.{and_bit}
 use Rattle.bsi_columns.proofs.decomposed.compare.keep_wanted.Goals as goal

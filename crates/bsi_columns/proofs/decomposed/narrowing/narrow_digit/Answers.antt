@@ -1,7 +1,7 @@
 use Rattle.std.proofs.Common.{◌≡◌, ◌<◌, ◌+◌, ◌-◌, ◌*◌, ◌||◌, length, take, drop, arith}
 use Rattle.std.specs.Prelude.{min}
 use Rattle.std.proofs.lemmas.List.{length-take, length-drop}
-use Rattle.bsi_columns.specs.DigitTests.{holds_from}
+use Rattle.bsi_columns.specs.DigitTests.{relates_from}
 use Rattle.bsi_columns.proofs.BlockParts.{stepped_more}
 use Rattle.bsi_columns.proofs.decomposed.narrowing.narrow_digit.Goals as goal
 
@@ -16,6 +16,6 @@ parts-preserved g c =
     let begun : from < length block = omega (arith, same, c.parts-test.true, c.div_ceil-k-end.ensures) in
     let size : c.min.result ≡ min 64 (length block - from) = omega (arith, same, c.min.ensures) in
     let long : length (take n (drop from block)) ≡ n = omega (arith, length-take n (drop from block), length-drop from block, size, begun) in
-    stepped_more from (64 * (c.parts.k + 1)) (λ low v. holds_from c.args.relation (c.args.is_lowest || low) v c.args.digit) digits c.args.at n c.args.block.now block c.narrow_part.new.block
+    stepped_more from (64 * (c.parts.k + 1)) (λ low v. relates_from c.args.relation (c.args.is_lowest || low) v c.args.digit) digits c.args.at n c.args.block.now block c.narrow_part.new.block
     same (omega (arith, same, size, begun)) (omega (arith, c.narrow_part.auto.block, long)) (omega (arith, size)) (λ p below inside. omega (arith, same, size, begun)) c.parts.invariant
     (λ p below row. c.if-not-narrow_part.ensures p (omega (arith, long)) row)

@@ -1,7 +1,7 @@
 use Rattle.std.proofs.Common.{◌+◌, ◌*◌, ◌||◌, get_or, sym, ap₂, ◌∙◌}
 use Rattle.std.proofs.lemmas.Bool.{OnTrue_at, OnTrue_from}
 use Rattle.bsi_bits.specs.Packed.{bit_of}
-use Rattle.bsi_columns.specs.DigitTests.{holds_from}
+use Rattle.bsi_columns.specs.DigitTests.{relates_from}
 use Rattle.bsi_columns.proofs.decomposed.narrowing.narrow_part.Goals as goal
 
 -- of the lowest digit nothing is known before
@@ -11,4 +11,4 @@ returns-in-Equal g c =
     let old = c.args.block.now in
     let digit = get_or (g.E.Encoding.digits c.args.component.now) (64 * c.args.at + p) 0 in
     OnTrue_at whole c.eq_block_into.ensures.bits p below row
-    ∙ sym (ap₂ (λ r first. holds_from r (first || bit_of old p) digit c.args.digit) c.in-Equal.is c.if-is_lowest.true))
+    ∙ sym (ap₂ (λ r first. relates_from r (first || bit_of old p) digit c.args.digit) c.in-Equal.is c.if-is_lowest.true))

@@ -1,7 +1,7 @@
 use Rattle.std.proofs.Common.{◌+◌, ◌*◌}
 use Rattle.bsi_slices.specs.Slices.{number}
 use Rattle.bsi_slices.specs.Blocks.{IsKept}
-use Rattle.bsi_slices.specs.SliceTests.{passes}
+use Rattle.bsi_slices.specs.Decisions.{passes}
 use Rattle.bsi_slices.proofs.slices.compare.keep_blocks.Given as goal
 
 -- the blocks so far are kept

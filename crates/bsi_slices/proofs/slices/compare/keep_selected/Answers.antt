@@ -4,7 +4,7 @@ use Rattle.std.proofs.lemmas.Nat.{one_shl}
 use Rattle.bsi_bits.specs.Packed.{bit_of}
 use Rattle.bsi_bits.proofs.Reading.{none_set}
 use Rattle.bsi_slices.specs.Slices.{number}
-use Rattle.bsi_slices.specs.SliceTests.{decides, passes}
+use Rattle.bsi_slices.specs.Decisions.{decides, passes}
 use Rattle.bsi_slices.proofs.WordBlocks.{replicate_bit}
 use Rattle.bsi_slices.proofs.SliceSelections.{and_assoc, kept_decided}
 use Rattle.bsi_slices.proofs.slices.compare.keep_selected.Goals as goal

@@ -1,7 +1,8 @@
 use Rattle.std.proofs.Common.{ℕ, ◌*◌, List, length, ap, ◌∙◌, subst}
 use Rattle.bsi_bits.specs.Packed.{bit_of}
-use Rattle.bsi_slices.specs.Ends.{HasMarked}
-use Rattle.bsi_slices.proofs.EndBlocks.{some_marked, off_from_not}
+use Rattle.bsi_bits.specs.Marked.{HasMarked}
+use Rattle.bsi_bits.proofs.Marked.{some_marked}
+use Rattle.bsi_slices.proofs.EndBlocks.{off_from_not}
 use Rattle.bsi_slices.proofs.slices.ends.has_row.Goals as goal
 
 -- a word is not 0, and so has a bit

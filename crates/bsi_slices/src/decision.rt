@@ -1,29 +1,32 @@
-//! What a comparison with a constant asks of the binary places.
+//! What a comparison with a constant asks of the numbers below a size.
 //!
-//! Each comes down to `=` or `>`: `A >= v` is `A > v - 1`, and `A < v` and `A <= v` are complements. A constant that
-//! leaves nothing to ask is decided before any slice is read.
+//! Each comes down to `=` or `<=`: `A < v` is `A <= v - 1`, and `A > v` and `A >= v` are complements. A constant that
+//! leaves nothing to ask is decided before any number is read.
 
 ghost use Rattle.std.specs.Prelude.{◌≡◌, ℕ, ◌<◌};
+ghost use Rattle.bsi_slices.specs.Decisions.{decides, IsBelowSize};
 ghost use Rattle.bsi_slices.specs.Rows.{compares};
-ghost use Rattle.bsi_slices.specs.SliceTests.{decides, IsBelowSize};
-ghost use Rattle.bsi_slices.specs.declared.slices.decision.Decision.TheVariants.{Tested};
+ghost use Rattle.bsi_slices.specs.declared.decision.Decision.TheVariants.{Tested};
 
 use crate::column::Op;
 
 /// The relation of a number to a constant.
 #[derive(Clone, Copy)]
 pub enum Relation {
-    /// Above the constant.
-    Above,
     /// Equal to the constant.
     Equal,
+    /// At most the constant.
+    AtMost,
 }
 
 /// A relation to a constant, and whether the numbers are wanted that are in it or those that are not.
 #[derive(Clone, Copy)]
 pub struct Test {
+    /// The relation.
     pub relation: Relation,
+    /// The constant.
     pub constant: u64,
+    /// Whether the numbers in the relation are wanted.
     pub wanted: bool,
 }
 
@@ -39,7 +42,7 @@ pub enum Decision {
 }
 
 /// Decides a comparison for the numbers below a size.
-pub(crate) fn decide(op: Op, constant: u64, size: u64) -> Decision
+pub fn decide(op: Op, constant: u64, size: u64) -> Decision
     ensures decided { (x : ℕ) → x < size → decides result x ≡ compares op x constant }
     ensures below { IsBelowSize result size }
 {
@@ -52,12 +55,12 @@ pub(crate) fn decide(op: Op, constant: u64, size: u64) -> Decision
     match op {
         Op::Eq => tested(Relation::Equal, constant, true),
         Op::Ne => tested(Relation::Equal, constant, false),
-        Op::Gt => tested(Relation::Above, constant, true),
-        Op::Le => tested(Relation::Above, constant, false),
+        Op::Le => tested(Relation::AtMost, constant, true),
+        Op::Gt => tested(Relation::AtMost, constant, false),
         Op::Lt if constant == 0 => Decision::Nothing,
         Op::Ge if constant == 0 => Decision::Everything,
-        Op::Lt => tested(Relation::Above, constant - 1, false),
-        Op::Ge => tested(Relation::Above, constant - 1, true),
+        Op::Lt => tested(Relation::AtMost, constant - 1, true),
+        Op::Ge => tested(Relation::AtMost, constant - 1, false),
     }
 }
 

@@ -1,0 +1,32 @@
+-- Which numbers a comparison with a constant selects, as a test of each.
+use Rattle.std.specs.Prelude.{ℕ, ◌<◌, Bool, true, false, not, if◌then◌else◌, nat_eq, nat_le}
+use Rattle.bsi_slices.specs.declared.decision.Decision.{Decision}
+use Rattle.bsi_slices.specs.declared.decision.Decision.TheVariants.{Nothing, Everything, Tested}
+use Rattle.bsi_slices.specs.declared.decision.Relation.{Relation}
+use Rattle.bsi_slices.specs.declared.decision.Relation.TheVariants.{Equal, AtMost}
+use Rattle.bsi_slices.specs.declared.decision.Test.{Test}
+
+-- the number is in the relation to the constant
+abbrev pub relates : Relation → ℕ → ℕ → Bool
+relates Equal number constant = nat_eq number constant
+relates AtMost number constant = nat_le number constant
+
+-- the answer, or its complement where the numbers that are not in the relation are wanted
+abbrev pub as_wanted : Bool → Bool → Bool
+as_wanted wanted answer = if wanted then answer else not answer
+
+-- the test wants the number
+abbrev pub passes : Test → ℕ → Bool
+passes test number = as_wanted test.wanted (relates test.relation number test.constant)
+
+-- what a decision says of a number
+abbrev pub decides : Decision → ℕ → Bool
+decides Nothing number = false
+decides Everything number = true
+decides (Tested test) number = passes test number
+
+-- a constant that is tested is below the size
+abbrev pub IsBelowSize : Decision → ℕ → Type 0
+IsBelowSize Nothing size = Unit {0}
+IsBelowSize Everything size = Unit {0}
+IsBelowSize (Tested test) size = test.constant < size
