@@ -1,5 +1,5 @@
 #!/usr/bin/env python3
-"""Holds the documents to what they speak of: links, the version, lines of Rattle, the examples, and what runs print.
+"""Checks the documents against the repository: links, the version, quoted code, the examples, and what runs print.
 
 - A link to a file of the repository leads to one, and behind a # to a heading; so does each name docs/X.md.
 - The version in VERSION is that of the manual page, whose date is that of the newest heading of CHANGELOG.md, of that
