@@ -5,7 +5,7 @@ use Rattle.std.proofs.lemmas.Bool.Decides.{nat_tests}
 use mathlib.Core.List.{IsPrefix}
 use prog.Atomic.{either}
 use Rattle.logbook.specs.Pages.{Cell, cell, keeps, no_nib, step, Goes, Moves}
-use Rattle.bsi_versions.specs.Pages.{latest, Adds, AreGrowing, IsKept, Rows}
+use Rattle.bsi_versions.specs.Pages.{latest, Adds, AreGrowing, IsHistory, Rows}
 
 -- ---- beginnings of a list
 
@@ -77,7 +77,7 @@ moved xs ys n = Unit {0}
 
 adds_goes : (pages once : List Rows) (page : Rows) (old new : ℕ) → length (latest [] once) ≡ old → IsPrefix (latest [] once) page → length page ≡ new → AreGrowing [] pages → IsPrefix once pages
     → (b : Bool) → (length (latest [] pages) == old) ≡ b
-    → Goes IsKept shown moved 0 (once, (no_nib, None)) (λ n. either (n == old) new n) (Adds (step 0 old new page) (once, (no_nib, None))) ((length (latest [] pages), true) ∷ (0, true) ∷ []) pages
+    → Goes IsHistory shown moved 0 (once, (no_nib, None)) (λ n. either (n == old) new n) (Adds (step 0 old new page) (once, (no_nib, None))) ((length (latest [] pages), true) ∷ (0, true) ∷ []) pages
 adds_goes pages once page old new len begins long growing pre true is =
     let here : length (latest [] pages) ≡ old = grind (arith, nat_tests) in
     let same : latest [] once ≡ latest [] pages = prefix_whole (latest [] once) (latest [] pages) (once-begins [] once pages pre growing) (omega arith) in
@@ -105,7 +105,7 @@ adds_goes pages once page old new len begins long growing pre false is =
 
 -- whatever the history is, the step adds the list, or finds that the last one is of another length
 pub adds_moves : (once : List Rows) (page : Rows) (old new : ℕ) → length (latest [] once) ≡ old → IsPrefix (latest [] once) page → length page ≡ new
-    → Moves IsKept shown moved 0 (once, (no_nib, None)) (λ n. either (n == old) new n) (Adds (step 0 old new page) (once, (no_nib, None)))
+    → Moves IsHistory shown moved 0 (once, (no_nib, None)) (λ n. either (n == old) new n) (Adds (step 0 old new page) (once, (no_nib, None)))
 adds_moves once page old new len begins long cs pages kept pre away =
-    let P : List Cell → Type 0 = λ c. (0 < length c) × ((cell c 0).1 ≡ true) × Goes IsKept shown moved 0 (once, (no_nib, None)) (λ n. either (n == old) new n) (Adds (step 0 old new page) (once, (no_nib, None))) c pages in
+    let P : List Cell → Type 0 = λ c. (0 < length c) × ((cell c 0).1 ≡ true) × Goes IsHistory shown moved 0 (once, (no_nib, None)) (λ n. either (n == old) new n) (Adds (step 0 old new page) (once, (no_nib, None))) c pages in
     subst P (sym kept.words) (omega arith, refl, adds_goes pages once page old new len begins long kept.growing pre (length (latest [] pages) == old) refl)

@@ -20,7 +20,7 @@ AreGrowing rows [] = Unit {0}
 AreGrowing rows (page ∷ pages) = IsPrefix rows page × AreGrowing page pages
 
 -- the rule: the word that is shared is the length of the last list, and the lists grow
-pub record IsKept (cells : List Cell) (pages : List Rows) : Type 0 where
+pub record IsHistory (cells : List Cell) (pages : List Rows) : Type 0 where
   pub words : cells ≡ (length (latest [] pages), true) ∷ (0, true) ∷ []
   pub growing : AreGrowing [] pages
 

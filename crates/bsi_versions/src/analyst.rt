@@ -44,6 +44,7 @@ impl<B: Naming> Model for Analyst<B> {
 impl<B: Naming> Analyst<B> {
     ghost use Rattle.bsi_versions.specs.Questions.{IsAnalystReply};
 
+    /// Makes an analyst who knows a list.
     pub(crate) fn new(reader: Reader<Version, (), Covers<B>>, known: Reached) -> Analyst<B>
         requires { known.book ≡ B.book }
         ensures { result ≡ known.list }
@@ -52,7 +53,7 @@ impl<B: Naming> Analyst<B> {
     }
 
     /// Answers a query over a published list that begins with each list that the analyst knew. From then on it knows
-    /// that list. It waits for nobody.
+    /// that list. It never waits.
     pub fn ask(&mut self, query: &Query) -> Result<Answer, AnalystRefused>
         ensures reply { IsAnalystReply B.about.schema self.new query.now result }
         ensures known { IsPrefix self.old self.new }
@@ -67,13 +68,9 @@ impl<B: Naming> Analyst<B> {
         if known.len() < self.known.len() {
             return Err(AnalystRefused::Gone);
         }
-        match reply {
-            Ok(answer) => {
-                self.known = known;
-                Ok(answer)
-            }
-            Err(refused) => Err(AnalystRefused::Ask(refused)),
-        }
+        let answer = reply.map_err(AnalystRefused::Ask)?;
+        self.known = known;
+        Ok(answer)
     }
 
     /// Learns of a list: each later answer is over a list that begins with it. It allocates no memory.

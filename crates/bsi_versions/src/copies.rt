@@ -89,6 +89,7 @@ fn append_stage<B: Naming>(
             *stage = rows;
             Err(NoMemory)
         }
+        // A refused operation comes back as it was given, so this is none.
         Err(Operation::Mark(_)) => Err(NoMemory),
     }
 }
@@ -118,10 +119,9 @@ pub(crate) fn mark<B: Naming>(
     if !history.add::<Copies<B>, Next>(copies, len) {
         return Err(NoMemory);
     }
-    match copies.append(Operation::Mark(history.known())) {
-        Ok(()) => Ok(()),
-        Err(_) => Err(NoMemory),
-    }
+    copies
+        .append(Operation::Mark(history.known()))
+        .map_err(|_| NoMemory)
 }
 
 /// Shows at one step the copy that has every pending operation.

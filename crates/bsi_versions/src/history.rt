@@ -15,9 +15,9 @@ pub(crate) struct Law;
 impl Rule<Page, u64> for Law {
     ghost use Rattle.std.specs.Prelude.{[]};
     ghost use base.Fml.{ftrue};
-    ghost use Rattle.bsi_versions.specs.Pages.{IsKept};
+    ghost use Rattle.bsi_versions.specs.Pages.{IsHistory};
 
-    ghost holds = { λ cells pages. IsKept cells pages };
+    ghost holds = { λ cells pages. IsHistory cells pages };
 
     ghost first = { [] };
 

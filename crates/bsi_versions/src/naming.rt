@@ -9,8 +9,10 @@ pub trait Naming {
     ghost use Rattle.logbook.specs.Pages.{Book};
     ghost use Rattle.bsi_table.specs.Table.{Table};
 
+    /// The history that the system writes.
     ghost book: { Book };
 
+    /// The table with no row that it began as.
     ghost about: { Table };
 }
 

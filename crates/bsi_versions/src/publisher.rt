@@ -137,7 +137,8 @@ impl<B: Naming> Publisher<B> {
         Ok(Analyst::new(reader, self.copies.published().known().again()))
     }
 
-    /// Ends the writing end. It drops the held rows, and waits for analysts that read.
+    /// Ends the writing end. It drops the held rows, and waits for analysts that read. It has no `ensures`, because
+    /// nothing is left of which a clause could speak.
     pub fn end<R: Wait>(self, rt: &R) {
         let Publisher {
             copies,

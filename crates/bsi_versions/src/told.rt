@@ -6,7 +6,8 @@ use crate::Naming;
 use crate::history::Reached;
 use std::marker::{Model, PhantomData};
 
-/// The word that a list was published, for an analyst of the same system to learn. It may move to the analyst's thread.
+/// The notice that a list was published, for an analyst of the same system to learn. It may move to the analyst's
+/// thread.
 #[derive(Drop)]
 pub struct Told<B: Naming> {
     known: Reached,
@@ -26,6 +27,7 @@ impl<B: Naming> Model for Told<B> {
 }
 
 impl<B: Naming> Told<B> {
+    /// Makes the notice of a list.
     pub(crate) fn new(known: Reached) -> Told<B>
         requires { known.book ≡ B.book }
         ensures { result ≡ known.list }
@@ -36,7 +38,7 @@ impl<B: Naming> Told<B> {
         }
     }
 
-    /// Gives up the word and returns what it knows.
+    /// Consumes the notice and returns the list that it tells of.
     pub(crate) fn into_known(self) -> Reached
         ensures book { result.book ≡ B.book }
         ensures list { result.list ≡ self }

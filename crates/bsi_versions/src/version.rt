@@ -26,6 +26,7 @@ impl Model for Version {
 impl Version {
     ghost use Rattle.bsi_table.specs.Table.{with_rows};
 
+    /// Makes a version of an index and the list that its rows make.
     pub(crate) fn new(index: Index, known: Reached) -> Version
         ensures { result ≡ record { table = index; known = known } }
     {
