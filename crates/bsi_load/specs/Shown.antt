@@ -17,8 +17,7 @@ use Rattle.bsi_load.specs.declared.event.Reply.TheVariants.{Submitted, Loaded, C
 use Rattle.bsi_load.specs.declared.event.SubmitRefused.{SubmitRefused}
 use Rattle.bsi_load.specs.declared.event.SubmitRefused.TheVariants as submit
 
--- what is seen of a feeder: its waiting rows, the first of them first, whether it was closed, and how many rows may
--- wait
+-- what is seen of a feeder: its waiting rows in order, whether it was closed, and how many rows may wait
 pub record Waiting : Type 0 where
   pub rows : List Entries
   pub closed : Bool
@@ -54,7 +53,7 @@ abbrev pub refusal_of_append : AppendError → LoadRefused
 refusal_of_append append.IndexFull = load.IndexFull
 refusal_of_append append.NoMemory = load.NoMemory
 
--- the first refusal of a load, want of memory apart
+-- the first refusal of a load, leaving aside memory
 abbrev pub load_refusal : Shown → ℕ → Option LoadRefused
 load_refusal s f =
     if is_unknown s f then Some load.UnknownFeeder

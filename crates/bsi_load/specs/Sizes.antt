@@ -18,7 +18,7 @@ is_out_of_range capacity = nat_eq capacity 0 || nat_lt 65536 capacity
 abbrev pub capacities_refusal : List ℕ → Option MakeError
 capacities_refusal capacities = option_map CapacityOutOfRange (position is_out_of_range capacities)
 
--- the first refusal of a machine, want of memory apart
+-- the first refusal of a machine, leaving aside memory
 abbrev pub sizes_refusal : Declared → List ℕ → ℕ → Option MakeError
 sizes_refusal schema capacities limit =
     if nat_eq (length capacities) 0 then Some NoFeeders

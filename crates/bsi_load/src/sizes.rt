@@ -48,8 +48,8 @@ impl From<IndexError> for MakeError {
     }
 }
 
-/// Tells how a machine of this schema, with a feeder for each capacity and at most `limit` indexed rows, is refused,
-/// lack of memory apart. It allocates no memory.
+/// Checks the sizes of a machine: this schema, a feeder for each capacity, and at most `limit` indexed rows. It asks for
+/// no memory.
 pub fn check_sizes(schema: &Schema, capacities: &[u32], limit: u64) -> Result<(), MakeError>
     ensures { result_err result ≡ sizes_refusal schema.now capacities.now limit }
 {
@@ -68,10 +68,10 @@ fn check_capacities(capacities: &[u32]) -> Result<(), MakeError>
     requires { length capacities.now ≤ 64 }
     ensures { result_err result ≡ capacities_refusal capacities.now }
 {
-    match first_out_of_range(capacities) {
-        None => Ok(()),
-        Some(f) => Err(MakeError::CapacityOutOfRange(f as u32)),
+    if let Some(f) = first_out_of_range(capacities) {
+        return Err(MakeError::CapacityOutOfRange(f as u32));
     }
+    Ok(())
 }
 
 /// Returns the place of the first capacity that is out of range, or none if there is no such capacity.
