@@ -82,17 +82,17 @@ abbrev pub IsWhole : Intake → Type 0
 IsWhole i = IfSome i.told (λ sent. i.taken ++ i.seen ≡ sent)
 
 -- what a lane keeps: once its closing was told, that is whole, and each row that was sent fits
-pub record IsLane (schema : Declared) (taken seen : List Entries) (told : Option (List Entries)) : Type 0 where
-  pub whole : IfSome told (λ sent. taken ++ seen ≡ sent)
-  pub fitting : IfSome told (AllFit schema)
+pub record IsLane (lane : LaneName) (taken seen : List Entries) (told : Option (List Entries)) : Type 0 where
+  pub whole : IsWhole (record { lane = lane; taken = taken; seen = seen; told = told })
+  pub fitting : IfSome told (AllFit lane.schema)
 
 -- so many rows are seen in the ring, and nothing else changed
 abbrev pub with_seen : Intake → List Entries → Intake
 with_seen i seen = record i { seen = seen }
 
 -- the first row that is seen is taken
-abbrev pub Takes : Intake → Entries → Intake → Type 0
-Takes old row new = (old.seen ≡ row ∷ new.seen) × (new ≡ record old { taken = old.taken ++ row ∷ []; seen = new.seen })
+abbrev pub TakesFirst : Intake → Entries → Intake → Type 0
+TakesFirst old row new = (old.seen ≡ row ∷ new.seen) × (new ≡ record old { taken = old.taken ++ row ∷ []; seen = new.seen })
 
 -- the closing was told: all that was sent and not taken is seen
 abbrev pub Settles : Intake → Sent → Intake → Type 0

@@ -8,7 +8,7 @@ use std::alloc::Global;
 use std::marker::Model;
 use std::sync::Arc;
 
-/// The word of a feeder that has ended, from which the loader learns of all rows that were sent. It may move to the
+/// The notice that a feeder has ended, from which the loader learns of all rows that were sent. It may move to the
 /// loader's thread.
 #[derive(Drop)]
 pub struct Closing {
@@ -60,7 +60,7 @@ impl Closing {
         self.number
     }
 
-    /// Gives up the closing and returns what is left of the feeder's end.
+    /// Consumes the closing and returns what is left of the feeder's end.
     pub(crate) fn into_finished(self) -> Finished<Row>
         ensures ring { ring_of result.end ≡ self.lane.ring }
         ensures rows { all_sent result ≡ self.rows }

@@ -10,7 +10,7 @@ use std::marker::Model;
 use std::sync::Arc;
 
 /// Why a row is not sent, in the order of the checks. The row is handed back.
-#[derive(Debug, Drop)]
+#[derive(Debug, Drop, PartialEq, Eq)]
 pub enum SubmitRefused {
     /// The row does not fit the schema.
     Misfit(Row),
@@ -68,7 +68,7 @@ impl Feeder {
         self.number
     }
 
-    /// Sends a row. It allocates no memory and waits for nobody.
+    /// Sends a row. It allocates no memory and never waits.
     pub fn submit(&mut self, row: Row) -> Result<(), SubmitRefused>
         ensures reply { IsSubmitReply self.old row result }
         ensures sent { OnOk result (self.new ≡ with_sent self.old row) }
@@ -84,7 +84,7 @@ impl Feeder {
     }
 
     /// Ends the feeder, and returns the closing that tells the loader which rows were sent. It returns none if the ring
-    /// gives no such word, for example because the loader is gone.
+    /// tells nothing, for example because the loader is gone.
     pub fn close(self) -> Option<Closing>
         ensures { IfSome result (Closes self) }
     {

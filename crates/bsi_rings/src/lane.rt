@@ -44,13 +44,13 @@ impl Model for Lane {
       told = option_map all_sent l.finished;
     } };
 
-    ghost invariant = { λ l. IsLane l.schema.value (received l.ring) (known_items l.ring)
-        (option_map all_sent l.finished) };
+    ghost invariant = { λ l. IsLane (record { ring = ring_of l.ring.end; schema = l.schema.value })
+        (received l.ring) (known_items l.ring) (option_map all_sent l.finished) };
 }
 
 impl Lane {
     ghost use Rattle.rtrb.specs.Ring.{received, known_items};
-    ghost use Rattle.bsi_rings.specs.Rings.{new_intake, ring_of, with_seen, IsFront, IsWhole, Settles, Takes};
+    ghost use Rattle.bsi_rings.specs.Rings.{new_intake, ring_of, with_seen, IsFront, IsWhole, Settles, TakesFirst};
 
     /// Makes the lane of a ring from which nothing has been taken.
     pub(crate) fn new(schema: Arc<Schema, Global>, ring: Consumer<Row>) -> Lane
@@ -106,7 +106,7 @@ impl Lane {
     /// Takes the row that stands first out of the ring.
     pub fn take_first(&mut self) -> Row
         requires { 0 < length self.old.seen }
-        ensures taken { Takes self.old result self.new }
+        ensures taken { TakesFirst self.old result self.new }
         ensures whole { IsWhole self.new }
     {
         self.ring.pop_known()

@@ -1,13 +1,13 @@
 -- A system as it is opened.
-use Rattle.std.proofs.Common.{◌≡◌, ℕ, zero, suc, ◌+◌, ◌<◌, List, [], ◌∷◌, ◌++◌, All, length, map, replicate, refl, sym, ◌∙◌, subst, ap, arith, Some}
+use Rattle.std.proofs.Common.{◌≡◌, ℕ, zero, suc, List, [], ◌∷◌, ◌++◌, All, length, map, refl, sym, ◌∙◌, subst, ap, Some}
 use Rattle.std.specs.Prelude.{slice_get}
 use Rattle.std.proofs.lemmas.List.{length-map}
 use Rattle.std.proofs.lemmas.List.Elements.{All-cons, All-map, All-nil}
 use Rattle.bsi_table.specs.Columns.{Declared}
-use Rattle.bsi_table.specs.Table.{no_rows, Table}
+use Rattle.bsi_table.specs.Table.{no_rows}
 use Rattle.bsi_rings.specs.Rings.{lanes_of, new_feeders, new_intake, new_sending, AreOpened, Intake, IsWhole, LaneName, Sending}
 use Rattle.bsi_versions.specs.Editions.{Written}
-use Rattle.bsi_system.specs.Running.{loading, new_loading, no_taking, taking, taking_at, takings_of, IsFeederOf, IsLoader, System, Taking}
+use Rattle.bsi_system.specs.Running.{loading, new_loading, no_taking, taking_at, takings_of, IsFeederOf, IsLoader, System, Taking}
 
 takings-new : (lanes : List LaneName) → takings_of (map new_intake lanes) ≡ map (λ (lane : LaneName). no_taking) lanes
 takings-new [] = refl

@@ -1,2 +1,3 @@
 pub mod Beginning
+pub mod Mapped
 pub mod Takings

@@ -1,24 +1,22 @@
 -- What a loader keeps to, from call to call.
-use Rattle.std.proofs.Common.{◌≡◌, ◌≢◌, ℕ, zero, suc, ◌+◌, ◌<◌, ◌≤◌, Bool, true, false, cond, List, [], ◌∷◌, ◌++◌, Option, None, Some, All, length, map, set, get_or, refl, sym, ◌∙◌, subst, ap, arith, append_assoc, length-append, inl, inr}
-use Rattle.std.specs.Prelude.{nat_eq, slice_get, option_map, IfSome, IsTrue, Result, Ok, Err, ◌⊎◌}
+use Rattle.std.proofs.Common.{◌≡◌, ◌≢◌, ℕ, zero, suc, ◌<◌, ◌≤◌, Bool, true, false, cond, List, [], ◌∷◌, ◌++◌, Option, None, Some, All, length, map, set, get_or, refl, sym, ◌∙◌, subst, ap, arith, append_assoc, length-append, inl, inr}
+use Rattle.std.specs.Prelude.{nat_eq, slice_get, option_map, IfSome, IsTrue, Err, ◌⊎◌}
 use Rattle.std.proofs.lemmas.Bool.Decides.{nat_tests}
-use Rattle.std.proofs.lemmas.Bool.{cases_eq}
 use Rattle.std.proofs.lemmas.List.{append-nil, get_or-set_other, get_or-set_same, length-map, length-set, map-set, set-get_or}
 use Rattle.std.proofs.lemmas.List.Elements.{filter_map-append, All-get_or, All-set}
 use Rattle.std.proofs.lemmas.Option.{get_or_from_slice_get, slice_get_cases, slice_get-map, slice_get_read, slice_get_within}
 use mathlib.Core.List.{IsPrefix}
 use Rattle.bsi_table.specs.Columns.{fits, Declared}
 use Rattle.bsi_table.specs.Rows.{Entries, FedRow}
-use Rattle.bsi_load.specs.declared.event.LoadRefused.{LoadRefused}
 use Rattle.bsi_load.specs.declared.event.LoadRefused.TheVariants as load
 use Rattle.bsi_load.specs.Runs.{rows_from}
 use Rattle.bsi_rings.specs.declared.lane.Front.{Front}
 use Rattle.bsi_rings.specs.declared.lane.Front.TheVariants as front
-use Rattle.bsi_rings.specs.Rings.{lanes_of, with_seen, Intake, IsFront, IsWhole, LaneName, Sent}
+use Rattle.bsi_rings.specs.Rings.{lanes_of, with_seen, Intake, IsWhole, LaneName, Sent}
 use Rattle.bsi_versions.specs.Editions.{Written}
 use Rattle.bsi_versions.specs.Editions as editions
-use Rattle.bsi_system.specs.Lanes.{AreSame, IsFirstAt, IsFirstReply, LooksAt, SettlesAt, TakesAt}
-use Rattle.bsi_system.specs.Running.{loading, no_taking, published_all, settled_as, taken, taking, taking_at, takings_of, told, with_taken, Balanced, IsLoader, IsLoadReply, IsOf, IsSettled, Loading, Loads, MayLoad, Taking, WithinTold}
+use Rattle.bsi_system.specs.Lanes.{AreUntaken, IsFirstAt, IsFirstReply, LooksAt, SettlesAt, TakesAt}
+use Rattle.bsi_system.specs.Running.{loading, no_taking, settled_as, taken, taking, taking_at, takings_of, told, with_taken, Balanced, IsLoader, Loading, Loads, MayLoad, Taking, WithinTold}
 
 -- ---- one place of a list
 
@@ -42,14 +40,14 @@ there intakes f i at = omega (arith, slice_get_within intakes f i at, length-map
 
 -- ---- looking at a lane
 
-pub looks_same : (old : List Intake) (f : ℕ) (found : Front) (new : List Intake) → LooksAt old f found new → AreSame old new
+pub looks_same : (old : List Intake) (f : ℕ) (found : Front) (new : List Intake) → LooksAt old f found new → AreUntaken old new
 looks_same old f found new looks = record {
   takings = ap takings_of looks.now ∙ map-set_same taking old f looks.before (with_seen looks.before looks.seen) looks.at refl;
   lanes = ap lanes_of looks.now ∙ map-set_same (λ (i : Intake). i.lane) old f looks.before (with_seen looks.before looks.seen) looks.at refl;
   whole = λ all. subst (All IsWhole) (sym looks.now) (All-set IsWhole old f (with_seen looks.before looks.seen) looks.whole all);
 }
 
-pub same_self : (intakes : List Intake) → AreSame intakes intakes
+pub same_self : (intakes : List Intake) → AreUntaken intakes intakes
 same_self intakes = record { takings = refl; lanes = refl; whole = λ all. all }
 
 not_longer : (xs rest : List Entries) (row : Entries) → xs ++ (row ∷ rest) ≢ xs
@@ -107,7 +105,7 @@ module _ (intakes : List Intake) (w : Written) (is : IsLoader intakes w) where
           subst (λ (t : Taking). IfSome t.told (λ sent. IsPrefix t.taken sent)) (sym (taking_at-of intakes f at.0 at.2)) (prefix_of at.0 at.0.told refl whole)
       by (inr past) = subst (λ (t : Taking). IfSome t.told (λ sent. IsPrefix t.taken sent)) (sym (taking_at-past intakes f past.0)) tt
 
-  module _ (new : List Intake) (same : AreSame intakes new) where
+  module _ (new : List Intake) (same : AreUntaken intakes new) where
     pub same_loading : loading new w ≡ loading intakes w
     same_loading =
         ap (λ (ts : List Taking). record { system = record { lanes = lanes_of new; schema = w.table.schema; limit = w.table.limit }; takings = ts; published = w.table.rows; held = w.held }) same.takings

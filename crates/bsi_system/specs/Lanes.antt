@@ -1,11 +1,11 @@
 -- What is done with one lane of a list of them.
-use Rattle.std.specs.Prelude.{◌≡◌, ℕ, ◌<◌, ◌≤◌, ⊤, Bool, true, false, All, IsTrue, List, [], ◌∷◌, None, Some, Result, Ok, Err, length, slice_get, slice_set}
+use Rattle.std.specs.Prelude.{◌≡◌, ℕ, ◌<◌, ◌≤◌, ⊤, Bool, true, false, All, IsTrue, List, ◌∷◌, None, Some, Result, Ok, Err, length, slice_get, slice_set}
 use Rattle.bsi_table.specs.Columns.{fits}
 use Rattle.bsi_table.specs.Rows.{Entries}
 use Rattle.bsi_load.specs.declared.event.LoadRefused.{LoadRefused}
 use Rattle.bsi_load.specs.declared.event.LoadRefused.TheVariants as load
 use Rattle.bsi_rings.specs.declared.lane.Front.{Front}
-use Rattle.bsi_rings.specs.Rings.{lanes_of, with_seen, Intake, IsFront, IsWhole, Sent, Settles, Takes}
+use Rattle.bsi_rings.specs.Rings.{lanes_of, with_seen, Intake, IsFront, IsWhole, Sent, Settles, TakesFirst}
 use Rattle.bsi_system.specs.Running.{taking_at, takings_of, IsSettled, MayLoad, Taking}
 
 -- one lane was looked at
@@ -23,7 +23,7 @@ pub record TakesAt (old : List Intake) (f : ℕ) (row : Entries) (new : List Int
   pub after : Intake
   pub at : slice_get old f ≡ Some before
   pub now : new ≡ slice_set old f after
-  pub takes : Takes before row after
+  pub takes : TakesFirst before row after
   pub whole : IsWhole after
 
 -- the closing of one lane was told
@@ -36,7 +36,7 @@ pub record SettlesAt (old : List Intake) (f : ℕ) (closing : Sent) (new : List 
   pub whole : IsWhole after
 
 -- nothing was taken or told
-pub record AreSame (old new : List Intake) : Type 0 where
+pub record AreUntaken (old new : List Intake) : Type 0 where
   pub takings : takings_of new ≡ takings_of old
   pub lanes : lanes_of new ≡ lanes_of old
   pub whole : All IsWhole old → All IsWhole new
@@ -49,7 +49,7 @@ pub record IsFirstAt (intakes : List Intake) (f : ℕ) (row : Entries) : Type 0 
   pub first : intake.seen ≡ row ∷ rest
   pub fitting : IsTrue (fits intake.lane.schema.columns row)
 
--- a row is refused for want of a place or of memory only where one is seen first
+-- a load is refused for a full index or for memory only if a row stands first in the ring
 abbrev pub IsSeenWhere : List Intake → ℕ → LoadRefused → Type 0
 IsSeenWhere intakes f load.IndexFull = (row : Entries) × IsFirstAt intakes f row
 IsSeenWhere intakes f load.NoMemory = (row : Entries) × IsFirstAt intakes f row

@@ -8,8 +8,8 @@ use Rattle.bsi_system.specs.Running.{new_loading}
 use Rattle.bsi_system.specs.declared.system.OpenRefused.{OpenRefused}
 use Rattle.bsi_system.specs.declared.system.OpenRefused.TheVariants.{Make, Readers}
 
--- the refusal of the sizes or, where there is none, want of memory, or that an analyst's place was not found, with the
--- loader that was made
+-- the refusal of the sizes or, if there is none, that memory was refused; or that no place was found for an analyst,
+-- with the loader that was made
 abbrev pub IsOpenRefusal : {B : Type 0} → Option MakeError → Declared → ℕ → OpenRefused B → Type 0
 IsOpenRefusal sizes schema limit (Make refused) = IsFirstOr made.NoMemory sizes refused
 IsOpenRefusal sizes schema limit (Readers loader) =

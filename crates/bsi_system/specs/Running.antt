@@ -1,12 +1,12 @@
 -- What contracts see of a loader, and what its calls may answer.
-use Rattle.std.specs.Prelude.{◌≡◌, ◌≢◌, ℕ, ◌+◌, ◌<◌, ◌≤◌, Bool, true, false, All, IfSome, IsTrue, List, [], ◌∷◌, ◌++◌, Option, None, Some, Result, Ok, Err, length, map, slice_get, slice_index_or, slice_set}
+use Rattle.std.specs.Prelude.{◌≡◌, ◌≢◌, ℕ, ◌+◌, ◌<◌, ◌≤◌, All, IfSome, IsTrue, List, [], ◌∷◌, ◌++◌, Option, None, Some, Result, Ok, Err, length, map, slice_get, slice_index_or, slice_set}
 use mathlib.Core.List.{IsPrefix}
 use Rattle.bsi_table.specs.Columns.{fits, Declared}
 use Rattle.bsi_table.specs.Rows.{Entries, FedRow}
 use Rattle.bsi_load.specs.declared.event.LoadRefused.{LoadRefused}
 use Rattle.bsi_load.specs.declared.event.LoadRefused.TheVariants as load
 use Rattle.bsi_load.specs.Runs.{rows_from}
-use Rattle.bsi_rings.specs.Rings.{lanes_of, Intake, IsFront, IsWhole, LaneName, Sending, Sent}
+use Rattle.bsi_rings.specs.Rings.{lanes_of, Intake, IsWhole, LaneName, Sending, Sent}
 use Rattle.bsi_versions.specs.Editions.{Written}
 
 -- which rings a system has, the schema of its rows, and the most rows of its table
@@ -78,13 +78,13 @@ MayLoad takings f = (f < length takings) × ((taking_at takings f).told ≢ Some
 
 -- the reply to a load: there is no such feeder; it is settled; no row was seen, and none was told of; the published and
 -- the held rows are as many as the limit; else the row is loaded, or there is no memory
-abbrev pub IsLoadReply : Loading → ℕ → Result (Unit {0}) LoadRefused → Type 0
-IsLoadReply s f (Ok done) = MayLoad s.takings f × (length s.published + length s.held < s.system.limit)
-IsLoadReply s f (Err load.UnknownFeeder) = length s.takings ≤ f
-IsLoadReply s f (Err load.Ended) = (f < length s.takings) × IsSettled s.takings f
-IsLoadReply s f (Err load.Empty) = (f < length s.takings) × (told s f ≡ None)
-IsLoadReply s f (Err load.IndexFull) = MayLoad s.takings f × (length s.published + length s.held ≡ s.system.limit)
-IsLoadReply s f (Err load.NoMemory) = MayLoad s.takings f × (length s.published + length s.held < s.system.limit)
+abbrev pub IsLoaderReply : Loading → ℕ → Result (Unit {0}) LoadRefused → Type 0
+IsLoaderReply s f (Ok done) = MayLoad s.takings f × (length s.published + length s.held < s.system.limit)
+IsLoaderReply s f (Err load.UnknownFeeder) = length s.takings ≤ f
+IsLoaderReply s f (Err load.Ended) = (f < length s.takings) × IsSettled s.takings f
+IsLoaderReply s f (Err load.Empty) = (f < length s.takings) × (told s f ≡ None)
+IsLoaderReply s f (Err load.IndexFull) = MayLoad s.takings f × (length s.published + length s.held ≡ s.system.limit)
+IsLoaderReply s f (Err load.NoMemory) = MayLoad s.takings f × (length s.published + length s.held < s.system.limit)
 
 -- one row more was taken
 abbrev pub with_taken : Taking → Entries → Taking

@@ -4,7 +4,7 @@ ghost use Rattle.std.specs.Prelude.{◌≡◌, ◌<◌, Some, IfErr, IfOk, lengt
 ghost use Rattle.bsi_table.specs.Rows.{Entries};
 ghost use Rattle.bsi_rings.specs.Rings.{lanes_of};
 ghost use Rattle.bsi_system.specs.Running.{takings_of};
-ghost use Rattle.bsi_system.specs.Lanes.{AreSame, IsFirstAt, IsFirstReply, IsSeenWhere, LooksAt, SettlesAt, TakesAt};
+ghost use Rattle.bsi_system.specs.Lanes.{AreUntaken, IsFirstAt, IsFirstReply, IsSeenWhere, LooksAt, SettlesAt, TakesAt};
 
 use bsi_load::LoadRefused;
 use bsi_rings::{Closing, Front, Lane};
@@ -13,7 +13,7 @@ use bsi_table::Row;
 /// Makes a copy of the row of a feeder that is to be taken next. The row stays in the ring.
 pub(crate) fn first_of(lanes: &mut Vec<Lane>, feeder: u32, full: bool) -> Result<Row, LoadRefused>
     ensures reply { IsFirstReply (takings_of lanes.old.items) feeder full result }
-    ensures same { AreSame lanes.old.items lanes.new.items }
+    ensures same { AreUntaken lanes.old.items lanes.new.items }
     ensures first { IfOk result (IsFirstAt lanes.new.items feeder) }
     ensures seen { IfErr result (IsSeenWhere lanes.new.items feeder) }
 {
@@ -29,10 +29,7 @@ pub(crate) fn first_of(lanes: &mut Vec<Lane>, feeder: u32, full: bool) -> Result
     if full {
         return Err(LoadRefused::IndexFull);
     }
-    match lanes[place].copy_first() {
-        Ok(row) => Ok(row),
-        Err(_) => Err(LoadRefused::NoMemory),
-    }
+    lanes[place].copy_first().map_err(|_| LoadRefused::NoMemory)
 }
 
 /// Looks at what stands first in a ring.

@@ -1,7 +1,7 @@
 //! The loader: it takes rows out of the feeders' rings, holds them, and publishes them.
 
 ghost use Rattle.std.specs.Prelude.{◌≡◌, ◌≢◌, ◌+◌, ◌≤◌, IfErr, IfOk, OnErr, OnOk, length};
-ghost use Rattle.bsi_system.specs.Running.{published_all, settled_as, AreAsMany, Balanced, IsLoadReply, IsOf, LoadsOne, WithinTold};
+ghost use Rattle.bsi_system.specs.Running.{published_all, settled_as, AreAsMany, Balanced, IsLoaderReply, IsOf, LoadsOne, WithinTold};
 
 use crate::NoMemory;
 use crate::lanes::{first_of, settle_of, take_of};
@@ -37,10 +37,10 @@ impl<B: Naming> Model for Loader<B> {
 }
 
 impl<B: Naming> Loader<B> {
-    /// Takes the next row out of a feeder's ring, and holds it. If it is refused, the row stays in the ring. It waits
-    /// for nobody.
+    /// Takes the next row out of a feeder's ring, and holds it. If it is refused, the row stays in the ring. It never
+    /// waits.
     pub fn load(&mut self, feeder: u32) -> Result<(), LoadRefused>
-        ensures reply { IsLoadReply self.old feeder result }
+        ensures reply { IsLoaderReply self.old feeder result }
         ensures loaded { OnOk result (LoadsOne self.old feeder self.new) }
         ensures kept { OnErr result (self.new ≡ self.old) }
         ensures system { self.new.system ≡ self.old.system }
@@ -55,23 +55,21 @@ impl<B: Naming> Loader<B> {
 
     /// Takes the next row out of a feeder's ring, and holds it. If it is refused, the row stays in the ring.
     fn load_row(&mut self, feeder: u32) -> Result<(), LoadRefused>
-        ensures reply { IsLoadReply self.old feeder result }
+        ensures reply { IsLoaderReply self.old feeder result }
         ensures loaded { OnOk result (LoadsOne self.old feeder self.new) }
         ensures kept { OnErr result (self.new ≡ self.old) }
     {
         let full = self.publisher.is_full();
         let row = first_of(&mut self.lanes, feeder, full)?;
-        match self.publisher.hold(feeder, row) {
-            Ok(()) => {}
-            Err(_) => return Err(LoadRefused::NoMemory),
-        }
+        self.publisher
+            .hold(feeder, row)
+            .map_err(|_| LoadRefused::NoMemory)?;
         take_of(&mut self.lanes, feeder);
         Ok(())
     }
 
     /// Learns from a feeder's closing what the feeder sent. From then on each of those rows can be loaded, and once all
-    /// are loaded, a load from this feeder is refused for good. It takes no row, allocates no memory and waits for
-    /// nobody.
+    /// are loaded, a load from this feeder is refused for good. It takes no row, allocates no memory and never waits.
     pub fn settle(&mut self, feeder: u32, closing: Closing) -> Result<(), SettleRefused>
         requires { IsOf closing self.old.system }
         ensures ok { OnOk result ((closing.number ≡ feeder)
@@ -159,14 +157,15 @@ impl<B: Naming> Loader<B> {
         self.publisher.analyst()
     }
 
-    /// Ends the loader. It drops the rows that are held or still in a ring.
+    /// Ends the loader. It drops the rows that are held or still in a ring. It has no `ensures`, because nothing is
+    /// left of which a clause could speak.
     pub fn end<R: Wait>(self, rt: &R) {
         let Loader { lanes, publisher } = self;
         drop(lanes);
         publisher.end(rt);
     }
 
-    /// Shows the prover the invariants of the loader.
+    /// Does nothing when the program runs. Its clauses tell a proof what always holds of the loader.
     fn show(&self)
         ensures balanced { Balanced self.now }
         ensures within { WithinTold self.now }

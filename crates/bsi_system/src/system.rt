@@ -59,10 +59,7 @@ impl<B: Naming> System<B> {
             (IsFirstOr MakeError.NoMemory (sizes_refusal schema capacities.now limit)) }
     {
         check_sizes(&schema, capacities, limit)?;
-        let shared = match Arc::new(alloc, schema.copy()?) {
-            Ok(shared) => shared,
-            Err(_) => return Err(MakeError::NoMemory),
-        };
+        let shared = Arc::new(alloc, schema.copy()?).map_err(|_| MakeError::NoMemory)?;
         let (feeders, lanes) = open_rings(alloc, &shared, capacities)?;
         let places = Vec::with_capacity(alloc, analysts as usize)?;
         let index = Index::new(alloc, schema, capacities.len() as u32, limit)?;

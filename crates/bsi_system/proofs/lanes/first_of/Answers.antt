@@ -1,5 +1,11 @@
-use Rattle.bsi_system.proofs.Takings.{first_at, front_at, looks_ended, looks_same, may_load}
+use Rattle.std.proofs.Common.{rules}
+use Rattle.std.specs.Prelude.{IfErr, IfOk}
+use Rattle.bsi_load.specs.declared.event.LoadRefused.TheVariants.{NoMemory}
 use Rattle.bsi_rings.specs.declared.lane.Front.TheVariants.{Row, Empty, Ended}
+use Rattle.bsi_system.specs.Lanes.{IsFirstAt, IsFirstReply, IsSeenWhere}
+use Rattle.bsi_system.specs.Running.{takings_of}
+use Rattle.bsi_system.proofs.Mapped.{by_mapped}
+use Rattle.bsi_system.proofs.Takings.{first_at, front_at, looks_ended, looks_same, may_load}
 use Rattle.bsi_system.proofs.lanes.first_of.Goals as goal
 
 pub returns-in-Empty-clause-same : goal.returns-in-Empty-clause-same
@@ -17,24 +23,26 @@ returns-then-full-clause-reply c = (may_load c.args.lanes.now.items c.args.feede
 pub returns-then-full-clause-same : goal.returns-then-full-clause-same
 returns-then-full-clause-same c = looks_same c.args.lanes.now.items c.args.feeder Row c.front_of.new.lanes.items c.in-Row.ensures
 
-pub returns-in-Ok-clause-reply : goal.returns-in-Ok-clause-reply
-returns-in-Ok-clause-reply c = (may_load c.args.lanes.now.items c.args.feeder c.front_of.new.lanes.items c.in-Row.ensures, c.if-full.false)
+pub returns-clause-reply : goal.returns-clause-reply
+returns-clause-reply c =
+    let may = may_load c.args.lanes.now.items c.args.feeder c.front_of.new.lanes.items c.in-Row.ensures in
+    by_mapped (IsFirstReply (takings_of c.args.lanes.now.items) c.args.feeder c.args.full) c.copy_first.result c.map_err.result NoMemory (λ e f learnt. search rules) c.map_err.ensures.cases
+    c.copy_first.ensures (λ row first. (may, c.if-full.false)) (may, c.if-full.false)
 
-pub returns-in-Ok-clause-same : goal.returns-in-Ok-clause-same
-returns-in-Ok-clause-same c = looks_same c.args.lanes.now.items c.args.feeder Row c.front_of.new.lanes.items c.in-Row.ensures
+pub returns-clause-same : goal.returns-clause-same
+returns-clause-same c = looks_same c.args.lanes.now.items c.args.feeder Row c.front_of.new.lanes.items c.in-Row.ensures
 
-pub returns-in-Ok-clause-first : goal.returns-in-Ok-clause-first
-returns-in-Ok-clause-first c =
-    first_at c.args.lanes.now.items c.args.feeder c.front_of.new.lanes.items c.in-Row.ensures c.index.result.now c.in-Ok.row c.index.ensures c.in-Ok.ensures
-
-pub returns-in-Err-clause-reply : goal.returns-in-Err-clause-reply
-returns-in-Err-clause-reply c = (may_load c.args.lanes.now.items c.args.feeder c.front_of.new.lanes.items c.in-Row.ensures, c.if-full.false)
-
-pub returns-in-Err-clause-same : goal.returns-in-Err-clause-same
-returns-in-Err-clause-same c = looks_same c.args.lanes.now.items c.args.feeder Row c.front_of.new.lanes.items c.in-Row.ensures
+pub returns-clause-first : goal.returns-clause-first
+returns-clause-first c =
+    let now = c.front_of.new.lanes.items in
+    by_mapped (λ reply. IfOk reply (IsFirstAt now c.args.feeder)) c.copy_first.result c.map_err.result NoMemory (λ e f learnt. search rules) c.map_err.ensures.cases c.copy_first.ensures
+    (λ row first. first_at c.args.lanes.now.items c.args.feeder now c.in-Row.ensures c.index.result.now row c.index.ensures first) tt
 
 pub returns-then-full-clause-seen : goal.returns-then-full-clause-seen
 returns-then-full-clause-seen c = front_at c.args.lanes.now.items c.args.feeder c.front_of.new.lanes.items c.in-Row.ensures
 
-pub returns-in-Err-clause-seen : goal.returns-in-Err-clause-seen
-returns-in-Err-clause-seen c = front_at c.args.lanes.now.items c.args.feeder c.front_of.new.lanes.items c.in-Row.ensures
+pub returns-clause-seen : goal.returns-clause-seen
+returns-clause-seen c =
+    let now = c.front_of.new.lanes.items in
+    by_mapped (λ reply. IfErr reply (IsSeenWhere now c.args.feeder)) c.copy_first.result c.map_err.result NoMemory (λ e f learnt. search rules) c.map_err.ensures.cases c.copy_first.ensures
+    (λ row first. tt) (front_at c.args.lanes.now.items c.args.feeder now c.in-Row.ensures)

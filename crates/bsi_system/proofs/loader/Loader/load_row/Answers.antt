@@ -3,6 +3,7 @@ use Rattle.std.specs.Prelude.{IsTrue}
 use Rattle.bsi_table.specs.Columns.{fits}
 use Rattle.bsi_versions.specs.Editions.{with_held}
 use Rattle.bsi_system.specs.Running.{loading, Loads}
+use Rattle.bsi_system.proofs.Mapped.{mapped_ok}
 use Rattle.bsi_system.proofs.Takings.{first_fits, first_there, same_loader, same_loading, same_row, takes_loader, takes_loads}
 use Rattle.bsi_system.proofs.loader.Loader.load_row.Goals as goal
 
@@ -12,7 +13,8 @@ invariant_of-self-2 g c =
     let intakes = c.first_of.new.lanes.items in
     let row = c.take_of.result in
     let same = same_row intakes c.args.feeder c.in_ok-row.row row c.take_of.new.lanes.items c.in_ok-row.ensures.first c.take_of.ensures in
-    let held = c.in-Ok.ensures.ok ∙ ap (with_held l.publisher c.args.feeder) same in
+    let ok = mapped_ok _ _ c.hold.result c.map_err.result tt c.map_err.ensures.cases c.hold.ensures.ok c.in_ok-map_err.was in
+    let held = ok ∙ ap (with_held l.publisher c.args.feeder) same in
     takes_loader intakes l.publisher c.args.feeder row c.take_of.new.lanes.items c.hold.new.self c.take_of.ensures held
     (same_loader l.lanes.items l.publisher c.self.invariant intakes c.in_ok-row.ensures.same)
 
@@ -22,7 +24,8 @@ returns-clause-loaded g c =
     let intakes = c.first_of.new.lanes.items in
     let row = c.take_of.result in
     let same = same_row intakes c.args.feeder c.in_ok-row.row row c.take_of.new.lanes.items c.in_ok-row.ensures.first c.take_of.ensures in
-    let held = c.in-Ok.ensures.ok ∙ ap (with_held l.publisher c.args.feeder) same in
+    let ok = mapped_ok _ _ c.hold.result c.map_err.result tt c.map_err.ensures.cases c.hold.ensures.ok c.in_ok-map_err.was in
+    let held = ok ∙ ap (with_held l.publisher c.args.feeder) same in
     let loader = same_loader l.lanes.items l.publisher c.self.invariant intakes c.in_ok-row.ensures.same in
     let old = same_loading l.lanes.items l.publisher c.self.invariant intakes c.in_ok-row.ensures.same ∙ c.self.view_is in
     let first = first_fits intakes l.publisher loader c.args.feeder c.in_ok-row.row c.in_ok-row.ensures.first in

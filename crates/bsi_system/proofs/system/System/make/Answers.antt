@@ -1,6 +1,7 @@
 use Rattle.std.proofs.Common.{◌∙◌, [], ap, length, refl, subst}
 use Rattle.bsi_rings.specs.Rings.{AreOpened}
 use Rattle.bsi_system.proofs.Beginning.{opened_alike, opened_loader, opened_loading}
+use Rattle.bsi_system.proofs.Mapped.{mapped_ok}
 use Rattle.bsi_system.proofs.system.System.make.Goals as goal
 
 pub invariant_of-result : goal.invariant_of-result
@@ -9,7 +10,8 @@ invariant_of-result g c =
     let feeders = c.in_ok-feeders.feeders.items in
     let intakes = c.in_ok-feeders.lanes.items in
     let capacities = c.args.capacities.now in
-    let opened = subst (λ s. AreOpened s capacities feeders intakes) (c.in-Ok.ensures.ok ∙ c.in_ok-copy.ensures) c.in_ok-feeders.ensures in
+    let shared = mapped_ok _ _ c.new.result c.map_err.result c.in_ok-shared.shared c.map_err.ensures.cases c.new.ensures.ok c.in_ok-shared.was in
+    let opened = subst (λ s. AreOpened s capacities feeders intakes) (shared ∙ c.in_ok-copy.ensures) c.in_ok-feeders.ensures in
     let w = c.in_ok-publisher.publisher in
     let is = c.in_ok-publisher.ensures ∙ ap (λ t. record { table = t; held = [] }) c.in_ok-index.ensures.ok in
     opened_loader schema capacities feeders intakes opened w (length capacities) c.args.limit refl is
@@ -20,7 +22,8 @@ returns-clause-loader g c =
     let feeders = c.in_ok-feeders.feeders.items in
     let intakes = c.in_ok-feeders.lanes.items in
     let capacities = c.args.capacities.now in
-    let opened = subst (λ s. AreOpened s capacities feeders intakes) (c.in-Ok.ensures.ok ∙ c.in_ok-copy.ensures) c.in_ok-feeders.ensures in
+    let shared = mapped_ok _ _ c.new.result c.map_err.result c.in_ok-shared.shared c.map_err.ensures.cases c.new.ensures.ok c.in_ok-shared.was in
+    let opened = subst (λ s. AreOpened s capacities feeders intakes) (shared ∙ c.in_ok-copy.ensures) c.in_ok-feeders.ensures in
     let w = c.in_ok-publisher.publisher in
     let is = c.in_ok-publisher.ensures ∙ ap (λ t. record { table = t; held = [] }) c.in_ok-index.ensures.ok in
     opened_loading schema capacities feeders intakes opened w (length capacities) c.args.limit refl is
@@ -31,5 +34,6 @@ returns-clause-alike g c =
     let feeders = c.in_ok-feeders.feeders.items in
     let intakes = c.in_ok-feeders.lanes.items in
     let capacities = c.args.capacities.now in
-    let opened = subst (λ s. AreOpened s capacities feeders intakes) (c.in-Ok.ensures.ok ∙ c.in_ok-copy.ensures) c.in_ok-feeders.ensures in
+    let shared = mapped_ok _ _ c.new.result c.map_err.result c.in_ok-shared.shared c.map_err.ensures.cases c.new.ensures.ok c.in_ok-shared.was in
+    let opened = subst (λ s. AreOpened s capacities feeders intakes) (shared ∙ c.in_ok-copy.ensures) c.in_ok-feeders.ensures in
     opened_alike schema capacities feeders intakes opened
