@@ -12,7 +12,7 @@ use Rattle.bsi_schema.specs.declared.form.Form.{Form}
 use Rattle.bsi_schema.specs.declared.form.Form.TheVariants.{Slices, Equality, Range}
 use Rattle.bsi_schema.specs.Columns.{column_at, fits, is_taken_by, size_in, NamedColumn}
 use Rattle.bsi_table.specs.Rows.{column_of, entry_at, Entries, FedRow}
-use Rattle.bsi_table.specs.Table.{kept_at, kept_form, row_in, AreFitting, AreInRange, AreKept, AreI64, HasMore, HaveMore, IsInForm, IsSameColumn, Keeps, Takes}
+use Rattle.bsi_table.specs.Table.{kept_at, kept_form, row_in, AreFitting, AreInRange, AreKept, AreI64, HasMore, HaveMore, IsInForm, IsSameColumn, Keeps, TakesRow}
 use Rattle.bsi_schema.proofs.Fitting.{fits-at, fits-each, fits-length}
 use Rattle.bsi_table.proofs.TableRows.{entry-row_in}
 
@@ -140,12 +140,12 @@ module _ (columns : List NamedColumn) (kept : List OffsetColumn) (n : ℕ) (are 
         taken_small (column_at columns k) (kept_at kept k) n (are.each k there) (entry_at row k) (fits-at columns row k fitting there)
 
     -- the columns take the row
-    pub row_taken : Takes kept row
+    pub row_taken : TakesRow kept row
     row_taken = record { wide = fits-length columns row fitting ∙ sym are.long; range = row_in_range; small = row_small }
 
   -- and rows that fit
-  pub rows_taken : (rows : List FedRow) → AreFitting columns rows → All (λ row. Takes kept row.1) rows
-  rows_taken rows fitting = All-weaker (λ row. IsTrue (fits columns row.1)) (λ row. Takes kept row.1) (λ row fit. row_taken row.1 fit) rows fitting
+  pub rows_taken : (rows : List FedRow) → AreFitting columns rows → All (λ row. TakesRow kept row.1) rows
+  rows_taken rows fitting = All-weaker (λ row. IsTrue (fits columns row.1)) (λ row. TakesRow kept row.1) (λ row fit. row_taken row.1 fit) rows fitting
 
   -- each row that is kept fits
   pub row_in-fits : (r : ℕ) → r < n → fits columns (row_in kept r) ≡ true

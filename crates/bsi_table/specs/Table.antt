@@ -77,7 +77,7 @@ pub record Keeps (column : NamedColumn) (kept : OffsetColumn) (n : ℕ) : Type 0
   pub high : (column.offset +ℤ pos (size_in column.form)) ≤ℤ pos (2 ^ 63)
   pub range : All (IsInRange kept.offset (shifted_size kept)) (shifted_entries kept)
 
--- each column of a schema is
+-- each column of a schema is kept so
 pub record AreKept (columns : List NamedColumn) (kept : List OffsetColumn) (n : ℕ) : Type 0 where
   pub long : length kept ≡ length columns
   pub each : (c : ℕ) → c < length columns → Keeps (column_at columns c) (kept_at kept c) n
@@ -106,8 +106,8 @@ abbrev pub HasOneMore : OffsetColumn → OffsetColumn → Option ℤ → Type 0
 HasOneMore old new entry = HasMore old new (entry ∷ [])
 
 -- each column has n rows
-abbrev pub AreEven : List OffsetColumn → ℕ → Type 0
-AreEven kept n = (k : ℕ) → k < length kept → length (shifted_entries (kept_at kept k)) ≡ n
+abbrev pub HaveRows : List OffsetColumn → ℕ → Type 0
+HaveRows kept n = (k : ℕ) → k < length kept → length (shifted_entries (kept_at kept k)) ≡ n
 
 -- each of the first n columns has room for so many more entries
 abbrev pub HaveRoom : List OffsetColumn → ℕ → ℕ → Type 0
@@ -122,12 +122,12 @@ AreInRange kept row =
 abbrev pub IsI64 : Option ℤ → Type 0
 IsI64 entry = IfSome entry (λ x. (neg_ℤ (pos (2 ^ 63)) ≤ℤ x) × (x <ℤ pos (2 ^ 63)))
 
--- for each column the entry of a row is
+-- each column's entry of a row is a null or a number of 64 bits
 abbrev pub AreI64 : List OffsetColumn → Entries → Type 0
 AreI64 kept row = (k : ℕ) → k < length kept → IsI64 (entry_at row k)
 
 -- kept columns take a row: it has an entry for each, and each takes its own
-pub record Takes (kept : List OffsetColumn) (row : Entries) : Type 0 where
+pub record TakesRow (kept : List OffsetColumn) (row : Entries) : Type 0 where
   pub wide : length row ≡ length kept
   pub range : AreInRange kept row
   pub small : AreI64 kept row

@@ -5,7 +5,7 @@ ghost use Rattle.bsi_columns.specs.AnyRows.{any_entries};
 ghost use Rattle.bsi_shift.specs.Shifted.{shifted_entries};
 ghost use Rattle.bsi_schema.specs.Columns.{column_at, IsForm};
 ghost use Rattle.bsi_table.specs.Rows.{column_of, entry_at};
-ghost use Rattle.bsi_table.specs.Table.{kept_at, AreInRange, AreKept, AreI64, AreSameColumns, HaveMore, HaveOneMore, HaveRoom, IsInForm, IsI64, Keeps, Takes};
+ghost use Rattle.bsi_table.specs.Table.{kept_at, AreInRange, AreKept, AreI64, AreSameColumns, HaveMore, HaveOneMore, HaveRoom, IsInForm, IsI64, Keeps, TakesRow};
 
 use crate::index::MAX_BLOCK_ROWS;
 use crate::{Form, NoMemory, Row, Schema};
@@ -76,7 +76,7 @@ pub(crate) fn push_each(columns: &mut [Shifted], values: &[Option<i128>])
 pub(crate) fn push_block_each(columns: &mut [Shifted], rows: &[(u32, Row)])
     requires few { length rows.now ≤ 64 }
     requires room { HaveRoom columns.old (length columns.old) (length rows.now) }
-    requires taken { All (λ row. Takes columns.old row.1) rows.now }
+    requires taken { All (λ row. TakesRow columns.old row.1) rows.now }
     ensures { HaveMore columns.old columns.new rows.now }
 {
     'columns: for c in 0..columns.len() {

@@ -5,7 +5,7 @@ ghost use Rattle.bsi_bits.specs.Packed.{bit_of};
 ghost use Rattle.std.specs.Simd.Lanes.{zip2};
 ghost use Rattle.bsi_table.specs.Answers.{ReadsAmong};
 ghost use Rattle.bsi_table.specs.Rows.{holds};
-ghost use Rattle.bsi_table.specs.Table.{rows_in, AreEven};
+ghost use Rattle.bsi_table.specs.Table.{rows_in, HaveRows};
 ghost use Rattle.bsi_table.specs.Blocks.{AreFound, AreNarrowed};
 
 use crate::{NoMemory, Pred};
@@ -29,7 +29,7 @@ pub(crate) fn find_rows(
     pred: &Pred,
 ) -> Result<Bits, NoMemory>
     requires few { count ≤ 2 ^ 32 }
-    requires even { AreEven columns.now count }
+    requires even { HaveRows columns.now count }
     requires there { ReadsAmong (length columns.now) pred.now }
     ensures { IfOk result (λ found. found.bits ≡ map (holds pred.now) (rows_in columns.now count)) }
 {
@@ -47,7 +47,7 @@ pub(crate) fn count_selected(
     pred: &Pred,
 ) -> Result<u64, NoMemory>
     requires few { count ≤ 2 ^ 32 }
-    requires even { AreEven columns.now count }
+    requires even { HaveRows columns.now count }
     requires there { ReadsAmong (length columns.now) pred.now }
     ensures { IfOk result (λ selected. selected
         ≡ count_by (λ b. b) (map (holds pred.now) (rows_in columns.now count))) }
@@ -83,7 +83,7 @@ fn narrow_each(
 ) -> Result<(), NoMemory>
     requires few { count ≤ 2 ^ 32 }
     requires long { length words.old ≡ (count + 63) / 64 }
-    requires even { AreEven columns.now count }
+    requires even { HaveRows columns.now count }
     requires there { ReadsAmong (length columns.now) pred.now }
     ensures { OnOk result (AreNarrowed columns.now count pred.now 0 words.old words.new) }
 {
@@ -108,7 +108,7 @@ fn find_block(
 ) -> Result<(), NoMemory>
     requires few { length block.old ≤ 1024 }
     requires within { at + length block.old ≤ (count + 63) / 64 }
-    requires even { AreEven columns.now count }
+    requires even { HaveRows columns.now count }
     requires there { ReadsAmong (length columns.now) pred.now }
     ensures rows { OnOk result (AreFound columns.now count pred.now at block.new) }
     ensures spare { OnOk result (spare.new.items ≡ spare.old.items) }
@@ -129,7 +129,7 @@ fn narrow(
 ) -> Result<(), NoMemory>
     requires few { length block.old ≤ 1024 }
     requires within { at + length block.old ≤ (count + 63) / 64 }
-    requires even { AreEven columns.now count }
+    requires even { HaveRows columns.now count }
     requires there { ReadsAmong (length columns.now) pred.now }
     ensures rows { OnOk result (AreNarrowed columns.now count pred.now at block.old block.new) }
     ensures spare { OnOk result (spare.new.items ≡ spare.old.items) }

@@ -3,7 +3,7 @@
 ghost use Rattle.std.specs.Prelude.{◌≡◌, ℕ, ◌+◌, ◌<◌, ◌≤◌, ◌^◌, ◌++◌, ◌∷◌, [], All, length, OnOk};
 ghost use Rattle.bsi_shift.specs.Shifted.{shifted_entries};
 ghost use Rattle.bsi_table.specs.Rows.{feeders_of};
-ghost use Rattle.bsi_table.specs.Table.{kept_at, AreFrom, AreI64, AreInRange, AreSameColumns, HaveMore, HaveOneMore, HaveRoom, Takes};
+ghost use Rattle.bsi_table.specs.Table.{kept_at, AreFrom, AreI64, AreInRange, AreSameColumns, HaveMore, HaveOneMore, HaveRoom, TakesRow};
 
 use crate::columns::{push_block_each, push_each, reserve_each};
 use crate::{NoMemory, Row};
@@ -57,7 +57,7 @@ pub(crate) fn push_rows(columns: &mut Vec<Shifted>, origins: &mut Origins, rows:
     requires few { length rows.now ≤ 64 }
     requires room { HaveRoom columns.old.items (length columns.old.items) (length rows.now) }
     requires reserved { length rows.now ≤ origins.old.room }
-    requires taken { All (λ row. Takes columns.old.items row.1) rows.now }
+    requires taken { All (λ row. TakesRow columns.old.items row.1) rows.now }
     requires from { AreFrom origins.old.feeders rows.now }
     requires bytes { origins.old.feeders ≤ 64 }
     ensures long { length columns.new.items ≡ length columns.old.items }

@@ -68,7 +68,7 @@ impl Index {
         })
     }
 
-    /// Tells how `new` refuses a schema or a limit, lack of memory apart. It allocates no memory.
+    /// Checks a schema and a limit as `new` does, but asks for no memory.
     pub fn check(schema: &Schema, limit: u64) -> Result<(), IndexError>
         ensures { result_err result ≡ index_refusal schema.now limit }
     {

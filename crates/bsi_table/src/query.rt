@@ -44,7 +44,9 @@ pub enum Total {
 /// A total of the rows that a predicate selects.
 #[derive(Debug, Drop)]
 pub struct Query {
+    /// What is asked of the rows.
     pub total: Total,
+    /// Which rows.
     pub pred: Pred,
 }
 
@@ -67,10 +69,9 @@ impl Query {
     pub(crate) fn missing_column(&self, columns: u32) -> Option<u32>
         ensures { result ≡ missing_column columns self.now }
     {
-        match self.total.missing_column(columns) {
-            Some(missing) => Some(missing),
-            None => self.pred.missing_column(columns),
-        }
+        self.total
+            .missing_column(columns)
+            .or_else(|| self.pred.missing_column(columns))
     }
 }
 

@@ -3,7 +3,7 @@
 ghost use Rattle.std.specs.Prelude.{◌≡◌, None, length, map, IfOk};
 ghost use Rattle.bsi_table.specs.Answers.{columns_of_total, missing_of, IsAnswer};
 ghost use Rattle.bsi_table.specs.Rows.{holds};
-ghost use Rattle.bsi_table.specs.Table.{fed_rows, AreEven};
+ghost use Rattle.bsi_table.specs.Table.{fed_rows, HaveRows};
 
 use crate::{Answer, NoMemory, Query, Total};
 use bsi_bits::Bits;
@@ -20,7 +20,7 @@ pub(crate) fn answer_total(
     found: &Bits,
     query: &Query,
 ) -> Result<Answer, NoMemory>
-    requires even { AreEven columns.now (length origins.now.rows) }
+    requires even { HaveRows columns.now (length origins.now.rows) }
     requires found { found.now.bits
         ≡ map (λ row. holds query.now.pred row.1) (fed_rows origins.now.rows columns.now) }
     requires there { missing_of (length columns.now) (columns_of_total query.now.total) ≡ None }

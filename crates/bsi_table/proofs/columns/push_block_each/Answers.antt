@@ -3,16 +3,16 @@ use Rattle.std.proofs.lemmas.List.{length-map, take-append-le, take_all}
 use Rattle.std.proofs.lemmas.List.Elements.{All-map, All-weaker}
 use Rattle.bsi_shift.specs.Shifted.{shifted_size, IsInRange, OffsetColumn}
 use Rattle.bsi_table.specs.Rows.{column_of, entry_at, FedRow}
-use Rattle.bsi_table.specs.Table.{kept_at, Takes}
+use Rattle.bsi_table.specs.Table.{kept_at, TakesRow}
 use Rattle.bsi_table.proofs.TableRows.{kept_read}
 use Rattle.bsi_table.proofs.columns.push_block_each.Goals as goal
 
 -- the entries of a column are in its range
-column_in_range : (kept : List OffsetColumn) (rows : List FedRow) (c : ℕ) → c < length kept → All (λ row. Takes kept row.1) rows
+column_in_range : (kept : List OffsetColumn) (rows : List FedRow) (c : ℕ) → c < length kept → All (λ row. TakesRow kept row.1) rows
     → All (IsInRange (kept_at kept c).offset (shifted_size (kept_at kept c))) (column_of rows c)
 column_in_range kept rows c within taken =
     let InRange : Option ℤ → Type 0 = IsInRange (kept_at kept c).offset (shifted_size (kept_at kept c)) in
-    All-map InRange (λ row. entry_at row.1 c) rows (All-weaker (λ row. Takes kept row.1) (λ row. InRange (entry_at row.1 c)) (λ row takes. takes.range c within) rows taken)
+    All-map InRange (λ row. entry_at row.1 c) rows (All-weaker (λ row. TakesRow kept row.1) (λ row. InRange (entry_at row.1 c)) (λ row takes. takes.range c within) rows taken)
 
 -- what stands first in an array that is longer
 first_all : (P : Option ℤ → Type 0) (n : ℕ) (column entries rest : List (Option ℤ)) → entries ≡ column → length column ≡ n → All P column → All P (take n (entries ++ rest))

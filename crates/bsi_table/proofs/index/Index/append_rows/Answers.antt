@@ -2,7 +2,7 @@ use Rattle.std.proofs.Common.{◌≡◌, ◌<◌, ◌+◌, ◌++◌, ℕ, List, 
 use Rattle.std.proofs.lemmas.List.{length-append, length-map}
 use Rattle.std.proofs.lemmas.List.Elements.{All-append, All-map, All-weaker}
 use Rattle.bsi_table.specs.Rows.{feeders_of, FedRow}
-use Rattle.bsi_table.specs.Table.{fed_rows, with_rows, AreFitting, AreFrom, AreInRange, AreKept, Table, Takes}
+use Rattle.bsi_table.specs.Table.{fed_rows, with_rows, AreFitting, AreFrom, AreInRange, AreKept, Table, TakesRow}
 use Rattle.bsi_table.proofs.Keeping.{are_kept_same, are_kept_more, on_err, rows_taken}
 use Rattle.bsi_table.proofs.TableRows.{fed_rows-more, fed_rows-same, length-fed_rows}
 use Rattle.bsi_table.proofs.index.Index.append_rows.Goals as goal
@@ -52,7 +52,7 @@ invariant_of-self-2 c =
     let sources = c.push_rows.ensures.rows ∙ ap (λ xs. xs ++ feeders_of rows) e.rows in
     let before = ap (λ t. length t.rows) (sym c.self.view_is) ∙ length-fed_rows i.origins.rows i.columns.items in
     let fit : AreFitting columns rows = subst (λ (t : Table). AreFitting t.schema.columns rows) (sym c.self.view_is) c.requires.fits in
-    let taken = All-weaker (λ row. Takes reserved row.1) (λ row. AreInRange reserved row.1) (λ row takes. takes.range) rows (rows_taken columns reserved n grown rows fit) in
+    let taken = All-weaker (λ row. TakesRow reserved row.1) (λ row. AreInRange reserved row.1) (λ row takes. takes.range) rows (rows_taken columns reserved n grown rows fit) in
     let all : length c.push_rows.new.origins.rows ≡ n + length rows = ap length sources ∙ length-append i.origins.rows (feeders_of rows) ∙ ap (λ m. n + m) (length-map rows (λ row. row.0)) in
     let below : List ℕ → ℕ → Type 0 = λ xs n. All (λ source. source < n) xs in
     let fed : AreFrom i.origins.feeders rows = subst (λ (t : Table). AreFrom t.feeders rows) (sym c.self.view_is) c.requires.feeders in
@@ -79,7 +79,7 @@ returns-clause-appended c =
     let sources = c.push_rows.ensures.rows ∙ ap (λ xs. xs ++ feeders_of rows) e.rows in
     let kept = are_kept_same i.schema.columns old (length i.origins.rows) c.self.invariant.columns_are grown e.long e.same in
     let fit : AreFitting i.schema.columns rows = subst (λ (t : Table). AreFitting t.schema.columns rows) (sym c.self.view_is) c.requires.fits in
-    let wide = All-weaker (λ row. Takes grown row.1) (λ row. length row.1 ≡ length grown) (λ row takes. takes.wide) rows (rows_taken i.schema.columns grown (length i.origins.rows) kept rows fit) in
+    let wide = All-weaker (λ row. TakesRow grown row.1) (λ row. length row.1 ≡ length grown) (λ row takes. takes.wide) rows (rows_taken i.schema.columns grown (length i.origins.rows) kept rows fit) in
     let more = fed_rows-more i.origins.rows grown pushed rows c.push_rows.ensures.long wide
     (λ k within. (kept.each k (omega (arith, within, kept.long))).rows) c.push_rows.ensures.more in
     let same = fed_rows-same i.origins.rows old grown e.long (λ k within. (e.same k within).entries) in
