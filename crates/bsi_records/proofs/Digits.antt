@@ -10,7 +10,7 @@ use Rattle.std.proofs.lemmas.List.Folds.{list_all_more}
 use Rattle.std.specs.Char.{is_ascii_digit, digit_value}
 use Rattle.std.specs.List.{list_all}
 use Rattle.std.specs.Str.Parse.{digits_value}
-use Rattle.bsi_records.specs.Numbers.{number_of}
+use Rattle.bsi_records.specs.Numbers.{spelled_number}
 
 -- what a digit is worth
 digit_is : (c : ℕ) → 48 ≤ c → c ≤ 57 → digit_value c ≡ c - 48
@@ -32,7 +32,7 @@ digits_more text i within low high before =
     list_all_more is_ascii_digit text i 0 within ∙ ap (λ b. b && is_ascii_digit (get_or text i 0)) before ∙ digit_passes _ low high
 
 -- a text whose first digits are too large is no number
-pub too_large : (text : List ℕ) (i : ℕ) → 2 ^ 64 ≤ digits_value 10 (take i text) → None ≡ number_of text
+pub too_large : (text : List ℕ) (i : ℕ) → 2 ^ 64 ≤ digits_value 10 (take i text) → None ≡ spelled_number text
 too_large text i large =
     let whole : 2 ^ 64 ≤ digits_value 10 text = omega (arith, digits_value-take-le 10 text i (omega arith)) in
     let test : nat_lt (digits_value 10 text) (2 ^ 64) ≡ false = le-ltb _ _ whole in
@@ -40,7 +40,7 @@ too_large text i large =
 
 -- few digits of a small value are a number
 pub is_some : (text : List ℕ) → 0 < length text → length text ≤ 20 → list_all is_ascii_digit text ≡ true
-    → digits_value 10 text < 2 ^ 64 → Some (digits_value 10 text) ≡ number_of text
+    → digits_value 10 text < 2 ^ 64 → Some (digits_value 10 text) ≡ spelled_number text
 is_some text some few digits small =
     rw (lt-ltb _ _ some, le-leb _ _ few, digits, lt-ltb _ _ small) refl
 

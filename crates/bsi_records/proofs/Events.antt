@@ -10,7 +10,7 @@ use Rattle.bsi_records.specs.Events.{IsEvent, IsQuery, feeder_event, only_feeder
 use Rattle.bsi_records.specs.Predicates.{IsPredicate}
 use Rattle.bsi_records.specs.Numbers.{Field, feeder_of, values_in}
 use Rattle.bsi_records.proofs.Fields.{behind_word, no_field}
-use Rattle.bsi_records.proofs.SpellWords.{none_is_some, same_bytes, some_same}
+use Rattle.bsi_records.proofs.SpellWords.{none_is_some, same_bytes}
 
 -- a record that begins with this word
 pub begins : (fields : List Field) (word own : Field) → field_at fields 0 ≡ Some word → bytes_eq word own ≡ true → fields ≡ own ∷ drop 1 fields
@@ -18,13 +18,19 @@ begins fields word own first is = behind_word fields word first ∙ ap (λ w. w 
 
 -- ---- what a record of a word asks for
 
-pub submitted : (schema : Declared) (fields : List Field) (text : Field) → field_at fields 1 ≡ Some text
-    → plain_event schema (codes "submit" ∷ drop 1 fields) ≡ option_and_then (λ f. option_map (Submit f) (values_in schema.signed (drop 2 fields))) (feeder_of text)
+pub submitted : (schema : Declared) (fields : List Field) → plain_event schema (codes "submit" ∷ drop 1 fields)
+    ≡ option_and_then (λ f. option_map (Submit f) (values_in schema.signed (drop 2 fields))) (option_and_then feeder_of (field_at fields 1))
 unfolding field_at values_in
-submitted schema [] text second = cc
-submitted schema (word ∷ []) text second = cc
-submitted schema (word ∷ a ∷ []) text second = ap (λ t. plain_event schema (codes "submit" ∷ t ∷ [])) (some_same a text second)
-submitted schema (word ∷ a ∷ value ∷ rest) text second = ap (λ t. plain_event schema (codes "submit" ∷ t ∷ value ∷ rest)) (some_same a text second)
+submitted schema [] = refl
+submitted schema (word ∷ []) = refl
+submitted schema (word ∷ a ∷ []) = refl
+submitted schema (word ∷ a ∷ value ∷ rest) = refl
+
+-- the feeder that is read from a field, if the field is there
+pub fed_by : {B : Type 0} (text : B → Field) (field : Option B) (read : Option ℕ) → MatchOption field (read ≡ None) (λ x. read ≡ feeder_of (text x))
+    → read ≡ option_and_then feeder_of (option_map text field)
+fed_by text None read is = is
+fed_by text (Some x) read is = is
 
 pub loaded : (schema : Declared) (fields : List Field) → plain_event schema (codes "load" ∷ fields) ≡ option_map Load (only_feeder fields)
 loaded schema [] = refl
@@ -152,6 +158,13 @@ pub mapped : {A B : Type 0} (make : A → B) (read : Option A) (made : Option B)
 mapped make None made is = is
 mapped make (Some x) None is = absurd is
 mapped make (Some x) (Some y) is = ap (λ v. Some v) is
+
+-- the same, by what is known of each value that is made
+pub mapped_by : {A B : Type 0} (make : A → B) (P : A → B → Type 0) → ((x : A) (y : B) → P x y → y ≡ make x) → (read : Option A) (made : Option B)
+    → MatchOption read (made ≡ None) (λ x. IsSomeAnd made (P x)) → made ≡ option_map make read
+mapped_by make P gives None made is = is
+mapped_by make P gives (Some x) None is = absurd is
+mapped_by make P gives (Some x) (Some y) is = ap (λ v. Some v) (gives x y is)
 
 -- a query that was read, or that there is none
 pub query_event : (schema : Declared) (fields : List Field)

@@ -1,4 +1,4 @@
--- The machine of a setup is refused for want of memory alone.
+-- The machine of a setup is refused only because memory was refused.
 use Rattle.std.proofs.Common.{◌≡◌, ℕ, ◌<◌, ◌≤◌, false, nat_eq, nat_lt, List, length, get_or, None, position, refl, arith}
 use Rattle.std.specs.Prelude.{All}
 use Rattle.std.specs.List.{position_or_len}

@@ -1,18 +1,11 @@
 -- Fields that are read one after another.
-use Rattle.std.proofs.Common.{◌≡◌, ℕ, zero, suc, ◌+◌, ◌<◌, ◌≤◌, List, [], ◌∷◌, length, drop, Option, Some, None, option_and_then, ap, sym, ◌∙◌, arith}
+use Rattle.std.proofs.Common.{◌≡◌, ℕ, zero, suc, ◌+◌, ◌≤◌, List, [], ◌∷◌, length, drop, Option, Some, None, option_and_then, ap, sym, ◌∙◌, arith}
 use Rattle.csv.specs.Records.{field_at}
 use Rattle.bsi_table.specs.Columns.{Declared}
 use Rattle.bsi_table.specs.declared.query.Pred.{Pred}
 use Rattle.bsi_records.specs.declared.predicates.Pending.{Pending}
 use Rattle.bsi_records.specs.Numbers.{Field}
 use Rattle.bsi_records.specs.Postfix.{after_field, after_fields, State}
-
--- a field that is there
-pub field_is_there : (fields : List Field) (place : ℕ) → place < length fields → None ≡ field_at fields place → ⊥
-unfolding field_at
-field_is_there [] place within none = omega arith
-field_is_there (f ∷ fields) zero within none = cc
-field_is_there (f ∷ fields) (suc place) within none = field_is_there fields place (omega arith) none
 
 -- what is left leads on behind one more field
 pub field_next : (schema : Declared) (fields : List Field) (place : ℕ) (field : Field) (pending : Pending) (stack : List Pred)

@@ -7,8 +7,8 @@ use Rattle.std.proofs.lemmas.List.{length-append}
 use Rattle.std.proofs.lemmas.List.Elements.{All-push}
 use Rattle.csv.specs.Records.{field_at}
 use Rattle.bsi_table.specs.Columns.{Declared}
-use Rattle.bsi_records.specs.Numbers.{Field, number_of, number_within}
-use Rattle.bsi_records.specs.Setups.{Setup, column_after, declared_after, feeder_after, limit_of, only_number, table_after, IsChange, IsSetup}
+use Rattle.bsi_records.specs.Numbers.{Field, number_between, spelled_number}
+use Rattle.bsi_records.specs.Setups.{Setup, capacities_after, column_after, declared_after, limit_of, only_number, table_after, IsChange, IsSetup}
 use Rattle.bsi_records.proofs.Fields.{behind_word, no_field}
 
 -- ---- changes
@@ -47,7 +47,7 @@ setup_empty before fields none = ap (declared_after before) (no_field fields 0 n
 
 module _ (before : Setup) (fields : List Field) (word : Field) (first : field_at fields 0 ≡ Some word) where
   pub setup_feeder : bytes_eq word (codes "feeder") ≡ true
-      → declared_after before fields ≡ option_map (λ capacities. record before { capacities = capacities }) (feeder_after before.capacities (drop 1 fields))
+      → declared_after before fields ≡ option_map (λ capacities. record before { capacities = capacities }) (capacities_after before.capacities (drop 1 fields))
   setup_feeder is = ap (declared_after before) (behind_word fields word first) ∙ rw is refl
 
   pub setup_table : bytes_eq word (codes "feeder") ≡ false
@@ -58,8 +58,8 @@ module _ (before : Setup) (fields : List Field) (word : Field) (first : field_at
 
 -- ---- what a setup keeps
 
-number_is_within : (least most : ℕ) (text : Field) (n : ℕ) → number_within least most text ≡ Some n → (least ≤ n) × (n ≤ most)
-number_is_within least most text n is = by (number_of text) is
+number_is_within : (least most : ℕ) (text : Field) (n : ℕ) → number_between least most text ≡ Some n → (least ≤ n) × (n ≤ most)
+number_is_within least most text n is = by (spelled_number text) is
   where
     by_tests : (m : ℕ) (a b : Bool) → nat_le least m ≡ a → nat_le m most ≡ b → (if a && b then Some m else None) ≡ Some n → (least ≤ n) × (n ≤ most)
     by_tests m true true low high is =
@@ -80,7 +80,7 @@ only_is_within most (text ∷ []) n is = number_is_within 1 most text n is
 only_is_within most (text ∷ another ∷ fields) n is = absurd cc
 
 pub feeder_keeps : (capacities : List ℕ) (limit : ℕ) (fields : List Field) → IsSetup capacities limit
-    → IsSetup (unwrap_or (feeder_after capacities fields) capacities) limit
+    → IsSetup (unwrap_or (capacities_after capacities fields) capacities) limit
 feeder_keeps capacities limit fields is = by (nat_lt (length capacities) 64) (only_number 65536 fields) refl refl
   where
     by : (few : Bool) (o : Option ℕ) → nat_lt (length capacities) 64 ≡ few → only_number 65536 fields ≡ o

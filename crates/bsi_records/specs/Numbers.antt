@@ -15,18 +15,18 @@ is_number text =
     && nat_lt (digits_value 10 text) (2 ^ 64)
 
 -- the number that a text spells
-abbrev pub number_of : Field → Option ℕ
-number_of text = if is_number text then Some (digits_value 10 text) else None
+abbrev pub spelled_number : Field → Option ℕ
+spelled_number text = if is_number text then Some (digits_value 10 text) else None
 
 -- the whole number that a text spells: a number, with one minus sign before it or none
 abbrev pub signed_of : Field → Option ℤ
 signed_of [] = None
 signed_of (first ∷ rest) =
-    if first == 45 then option_map (λ n. neg_ℤ (pos n)) (number_of rest) else option_map pos (number_of (first ∷ rest))
+    if first == 45 then option_map (λ n. neg_ℤ (pos n)) (spelled_number rest) else option_map pos (spelled_number (first ∷ rest))
 
 -- the number of a text, with a minus sign where numbers are signed alone
 abbrev pub number_in : Bool → Field → Option ℤ
-number_in signed text = if signed then signed_of text else option_map pos (number_of text)
+number_in signed text = if signed then signed_of text else option_map pos (spelled_number text)
 
 -- a value: no byte is a null, else it is a number
 abbrev pub value_in : Bool → Field → Option (Option ℤ)
@@ -39,13 +39,13 @@ values_in signed (field ∷ fields) =
     option_and_then (λ value. option_map (λ values. value ∷ values) (values_in signed fields)) (value_in signed field)
 
 -- the number from `least` to `most` that a text spells
-abbrev pub number_within : ℕ → ℕ → Field → Option ℕ
-number_within least most text =
-    option_and_then (λ n. if nat_le least n && nat_le n most then Some n else None) (number_of text)
+abbrev pub number_between : ℕ → ℕ → Field → Option ℕ
+number_between least most text =
+    option_and_then (λ n. if nat_le least n && nat_le n most then Some n else None) (spelled_number text)
 
 -- a number of 32 bits
 abbrev pub small_of : Field → Option ℕ
-small_of text = number_within 0 4294967295 text
+small_of text = number_between 0 4294967295 text
 
 -- the numbers of 32 bits that fields spell, none where one of them is no such number
 unfoldable pub smalls_of : List Field → Option (List ℕ)
@@ -59,7 +59,7 @@ bases_of text = smalls_of (slice_split (λ byte. byte == 32) text)
 
 -- the number of a feeder, the greatest of 32 bits for one that 32 bits do not hold
 abbrev pub feeder_of : Field → Option ℕ
-feeder_of text = option_map (λ n. min n 4294967295) (number_of text)
+feeder_of text = option_map (λ n. min n 4294967295) (spelled_number text)
 
 -- the least number of a column: a whole number of 64 bits
 abbrev pub offset_of : Field → Option ℤ

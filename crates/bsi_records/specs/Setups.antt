@@ -8,7 +8,7 @@ use Rattle.bsi_schema.specs.declared.form.Form.{Form}
 use Rattle.bsi_schema.specs.declared.form.Form.TheVariants.{Slices, Equality, Range}
 use Rattle.bsi_table.specs.Columns.{Declared, form_of, named_column, no_columns, size_in, with_column}
 use Rattle.bsi_table.specs.Refusals.{form_refusal, name_refusal}
-use Rattle.bsi_records.specs.Numbers.{Field, bases_of, number_within, offset_of}
+use Rattle.bsi_records.specs.Numbers.{Field, bases_of, number_between, offset_of}
 
 -- what was declared so far: the columns, the capacity of each feeder, and the most rows of the index
 pub record Setup : Type 0 where
@@ -28,7 +28,7 @@ checked_bases bases = if is_none (refusal bases) then Some (reverse bases) else 
 -- the form that a word and a text give
 abbrev pub form_in : Field → Field → Option Form
 form_in word text =
-    if bytes_eq word (codes "slices") then option_map Slices (number_within 1 63 text)
+    if bytes_eq word (codes "slices") then option_map Slices (number_between 1 63 text)
     else (if bytes_eq word (codes "equality") then option_map Equality (option_and_then checked_bases (bases_of text))
     else (if bytes_eq word (codes "range") then option_map Range (option_and_then checked_bases (bases_of text))
     else None))
@@ -52,12 +52,12 @@ column_after schema fields = None
 
 -- the number from 1 to `most` that the only field spells
 abbrev pub only_number : ℕ → List Field → Option ℕ
-only_number most (text ∷ []) = number_within 1 most text
+only_number most (text ∷ []) = number_between 1 most text
 only_number most fields = None
 
 -- the capacities after one more, of at most 64
-abbrev pub feeder_after : List ℕ → List Field → Option (List ℕ)
-feeder_after capacities fields =
+abbrev pub capacities_after : List ℕ → List Field → Option (List ℕ)
+capacities_after capacities fields =
     if nat_lt (length capacities) 64 then option_map (λ n. capacities ++ n ∷ []) (only_number 65536 fields) else None
 
 abbrev pub limit_of : List Field → Option ℕ
@@ -78,7 +78,7 @@ abbrev pub declared_after : Setup → List Field → Option Setup
 declared_after before [] = None
 declared_after before (word ∷ fields) =
     if bytes_eq word (codes "feeder")
-    then option_map (λ capacities. record before { capacities = capacities }) (feeder_after before.capacities fields)
+    then option_map (λ capacities. record before { capacities = capacities }) (capacities_after before.capacities fields)
     else option_map (λ after. record before { schema = after.0; limit = after.1 })
     (table_after before.schema before.limit (word ∷ fields))
 

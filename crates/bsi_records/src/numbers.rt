@@ -1,7 +1,7 @@
 //! Numbers and values: what the bytes of a field spell.
 
 ghost use Rattle.std.specs.Prelude.{◌≡◌, ◌<◌, ◌≤◌, length, option_map, pos, IfOk, IfSome};
-ghost use Rattle.bsi_records.specs.Numbers.{bases_of, feeder_of, number_in, number_of, number_within, offset_of, signed_of, small_of, smalls_of, value_in};
+ghost use Rattle.bsi_records.specs.Numbers.{bases_of, feeder_of, number_between, number_in, offset_of, signed_of, small_of, smalls_of, spelled_number, value_in};
 
 use std::alloc::{AllocError as NoMemory, Global};
 
@@ -14,7 +14,7 @@ const MAX_BEFORE_DIGIT: u64 = (u64::MAX - 9) / 10;
 /// Reads a number of one to twenty digits, with leading zeros or without, whose value is a `u64`. It allocates no
 /// memory.
 pub fn read_number(text: &[u8]) -> Option<u64>
-    ensures { result ≡ number_of text.now }
+    ensures { result ≡ spelled_number text.now }
 {
     if text.is_empty() || text.len() > MAX_DIGITS {
         return None;
@@ -28,7 +28,7 @@ pub fn read_number(text: &[u8]) -> Option<u64>
 /// Reads a number of fewer digits than the greatest `u64` has. A `u64` holds it, whatever its digits are.
 fn read_short(text: &[u8]) -> Option<u64>
     requires { (0 < length text.now) × (length text.now < 20) }
-    ensures { result ≡ number_of text.now }
+    ensures { result ≡ spelled_number text.now }
 {
     let mut value = 0u64;
     'digits: for byte in text {
@@ -43,7 +43,7 @@ fn read_short(text: &[u8]) -> Option<u64>
 /// Reads a number of at most as many digits as the greatest `u64` has.
 fn read_long(text: &[u8]) -> Option<u64>
     requires { (0 < length text.now) × (length text.now ≤ 20) }
-    ensures { result ≡ number_of text.now }
+    ensures { result ≡ spelled_number text.now }
 {
     let mut value = 0u64;
     'digits: for byte in text {
@@ -75,7 +75,7 @@ pub fn read_signed(text: &[u8]) -> Option<i128>
 
 /// Reads a number without a sign.
 fn read_unsigned(text: &[u8]) -> Option<i128>
-    ensures { result ≡ option_map pos (number_of text.now) }
+    ensures { result ≡ option_map pos (spelled_number text.now) }
 {
     let number = read_number(text)?;
     Some(i128::from(number))
@@ -113,7 +113,7 @@ pub(crate) fn read_feeder(text: &[u8]) -> Option<u32>
 
 /// Reads a number from `least` to `most`.
 pub(crate) fn read_within(least: u64, most: u64, text: &[u8]) -> Option<u64>
-    ensures value { result ≡ number_within least most text.now }
+    ensures value { result ≡ number_between least most text.now }
     ensures within { IfSome result (λ n. (least ≤ n) × (n ≤ most)) }
 {
     match read_number(text) {

@@ -7,6 +7,7 @@ ghost use Rattle.bsi_records.specs.Predicates.{IsPredicate};
 
 use crate::NoMemory;
 use crate::numbers::read_in;
+use crate::records::lend;
 use bsi_slices::Op;
 use bsi_table::{Pred, Schema};
 use csv::ByteRecord;
@@ -65,9 +66,7 @@ fn read_fields(
 {
     let mut pending = Pending::Nothing;
     'fields: for place in from..fields.len() {
-        let Some(field) = fields.get(place) else {
-            return Ok(None);
-        };
+        let field = lend(fields, place);
         let Some(next) = read_field(alloc, schema, pending, field, stack)? else {
             return Ok(None);
         };

@@ -72,16 +72,10 @@ fn read_submission(
     ensures { IfOk result (λ read. read
         ≡ plain_event schema.now (codes "submit" ∷ drop 1 (fields_of fields.now))) }
 {
-    let Some(text) = fields.get(1) else {
+    let Some(feeder) = fields.get(1).and_then(read_feeder) else {
         return Ok(None);
     };
-    let Some(feeder) = read_feeder(text) else {
-        return Ok(None);
-    };
-    match read_row(alloc, schema, fields, 2)? {
-        None => Ok(None),
-        Some(row) => Ok(Some(Event::Submit(feeder, row))),
-    }
+    Ok(read_row(alloc, schema, fields, 2)?.map(|row| Event::Submit(feeder, row)))
 }
 
 /// Reads the feeder of a record that consists of a word and a feeder.

@@ -1,10 +1,10 @@
 //! Records before `begin`: columns, feeders and the row limit.
 
-ghost use Rattle.std.specs.Prelude.{◌≡◌, ◌≤◌, ◌<◌, ◌∷◌, [], None, Some, drop, if◌then◌else◌, is_some, length, unwrap_or, IfNone, IfOk, IfSome, OnErr, OnOk};
+ghost use Rattle.std.specs.Prelude.{◌≡◌, ◌≤◌, ◌<◌, ◌∷◌, [], None, Some, drop, if◌then◌else◌, IfNone, IfOk, IfSome, OnErr};
 ghost use Rattle.csv.specs.Records.{fields_of};
 ghost use Rattle.bsi_load.specs.Sizes.{new_machine};
 ghost use Rattle.bsi_table.specs.Columns.{no_columns};
-ghost use Rattle.bsi_records.specs.Setups.{can_begin, declared_after, feeder_after, is_begin, limit_of, nothing_declared, only_number, table_after, IsChange};
+ghost use Rattle.bsi_records.specs.Setups.{can_begin, capacities_after, declared_after, is_begin, limit_of, nothing_declared, only_number, table_after, IsChange};
 
 use crate::columns::declare_column;
 use crate::numbers::read_within;
@@ -68,10 +68,7 @@ fn declare_limit(limit: &mut u64, fields: &ByteRecord) -> bool
 pub fn is_begin(fields: &ByteRecord) -> bool
     ensures { result ≡ is_begin (fields_of fields.now) }
 {
-    if fields.len() != 1 {
-        return false;
-    }
-    lend(fields, 0) == b"begin".as_slice()
+    fields.len() == 1 && lend(fields, 0) == b"begin".as_slice()
 }
 
 /// What the records of a script before `begin` have declared so far: the columns, the feeders, each with the number of
@@ -156,7 +153,7 @@ fn only_memory(_refused: MakeError) -> NoMemory
 /// Declares the feeder of a record `feeder,CAPACITY`, if there are fewer than 64 feeders, and returns whether it did.
 fn declare_feeder(capacities: &mut Vec<u32>, fields: &ByteRecord) -> Result<bool, NoMemory>
     ensures done { IfOk result
-        (λ done. IsChange (feeder_after capacities.old.items (drop 1 (fields_of fields.now)))
+        (λ done. IsChange (capacities_after capacities.old.items (drop 1 (fields_of fields.now)))
         capacities.old.items capacities.new.items done) }
     ensures kept { OnErr result (capacities.new.items ≡ capacities.old.items) }
 {

@@ -13,7 +13,7 @@ use Rattle.bsi_schema.specs.declared.form.Form.{Form}
 use Rattle.bsi_records.specs.Lines.{bad_line, done_line}
 use Rattle.bsi_records.specs.Numbers.{Field, offset_of}
 use Rattle.bsi_text.specs.Scripts.{Stage, Declaring, Running, set_up, IsTurn, AreTurns}
-use Rattle.bsi_records.specs.Setups.{Setup, can_begin, column_after, declared_after, feeder_after, form_in, is_begin, limit_of, one_more, table_after}
+use Rattle.bsi_records.specs.Setups.{Setup, can_begin, capacities_after, column_after, declared_after, form_in, is_begin, limit_of, one_more, table_after}
 use Rattle.bsi_table.specs.Columns.{AreNamed}
 
 -- ---- what holds of an option's content
@@ -85,7 +85,7 @@ declared_named : (before : Setup) (fields : List Field) → IsNamedSetup before 
 declared_named before [] named = tt
 declared_named before (word ∷ fields) named =
     IfSome-choice IsNamedSetup (bytes_eq word (codes "feeder")) _ _
-    (IfSome-map IsNamedSetup (λ capacities. record before { capacities = capacities }) (feeder_after before.capacities fields) (IfSome-all (λ after. IsNamedSetup before) (feeder_after before.capacities fields) (λ after. named)))
+    (IfSome-map IsNamedSetup (λ capacities. record before { capacities = capacities }) (capacities_after before.capacities fields) (IfSome-all (λ after. IsNamedSetup before) (capacities_after before.capacities fields) (λ after. named)))
     (IfSome-map IsNamedSetup (λ after. record before { schema = after.0; limit = after.1 }) (table_after before.schema before.limit (word ∷ fields)) (table_named before.schema before.limit (word ∷ fields) named))
 
 -- ---- a stage

@@ -1,4 +1,4 @@
-use Rattle.std.proofs.Common.{◌≡◌, ◌+◌, ◌*◌, ◌^◌, ◌<◌, ◌≤◌, arith}
+use Rattle.std.proofs.Common.{arith}
 use Rattle.bsi_records.proofs.Digits.{digits_more, ten_more, ten_within, value_more}
 use Rattle.bsi_records.proofs.numbers.read_short.Goals as goal
 

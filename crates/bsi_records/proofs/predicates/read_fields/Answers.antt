@@ -1,25 +1,21 @@
 use Rattle.std.proofs.Common.{◌≡◌, ◌∙◌, ap, sym, arith, Some, None, option_map}
 use Rattle.csv.specs.Records.{fields_of}
 use Rattle.bsi_records.specs.Postfix.{after_field, shown}
-use Rattle.bsi_records.proofs.SpellSteps.{field_is_there, leads_here, leads_nowhere, leads_on}
+use Rattle.bsi_records.proofs.SpellSteps.{leads_here, leads_nowhere, leads_on}
 use Rattle.bsi_records.proofs.predicates.read_fields.Goals as goal
 
--- the field is there
-pub returns-in_default : goal.returns-in_default
-returns-in_default c = absurd (field_is_there (fields_of c.args.fields.now) c.fields.place (omega (arith, c.len-place-end.ensures, c.fields-test.true)) c.in_default.ensures.value)
-
 -- no predicate goes on so
-pub returns-in_default-2 : goal.returns-in_default-2
-returns-in_default-2 c =
-    let stopped : None ≡ after_field c.args.schema.now c.fields.pending (shown c.fields.stack.items) c.in-Some.field.now =
-    ap (option_map (λ next. (next, shown c.read_field.new.stack.items))) (sym c.in_default-2.is) ∙ c.in_ok-next.ensures in
-    leads_nowhere c.args.schema.now (fields_of c.args.fields.now) c.fields.place c.in-Some.field.now c.fields.pending (shown c.fields.stack.items) _ c.in-Some.ensures.value stopped c.fields.invariant
+pub returns-in_default : goal.returns-in_default
+returns-in_default c =
+    let stopped : None ≡ after_field c.args.schema.now c.fields.pending (shown c.fields.stack.items) c.lend-field.result.now =
+    ap (option_map (λ next. (next, shown c.read_field.new.stack.items))) (sym c.in_default.is) ∙ c.in_ok-next.ensures in
+    leads_nowhere c.args.schema.now (fields_of c.args.fields.now) c.fields.place c.lend-field.result.now c.fields.pending (shown c.fields.stack.items) _ (sym c.lend-field.ensures) stopped c.fields.invariant
 
 pub fields-preserved : goal.fields-preserved
 fields-preserved c =
-    let step : Some (c.in-Some-2.next, shown c.read_field.new.stack.items) ≡ after_field c.args.schema.now c.fields.pending (shown c.fields.stack.items) c.in-Some.field.now =
-    ap (option_map (λ next. (next, shown c.read_field.new.stack.items))) (sym c.in-Some-2.is) ∙ c.in_ok-next.ensures in
-    leads_on c.args.schema.now (fields_of c.args.fields.now) c.fields.place c.in-Some.field.now c.fields.pending c.in-Some-2.next (shown c.fields.stack.items) (shown c.read_field.new.stack.items) _ c.in-Some.ensures.value step c.fields.invariant
+    let step : Some (c.in-Some.next, shown c.read_field.new.stack.items) ≡ after_field c.args.schema.now c.fields.pending (shown c.fields.stack.items) c.lend-field.result.now =
+    ap (option_map (λ next. (next, shown c.read_field.new.stack.items))) (sym c.in-Some.is) ∙ c.in_ok-next.ensures in
+    leads_on c.args.schema.now (fields_of c.args.fields.now) c.fields.place c.lend-field.result.now c.fields.pending c.in-Some.next (shown c.fields.stack.items) (shown c.read_field.new.stack.items) _ (sym c.lend-field.ensures) step c.fields.invariant
 
 pub returns : goal.returns
 returns c = leads_here c.args.schema.now (fields_of c.args.fields.now) c.fields.place c.fields.pending (shown c.fields.stack.items) _ (omega (arith, c.len-place-end.ensures, c.fields-test.false)) c.fields.invariant

@@ -3,7 +3,7 @@ use Rattle.std.specs.Str.{bytes_eq}
 use Rattle.std.proofs.lemmas.Result.{IfOk-weaker}
 use Rattle.csv.specs.Records.{field_at, fields_of}
 use Rattle.bsi_table.specs.Columns.{Declared}
-use Rattle.bsi_records.specs.Setups.{declared_after, feeder_after, table_after, IsChange, IsSetup, Setup}
+use Rattle.bsi_records.specs.Setups.{capacities_after, declared_after, table_after, IsChange, IsSetup, Setup}
 use Rattle.bsi_records.proofs.Adding.{not_done}
 use Rattle.bsi_records.proofs.Tables.{changed_by, feeder_keeps, kept, limit_keeps, setup_empty, setup_feeder, setup_table}
 use Rattle.bsi_records.proofs.setups.Setup.declare.Goals as goal
@@ -21,7 +21,7 @@ invariant_of-self c =
     let capacities = c.self.inside.capacities.items in
     let limit = c.self.inside.limit in
     let behind = drop 1 (fields_of c.args.fields.now) in
-    kept (λ items. IsSetup items limit) c.declare_feeder.result (feeder_after capacities behind) capacities c.declare_feeder.new.capacities.items
+    kept (λ items. IsSetup items limit) c.declare_feeder.result (capacities_after capacities behind) capacities c.declare_feeder.new.capacities.items
     c.declare_feeder.ensures.done c.declare_feeder.ensures.kept c.self.invariant (feeder_keeps capacities limit behind c.self.invariant)
 
 pub returns-then-eq-clause-done : goal.returns-then-eq-clause-done
@@ -35,7 +35,7 @@ returns-then-eq-clause-done c =
     subst (λ old. IfOk c.declare_feeder.result (λ done. IsChange (declared_after old fields) old after done)) c.self.view_is
     (IfOk-weaker c.declare_feeder.result _ _ (λ done change.
     subst (λ later. IsChange later before after done) (sym (setup_feeder before fields word first is))
-    (changed_by (λ capacities. record before { capacities = capacities }) (feeder_after before.capacities (drop 1 fields)) before.capacities after.capacities done change))
+    (changed_by (λ capacities. record before { capacities = capacities }) (capacities_after before.capacities (drop 1 fields)) before.capacities after.capacities done change))
     c.declare_feeder.ensures.done)
 
 -- a record of the table
