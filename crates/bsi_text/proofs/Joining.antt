@@ -12,7 +12,7 @@ use Rattle.csv.specs.declared.reader.Reader.{Reader}
 use Rattle.bsi_table.specs.Rows.{Entries}
 use Rattle.bsi_records.specs.Numbers.{Field}
 use Rattle.bsi_text.specs.RowFiles.{good_row}
-use Rattle.bsi_text.specs.Sources.{HasRead, HasTaken, IsOver, IsWhole, Layout, StandsAfter, Tally}
+use Rattle.bsi_text.specs.Sources.{HasRead, HasTaken, IsOver, IsWholeFile, Layout, StandsAfter, Tally}
 use Rattle.bsi_text.proofs.Taking.{bad_one}
 
 -- records and then further ones
@@ -51,20 +51,20 @@ module _ {R : Type 0} (rem : R → Option (List ℕ)) (layout : Layout) (a b c :
 module _ {R : Type 0} (rem : R → Option (List ℕ)) (layout : Layout) (a b : Reader R) (text : List ℕ) where
   -- a file that was read from behind its header to its end
   pub is_whole : (start end : Tally) (rows : List Entries) → StandsAfter rem layout a text → HasTaken rem layout a b start end rows → IsOver rem b
-      → IsWhole layout text start end rows
+      → IsWholeFile layout text start end rows
   unfolding Reached
   is_whole start end rows stands taken over = by (next_record default_config st.StartRecord [] [] text) refl stands
     where
       by : (o : Option (List (List ℕ) × State × List ℕ)) → next_record default_config st.StartRecord [] [] text ≡ o
           → MatchOption o ⊥ (λ read. (layout.header ≡ read.0) × (reader_state a ≡ read.1) × (source_of rem a ≡ Some read.2))
-          → IsWhole layout text start end rows
+          → IsWholeFile layout text start end rows
       by None e h = absurd h
       by (Some read) e h =
           let known = subst (λ o. IfSome o (λ xs. MatchOption (source_of rem b) ⊥ (λ ys. Reached default_config (reader_state a) xs taken.records (reader_state b) ys))) h.2 taken.read in
           ends (source_of rem b) refl known
         where
           ends : (o : Option (List ℕ)) → source_of rem b ≡ o
-              → MatchOption o ⊥ (λ ys. Reached default_config (reader_state a) read.2 taken.records (reader_state b) ys) → IsWhole layout text start end rows
+              → MatchOption o ⊥ (λ ys. Reached default_config (reader_state a) read.2 taken.records (reader_state b) ys) → IsWholeFile layout text start end rows
           ends None e2 g = absurd g
           ends (Some ys) e2 g = record {
             records = taken.records;

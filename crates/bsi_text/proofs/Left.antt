@@ -12,7 +12,7 @@ use Rattle.csv.specs.declared.reader.Reader.{Reader}
 use Rattle.bsi_table.specs.Rows.{Entries}
 use Rattle.bsi_records.specs.Numbers.{Field}
 use Rattle.bsi_text.specs.RowFiles.{bad_count, good_row, good_rows, given}
-use Rattle.bsi_text.specs.Sources.{AreLeft, GivesFirst, HasGiven, HasLeft, HasRead, HasTaken, IsOver, IsWhole, Layout, Source, StandsAfter, Tally, tally_of}
+use Rattle.bsi_text.specs.Sources.{AreLeft, GivesFirst, HasGiven, HasLeft, HasRead, HasTaken, IsOver, IsWholeFile, Layout, Source, StandsAfter, Tally, tally_of}
 use Rattle.bsi_text.specs.declared.rows.SourceFault.{SourceFault}
 use Rattle.bsi_text.proofs.AllRecords.{all_records, one_reading, records_behind}
 use Rattle.bsi_text.proofs.Taking.{bad_one}
@@ -186,13 +186,13 @@ module _ {R : Type 0} (rem : R → Option (List ℕ)) where
 
     -- what is left behind the header is all of a file
     pub left_of_file : (input : Reader R) (text : List ℕ) (rows : List Entries) (n : ℕ) → StandsAfter rem layout input text → HasLeft rem layout input rows n
-        → (m : ℕ) × IsWhole layout text (tally_of 0 0) (tally_of m n) rows
+        → (m : ℕ) × IsWholeFile layout text (tally_of 0 0) (tally_of m n) rows
     unfolding Reached
     left_of_file input text rows n stands has = by (next_record default_config st.StartRecord [] [] text) refl stands
       where
         by : (o : Option (List (List ℕ) × State × List ℕ)) → next_record default_config st.StartRecord [] [] text ≡ o
             → MatchOption o ⊥ (λ read. (layout.header ≡ read.0) × (reader_state input ≡ read.1) × (source_of rem input ≡ Some read.2))
-            → (m : ℕ) × IsWhole layout text (tally_of 0 0) (tally_of m n) rows
+            → (m : ℕ) × IsWholeFile layout text (tally_of 0 0) (tally_of m n) rows
         by None e h = absurd h
         by (Some read) e h =
             let left = subst (λ o. MatchOption o ⊥ (λ rest. AreRecords default_config (reader_state input) rest has.records)) h.2 has.left in

@@ -17,7 +17,7 @@ use Rattle.bsi_table.specs.Columns.{Declared}
 use Rattle.bsi_table.specs.Rows.{Entries}
 use Rattle.bsi_records.specs.Numbers.{Field}
 use Rattle.bsi_text.specs.RowFiles.{bad_count, good_row, is_header}
-use Rattle.bsi_text.specs.Sources.{HasEnded, HasMore, HasRead, HasStopped, HasNoHeader, HasTaken, IsOver, IsPlain, IsTally, Layout, StandsAfter, Tally}
+use Rattle.bsi_text.specs.Sources.{HasEnded, HasNext, HasRead, HasStopped, HasNoHeader, HasTaken, IsOver, IsPlain, IsTally, Layout, StandsAfter, Tally}
 use Rattle.bsi_text.specs.declared.rows.SourceFault.{SourceFault}
 use Rattle.bsi_text.specs.declared.rows.SourceFault.TheVariants.{NoMemory, Read, TooLong}
 
@@ -60,7 +60,7 @@ module _ {R : Type 0} (rem : R → Option (List ℕ)) (a b c : Reader R) (fields
       by (Some ys) e = rows-end rem b c fields default_config ys plain e next
 
   -- there is one more
-  pub has_more : ReadRecord rem b c true fields → HasMore rem b
+  pub has_more : ReadRecord rem b c true fields → HasNext rem b
   unfolding Reached
   has_more next = by (source_of rem b) refl
     where

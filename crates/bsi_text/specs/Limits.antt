@@ -3,7 +3,7 @@ use Rattle.std.specs.Prelude.{Bool, true, ◌&&◌, Option, Some, None, ℤ, ◌
 use Rattle.bsi_table.specs.Columns.{NamedColumn, size_in}
 use Rattle.bsi_text.specs.declared.limits.Limits.{Limits}
 
--- those of a column
+-- the numbers that a column takes
 abbrev pub limits_of : NamedColumn → Limits
 limits_of column = record { least = column.offset; size = size_in column.form }
 

@@ -67,6 +67,6 @@ pub record HasPast (records : List (List Field)) (lines : List (List ℕ)) (show
   pub shows : shown ≡ shown_after (machine_of setup) past
   pub conserved : IsConserved (machine_of setup) past
 
--- no line says that memory was wanted
+-- no line is 'no memory'
 abbrev pub FindMemory : List (List ℕ) → Type 0
 FindMemory lines = All (λ line. line ≢ no_memory_line) lines

@@ -2,7 +2,7 @@
 use Rattle.std.specs.Prelude.{◌≡◌, ◌≢◌, ℕ, ◌+◌, List, [], ◌∷◌, Option, Some, None, Ok, Err, Bool, true, false}
 use Rattle.csv.specs.declared.reader.Reader.{Reader}
 use Rattle.bsi_records.specs.Numbers.{Field}
-use Rattle.bsi_text.specs.Sources.{End, HasMore, HasRead, IsOver}
+use Rattle.bsi_text.specs.Sources.{End, HasNext, HasRead, IsOver}
 use Rattle.bsi_text.specs.declared.rows.SourceFault.{SourceFault}
 use Rattle.bsi_text.specs.declared.rows.SourceFault.TheVariants.{BadHeader, TooLong}
 
@@ -13,14 +13,14 @@ pub record RecordText (R : Type 0) : Type 0 where
   pub end : End
 
 -- a reader gave one record more, which was counted, or had none left
-abbrev pub Takes : {R : Type 0} → (R → Option (List ℕ)) → Reader R → Reader R → ℕ → ℕ → List Field → Bool → Type 0
-Takes rem old new before after fields true = HasRead rem old new (fields ∷ []) × (after ≡ before + 1)
-Takes rem old new before after fields false = IsOver rem old × (after ≡ before)
+abbrev pub TakesRecord : {R : Type 0} → (R → Option (List ℕ)) → Reader R → Reader R → ℕ → ℕ → List Field → Bool → Type 0
+TakesRecord rem old new before after fields true = HasRead rem old new (fields ∷ []) × (after ≡ before + 1)
+TakesRecord rem old new before after fields false = IsOver rem old × (after ≡ before)
 
 -- a fault, none of a header, was met; a text is too long where 1,000,000 records were taken and there is one more
 abbrev pub Stops : {R : Type 0} → (R → Option (List ℕ)) → Reader R → ℕ → ℕ → SourceFault → Type 0
 Stops rem old before after fault =
-    (fault ≢ BadHeader) × (fault ≡ TooLong → (before ≡ 1000000) × HasMore rem old) × (after ≡ before)
+    (fault ≢ BadHeader) × (fault ≡ TooLong → (before ≡ 1000000) × HasNext rem old) × (after ≡ before)
 
 -- how a source stands after a call that takes a record, or finds none left
 abbrev pub end_after : Bool → End
@@ -29,8 +29,8 @@ end_after false = Some (Ok tt)
 
 abbrev pub TakesNext : {R : Type 0} → (R → Option (List ℕ)) → RecordText R → RecordText R → List Field → Bool → Type 0
 TakesNext rem old new fields found =
-    Takes rem old.input new.input old.taken new.taken fields found × (new.end ≡ end_after found)
+    TakesRecord rem old.input new.input old.taken new.taken fields found × (new.end ≡ end_after found)
 
--- and after a fault
+-- a source after a call that met a fault
 abbrev pub StopsAt : {R : Type 0} → (R → Option (List ℕ)) → RecordText R → RecordText R → SourceFault → Type 0
 StopsAt rem old new fault = Stops rem old.input old.taken new.taken fault × (new.end ≡ Some (Err fault))

@@ -65,8 +65,8 @@ abbrev pub IsOver : {R : Type 0} → (R → Option (List ℕ)) → Reader R → 
 IsOver rem input =
     IfSome (source_of rem input) (λ rest. next_record default_config (reader_state input) [] [] rest ≡ None)
 
-abbrev pub HasMore : {R : Type 0} → (R → Option (List ℕ)) → Reader R → Type 0
-HasMore rem input =
+abbrev pub HasNext : {R : Type 0} → (R → Option (List ℕ)) → Reader R → Type 0
+HasNext rem input =
     IfSome (source_of rem input) (λ rest. IsSome (next_record default_config (reader_state input) [] [] rest))
 
 -- records were read and counted, and these are the rows of the good ones
@@ -92,7 +92,7 @@ pub record HasStopped {R : Type 0} (rem : R → Option (List ℕ)) (layout : Lay
   pub at : Reader R
   pub taken : HasTaken rem layout old at before after []
   pub later : fault ≢ BadHeader
-  pub too_long : fault ≡ TooLong → (after.passed ≡ 1000000) × HasMore rem at
+  pub too_long : fault ≡ TooLong → (after.passed ≡ 1000000) × HasNext rem at
 
 -- what a call leaves that gives a row, or finds that none is left
 abbrev pub HasGiven : {R : Type 0} → (R → Option (List ℕ)) → Layout → Reader R → Reader R → Tally → Tally
@@ -148,7 +148,7 @@ HasNoHeader schema text =
 
 -- the records of a whole text are the header and these, and the rows are those of the good ones, and the counts have
 -- grown by them
-pub record IsWhole (layout : Layout) (text : List ℕ) (before after : Tally) (rows : List Entries) : Type 0 where
+pub record IsWholeFile (layout : Layout) (text : List ℕ) (before after : Tally) (rows : List Entries) : Type 0 where
   pub records : List (List Field)
   pub all : AreRecords default_config st.StartRecord text (layout.header ∷ records)
   pub good : rows ≡ good_rows layout.schema layout.header records

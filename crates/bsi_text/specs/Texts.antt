@@ -23,7 +23,7 @@ abbrev pub WritesLines : Option (List ℕ) → Option (List ℕ) → List (List 
 WritesLines before after records =
     (lines : List (List ℕ)) × IsScriptRun records lines × Appends before after (concat lines)
 
--- a first part of them was
+-- a first part of the lines of a script run was put behind what a writer held
 abbrev pub WritesPart : Option (List ℕ) → Option (List ℕ) → List (List Field) → Type 0
 WritesPart before after records =
     (lines : List (List ℕ)) × (n : ℕ) × IsScriptRun records lines × Appends before after (take n (concat lines))

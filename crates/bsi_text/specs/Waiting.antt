@@ -8,7 +8,7 @@ pub record IsPut (before after : Option (List ℕ)) (waiting text : List ℕ) : 
   pub text_is : text ≡ gone ++ waiting
   pub written : Appends before after gone
 
--- a first part of a text was, and no more of it will be
+-- a first part of a text was put behind what a writer held, and the rest is dropped
 abbrev pub IsCut : Option (List ℕ) → Option (List ℕ) → List ℕ → Type 0
 IsCut before after text = (n : ℕ) × Appends before after (take n text)
 

@@ -11,7 +11,7 @@ ghost use Rattle.bsi_records.specs.Numbers.{Field};
 ghost use Rattle.bsi_text.specs.Pasts.{FindMemory, HasPast};
 ghost use Rattle.bsi_text.specs.Scripts.{AreTurns, Declaring, IsScriptRun, Running};
 ghost use Rattle.bsi_records.specs.Setups.{nothing_declared};
-ghost use Rattle.bsi_text.specs.Sources.{tally_of, HasLeft, HasRead, HasTaken, IsOver, IsWhole, Layout, StandsAfter, Tally};
+ghost use Rattle.bsi_text.specs.Sources.{tally_of, HasLeft, HasRead, HasTaken, IsOver, IsWholeFile, Layout, StandsAfter, Tally};
 ghost use Rattle.bsi_text.specs.Texts.{AreAllRecords, IsAnswered, IsBegun};
 
 use std::io::Read;
@@ -54,7 +54,7 @@ pub fn rows_of_a_file<R: Read + Drop>()
     ensures { (layout : Layout) → (a b : Reader R) → (text : List ℕ) → (start end : Tally) →
         (rows : List Entries)
         → StandsAfter R.remaining layout a text → HasTaken R.remaining layout a b start end rows →
-        IsOver R.remaining b → IsWhole layout text start end rows }
+        IsOver R.remaining b → IsWholeFile layout text start end rows }
 {}
 
 /// States that nothing is taken before the first call of a row source.
@@ -79,7 +79,7 @@ pub fn left_of_a_file<R: Read + Drop>()
     ensures { (layout : Layout) → (input : Reader R) → (text : List ℕ) → (rows : List Entries) →
         (n : ℕ)
         → StandsAfter R.remaining layout input text → HasLeft R.remaining layout input rows n
-        → (m : ℕ) × IsWhole layout text (tally_of 0 0) (tally_of m n) rows }
+        → (m : ℕ) × IsWholeFile layout text (tally_of 0 0) (tally_of m n) rows }
 {}
 
 /// States that the rows that were taken are the first of those that the reader had left, also without the last of them.

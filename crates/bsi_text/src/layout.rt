@@ -1,10 +1,10 @@
 //! The header of a row file, and the rows that its records give.
 
-ghost use Rattle.std.specs.Prelude.{◌≡◌, ℕ, List, [], get_or, if◌then◌else◌, nat_eq, map, not, length, count_by, Option, Some, None, is_some, true, IfOk, IsTrue, OnOk};
-ghost use Rattle.std.specs.List.{list_all, prefix_len};
+ghost use Rattle.std.specs.Prelude.{◌≡◌, [], get_or, if◌then◌else◌, map, count_by, Some, None, true, IfOk, IsTrue, OnOk};
+ghost use Rattle.std.specs.List.{list_all};
 ghost use Rattle.std.specs.Str.{bytes_eq};
 ghost use Rattle.csv.specs.Records.{fields_of};
-ghost use Rattle.bsi_table.specs.Columns.{fits, position_of};
+ghost use Rattle.bsi_table.specs.Columns.{fits};
 ghost use Rattle.bsi_records.specs.Numbers.{values_in};
 ghost use Rattle.bsi_text.specs.Limits.{limits_of};
 ghost use Rattle.bsi_text.specs.RowFiles.{given, good_row, in_order, is_header, is_known, is_named_once, place_of};

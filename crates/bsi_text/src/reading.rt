@@ -10,6 +10,9 @@ use csv::{ByteRecord, Reader, ReaderBuilder};
 use std::alloc::Global;
 use std::io::Read;
 
+/// The most records that are read of a text, or behind the header of a row file.
+pub(crate) const MAX_RECORDS: u64 = 1_000_000;
+
 /// Makes the reader of a text. Its first record is a record like the others, and records may have any number of fields.
 pub(crate) fn plain_reader<R: Read + Drop>(alloc: Global, reader: R) -> Reader<R>
     ensures plain { IsPlain result }

@@ -8,16 +8,13 @@ ghost use Rattle.bsi_text.specs.RowFiles.{given, is_header};
 ghost use Rattle.bsi_text.specs.Sources.{tally_of, GivesFirst, HasGiven, HasNoHeader, HasStopped, IsPlain, IsTally, StandsAfter};
 
 use crate::layout::Layout;
-use crate::reading::{plain_reader, read_next};
+use crate::reading::{MAX_RECORDS, plain_reader, read_next};
 use bsi_table::{Row, Schema};
 use csv::{ByteRecord, Reader};
 use std::alloc::{AllocError, Global};
 use std::io::Read;
 use std::marker::Model;
 use thiserror::Error;
-
-/// The most records behind the header of a row file.
-const MAX_RECORDS: u64 = 1_000_000;
 
 /// Why a row source gives no more rows.
 #[derive(Clone, Copy, Debug, PartialEq, Eq, Error)]

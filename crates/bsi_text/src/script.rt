@@ -11,16 +11,13 @@ ghost use Rattle.bsi_text.specs.Sources.{IsPlain};
 ghost use Rattle.bsi_text.specs.Texts.{FromText, IfKnown, IsAnswered, IsBegun, IsStopped, IsTooLong, OnceServed};
 ghost use Rattle.bsi_text.specs.Waiting.{IsCut, IsPut, WhileWritten};
 
-use crate::reading::{plain_reader, read_next};
+use crate::reading::{MAX_RECORDS, plain_reader, read_next};
 use crate::session::Session;
 use crate::watched::{Watched, has_whole_record};
 use csv::{ByteRecord, Reader};
 use std::alloc::{AllocError, Global};
 use std::io::{Read, Write};
 use thiserror::Error;
-
-/// The most records of a script.
-const MAX_RECORDS: u64 = 1_000_000;
 
 /// The most bytes of waiting lines.
 const MAX_GATHERED: usize = 1 << 16;

@@ -100,8 +100,6 @@ fn step(alloc: Global, core: &mut Core, event: Event) -> Result<Reply, NoMemory>
 {
     let mut events = Vec::with_capacity(alloc, 1)?;
     events.push_reserved(event);
-    let Ok(mut replies) = core.run(events) else {
-        return Err(NoMemory);
-    };
+    let mut replies = core.run(events).map_err(|_| NoMemory)?;
     Ok(replies.remove(0))
 }

@@ -4,18 +4,15 @@ ghost use Rattle.std.specs.Prelude.{◌≡◌, ◌≤◌, Some, None, Ok, Err, f
 ghost use Rattle.csv.specs.Reading.{reader_state, source_of, strip_bom};
 ghost use Rattle.csv.specs.Records.{fields_of};
 ghost use Rattle.csv.specs.declared.parser.State.TheVariants as st;
-ghost use Rattle.bsi_text.specs.RecordTexts.{Stops, StopsAt, Takes, TakesNext};
+ghost use Rattle.bsi_text.specs.RecordTexts.{Stops, StopsAt, TakesNext, TakesRecord};
 ghost use Rattle.bsi_text.specs.Sources.{IsPlain};
 
-use crate::reading::{plain_reader, read_next};
+use crate::reading::{MAX_RECORDS, plain_reader, read_next};
 use crate::rows::SourceFault;
 use csv::{ByteRecord, Reader};
 use std::alloc::Global;
 use std::io::Read;
 use std::marker::Model;
-
-/// The most records of a text.
-const MAX_RECORDS: u64 = 1_000_000;
 
 /// The records of a text, each of any number of fields. It takes at most 1,000,000 of them.
 #[derive(Drop)]
@@ -91,7 +88,7 @@ fn take_record<R: Read + Drop>(
     requires plain { IsPlain input.old }
     requires few { taken.old ≤ 1000000 }
     ensures taken { IfOk result
-        (Takes R.remaining input.old input.new taken.old taken.new (fields_of fields.new)) }
+        (TakesRecord R.remaining input.old input.new taken.old taken.new (fields_of fields.new)) }
     ensures stopped { IfErr result (Stops R.remaining input.old taken.old taken.new) }
     ensures few { taken.new ≤ 1000000 }
     ensures plain { OnOk result (IsPlain input.new) }

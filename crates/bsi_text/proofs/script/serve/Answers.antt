@@ -1,5 +1,5 @@
 use Rattle.std.proofs.Common.{true, false, ◌++◌, rules}
-use Rattle.csv.specs.Reading.{ReadRecord, reader_state, source_of}
+use Rattle.csv.specs.Reading.{ReadRecord, source_of}
 use Rattle.csv.specs.Records.{fields_of}
 use Rattle.bsi_text.specs.Scripts.{IsTurn}
 use Rattle.bsi_text.specs.Sessions.{stage_of}
