@@ -1,10 +1,12 @@
-//! Schemas, indexes and queries as the tests declare them. A refused allocation is tried again.
+//! Schemas, rows and predicates as the tests declare them. A refused allocation is tried again.
+
+ghost use Rattle.std.specs.Prelude.{◌≡◌, map, IfOk, OnOk, OnErr};
+ghost use Rattle.std.specs.List.{list_any};
+ghost use Rattle.bsi_schema.specs.Columns.{form_of, with_column};
+ghost use Rattle.bsi_plain_tables.specs.Making.{as_column, has_offset, stored_form, IsConjunction, IsDisjunction, IsNegation};
 
 use bsi_columns::NoMemory;
-use bsi_table::{
-    Answer, AppendError, AskError, ColumnSpec, Index, IndexError, Pred, Query, Row, Schema,
-    SchemaError, Total,
-};
+use bsi_table::{ColumnSpec, Pred, Row, Schema, SchemaError};
 use std::alloc::Global;
 
 /// The forms of a column.
@@ -30,12 +32,6 @@ pub struct Wide<'a> {
     pub bases: &'a [u32],
 }
 
-/// Numbers below 8.
-pub const SLICES_3: Wide<'static> = Wide {
-    width: 3,
-    bases: &[8],
-};
-
 /// A column that is declared: its name, its form, and the least number that it takes.
 #[derive(Clone, Copy)]
 pub struct Declared<'a> {
@@ -49,33 +45,34 @@ pub struct Declared<'a> {
     pub offset: i64,
 }
 
-/// A column of three slices.
+/// A column of three slices, for the numbers below 8.
 pub const QTY: Declared<'static> = Declared {
     name: "qty",
     form: Form::Slices,
-    wide: SLICES_3,
+    wide: Wide {
+        width: 3,
+        bases: &[8],
+    },
     offset: 0,
 };
 
-/// Copies a list of numbers.
-pub fn list(alloc: Global, numbers: &[u32]) -> Result<Vec<u32>, NoMemory> {
-    match Vec::from_slice(alloc, numbers) {
-        Err(_) => Vec::from_slice(alloc, numbers),
-        made => made,
-    }
-}
-
 /// Returns how a column of this form and width is declared.
-pub fn spec(alloc: Global, form: Form, wide: Wide) -> Result<ColumnSpec, NoMemory> {
+fn spec(alloc: Global, form: Form, wide: Wide) -> Result<ColumnSpec, NoMemory>
+    ensures { IfOk result (λ spec. form_of spec ≡ stored_form form wide.entry) }
+{
     match form {
         Form::Slices => Ok(ColumnSpec::Slices(wide.width)),
-        Form::Equality => Ok(ColumnSpec::Equality(list(alloc, wide.bases)?)),
-        Form::Range => Ok(ColumnSpec::Range(list(alloc, wide.bases)?)),
+        Form::Equality => Ok(ColumnSpec::Equality(Vec::from_slice(alloc, wide.bases)?)),
+        Form::Range => Ok(ColumnSpec::Range(Vec::from_slice(alloc, wide.bases)?)),
     }
 }
 
-/// Adds a column to the schema.
-pub fn add_once(alloc: Global, schema: &mut Schema, column: Declared) -> Result<(), SchemaError> {
+/// Adds a column to the schema, in one call.
+fn add_once(alloc: Global, schema: &mut Schema, column: Declared) -> Result<(), SchemaError>
+    ensures added { OnOk result (schema.new
+        ≡ with_column schema.old (as_column column.entry) (has_offset column.entry)) }
+    ensures kept { OnErr result (schema.new ≡ schema.old) }
+{
     let spec = spec(alloc, column.form, column.wide)?;
     if column.offset == 0 {
         schema.add(column.name, spec)
@@ -84,19 +81,24 @@ pub fn add_once(alloc: Global, schema: &mut Schema, column: Declared) -> Result<
     }
 }
 
-/// Adds a column to the schema. A refused growth changes nothing, and the same call is made again.
-pub fn add(alloc: Global, schema: &mut Schema, column: Declared) -> Result<(), SchemaError> {
-    let before = schema.columns();
+/// Adds a column to the schema, which stays where the column is refused. Where memory is refused, it makes the same call
+/// again.
+pub fn add(alloc: Global, schema: &mut Schema, column: Declared) -> Result<(), SchemaError>
+    ensures added { OnOk result (schema.new
+        ≡ with_column schema.old (as_column column.entry) (has_offset column.entry)) }
+    ensures kept { OnErr result (schema.new ≡ schema.old) }
+{
     match add_once(alloc, schema, column) {
-        Err(SchemaError::NoMemory) if schema.columns() == before => {
-            add_once(alloc, schema, column)
-        }
+        Err(SchemaError::NoMemory) => add_once(alloc, schema, column),
         done => done,
     }
 }
 
 /// Makes a schema of these columns.
-pub fn schema_of(alloc: Global, columns: &[Declared]) -> Result<Schema, SchemaError> {
+pub fn schema_of(alloc: Global, columns: &[Declared]) -> Result<Schema, SchemaError>
+    ensures columns { IfOk result (λ schema. schema.columns ≡ map as_column columns.now) }
+    ensures signed { IfOk result (λ schema. schema.signed ≡ list_any has_offset columns.now) }
+{
     let mut schema = Schema::new(alloc);
     for column in columns {
         add(alloc, &mut schema, *column)?;
@@ -104,67 +106,20 @@ pub fn schema_of(alloc: Global, columns: &[Declared]) -> Result<Schema, SchemaEr
     Ok(schema)
 }
 
-/// Makes an index of no rows.
-pub fn index_once(
-    alloc: Global,
-    columns: &[Declared],
-    feeders: u32,
-    limit: u64,
-) -> Result<Index, IndexError> {
-    match schema_of(alloc, columns) {
-        Err(_) => Err(IndexError::NoMemory),
-        Ok(schema) => Index::new(alloc, schema, feeders.clamp(1, 64), limit),
-    }
-}
-
-/// Makes an index of no rows. Where memory is refused, it makes the same call again.
-pub fn index_of(
-    alloc: Global,
-    columns: &[Declared],
-    feeders: u32,
-    limit: u64,
-) -> Result<Index, IndexError> {
-    match index_once(alloc, columns, feeders, limit) {
-        Err(IndexError::NoMemory) => index_once(alloc, columns, feeders, limit),
-        made => made,
-    }
-}
-
 /// Makes a row of these entries.
-pub fn row_of(alloc: Global, entries: &[Option<i128>]) -> Result<Row, NoMemory> {
+pub fn row_of(alloc: Global, entries: &[Option<i128>]) -> Result<Row, NoMemory>
+    ensures { IfOk result (λ row. row ≡ entries.now) }
+{
     match Vec::from_slice(alloc, entries) {
         Err(_) => Ok(Row::new(Vec::from_slice(alloc, entries)?)),
         Ok(values) => Ok(Row::new(values)),
     }
 }
 
-/// Appends a row that fits. A refused growth changes nothing, and the same call is made again.
-pub fn append_row(index: &mut Index, feeder: u32, row: &Row) -> Option<Result<u64, AppendError>> {
-    if !index.schema().fits(row) || feeder >= index.feeders() {
-        return None;
-    }
-    let before = index.len();
-    match index.append(feeder, row) {
-        Err(AppendError::NoMemory) if index.len() == before => Some(index.append(feeder, row)),
-        done => Some(done),
-    }
-}
-
-/// Asks the index. Where memory is refused, it asks again.
-pub fn asked(index: &Index, query: &Query) -> Result<Answer, AskError> {
-    match index.ask(query) {
-        Err(AskError::NoMemory) => index.ask(query),
-        answer => answer,
-    }
-}
-
-/// Asks the index for this total of the rows of which the predicate holds.
-pub fn answer(index: &Index, total: Total, pred: Pred) -> Result<Answer, AskError> {
-    asked(index, &Query { total, pred })
-}
-
 /// Boxes a predicate.
-pub fn boxed(alloc: Global, pred: Pred) -> Result<Box<Pred>, NoMemory> {
+fn boxed(alloc: Global, pred: Pred) -> Result<Box<Pred>, NoMemory>
+    ensures { IfOk result (λ boxed. boxed.value ≡ pred) }
+{
     match Box::new(alloc, pred) {
         Ok(boxed) => Ok(boxed),
         Err(refused) => Ok(Box::new(alloc, refused.value)?),
@@ -172,16 +127,22 @@ pub fn boxed(alloc: Global, pred: Pred) -> Result<Box<Pred>, NoMemory> {
 }
 
 /// Returns the negation of a predicate.
-pub fn not(alloc: Global, pred: Pred) -> Result<Pred, NoMemory> {
+pub fn not(alloc: Global, pred: Pred) -> Result<Pred, NoMemory>
+    ensures { IfOk result (IsNegation pred) }
+{
     Ok(Pred::Not(boxed(alloc, pred)?))
 }
 
 /// Returns the conjunction of two predicates.
-pub fn both(alloc: Global, first: Pred, second: Pred) -> Result<Pred, NoMemory> {
+pub fn both(alloc: Global, first: Pred, second: Pred) -> Result<Pred, NoMemory>
+    ensures { IfOk result (IsConjunction first second) }
+{
     Ok(Pred::Both(boxed(alloc, first)?, boxed(alloc, second)?))
 }
 
 /// Returns the disjunction of two predicates.
-pub fn either(alloc: Global, first: Pred, second: Pred) -> Result<Pred, NoMemory> {
+pub fn either(alloc: Global, first: Pred, second: Pred) -> Result<Pred, NoMemory>
+    ensures { IfOk result (IsDisjunction first second) }
+{
     Ok(Pred::Either(boxed(alloc, first)?, boxed(alloc, second)?))
 }

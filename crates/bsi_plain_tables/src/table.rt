@@ -1,5 +1,7 @@
 //! A plain table, which answers row by row from the definitions.
 
+ghost use Rattle.std.specs.Prelude.{◌≡◌, []};
+
 use bsi_columns::{NoMemory, Op};
 use bsi_table::{Answer, Pred, Query, Row, Total};
 use std::alloc::Global;
@@ -42,7 +44,9 @@ fn holds(pred: &Pred, row: &Row) -> bool {
 
 impl PlainTable {
     /// Makes a table of no rows.
-    pub fn new(alloc: Global) -> PlainTable {
+    pub fn new(alloc: Global) -> PlainTable
+        ensures { result.rows.items ≡ [] }
+    {
         PlainTable {
             rows: Vec::new(alloc),
         }
@@ -84,7 +88,8 @@ impl PlainTable {
         Ok(Answer::Rows(listed))
     }
 
-    /// Answers a query row by row.
+    /// Answers a query row by row. It has no contract, because it is the other side of a comparison: were an index and
+    /// this table proved from the same definition of an answer, the comparison would show nothing of the definition.
     pub fn answer(&self, alloc: Global, query: &Query) -> Result<Answer, NoMemory> {
         let pred = &query.pred;
         match query.total {

@@ -4,4 +4,6 @@
 #[cfg(test)]
 mod machine;
 #[cfg(test)]
+mod plain;
+#[cfg(test)]
 mod runs;

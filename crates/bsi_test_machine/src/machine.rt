@@ -4,7 +4,7 @@ use bsi_columns::NoMemory;
 use bsi_load::{
     CloseRefused, Core, Event, LoadRefused, MakeError, Reply, RunRefused, SubmitRefused,
 };
-use bsi_plain_tables::{Declared, QTY, list, row_of, schema_of};
+use bsi_plain_tables::{Declared, QTY, row_of, schema_of};
 use bsi_table::{Answer, AskError, IndexError, Pred, Query, Row, Total};
 use std::alloc::Global;
 use std::process::Abort;
@@ -28,7 +28,7 @@ fn core_of(alloc: Global, machine: Machine) -> Result<Core, MakeError> {
     match schema_of(alloc, machine.columns) {
         Err(_) => Err(MakeError::NoMemory),
         Ok(schema) => {
-            let capacities = list(alloc, machine.capacities)?;
+            let capacities = Vec::from_slice(alloc, machine.capacities)?;
             Core::new(alloc, schema, capacities, machine.limit)
         }
     }

@@ -1,11 +1,10 @@
 //! The step machine beside a plain one, on a long list of events of several feeders over columns of every form.
 
 use crate::machine::*;
+use crate::plain::*;
 use bsi_columns::{NoMemory, Op};
 use bsi_load::{Event, Reply};
-use bsi_plain_tables::{
-    DOMAINS, Declared, Domain, Form, PlainMachine, QTY, Wide, both, either, not, row_of,
-};
+use bsi_plain_tables::{Declared, Form, QTY, Wide, both, either, not, row_of};
 use bsi_table::{Pred, Query, Row, Total};
 use std::alloc::Global;
 use std::process::Abort;

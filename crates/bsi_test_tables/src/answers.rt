@@ -1,10 +1,9 @@
 //! Tables of several columns beside a plain one. Each test tolerates one refused allocation, and then makes the same
 //! call again.
 
+use crate::tables::{append_row, asked, index_of};
 use bsi_columns::{NoMemory, Op};
-use bsi_plain_tables::{
-    Declared, Form, PlainTable, Wide, append_row, asked, both, either, index_of, not, row_of,
-};
+use bsi_plain_tables::{Declared, Form, PlainTable, Wide, both, either, not, row_of};
 use bsi_table::{Answer, Index, Pred, Query, Row, Total};
 use std::alloc::Global;
 use std::process::Abort;

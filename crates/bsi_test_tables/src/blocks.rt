@@ -5,8 +5,8 @@ ghost use Rattle.std.specs.Prelude.{IsTrue};
 ghost use Rattle.bsi_table.specs.Table.{AreFitting, AreFrom};
 
 use crate::answers::{Both, COLUMNS, keep, no_rows, row_at, same_answers};
+use crate::tables::{answer, index_of};
 use bsi_columns::NoMemory;
-use bsi_plain_tables::{answer, index_of};
 use bsi_table::{Answer, AppendError, Index, MAX_BLOCK_ROWS, Pred, Row, Total};
 use std::alloc::Global;
 use std::process::Abort;

@@ -10,4 +10,6 @@ mod lists;
 #[cfg(test)]
 mod selections;
 #[cfg(test)]
+mod tables;
+#[cfg(test)]
 mod worked;

@@ -1,8 +1,9 @@
 //! Lists of few and of all rows, of one feeder and of several, on both sides of the marks that stand before each 512th
 //! row. Each test tolerates one refused allocation, and then makes the same call again.
 
+use crate::tables::{answer, index_of};
 use bsi_columns::{NoMemory, Op};
-use bsi_plain_tables::{QTY, answer, index_of, row_of};
+use bsi_plain_tables::{QTY, row_of};
 use bsi_table::{Answer, AppendError, Index, MAX_FEEDERS, Pred, Row, Total};
 use std::alloc::Global;
 use std::process::Abort;

@@ -1,8 +1,9 @@
 //! Predicates over more rows than one block has, which is 65,536. Each test tolerates one refused allocation, and then
 //! makes the same call again.
 
+use crate::tables::{asked, index_of};
 use bsi_columns::{NoMemory, Op};
-use bsi_plain_tables::{Declared, Form, Wide, asked, both, either, index_of, not, row_of};
+use bsi_plain_tables::{Declared, Form, Wide, both, either, not, row_of};
 use bsi_table::{Answer, AppendError, Index, Pred, Query, Row, Total};
 use std::alloc::Global;
 use std::process::Abort;

@@ -1,12 +1,11 @@
 //! What a schema and an index refuse, and an index on worked rows. Each test tolerates one refused allocation, and then
 //! makes the same call again.
 
+use crate::tables::{answer, append_row, index_of};
 use bsi_bits::Bits;
 use bsi_columns::{AnyColumn, NoMemory, Op};
 use bsi_digits::BasesError;
-use bsi_plain_tables::{
-    Declared, FORMS, Form, QTY, Wide, add, answer, append_row, both, index_of, not, row_of,
-};
+use bsi_plain_tables::{Declared, FORMS, Form, QTY, Wide, add, both, not, row_of};
 use bsi_table::{
     Answer, AppendError, AskError, Index, IndexError, Pred, Row, Schema, SchemaError, Total,
 };

@@ -1,18 +1,18 @@
 //! A plain machine over a plain table.
 
-use crate::PlainTable;
 use bsi_columns::NoMemory;
 use bsi_load::{CloseRefused, Event, LoadRefused, Reply, SubmitRefused};
+use bsi_plain_tables::PlainTable;
 use bsi_table::Row;
 use std::alloc::Global;
 
 /// What a column takes: this many numbers, from the least one on.
 #[derive(Clone, Copy)]
-pub struct Domain {
+pub(crate) struct Domain {
     /// The least number.
-    pub least: i128,
+    pub(crate) least: i128,
     /// How many numbers.
-    pub size: u64,
+    pub(crate) size: u64,
 }
 
 impl Domain {
@@ -27,13 +27,13 @@ impl Domain {
     }
 
     /// Returns the number that is so far above the least.
-    pub fn number(self, above: u64) -> i128 {
+    pub(crate) fn number(self, above: u64) -> i128 {
         self.least.wrapping_add(i128::from(above))
     }
 }
 
 /// What the columns of the machine take.
-pub const DOMAINS: [Domain; 4] = [
+pub(crate) const DOMAINS: [Domain; 4] = [
     Domain { least: 0, size: 8 },
     Domain { least: 0, size: 9 },
     Domain { least: 0, size: 12 },
@@ -44,10 +44,10 @@ pub const DOMAINS: [Domain; 4] = [
 ];
 
 /// How many rows of a feeder may wait.
-pub const MAX_WAITING_ROWS: usize = 3;
+pub(crate) const MAX_WAITING_ROWS: usize = 3;
 
 /// How many rows the machine loads.
-pub const MAX_LOADED_ROWS: usize = 30;
+pub(crate) const MAX_LOADED_ROWS: usize = 30;
 
 fn all_fit(entries: &[Option<i128>]) -> bool {
     entries
@@ -65,7 +65,7 @@ struct PlainFeeder {
 
 /// A list for each feeder, and the rows loaded with their feeders. A planted fault loads the newest row first.
 #[derive(Drop)]
-pub struct PlainMachine {
+pub(crate) struct PlainMachine {
     feeders: Vec<PlainFeeder>,
     table: PlainTable,
     newest_first: bool,
@@ -73,7 +73,7 @@ pub struct PlainMachine {
 
 impl PlainMachine {
     /// Makes a machine of three open feeders.
-    pub fn new(alloc: Global, newest_first: bool) -> Result<PlainMachine, NoMemory> {
+    pub(crate) fn new(alloc: Global, newest_first: bool) -> Result<PlainMachine, NoMemory> {
         let mut feeders = Vec::new(alloc);
         for _ in 0..3 {
             feeders.push(PlainFeeder {
@@ -142,7 +142,7 @@ impl PlainMachine {
     }
 
     /// Does an event and returns its reply.
-    pub fn step(&mut self, alloc: Global, event: Event) -> Result<Reply, NoMemory> {
+    pub(crate) fn step(&mut self, alloc: Global, event: Event) -> Result<Reply, NoMemory> {
         match event {
             Event::Submit(f, row) => self.submit(f, row),
             Event::Load(f) => self.load(f),
