@@ -1,9 +1,10 @@
 //! Predicates over more rows than one block has, which is 65,536. Each test tolerates one refused allocation, and then
 //! makes the same call again.
 
+use crate::answers::COLUMNS;
 use crate::tables::{asked, index_of};
 use bsi_columns::{NoMemory, Op};
-use bsi_plain_tables::{Declared, Form, Wide, both, either, not, row_of};
+use bsi_plain_tables::{both, either, not, row_of};
 use bsi_table::{Answer, AppendError, Index, Pred, Query, Row, Total};
 use std::alloc::Global;
 use std::process::Abort;
@@ -11,33 +12,6 @@ use std::test::Fail;
 
 /// The lengths at which the tests ask: none, about a word, about a block, and a word past it.
 const LENGTHS: [u64; 7] = [0, 1, 64, 65_535, 65_536, 65_537, 65_600];
-
-const WIDE: Wide<'static> = Wide {
-    width: 4,
-    bases: &[2, 8],
-};
-
-/// A column of each form, two of them with negative numbers.
-const COLUMNS: [Declared<'static>; 3] = [
-    Declared {
-        name: "slices",
-        form: Form::Slices,
-        wide: WIDE,
-        offset: -8,
-    },
-    Declared {
-        name: "equality",
-        form: Form::Equality,
-        wide: WIDE,
-        offset: 0,
-    },
-    Declared {
-        name: "range",
-        form: Form::Range,
-        wide: WIDE,
-        offset: -3,
-    },
-];
 
 /// How many different rows there are. They follow one another in turn.
 const KINDS: u64 = 7;
