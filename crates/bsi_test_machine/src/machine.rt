@@ -98,7 +98,7 @@ fn submit(alloc: Global, number: i128) -> Result<Event, NoMemory> {
     Ok(Event::Submit(0, row))
 }
 
-// Two rows are submitted.
+// The first run: two rows are submitted.
 fn first_events(alloc: Global) -> Result<Vec<Event>, NoMemory> {
     let mut events = Vec::new(alloc);
     for number in [1, 2] {
@@ -107,7 +107,7 @@ fn first_events(alloc: Global) -> Result<Vec<Event>, NoMemory> {
     Ok(events)
 }
 
-// They are loaded, and a third comes after the closing.
+// The second run: the first row is loaded, the feeder is closed, a third row is refused, and the second row is loaded.
 fn second_event(alloc: Global, k: u32) -> Result<Event, NoMemory> {
     match k {
         1 => Ok(Event::Close(0)),
@@ -186,7 +186,7 @@ fn two_runs(rt: HostRuntime) -> Result<(), Fail> {
     Ok(())
 }
 
-// Why no such machine is made. It is to be checked to be so, too.
+// Why such a machine is refused. Asserts that `check_sizes` gives the same refusal as the maker.
 fn refusal(rt: &impl Abort, alloc: Global, machine: Machine) -> Option<MakeError> {
     let schema = schema_of(alloc, machine.columns).expect(rt, "columns");
     let refused = bsi_load::check_sizes(&schema, machine.capacities, machine.limit).err();
