@@ -48,8 +48,8 @@ impl From<IndexError> for MakeError {
     }
 }
 
-/// Checks the sizes of a machine: this schema, a feeder for each capacity, and at most `limit` indexed rows. It asks for
-/// no memory.
+/// Checks the sizes of a machine: this schema, a feeder for each capacity, and at most `limit` indexed rows. It asks
+/// for no memory.
 pub fn check_sizes(schema: &Schema, capacities: &[u32], limit: u64) -> Result<(), MakeError>
     ensures { result_err result ≡ sizes_refusal schema.now capacities.now limit }
 {

@@ -92,7 +92,8 @@ with_seen i seen = record i { seen = seen }
 
 -- the first row that is seen is taken
 abbrev pub TakesFirst : Intake → Entries → Intake → Type 0
-TakesFirst old row new = (old.seen ≡ row ∷ new.seen) × (new ≡ record old { taken = old.taken ++ row ∷ []; seen = new.seen })
+TakesFirst old row new =
+    (old.seen ≡ row ∷ new.seen) × (new ≡ record old { taken = old.taken ++ row ∷ []; seen = new.seen })
 
 -- the closing was told: all that was sent and not taken is seen
 abbrev pub Settles : Intake → Sent → Intake → Type 0
