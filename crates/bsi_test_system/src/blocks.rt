@@ -4,8 +4,8 @@
 ghost use Rattle.std.specs.Prelude.{◌≡◌, [], length};
 ghost use Rattle.bsi_table.specs.Table.{no_rows};
 
-use crate::calls::{capacity, count_of, load, publish, quantities, row, sum_of};
-use bsi_system::{Analyst, Feeder, History, Loader, Naming, OpenRefused, System, open};
+use crate::calls::{capacity, count_of, load, opened, publish, quantities, row, sum_of};
+use bsi_system::{Analyst, Feeder, History, Loader, Naming, System};
 use bsi_table::Schema;
 use std::alloc::Global;
 use std::marker::Brand;
@@ -119,26 +119,17 @@ fn work_in<B: Naming, R: Wait + Abort>(
     requires history { history ≡ record { book = B.book; list = [] } }
     requires about { B.about ≡ no_rows schema (length capacities.items) 500 }
 {
-    match open::<B>(alloc, history, schema, capacities, 500, 1) {
-        Ok(system) => {
-            let System {
-                mut feeders,
-                mut loader,
-                analysts,
-            } = system;
-            let played = match feeders.pop() {
-                Some(feeder) => play_with(rt, alloc, feeder, &mut loader, analysts),
-                None => Err(Fail::from("no feeder")),
-            };
-            loader.end(rt);
-            Some(played)
-        }
-        Err(OpenRefused::Make(_)) => None,
-        Err(OpenRefused::Readers(loader)) => {
-            loader.end(rt);
-            None
-        }
-    }
+    let System {
+        mut feeders,
+        mut loader,
+        analysts,
+    } = opened::<B, R>(rt, alloc, history, schema, capacities, 500, 1)?;
+    let played = match feeders.pop() {
+        Some(feeder) => play_with(rt, alloc, feeder, &mut loader, analysts),
+        None => Err(Fail::from("no feeder")),
+    };
+    loader.end(rt);
+    Some(played)
 }
 
 fn work<R: Wait + Abort>(rt: &R, alloc: Global) -> Option<Result<(), Fail>> {

@@ -1,8 +1,13 @@
 //! Calls on a running system that tolerate one refused allocation: the call is then made again.
 
-ghost use Rattle.std.specs.Prelude.{◌≡◌};
+ghost use Rattle.std.specs.Prelude.{◌≡◌, ◌≤◌, [], All, IfSome, length};
+ghost use Rattle.bsi_table.specs.Table.{no_rows};
+ghost use Rattle.bsi_system.specs.Running.{IsFeederOf};
 
-use bsi_system::{Analyst, AnalystRefused, LoadRefused, Loader, Naming, NoMemory};
+use bsi_system::{
+    Analyst, AnalystRefused, History, LoadRefused, Loader, Naming, NoMemory, OpenRefused, System,
+    open,
+};
 use bsi_table::{Answer, AskError, ColumnSpec, Pred, Query, Row, Schema, Total};
 use std::alloc::Global;
 use std::process::Abort;
@@ -33,6 +38,31 @@ pub(crate) fn capacity(alloc: Global, n: u32) -> Result<Vec<u32>, NoMemory> {
     let mut capacities = Vec::with_capacity(alloc, 1)?;
     capacities.push(n)?;
     Ok(capacities)
+}
+
+/// Opens a system. It returns none if memory is refused.
+pub(crate) fn opened<B: Naming, R: Wait>(
+    rt: &R,
+    alloc: Global,
+    history: History,
+    schema: Schema,
+    capacities: Vec<u32>,
+    limit: u64,
+    analysts: u32,
+) -> Option<System<B>>
+    requires few { analysts ≤ 8 }
+    requires history { history ≡ record { book = B.book; list = [] } }
+    requires about { B.about ≡ no_rows schema (length capacities.items) limit }
+    ensures { IfSome result (λ s. All (λ f. IsFeederOf f s.loader.system) s.feeders.items) }
+{
+    match open::<B>(alloc, history, schema, capacities, limit, analysts) {
+        Ok(system) => Some(system),
+        Err(OpenRefused::Make(_)) => None,
+        Err(OpenRefused::Readers(loader)) => {
+            loader.end(rt);
+            None
+        }
+    }
 }
 
 pub(crate) fn load<B: Naming>(loader: &mut Loader<B>, feeder: u32) -> Result<(), LoadRefused>

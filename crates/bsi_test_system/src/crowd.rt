@@ -4,10 +4,10 @@ ghost use Rattle.std.specs.Prelude.{◌≡◌, ◌≤◌, [], All, IfSome, lengt
 ghost use Rattle.bsi_table.specs.Table.{no_rows};
 ghost use Rattle.bsi_system.specs.Running.{IsFeederOf};
 
-use crate::calls::{count_of, load, publish};
+use crate::calls::{count_of, load, opened, publish};
 use bsi_system::{
     Analyst, AnalystRefused, Closing, Feeder, History, LoadRefused, Loader, Naming, NoMemory,
-    OpenRefused, SubmitRefused, System, Told, open,
+    SubmitRefused, System, Told,
 };
 use bsi_table::{Answer, AskError, ColumnSpec, Op, Pred, Query, Row, Schema, Total};
 use std::alloc::Global;
@@ -566,23 +566,14 @@ fn run_in<B: Naming + Send + Sync + 'static, R: Threads + Wait + Abort>(
     requires history { history ≡ record { book = B.book; list = [] } }
     requires about { B.about ≡ no_rows schema (length capacities.items) 1000 }
 {
-    match open::<B>(alloc, history, schema, capacities, 1000, crowd.analysts) {
-        Ok(system) => {
-            let System {
-                feeders,
-                mut loader,
-                analysts,
-            } = system;
-            let ran = run(rt, alloc, crowd, feeders, analysts, &mut loader);
-            loader.end(rt);
-            ran
-        }
-        Err(OpenRefused::Make(_)) => None,
-        Err(OpenRefused::Readers(loader)) => {
-            loader.end(rt);
-            None
-        }
-    }
+    let System {
+        feeders,
+        mut loader,
+        analysts,
+    } = opened::<B, R>(rt, alloc, history, schema, capacities, 1000, crowd.analysts)?;
+    let ran = run(rt, alloc, crowd, feeders, analysts, &mut loader);
+    loader.end(rt);
+    ran
 }
 
 /// Makes the schema of a crowd: which feeder a row is of, and which of that feeder's rows it is.

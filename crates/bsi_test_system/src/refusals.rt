@@ -4,10 +4,10 @@ ghost use Rattle.std.specs.Prelude.{◌≡◌, [], All, length};
 ghost use Rattle.bsi_table.specs.Table.{no_rows};
 ghost use Rattle.bsi_system.specs.Running.{IsFeederOf, IsOf};
 
-use crate::calls::{load, publish, quantities, row};
+use crate::calls::{load, opened, publish, quantities, row};
 use bsi_system::{
-    Analyst, Closing, Feeder, History, LoadRefused, Loader, Naming, NoMemory, OpenRefused,
-    SettleRefused, SubmitRefused, System, open,
+    Analyst, Closing, Feeder, History, LoadRefused, Loader, Naming, NoMemory, SettleRefused,
+    SubmitRefused, System,
 };
 use bsi_table::{Row, Schema};
 use std::alloc::Global;
@@ -219,23 +219,14 @@ fn work_in<B: Naming, R: Wait + Abort>(
     requires history { history ≡ record { book = B.book; list = [] } }
     requires about { B.about ≡ no_rows schema (length capacities.items) limit }
 {
-    match open::<B>(alloc, history, schema, capacities, limit, 1) {
-        Ok(system) => {
-            let System {
-                feeders,
-                mut loader,
-                analysts,
-            } = system;
-            let played = play(rt, alloc, shown, feeders, &mut loader, analysts);
-            loader.end(rt);
-            played
-        }
-        Err(OpenRefused::Make(_)) => None,
-        Err(OpenRefused::Readers(loader)) => {
-            loader.end(rt);
-            None
-        }
-    }
+    let System {
+        feeders,
+        mut loader,
+        analysts,
+    } = opened::<B, R>(rt, alloc, history, schema, capacities, limit, 1)?;
+    let played = play(rt, alloc, shown, feeders, &mut loader, analysts);
+    loader.end(rt);
+    played
 }
 
 fn work<R: Wait + Abort>(

@@ -4,10 +4,9 @@ ghost use Rattle.std.specs.Prelude.{◌≡◌, [], length};
 ghost use Rattle.bsi_table.specs.Table.{no_rows};
 ghost use Rattle.bsi_system.specs.Running.{IsFeederOf};
 
-use crate::calls::{ask, capacity, count_of, load, publish, quantities, row, sum_of};
+use crate::calls::{ask, capacity, count_of, load, opened, publish, quantities, row, sum_of};
 use bsi_system::{
-    Analyst, AnalystRefused, Feeder, History, LoadRefused, Loader, Naming, OpenRefused,
-    SubmitRefused, System, open,
+    Analyst, AnalystRefused, Feeder, History, LoadRefused, Loader, Naming, SubmitRefused, System,
 };
 use bsi_table::{Answer, AskError, Schema, Total};
 use std::alloc::Global;
@@ -234,26 +233,17 @@ fn work_in<B: Naming, R: Wait + Abort>(
     requires history { history ≡ record { book = B.book; list = [] } }
     requires about { B.about ≡ no_rows schema (length capacities.items) 10 }
 {
-    match open::<B>(alloc, history, schema, capacities, 10, 2) {
-        Ok(system) => {
-            let System {
-                mut feeders,
-                mut loader,
-                analysts,
-            } = system;
-            let played = match feeders.pop() {
-                Some(feeder) => play(rt, alloc, worked, feeder, &mut loader, analysts),
-                None => Err(Fail::from("no feeder")),
-            };
-            loader.end(rt);
-            Some(played)
-        }
-        Err(OpenRefused::Make(_)) => None,
-        Err(OpenRefused::Readers(loader)) => {
-            loader.end(rt);
-            None
-        }
-    }
+    let System {
+        mut feeders,
+        mut loader,
+        analysts,
+    } = opened::<B, R>(rt, alloc, history, schema, capacities, 10, 2)?;
+    let played = match feeders.pop() {
+        Some(feeder) => play(rt, alloc, worked, feeder, &mut loader, analysts),
+        None => Err(Fail::from("no feeder")),
+    };
+    loader.end(rt);
+    Some(played)
 }
 
 fn work<R: Wait + Abort>(rt: &R, alloc: Global, worked: Worked) -> Option<Result<(), Fail>> {
