@@ -10,7 +10,7 @@ use std::test::Fail;
 /// The lengths about the edges of a word, of four and of eight.
 const LENGTHS: [u64; 10] = [0, 1, 63, 64, 65, 255, 256, 257, 320, 513];
 
-fn filled(alloc: Global, n: u64, bit: bool) -> Result<Bits, NoMemory>
+pub(crate) fn filled(alloc: Global, n: u64, bit: bool) -> Result<Bits, NoMemory>
     requires { n ≤ 2 ^ 32 }
 {
     match Bits::filled(alloc, n, bit) {
@@ -56,7 +56,7 @@ fn multiples(alloc: Global, n: u64, step: u64) -> Result<Bits, NoMemory> {
     Ok(bits)
 }
 
-fn get(bits: &Bits, i: u64) -> bool {
+pub(crate) fn get(bits: &Bits, i: u64) -> bool {
     i < bits.len() && bits.get(i)
 }
 
@@ -150,7 +150,7 @@ fn counts_turned(bits: &Bits) -> Result<(u64, Option<u64>), NoMemory> {
 }
 
 #[test]
-fn bits_and_columns(rt: HostRuntime) -> Result<(), Fail> {
+fn a_filled_vector_flips_and_grows(rt: HostRuntime) -> Result<(), Fail> {
     let mut bits = filled(rt.alloc(), 65, true)?;
     assert_eq!(rt; bits.count(), 65);
     assert_eq!(rt; counts_turned(&bits)?, (0, Some(0)));

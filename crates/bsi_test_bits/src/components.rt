@@ -1,7 +1,8 @@
-//! Components of both encodings, by their bound, against plain digits.
+//! Components of both encodings, called through the trait `Encoding`, against plain digits.
 
 ghost use Rattle.std.specs.Prelude.{◌≤◌, ◌^◌};
 
+use crate::bits::{filled, get};
 use bsi_bits::Bits;
 use bsi_components::{Encoding, EqualityComponent, NoMemory, RangeComponent, RankedDigit};
 use std::alloc::Global;
@@ -10,15 +11,6 @@ use std::test::Fail;
 
 /// The lengths about the edges of a word and of four.
 const LENGTHS: [u64; 7] = [0, 1, 63, 64, 65, 256, 257];
-
-fn filled(alloc: Global, n: u64, bit: bool) -> Result<Bits, NoMemory>
-    requires { n ≤ 2 ^ 32 }
-{
-    match Bits::filled(alloc, n, bit) {
-        Err(_) => Bits::filled(alloc, n, bit),
-        made => made,
-    }
-}
 
 fn make<E: Encoding>(alloc: Global, base: u32) -> Result<E, NoMemory>
     requires { (2 ≤ base) × (base ≤ 1024) }
@@ -34,10 +26,6 @@ fn copied<E: Encoding>(component: &E) -> Result<E, NoMemory> {
         Err(_) => component.copy(),
         made => made,
     }
-}
-
-fn get(bits: &Bits, i: u64) -> bool {
-    i < bits.len() && bits.get(i)
 }
 
 // Whether the vector has just these bits.
@@ -113,21 +101,14 @@ fn push<E: Encoding>(
 }
 
 // A component of these digits.
-fn component_of<E: Encoding>(
-    rt: &impl Abort,
-    alloc: Global,
-    base: u32,
-    digits: &[u32],
-) -> Result<E, Fail>
+fn component_of<E: Encoding>(alloc: Global, base: u32, digits: &[u32]) -> Result<E, Fail>
     requires { (2 ≤ base) × (base ≤ 1024) }
 {
     let mut component = make::<E>(alloc, base)?;
     for (i, digit) in digits.iter().enumerate() {
-        assert!(rt; i <= digits.len());
-        assert!(rt;
-            push(alloc, &mut component, *digit, &digits[..i])?,
-            "row {i}"
-        );
+        if i > digits.len() || !push(alloc, &mut component, *digit, &digits[..i])? {
+            return Err(Fail::from("a digit was not appended"));
+        }
     }
     Ok(component)
 }
@@ -143,7 +124,7 @@ fn le_is<E: Encoding>(component: &E, d: u32, out: &mut Bits, expected: &[bool]) 
 }
 
 fn shows_three_digits<E: Encoding>(rt: &impl Abort, alloc: Global) -> Result<(), Fail> {
-    let component = component_of::<E>(rt, alloc, 3, &[0, 2, 1])?;
+    let component = component_of::<E>(alloc, 3, &[0, 2, 1])?;
     let mut out = filled(alloc, 3, false)?;
     assert!(rt; eq_is(&component, 2, &mut out, &[false, true, false]));
     assert!(rt; le_is(&component, 1, &mut out, &[true, false, true]));
@@ -153,7 +134,7 @@ fn shows_three_digits<E: Encoding>(rt: &impl Abort, alloc: Global) -> Result<(),
 }
 
 fn shows_base_two<E: Encoding>(rt: &impl Abort, alloc: Global) -> Result<(), Fail> {
-    let component = component_of::<E>(rt, alloc, 2, &[1, 0, 1])?;
+    let component = component_of::<E>(alloc, 2, &[1, 0, 1])?;
     let mut out = filled(alloc, 3, true)?;
     assert_eq!(rt; digit_sum(&component, &out), Some(2));
     assert!(rt; eq_is(&component, 0, &mut out, &[false, true, false]));
@@ -172,7 +153,7 @@ fn two_encodings(rt: HostRuntime) -> Result<(), Fail> {
 
 fn widest<E: Encoding>(rt: &impl Abort, alloc: Global) -> Result<(), Fail> {
     let digits = [0, 1022, 1023, 511, 512];
-    let component = component_of::<E>(rt, alloc, 1024, &digits)?;
+    let component = component_of::<E>(alloc, 1024, &digits)?;
     assert_eq!(rt; (component.base(), component.len()), (1024, 5));
     let mut out = filled(alloc, 5, true)?;
     assert_eq!(rt; digit_sum(&component, &out), Some(3068));
@@ -194,7 +175,7 @@ fn copies<E: Encoding>(rt: &impl Abort, alloc: Global, base: u32) -> Result<(), 
     requires { (2 ≤ base) × (base ≤ 1024) }
 {
     let digits = [1, 0, 1, 1];
-    let component = component_of::<E>(rt, alloc, base, &digits[..3])?;
+    let component = component_of::<E>(alloc, base, &digits[..3])?;
     let mut copy = copied(&component)?;
     let mut out = filled(alloc, 3, false)?;
     assert_eq!(rt; copy.base(), component.base());
@@ -234,7 +215,6 @@ fn range_bitmap(component: &RangeComponent, j: u32) -> Option<&Bits> {
 
 // Whether the bitmap of a digit, of a component of these digits, is this.
 fn equality_stores(
-    rt: &impl Abort,
     alloc: Global,
     base: u32,
     digits: &[u32],
@@ -243,7 +223,7 @@ fn equality_stores(
 ) -> Result<bool, Fail>
     requires { (2 ≤ base) × (base ≤ 1024) }
 {
-    let component = component_of::<EqualityComponent>(rt, alloc, base, digits)?;
+    let component = component_of::<EqualityComponent>(alloc, base, digits)?;
     Ok(match equality_bitmap(&component, j) {
         None => false,
         Some(bits) => is(bits, expected),
@@ -253,10 +233,10 @@ fn equality_stores(
 #[test]
 fn stored_bits(rt: HostRuntime) -> Result<(), Fail> {
     let alloc = rt.alloc();
-    assert!(rt; equality_stores(&rt, alloc, 3, &[0, 0, 2], 2, &[false, false, true])?);
-    assert!(rt; equality_stores(&rt, alloc, 5, &[1, 0, 0], 1, &[true, false, false])?);
-    assert!(rt; equality_stores(&rt, alloc, 2, &[1, 0, 1], 1, &[true, false, true])?);
-    let range = component_of::<RangeComponent>(&rt, alloc, 3, &[0, 0, 2])?;
+    assert!(rt; equality_stores(alloc, 3, &[0, 0, 2], 2, &[false, false, true])?);
+    assert!(rt; equality_stores(alloc, 5, &[1, 0, 0], 1, &[true, false, false])?);
+    assert!(rt; equality_stores(alloc, 2, &[1, 0, 1], 1, &[true, false, true])?);
+    let range = component_of::<RangeComponent>(alloc, 3, &[0, 0, 2])?;
     assert!(rt; range_bitmap(&range, 0).is_some_and(|bits| is(bits, &[true, true, false])));
     Ok(())
 }
@@ -269,14 +249,16 @@ fn plain_digit(i: u64, base: u32) -> u32
 }
 
 // A component whose row `i` has that digit.
-fn patterned<E: Encoding>(rt: &impl Abort, alloc: Global, base: u32, len: u64) -> Result<E, Fail>
+fn patterned<E: Encoding>(alloc: Global, base: u32, len: u64) -> Result<E, Fail>
     requires { (2 ≤ base) × (base ≤ 1024) }
 {
     let mut digits = Vec::new(alloc);
     let mut component = make::<E>(alloc, base)?;
     for i in 0..len {
         let digit = plain_digit(i, base);
-        assert!(rt; push(alloc, &mut component, digit, &digits)?, "row {i}");
+        if !push(alloc, &mut component, digit, &digits)? {
+            return Err(Fail::from("a digit was not appended"));
+        }
         if digits.push(digit).is_err() {
             digits.push(digit)?;
         }
@@ -391,7 +373,7 @@ fn blocks<E: Encoding>(rt: &impl Abort, alloc: Global) -> Result<(), Fail> {
     for base in [2, 3, 10] {
         for len in LENGTHS {
             assert!(rt; base >= 2 && base <= 1024);
-            let component = patterned::<E>(rt, alloc, base, len)?;
+            let component = patterned::<E>(alloc, base, len)?;
             all_steps(rt, &component);
         }
     }
@@ -445,7 +427,7 @@ fn lengths<E: Encoding>(rt: &impl Abort, alloc: Global) -> Result<(), Fail> {
     for base in [2, 3, 10] {
         for len in LENGTHS {
             assert!(rt; base >= 2 && base <= 1024 && len <= 257);
-            let component = patterned::<E>(rt, alloc, base, len)?;
+            let component = patterned::<E>(alloc, base, len)?;
             let mut out = filled(alloc, len, false)?;
             are_plain(rt, &component, &mut out);
         }
@@ -607,7 +589,7 @@ fn ranks<E: Encoding>(rt: &impl Abort, alloc: Global) -> Result<(), Fail> {
     for base in [2, 3, 10] {
         for len in LENGTHS {
             assert!(rt; base >= 2 && base <= 1024);
-            let component = patterned::<E>(rt, alloc, base, len)?;
+            let component = patterned::<E>(alloc, base, len)?;
             all_ranked(rt, alloc, &component)?;
         }
     }
