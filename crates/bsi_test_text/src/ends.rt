@@ -109,8 +109,7 @@ fn a_reader_fails_after_each_byte(rt: HostRuntime) -> Result<(), Fail> {
     Ok(())
 }
 
-// How the script ends whose writer takes a byte a call, and so many; where memory was wanted, how it ends then.
-fn write_until(
+fn write_once(
     alloc: Global,
     room: usize,
     fails: bool,
@@ -122,6 +121,20 @@ fn write_until(
     run_script(alloc, SCRIPT.as_bytes(), writer)
 }
 
+// How the script ends whose writer takes so many bytes, one a call. Where memory was refused, it runs again.
+fn write_until(
+    alloc: Global,
+    room: usize,
+    fails: bool,
+    writer: &mut NarrowWriter,
+) -> Result<(), ScriptFault> {
+    let run = write_once(alloc, room, fails, writer);
+    if run == Err(ScriptFault::NoMemory) || !LINES.as_bytes().starts_with(writer.taken.as_slice()) {
+        return write_once(alloc, room, fails, writer);
+    }
+    run
+}
+
 #[test]
 fn a_writer_fails_at_each_call(rt: HostRuntime) -> Result<(), Fail> {
     let mut writer = NarrowWriter {
@@ -131,12 +144,7 @@ fn a_writer_fails_at_each_call(rt: HostRuntime) -> Result<(), Fail> {
     };
     for room in 0..LINES.len() {
         for fails in [true, false] {
-            let mut run = write_until(rt.alloc(), room, fails, &mut writer);
-            if !LINES.as_bytes().starts_with(writer.taken.as_slice())
-                || run == Err(ScriptFault::NoMemory)
-            {
-                run = write_until(rt.alloc(), room, fails, &mut writer);
-            }
+            let run = write_until(rt.alloc(), room, fails, &mut writer);
             assert_eq!(rt; run, Err(ScriptFault::Write), "at {room}");
             assert_eq!(rt;
                 writer.taken.as_slice(),
@@ -145,10 +153,7 @@ fn a_writer_fails_at_each_call(rt: HostRuntime) -> Result<(), Fail> {
             );
         }
     }
-    let mut run = write_until(rt.alloc(), LINES.len(), true, &mut writer);
-    if run.is_err() || writer.taken.as_slice() != LINES.as_bytes() {
-        run = write_until(rt.alloc(), LINES.len(), true, &mut writer);
-    }
+    let run = write_until(rt.alloc(), LINES.len(), true, &mut writer);
     assert_eq!(rt; run, Ok(()));
     assert_eq!(rt; writer.taken.as_slice(), LINES.as_bytes());
     Ok(())

@@ -39,7 +39,7 @@ fn schema_of(alloc: Global) -> Result<Schema, SchemaError> {
     }
 }
 
-// A row, or that there is none, or the fault; what the test waits for.
+// What a test expects of a call: a row, none, or a fault.
 type Given<'a> = Result<Option<&'a [Option<i128>]>, SourceFault>;
 
 fn is_given(found: &Result<Option<Row>, SourceFault>, want: Given<'_>) -> bool {
@@ -51,8 +51,8 @@ fn is_given(found: &Result<Option<Row>, SourceFault>, want: Given<'_>) -> bool {
     }
 }
 
-// Whether a file gives these one after another, with so many bad records at the end. A fault for want of memory stays, and a
-// new source of the same bytes then gives them.
+// Whether a file gives these one after another, with so many bad records at the end. The fault that memory was refused
+// stays; a new source of the same bytes then gives them.
 fn gives_once<R: Read + Drop>(
     alloc: Global,
     schema: &Schema,
