@@ -29,9 +29,9 @@ pub record HasFed {R : Type 0} (rem : R → Option (List ℕ)) (source : Source 
 
 -- what came of one turn: the first row that the source still had was sent, or nothing was, and there is then none left
 -- where the turn says so
-abbrev pub IsTurn : {R : Type 0} → (R → Option (List ℕ)) → Sending → Source R → Turn → Sending → Source R → Type 0
-IsTurn rem feeder source turn.Sent after rest =
+abbrev pub IsFeederTurn : {R : Type 0} → (R → Option (List ℕ)) → Sending → Source R → Turn → Sending → Source R → Type 0
+IsFeederTurn rem feeder source turn.Sent after rest =
     (row : Entries) × (after ≡ with_sent feeder row) × GivesFirst rem source rest (Some row)
-IsTurn rem feeder source turn.Over after rest = (after ≡ feeder) × GivesFirst rem source rest None
-IsTurn rem feeder source turn.Stopped after rest = after ≡ feeder
-IsTurn rem feeder source (turn.Failed fault) after rest = after ≡ feeder
+IsFeederTurn rem feeder source turn.Over after rest = (after ≡ feeder) × GivesFirst rem source rest None
+IsFeederTurn rem feeder source turn.Stopped after rest = after ≡ feeder
+IsFeederTurn rem feeder source (turn.Failed fault) after rest = after ≡ feeder

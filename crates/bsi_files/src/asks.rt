@@ -3,7 +3,7 @@
 ghost use Rattle.std.specs.Prelude.{◌≡◌, IfErr, true};
 ghost use Rattle.bsi_files.specs.Faults.{is_late};
 
-use crate::headers::number_of;
+use crate::headers::file_number;
 use crate::loading::Fed;
 use crate::{FilesFault, Which};
 use bsi_load::Reply;
@@ -30,6 +30,7 @@ pub(crate) fn answer_all<B: Naming, A: Read + Drop, W: Write>(
     tell_all(fed, &mut line, writer)?;
     let mut records = RecordSource::new(alloc, asks);
     let mut fields = ByteRecord::new(alloc);
+    // No text has so many records. The bound lets the proof see that the loop ends.
     'records: for _ in 0..u64::MAX {
         match records.next_record(&mut fields) {
             Ok(true) => {}
@@ -49,7 +50,7 @@ fn tell_all<W: Write>(fed: &[Fed], line: &mut Vec<u8>, writer: &mut W) -> Result
 {
     'feeders: for (feeder, end) in fed.iter().enumerate() {
         line.clear();
-        write_fed(number_of(feeder), end.accepted, end.bad, line)?;
+        write_fed(file_number(feeder), end.accepted, end.bad, line)?;
         write_bytes(writer, line.as_slice())?;
     }
     Ok(())

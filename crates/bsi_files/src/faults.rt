@@ -78,6 +78,7 @@ impl FilesFault {
         match fault {
             SourceFault::TooLong => FilesFault::TooLong(which),
             SourceFault::NoMemory => FilesFault::NoMemory,
+            // A text has no header, so its source never answers BadHeader.
             SourceFault::Read | SourceFault::BadHeader => FilesFault::Read(which),
         }
     }

@@ -2,7 +2,7 @@
 
 ghost use Rattle.std.specs.Prelude.{◌≡◌, IfSome, true, false};
 ghost use Rattle.bsi_rings.specs.Rings.{with_sent, Closes};
-ghost use Rattle.bsi_files.specs.Feeding.{HasFed, IsTurn};
+ghost use Rattle.bsi_files.specs.Feeding.{HasFed, IsFeederTurn};
 
 use crate::Gate;
 use crate::pause::Pause;
@@ -61,6 +61,7 @@ pub fn feed<R: Wait, I: Read + Drop, G: Gate>(
 {
     let mut feeder = feeder;
     let mut source = source;
+    // No text has so many records. The bound lets the proof see that the loop ends.
     'rows: for point in 0..u64::MAX {
         match feed_one(rt, &mut feeder, &mut source, gate, point) {
             Turn::Sent => {}
@@ -71,6 +72,7 @@ pub fn feed<R: Wait, I: Read + Drop, G: Gate>(
             }
         }
     }
+    // No text has so many records, so the loop has returned.
     finish(rt, feeder, source, gate, u64::MAX, true, None)
 }
 
@@ -82,7 +84,7 @@ fn feed_one<R: Wait, I: Read + Drop, G: Gate>(
     gate: &G,
     point: u64,
 ) -> Turn
-    ensures { IsTurn I.remaining feeder.old source.old result feeder.new source.new }
+    ensures { IsFeederTurn I.remaining feeder.old source.old result feeder.new source.new }
 {
     match source.next_row() {
         Err(fault) => Turn::Failed(fault),
@@ -117,6 +119,7 @@ fn send<R: Wait, G: Gate>(rt: &R, feeder: &mut Feeder, row: Row, gate: &G, point
         }
         pause.wait(rt);
     }
+    // 'forever' does not end.
     unreachable!()
 }
 

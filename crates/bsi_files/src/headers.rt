@@ -1,6 +1,6 @@
 //! The headers of the row files, which are read before any row is.
 
-ghost use Rattle.std.specs.Prelude.{◌≡◌, IfErr, true};
+ghost use Rattle.std.specs.Prelude.{◌≡◌, IfErr, IfOk, length, true};
 ghost use Rattle.bsi_files.specs.Faults.{is_early};
 
 use crate::{FilesFault, NoMemory};
@@ -13,7 +13,7 @@ use std::io::Read;
 const RING_CAPACITY: u32 = 1_024;
 
 /// Returns the number of the file at a place. There are at most 64 files.
-pub(crate) fn number_of(place: usize) -> u32 {
+pub(crate) fn file_number(place: usize) -> u32 {
     u32::try_from(place).unwrap_or(u32::MAX)
 }
 
@@ -27,20 +27,20 @@ pub(crate) fn begin_all<I: Read + Drop>(
 {
     let mut sources = Vec::with_capacity(alloc, readers.len())?;
     'files: for (file, reader) in readers.into_iter().enumerate() {
-        let source = match RowSource::begin(alloc, schema, reader) {
-            Ok(source) => source,
-            Err(fault) => return Err(FilesFault::Source(number_of(file), fault)),
-        };
-        match sources.push(source) {
-            Ok(()) => {}
-            Err(_) => return Err(FilesFault::NoMemory),
+        let number = file_number(file);
+        let begun = RowSource::begin(alloc, schema, reader);
+        let source = begun.map_err(|fault| FilesFault::Source(number, fault))?;
+        if sources.push(source).is_err() {
+            return Err(FilesFault::NoMemory);
         }
     }
     Ok(sources)
 }
 
 /// Returns the capacity of each file's ring.
-pub(crate) fn capacities(alloc: Global, files: usize) -> Result<Vec<u32>, NoMemory> {
+pub(crate) fn capacities(alloc: Global, files: usize) -> Result<Vec<u32>, NoMemory>
+    ensures { IfOk result (λ made. length made.items ≡ files) }
+{
     let mut capacities = Vec::with_capacity(alloc, files)?;
     'files: for _ in 0..files {
         capacities.push(RING_CAPACITY)?;

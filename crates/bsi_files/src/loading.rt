@@ -4,7 +4,7 @@ ghost use Rattle.std.specs.Prelude.{◌≡◌, All, IfErr, IfSome, true};
 ghost use Rattle.bsi_system.specs.Running.{IsOf};
 ghost use Rattle.bsi_files.specs.Faults.{is_early};
 
-use crate::headers::number_of;
+use crate::headers::file_number;
 use crate::pause::Pause;
 use crate::threads::Watch;
 use crate::{FeedEnd, FilesFault, Gate};
@@ -15,8 +15,8 @@ use std::sync::Wait;
 /// How many rows of one feeder are taken before the next feeder's turn.
 const MAX_IN_TURN: u32 = 256;
 
-/// The number of held rows at which they are published.
-const MAX_HELD: u64 = 4_096;
+/// The fewest held rows that are published.
+const MIN_HELD_TO_PUBLISH: u64 = 4_096;
 
 /// What a feeder that read a file leaves, except for its closing.
 #[derive(Drop)]
@@ -52,6 +52,7 @@ pub(crate) fn load_beside<B: Naming, R: Wait, G: Gate>(
             }
         }
     }
+    // 'forever' does not end.
     unreachable!()
 }
 
@@ -96,7 +97,7 @@ fn load_one<B: Naming>(loader: &mut Loader<B>, feeder: u32) -> Result<bool, File
         Ok(()) => Ok(true),
         Err(LoadRefused::IndexFull) => Err(FilesFault::IndexFull),
         Err(LoadRefused::NoMemory) => Err(FilesFault::NoMemory),
-        Err(_) => Ok(false),
+        Err(LoadRefused::UnknownFeeder | LoadRefused::Ended | LoadRefused::Empty) => Ok(false),
     }
 }
 
@@ -105,7 +106,7 @@ fn load_one<B: Naming>(loader: &mut Loader<B>, feeder: u32) -> Result<bool, File
 fn publish_many<B: Naming, R: Wait>(rt: &R, loader: &mut Loader<B>)
     ensures { loader.new.system ≡ loader.old.system }
 {
-    if loader.counts().1 >= MAX_HELD {
+    if loader.counts().1 >= MIN_HELD_TO_PUBLISH {
         // After a refusal the rows are still held, and a later publish shows them.
         let _ = loader.publish(rt);
     }
@@ -121,6 +122,7 @@ pub(crate) fn load_all<B: Naming, R: Wait>(
 ) -> Result<(), FilesFault>
     requires { All (λ end. IfSome end.closing (λ closing. IsOf closing loader.old.system))
         ends.items }
+    ensures system { loader.new.system ≡ loader.old.system }
     ensures early { IfErr result (λ fault. is_early fault ≡ true) }
 {
     'ends: for end in ends {
@@ -182,6 +184,7 @@ fn settle<B: Naming, R: Wait>(
         }
         publish_many(rt, loader);
     }
+    // 'forever' does not end.
     unreachable!()
 }
 
@@ -191,7 +194,7 @@ fn check_sources(fed: &[Fed]) -> Result<(), FilesFault>
 {
     'files: for (file, end) in fed.iter().enumerate() {
         if let Some(fault) = end.fault {
-            return Err(FilesFault::Source(number_of(file), fault));
+            return Err(FilesFault::Source(file_number(file), fault));
         }
     }
     Ok(())
@@ -203,7 +206,7 @@ fn check_closings(fed: &[Fed]) -> Result<(), FilesFault>
 {
     'files: for (file, end) in fed.iter().enumerate() {
         if !end.closed {
-            return Err(FilesFault::NotClosed(number_of(file)));
+            return Err(FilesFault::NotClosed(file_number(file)));
         }
     }
     Ok(())

@@ -6,7 +6,7 @@ ghost use Rattle.bsi_system.specs.Running.{IsFeederOf};
 ghost use Rattle.bsi_files.specs.Faults.{is_early, is_late};
 
 use crate::asks::answer_all;
-use crate::headers::{begin_all, capacities, number_of};
+use crate::headers::{begin_all, capacities, file_number};
 use crate::loading::{Fed, load_all, load_beside};
 use crate::tables::read_table;
 use crate::threads::{Watch, join_all, start_all};
@@ -114,6 +114,7 @@ fn run_in<
             loader.end(rt);
             ran
         }
+        // The sizes are in range, so only memory can be refused.
         Err(OpenRefused::Make(_)) => Err(FilesFault::NoMemory),
         Err(OpenRefused::Readers(loader)) => {
             loader.end(rt);
@@ -152,6 +153,7 @@ fn run_ends<
     let fed = feed_files(rt, loader, feeders, sources, gate)?;
     let mut analysts = analysts;
     let Some(mut analyst) = analysts.pop() else {
+        // The system was opened with one analyst.
         return Err(FilesFault::Readers);
     };
     answer_all(rt.alloc(), &schema, &mut analyst, &fed, asks, writer)
@@ -209,7 +211,7 @@ fn feed_in<
     let mut ends = Vec::with_capacity(rt.alloc(), files)?;
     let mut fed = Vec::with_capacity(rt.alloc(), files)?;
     let started = start_all(scope, rt, watch, loader, feeders, sources, &mut threads);
-    let beside = load_where(rt, loader, number_of(files), watch, started);
+    let beside = load_where(rt, loader, file_number(files), watch, started);
     let joined = join_all(rt, loader, threads, &mut ends);
     beside?;
     joined?;

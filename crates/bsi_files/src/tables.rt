@@ -1,6 +1,6 @@
 //! The schema file: the columns and the row limit that it declares.
 
-ghost use Rattle.std.specs.Prelude.{◌≡◌, ◌≢◌, IfErr, IfOk, true};
+ghost use Rattle.std.specs.Prelude.{◌≡◌, ◌<◌, IfErr, IfOk, length, true};
 ghost use Rattle.bsi_files.specs.Faults.{is_early};
 
 use crate::{FilesFault, Which};
@@ -15,12 +15,14 @@ pub(crate) fn read_table<S: Read + Drop>(
     alloc: Global,
     reader: S,
 ) -> Result<(Schema, u64), FilesFault>
-    ensures { IfErr result (λ fault. is_early fault ≡ true) }
+    ensures some { IfOk result (λ read. 0 < length read.0.columns) }
+    ensures early { IfErr result (λ fault. is_early fault ≡ true) }
 {
     let mut records = RecordSource::new(alloc, reader);
     let mut fields = ByteRecord::new(alloc);
     let mut schema = Schema::new(alloc);
     let mut limit = MAX_ROWS;
+    // No text has so many records. The bound lets the proof see that the loop ends.
     'records: for before in 0..u64::MAX {
         match records.next_record(&mut fields) {
             Ok(true) => {}

@@ -119,14 +119,14 @@ pub(crate) fn start_all<
     let mut sources = sources.into_iter();
     'feeders: for feeder in feeders {
         let Some(source) = sources.next() else {
+            // There are as many sources as feeders.
             return false;
         };
         let Some(thread) = start(scope, rt, watch, feeder, source) else {
             return false;
         };
-        match threads.push(thread) {
-            Ok(()) => {}
-            Err(_) => return false,
+        if threads.push(thread).is_err() {
+            return false;
         }
     }
     true

@@ -1,8 +1,8 @@
-use Rattle.std.proofs.Common.{subst, sym}
+use Rattle.std.proofs.Common.{subst, sym, ◌∙◌}
 use Rattle.std.specs.Vec.Iter.{into_iter_items}
 use Rattle.std.proofs.lemmas.List.Elements.{All-same}
 use Rattle.bsi_system.specs.Running.{IsFeederOf}
-use Rattle.bsi_files.proofs.Passing.{first_of, pushed, rest_of}
+use Rattle.bsi_files.proofs.Passing.{done, first_of, pushed, refused, rest_of}
 use Rattle.bsi_files.proofs.threads.start_all.Goals as goal
 
 pub feeders-init : goal.feeders-init
@@ -28,12 +28,14 @@ feeders-preserved g c =
       is_finite = tt;
       left = rest_of all c.in-Some.feeder rest (λ feeder. IsFeederOf feeder system) steps c.feeders.invariant.left;
       started = pushed c.feeders.threads.items c.in-Some-start.thread c.push.new.self.items
-          (λ thread. IsFeederOf thread.promise.0.value system) c.in-Ok.ensures.items c.feeders.invariant.started
+          (λ thread. IsFeederOf thread.promise.0.value system) (done c.push.result c.feeders.threads.items c.in-Some-start.thread c.push.new.self.items c.push.ensures.items (sym c.is_err.ensures.value ∙ c.if-is_err.false))
+          c.feeders.invariant.started
           (subst (λ feeder. IsFeederOf feeder system) (sym c.in-Some-start.ensures) own);
     }
 
 -- no thread more is kept
-pub returns-in-Err : goal.returns-in-Err
-returns-in-Err g c =
+pub returns-then-is_err : goal.returns-then-is_err
+returns-then-is_err g c =
     All-same (λ thread. IsFeederOf thread.promise.0.value c.args.loader.now.system) c.push.new.self.items c.feeders.threads.items
-    c.in-Err.ensures.items c.feeders.invariant.started
+    (refused c.push.result c.feeders.threads.items c.in-Some-start.thread c.push.new.self.items c.push.ensures.items (sym c.is_err.ensures.value ∙ c.if-is_err.true))
+    c.feeders.invariant.started
