@@ -1,5 +1,5 @@
 //! What the words behind the program's name ask for.
-ghost use Rattle.std.specs.Prelude.{◌≡◌, Ok, true};
+ghost use Rattle.std.specs.Prelude.{◌≡◌, ◌↔◌, Ok, true};
 ghost use Rattle.bsi_shell.specs.Commands.{BeginsWithFiles};
 ghost use Rattle.bsi_shell.specs.declared.request.Request.TheVariants.{Files};
 
@@ -69,14 +69,11 @@ fn commands<'a>(alloc: Global) -> Result<Command<'a>, AllocError> {
         .subcommand(files)
 }
 
-/// Returns true only if the first word is `files`.
+/// Returns whether the first word is `files`.
 fn begins_with_files(words: &[String]) -> bool
-    ensures { result ≡ true → BeginsWithFiles words.now }
+    ensures { (result ≡ true) ↔ BeginsWithFiles words.now }
 {
-    match words.first() {
-        Some(word) => word.as_str() == "files",
-        None => false,
-    }
+    words.first().is_some_and(|word| word.as_str() == "files")
 }
 
 /// Takes the paths from the matches of the command `files`.
