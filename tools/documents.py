@@ -37,7 +37,7 @@ def text_of(path):
 
 def documents(top):
     """Returns the path of each document below the folder, from there."""
-    found = [path for pattern in ("*.md", "docs/*.md", "examples/*.md") for path in glob.glob(os.path.join(top, pattern))]
+    found = [path for pattern in ("*.md", "docs/*.md", "examples/*.md", "cases/*.md") for path in glob.glob(os.path.join(top, pattern))]
     return sorted(os.path.relpath(path, top) for path in found)
 
 
