@@ -196,7 +196,7 @@ fn counts_in(a: &Bits, b: &Bits, start: usize, end: usize) -> Option<(u64, u64)>
 }
 
 #[test]
-fn counts_of_some_words(rt: HostRuntime) -> Result<(), Fail> {
+fn counts_within_some_words_are_exact(rt: HostRuntime) -> Result<(), Fail> {
     let threes = multiples(rt.alloc(), 200, 3)?;
     let twos = multiples(rt.alloc(), 200, 2)?;
     for (start, end, sixes, odd_threes) in [
@@ -255,7 +255,7 @@ fn full_words(alloc: Global) -> Result<Vec<u64>, NoMemory> {
 }
 
 #[test]
-fn bits_of_words(rt: HostRuntime) -> Result<(), Fail> {
+fn from_words_clears_the_padding(rt: HostRuntime) -> Result<(), Fail> {
     let words = full_words(rt.alloc())?;
     assert_eq!(rt; words.len(), 2);
     let cut = Bits::from_words(words, 66);
@@ -483,7 +483,7 @@ fn ones_in(words: &[u64]) -> u128 {
 }
 
 #[test]
-fn kernels_at_each_number_of_words(rt: HostRuntime) {
+fn kernels_do_what_a_plain_loop_does(rt: HostRuntime) {
     for kernel in KERNELS {
         for n in COUNTS {
             assert_eq!(rt; kernel.run(n), kernel.wanted(n), "{kernel:?} of {n}");

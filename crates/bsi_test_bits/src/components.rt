@@ -166,7 +166,7 @@ fn widest<E: Encoding>(rt: &impl Abort, alloc: Global) -> Result<(), Fail> {
 }
 
 #[test]
-fn widest_base(rt: HostRuntime) -> Result<(), Fail> {
+fn digits_below_1024_are_told_apart(rt: HostRuntime) -> Result<(), Fail> {
     widest::<EqualityComponent>(&rt, rt.alloc())?;
     widest::<RangeComponent>(&rt, rt.alloc())
 }

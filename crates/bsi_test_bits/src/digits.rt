@@ -100,7 +100,7 @@ fn the_first_refusal_that_applies_is_answered(rt: HostRuntime) -> Result<(), Fai
 }
 
 #[test]
-fn most_bases_of_two(rt: HostRuntime) -> Result<(), Fail> {
+fn at_most_63_bases_are_taken(rt: HostRuntime) -> Result<(), Fail> {
     let most = [2; 63];
     let too_many = [2; 64];
     let mut last_bad = most;

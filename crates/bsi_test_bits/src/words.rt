@@ -81,7 +81,7 @@ fn appends(rt: &impl Abort, alloc: Global, n: u64, count: u64) -> Result<(), NoM
 }
 
 #[test]
-fn words_at_each_place(rt: HostRuntime) -> Result<(), Fail> {
+fn a_word_is_appended_as_its_bits_are(rt: HostRuntime) -> Result<(), Fail> {
     for n in 0..65 {
         for count in COUNTS {
             appends(&rt, rt.alloc(), n, count)?;

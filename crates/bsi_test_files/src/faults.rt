@@ -186,7 +186,7 @@ const TEXTS: [(FilesFault, &str); 16] = [
 ];
 
 #[test]
-fn texts_of_faults(rt: HostRuntime) -> Result<(), Fail> {
+fn each_fault_has_its_text(rt: HostRuntime) -> Result<(), Fail> {
     for (fault, want) in TEXTS {
         assert_eq!(&rt; text_of(rt.alloc(), fault)?.as_str(), want);
     }

@@ -225,11 +225,11 @@ fn rows_before_a_broken_reader(rt: HostRuntime) -> Result<(), Fail> {
 }
 
 #[test]
-fn a_gate_that_stops(rt: HostRuntime) -> Result<(), Fail> {
+fn a_feeder_stops_where_the_gate_says(rt: HostRuntime) -> Result<(), Fail> {
     try_twice(&rt, rt.alloc(), Tried::StoppedByTheGate)
 }
 
 #[test]
-fn a_source_of_another_schema(rt: HostRuntime) -> Result<(), Fail> {
+fn a_feeder_stops_at_a_row_that_does_not_fit(rt: HostRuntime) -> Result<(), Fail> {
     try_twice(&rt, rt.alloc(), Tried::AnotherSchema)
 }

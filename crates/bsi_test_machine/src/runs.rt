@@ -168,13 +168,13 @@ fn agree(rt: &impl Abort, alloc: Global, newest_first: bool) -> Result<bool, NoM
 }
 
 #[test]
-fn beside_a_plain_machine(rt: HostRuntime) -> Result<(), Fail> {
+fn replies_are_those_of_a_plain_machine(rt: HostRuntime) -> Result<(), Fail> {
     assert!(rt; agree(&rt, rt.alloc(), false)?);
     Ok(())
 }
 
 #[test]
-fn newest_first_is_seen(rt: HostRuntime) -> Result<(), Fail> {
+fn a_machine_that_loads_newest_first_differs(rt: HostRuntime) -> Result<(), Fail> {
     assert!(rt; !agree(&rt, rt.alloc(), true)?);
     Ok(())
 }

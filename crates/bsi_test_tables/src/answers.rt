@@ -167,7 +167,7 @@ fn mixed_rows(rt: &impl Abort, alloc: Global, rows: u64) -> Result<Both, NoMemor
 }
 
 #[test]
-fn beside_a_plain_table(rt: HostRuntime) -> Result<(), Fail> {
+fn answers_are_those_of_a_plain_table(rt: HostRuntime) -> Result<(), Fail> {
     for rows in [0, 1, 65, 130] {
         let both = mixed_rows(&rt, rt.alloc(), rows)?;
         same_answers(&rt, rt.alloc(), &both)?;
@@ -249,7 +249,7 @@ fn same_from(rt: &impl Abort, alloc: Global, column: Declared) -> Result<(), NoM
 }
 
 #[test]
-fn offsets_from_end_to_end(rt: HostRuntime) -> Result<(), Fail> {
+fn columns_at_every_offset_answer_as_a_plain_table(rt: HostRuntime) -> Result<(), Fail> {
     for offset in [i64::MIN, -8, -1, 0, 1, 1 << 62] {
         for column in COLUMNS {
             same_from(&rt, rt.alloc(), Declared { offset, ..column })?;

@@ -133,7 +133,7 @@ fn copy_stands_apart(rt: &impl Abort, alloc: Global, index: &Index) -> Result<()
 }
 
 #[test]
-fn copies_of_an_index(rt: HostRuntime) -> Result<(), Fail> {
+fn a_copy_of_an_index_stands_apart(rt: HostRuntime) -> Result<(), Fail> {
     for form in FORMS {
         let index = three_rows(&rt, rt.alloc(), form)?;
         copy_stands_apart(&rt, rt.alloc(), &index)?;

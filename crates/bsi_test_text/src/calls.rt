@@ -69,7 +69,7 @@ fn quantities(alloc: Global) -> Result<Schema, NoMemory> {
 }
 
 #[test]
-fn setup_records(rt: HostRuntime) -> Result<(), Fail> {
+fn a_setup_record_is_done_or_changes_nothing(rt: HostRuntime) -> Result<(), Fail> {
     let mut schema = quantities(rt.alloc())?;
     let mut limit = 1 << 32;
     for (line, want) in [("limit,1", true), ("limit,0", false), ("begin", false)] {
@@ -95,7 +95,7 @@ fn is_row(
 }
 
 #[test]
-fn rows_of_fields(rt: HostRuntime) -> Result<(), Fail> {
+fn rows_are_read_from_fields(rt: HostRuntime) -> Result<(), Fail> {
     let schema = quantities(rt.alloc())?;
     for (line, want) in [
         ("submit,0,5,", Some([Some(5), None].as_slice())),
@@ -117,7 +117,7 @@ fn total(alloc: Global, schema: &Schema, line: &str) -> Result<Option<Total>, No
 }
 
 #[test]
-fn queries_of_fields(rt: HostRuntime) -> Result<(), Fail> {
+fn queries_are_read_from_fields(rt: HostRuntime) -> Result<(), Fail> {
     let schema = quantities(rt.alloc())?;
     for (line, want) in [("count,all", Some(Total::Count)), ("load,0", None)] {
         let found = total(rt.alloc(), &schema, line)?;
@@ -127,13 +127,13 @@ fn queries_of_fields(rt: HostRuntime) -> Result<(), Fail> {
 }
 
 #[test]
-fn numbers_of_fields(rt: HostRuntime) {
+fn numbers_are_read_from_fields(rt: HostRuntime) {
     assert_eq!(rt; read_number(b"007"), Some(7));
     assert_eq!(rt; read_signed(b"-7"), Some(-7));
 }
 
 #[test]
-fn lines(rt: HostRuntime) -> Result<(), Fail> {
+fn replies_are_written_as_lines(rt: HostRuntime) -> Result<(), Fail> {
     let mut line = buffer(rt.alloc())?;
     let reply = Reply::Answered(Ok(Answer::Sum(-12)));
     write_reply(&reply, &mut line)?;

@@ -56,7 +56,7 @@ fn a_reader_that_fails_ends_its_records(rt: HostRuntime) -> Result<(), Fail> {
 }
 
 #[test]
-fn a_text_has_a_million_records(rt: HostRuntime) -> Result<(), Fail> {
+fn a_text_has_at_most_a_million_records(rt: HostRuntime) -> Result<(), Fail> {
     for (left, fault) in [(1_000_000, None), (1_000_001, Some(SourceFault::TooLong))] {
         let rows = || Rows {
             has_begun: true,

@@ -177,7 +177,7 @@ fn header_fault(alloc: Global, schema: &Schema, text: &str) -> Option<SourceFaul
 }
 
 #[test]
-fn headers(rt: HostRuntime) -> Result<(), Fail> {
+fn a_header_names_each_column_once(rt: HostRuntime) -> Result<(), Fail> {
     let schema = schema_of(rt.alloc())?;
     for text in ["a,b\n", "b,a", "\"b\",\"a\"\n1,2\n", "\n\r\na,b\n"] {
         let fault = header_fault(rt.alloc(), &schema, text);
@@ -270,7 +270,7 @@ fn drain(alloc: Global, schema: &Schema, left: u64) -> (u64, u64, Option<SourceF
 }
 
 #[test]
-fn a_row_file_has_a_million_records(rt: HostRuntime) -> Result<(), Fail> {
+fn a_row_file_has_at_most_a_million_records(rt: HostRuntime) -> Result<(), Fail> {
     let schema = narrow_schema(rt.alloc())?;
     for (left, want) in [
         (1_000_000, (0, 1_000_000, None)),
