@@ -15,12 +15,13 @@ pub struct WholeVectors<E: Encoding> {
 }
 
 impl<E: Encoding> WholeVectors<E> {
-    /// Returns how many calls wrote a whole vector so far.
+    /// Returns how many calls wrote a whole vector so far. No contract says it: the count stands in a cell, which a
+    /// call on a shared component changes, and no clause sees what a cell holds.
     pub fn calls(&self) -> u32 {
         self.calls.get()
     }
 
-    /// Returns how many sums of digits were asked for so far.
+    /// Returns how many sums of digits were asked for so far. No contract says it either.
     pub fn sums(&self) -> u32 {
         self.sums.get()
     }

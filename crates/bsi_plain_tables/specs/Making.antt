@@ -7,9 +7,9 @@ use Rattle.bsi_schema.specs.Columns.{named_column, NamedColumn}
 use Rattle.bsi_table.specs.declared.query.Pred.{Pred}
 use Rattle.bsi_table.specs.Rows.{holds, Entries}
 use Rattle.bsi_plain_tables.specs.declared.making.Declared.{Declared}
-use Rattle.bsi_plain_tables.specs.declared.making.Form.{Form}
-use Rattle.bsi_plain_tables.specs.declared.making.Form.TheVariants.{Slices, Equality, Range}
-use Rattle.bsi_plain_tables.specs.declared.making.Wide.{Wide}
+use Rattle.bsi_plain.specs.declared.making.Form.{Form}
+use Rattle.bsi_plain.specs.declared.making.Form.TheVariants.{Slices, Equality, Range}
+use Rattle.bsi_plain.specs.declared.making.Wide.{Wide}
 
 -- the form that a column is kept in; its bases stand least significant first
 abbrev pub stored_form : Form → Wide → StoredForm

@@ -6,31 +6,9 @@ ghost use Rattle.bsi_schema.specs.Columns.{form_of, with_column};
 ghost use Rattle.bsi_plain_tables.specs.Making.{as_column, has_offset, stored_form, IsConjunction, IsDisjunction, IsNegation};
 
 use bsi_columns::NoMemory;
+use bsi_plain::{Form, Wide};
 use bsi_table::{ColumnSpec, Pred, Row, Schema, SchemaError};
 use std::alloc::Global;
-
-/// The forms of a column.
-#[derive(Clone, Copy, Debug)]
-pub enum Form {
-    /// Slices.
-    Slices,
-    /// Equality encoded components.
-    Equality,
-    /// Range encoded components.
-    Range,
-}
-
-/// Each form, once.
-pub const FORMS: [Form; 3] = [Form::Slices, Form::Equality, Form::Range];
-
-/// How wide a column is: in slices, and in bases, most significant first.
-#[derive(Clone, Copy)]
-pub struct Wide<'a> {
-    /// How many slices.
-    pub width: u32,
-    /// The bases.
-    pub bases: &'a [u32],
-}
 
 /// A column that is declared: its name, its form, and the least number that it takes.
 #[derive(Clone, Copy)]

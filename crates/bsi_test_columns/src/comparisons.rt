@@ -1,14 +1,17 @@
 //! Comparisons, on worked rows and beside a plain column.
 
-use crate::columns::*;
 use bsi_bits::Bits;
 use bsi_columns::{Column, Encoding, EqualityComponent, NoMemory, Op, RangeComponent, Slices};
-use bsi_plain::{PlainColumn, WholeVectors};
+use bsi_plain::{
+    FORMS, Form, MakingError, PlainColumn, WholeVectors, Wide, append, bases, compared, filled,
+    is_set, no_digits, no_rows, no_slices, shows,
+};
 use std::alloc::Global;
 use std::process::Abort;
 use std::test::Fail;
 
-const OPERATORS: [Op; 6] = [Op::Eq, Op::Ne, Op::Lt, Op::Le, Op::Gt, Op::Ge];
+/// Each operator, once.
+pub(crate) const OPERATORS: [Op; 6] = [Op::Eq, Op::Ne, Op::Lt, Op::Le, Op::Gt, Op::Ge];
 
 /// The comparisons of the entries 3, none and 2.
 const SHOWN: [(Op, u64, [bool; 3]); 7] = [
@@ -47,7 +50,8 @@ fn comparisons_table(rt: HostRuntime) -> Result<(), Fail> {
         bases: &[5, 3],
     };
     for form in FORMS {
-        let column = of(&rt, rt.alloc(), form, wide, &[Some(3), None, Some(2)])?;
+        let mut column = no_rows(rt.alloc(), form, wide)?;
+        append(&mut column, &[Some(3), None, Some(2)])?;
         selects_shown(&rt, &column)?;
     }
     Ok(())
@@ -60,14 +64,14 @@ fn copy_of<C: Column>(column: &C) -> Result<C, NoMemory> {
     }
 }
 
-fn copy_selects_shown<E: Encoding>(rt: &impl Abort, alloc: Global) -> Result<(), NoMemory> {
+fn copy_selects_shown<E: Encoding>(rt: &impl Abort, alloc: Global) -> Result<(), MakingError> {
     let mut column = no_digits::<E>(alloc, &[5, 3])?;
-    append(rt, &mut column, &[Some(3), None, Some(2)])?;
-    selects_shown(rt, &copy_of(&column)?)
+    append(&mut column, &[Some(3), None, Some(2)])?;
+    Ok(selects_shown(rt, &copy_of(&column)?)?)
 }
 
 #[test]
-fn comparisons_table_of_copies(rt: HostRuntime) -> Result<(), Fail> {
+fn comparisons_table_holds_of_copies(rt: HostRuntime) -> Result<(), Fail> {
     copy_selects_shown::<EqualityComponent>(&rt, rt.alloc())?;
     copy_selects_shown::<RangeComponent>(&rt, rt.alloc())?;
     Ok(())
@@ -78,14 +82,15 @@ fn selects_the_numbers(
     alloc: Global,
     form: Form,
     wide: Wide,
-) -> Result<(), NoMemory> {
-    let column = of(rt, alloc, form, wide, &[Some(5), None, Some(0)])?;
+) -> Result<(), MakingError> {
+    let mut column = no_rows(alloc, form, wide)?;
+    append(&mut column, &[Some(5), None, Some(0)])?;
     assert_eq!(rt; (column.len(), column.size()), (3, 8), "{form:?}");
-    selects(rt, &column, Op::Ge, 0, &[true, false, true])
+    Ok(selects(rt, &column, Op::Ge, 0, &[true, false, true])?)
 }
 
 #[test]
-fn bits_and_columns(rt: HostRuntime) -> Result<(), Fail> {
+fn bits_and_columns_select_numbers_and_no_null(rt: HostRuntime) -> Result<(), Fail> {
     let wide = Wide {
         width: 3,
         bases: &[2, 4],
@@ -101,7 +106,7 @@ fn selected(plain: &PlainColumn, op: Op, constant: u64, found: &Bits) -> bool {
     let mut count = 0u64;
     for row in 0..plain.len() {
         let wanted = plain.selects(op, constant, row);
-        if get(found, row) != wanted {
+        if is_set(found, row) != wanted {
             return false;
         }
         count = count.saturating_add(u64::from(wanted));
@@ -129,7 +134,7 @@ fn add_about(numbers: &mut Vec<u64>, number: u64) -> Result<(), NoMemory> {
 }
 
 // The constants about the edges of each digit, of some of the many where they are more than three, and past the ends.
-fn edges(alloc: Global, list: &[u32]) -> Result<Vec<u64>, NoMemory> {
+fn edges(alloc: Global, list: &[u32]) -> Result<Vec<u64>, MakingError> {
     let bases = bases(alloc, list)?;
     let mut constants = Vec::with_capacity(alloc, 34)?;
     constants.extend_from_slice(&[0, 1, bases.size(), u64::MAX])?;
@@ -146,7 +151,7 @@ fn edges(alloc: Global, list: &[u32]) -> Result<Vec<u64>, NoMemory> {
     Ok(constants)
 }
 
-fn constants(alloc: Global, list: &[u32]) -> Result<Vec<u64>, NoMemory> {
+fn constants(alloc: Global, list: &[u32]) -> Result<Vec<u64>, MakingError> {
     match edges(alloc, list) {
         Err(_) => edges(alloc, list),
         made => made,
@@ -160,8 +165,8 @@ fn alike<C: Column>(
     column: &C,
     list: &[u32],
     rows: u64,
-) -> Result<(), NoMemory> {
-    let plain = plain(rt, alloc, column.size(), rows)?;
+) -> Result<(), MakingError> {
+    let plain = filled(PlainColumn::new(alloc, column.size()), rows)?;
     let constants = constants(alloc, list)?;
     for constant in constants.as_slice() {
         select_alike(rt, column, &plain, *constant)?;
@@ -175,8 +180,8 @@ fn form_alike(
     form: Form,
     wide: Wide,
     rows: u64,
-) -> Result<(), NoMemory> {
-    let column = filled(rt, alloc, form, wide, rows)?;
+) -> Result<(), MakingError> {
+    let column = filled(no_rows(alloc, form, wide)?, rows)?;
     alike(rt, alloc, &column, wide.bases, rows)
 }
 
@@ -185,13 +190,13 @@ fn whole_vectors_alike<E: Encoding>(
     alloc: Global,
     list: &[u32],
     rows: u64,
-) -> Result<(), NoMemory> {
-    let column = filled_digits::<WholeVectors<E>>(rt, alloc, list, rows)?;
+) -> Result<(), MakingError> {
+    let column = filled(no_digits::<WholeVectors<E>>(alloc, list)?, rows)?;
     alike(rt, alloc, &column, list, rows)
 }
 
 // Every form, and components of both encodings by whole vectors.
-fn all_alike(rt: &impl Abort, alloc: Global, wide: Wide, rows: u64) -> Result<(), NoMemory> {
+fn all_alike(rt: &impl Abort, alloc: Global, wide: Wide, rows: u64) -> Result<(), MakingError> {
     for form in FORMS {
         form_alike(rt, alloc, form, wide, rows)?;
     }
@@ -200,7 +205,7 @@ fn all_alike(rt: &impl Abort, alloc: Global, wide: Wide, rows: u64) -> Result<()
 }
 
 #[test]
-fn few_components(rt: HostRuntime) -> Result<(), Fail> {
+fn few_components_select_as_a_plain_column(rt: HostRuntime) -> Result<(), Fail> {
     let lists: [(u32, &[u32], u64); 4] = [
         (1, &[2], 70),
         (4, &[5, 3], 130),
@@ -214,7 +219,7 @@ fn few_components(rt: HostRuntime) -> Result<(), Fail> {
 }
 
 #[test]
-fn wide_component(rt: HostRuntime) -> Result<(), Fail> {
+fn a_wide_component_selects_as_a_plain_column(rt: HostRuntime) -> Result<(), Fail> {
     let wide = Wide {
         width: 10,
         bases: &[1024],
@@ -224,7 +229,7 @@ fn wide_component(rt: HostRuntime) -> Result<(), Fail> {
 }
 
 #[test]
-fn sixty_three_twos(rt: HostRuntime) -> Result<(), Fail> {
+fn sixty_three_twos_select_as_a_plain_column(rt: HostRuntime) -> Result<(), Fail> {
     let wide = Wide {
         width: 63,
         bases: &[2; 63],
@@ -234,7 +239,7 @@ fn sixty_three_twos(rt: HostRuntime) -> Result<(), Fail> {
 }
 
 #[test]
-fn several_blocks(rt: HostRuntime) -> Result<(), Fail> {
+fn several_blocks_select_as_a_plain_column(rt: HostRuntime) -> Result<(), Fail> {
     let wide = Wide {
         width: 4,
         bases: &[5, 3],
@@ -246,7 +251,7 @@ fn several_blocks(rt: HostRuntime) -> Result<(), Fail> {
 }
 
 // Slices of so many rows as stand about the edges of a word, and of a block of words.
-fn lengths_alike(rt: &impl Abort, alloc: Global, wide: Wide) -> Result<(), NoMemory> {
+fn lengths_alike(rt: &impl Abort, alloc: Global, wide: Wide) -> Result<(), MakingError> {
     for rows in [0, 1, 63, 64, 65, 256, 257, 1100] {
         form_alike(rt, alloc, Form::Slices, wide, rows)?;
     }
@@ -254,7 +259,7 @@ fn lengths_alike(rt: &impl Abort, alloc: Global, wide: Wide) -> Result<(), NoMem
 }
 
 #[test]
-fn few_slices_about_the_edges_of_words(rt: HostRuntime) -> Result<(), Fail> {
+fn few_slices_select_alike_about_the_edges_of_words(rt: HostRuntime) -> Result<(), Fail> {
     for width in [1, 2, 3] {
         let bases = &[2; 3][..width as usize];
         lengths_alike(&rt, rt.alloc(), Wide { width, bases })?;
@@ -263,7 +268,7 @@ fn few_slices_about_the_edges_of_words(rt: HostRuntime) -> Result<(), Fail> {
 }
 
 #[test]
-fn many_slices_about_the_edges_of_words(rt: HostRuntime) -> Result<(), Fail> {
+fn many_slices_select_alike_about_the_edges_of_words(rt: HostRuntime) -> Result<(), Fail> {
     for width in [20, 63] {
         let bases = &[2; 63][..width as usize];
         lengths_alike(&rt, rt.alloc(), Wide { width, bases })?;
@@ -286,20 +291,16 @@ fn about_a_place(row: u64, width: u32) -> Option<u64> {
     }
 }
 
-fn fill_about_places<C: Column>(
-    rt: &impl Abort,
-    column: &mut C,
-    width: u32,
-) -> Result<(), NoMemory> {
+fn fill_about_places<C: Column>(column: &mut C, width: u32) -> Result<(), MakingError> {
     for row in 0..1100 {
-        assert!(rt; push(column, about_a_place(row, width))?, "row {row}");
+        append(column, &[about_a_place(row, width)])?;
     }
     Ok(())
 }
 
-fn slices_about_places(rt: &impl Abort, alloc: Global, width: u32) -> Result<Slices, NoMemory> {
+fn slices_about_places(alloc: Global, width: u32) -> Result<Slices, MakingError> {
     let mut column = no_slices(alloc, width)?;
-    fill_about_places(rt, &mut column, width)?;
+    fill_about_places(&mut column, width)?;
     Ok(column)
 }
 
@@ -315,10 +316,10 @@ fn place_alike(
 }
 
 // Slices beside a plain column, at each power of two below the size and at the number before it.
-fn places_alike(rt: &impl Abort, alloc: Global, width: u32) -> Result<(), NoMemory> {
-    let column = slices_about_places(rt, alloc, width)?;
+fn places_alike(rt: &impl Abort, alloc: Global, width: u32) -> Result<(), MakingError> {
+    let column = slices_about_places(alloc, width)?;
     let mut plain = PlainColumn::new(alloc, column.size());
-    fill_about_places(rt, &mut plain, width)?;
+    fill_about_places(&mut plain, width)?;
     for place in 0..column.width() {
         place_alike(rt, &column, &plain, place)?;
     }
@@ -326,7 +327,7 @@ fn places_alike(rt: &impl Abort, alloc: Global, width: u32) -> Result<(), NoMemo
 }
 
 #[test]
-fn slices_about_the_edges_of_each_place(rt: HostRuntime) -> Result<(), Fail> {
+fn slices_select_alike_about_the_edges_of_each_place(rt: HostRuntime) -> Result<(), Fail> {
     for width in [1, 2, 3, 20, 63] {
         places_alike(&rt, rt.alloc(), width)?;
     }

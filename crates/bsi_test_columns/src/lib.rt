@@ -1,17 +1,9 @@
-//! Tests of columns of every form, on worked rows and beside a plain column. No crate uses it.
+//! Tests of what columns of every form answer, on worked rows and beside a plain column. No crate uses it.
 #![tactic(auto)]
 
 #[cfg(test)]
-mod blocks;
-#[cfg(test)]
-mod columns;
-#[cfg(test)]
 mod comparisons;
 #[cfg(test)]
-mod growth;
-#[cfg(test)]
 mod narrowing;
-#[cfg(test)]
-mod stored;
 #[cfg(test)]
 mod totals;

@@ -1,11 +1,13 @@
 //! Blocks of words in which a comparison keeps rows, or their nulls. Each test tolerates one refused allocation, and
 //! then makes the same call again.
 
-ghost use Rattle.std.specs.Prelude.{◌≤◌, ◌+◌, ◌/◌, length, IsTrue};
+ghost use Rattle.std.specs.Prelude.{◌≤◌, ◌<◌, ◌+◌, ◌/◌, length, IsTrue};
 
-use crate::columns::*;
+use crate::comparisons::OPERATORS;
 use bsi_columns::{AnyColumn, Column, Decomposed, NoMemory, Op, RangeComponent};
-use bsi_plain::WholeVectors;
+use bsi_plain::{
+    FORMS, MakingError, WholeVectors, Wide, append, entry, filled, no_digits, no_rows,
+};
 use std::process::Abort;
 use std::test::Fail;
 
@@ -23,11 +25,11 @@ const BLOCKS: [(usize, usize); 5] = [(0, 3), (1, 2), (2, 1), (1, 1), (3, 0)];
 /// The rows that each word of a block has before.
 const BEFORE: u64 = 0xF0F0_FFFF_3333_7777;
 
-const OPS: [Op; 6] = [Op::Eq, Op::Ne, Op::Lt, Op::Le, Op::Gt, Op::Ge];
-
 /// Constants of which the last is past the size.
 const CONSTANTS: [u64; 4] = [0, 3, 7, 40];
 
+// Returns whether a comparison holds. It has no contract on purpose: were it proved from the definition by which columns
+// select, these tests would show nothing of that definition.
 fn compares(op: Op, number: u64, constant: u64) -> bool {
     match op {
         Op::Eq => number == constant,
@@ -69,7 +71,9 @@ fn is_kept(wanted: Kept, entry: Option<u64>) -> bool {
 }
 
 // Asserts that a block has those of its rows that it had before and that are to be kept.
-fn same_rows(rt: &impl Abort, kept: &[u64], at: usize, size: u64, wanted: Kept) {
+fn same_rows(rt: &impl Abort, kept: &[u64], at: usize, size: u64, wanted: Kept)
+    requires { 0 < size }
+{
     for (word, bits) in kept.iter().enumerate() {
         for place in 0..64usize {
             let row = at.wrapping_add(word).wrapping_mul(64).wrapping_add(place) as u64;
@@ -100,8 +104,8 @@ fn kept_by_any(rt: &impl Abort, column: &AnyColumn, op: Op, constant: u64) {
 #[test]
 fn comparisons_keep_rows_of_blocks(rt: HostRuntime) -> Result<(), Fail> {
     for form in FORMS {
-        let column = filled(&rt, rt.alloc(), form, WIDE, ROWS)?;
-        for op in OPS {
+        let column = filled(no_rows(rt.alloc(), form, WIDE)?, ROWS)?;
+        for op in OPERATORS {
             for constant in CONSTANTS {
                 kept_by_any(&rt, &column, op, constant);
             }
@@ -158,8 +162,9 @@ fn kept_by_vectors(
 
 #[test]
 fn comparisons_by_whole_vectors_keep_rows_of_blocks(rt: HostRuntime) -> Result<(), Fail> {
-    let column = filled_digits::<WholeVectors<RangeComponent>>(&rt, rt.alloc(), WIDE.bases, ROWS)?;
-    for op in OPS {
+    let empty = no_digits::<WholeVectors<RangeComponent>>(rt.alloc(), WIDE.bases)?;
+    let column = filled(empty, ROWS)?;
+    for op in OPERATORS {
         kept_by_vectors(&rt, &column, op, 3)?;
     }
     Ok(())
@@ -176,7 +181,7 @@ fn nulls_of(column: &AnyColumn, at: usize, block: &mut [u64]) -> bool {
 #[test]
 fn nulls_are_kept_of_blocks(rt: HostRuntime) -> Result<(), Fail> {
     for form in FORMS {
-        let column = filled(&rt, rt.alloc(), form, WIDE, ROWS)?;
+        let column = filled(no_rows(rt.alloc(), form, WIDE)?, ROWS)?;
         for (at, words) in BLOCKS {
             let mut buffer = [BEFORE; 3];
             let block = &mut buffer[..words.min(3)];
@@ -207,7 +212,7 @@ fn same_numbers(rt: &impl Abort, kept: &[u64], null: u64, rows: u64, op: Op) {
 
 fn numbers_are_kept(rt: &impl Abort, column: &AnyColumn, null: u64) {
     let words = column.len().div_ceil(64) as usize;
-    for op in OPS {
+    for op in OPERATORS {
         let mut buffer = [u64::MAX; 3];
         let block = &mut buffer[..words.min(3)];
         assert!(rt; keep_any(column, op, 3, 0, block), "{op:?}");
@@ -216,13 +221,13 @@ fn numbers_are_kept(rt: &impl Abort, column: &AnyColumn, null: u64) {
 }
 
 // Fills a column up to its first null, and past it.
-fn around_a_null(rt: &impl Abort, column: &mut AnyColumn, null: u64) -> Result<(), NoMemory> {
+fn around_a_null(rt: &impl Abort, column: &mut AnyColumn, null: u64) -> Result<(), MakingError> {
     for row in 0..null {
-        assert!(rt; push(column, number_but(null, row))?, "{row}");
+        append(column, &[number_but(null, row)])?;
     }
     numbers_are_kept(rt, column, null);
     for row in null..null.saturating_add(2) {
-        assert!(rt; push(column, number_but(null, row))?, "{row}");
+        append(column, &[number_but(null, row)])?;
     }
     numbers_are_kept(rt, column, null);
     Ok(())

@@ -1,12 +1,16 @@
 //! Sums, and the least, the greatest and the median numbers, on worked rows and beside a plain column.
 
-use crate::columns::*;
+ghost use Rattle.std.specs.Prelude.{◌≡◌, length};
+
 use bsi_bits::Bits;
 use bsi_columns::{AnyColumn, Column, NoMemory};
-use bsi_plain::PlainColumn;
+use bsi_plain::{FORMS, Form, MakingError, PlainColumn, Wide, append, filled, no_rows};
 use std::alloc::Global;
 use std::process::Abort;
 use std::test::Fail;
+
+/// The lengths about the edges of a word, and of four.
+const LENGTHS: [u64; 7] = [0, 1, 63, 64, 65, 256, 257];
 
 /// The sum, the least number, the greatest and the lower median.
 #[derive(Clone, Copy, Debug, PartialEq, Eq)]
@@ -37,51 +41,25 @@ impl Totals {
     }
 }
 
-fn least<C: Column>(column: &C, found: &Bits) -> Result<Option<u64>, NoMemory> {
-    if column.len() != found.len() {
-        return Err(NoMemory);
-    }
-    match column.least(found) {
-        Err(_) => column.least(found),
-        least => least,
-    }
-}
-
-fn greatest<C: Column>(column: &C, found: &Bits) -> Result<Option<u64>, NoMemory> {
-    if column.len() != found.len() {
-        return Err(NoMemory);
-    }
-    match column.greatest(found) {
-        Err(_) => column.greatest(found),
-        greatest => greatest,
-    }
-}
-
-fn median<C: Column>(column: &C, found: &Bits) -> Result<Option<u64>, NoMemory> {
-    if column.len() != found.len() {
-        return Err(NoMemory);
-    }
-    match column.median(found) {
-        Err(_) => column.median(found),
-        median => median,
-    }
-}
-
-fn sum<C: Column>(column: &C, found: &Bits) -> u128 {
-    if column.len() == found.len() {
-        column.sum(found)
-    } else {
-        0
-    }
-}
-
-fn totals_of<C: Column>(column: &C, found: &Bits) -> Result<Totals, NoMemory> {
+// Returns the totals over the found rows, by one call for each.
+fn totals_once<C: Column>(column: &C, found: &Bits) -> Result<Totals, NoMemory>
+    requires { length (C.entries column.now) ≡ length found.now.bits }
+{
     Ok(Totals {
-        sum: sum(column, found),
-        least: least(column, found)?,
-        greatest: greatest(column, found)?,
-        median: median(column, found)?,
+        sum: column.sum(found),
+        least: column.least(found)?,
+        greatest: column.greatest(found)?,
+        median: column.median(found)?,
     })
+}
+
+// Returns the totals over the found rows. If memory is refused, it asks for all of them again.
+fn totals_of<C: Column>(rt: &impl Abort, column: &C, found: &Bits) -> Result<Totals, NoMemory> {
+    assert_eq!(rt; column.len(), found.len());
+    match totals_once(column, found) {
+        Err(_) => totals_once(column, found),
+        totals => totals,
+    }
 }
 
 // Appends to a found set whether a row is found.
@@ -115,8 +93,7 @@ fn comes_to(
     wanted: Totals,
 ) -> Result<(), NoMemory> {
     let found = found_set(alloc, rows)?;
-    assert_eq!(rt; found.len(), column.len());
-    assert_eq!(rt; totals_of(column, &found)?, wanted);
+    assert_eq!(rt; totals_of(rt, column, &found)?, wanted);
     Ok(())
 }
 
@@ -128,9 +105,10 @@ struct Worked<'a> {
     wanted: &'a [(&'a [bool], Totals)],
 }
 
-fn works(rt: &impl Abort, alloc: Global, worked: Worked) -> Result<(), NoMemory> {
+fn works(rt: &impl Abort, alloc: Global, worked: Worked) -> Result<(), MakingError> {
     for form in FORMS {
-        let column = of(rt, alloc, form, worked.wide, worked.entries)?;
+        let mut column = no_rows(alloc, form, worked.wide)?;
+        append(&mut column, worked.entries)?;
         for (rows, wanted) in worked.wanted {
             comes_to(rt, alloc, &column, rows, *wanted)?;
         }
@@ -158,7 +136,7 @@ fn totals_table(rt: HostRuntime) -> Result<(), Fail> {
 }
 
 #[test]
-fn bits_and_columns(rt: HostRuntime) -> Result<(), Fail> {
+fn bits_and_columns_total_numbers_and_no_null(rt: HostRuntime) -> Result<(), Fail> {
     let worked = Worked {
         wide: NARROW,
         entries: &[Some(5), None, Some(0)],
@@ -229,8 +207,8 @@ fn alike(
 ) -> Result<(), NoMemory> {
     for choice in CHOICES {
         let found = chosen(alloc, choice, column.len())?;
-        let wanted = totals_of(plain, &found)?;
-        assert_eq!(rt; totals_of(column, &found)?, wanted, "{choice:?}");
+        let wanted = totals_of(rt, plain, &found)?;
+        assert_eq!(rt; totals_of(rt, column, &found)?, wanted, "{choice:?}");
     }
     Ok(())
 }
@@ -241,13 +219,18 @@ fn form_alike(
     form: Form,
     wide: Wide,
     rows: u64,
-) -> Result<(), NoMemory> {
-    let column = filled(rt, alloc, form, wide, rows)?;
-    let plain = plain(rt, alloc, column.size(), rows)?;
-    alike(rt, alloc, &column, &plain)
+) -> Result<(), MakingError> {
+    let column = filled(no_rows(alloc, form, wide)?, rows)?;
+    let plain = filled(PlainColumn::new(alloc, column.size()), rows)?;
+    Ok(alike(rt, alloc, &column, &plain)?)
 }
 
-fn lengths_alike(rt: &impl Abort, alloc: Global, form: Form, wide: Wide) -> Result<(), NoMemory> {
+fn lengths_alike(
+    rt: &impl Abort,
+    alloc: Global,
+    form: Form,
+    wide: Wide,
+) -> Result<(), MakingError> {
     for rows in LENGTHS {
         form_alike(rt, alloc, form, wide, rows)?;
     }
@@ -255,7 +238,7 @@ fn lengths_alike(rt: &impl Abort, alloc: Global, form: Form, wide: Wide) -> Resu
 }
 
 #[test]
-fn few_components(rt: HostRuntime) -> Result<(), Fail> {
+fn few_components_total_as_a_plain_column(rt: HostRuntime) -> Result<(), Fail> {
     for form in FORMS {
         lengths_alike(&rt, rt.alloc(), form, NARROW)?;
     }
@@ -263,7 +246,7 @@ fn few_components(rt: HostRuntime) -> Result<(), Fail> {
 }
 
 #[test]
-fn wide_component(rt: HostRuntime) -> Result<(), Fail> {
+fn a_wide_component_totals_as_a_plain_column(rt: HostRuntime) -> Result<(), Fail> {
     let wide = Wide {
         width: 10,
         bases: &[1024],
@@ -275,7 +258,7 @@ fn wide_component(rt: HostRuntime) -> Result<(), Fail> {
 }
 
 #[test]
-fn many_components(rt: HostRuntime) -> Result<(), Fail> {
+fn many_components_total_as_a_plain_column(rt: HostRuntime) -> Result<(), Fail> {
     let wide = Wide {
         width: 63,
         bases: &[2; 63],
@@ -288,7 +271,7 @@ fn many_components(rt: HostRuntime) -> Result<(), Fail> {
 
 // Two blocks of 16 words, and two words and a bit behind them.
 #[test]
-fn several_blocks(rt: HostRuntime) -> Result<(), Fail> {
+fn several_blocks_total_as_a_plain_column(rt: HostRuntime) -> Result<(), Fail> {
     for form in FORMS {
         form_alike(&rt, rt.alloc(), form, NARROW, 2177)?;
     }
@@ -310,22 +293,17 @@ struct Odd {
 }
 
 // Whether the row is found by its number among rows of 50, whichever block it is in.
-fn odd_one_found(rt: &impl Abort, alloc: Global, form: Form, odd: Odd) -> Result<(), NoMemory> {
-    let mut column = of(rt, alloc, form, TIES, &[])?;
+fn odd_one_found(rt: &impl Abort, alloc: Global, form: Form, odd: Odd) -> Result<(), MakingError> {
+    let mut column = no_rows(alloc, form, TIES)?;
     for row in 0..2177 {
         let number = if row == odd.row { odd.number } else { 50 };
-        append(rt, &mut column, &[Some(number)])?;
+        append(&mut column, &[Some(number)])?;
     }
     let found = chosen(alloc, Choice::All, column.len())?;
+    let totals = totals_of(rt, &column, &found)?;
     assert_eq!(rt;
-        least(&column, &found)?,
-        Some(odd.number.min(50)),
-        "row {}",
-        odd.row
-    );
-    assert_eq!(rt;
-        greatest(&column, &found)?,
-        Some(odd.number.max(50)),
+        (totals.least, totals.greatest),
+        (Some(odd.number.min(50)), Some(odd.number.max(50))),
         "row {}",
         odd.row
     );
@@ -338,7 +316,7 @@ const TIES: Wide<'static> = Wide {
 };
 
 #[test]
-fn least_and_greatest_in_each_block(rt: HostRuntime) -> Result<(), Fail> {
+fn least_and_greatest_are_found_in_each_block(rt: HostRuntime) -> Result<(), Fail> {
     for form in FORMS {
         for row in [1023, 2176] {
             for number in [49, 51] {

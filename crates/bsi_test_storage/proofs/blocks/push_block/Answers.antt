@@ -1,6 +1,6 @@
-use Rattle.std.proofs.Common.{◌≡◌, length, take, get_or, None, ◌∙◌, arith}
+use Rattle.std.proofs.Common.{◌≡◌, take, get_or, None, ◌∙◌, arith}
 use Rattle.std.proofs.lemmas.List.{length-take-le, get_or-take, get_or_default}
-use Rattle.bsi_test_columns.proofs.blocks.push_block.Goals as goal
+use Rattle.bsi_test_storage.proofs.blocks.push_block.Goals as goal
 
 -- each entry is below the size
 pub push_block_reserved-requires-clause-below : goal.push_block_reserved-requires-clause-below

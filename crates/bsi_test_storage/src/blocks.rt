@@ -1,20 +1,15 @@
 //! Blocks of entries that go in at once, beside the same entries one by one.
 
-ghost use Rattle.std.specs.Prelude.{◌≤◌, ◌<◌};
-ghost use Rattle.bsi_columns.specs.Rows.{number_or_zero};
-
-use crate::columns::*;
+use crate::growth::WIDE;
 use bsi_bits::Bits;
 use bsi_columns::{Column, NoMemory, Op, RangeComponent};
-use bsi_plain::{PlainColumn, WholeVectors};
+use bsi_plain::{
+    FORMS, MakingError, PlainColumn, WholeVectors, Wide, compared, entry, filled, no_digits,
+    no_rows,
+};
 use std::alloc::Global;
 use std::process::Abort;
 use std::test::Fail;
-
-const WIDE: Wide<'static> = Wide {
-    width: 5,
-    bases: &[8, 4],
-};
 
 // A base above 64, and base 2.
 const DEEP: Wide<'static> = Wide {
@@ -41,23 +36,12 @@ fn reserve<C: Column>(column: &mut C) -> Result<bool, NoMemory> {
     Ok(stayed && column.room() >= 64)
 }
 
-// The entry of a row, below the size.
-fn row(row: u64, size: u64) -> Option<u64>
-    requires { 2 ≤ size }
-    ensures { number_or_zero result < size }
-{
-    match entry(row, size) {
-        None => None,
-        Some(number) => Some(number.min(size - 1)),
-    }
-}
-
 // Appends the entries of some rows at once.
 fn push_block<C: Column>(column: &mut C, from: u64, count: usize) -> bool {
     let size = column.size();
     let mut block = [None; 64];
     for k in 0..64 {
-        block[k] = row(from.wrapping_add(k as u64), size);
+        block[k] = entry(from.wrapping_add(k as u64), size);
     }
     if count > 64 || column.room() < 64 {
         return false;
@@ -95,15 +79,19 @@ fn same_entries<A: Column, B: Column>(a: &A, b: &B) -> Result<bool, NoMemory> {
 }
 
 // A column that is filled by blocks has the entries of the plain one.
-fn takes_blocks<C: Column>(rt: &impl Abort, alloc: Global, mut column: C) -> Result<(), NoMemory> {
-    let beside = plain(rt, alloc, column.size(), ROWS)?;
+fn takes_blocks<C: Column>(
+    rt: &impl Abort,
+    alloc: Global,
+    mut column: C,
+) -> Result<(), MakingError> {
+    let beside = filled(PlainColumn::new(alloc, column.size()), ROWS)?;
     fill_by_blocks(rt, &mut column)?;
     assert!(rt; same_entries(&column, &beside)?);
     Ok(())
 }
 
 #[test]
-fn blocks_at_the_edges_of_words(rt: HostRuntime) -> Result<(), Fail> {
+fn blocks_at_the_edges_of_words_append_as_single_rows(rt: HostRuntime) -> Result<(), Fail> {
     for form in FORMS {
         for wide in [WIDE, DEEP] {
             let column = no_rows(rt.alloc(), form, wide)?;
@@ -114,7 +102,7 @@ fn blocks_at_the_edges_of_words(rt: HostRuntime) -> Result<(), Fail> {
 }
 
 #[test]
-fn blocks_of_columns_that_append_one_by_one(rt: HostRuntime) -> Result<(), Fail> {
+fn provided_blocks_append_as_single_rows(rt: HostRuntime) -> Result<(), Fail> {
     takes_blocks(&rt, rt.alloc(), PlainColumn::new(rt.alloc(), 32))?;
     let column = no_digits::<WholeVectors<RangeComponent>>(rt.alloc(), &[8, 4])?;
     takes_blocks(&rt, rt.alloc(), column)?;

@@ -1,21 +1,23 @@
 //! What each form stores of a row, and that a column works by its components.
 
-use crate::columns::*;
 use bsi_bits::Bits;
 use bsi_columns::{
     AnyColumn, Column, Decomposed, Encoding, EqualityComponent, NoMemory, Op, RangeComponent,
     Slices,
 };
-use bsi_plain::WholeVectors;
+use bsi_plain::{
+    FORMS, MakingError, WholeVectors, Wide, append, entry, filled, is_set, no_digits, no_rows,
+    no_slices, shows,
+};
 use std::alloc::Global;
 use std::process::Abort;
 use std::test::Fail;
 
 const ENTRIES: [Option<u64>; 3] = [Some(3), None, Some(2)];
 
-fn digits_of<E: Encoding>(rt: &impl Abort, alloc: Global) -> Result<Decomposed<E>, NoMemory> {
+fn digits_of<E: Encoding>(alloc: Global) -> Result<Decomposed<E>, MakingError> {
     let mut column = no_digits::<E>(alloc, &[5, 3])?;
-    append(rt, &mut column, &ENTRIES)?;
+    append(&mut column, &ENTRIES)?;
     Ok(column)
 }
 
@@ -36,8 +38,8 @@ fn range_shows(column: &Decomposed<RangeComponent>, i: u32, j: u32, wanted: &[bo
 }
 
 #[test]
-fn stored_digits(rt: HostRuntime) -> Result<(), Fail> {
-    let column = digits_of::<EqualityComponent>(&rt, rt.alloc())?;
+fn an_equality_component_stores_the_rows_of_a_digit(rt: HostRuntime) -> Result<(), Fail> {
+    let column = digits_of::<EqualityComponent>(rt.alloc())?;
     assert!(rt; shows(column.present(), &[true, false, true]));
     assert!(rt; equality_shows(&column, 0, 2, &[false, false, true]));
     assert!(rt; equality_shows(&column, 1, 1, &[true, false, false]));
@@ -45,8 +47,8 @@ fn stored_digits(rt: HostRuntime) -> Result<(), Fail> {
 }
 
 #[test]
-fn stored_ranges(rt: HostRuntime) -> Result<(), Fail> {
-    let column = digits_of::<RangeComponent>(&rt, rt.alloc())?;
+fn a_range_component_stores_the_rows_up_to_a_digit(rt: HostRuntime) -> Result<(), Fail> {
+    let column = digits_of::<RangeComponent>(rt.alloc())?;
     assert_eq!(rt; column.size(), 15);
     assert!(rt; shows(column.present(), &[true, false, true]));
     assert!(rt; range_shows(&column, 0, 0, &[true, true, false]));
@@ -58,9 +60,9 @@ fn slice_shows(column: &Slices, i: u32, wanted: &[bool]) -> bool {
 }
 
 #[test]
-fn stored_slices(rt: HostRuntime) -> Result<(), Fail> {
+fn a_slice_stores_a_binary_place(rt: HostRuntime) -> Result<(), Fail> {
     let mut column = no_slices(rt.alloc(), 2)?;
-    append(&rt, &mut column, &ENTRIES)?;
+    append(&mut column, &ENTRIES)?;
     assert_eq!(rt; column.width(), 2);
     assert!(rt; shows(column.present(), &[true, false, true]));
     assert!(rt; slice_shows(&column, 0, &[true, false, false]));
@@ -72,16 +74,15 @@ fn stored_slices(rt: HostRuntime) -> Result<(), Fail> {
 fn held(column: &Slices, row: u64) -> (bool, u64) {
     let mut number = 0;
     for i in 0..column.width() {
-        if get(column.slice(i), row) {
+        if is_set(column.slice(i), row) {
             number |= 1u64 << i;
         }
     }
-    (get(column.present(), row), number)
+    (is_set(column.present(), row), number)
 }
 
-fn slices_hold(rt: &impl Abort, alloc: Global, width: u32) -> Result<(), NoMemory> {
-    let mut column = no_slices(alloc, width)?;
-    fill(rt, &mut column, 130)?;
+fn slices_hold(rt: &impl Abort, alloc: Global, width: u32) -> Result<(), MakingError> {
+    let column = filled(no_slices(alloc, width)?, 130)?;
     for row in 0..130 {
         let wanted = entry(row, column.size());
         assert_eq!(rt;
@@ -94,7 +95,7 @@ fn slices_hold(rt: &impl Abort, alloc: Global, width: u32) -> Result<(), NoMemor
 }
 
 #[test]
-fn stored_numbers(rt: HostRuntime) -> Result<(), Fail> {
+fn slices_store_the_numbers(rt: HostRuntime) -> Result<(), Fail> {
     for width in [1, 2, 3, 20, 63] {
         slices_hold(&rt, rt.alloc(), width)?;
     }
@@ -114,13 +115,21 @@ fn has_digits<E: Encoding>(component: &E, base: u32, digits: &[u32], out: &mut B
     component.base() == base
         && component.len() == digits.len() as u64
         && digits.iter().enumerate().all(|(row, digit)| eq(component, *digit, out)
-            && get(out, row as u64))
+            && is_set(out, row as u64))
+}
+
+// Copies bits. A refused copy is made again.
+fn copied(bits: &Bits) -> Result<Bits, NoMemory> {
+    match bits.copy() {
+        Err(_) => bits.copy(),
+        made => made,
+    }
 }
 
 // The digits of 7, none and 14 under the bases 5 and 3.
-fn digits_are_read<E: Encoding>(rt: &impl Abort, alloc: Global) -> Result<(), NoMemory> {
+fn digits_are_read<E: Encoding>(rt: &impl Abort, alloc: Global) -> Result<(), MakingError> {
     let mut column = no_digits::<E>(alloc, &[5, 3])?;
-    append(rt, &mut column, &[Some(7), None, Some(14)])?;
+    append(&mut column, &[Some(7), None, Some(14)])?;
     let mut out = copied(column.present())?;
     assert_eq!(rt; (column.size(), column.bases().len()), (15, 2));
     for (i, base, digits) in [(0, 3, [1, 0, 2]), (1, 5, [2, 0, 4])] {
@@ -157,10 +166,10 @@ fn nulls_are_the_rows_of_no_number(rt: HostRuntime) -> Result<(), Fail> {
         bases: &[2, 4],
     };
     for form in FORMS {
-        let column = filled(&rt, rt.alloc(), form, wide, 257)?;
+        let column = filled(no_rows(rt.alloc(), form, wide)?, 257)?;
         let nulls = nulls(&column)?;
         for row in 0..257 {
-            assert_eq!(rt; get(&nulls, row), row % 7 == 0, "row {row}");
+            assert_eq!(rt; is_set(&nulls, row), row % 7 == 0, "row {row}");
         }
     }
     Ok(())
@@ -184,8 +193,8 @@ fn sums<E: Encoding>(column: &Counted<E>, i: u32) -> u32 {
     }
 }
 
-fn counted<E: Encoding>(rt: &impl Abort, alloc: Global) -> Result<Counted<E>, NoMemory> {
-    filled_digits::<WholeVectors<E>>(rt, alloc, &[5, 3], 100)
+fn counted<E: Encoding>(alloc: Global) -> Result<Counted<E>, MakingError> {
+    filled(no_digits::<WholeVectors<E>>(alloc, &[5, 3])?, 100)
 }
 
 fn calls_of_both<E: Encoding>(column: &Counted<E>) -> [u32; 2] {
@@ -209,8 +218,8 @@ fn is_one_to_four(after: u32, before: u32) -> bool {
 }
 
 /// Asserts that a comparison calls each component one to four times, if its encoding has no calls on blocks.
-fn calls_each_component<E: Encoding>(rt: &impl Abort, alloc: Global) -> Result<(), NoMemory> {
-    let column = counted::<E>(rt, alloc)?;
+fn calls_each_component<E: Encoding>(rt: &impl Abort, alloc: Global) -> Result<(), MakingError> {
+    let column = counted::<E>(alloc)?;
     let [first, second] = calls_of_both(&column);
     let found = at_most_seven(rt, &column)?;
     assert_eq!(rt; found.len(), 100);
@@ -223,14 +232,14 @@ fn calls_each_component<E: Encoding>(rt: &impl Abort, alloc: Global) -> Result<(
 }
 
 #[test]
-fn calls_of_a_comparison(rt: HostRuntime) -> Result<(), Fail> {
+fn a_comparison_calls_each_component_one_to_four_times(rt: HostRuntime) -> Result<(), Fail> {
     calls_each_component::<RangeComponent>(&rt, rt.alloc())?;
     calls_each_component::<EqualityComponent>(&rt, rt.alloc())?;
     Ok(())
 }
 
-fn sums_each_component<E: Encoding>(rt: &impl Abort, alloc: Global) -> Result<(), NoMemory> {
-    let column = counted::<E>(rt, alloc)?;
+fn sums_each_component<E: Encoding>(rt: &impl Abort, alloc: Global) -> Result<(), MakingError> {
+    let column = counted::<E>(alloc)?;
     let before = [sums(&column, 0), sums(&column, 1)];
     let found = copied(column.present())?;
     if found.len() == column.len() {
