@@ -10,7 +10,7 @@ use std::test::Fail;
 /// The lengths about the edges of a word, of four and of eight.
 const LENGTHS: [u64; 10] = [0, 1, 63, 64, 65, 255, 256, 257, 320, 513];
 
-pub(crate) fn filled(alloc: Global, n: u64, bit: bool) -> Result<Bits, NoMemory>
+fn filled(alloc: Global, n: u64, bit: bool) -> Result<Bits, NoMemory>
     requires { n ≤ 2 ^ 32 }
 {
     match Bits::filled(alloc, n, bit) {
@@ -56,7 +56,7 @@ fn multiples(alloc: Global, n: u64, step: u64) -> Result<Bits, NoMemory> {
     Ok(bits)
 }
 
-pub(crate) fn get(bits: &Bits, i: u64) -> bool {
+fn get(bits: &Bits, i: u64) -> bool {
     i < bits.len() && bits.get(i)
 }
 

@@ -5,9 +5,9 @@ ghost use Rattle.std.specs.Prelude.{IsTrue};
 ghost use Rattle.bsi_table.specs.Table.{AreFitting, AreFrom};
 
 use crate::answers::{Both, COLUMNS, keep, no_rows, row_at, same_answers};
-use crate::tables::{answer, index_of};
+use crate::tables::{has_rows, index_of};
 use bsi_columns::NoMemory;
-use bsi_table::{Answer, AppendError, Index, MAX_BLOCK_ROWS, Pred, Row, Total};
+use bsi_table::{AppendError, Index, MAX_BLOCK_ROWS, Row};
 use std::alloc::Global;
 use std::process::Abort;
 use std::test::Fail;
@@ -44,12 +44,6 @@ fn block_from(alloc: Global, from: u64, count: usize) -> Result<Block, NoMemory>
         Err(_) => rows_from(alloc, from, count),
         made => made,
     }
-}
-
-fn has_rows(rt: &impl Abort, index: &Index, count: u64) {
-    assert_eq!(rt; index.len(), count);
-    let counted = answer(index, Total::Count, Pred::All);
-    assert_eq!(rt; counted, Ok(Answer::Count(count)));
 }
 
 fn append_fitting(index: &mut Index, rows: &[(u32, Row)]) -> Option<Result<u64, AppendError>> {

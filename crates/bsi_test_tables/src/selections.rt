@@ -2,10 +2,10 @@
 //! makes the same call again.
 
 use crate::answers::COLUMNS;
-use crate::tables::{asked, index_of};
+use crate::tables::{append_row, asked, index_of};
 use bsi_columns::{NoMemory, Op};
 use bsi_plain_tables::{both, either, not, row_of};
-use bsi_table::{Answer, AppendError, Index, Pred, Query, Row, Total};
+use bsi_table::{Answer, Index, Pred, Query, Row, Total};
 use std::alloc::Global;
 use std::process::Abort;
 use std::test::Fail;
@@ -114,24 +114,10 @@ fn kinds_again(alloc: Global) -> Result<Vec<Row>, NoMemory> {
     }
 }
 
-// Appends a row that fits, once more where a growth was refused.
-fn append_again(rt: &impl Abort, index: &mut Index, row: &Row) {
-    let position = index.len();
-    if !index.schema().fits(row) || index.feeders() == 0 {
-        return;
-    }
-    if index.append(0, row) == Err(AppendError::NoMemory) {
-        assert_eq!(rt; index.len(), position);
-        if index.schema().fits(row) && index.feeders() > 0 {
-            assert_eq!(rt; index.append(0, row), Ok(position));
-        }
-    }
-}
-
 fn grow(rt: &impl Abort, index: &mut Index, kinds: &[Row], rows: u64) {
     for row in index.len()..rows {
         if let Some(kind) = kinds.get((row % KINDS) as usize) {
-            append_again(rt, index, kind);
+            assert_eq!(rt; append_row(index, 0, kind), Some(Ok(row)));
         }
     }
     assert_eq!(rt; index.len(), rows);

@@ -3,6 +3,7 @@
 use bsi_plain_tables::{Declared, schema_of};
 use bsi_table::{Answer, AppendError, AskError, Index, IndexError, Pred, Query, Row, Total};
 use std::alloc::Global;
+use std::process::Abort;
 
 fn index_once(
     alloc: Global,
@@ -56,4 +57,11 @@ pub(crate) fn asked(index: &Index, query: &Query) -> Result<Answer, AskError> {
 /// Asks the index for this total of the rows of which the predicate holds.
 pub(crate) fn answer(index: &Index, total: Total, pred: Pred) -> Result<Answer, AskError> {
     asked(index, &Query { total, pred })
+}
+
+/// Asserts that the index has so many rows.
+pub(crate) fn has_rows(rt: &impl Abort, index: &Index, count: u64) {
+    assert_eq!(rt; index.len(), count);
+    let counted = answer(index, Total::Count, Pred::All);
+    assert_eq!(rt; counted, Ok(Answer::Count(count)));
 }

@@ -1,10 +1,10 @@
 //! What a schema and an index refuse, and an index on worked rows. Each test tolerates one refused allocation, and then
 //! makes the same call again.
 
-use crate::tables::{answer, append_row, index_of};
-use bsi_bits::Bits;
+use crate::tables::{answer, append_row, has_rows, index_of};
 use bsi_columns::{AnyColumn, NoMemory, Op};
 use bsi_digits::BasesError;
+use bsi_plain::shows;
 use bsi_plain_tables::{Declared, FORMS, Form, QTY, Wide, add, both, not, row_of};
 use bsi_table::{
     Answer, AppendError, AskError, Index, IndexError, Pred, Row, Schema, SchemaError, Total,
@@ -12,18 +12,6 @@ use bsi_table::{
 use std::alloc::Global;
 use std::process::Abort;
 use std::test::Fail;
-
-fn get(bits: &Bits, i: u64) -> bool {
-    i < bits.len() && bits.get(i)
-}
-
-fn shows(bits: &Bits, wanted: &[bool]) -> bool {
-    bits.len() == wanted.len() as u64
-        && wanted
-            .iter()
-            .enumerate()
-            .all(|(i, bit)| get(bits, i as u64) == *bit)
-}
 
 fn listed(answer: Result<Answer, AskError>, wanted: &[(u32, u64)]) -> bool {
     match answer {
@@ -116,11 +104,6 @@ fn append_one(rt: &impl Abort, alloc: Global, index: &mut Index) -> Result<(), N
     let appended = append_row(index, 0, &row);
     assert_eq!(rt; appended, Some(Ok(3)));
     Ok(())
-}
-
-fn has_rows(rt: &impl Abort, index: &Index, count: u64) {
-    let counted = answer(index, Total::Count, Pred::All);
-    assert_eq!(rt; counted, Ok(Answer::Count(count)));
 }
 
 fn copy_stands_apart(rt: &impl Abort, alloc: Global, index: &Index) -> Result<(), NoMemory> {

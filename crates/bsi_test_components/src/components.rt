@@ -2,15 +2,24 @@
 
 ghost use Rattle.std.specs.Prelude.{◌≤◌, ◌^◌};
 
-use crate::bits::{filled, get};
 use bsi_bits::Bits;
 use bsi_components::{Encoding, EqualityComponent, NoMemory, RangeComponent, RankedDigit};
+use bsi_plain::{is_set, shows};
 use std::alloc::Global;
 use std::process::Abort;
 use std::test::Fail;
 
 /// The lengths about the edges of a word and of four.
 const LENGTHS: [u64; 7] = [0, 1, 63, 64, 65, 256, 257];
+
+fn filled(alloc: Global, n: u64, bit: bool) -> Result<Bits, NoMemory>
+    requires { n ≤ 2 ^ 32 }
+{
+    match Bits::filled(alloc, n, bit) {
+        Err(_) => Bits::filled(alloc, n, bit),
+        made => made,
+    }
+}
 
 fn make<E: Encoding>(alloc: Global, base: u32) -> Result<E, NoMemory>
     requires { (2 ≤ base) × (base ≤ 1024) }
@@ -26,15 +35,6 @@ fn copied<E: Encoding>(component: &E) -> Result<E, NoMemory> {
         Err(_) => component.copy(),
         made => made,
     }
-}
-
-// Whether the vector has just these bits.
-fn is(bits: &Bits, expected: &[bool]) -> bool {
-    bits.len() == expected.len() as u64
-        && expected
-            .iter()
-            .enumerate()
-            .all(|(i, bit)| get(bits, i as u64) == *bit)
 }
 
 fn eq<E: Encoding>(component: &E, d: u32, out: &mut Bits) -> bool {
@@ -64,7 +64,7 @@ fn digit_sum<E: Encoding>(component: &E, found: &Bits) -> Option<u128> {
 // The digit of a row, by the tests of all digits.
 fn digit_of<E: Encoding>(component: &E, row: u64, out: &mut Bits) -> Option<u32> {
     for d in 0..component.base() {
-        if eq(component, d, out) && get(out, row) {
+        if eq(component, d, out) && is_set(out, row) {
             return Some(d);
         }
     }
@@ -115,12 +115,12 @@ fn component_of<E: Encoding>(alloc: Global, base: u32, digits: &[u32]) -> Result
 
 // Whether just these rows have the digit.
 fn eq_is<E: Encoding>(component: &E, d: u32, out: &mut Bits, expected: &[bool]) -> bool {
-    eq(component, d, out) && is(out, expected)
+    eq(component, d, out) && shows(out, expected)
 }
 
 // Whether just these rows have a digit up to this one.
 fn le_is<E: Encoding>(component: &E, d: u32, out: &mut Bits, expected: &[bool]) -> bool {
-    le(component, d, out) && is(out, expected)
+    le(component, d, out) && shows(out, expected)
 }
 
 fn shows_three_digits<E: Encoding>(rt: &impl Abort, alloc: Global) -> Result<(), Fail> {
@@ -226,7 +226,7 @@ fn equality_stores(
     let component = component_of::<EqualityComponent>(alloc, base, digits)?;
     Ok(match equality_bitmap(&component, j) {
         None => false,
-        Some(bits) => is(bits, expected),
+        Some(bits) => shows(bits, expected),
     })
 }
 
@@ -237,7 +237,7 @@ fn stored_bits(rt: HostRuntime) -> Result<(), Fail> {
     assert!(rt; equality_stores(alloc, 5, &[1, 0, 0], 1, &[true, false, false])?);
     assert!(rt; equality_stores(alloc, 2, &[1, 0, 1], 1, &[true, false, true])?);
     let range = component_of::<RangeComponent>(alloc, 3, &[0, 0, 2])?;
-    assert!(rt; range_bitmap(&range, 0).is_some_and(|bits| is(bits, &[true, true, false])));
+    assert!(rt; range_bitmap(&range, 0).is_some_and(|bits| shows(bits, &[true, true, false])));
     Ok(())
 }
 
@@ -389,13 +389,13 @@ fn blocks_of_rows(rt: HostRuntime) -> Result<(), Fail> {
 // Whether a patterned component says of each row whether it has the digit.
 fn eq_is_plain<E: Encoding>(component: &E, d: u32, out: &mut Bits) -> bool {
     let base = component.base();
-    eq(component, d, out) && (0..out.len()).all(|i| get(out, i) == (plain_digit(i, base) == d))
+    eq(component, d, out) && (0..out.len()).all(|i| is_set(out, i) == (plain_digit(i, base) == d))
 }
 
 // Whether it says of each row whether it has a digit up to this one.
 fn le_is_plain<E: Encoding>(component: &E, d: u32, out: &mut Bits) -> bool {
     let base = component.base();
-    le(component, d, out) && (0..out.len()).all(|i| get(out, i) == (plain_digit(i, base) <= d))
+    le(component, d, out) && (0..out.len()).all(|i| is_set(out, i) == (plain_digit(i, base) <= d))
 }
 
 fn plain_sum(base: u32, len: u64) -> u128
@@ -467,7 +467,7 @@ fn plain_count(base: u32, digit: u32, found: &Bits) -> u64
 {
     let mut rows = 0u64;
     for i in 0..found.len() {
-        if get(found, i) && plain_digit(i, base) == digit {
+        if is_set(found, i) && plain_digit(i, base) == digit {
             rows = rows.wrapping_add(1);
         }
     }
@@ -510,7 +510,7 @@ fn are_kept(base: u32, digit: u32, found: &Bits, rows: &Bits) -> bool
     requires { 2 ≤ base }
 {
     for i in 0..found.len() {
-        if get(rows, i) != (get(found, i) && plain_digit(i, base) == digit) {
+        if is_set(rows, i) != (is_set(found, i) && plain_digit(i, base) == digit) {
             return false;
         }
     }
