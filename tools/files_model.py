@@ -11,7 +11,7 @@ import sys
 from collections import namedtuple
 
 import script_model
-from script_model import BAD, Machine, records
+from script_model import BAD, Machine, records, text_of
 
 MAX_FILES = 64
 MAX_ROWS = 1_000_000
@@ -113,10 +113,6 @@ def run(schema, asks, files):
     except Fault as fault:
         return Written(text_of(lines), fault.line, 1)
     return Written(text_of(lines), b"", 0)
-
-
-def text_of(lines):
-    return b"".join(line + b"\n" for line in lines)
 
 
 # ---- Runs of the program ----

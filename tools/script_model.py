@@ -419,6 +419,11 @@ RUNNING = {
 # ---- Whole scripts ----
 
 
+def text_of(lines):
+    """Returns the bytes of these lines, each with its end."""
+    return b"".join(line + b"\n" for line in lines)
+
+
 def answers(script):
     """Returns the lines of the script's usual answers, without their ends."""
     machine, lines = Machine(), []
