@@ -1,16 +1,15 @@
 //! The faults of runs, in the order in which they are checked, and their texts.
 
-use crate::inputs::{Input, NarrowWriter, broken, text};
+use crate::inputs::{Input, QUANTITIES, broken, text};
 use crate::runs::{Files, copy_of, end_of};
 use bsi_files::{FilesFault, Go, Which, run_files};
+use bsi_plain_streams::NarrowWriter;
 use bsi_text::SourceFault;
 use std::alloc::{AllocError, Global};
 use std::process::Abort;
 use std::sync::Wait;
 use std::test::Fail;
 use std::thread::Threads;
-
-const QUANTITIES: &str = "column,qty,slices,3\n";
 
 // A run ends so, and has written nothing.
 fn ends_early<R: Threads + Wait + AllocGlobal + Abort + Sync>(
@@ -97,6 +96,7 @@ fn narrow_once<R: Threads + Wait + AllocGlobal + Sync>(
         taken: Vec::with_capacity(rt.alloc(), 64)?,
         room,
         fails,
+        flushes: 0,
     };
     let rows = copy_of(rt.alloc(), &[text("qty\n1\n")])?;
     if rows.is_empty() {

@@ -6,7 +6,7 @@ use std::sync::atomic::{AtomicBool, AtomicU64, Ordering};
 use std::thread;
 
 /// The most turns that a held feeder waits.
-const MAX_TURNS: u64 = 10_000_000;
+pub(crate) const MAX_TURNS: u64 = 10_000_000;
 
 // Holds feeder 0 before its first row until feeder 1 is before its second, and feeder 1 before its first until feeder 0
 // is before its first. On one thread, in whatever order, a feeder is late.

@@ -1,85 +1,34 @@
-//! Readers and writers of the tests.
+//! Readers of the tests.
 
-use std::io;
-use std::io::{Read, Write};
+use bsi_plain_streams::{EMPTY, TextReader};
 
-// Gives its text, and then its unit so many times; then it ends, or fails.
-#[derive(Clone, Copy)]
-pub(crate) struct Input {
-    left: &'static [u8],
-    unit: &'static [u8],
-    times: u64,
-    fails: bool,
-}
+pub(crate) type Input = TextReader<'static>;
+
+/// A schema of one column, of numbers below 8.
+pub(crate) const QUANTITIES: &str = "column,qty,slices,3\n";
 
 pub(crate) fn text(left: &'static str) -> Input {
-    Input {
+    TextReader {
         left: left.as_bytes(),
-        unit: b"",
-        times: 0,
-        fails: false,
+        ..EMPTY
     }
 }
 
-// Fails behind the text.
+// Fails after the text.
 pub(crate) fn broken(left: &'static str) -> Input {
-    Input {
+    TextReader {
         left: left.as_bytes(),
-        unit: b"",
-        times: 0,
         fails: true,
+        ..EMPTY
     }
 }
 
-// Has so many units behind the text.
+// Has so many units after the text.
 pub(crate) fn long(left: &'static str, unit: &'static str, times: u64) -> Input {
-    Input {
+    TextReader {
         left: left.as_bytes(),
         unit: unit.as_bytes(),
         times,
-        fails: false,
-    }
-}
-
-impl Read for Input {
-    fn read(&mut self, buf: &mut [u8]) -> io::Result<usize> {
-        if self.left.is_empty() && self.times > 0 {
-            self.times -= 1;
-            self.left = self.unit;
-        }
-        match (self.left.split_first(), buf.first_mut()) {
-            (Some((byte, rest)), Some(place)) => {
-                *place = *byte;
-                self.left = rest;
-                Ok(1)
-            }
-            _ if self.fails => Err(io::Error::from(io::ErrorKind::BrokenPipe)),
-            _ => Ok(0),
-        }
-    }
-}
-
-// Takes `room` bytes, one a call; then it fails, or takes nothing.
-#[derive(Drop)]
-pub(crate) struct NarrowWriter {
-    pub(crate) taken: Vec<u8>,
-    pub(crate) room: usize,
-    pub(crate) fails: bool,
-}
-
-impl Write for NarrowWriter {
-    fn write(&mut self, buf: &[u8]) -> io::Result<usize> {
-        match buf.first() {
-            Some(byte) if self.taken.len() < self.room => {
-                self.taken.push(*byte)?;
-                Ok(1)
-            }
-            _ if self.fails => Err(io::Error::from(io::ErrorKind::BrokenPipe)),
-            _ => Ok(0),
-        }
-    }
-
-    fn flush(&mut self) -> io::Result<()> {
-        Ok(())
+        ..EMPTY
     }
 }

@@ -1,7 +1,7 @@
 //! Whole runs over row files. Each tolerates one refused allocation, and then runs again.
 
-use crate::gates::{Meeting, Patience};
-use crate::inputs::{Input, long, text};
+use crate::gates::{MAX_TURNS, Meeting, Patience};
+use crate::inputs::{Input, QUANTITIES, long, text};
 use bsi_files::{FilesFault, Gate, Go, run_files};
 use bsi_text::SourceFault;
 use std::alloc::{AllocError, Global};
@@ -75,7 +75,19 @@ pub(crate) fn end_of<R: Threads + Wait + AllocGlobal + Sync>(
     ended
 }
 
-const QUANTITIES: &str = "column,qty,slices,3\n";
+// How a run through a gate ends; where memory was refused, how one through another ends, and whether it was this one.
+fn end_with<R: Threads + Wait + AllocGlobal + Sync, G: Gate + Sync>(
+    rt: &R,
+    files: Files<'_>,
+    once: &G,
+    twice: &G,
+) -> Result<(Ended, bool), AllocError> {
+    let ended = end_once(rt, files, once);
+    if wants_memory(&ended) {
+        return Ok((end_once(rt, files, twice)?, true));
+    }
+    Ok((ended?, false))
+}
 
 #[test]
 fn two_feeders(rt: HostRuntime) -> Result<(), Fail> {
@@ -116,12 +128,8 @@ fn two_files_are_fed_side_by_side(rt: HostRuntime) -> Result<(), Fail> {
     };
     let once = Meeting::new();
     let twice = Meeting::new();
-    let first = end_once(&rt, files, &once);
-    let (ended, gate) = if wants_memory(&first) {
-        (end_once(&rt, files, &twice)?, &twice)
-    } else {
-        (first?, &once)
-    };
+    let (ended, is_second) = end_with(&rt, files, &once, &twice)?;
+    let gate = if is_second { &twice } else { &once };
     assert_eq!(&rt; ended.run, Ok(()));
     assert_eq!(&rt;
         ended.output.as_slice(),
@@ -138,14 +146,10 @@ fn the_loader_goes_on_beside_the_feeders(rt: HostRuntime) -> Result<(), Fail> {
         asks: text("count,all\n"),
         rows: &[long("qty\n", "1\n", 3_000)],
     };
-    let once = Patience::new(10_000_000);
-    let twice = Patience::new(10_000_000);
-    let first = end_once(&rt, files, &once);
-    let (ended, gate) = if wants_memory(&first) {
-        (end_once(&rt, files, &twice)?, &twice)
-    } else {
-        (first?, &once)
-    };
+    let once = Patience::new(MAX_TURNS);
+    let twice = Patience::new(MAX_TURNS);
+    let (ended, is_second) = end_with(&rt, files, &once, &twice)?;
+    let gate = if is_second { &twice } else { &once };
     assert_eq!(&rt; ended.run, Ok(()));
     assert_eq!(&rt;
         ended.output.as_slice(),
@@ -164,12 +168,7 @@ fn rows_that_find_a_place_ask_no_gate(rt: HostRuntime) -> Result<(), Fail> {
     };
     let once = Patience::new(0);
     let twice = Patience::new(0);
-    let first = end_once(&rt, files, &once);
-    let ended = if wants_memory(&first) {
-        end_once(&rt, files, &twice)?
-    } else {
-        first?
-    };
+    let (ended, _) = end_with(&rt, files, &once, &twice)?;
     assert_eq!(&rt; ended.run, Ok(()));
     assert_eq!(&rt;
         ended.output.as_slice(),

@@ -1,69 +1,13 @@
 //! How a command line ends, and how often its output is flushed.
 
+use bsi_plain_streams::{EMPTY, NarrowWriter, TextReader};
 use bsi_shell::run_words;
 use std::alloc::{AllocError, Global};
-use std::io;
-use std::io::{Read, Write};
+use std::io::Read;
 use std::rt::Files;
 use std::sync::Wait;
 use std::test::Fail;
 use std::thread::Threads;
-
-// Gives a byte of the text a call. Behind the text it fails, or ends.
-#[derive(Drop)]
-struct TextReader<'a> {
-    text: &'a [u8],
-    fails: bool,
-}
-
-impl<'a> Read for TextReader<'a> {
-    fn read(&mut self, buf: &mut [u8]) -> io::Result<usize> {
-        match (self.text.split_first(), buf.first_mut()) {
-            (Some((byte, rest)), Some(place)) => {
-                *place = *byte;
-                self.text = rest;
-                Ok(1)
-            }
-            _ if self.fails => Err(io::Error::from(io::ErrorKind::BrokenPipe)),
-            _ => Ok(0),
-        }
-    }
-}
-
-// Takes a byte a call until it has `room` no more; then it fails once, or takes nothing once. It counts its flushes.
-#[derive(Drop)]
-struct NarrowWriter {
-    taken: Vec<u8>,
-    room: usize,
-    fails: bool,
-    flushes: u64,
-}
-
-impl Write for NarrowWriter {
-    fn write(&mut self, buf: &[u8]) -> io::Result<usize> {
-        match buf.first() {
-            Some(byte) if self.taken.len() < self.room => {
-                self.taken.push(*byte)?;
-                Ok(1)
-            }
-            _ => {
-                self.room = usize::MAX;
-                if self.fails {
-                    return Err(io::Error::from(io::ErrorKind::BrokenPipe));
-                }
-                Ok(0)
-            }
-        }
-    }
-
-    fn flush(&mut self) -> io::Result<()> {
-        self.flushes = self.flushes.saturating_add(1);
-        if self.fails {
-            return Err(io::Error::from(io::ErrorKind::BrokenPipe));
-        }
-        Ok(())
-    }
-}
 
 // How a command line ends: its status, what it wrote, and how often it flushed its output.
 #[derive(Drop)]
@@ -74,7 +18,7 @@ struct Ended {
     flushes: u64,
 }
 
-// How a command line is run: its words, whether its reader fails behind the text, and how much its writer takes.
+// How a command line is run: its words, whether its reader fails after the text, and how much its writer takes.
 #[derive(Clone, Copy)]
 struct Line<'a> {
     words: &'a str,
@@ -105,8 +49,9 @@ fn end_once<R: AllocGlobal + Files<File = S> + Threads + Wait + Sync, S: Read + 
     };
     let mut faults = Vec::with_capacity(rt.alloc(), 4096)?;
     let reader = TextReader {
-        text: line.text.as_bytes(),
+        left: line.text.as_bytes(),
         fails: line.is_broken,
+        ..EMPTY
     };
     Ok(Ended {
         status: run_words(rt, words, reader, &mut output, &mut faults),
@@ -116,7 +61,7 @@ fn end_once<R: AllocGlobal + Files<File = S> + Threads + Wait + Sync, S: Read + 
     })
 }
 
-// How the line ends; where memory was wanted, how it ends then.
+// How the line ends. Where memory was refused, it is run again.
 fn end_of<R: AllocGlobal + Files<File = S> + Threads + Wait + Sync, S: Read + Drop + Send>(
     rt: &R,
     line: Line<'_>,

@@ -1,57 +1,16 @@
-//! Readers and writers that fail.
+//! Scripts whose readers and writers fail.
 
+use bsi_plain_streams::{EMPTY, NarrowWriter, TextReader};
 use bsi_text::{NoMemory, ScriptFault, run_script};
 use std::alloc::Global;
-use std::io;
-use std::io::{Read, Write};
 use std::test::Fail;
 
-// Gives its text a byte at a time, and then an error.
-#[derive(Drop)]
-pub(crate) struct BrokenReader<'a> {
-    pub(crate) text: &'a [u8],
-}
-
-impl<'a> Read for BrokenReader<'a> {
-    fn read(&mut self, buf: &mut [u8]) -> io::Result<usize> {
-        match (self.text.split_first(), buf.first_mut()) {
-            (Some((byte, rest)), Some(place)) => {
-                *place = *byte;
-                self.text = rest;
-                Ok(1)
-            }
-            _ => Err(io::Error::from(io::ErrorKind::BrokenPipe)),
-        }
-    }
-}
-
-// Takes a byte a call until it has `room` no more; then it fails once, or takes nothing once.
-#[derive(Drop)]
-struct NarrowWriter {
-    taken: Vec<u8>,
-    room: usize,
-    fails: bool,
-}
-
-impl Write for NarrowWriter {
-    fn write(&mut self, buf: &[u8]) -> io::Result<usize> {
-        match buf.first() {
-            Some(byte) if self.taken.len() < self.room => {
-                self.taken.push(*byte)?;
-                Ok(1)
-            }
-            _ => {
-                self.room = usize::MAX;
-                if self.fails {
-                    return Err(io::Error::from(io::ErrorKind::BrokenPipe));
-                }
-                Ok(0)
-            }
-        }
-    }
-
-    fn flush(&mut self) -> io::Result<()> {
-        Ok(())
+// Gives the text, and then fails.
+pub(crate) fn broken(text: &[u8]) -> TextReader<'_> {
+    TextReader {
+        left: text,
+        fails: true,
+        ..EMPTY
     }
 }
 
@@ -69,19 +28,19 @@ const SCRIPT: &str =
 
 const LINES: &str = "ok\nok\nok\naccepted\ncount 0\nloaded 0\ncount 1\nsum 5\n";
 
-// How the script ends whose reader fails behind this text; where memory was wanted, how it ends then.
+// How the script ends whose reader fails after this text. Where memory was refused, it runs again.
 fn read_until(alloc: Global, text: &[u8], lines: &mut Vec<u8>) -> Result<(), ScriptFault> {
     lines.clear();
-    match run_script(alloc, BrokenReader { text }, lines) {
+    match run_script(alloc, broken(text), lines) {
         Err(ScriptFault::NoMemory) => {
             lines.clear();
-            run_script(alloc, BrokenReader { text }, lines)
+            run_script(alloc, broken(text), lines)
         }
         run => run,
     }
 }
 
-// Whether some line says that memory was wanted.
+// Whether some line says that memory was refused.
 fn told_of_memory(lines: &[u8]) -> bool {
     lines
         .windows(10)
@@ -141,6 +100,7 @@ fn a_writer_fails_at_each_call(rt: HostRuntime) -> Result<(), Fail> {
         taken: buffer(rt.alloc())?,
         room: 0,
         fails: false,
+        flushes: 0,
     };
     for room in 0..LINES.len() {
         for fails in [true, false] {

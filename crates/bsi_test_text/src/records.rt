@@ -1,6 +1,6 @@
 //! The records of a text, one after another.
 
-use crate::ends::BrokenReader;
+use crate::ends::broken;
 use crate::row_files::Rows;
 use bsi_text::{RecordSource, SourceFault};
 use csv::ByteRecord;
@@ -47,9 +47,9 @@ fn records_of_any_number_of_fields(rt: HostRuntime) -> Result<(), Fail> {
 
 #[test]
 fn a_reader_that_fails_ends_its_records(rt: HostRuntime) -> Result<(), Fail> {
-    let mut found = drained(rt.alloc(), BrokenReader { text: b"a,b\nc" });
+    let mut found = drained(rt.alloc(), broken(b"a,b\nc"));
     if let (_, _, Some(SourceFault::NoMemory)) = found {
-        found = drained(rt.alloc(), BrokenReader { text: b"a,b\nc" });
+        found = drained(rt.alloc(), broken(b"a,b\nc"));
     }
     assert_eq!(rt; found, (1, 2, Some(SourceFault::Read)));
     Ok(())

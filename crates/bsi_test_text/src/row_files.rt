@@ -1,6 +1,6 @@
 //! The rows of row files.
 
-use crate::ends::BrokenReader;
+use crate::ends::broken;
 use bsi_table::{ColumnSpec, Row, Schema, SchemaError};
 use bsi_text::{NoMemory, RowSource, SourceFault};
 use std::alloc::Global;
@@ -203,14 +203,14 @@ fn a_fault_stays(rt: HostRuntime) -> Result<(), Fail> {
         Err(SourceFault::Read),
         Err(SourceFault::Read),
     ];
-    let mut given = gives_once(rt.alloc(), &schema, BrokenReader { text }, &want, 1);
+    let mut given = gives_once(rt.alloc(), &schema, broken(text), &want, 1);
     if given == Err(SourceFault::NoMemory) {
-        given = gives_once(rt.alloc(), &schema, BrokenReader { text }, &want, 1);
+        given = gives_once(rt.alloc(), &schema, broken(text), &want, 1);
     }
     assert_eq!(rt; given, Ok(true));
-    let mut filled = fills_once(rt.alloc(), &schema, BrokenReader { text }, &want, 1);
+    let mut filled = fills_once(rt.alloc(), &schema, broken(text), &want, 1);
     if filled == Err(SourceFault::NoMemory) {
-        filled = fills_once(rt.alloc(), &schema, BrokenReader { text }, &want, 1);
+        filled = fills_once(rt.alloc(), &schema, broken(text), &want, 1);
     }
     assert_eq!(rt; filled, Ok(true));
     Ok(())
