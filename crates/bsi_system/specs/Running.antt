@@ -1,5 +1,5 @@
 -- What contracts see of a loader, and what its calls may answer.
-use Rattle.std.specs.Prelude.{◌≡◌, ◌≢◌, ℕ, ◌+◌, ◌<◌, ◌≤◌, All, IfSome, IsTrue, List, [], ◌∷◌, ◌++◌, Option, None, Some, Result, Ok, Err, length, map, slice_get, slice_index_or, slice_set}
+use Rattle.std.specs.Prelude.{◌≡◌, ℕ, ◌+◌, ◌<◌, ◌≤◌, All, IfSome, IsTrue, List, [], ◌∷◌, ◌++◌, Option, None, Some, Result, Ok, Err, length, map, slice_get, slice_index_or, slice_set}
 use mathlib.Core.List.{IsPrefix}
 use Rattle.bsi_table.specs.Columns.{fits, Declared}
 use Rattle.bsi_table.specs.Rows.{Entries, FedRow}
@@ -55,6 +55,12 @@ AreAsMany s = length s.takings ≡ length s.system.lanes
 abbrev pub WithinTold : Loading → Type 0
 WithinTold s = (f : ℕ) → IfSome (told s f) (λ sent. IsPrefix (taken s f) sent)
 
+-- all of these
+pub record AlwaysHolds (s : Loading) : Type 0 where
+  pub balanced : Balanced s
+  pub within : WithinTold s
+  pub many : AreAsMany s
+
 -- ---- the beginning
 
 -- nothing was taken, told, published or held
@@ -74,7 +80,7 @@ IsSettled takings f = (taking_at takings f).told ≡ Some (taking_at takings f).
 
 -- the feeder is there, and not settled
 abbrev pub MayLoad : List Taking → ℕ → Type 0
-MayLoad takings f = (f < length takings) × ((taking_at takings f).told ≢ Some (taking_at takings f).taken)
+MayLoad takings f = (f < length takings) × ¬ IsSettled takings f
 
 -- the reply to a load: there is no such feeder; it is settled; no row was seen, and none was told of; the published and
 -- the held rows are as many as the limit; else the row is loaded, or there is no memory
@@ -104,19 +110,23 @@ LoadsOne s f t = (row : Entries) × IsTrue (fits s.system.schema.columns row) ×
 
 -- ---- settling and publishing
 
--- a closing of this system: its lane stands at its number
-abbrev pub IsOf : Sent → System → Type 0
-IsOf closing system = slice_get system.lanes closing.number ≡ Some closing.lane
+-- the lane stands at this number in the system
+abbrev pub IsLaneOf : ℕ → LaneName → System → Type 0
+IsLaneOf number lane system = slice_get system.lanes number ≡ Some lane
 
--- a feeder of this system: its lane stands at its number
+-- a closing of a feeder of this system
+abbrev pub IsOf : Sent → System → Type 0
+IsOf closing system = IsLaneOf closing.number closing.lane system
+
+-- a feeder of this system
 abbrev pub IsFeederOf : Sending → System → Type 0
-IsFeederOf feeder system = slice_get system.lanes feeder.number ≡ Some feeder.lane
+IsFeederOf feeder system = IsLaneOf feeder.number feeder.lane system
 
 -- the closing of the feeder was told, which carried these rows
 abbrev pub settled_as : Loading → ℕ → List Entries → Loading
 settled_as s f sent = record s { takings = slice_set s.takings f (record { taken = taken s f; told = Some sent }) }
 
--- all held rows are published, in the order taken, behind those that were
+-- all held rows are published, in the order taken, after those that were
 abbrev pub published_all : Loading → Loading
 published_all s = record s { published = s.published ++ s.held; held = [] }
 

@@ -1,7 +1,7 @@
 //! The loader: it takes rows out of the feeders' rings, holds them, and publishes them.
 
 ghost use Rattle.std.specs.Prelude.{◌≡◌, ◌≢◌, ◌+◌, ◌≤◌, IfErr, IfOk, OnErr, OnOk, length};
-ghost use Rattle.bsi_system.specs.Running.{published_all, settled_as, AreAsMany, Balanced, IsLoaderReply, IsOf, LoadsOne, WithinTold};
+ghost use Rattle.bsi_system.specs.Running.{published_all, settled_as, AlwaysHolds, IsLoaderReply, IsOf, LoadsOne};
 
 use crate::NoMemory;
 use crate::lanes::{first_of, settle_of, take_of};
@@ -44,16 +44,15 @@ impl<B: Naming> Loader<B> {
         ensures loaded { OnOk result (LoadsOne self.old feeder self.new) }
         ensures kept { OnErr result (self.new ≡ self.old) }
         ensures system { self.new.system ≡ self.old.system }
-        ensures balanced { Balanced self.new }
-        ensures within { WithinTold self.new }
-        ensures many { AreAsMany self.new }
+        ensures always { AlwaysHolds self.new }
     {
         let loaded = self.load_row(feeder);
         self.show();
         loaded
     }
 
-    /// Takes the next row out of a feeder's ring, and holds it. If it is refused, the row stays in the ring.
+    /// Takes the next row out of a feeder's ring, and holds it. If it is refused, the row stays in the ring. It is a call
+    /// of its own, so that `load` can then show what always holds.
     fn load_row(&mut self, feeder: u32) -> Result<(), LoadRefused>
         ensures reply { IsLoaderReply self.old feeder result }
         ensures loaded { OnOk result (LoadsOne self.old feeder self.new) }
@@ -78,9 +77,7 @@ impl<B: Naming> Loader<B> {
             × (closing.number ≢ feeder)) }
         ensures kept { OnErr result (self.new ≡ self.old) }
         ensures system { self.new.system ≡ self.old.system }
-        ensures balanced { Balanced self.new }
-        ensures within { WithinTold self.new }
-        ensures many { AreAsMany self.new }
+        ensures always { AlwaysHolds self.new }
     {
         if closing.feeder() != feeder {
             self.show();
@@ -91,7 +88,8 @@ impl<B: Naming> Loader<B> {
         Ok(())
     }
 
-    /// Learns of a closing that is this feeder's.
+    /// Learns of a closing that is this feeder's. It is a call of its own, so that `settle` can then show what always
+    /// holds.
     fn settle_lane(&mut self, feeder: u32, closing: Closing)
         requires closing { IsOf closing self.old.system }
         requires feeder { closing.number ≡ feeder }
@@ -107,16 +105,14 @@ impl<B: Naming> Loader<B> {
         ensures ok { OnOk result (self.new ≡ published_all self.old) }
         ensures err { OnErr result (self.new ≡ self.old) }
         ensures system { self.new.system ≡ self.old.system }
-        ensures balanced { Balanced self.new }
-        ensures within { WithinTold self.new }
-        ensures many { AreAsMany self.new }
+        ensures always { AlwaysHolds self.new }
     {
         let published = self.publish_held(rt);
         self.show();
         published
     }
 
-    /// Publishes the held rows as `publish` does.
+    /// Publishes the held rows. It is a call of its own, so that `publish` can then show what always holds.
     fn publish_held<R: Wait>(&mut self, rt: &R) -> Result<u64, NoMemory>
         ensures len { IfOk result (λ len. len ≡ length self.new.published) }
         ensures ok { OnOk result (self.new ≡ published_all self.old) }
@@ -130,9 +126,7 @@ impl<B: Naming> Loader<B> {
         ensures published { result.0 ≡ length self.now.published }
         ensures held { result.1 ≡ length self.now.held }
         ensures limit { length self.now.published + length self.now.held ≤ self.now.system.limit }
-        ensures balanced { Balanced self.now }
-        ensures within { WithinTold self.now }
-        ensures many { AreAsMany self.now }
+        ensures always { AlwaysHolds self.now }
     {
         self.show();
         self.publisher.counts()
@@ -142,9 +136,7 @@ impl<B: Naming> Loader<B> {
     pub fn tell(&mut self) -> Told<B>
         ensures told { result ≡ self.old.published }
         ensures same { self.new ≡ self.old }
-        ensures balanced { Balanced self.new }
-        ensures within { WithinTold self.new }
-        ensures many { AreAsMany self.new }
+        ensures always { AlwaysHolds self.new }
     {
         self.show();
         self.publisher.tell()
@@ -167,9 +159,7 @@ impl<B: Naming> Loader<B> {
 
     /// Does nothing when the program runs. Its clauses tell a proof what always holds of the loader.
     fn show(&self)
-        ensures balanced { Balanced self.now }
-        ensures within { WithinTold self.now }
-        ensures many { AreAsMany self.now }
+        ensures { AlwaysHolds self.now }
     {
         // Reading a field makes the loader's invariant known to the proof.
         let _ = &self.lanes;

@@ -64,6 +64,7 @@ fn find_analysts<B: Naming>(
     ensures { OnOk result (analysts.new.items
         ≡ analysts.old.items ++ replicate count loader.now.published) }
 {
+    // The proof counts the places by this variable.
     'analysts: for found in 0..count {
         analysts.push(loader.analyst()?)?;
     }

@@ -1,6 +1,8 @@
 -- What is published of a system, and what is held back.
-use Rattle.std.specs.Prelude.{◌≡◌, ℕ, ◌+◌, List, [], ◌∷◌, ◌++◌, length}
+use Rattle.std.specs.Prelude.{◌≡◌, ℕ, ◌+◌, List, [], ◌∷◌, ◌++◌, drop, length}
 use mathlib.Core.List.{IsPrefix}
+use Rattle.left_right.specs.declared.Absorb.{Ghosts}
+use Rattle.left_right.specs.declared.writer.Writer.{Writer}
 use Rattle.logbook.specs.Pages.{Book}
 use Rattle.bsi_table.specs.Rows.{Entries}
 use Rattle.bsi_table.specs.Table.{no_rows, with_rows, Table}
@@ -23,6 +25,10 @@ pub record Stands (book : Book) (about : Table) (e : Edition) : Type 0 where
   pub list_is : e.known.list ≡ e.table.rows
   pub about_is : emptied e.table ≡ about
 
+-- the operations of a writing end that readers do not see yet
+abbrev pub pending : {T O V P A S : Type 0} {g : Ghosts T O S} → Writer T O V P A S g → List O
+pending w = drop w.behind w.log.items
+
 -- the rows of pending operations, in their order
 abbrev pub rows_of : List Operation → Rows
 rows_of [] = []
@@ -42,7 +48,7 @@ written shown pending stage = record { table = shown.table; held = rows_of pendi
 abbrev pub with_held : Written → ℕ → Entries → Written
 with_held w feeder row = record w { held = w.held ++ (feeder, row) ∷ [] }
 
--- all held rows are published, in their order, behind those that were
+-- all held rows are published, in their order, after those that were
 abbrev pub published_all : Written → Written
 published_all w = record { table = record w.table { rows = w.table.rows ++ w.held }; held = [] }
 

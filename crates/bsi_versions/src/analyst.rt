@@ -59,11 +59,10 @@ impl<B: Naming> Analyst<B> {
         ensures known { IsPrefix self.old self.new }
         ensures kept { OnErr result (self.new ≡ self.old) }
     {
-        let Some((reply, known)) = replace_with(&mut self.reader, query, |reader, query| {
-            read(reader, query)
-        }) else {
+        let Some((reply, known)) = replace_with(&mut self.reader, query, read::<B>) else {
             return Err(AnalystRefused::Gone);
         };
+        // The proof takes from this that the longer of the two lists begins with the shorter.
         self.known.meet(&known);
         if known.len() < self.known.len() {
             return Err(AnalystRefused::Gone);
@@ -80,6 +79,7 @@ impl<B: Naming> Analyst<B> {
         ensures told { IsPrefix told self.new }
     {
         let told = told.into_known();
+        // The proof takes from this that the longer of the two lists begins with the shorter.
         self.known.meet(&told);
         if self.known.len() < told.len() {
             self.known = told;

@@ -1,9 +1,9 @@
 //! The two copies of the table: the operations that wait for them, and the step that shows them.
 
-ghost use Rattle.std.specs.Prelude.{◌≡◌, ◌<◌, ◌≤◌, ◌++◌, ◌∷◌, [], ◌⊎◌, OnErr, OnOk, drop, fold, length, vec_capacity, vec_len};
+ghost use Rattle.std.specs.Prelude.{◌≡◌, ◌<◌, ◌≤◌, ◌++◌, ◌∷◌, [], ◌⊎◌, OnErr, OnOk, fold, length, vec_capacity, vec_len};
 ghost use mathlib.Core.List.{IsPrefix};
 ghost use Rattle.bsi_versions.specs.Pages.{with_list};
-ghost use Rattle.bsi_versions.specs.Editions.{after, rows_of, HasStaged, Stands};
+ghost use Rattle.bsi_versions.specs.Editions.{after, pending, rows_of, HasStaged, Stands};
 ghost use Rattle.bsi_versions.specs.declared.operation.Operation.TheVariants.{Mark};
 
 use crate::history::{History, Page};
@@ -24,10 +24,10 @@ pub(crate) type Copies<B> = Writer<Version, Operation, (), Covers<B>>;
 struct Next;
 
 impl<B: Naming> Plain<Copies<B>, Page, u64> for Next {
-    ghost use Rattle.std.specs.Prelude.{◌++◌, None, drop};
-    ghost use Rattle.bsi_versions.specs.Editions.{rows_of};
+    ghost use Rattle.std.specs.Prelude.{◌++◌, None};
+    ghost use Rattle.bsi_versions.specs.Editions.{pending, rows_of};
 
-    ghost ask = { λ w. w.desk.shown.value.table.rows ++ rows_of (drop w.behind w.log.items) };
+    ghost ask = { λ w. w.desk.shown.value.table.rows ++ rows_of (pending w) };
 
     ghost state = { λ w. None };
 }
@@ -39,8 +39,8 @@ pub(crate) fn make_place<B: Naming>(
 ) -> Result<(), NoMemory>
     requires room { 64 ≤ vec_capacity stage.old }
     ensures desk { copies.new.desk ≡ copies.old.desk }
-    ensures staged { HasStaged (drop copies.old.behind copies.old.log.items) stage.old.items
-        (drop copies.new.behind copies.new.log.items) stage.new.items }
+    ensures staged { HasStaged (pending copies.old) stage.old.items
+        (pending copies.new) stage.new.items }
     ensures room { 64 ≤ vec_capacity stage.new }
     ensures ok { OnOk result (vec_len stage.new < 64) }
 {
@@ -57,8 +57,8 @@ pub(crate) fn empty_stage<B: Naming>(
 ) -> Result<(), NoMemory>
     requires room { 64 ≤ vec_capacity stage.old }
     ensures desk { copies.new.desk ≡ copies.old.desk }
-    ensures staged { HasStaged (drop copies.old.behind copies.old.log.items) stage.old.items
-        (drop copies.new.behind copies.new.log.items) stage.new.items }
+    ensures staged { HasStaged (pending copies.old) stage.old.items
+        (pending copies.new) stage.new.items }
     ensures room { 64 ≤ vec_capacity stage.new }
     ensures ok { OnOk result (stage.new.items ≡ []) }
 {
@@ -76,8 +76,8 @@ fn append_stage<B: Naming>(
 ) -> Result<(), NoMemory>
     requires room { 64 ≤ vec_capacity stage.old }
     ensures desk { copies.new.desk ≡ copies.old.desk }
-    ensures staged { HasStaged (drop copies.old.behind copies.old.log.items) stage.old.items
-        (drop copies.new.behind copies.new.log.items) stage.new.items }
+    ensures staged { HasStaged (pending copies.old) stage.old.items
+        (pending copies.new) stage.new.items }
     ensures room { 64 ≤ vec_capacity stage.new }
     ensures ok { OnOk result (stage.new.items ≡ []) }
     ensures len { OnOk result (vec_len stage.new ≡ 0) }
@@ -94,27 +94,25 @@ fn append_stage<B: Naming>(
     }
 }
 
-/// Adds to the history the list that is to be shown, and appends its mark behind the pending rows.
+/// Adds to the history the list that is to be shown, and appends its mark after the pending rows.
 pub(crate) fn mark<B: Naming>(
     copies: &mut Copies<B>,
     history: &mut History,
     len: u64,
 ) -> Result<(), NoMemory>
     requires begins { IsPrefix history.old.list (copies.old.desk.shown.value.table.rows
-        ++ rows_of (drop copies.old.behind copies.old.log.items)) }
+        ++ rows_of (pending copies.old)) }
     requires len { len ≡ length (copies.old.desk.shown.value.table.rows
-        ++ rows_of (drop copies.old.behind copies.old.log.items)) }
+        ++ rows_of (pending copies.old)) }
     ensures desk { copies.new.desk ≡ copies.old.desk }
     ensures history { (history.new ≡ history.old)
         ⊎ (history.new ≡ with_list history.old (copies.old.desk.shown.value.table.rows
-        ++ rows_of (drop copies.old.behind copies.old.log.items))) }
+        ++ rows_of (pending copies.old))) }
     ensures list { OnOk result (history.new
         ≡ with_list history.old (copies.old.desk.shown.value.table.rows
-        ++ rows_of (drop copies.old.behind copies.old.log.items))) }
-    ensures ok { OnOk result (drop copies.new.behind copies.new.log.items
-        ≡ drop copies.old.behind copies.old.log.items ++ Mark history.new ∷ []) }
-    ensures err { OnErr result (drop copies.new.behind copies.new.log.items
-        ≡ drop copies.old.behind copies.old.log.items) }
+        ++ rows_of (pending copies.old))) }
+    ensures ok { OnOk result (pending copies.new ≡ pending copies.old ++ Mark history.new ∷ []) }
+    ensures err { OnErr result (pending copies.new ≡ pending copies.old) }
 {
     if !history.add::<Copies<B>, Next>(copies, len) {
         return Err(NoMemory);
@@ -127,13 +125,12 @@ pub(crate) fn mark<B: Naming>(
 /// Shows at one step the copy that has every pending operation.
 pub(crate) fn show<B: Naming, R: Wait>(copies: &mut Copies<B>, rt: &R) -> Result<(), NoMemory>
     requires { Stands B.book B.about
-        (fold after copies.old.desk.shown.value (drop copies.old.behind copies.old.log.items)) }
+        (fold after copies.old.desk.shown.value (pending copies.old)) }
     ensures shown { OnOk result (copies.new.desk.shown.value
-        ≡ fold after copies.old.desk.shown.value (drop copies.old.behind copies.old.log.items)) }
-    ensures none { OnOk result (drop copies.new.behind copies.new.log.items ≡ []) }
+        ≡ fold after copies.old.desk.shown.value (pending copies.old)) }
+    ensures none { OnOk result (pending copies.new ≡ []) }
     ensures kept { OnErr result (copies.new.desk.shown.value ≡ copies.old.desk.shown.value) }
-    ensures pending { OnErr result (drop copies.new.behind copies.new.log.items
-        ≡ drop copies.old.behind copies.old.log.items) }
+    ensures pending { OnErr result (pending copies.new ≡ pending copies.old) }
 {
     replace_with(copies, rt, turn::<B, R>)
 }
@@ -141,13 +138,12 @@ pub(crate) fn show<B: Naming, R: Wait>(copies: &mut Copies<B>, rt: &R) -> Result
 /// Shows the copy that has every pending operation, of copies that are handed over, and hands them back.
 fn turn<B: Naming, R: Wait>(copies: Copies<B>, rt: &R) -> (Copies<B>, Result<(), NoMemory>)
     requires { Stands B.book B.about
-        (fold after copies.desk.shown.value (drop copies.behind copies.log.items)) }
+        (fold after copies.desk.shown.value (pending copies)) }
     ensures shown { OnOk result.1 (result.0.desk.shown.value
-        ≡ fold after copies.desk.shown.value (drop copies.behind copies.log.items)) }
-    ensures none { OnOk result.1 (drop result.0.behind result.0.log.items ≡ []) }
+        ≡ fold after copies.desk.shown.value (pending copies)) }
+    ensures none { OnOk result.1 (pending result.0 ≡ []) }
     ensures kept { OnErr result.1 (result.0.desk.shown.value ≡ copies.desk.shown.value) }
-    ensures pending { OnErr result.1 (drop result.0.behind result.0.log.items
-        ≡ drop copies.behind copies.log.items) }
+    ensures pending { OnErr result.1 (pending result.0 ≡ pending copies) }
 {
     copies.publish_as::<Covers<B>, R>(rt)
 }

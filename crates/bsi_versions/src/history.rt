@@ -88,7 +88,7 @@ impl Reached {
         }
     }
 
-    /// Shows that, of two lists of one history, the longer begins with the shorter.
+    /// Shows that, of two lists of one history, the longer begins with the shorter. It changes neither.
     pub(crate) fn meet(&self, other: &Reached)
         requires { other.now.book ≡ self.now.book }
         ensures this { length self.now.list ≤ length other.now.list →

@@ -26,16 +26,15 @@ pub struct Publisher<B: Naming> {
 
 // Clauses see the table that is published, and the rows that are held.
 impl<B: Naming> Model for Publisher<B> {
-    ghost use Rattle.std.specs.Prelude.{◌≤◌, drop, vec_capacity};
-    ghost use Rattle.bsi_versions.specs.Editions.{written, IsWriting, Written};
+    ghost use Rattle.std.specs.Prelude.{◌≤◌, vec_capacity};
+    ghost use Rattle.bsi_versions.specs.Editions.{pending, written, IsWriting, Written};
 
     ghost Value = { Written };
 
-    ghost view = { λ p. written p.copies.desk.shown.value (drop p.copies.behind p.copies.log.items)
-        p.stage.items };
+    ghost view = { λ p. written p.copies.desk.shown.value (pending p.copies) p.stage.items };
 
-    ghost invariant = { λ p. IsWriting B.book B.about p.copies.desk.shown.value
-        (drop p.copies.behind p.copies.log.items) p.stage.items p.history p.free
+    ghost invariant = { λ p. IsWriting B.book B.about p.copies.desk.shown.value (pending p.copies)
+        p.stage.items p.history p.free
         × (64 ≤ vec_capacity p.stage) };
 }
 
