@@ -1,6 +1,7 @@
 -- What columns of tests are.
-use Rattle.std.specs.Prelude.{ℕ, ◌-◌, ◌*◌, ◌%◌, ◌^◌, Option, None, Some, reverse, nat_eq, if◌then◌else◌}
+use Rattle.std.specs.Prelude.{◌≡◌, ◌≤◌, List, ℕ, ◌-◌, ◌*◌, ◌%◌, ◌^◌, Option, None, Some, reverse, nat_eq, if◌then◌else◌}
 use Rattle.bsi_columns.specs.AnyRows.{AnyForm, slices_of, equality_under, range_under}
+use Rattle.bsi_digits.specs.Refusal.{refusal}
 use Rattle.bsi_plain.specs.declared.making.Form.{Form}
 use Rattle.bsi_plain.specs.declared.making.Form.TheVariants.{Slices, Equality, Range}
 use Rattle.bsi_plain.specs.declared.making.Wide.{Wide}
@@ -10,6 +11,20 @@ abbrev pub column_form : Form → Wide → AnyForm
 column_form Slices wide = slices_of wide.width
 column_form Equality wide = equality_under (reverse wide.bases.now)
 column_form Range wide = range_under (reverse wide.bases.now)
+
+-- a column can have so many slices
+abbrev pub IsWidth : ℕ → Type 0
+IsWidth width = (1 ≤ width) × (width ≤ 63)
+
+-- a list is one of bases, as written
+abbrev pub AreBases : List ℕ → Type 0
+AreBases list = refusal list ≡ None
+
+-- there is a column of the form so wide
+abbrev pub IsWide : Form → Wide → Type 0
+IsWide Slices wide = IsWidth wide.width
+IsWide Equality wide = AreBases wide.bases.now
+IsWide Range wide = AreBases wide.bases.now
 
 -- of seven rows one is null, one has the least number, one the greatest below the size, and four have numbers far
 -- apart: the row times 2^64 over the golden ratio, in 64 binary places, less as many sizes as it has

@@ -1,10 +1,10 @@
 //! Columns of every form as the tests make them, and what the tests ask of them. A refused allocation is tried again.
 
-ghost use Rattle.std.specs.Prelude.{◌≡◌, ◌↔◌, ◌<◌, ◌++◌, ◌∷◌, [], reverse, length, map, false, slice_index_or, IsTrue, IfOk, OnOk, OnErr};
+ghost use Rattle.std.specs.Prelude.{◌≡◌, ◌↔◌, ◌<◌, ◌++◌, ◌∷◌, [], reverse, length, map, false, slice_index_or, IsTrue, All, IfOk, OnOk, OnErr, IsOkUnless, ◌^◌, ◌+◌, ◌≤◌};
 ghost use Rattle.std.specs.List.{range_with_len};
 ghost use Rattle.bsi_columns.specs.AnyRows.{any_entries, any_form};
 ghost use Rattle.bsi_columns.specs.Rows.{number_or_zero, selects};
-ghost use Rattle.bsi_plain.specs.Making.{column_form, mixed_entry};
+ghost use Rattle.bsi_plain.specs.Making.{column_form, mixed_entry, AreBases, IsWidth, IsWide};
 
 use crate::NoMemory;
 use bsi_bits::Bits;
@@ -58,7 +58,8 @@ impl From<NoMemory> for MakingError {
 
 /// Makes bases of a list as it is written, most significant first, in one call.
 fn bases_once(alloc: Global, list: &[u32]) -> Result<Bases, MakingError>
-    ensures { IfOk result (λ bases. bases ≡ reverse list.now) }
+    ensures bases { IfOk result (λ bases. bases ≡ reverse list.now) }
+    ensures err { AreBases list.now → IsOkUnless result MakingError.NoMemory }
 {
     let written = Vec::from_slice(alloc, list)?;
     Bases::new(written).map_err(|_| MakingError::BadWidth)
@@ -66,7 +67,8 @@ fn bases_once(alloc: Global, list: &[u32]) -> Result<Bases, MakingError>
 
 /// Makes bases of a list as it is written, most significant first.
 pub fn bases(alloc: Global, list: &[u32]) -> Result<Bases, MakingError>
-    ensures { IfOk result (λ bases. bases ≡ reverse list.now) }
+    ensures bases { IfOk result (λ bases. bases ≡ reverse list.now) }
+    ensures err { AreBases list.now → IsOkUnless result MakingError.NoMemory }
 {
     match bases_once(alloc, list) {
         Err(MakingError::NoMemory) => bases_once(alloc, list),
@@ -78,6 +80,7 @@ pub fn bases(alloc: Global, list: &[u32]) -> Result<Bases, MakingError>
 pub fn no_slices(alloc: Global, width: u32) -> Result<Slices, MakingError>
     ensures entries { IfOk result (λ column. column.entries ≡ []) }
     ensures width { IfOk result (λ column. column.width ≡ width) }
+    ensures err { IsWidth width → IsOkUnless result MakingError.NoMemory }
 {
     if width == 0 || width > 63 {
         return Err(MakingError::BadWidth);
@@ -92,6 +95,7 @@ pub fn no_slices(alloc: Global, width: u32) -> Result<Slices, MakingError>
 pub fn no_digits<E: Encoding>(alloc: Global, list: &[u32]) -> Result<Decomposed<E>, MakingError>
     ensures entries { IfOk result (λ column. column.entries ≡ []) }
     ensures bases { IfOk result (λ column. column.bases ≡ reverse list.now) }
+    ensures err { AreBases list.now → IsOkUnless result MakingError.NoMemory }
 {
     match Decomposed::<E>::new(alloc, bases(alloc, list)?) {
         Err(_) => Ok(Decomposed::<E>::new(alloc, bases(alloc, list)?)?),
@@ -103,6 +107,7 @@ pub fn no_digits<E: Encoding>(alloc: Global, list: &[u32]) -> Result<Decomposed<
 pub fn no_rows(alloc: Global, form: Form, wide: Wide) -> Result<AnyColumn, MakingError>
     ensures entries { IfOk result (λ column. any_entries column ≡ []) }
     ensures form { IfOk result (λ column. any_form column ≡ column_form form wide.entry) }
+    ensures err { IsWide form wide.entry → IsOkUnless result MakingError.NoMemory }
 {
     match form {
         Form::Slices => Ok(AnyColumn::Slices(no_slices(alloc, wide.width)?)),
@@ -116,6 +121,9 @@ fn push<C: Column>(column: &mut C, entry: Option<u64>) -> Result<(), MakingError
     ensures pushed { OnOk result (C.entries column.new ≡ C.entries column.old ++ entry ∷ []) }
     ensures form { C.form_of column.new ≡ C.form_of column.old }
     ensures kept { OnErr result (C.entries column.new ≡ C.entries column.old) }
+    ensures err { length (C.entries column.old) < 2 ^ 32
+        → number_or_zero entry < C.size_of (C.form_of column.old)
+        → IsOkUnless result MakingError.NoMemory }
 {
     let row = column.len();
     if row == 1 << 32 || entry.unwrap_or(0) >= column.size() {
@@ -132,6 +140,9 @@ fn push<C: Column>(column: &mut C, entry: Option<u64>) -> Result<(), MakingError
 pub fn append<C: Column>(column: &mut C, entries: &[Option<u64>]) -> Result<(), MakingError>
     ensures entries { OnOk result (C.entries column.new ≡ C.entries column.old ++ entries.now) }
     ensures form { C.form_of column.new ≡ C.form_of column.old }
+    ensures err { length (C.entries column.old) + length entries.now ≤ 2 ^ 32
+        → All (λ e. number_or_zero e < C.size_of (C.form_of column.old)) entries.now
+        → IsOkUnless result MakingError.NoMemory }
 {
     for entry in entries {
         push(column, *entry)?;
@@ -159,6 +170,8 @@ pub fn filled<C: Column>(mut column: C, rows: u64) -> Result<C, MakingError>
     ensures entries { IfOk result (λ filled. C.entries filled ≡ C.entries column
         ++ map (mixed_entry (C.size_of (C.form_of column))) (range_with_len 0 rows)) }
     ensures form { IfOk result (λ filled. C.form_of filled ≡ C.form_of column) }
+    ensures err { length (C.entries column) + rows ≤ 2 ^ 32
+        → IsOkUnless result MakingError.NoMemory }
 {
     let size = column.size();
     for row in 0..rows {
