@@ -1,7 +1,7 @@
 -- The columns that a schema declares, and the rows that fit them.
 use Rattle.std.specs.Prelude.{ℕ, ◌^◌, ◌≤◌, Bool, true, false, ◌&&◌, ◌||◌, List, [], ◌∷◌, ◌++◌, length, position, All, Option, Some, None, reverse, slice_index_or, String, string_bytes, ℤ, pos, ◌+ℤ◌, ◌≤ℤ◌, int_le, int_lt, IsTrue}
 use Rattle.std.specs.Str.{bytes_eq}
-use Rattle.bsi_digits.specs.Digits.{size_of, IsBaseList}
+use Rattle.bsi_digits.specs.Digits.{product, IsBaseList}
 use Rattle.bsi_schema.specs.Names.{is_name}
 use Rattle.bsi_schema.specs.declared.form.ColumnSpec.{ColumnSpec}
 use Rattle.bsi_schema.specs.declared.form.ColumnSpec.TheVariants.{Slices as spec_slices, Equality as spec_equality, Range as spec_range}
@@ -12,8 +12,8 @@ use Rattle.bsi_schema.specs.declared.form.Kind.{Kind}
 -- how many numbers a column of this form tells apart
 abbrev pub size_in : Form → ℕ
 size_in (Slices w) = 2 ^ w
-size_in (Equality bs) = size_of bs
-size_in (Range bs) = size_of bs
+size_in (Equality bs) = product bs
+size_in (Range bs) = product bs
 
 -- 1 to 63 slices, or a list of bases
 abbrev pub IsForm : Form → Type 0
