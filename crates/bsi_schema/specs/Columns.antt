@@ -86,10 +86,14 @@ Entries = List (Option ℤ)
 abbrev pub entry_at : Entries → ℕ → Option ℤ
 entry_at row c = slice_index_or row c None
 
+-- a null, or a number from the least up, as many as the size
+abbrev pub is_between : ℤ → ℕ → Option ℤ → Bool
+is_between least size None = true
+is_between least size (Some x) = int_le least x && int_lt x (least +ℤ pos size)
+
 -- a null, or a number from the offset up, as many as the column tells apart
 abbrev pub is_taken_by : NamedColumn → Option ℤ → Bool
-is_taken_by column None = true
-is_taken_by column (Some x) = int_le column.offset x && int_lt x (column.offset +ℤ pos (size_in column.form))
+is_taken_by column entry = is_between column.offset (size_in column.form) entry
 
 -- a row fits: it has one entry for each column, and the column takes it
 abbrev pub fits : List NamedColumn → List (Option ℤ) → Bool
