@@ -17,7 +17,7 @@ at_most_from low digit constant = nat_lt digit constant || nat_eq digit constant
 abbrev pub count_where : (ℕ → Bool) → List Bool → List ℕ → ℕ
 count_where p found digits = count_by (λ b. b) (zip2 (λ f digit. f && p digit) found digits)
 
--- the row of rank k among the rows of a found set, in order of their digits, has this digit, and this rank among the rows
+-- of the rows of a found set, in order of their digits, the row of rank k has this digit, and this rank among the rows
 -- that have it
 pub record IsRankedDigit (k : ℕ) (found : List Bool) (digits : List ℕ) (ranked : RankedDigit) : Type 0 where
   pub rank_is : k ≡ count_where (λ v. nat_lt v ranked.digit) found digits + ranked.rank
