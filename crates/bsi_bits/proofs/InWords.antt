@@ -89,7 +89,7 @@ count_pairs_in IsFit word_of bit bitwise less bits others words other_words pack
     fits IsFit word_of bit bitwise fit less
     ∙ ap₂ (λ fs bs. count_by (λ b. b) (zip2 bit fs bs)) (sym (some_bits_are bits words packed is start end forward within)) (sym (some_bits_are others other_words other_packed other_is start end forward other_within))
 
--- the items that are found in two stretches, one behind the other
+-- the items that are found in two stretches, one after the other
 pub items_where_true-append : {X : Type 0} (found : List Bool) (items : List X) (others : List Bool) (rest : List X) → length found ≡ length items
     → items_where_true (found ++ others) (items ++ rest) ≡ items_where_true found items ++ items_where_true others rest
 items_where_true-append [] [] others rest same = refl

@@ -12,7 +12,7 @@ use Rattle.bsi_bits.specs.Packed.{bit_of, bits_of, IsPacked}
 use Rattle.bsi_bits.proofs.Reading.{same_bits, bits_of_more}
 use Rattle.bsi_bits.proofs.Places.{bit_past, bit_in_written, bit_in_other, bit_before, bit_in_last}
 
--- the new words have the bit at place n, the old bits before it and nothing behind it
+-- the new words have the bit at place n, the old bits before it and nothing after it
 pub record Pushes (n : ℕ) (bit : Bool) (old new : List ℕ) : Type 0 where
   pub few : length new ≡ (n + 64) / 64
   pub kept : (i : ℕ) → i < n → bit_of new i ≡ bit_of old i

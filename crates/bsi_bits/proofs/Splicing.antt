@@ -177,7 +177,7 @@ module _ (n count word : ℕ) (words : List ℕ) (few : count ≤ 64) (clear : w
       ];
     }
 
-    -- and the first ones of a word behind it
+    -- and the first ones of a word after it
     pub splices_over : 64 < n % 64 + count → Splices n count word words (in_last ++ (word / 2 ^ (64 - n % 64)) ∷ [])
     splices_over over =
         let rest = word / 2 ^ (64 - n % 64) in

@@ -1,5 +1,5 @@
 -- What a contract sees of a 'Bits'.
-use Rattle.std.specs.Prelude.{ℕ, ◌-◌, ◌*◌, Bool, false, List, length, filter, slice_index_or, not, ◌&&◌, if◌then◌else◌}
+use Rattle.std.specs.Prelude.{ℕ, ◌+◌, ◌-◌, ◌*◌, ◌/◌, Bool, false, List, length, filter, slice_index_or, not, ◌&&◌, if◌then◌else◌}
 use Rattle.std.specs.List.{range_with_len}
 use Rattle.std.specs.Simd.Lanes.{chunk}
 
@@ -19,6 +19,10 @@ without a b = a && not b
 -- the places of the bits that are set, rising
 abbrev pub set_places : List Bool → List ℕ
 set_places bits = filter (λ i. slice_index_or bits i false) (range_with_len 0 (length bits))
+
+-- how many words hold n bits
+abbrev pub word_count : ℕ → ℕ
+word_count n = (n + 63) / 64
 
 -- of items that stand 64 to a word, those in the words from `start` on and before `end`
 abbrev pub in_words : {X : Type 0} → ℕ → ℕ → List X → List X

@@ -148,7 +148,7 @@ impl Bitmaps {
     }
 }
 
-/// Returns for how many more bits to make room behind `len` bits if `more` are needed: as many as there are bits, so
+/// Returns for how many more bits to make room after `len` bits if `more` are needed: as many as there are bits, so
 /// that they double, or the least room if that is more. There are never more than 2^32 in all.
 pub fn room_to_make(len: u64, more: u64) -> u64
     requires { len + more ≤ 2 ^ 32 }

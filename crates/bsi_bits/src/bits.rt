@@ -1,7 +1,7 @@
 //! The packed vector of bits.
 
-ghost use Rattle.std.specs.Prelude.{◌≡◌, ◌↔◌, ℕ, ◌+◌, ◌*◌, ◌/◌, ◌%◌, ◌^◌, ◌≤◌, ◌<◌, ◌&&◌, ◌||◌, Some, [], ◌∷◌, ◌++◌, length, nat_lt, slice_get, slice_index_or, false, replicate, IsTrue, IsOk, IfOk, OnOk, OnErr};
-ghost use Rattle.bsi_bits.specs.BitList.{set_places};
+ghost use Rattle.std.specs.Prelude.{◌≡◌, ◌↔◌, ℕ, ◌+◌, ◌^◌, ◌≤◌, ◌<◌, Some, [], ◌∷◌, ◌++◌, length, nat_lt, slice_get, slice_index_or, false, replicate, IsTrue, IsOk, IfOk, OnOk, OnErr};
+ghost use Rattle.bsi_bits.specs.BitList.{set_places, word_count};
 ghost use Rattle.bsi_bits.specs.Packed.{bit_of, bits_of, IsPacked};
 
 use crate::NoMemory;
@@ -61,7 +61,7 @@ impl Bits {
     /// last bit.
     pub fn from_words(mut words: Vec<u64>, n: u64) -> Bits
         requires within { n ≤ 2 ^ 32 }
-        requires few { length words.items ≡ (n + 63) / 64 }
+        requires few { length words.items ≡ word_count n }
         ensures { result.bits ≡ bits_of n words.items }
     {
         trim(&mut words, n);
@@ -70,7 +70,7 @@ impl Bits {
 
     /// Consumes the vector and returns its words, as `words` shows them.
     pub fn into_words(self) -> Vec<u64>
-        ensures few { length result.items ≡ (length self.bits + 63) / 64 }
+        ensures few { length result.items ≡ word_count (length self.bits) }
         ensures places { (i : ℕ) → bit_of result.items i ≡ slice_index_or self.bits i false }
     {
         let Bits { words, len: _ } = self;
@@ -114,7 +114,7 @@ impl Bits {
     /// Returns the words: bit `i` is binary place `i % 64` of word `i / 64`. They are as few as hold the bits, and the
     /// places past the last bit are 0.
     pub fn words(&self) -> &[u64]
-        ensures few { length result.now ≡ (length self.now.bits + 63) / 64 }
+        ensures few { length result.now ≡ word_count (length self.now.bits) }
         ensures places { (i : ℕ) → bit_of result.now i ≡ slice_index_or self.now.bits i false }
     {
         &self.words

@@ -2,7 +2,7 @@
 //!
 //! The slices of one call have the same length. No kernel allocates memory, and each passes over its words once.
 
-ghost use Rattle.std.specs.Prelude.{◌≡◌, ◌+◌, ◌*◌, ◌^◌, ◌≤◌, ◌<◌, length, map, sum_by, bit_and, bit_or, bit_xor, count_ones};
+ghost use Rattle.std.specs.Prelude.{◌≡◌, ◌*◌, ◌^◌, ◌≤◌, ◌<◌, length, map, sum_by, bit_and, bit_or, bit_xor, count_ones};
 ghost use Rattle.std.specs.Int.{bit_not, w64};
 ghost use Rattle.std.specs.Simd.Lanes.{zip2};
 

@@ -1,12 +1,13 @@
 //! Writes of bits and words at the end of packed words.
 
-ghost use Rattle.std.specs.Prelude.{◌≡◌, ℕ, ◌+◌, ◌*◌, ◌/◌, ◌%◌, ◌^◌, ◌≤◌, ◌<◌, [], ◌∷◌, ◌++◌, length, slice_index, vec_len, vec_capacity};
+ghost use Rattle.std.specs.Prelude.{◌≡◌, ℕ, ◌+◌, ◌*◌, ◌%◌, ◌^◌, ◌≤◌, ◌<◌, [], ◌∷◌, ◌++◌, length, slice_index, vec_len, vec_capacity};
+ghost use Rattle.bsi_bits.specs.BitList.{word_count};
 ghost use Rattle.bsi_bits.specs.Packed.{bits_of, IsPacked};
 
 /// Clears the places past the first `n` bits.
 pub fn trim(words: &mut Vec<u64>, n: u64)
     requires within { n ≤ 2 ^ 32 }
-    requires few { length words.old.items ≡ (n + 63) / 64 }
+    requires few { length words.old.items ≡ word_count n }
     ensures packed { IsPacked n words.new.items }
     ensures bits { bits_of n words.new.items ≡ bits_of n words.old.items }
     ensures len { vec_len words.new ≡ vec_len words.old }
@@ -38,7 +39,7 @@ pub fn push_bit(words: &mut Vec<u64>, n: u64, bit: bool)
 }
 
 /// Appends the first `count` binary places of a word to `n` packed bits, least significant first. They end in the last
-/// word, or in one behind it.
+/// word, or in one after it.
 pub fn push_word(words: &mut Vec<u64>, n: u64, word: u64, count: u64)
     requires within { n + count ≤ 2 ^ 32 }
     requires few { count ≤ 64 }

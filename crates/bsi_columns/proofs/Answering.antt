@@ -8,7 +8,7 @@ use Rattle.std.proofs.lemmas.Bool.Decides.{nat_tests}
 use Rattle.std.proofs.lemmas.List.Elements.{All-head, All-tail}
 use Rattle.std.proofs.lemmas.Result.{IfOk-weaker}
 use Rattle.std.proofs.lemmas.Simd.{zip2_of_maps}
-use Rattle.bsi_digits.specs.Digits.{size_of, weight, digit_of, IsBaseList}
+use Rattle.bsi_digits.specs.Digits.{product, weight, digit_of, IsBaseList}
 use Rattle.bsi_digits.proofs.CallerLemmas.{low_le, low_eq, low_all}
 use Rattle.bsi_bits.proofs.Pairs.{zip2-map_right}
 use Rattle.bsi_slices.specs.declared.decision.Relation.{Relation}
@@ -194,7 +194,7 @@ module _ {bs : List ℕ} (valid : IsBaseList bs) (relation : Relation) (n : ℕ)
       (λ (e : Option ℕ). digit_of bs (number_or_zero e) i) es found_is ds_is
       ∙ map_alike _ _ (λ e. Unit {0}) (λ e u. sym (holds_more valid relation (number_or_zero e) n i within)) es (λ k d h. tt)
 
-  pub low_answers_all : n < size_of bs → All (λ e. number_or_zero e < size_of bs) es → low_answers (length bs) ≡ map (λ e. relates relation (number_or_zero e) n) es
+  pub low_answers_all : n < product bs → All (λ e. number_or_zero e < product bs) es → low_answers (length bs) ≡ map (λ e. relates relation (number_or_zero e) n) es
   low_answers_all small below =
-      map_alike _ _ (λ e. number_or_zero e < size_of bs)
+      map_alike _ _ (λ e. number_or_zero e < product bs)
       (λ e h. ap₂ (relates relation) (low_all bs (number_or_zero e) h) (low_all bs n small)) es below

@@ -9,7 +9,7 @@ use Rattle.std.proofs.lemmas.Bool.Decides.{nat_tests}
 use Rattle.bsi_bits.specs.BitList.{without}
 use Rattle.bsi_bits.specs.Packed.{bit_of}
 use Rattle.bsi_bits.proofs.Logic.{and_not_bitwise}
-use Rattle.bsi_digits.specs.Digits.{size_of, weight, digit_of, IsBaseList}
+use Rattle.bsi_digits.specs.Digits.{product, weight, digit_of, IsBaseList}
 use Rattle.bsi_digits.proofs.CallerLemmas.{low_all}
 use Rattle.bsi_slices.specs.declared.decision.Relation.{Relation}
 use Rattle.bsi_columns.specs.Rows.{number_or_zero}
@@ -53,7 +53,7 @@ module _ {bs : List ℕ} (valid : IsBaseList bs) (relation : Relation) (n : ℕ)
         ∙ sym (holds_more valid relation number n i within);
   }
 
-  pub narrowed_all : (block : List ℕ) → n < size_of bs → All (λ e. number_or_zero e < size_of bs) es → IsNarrowed bs relation n es at (length bs) block
+  pub narrowed_all : (block : List ℕ) → n < product bs → All (λ e. number_or_zero e < product bs) es → IsNarrowed bs relation n es at (length bs) block
       → (p : ℕ) → p < 64 * length block → 64 * at + p < length es → bit_of block p ≡ relates relation (number_or_zero (get_or es (64 * at + p) None)) n
   narrowed_all block small all narrowed p below row =
       sym (behind_first (length bs) (bit_of block p) valid.some) ∙ narrowed.bits p below row ∙ ap₂ (relates relation) (low_all bs (number_or_zero (get_or es (64 * at + p) None)) (all (64 * at + p) None row)) (low_all bs n small)

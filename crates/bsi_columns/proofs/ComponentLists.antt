@@ -3,11 +3,11 @@ use Rattle.std.proofs.Common.{◌≡◌, ◌≢◌, ℕ, ◌+◌, ◌*◌, ◌<�
 use Rattle.std.proofs.lemmas.List.{length-map, get_or-map, map-set, get_or-set_same, get_or-set_other}
 use Rattle.std.proofs.Math.Seq.{map-set_same}
 use Rattle.std.proofs.lemmas.Bool.{cases_eq}
-use Rattle.bsi_digits.specs.Digits.{size_of, weight, IsBaseList}
+use Rattle.bsi_digits.specs.Digits.{product, weight, IsBaseList}
 use Rattle.bsi_digits.proofs.CallerLemmas.{weight_rises, weight_le_size}
 
 -- two values at least are told apart
-pub size_at_least_two : {bs : List ℕ} → IsBaseList bs → 2 ≤ size_of bs
+pub size_at_least_two : {bs : List ℕ} → IsBaseList bs → 2 ≤ product bs
 size_at_least_two {bs} valid =
     let rises : 2 * weight bs 0 ≤ weight bs 1 = weight_rises valid 0 valid.some in
     omega (arith, weight_le_size valid 1)

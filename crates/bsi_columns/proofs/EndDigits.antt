@@ -9,10 +9,9 @@ use Rattle.std.proofs.lemmas.List.{get_or-map, get_or_past, length-map}
 use Rattle.bsi_slices.specs.declared.slices.ends.End.{End}
 use Rattle.bsi_slices.specs.declared.slices.ends.End.TheVariants.{Least, Greatest}
 use Rattle.bsi_columns.specs.Rows.{number_or_zero}
-use Rattle.bsi_bits.specs.Marked.{HasMarked}
+use Rattle.bsi_bits.specs.Marked.{HasMarked, HasValue}
 use Rattle.bsi_columns.specs.Ends.{comes_first, leads, number_at}
 use Rattle.bsi_columns.specs.BlockEnds.{IsPast, IsNarrowedTo, AnswersEnd}
-use Rattle.bsi_components.specs.EndDigits.{HasDigit}
 use Rattle.bsi_components.specs.declared.answers.EndDigit.TheVariants.{Digit}
 use Rattle.bsi_columns.proofs.EndBlocks.{IsNearest, first_digit, nearest_step}
 
@@ -74,7 +73,7 @@ row_digit entries weight base r positive some = elim (cases_lt r (length entries
 
 -- ---- the digit that is kept
 
-pub end_member : (end : End) (limit : ℕ) (marked : ℕ → Bool) (digit : ℕ → ℕ) (n d : ℕ) → AnswersEnd end limit marked digit n (Digit d) → HasDigit marked digit n d
+pub end_member : (end : End) (limit : ℕ) (marked : ℕ → Bool) (digit : ℕ → ℕ) (n d : ℕ) → AnswersEnd end limit marked digit n (Digit d) → HasValue marked digit n d
 end_member Least limit marked digit n d is = is.member
 end_member Greatest limit marked digit n d is = is.member
 
@@ -100,7 +99,7 @@ kept_outside false there same new before is off present = is ∙ ap (λ t. befor
     never false = refl
 
 -- the rows of the digit are some
-pub kept_some : (old new : ℕ → Bool) (digit : ℕ → ℕ) (n d : ℕ) → ((p : ℕ) → p < n → new p ≡ (old p && nat_eq (digit p) d)) → HasDigit old digit n d → HasMarked new n
+pub kept_some : (old new : ℕ → Bool) (digit : ℕ → ℕ) (n d : ℕ) → ((p : ℕ) → p < n → new p ≡ (old p && nat_eq (digit p) d)) → HasValue old digit n d → HasMarked new n
 kept_some old new digit n d kept row = (row.0, row.1, kept row.0 row.1 ∙ ap₂ ◌&&◌ row.2 (eq_true (digit row.0) d row.3))
 
 both_second : (a b : Bool) → (a && b) ≡ true → b ≡ true

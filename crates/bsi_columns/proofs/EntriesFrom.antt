@@ -4,7 +4,7 @@ use Rattle.std.specs.Prelude.{All, Option, Some, None, is_some, cond}
 use Rattle.std.proofs.lemmas.List.{length-map, length-take-le, get_or-take, same_lists, get_or-map, map-append, length-replicate, get_or-replicate}
 use Rattle.std.proofs.lemmas.List.Elements.{All-nil, All-append}
 use Rattle.std.proofs.lemmas.List.FromFn.{fill_by_all}
-use Rattle.bsi_digits.specs.Digits.{size_of, digit_of, digits_of, components, weighted_sum}
+use Rattle.bsi_digits.specs.Digits.{product, digit_of, digits_of, components, weighted_sum}
 use Rattle.bsi_digits.proofs.CallerLemmas.{weighted_sum-digits_of}
 use Rattle.bsi_columns.specs.Rows.{number_or_zero}
 use Rattle.bsi_columns.specs.Decomposed.{digits_at, weighed_entry, entries_of, Decomposes, IsRoomy}
@@ -51,21 +51,21 @@ no_entries bs present ds none empty = record {
   count = ap length empty ∙ length-replicate (length bs) [];
   present_is = none;
   digits_are = λ i below. ap (λ xs. get_or xs i []) empty ∙ get_or-replicate (length bs) i [] [] below;
-  below = All-nil (λ (e : Option ℕ). number_or_zero e < size_of bs);
+  below = All-nil (λ (e : Option ℕ). number_or_zero e < product bs);
 }
 
 -- more entries, once each component has its digits of their numbers
 pub more_entries : (bs : List ℕ) (present : List Bool) (ds : List (List ℕ)) (entries block : List (Option ℕ)) (bits : List Bool) (more : List (List ℕ)) → Decomposes bs present ds entries
     → bits ≡ present ++ map is_some block → length more ≡ length bs
     → ((i : ℕ) → i < length bs → get_or more i [] ≡ get_or ds i [] ++ map (λ e. digit_of bs (number_or_zero e) i) block)
-    → All (λ e. number_or_zero e < size_of bs) block → Decomposes bs bits more (entries ++ block)
+    → All (λ e. number_or_zero e < product bs) block → Decomposes bs bits more (entries ++ block)
 more_entries bs present ds entries block bits more kept bits_are long each small = record {
   count = long;
   present_is = bits_are ∙ ap (λ ps. ps ++ map is_some block) kept.present_is ∙ sym (map-append is_some entries block);
   digits_are = λ i below.
       each i below ∙ ap (λ xs. xs ++ map (λ e. digit_of bs (number_or_zero e) i) block) (kept.digits_are i below)
       ∙ sym (map-append (λ (x : Option ℕ). digit_of bs (number_or_zero x) i) entries block);
-  below = All-append (λ (x : Option ℕ). number_or_zero x < size_of bs) entries block kept.below small;
+  below = All-append (λ (x : Option ℕ). number_or_zero x < product bs) entries block kept.below small;
 }
 
 -- each component has as many digits as there are entries

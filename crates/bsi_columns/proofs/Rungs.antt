@@ -3,7 +3,7 @@ use Rattle.std.proofs.Common.{◌≡◌, ℕ, ◌+◌, ◌*◌, ◌<◌, ◌≤�
 use Rattle.std.specs.Prelude.{count_by, is_some, nat_eq, nat_lt, ◌&&◌}
 use Rattle.std.specs.Simd.Lanes.{zip2}
 use Rattle.std.proofs.lemmas.Nat.{mul-le}
-use Rattle.bsi_digits.specs.Digits.{weight, size_of, digit_of, IsBaseList}
+use Rattle.bsi_digits.specs.Digits.{weight, product, digit_of, IsBaseList}
 use Rattle.bsi_digits.proofs.CallerLemmas.{high_all, weight_all, weight_more, weight_pos}
 use Rattle.bsi_components.specs.Component.{count_where}
 use Rattle.bsi_columns.specs.Rows.{number_or_zero}
@@ -18,10 +18,10 @@ fits_size number w s some small = omega (arith, mul-le number 1 number w (omega 
 pub record IsRung (bs : List ℕ) (found : List Bool) (entries : List (Option ℕ)) (k i number rank : ℕ) (chosen : List Bool) : Type 0 where
   pub within : i ≤ length bs
   pub narrowed : IsNarrowed (weight bs i) found entries k number rank chosen
-  pub small : number * weight bs i + weight bs i ≤ size_of bs
+  pub small : number * weight bs i + weight bs i ≤ product bs
 
 module _ (bs : List ℕ) (valid : IsBaseList bs) (found : List Bool) (entries : List (Option ℕ)) (k : ℕ) where
-  pub rung_start : (chosen : List Bool) → All (λ e. number_or_zero e < size_of bs) entries → chosen ≡ zip2 ◌&&◌ found (map is_some entries)
+  pub rung_start : (chosen : List Bool) → All (λ e. number_or_zero e < product bs) entries → chosen ≡ zip2 ◌&&◌ found (map is_some entries)
       → k < length (numbers_at found entries) → IsRung bs found entries k (length bs) 0 k chosen
   rung_start chosen below chosen_is there = record {
     within = omega arith;
@@ -43,6 +43,6 @@ module _ (bs : List ℕ) (valid : IsBaseList bs) (found : List Bool) (entries : 
           within = omega arith;
           narrowed = narrowed_step (weight bs i) base found entries k number rank chosen (omega (arith, weight_pos valid i)) state d rank' chosen' below
               (chosen_is ∙ ap (zip2 (λ f v. f && nat_eq v d) chosen) is) (rank_is ∙ ap (λ ds. count_where (λ v. nat_lt v d) chosen ds + rank') is) there;
-          small = next_small number (weight bs i) base d (size_of bs) below (
-              let Small : ℕ → Type 0 = λ w. number * w + w ≤ size_of bs in subst Small more rung.small);
+          small = next_small number (weight bs i) base d (product bs) below (
+              let Small : ℕ → Type 0 = λ w. number * w + w ≤ product bs in subst Small more rung.small);
         }

@@ -1,6 +1,6 @@
 -- What a contract sees of a column of any form.
 use Rattle.std.specs.Prelude.{ℕ, ◌^◌, List, Option, replicate}
-use Rattle.bsi_digits.specs.Digits.{size_of}
+use Rattle.bsi_digits.specs.Digits.{product}
 use Rattle.bsi_columns.specs.declared.any.AnyColumn.{AnyColumn}
 use Rattle.bsi_columns.specs.declared.any.AnyColumn.TheVariants.{Slices, Equality, Range}
 
@@ -18,8 +18,8 @@ any_form (Range c) = range_under c.bases
 -- what each number of a form is below
 abbrev pub size_in_form : AnyForm → ℕ
 size_in_form (slices_of width) = 2 ^ width
-size_in_form (equality_under bs) = size_of bs
-size_in_form (range_under bs) = size_of bs
+size_in_form (equality_under bs) = product bs
+size_in_form (range_under bs) = product bs
 
 -- the bases of the digits that a form keeps a number as
 abbrev pub bases_in_form : AnyForm → List ℕ

@@ -1,7 +1,7 @@
 -- A column of numbers that keeps the digits of each number under its bases.
 use Rattle.std.specs.Prelude.{◌≡◌, ℕ, ◌+◌, ◌^◌, ◌<◌, ◌≤◌, Bool, false, List, [], Option, Some, None, length, map, is_some, slice_index, slice_index_or, All, if◌then◌else◌}
 use Rattle.std.specs.List.{range_with_len}
-use Rattle.bsi_digits.specs.Digits.{size_of, digit_of, components, weighted_sum}
+use Rattle.bsi_digits.specs.Digits.{product, digit_of, components, weighted_sum}
 use Rattle.bsi_columns.specs.Rows.{number_or_zero}
 
 -- what a contract sees of a decomposed column: its bases, least significant first, its entries, and how many more can
@@ -26,13 +26,15 @@ entries_of bs present ds = map (weighed_entry bs present ds) (range_with_len 0 (
 
 -- the not-null bitmap and the digits of each component are those of the entries, whose numbers are below the size; a
 -- null's digits are 0
-pub record Decomposes (bs : List ℕ) (present : List Bool) (ds : List (List ℕ)) (entries : List (Option ℕ)) : Type 0 where
+pub record Decomposes (bs : List ℕ) (present : List Bool) (ds : List (List ℕ)) (entries : List (Option ℕ))
+    : Type 0 where
   pub count : length ds ≡ length bs
   pub present_is : present ≡ map is_some entries
-  pub digits_are : (i : ℕ) → i < length bs → slice_index_or ds i [] ≡ map (λ e. digit_of bs (number_or_zero e) i) entries
-  pub below : All (λ e. number_or_zero e < size_of bs) entries
+  pub digits_are : (i : ℕ) → i < length bs
+      → slice_index_or ds i [] ≡ map (λ e. digit_of bs (number_or_zero e) i) entries
+  pub below : All (λ e. number_or_zero e < product bs) entries
 
--- behind so many rows the not-null bitmap and each component have room for so many more
+-- after so many rows the not-null bitmap and each component have room for so many more
 pub record IsRoomy (rows room present : ℕ) (rooms : List ℕ) : Type 0 where
   pub within : rows + room ≤ 2 ^ 32
   pub bitmap : room ≤ present

@@ -2,16 +2,7 @@ pub mod AnyRows
 pub mod BlockEnds
 pub mod Decomposed
 pub mod DigitTests
-pub use Rattle.bsi_components.specs.Bitmaps
-pub use Rattle.bsi_components.specs.Component
-pub use Rattle.bsi_components.specs.EndDigits
-pub use Rattle.bsi_components.specs.Equality
-pub use Rattle.bsi_components.specs.Range
-pub use Rattle.bsi_slices.specs.Blocks
-pub use Rattle.bsi_slices.specs.Decisions
 pub use Rattle.bsi_slices.specs.Ends
 pub use Rattle.bsi_slices.specs.Orders
-pub use Rattle.bsi_slices.specs.Ranks
 pub use Rattle.bsi_slices.specs.Rows
-pub use Rattle.bsi_slices.specs.Slices
 pub use Rattle.bsi_slices.specs.Totals

@@ -1,6 +1,7 @@
 //! A column of whichever form, chosen when the program runs.
 
-ghost use Rattle.std.specs.Prelude.{◌≡◌, ◌+◌, ◌*◌, ◌/◌, ◌<◌, ◌≤◌, ◌&&◌, is_none, length, OnOk, OnErr};
+ghost use Rattle.std.specs.Prelude.{◌≡◌, ◌+◌, ◌≤◌, is_none, length, OnOk, OnErr};
+ghost use Rattle.bsi_bits.specs.BitList.{word_count};
 ghost use Rattle.bsi_slices.specs.Blocks.{KeepsRows};
 ghost use Rattle.bsi_columns.specs.AnyRows.{any_entries, any_form, any_room, bases_in_form, size_in_form, AnyForm};
 ghost use Rattle.bsi_columns.specs.Rows.{selects};
@@ -31,7 +32,7 @@ impl AnyColumn {
         block: &mut [u64],
     ) -> Result<(), NoMemory>
         requires few { length block.old ≤ 1024 }
-        requires within { at + length block.old ≤ (length (any_entries self.now) + 63) / 64 }
+        requires within { at + length block.old ≤ word_count (length (any_entries self.now)) }
         ensures kept { OnErr result (block.new ≡ block.old) }
         ensures rows { OnOk result
             (KeepsRows (selects op constant) (any_entries self.now) at block.old block.new) }
@@ -48,7 +49,7 @@ impl AnyColumn {
 
     /// Keeps in a block of words the rows that are null. The first word stands for the 64 rows from row `64 * at` on.
     pub fn keep_nulls(&self, at: usize, block: &mut [u64])
-        requires within { at + length block.old ≤ (length (any_entries self.now) + 63) / 64 }
+        requires within { at + length block.old ≤ word_count (length (any_entries self.now)) }
         ensures { KeepsRows is_none (any_entries self.now) at block.old block.new }
     {
         drop_in(self.present(), at, block);

@@ -1,7 +1,7 @@
 //! A column of numbers that keeps the digits of each number under a list of bases, a component a digit.
 
-ghost use Rattle.std.specs.Prelude.{◌≡◌, ℕ, ◌+◌, ◌*◌, ◌^◌, ◌≤◌, ◌<◌, List, [], ◌∷◌, ◌++◌, All, length, map, is_some, replicate, slice_index, IfOk};
-ghost use Rattle.bsi_digits.specs.Digits.{digit_of, size_of};
+ghost use Rattle.std.specs.Prelude.{◌≡◌, ℕ, ◌<◌, List, [], All, length, map, replicate, slice_index, IfOk};
+ghost use Rattle.bsi_digits.specs.Digits.{digit_of, product};
 ghost use Rattle.bsi_columns.specs.Rows.{number_or_zero};
 
 use crate::growth::{push_blocks, push_digits, reserve_each};
@@ -25,7 +25,7 @@ pub struct Decomposed<E: Encoding> {
     bases: Bases,
     components: Vec<E>,
     present: NotNull,
-    // (neither the bitmap nor a component has less)
+    // Neither the bitmap nor a component has less.
     room: u64,
 }
 
@@ -66,7 +66,7 @@ impl<E: Encoding> Decomposed<E> {
     /// Returns the bases. Component `i` has the one at place `i`, and each number is below their product.
     pub fn bases(&self) -> &Bases
         ensures bases { result.now ≡ self.now.bases }
-        ensures below { All (λ e. number_or_zero e < size_of self.now.bases) self.now.entries }
+        ensures below { All (λ e. number_or_zero e < product self.now.bases) self.now.entries }
     {
         &self.bases
     }
@@ -83,13 +83,11 @@ impl<E: Encoding> Decomposed<E> {
 }
 
 impl<E: Encoding> Column for Decomposed<E> {
-    ghost use Rattle.bsi_digits.specs.Digits.{size_of as product_of};
-
     ghost Form = { List ℕ };
 
     ghost form_of = { λ c. c.bases };
 
-    ghost size_of = { product_of };
+    ghost size_of = { product };
 
     ghost bases_of = { λ bs. bs };
 

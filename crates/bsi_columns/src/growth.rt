@@ -1,7 +1,7 @@
 //! Components that grow together: each gets its digits of the numbers that are appended.
 
 ghost use Rattle.std.specs.Prelude.{◌≡◌, ℕ, ◌+◌, ◌^◌, ◌≤◌, ◌<◌, [], ◌∷◌, ◌++◌, All, length, map, slice_index, slice_index_or, OnOk};
-ghost use Rattle.bsi_digits.specs.Digits.{digit_of, size_of};
+ghost use Rattle.bsi_digits.specs.Digits.{digit_of, product};
 
 use crate::{Encoding, NoMemory};
 use bsi_digits::Bases;
@@ -29,7 +29,7 @@ pub(crate) fn push_digits<E: Encoding>(components: &mut Vec<E>, bases: &Bases, n
     requires bases { map E.base_of components.old.items ≡ bases.now }
     requires room { (i : ℕ) → i < length components.old.items →
         0 < slice_index (map E.room_of components.old.items) i }
-    requires below { number < size_of bases.now }
+    requires below { number < product bases.now }
     ensures digits { (i : ℕ) → i < length bases.now →
         slice_index_or (map E.digits components.new.items) i []
         ≡ slice_index_or (map E.digits components.old.items) i []
@@ -51,7 +51,7 @@ pub(crate) fn push_blocks<E: Encoding>(components: &mut Vec<E>, bases: &Bases, n
     requires room { (i : ℕ) → i < length components.old.items →
         length numbers.now ≤ slice_index (map E.room_of components.old.items) i }
     requires below { (r : ℕ) → r < length numbers.now →
-        slice_index numbers.now r < size_of bases.now }
+        slice_index numbers.now r < product bases.now }
     ensures digits { (i : ℕ) → i < length bases.now →
         slice_index_or (map E.digits components.new.items) i []
         ≡ slice_index_or (map E.digits components.old.items) i []
@@ -73,7 +73,7 @@ fn push_block<E: Encoding>(component: &mut E, bases: &Bases, i: u32, numbers: &[
     requires few { length numbers.now ≤ 64 }
     requires room { length numbers.now ≤ E.room_of component.old }
     requires below { (r : ℕ) → r < length numbers.now →
-        slice_index numbers.now r < size_of bases.now }
+        slice_index numbers.now r < product bases.now }
     ensures digits { E.digits component.new
         ≡ E.digits component.old ++ map (λ n. digit_of bases.now n i) numbers.now }
     ensures base { E.base_of component.new ≡ E.base_of component.old }
@@ -89,7 +89,7 @@ fn write_digits(bases: &Bases, i: u32, numbers: &[u64], digits: &mut [u32])
     requires within { i < length bases.now }
     requires same { length digits.old ≡ length numbers.now }
     requires below { (r : ℕ) → r < length numbers.now →
-        slice_index numbers.now r < size_of bases.now }
+        slice_index numbers.now r < product bases.now }
     ensures digits { digits.new ≡ map (λ n. digit_of bases.now n i) numbers.now }
     ensures below { (r : ℕ) → r < length numbers.now →
         slice_index digits.new r < slice_index bases.now i }

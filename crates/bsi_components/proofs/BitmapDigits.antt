@@ -4,8 +4,8 @@ use Rattle.std.proofs.lemmas.List.{length-map, get_or-map, map-append, get_or_pa
 use Rattle.std.proofs.lemmas.List.FromFn.{fill_by_all}
 use Rattle.std.proofs.lemmas.Bool.{cases_eq, cases_lt}
 use Rattle.bsi_bits.specs.BitList.{BitList}
-use Rattle.bsi_components.specs.Bitmaps.{bitmap, row, first_set, digits_by, IsEncoded}
-use Rattle.bsi_bits.specs.BitLists.{no_bits}
+use Rattle.bsi_components.specs.Bitmaps.{row, first_set, digits_by, IsEncoded}
+use Rattle.bsi_bits.specs.BitLists.{bits_at, no_bits}
 
 -- bits that are those of a test from a place on
 pub record AreTests (test : ℕ → Bool) (at : ℕ) (bits : List Bool) : Type 0 where
@@ -43,8 +43,8 @@ none_set_is test none (bit ∷ bits) at off tests =
 
 module _ (holds : ℕ → ℕ → Bool) (rs : List BitList) (ds : List ℕ) (encoded : IsEncoded holds rs ds) where
   -- each bitmap has a bit for each digit
-  pub length-bitmap : (j : ℕ) → j < length rs → length (bitmap rs j) ≡ length ds
-  length-bitmap j below = ap length (encoded.each j below) ∙ length-map ds (holds j)
+  pub length-bits_at : (j : ℕ) → j < length rs → length (bits_at rs j) ≡ length ds
+  length-bits_at j below = ap length (encoded.each j below) ∙ length-map ds (holds j)
 
   -- a row's bits are those of its digit
   pub row_bits : (k at : ℕ) (test : ℕ → Bool) → k < length ds → ((j : ℕ) → holds j (get_or ds k 0) ≡ test (at + j)) → AreTests test at (row rs k)
@@ -59,11 +59,11 @@ module _ (holds : ℕ → ℕ → Bool) (rs : List BitList) (ds : List ℕ) (enc
   -- digits that are found by their rows are those of the bitmaps
   pub digits_are : (digit : List Bool → ℕ) → 0 < length rs → ((k : ℕ) → k < length ds → digit (row rs k) ≡ get_or ds k 0) → ds ≡ digits_by digit rs
   unfolding digits_by
-  digits_are digit some found = fill_by_all (λ k. digit (row rs k)) ds (length (bitmap rs 0)) 0 (sym (length-bitmap 0 some)) (λ k below. sym (found k (omega (arith, length-bitmap 0 some))))
+  digits_are digit some found = fill_by_all (λ k. digit (row rs k)) ds (length (bits_at rs 0)) 0 (sym (length-bits_at 0 some)) (λ k below. sym (found k (omega (arith, length-bits_at 0 some))))
 
 -- bitmaps with more bits are those of more digits
 pub encoded_more : (holds : ℕ → ℕ → Bool) (old new : List BitList) (ds block : List ℕ) → IsEncoded holds old ds → length new ≡ length old
-    → ((j : ℕ) → j < length old → bitmap new j ≡ bitmap old j ++ map (holds j) block) → IsEncoded holds new (ds ++ block)
+    → ((j : ℕ) → j < length old → bits_at new j ≡ bits_at old j ++ map (holds j) block) → IsEncoded holds new (ds ++ block)
 encoded_more holds old new ds block encoded same pushed = record {
   each = λ j below.
       let in_old : j < length old = omega arith in
@@ -71,13 +71,13 @@ encoded_more holds old new ds block encoded same pushed = record {
 }
 
 -- bitmaps of the same bits are those of the same digits
-pub encoded_same : (holds : ℕ → ℕ → Bool) (old new : List BitList) (ds : List ℕ) → IsEncoded holds old ds → length new ≡ length old → ((j : ℕ) → bitmap new j ≡ bitmap old j) → IsEncoded holds new ds
+pub encoded_same : (holds : ℕ → ℕ → Bool) (old new : List BitList) (ds : List ℕ) → IsEncoded holds old ds → length new ≡ length old → ((j : ℕ) → bits_at new j ≡ bits_at old j) → IsEncoded holds new ds
 encoded_same holds old new ds encoded same bits = record {
   each = λ j below. bits j ∙ encoded.each j (omega arith);
 }
 
 -- empty bitmaps are those of no digits
-pub encoded_none : (holds : ℕ → ℕ → Bool) (rs : List BitList) → ((j : ℕ) → bitmap rs j ≡ []) → IsEncoded holds rs []
+pub encoded_none : (holds : ℕ → ℕ → Bool) (rs : List BitList) → ((j : ℕ) → bits_at rs j ≡ []) → IsEncoded holds rs []
 encoded_none holds rs empty = record { each = λ j below. empty j }
 
 -- more digits below the base

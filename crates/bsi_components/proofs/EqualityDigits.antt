@@ -5,9 +5,10 @@ use Rattle.std.proofs.lemmas.List.{length-map}
 use Rattle.std.proofs.lemmas.Bool.{cases_lt}
 use Rattle.std.proofs.lemmas.Bool.Decides.{nat_tests}
 use Rattle.bsi_bits.specs.BitList.{BitList}
-use Rattle.bsi_components.specs.Bitmaps.{bitmap, row, first_set}
+use Rattle.bsi_bits.specs.BitLists.{bits_at}
+use Rattle.bsi_components.specs.Bitmaps.{row, first_set}
 use Rattle.bsi_components.specs.Equality.{equality_digits, first_digit, IsEquality}
-use Rattle.bsi_components.proofs.BitmapDigits.{first_set_is, none_set_is, length-bitmap, row_bits, digits_are, encoded_none, encoded_more, encoded_same, below_more}
+use Rattle.bsi_components.proofs.BitmapDigits.{first_set_is, none_set_is, length-bits_at, row_bits, digits_are, encoded_none, encoded_more, encoded_same, below_more}
 
 other_digit : (v e : ℕ) → e < v → (v == e) ≡ false
 other_digit v e below = grind (arith, nat_tests)
@@ -44,7 +45,7 @@ itself_equality base rs ds equality =
     subst (λ (xs : List ℕ). IsEquality base rs xs) (equality_digits_are base rs ds equality) equality
 
 -- no digits in empty bitmaps
-pub equality_made : (base : ℕ) (rs : List BitList) → 2 ≤ base → base ≤ 1024 → length rs + first_digit base ≡ base → ((j : ℕ) → bitmap rs j ≡ []) → IsEquality base rs []
+pub equality_made : (base : ℕ) (rs : List BitList) → 2 ≤ base → base ≤ 1024 → length rs + first_digit base ≡ base → ((j : ℕ) → bits_at rs j ≡ []) → IsEquality base rs []
 equality_made base rs least most count empty = record {
   count = count;
   least = least;
@@ -55,7 +56,7 @@ equality_made base rs least most count empty = record {
 
 -- more digits in bitmaps with more bits
 pub equality_more : (base : ℕ) (old new : List BitList) (ds block : List ℕ) → IsEquality base old ds → ((k : ℕ) → k < length block → get_or block k 0 < base) → length new ≡ length old
-    → ((j : ℕ) → j < length old → bitmap new j ≡ bitmap old j ++ map (λ v. v == first_digit base + j) block) → IsEquality base new (ds ++ block)
+    → ((j : ℕ) → j < length old → bits_at new j ≡ bits_at old j ++ map (λ v. v == first_digit base + j) block) → IsEquality base new (ds ++ block)
 equality_more base old new ds block equality below same pushed = record {
   count = ap (λ n. n + first_digit base) same ∙ equality.count;
   least = equality.least;
@@ -69,7 +70,7 @@ one_below d base below zero within = below
 one_below d base below (suc k) within = absurd (omega arith)
 
 -- the same digits in bitmaps of the same bits
-pub equality_same : (base : ℕ) (old new : List BitList) (ds : List ℕ) → IsEquality base old ds → length new ≡ length old → ((j : ℕ) → bitmap new j ≡ bitmap old j) → IsEquality base new ds
+pub equality_same : (base : ℕ) (old new : List BitList) (ds : List ℕ) → IsEquality base old ds → length new ≡ length old → ((j : ℕ) → bits_at new j ≡ bits_at old j) → IsEquality base new ds
 equality_same base old new ds equality same bits = record {
   count = ap (λ n. n + first_digit base) same ∙ equality.count;
   least = equality.least;
@@ -79,7 +80,7 @@ equality_same base old new ds equality same bits = record {
 }
 
 -- the first bitmap has a bit for each digit
-pub equality_rows : (base : ℕ) (rs : List BitList) (ds : List ℕ) → IsEquality base rs ds → length (bitmap rs 0) ≡ length ds
+pub equality_rows : (base : ℕ) (rs : List BitList) (ds : List ℕ) → IsEquality base rs ds → length (bits_at rs 0) ≡ length ds
 equality_rows base rs ds equality =
     let low = first_digit_most base in
-    length-bitmap (λ j v. v == first_digit base + j) rs ds equality.encoded 0 (omega (arith, equality.count, equality.least))
+    length-bits_at (λ j v. v == first_digit base + j) rs ds equality.encoded 0 (omega (arith, equality.count, equality.least))

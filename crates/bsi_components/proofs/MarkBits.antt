@@ -11,7 +11,7 @@ use Rattle.bsi_bits.proofs.Reading.{bits_are, get_or-bits_of}
 use Rattle.bsi_bits.proofs.Splicing.{below_power, one_word}
 use Rattle.bsi_components.specs.Marks.{union_upto, AreDigitMarks}
 
--- bit p of word j says of each of the first n digits whether it holds there; the bits behind them are off
+-- bit p of word j says of each of the first n digits whether it holds there; the bits after them are off
 pub record Marked (holds : ℕ → ℕ → Bool) (n : ℕ) (block words : List ℕ) : Type 0 where
   pub each : (j p : ℕ) → j < length words → (bit_at (get_or words j 0) p == 1) ≡ (nat_lt p n && holds j (get_or block p 0))
 

@@ -4,9 +4,10 @@ use Rattle.std.specs.Prelude.{nat_le}
 use Rattle.std.proofs.lemmas.List.{length-map}
 use Rattle.std.proofs.lemmas.Bool.Decides.{nat_tests}
 use Rattle.bsi_bits.specs.BitList.{BitList}
-use Rattle.bsi_components.specs.Bitmaps.{bitmap, row, first_set}
+use Rattle.bsi_bits.specs.BitLists.{bits_at}
+use Rattle.bsi_components.specs.Bitmaps.{row, first_set}
 use Rattle.bsi_components.specs.Range.{range_digits, IsRange}
-use Rattle.bsi_components.proofs.BitmapDigits.{first_set_is, length-bitmap, row_bits, digits_are, encoded_none, encoded_more, encoded_same, below_more}
+use Rattle.bsi_components.proofs.BitmapDigits.{first_set_is, length-bits_at, row_bits, digits_are, encoded_none, encoded_more, encoded_same, below_more}
 
 not_yet : (v e : ℕ) → e < v → nat_le v e ≡ false
 not_yet v e below = grind (arith, nat_tests)
@@ -30,7 +31,7 @@ pub itself_range : (base : ℕ) (rs : List BitList) (ds : List ℕ) → IsRange 
 itself_range base rs ds range = subst (λ (xs : List ℕ). IsRange base rs xs) (range_digits_are base rs ds range) range
 
 -- no digits in empty bitmaps
-pub range_made : (base : ℕ) (rs : List BitList) → 2 ≤ base → base ≤ 1024 → length rs + 1 ≡ base → ((j : ℕ) → bitmap rs j ≡ []) → IsRange base rs []
+pub range_made : (base : ℕ) (rs : List BitList) → 2 ≤ base → base ≤ 1024 → length rs + 1 ≡ base → ((j : ℕ) → bits_at rs j ≡ []) → IsRange base rs []
 range_made base rs least most count empty = record {
   count = count;
   least = least;
@@ -41,7 +42,7 @@ range_made base rs least most count empty = record {
 
 -- more digits in bitmaps with more bits
 pub range_more : (base : ℕ) (old new : List BitList) (ds block : List ℕ) → IsRange base old ds → ((k : ℕ) → k < length block → get_or block k 0 < base) → length new ≡ length old
-    → ((j : ℕ) → j < length old → bitmap new j ≡ bitmap old j ++ map (λ v. nat_le v j) block) → IsRange base new (ds ++ block)
+    → ((j : ℕ) → j < length old → bits_at new j ≡ bits_at old j ++ map (λ v. nat_le v j) block) → IsRange base new (ds ++ block)
 range_more base old new ds block range below same pushed = record {
   count = ap (λ n. n + 1) same ∙ range.count;
   least = range.least;
@@ -55,7 +56,7 @@ one_below d base below zero within = below
 one_below d base below (suc k) within = absurd (omega arith)
 
 -- the same digits in bitmaps of the same bits
-pub range_same : (base : ℕ) (old new : List BitList) (ds : List ℕ) → IsRange base old ds → length new ≡ length old → ((j : ℕ) → bitmap new j ≡ bitmap old j) → IsRange base new ds
+pub range_same : (base : ℕ) (old new : List BitList) (ds : List ℕ) → IsRange base old ds → length new ≡ length old → ((j : ℕ) → bits_at new j ≡ bits_at old j) → IsRange base new ds
 range_same base old new ds range same bits = record {
   count = ap (λ n. n + 1) same ∙ range.count;
   least = range.least;
@@ -65,6 +66,6 @@ range_same base old new ds range same bits = record {
 }
 
 -- the first bitmap has a bit for each digit
-pub range_rows : (base : ℕ) (rs : List BitList) (ds : List ℕ) → IsRange base rs ds → length (bitmap rs 0) ≡ length ds
+pub range_rows : (base : ℕ) (rs : List BitList) (ds : List ℕ) → IsRange base rs ds → length (bits_at rs 0) ≡ length ds
 range_rows base rs ds range =
-    length-bitmap (λ j v. nat_le v j) rs ds range.encoded 0 (omega (arith, range.count, range.least))
+    length-bits_at (λ j v. nat_le v j) rs ds range.encoded 0 (omega (arith, range.count, range.least))

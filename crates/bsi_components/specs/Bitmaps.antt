@@ -4,10 +4,6 @@ use Rattle.std.specs.List.{range_with_len}
 use Rattle.bsi_bits.specs.BitList.{BitList}
 use Rattle.bsi_bits.specs.BitLists.{bits_at}
 
--- the bits of bitmap j
-abbrev pub bitmap : List BitList → ℕ → List Bool
-bitmap = bits_at
-
 -- the bits of row k, a bitmap each
 abbrev pub row : List BitList → ℕ → List Bool
 row bitmaps k = map (λ b. slice_index_or b.bits k false) bitmaps
@@ -19,8 +15,8 @@ first_set none at (bit ∷ bits) = if bit then at else first_set none (at + 1) b
 
 -- the digit of each row, by its bits
 unfoldable pub digits_by : (List Bool → ℕ) → List BitList → List ℕ
-digits_by digit bitmaps = map (λ k. digit (row bitmaps k)) (range_with_len 0 (length (bitmap bitmaps 0)))
+digits_by digit bitmaps = map (λ k. digit (row bitmaps k)) (range_with_len 0 (length (bits_at bitmaps 0)))
 
 -- bitmap j says of each digit whether it holds there
 pub record IsEncoded (holds : ℕ → ℕ → Bool) (bitmaps : List BitList) (digits : List ℕ) : Type 0 where
-  pub each : (j : ℕ) → j < length bitmaps → bitmap bitmaps j ≡ map (holds j) digits
+  pub each : (j : ℕ) → j < length bitmaps → bits_at bitmaps j ≡ map (holds j) digits

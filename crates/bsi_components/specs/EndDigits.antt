@@ -1,22 +1,19 @@
 -- The least or greatest digit of some rows of a block.
 use Rattle.std.specs.Prelude.{◌≡◌, ℕ, ◌<◌, ◌≤◌, Bool, true}
+use Rattle.bsi_bits.specs.Marked.{HasValue}
 use Rattle.bsi_components.specs.declared.answers.EndDigit.{EndDigit}
 use Rattle.bsi_components.specs.declared.answers.EndDigit.TheVariants.{Unanswered, Past, Digit}
-
--- one of n rows is marked, and has this digit
-abbrev pub HasDigit : (ℕ → Bool) → (ℕ → ℕ) → ℕ → ℕ → Type 0
-HasDigit marked digit n d = (p : ℕ) × (p < n) × (marked p ≡ true) × (digit p ≡ d)
 
 -- d is the least digit of the marked rows, and within the limit
 pub record IsLeastDigit (limit : ℕ) (marked : ℕ → Bool) (digit : ℕ → ℕ) (n d : ℕ) : Type 0 where
   pub within : d ≤ limit
-  pub member : HasDigit marked digit n d
+  pub member : HasValue marked digit n d
   pub first : (p : ℕ) → p < n → marked p ≡ true → d ≤ digit p
 
 -- d is the greatest digit of the marked rows, and within the limit
 pub record IsGreatestDigit (limit : ℕ) (marked : ℕ → Bool) (digit : ℕ → ℕ) (n d : ℕ) : Type 0 where
   pub within : limit ≤ d
-  pub member : HasDigit marked digit n d
+  pub member : HasValue marked digit n d
   pub first : (p : ℕ) → p < n → marked p ≡ true → digit p ≤ d
 
 -- the answer is the least digit, or that each is above the limit

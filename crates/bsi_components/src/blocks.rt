@@ -1,7 +1,7 @@
 //! Boolean steps on a block of words, by the words of a bitmap that stand for the same rows.
 
-ghost use Rattle.std.specs.Prelude.{◌≡◌, ℕ, ◌+◌, ◌*◌, ◌/◌, ◌<◌, ◌≤◌, ◌&&◌, ◌||◌, not, true, false, length, slice_index_or};
-ghost use Rattle.std.specs.Prelude.{IsTrue, IsFalse};
+ghost use Rattle.std.specs.Prelude.{◌≡◌, ℕ, ◌+◌, ◌*◌, ◌<◌, ◌≤◌, ◌&&◌, ◌||◌, not, false, length, slice_index_or, IsTrue, IsFalse};
+ghost use Rattle.bsi_bits.specs.BitList.{word_count};
 ghost use Rattle.bsi_bits.specs.Packed.{bit_of};
 ghost use Rattle.bsi_bits.specs.Marked.{HasMarked};
 
@@ -13,7 +13,7 @@ pub(crate) const SUM_BLOCK_WORDS: usize = 1024;
 
 /// Keeps in the block the rows that the bitmap has.
 pub fn keep_in(bitmap: &Bits, at: usize, block: &mut [u64])
-    requires { at + length block.old ≤ (length bitmap.now.bits + 63) / 64 }
+    requires { at + length block.old ≤ word_count (length bitmap.now.bits) }
     ensures len { length block.new ≡ length block.old }
     ensures bits { (p : ℕ) → p < 64 * length block.old →
         bit_of block.new p ≡ (bit_of block.old p
@@ -25,7 +25,7 @@ pub fn keep_in(bitmap: &Bits, at: usize, block: &mut [u64])
 
 /// Writes in the block the rows that the bitmap has.
 pub fn copy_in(bitmap: &Bits, at: usize, block: &mut [u64])
-    requires { at + length block.old ≤ (length bitmap.now.bits + 63) / 64 }
+    requires { at + length block.old ≤ word_count (length bitmap.now.bits) }
     ensures len { length block.new ≡ length block.old }
     ensures bits { (p : ℕ) → p < 64 * length block.old →
         bit_of block.new p ≡ slice_index_or bitmap.now.bits (64 * at + p) false }
@@ -36,7 +36,7 @@ pub fn copy_in(bitmap: &Bits, at: usize, block: &mut [u64])
 
 /// Clears in the block the rows that the bitmap has.
 pub fn drop_in(bitmap: &Bits, at: usize, block: &mut [u64])
-    requires { at + length block.old ≤ (length bitmap.now.bits + 63) / 64 }
+    requires { at + length block.old ≤ word_count (length bitmap.now.bits) }
     ensures len { length block.new ≡ length block.old }
     ensures bits { (p : ℕ) → p < 64 * length block.old →
         bit_of block.new p ≡ (bit_of block.old p
@@ -49,7 +49,7 @@ pub fn drop_in(bitmap: &Bits, at: usize, block: &mut [u64])
 
 /// Sets in the block the rows that the bitmap has.
 pub fn add_in(bitmap: &Bits, at: usize, block: &mut [u64])
-    requires { at + length block.old ≤ (length bitmap.now.bits + 63) / 64 }
+    requires { at + length block.old ≤ word_count (length bitmap.now.bits) }
     ensures len { length block.new ≡ length block.old }
     ensures bits { (p : ℕ) → p < 64 * length block.old →
         bit_of block.new p ≡ (bit_of block.old p
@@ -61,8 +61,8 @@ pub fn add_in(bitmap: &Bits, at: usize, block: &mut [u64])
 
 /// Keeps in the block the rows that `kept` has, and then sets those that `added` has, in one pass.
 pub fn keep_and_add(kept: &Bits, added: &Bits, at: usize, block: &mut [u64])
-    requires kept { at + length block.old ≤ (length kept.now.bits + 63) / 64 }
-    requires added { at + length block.old ≤ (length added.now.bits + 63) / 64 }
+    requires kept { at + length block.old ≤ word_count (length kept.now.bits) }
+    requires added { at + length block.old ≤ word_count (length added.now.bits) }
     ensures len { length block.new ≡ length block.old }
     ensures bits { (p : ℕ) → p < 64 * length block.old → bit_of block.new p
         ≡ (bit_of block.old p && slice_index_or kept.now.bits (64 * at + p) false
@@ -75,8 +75,8 @@ pub fn keep_and_add(kept: &Bits, added: &Bits, at: usize, block: &mut [u64])
 
 /// Keeps in the block the rows that `kept` has and `dropped` does not have, in one pass.
 pub fn keep_but_drop(kept: &Bits, dropped: &Bits, at: usize, block: &mut [u64])
-    requires kept { at + length block.old ≤ (length kept.now.bits + 63) / 64 }
-    requires dropped { at + length block.old ≤ (length dropped.now.bits + 63) / 64 }
+    requires kept { at + length block.old ≤ word_count (length kept.now.bits) }
+    requires dropped { at + length block.old ≤ word_count (length dropped.now.bits) }
     ensures len { length block.new ≡ length block.old }
     ensures bits { (p : ℕ) → p < 64 * length block.old → bit_of block.new p
         ≡ (bit_of block.old p && slice_index_or kept.now.bits (64 * at + p) false
@@ -100,7 +100,7 @@ pub fn turn(block: &mut [u64])
 
 /// Sets in the block the rows that the bitmap does not have.
 pub fn add_missing(bitmap: &Bits, at: usize, block: &mut [u64])
-    requires { at + length block.old ≤ (length bitmap.now.bits + 63) / 64 }
+    requires { at + length block.old ≤ word_count (length bitmap.now.bits) }
     ensures len { length block.new ≡ length block.old }
     ensures bits { (p : ℕ) → p < 64 * length block.old →
         bit_of block.new p ≡ (bit_of block.old p
@@ -113,7 +113,7 @@ pub fn add_missing(bitmap: &Bits, at: usize, block: &mut [u64])
 
 /// Returns whether the block has a row that the bitmap has.
 pub fn meets(bitmap: &Bits, at: usize, block: &[u64]) -> bool
-    requires { at + length block.now ≤ (length bitmap.now.bits + 63) / 64 }
+    requires { at + length block.now ≤ word_count (length bitmap.now.bits) }
     ensures some { IsTrue result →
         HasMarked (λ p. bit_of block.now p
         && slice_index_or bitmap.now.bits (64 * at + p) false) (64 * length block.now) }
@@ -132,7 +132,7 @@ pub fn meets(bitmap: &Bits, at: usize, block: &[u64]) -> bool
 
 /// Returns whether the block has a row that the bitmap does not have.
 pub fn exceeds(bitmap: &Bits, at: usize, block: &[u64]) -> bool
-    requires { at + length block.now ≤ (length bitmap.now.bits + 63) / 64 }
+    requires { at + length block.now ≤ word_count (length bitmap.now.bits) }
     ensures some { IsTrue result →
         HasMarked (λ p. bit_of block.now p
         && not (slice_index_or bitmap.now.bits (64 * at + p) false)) (64 * length block.now) }

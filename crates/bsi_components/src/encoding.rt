@@ -1,11 +1,12 @@
 //! What a component is to a column: a list of digits below its base.
 
-ghost use Rattle.std.specs.Prelude.{◌≡◌, ℕ, ◌+◌, ◌*◌, ◌/◌, ◌^◌, ◌≤◌, ◌<◌, ◌==◌, ◌&&◌, true, List, [], ◌∷◌, ◌++◌, length, map, sum, count_by, slice_index, nat_lt, nat_le, IfOk, OnOk, OnErr, IsOk};
+ghost use Rattle.std.specs.Prelude.{◌≡◌, ℕ, ◌+◌, ◌*◌, ◌^◌, ◌≤◌, ◌<◌, ◌==◌, ◌&&◌, true, List, [], ◌∷◌, ◌++◌, length, map, sum, count_by, slice_index, nat_lt, nat_le, IfOk, OnOk, OnErr, IsOk};
 ghost use Rattle.std.specs.List.{items_where_true};
 ghost use Rattle.std.specs.Bool.{OnTrue, OnFalse};
 ghost use Rattle.std.specs.Simd.Lanes.{zip2};
+ghost use Rattle.bsi_bits.specs.BitList.{word_count};
 ghost use Rattle.bsi_bits.specs.Packed.{bit_of};
-ghost use Rattle.bsi_components.specs.Component.{at_most_from, count_where};
+ghost use Rattle.bsi_components.specs.Component.{at_most_from, count_where, IsRankedDigit};
 ghost use Rattle.bsi_bits.specs.Marked.{HasMarked};
 ghost use Rattle.bsi_components.specs.EndDigits.{AnswersLeast, AnswersGreatest};
 
@@ -142,10 +143,7 @@ pub trait Encoding: Drop {
         requires scratch { length (digits self.now) ≡ length scratch.old.bits }
         requires there { rank < count_by (λ b. b) found.now.bits }
         ensures digit { result.digit < base_of self.now }
-        ensures rank { rank ≡ count_where (λ v. nat_lt v result.digit) found.now.bits
-            (digits self.now) + result.rank }
-        ensures there { rank < count_where (λ v. nat_le v result.digit) found.now.bits
-            (digits self.now) }
+        ensures ranked { IsRankedDigit rank found.now.bits (digits self.now) result }
         ensures scratch { length scratch.new.bits ≡ length scratch.old.bits }
     {
         let (mut low, mut high) = (0, self.base() - 1);
@@ -188,7 +186,7 @@ pub trait Encoding: Drop {
     /// returns `false`, and does nothing, if the encoding works on whole vectors alone.
     fn eq_block(&self, d: u32, at: usize, block: &mut [u64]) -> bool
         requires below { d < base_of self.now }
-        requires within { at + length block.old ≤ (length (digits self.now) + 63) / 64 }
+        requires within { at + length block.old ≤ word_count (length (digits self.now)) }
         ensures kept { OnFalse result (block.new ≡ block.old) }
         ensures bits { OnTrue result ((p : ℕ) → p < 64 * length block.old →
             64 * at + p < length (digits self.now) →
@@ -204,7 +202,7 @@ pub trait Encoding: Drop {
     /// the encoding works on whole vectors alone.
     fn le_block(&self, d: u32, at: usize, block: &mut [u64]) -> bool
         requires below { d < base_of self.now }
-        requires within { at + length block.old ≤ (length (digits self.now) + 63) / 64 }
+        requires within { at + length block.old ≤ word_count (length (digits self.now)) }
         ensures kept { OnFalse result (block.new ≡ block.old) }
         ensures bits { OnTrue result ((p : ℕ) → p < 64 * length block.old →
             64 * at + p < length (digits self.now) →
@@ -219,7 +217,7 @@ pub trait Encoding: Drop {
     /// provided body fills the block with ones and calls `eq_block`.
     fn eq_block_into(&self, d: u32, at: usize, block: &mut [u64]) -> bool
         requires below { d < base_of self.now }
-        requires within { at + length block.old ≤ (length (digits self.now) + 63) / 64 }
+        requires within { at + length block.old ≤ word_count (length (digits self.now)) }
         ensures bits { OnTrue result ((p : ℕ) → p < 64 * length block.old →
             64 * at + p < length (digits self.now) →
             bit_of block.new p ≡ (slice_index (digits self.now) (64 * at + p) == d)) }
@@ -233,7 +231,7 @@ pub trait Encoding: Drop {
     /// unspecified. The provided body fills the block with ones and calls `le_block`.
     fn le_block_into(&self, d: u32, at: usize, block: &mut [u64]) -> bool
         requires below { d < base_of self.now }
-        requires within { at + length block.old ≤ (length (digits self.now) + 63) / 64 }
+        requires within { at + length block.old ≤ word_count (length (digits self.now)) }
         ensures bits { OnTrue result ((p : ℕ) → p < 64 * length block.old →
             64 * at + p < length (digits self.now) →
             bit_of block.new p ≡ nat_le (slice_index (digits self.now) (64 * at + p)) d) }
@@ -246,7 +244,7 @@ pub trait Encoding: Drop {
     /// the rows from `64 * at` on, and have no row past the last one. The provided body gives no answer.
     fn least_in_block(&self, limit: u32, at: usize, block: &[u64]) -> EndDigit
         requires below { limit < base_of self.now }
-        requires within { at + length block.now ≤ (length (digits self.now) + 63) / 64 }
+        requires within { at + length block.now ≤ word_count (length (digits self.now)) }
         requires rows { (p : ℕ) → p < 64 * length block.now → bit_of block.now p ≡ true →
             64 * at + p < length (digits self.now) }
         requires some { HasMarked (bit_of block.now) (64 * length block.now) }
@@ -260,7 +258,7 @@ pub trait Encoding: Drop {
     /// for the rows from `64 * at` on, and have no row past the last one. The provided body gives no answer.
     fn greatest_in_block(&self, limit: u32, at: usize, block: &[u64]) -> EndDigit
         requires below { limit < base_of self.now }
-        requires within { at + length block.now ≤ (length (digits self.now) + 63) / 64 }
+        requires within { at + length block.now ≤ word_count (length (digits self.now)) }
         requires rows { (p : ℕ) → p < 64 * length block.now → bit_of block.now p ≡ true →
             64 * at + p < length (digits self.now) }
         requires some { HasMarked (bit_of block.now) (64 * length block.now) }

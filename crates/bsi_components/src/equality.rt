@@ -1,8 +1,9 @@
 //! The equality encoded component: a bitmap for each digit says which rows have it.
 
-ghost use Rattle.std.specs.Prelude.{◌≡◌, ◌≢◌, ℕ, ◌+◌, ◌*◌, ◌/◌, ◌<◌, ◌≤◌, ◌==◌, ◌&&◌, ◌||◌, not, ◌++◌, length, map, true, slice_index, IsTrue, IsFalse};
+ghost use Rattle.std.specs.Prelude.{◌≡◌, ◌≢◌, ℕ, ◌+◌, ◌*◌, ◌<◌, ◌≤◌, ◌==◌, ◌&&◌, ◌||◌, not, ◌++◌, length, map, true, slice_index, IsTrue, IsFalse};
+ghost use Rattle.bsi_bits.specs.BitList.{word_count};
+ghost use Rattle.bsi_bits.specs.BitLists.{bits_at};
 ghost use Rattle.bsi_bits.specs.Packed.{bit_of};
-ghost use Rattle.bsi_components.specs.Bitmaps.{bitmap};
 ghost use Rattle.bsi_bits.specs.Marked.{HasMarked};
 ghost use Rattle.bsi_components.specs.Equality.{first_digit, is_among};
 
@@ -56,8 +57,8 @@ fn push_marked(bitmaps: &mut Bitmaps, first: u32, block: &[u32], words: &mut [u6
     requires below { (k : ℕ) → k < length block.now → slice_index block.now k < length words.old }
     ensures count { length bitmaps.new.vectors ≡ length bitmaps.old.vectors }
     ensures bits { (j : ℕ) → j < length bitmaps.old.vectors →
-        bitmap bitmaps.new.vectors j
-        ≡ bitmap bitmaps.old.vectors j ++ map (λ v. v == first + j) block.now }
+        bits_at bitmaps.new.vectors j
+        ≡ bits_at bitmaps.old.vectors j ++ map (λ v. v == first + j) block.now }
     ensures room { bitmaps.new.room + length block.now ≡ bitmaps.old.room }
 {
     mark(block, words);
@@ -73,8 +74,8 @@ fn push_block(bitmaps: &mut Bitmaps, first: u32, base: u32, block: &[u32])
     requires below { (k : ℕ) → k < length block.now → slice_index block.now k < base }
     ensures count { length bitmaps.new.vectors ≡ length bitmaps.old.vectors }
     ensures bits { (j : ℕ) → j < length bitmaps.old.vectors →
-        bitmap bitmaps.new.vectors j
-        ≡ bitmap bitmaps.old.vectors j ++ map (λ v. v == first + j) block.now }
+        bits_at bitmaps.new.vectors j
+        ≡ bits_at bitmaps.old.vectors j ++ map (λ v. v == first + j) block.now }
     ensures room { bitmaps.new.room + length block.now ≡ bitmaps.old.room }
 {
     if base <= MAX_SMALL_BASE {
@@ -113,7 +114,7 @@ impl EqualityComponent {
     /// Returns whether a row of a block has the digit `d`.
     fn has_digit(&self, d: u32, at: usize, block: &[u64]) -> bool
         requires below { d < self.now.base }
-        requires within { at + length block.now ≤ (length self.now.digits + 63) / 64 }
+        requires within { at + length block.now ≤ word_count (length self.now.digits) }
         requires rows { (p : ℕ) → p < 64 * length block.now → bit_of block.now p ≡ true →
             64 * at + p < length self.now.digits }
         ensures some { IsTrue result →
@@ -133,7 +134,7 @@ impl EqualityComponent {
     fn add_among(&self, from: u32, to: u32, at: usize, block: &mut [u64])
         requires within { (from ≤ to) × (to ≤ self.now.base) }
         requires stored { self.now.base ≢ 2 }
-        requires rows { at + length block.old ≤ (length self.now.digits + 63) / 64 }
+        requires rows { at + length block.old ≤ word_count (length self.now.digits) }
         ensures len { length block.new ≡ length block.old }
         ensures bits { (p : ℕ) → p < 64 * length block.old → 64 * at + p < length self.now.digits →
             bit_of block.new p ≡ (bit_of block.old p
@@ -148,7 +149,7 @@ impl EqualityComponent {
     fn drop_among(&self, from: u32, to: u32, at: usize, block: &mut [u64])
         requires within { (from ≤ to) × (to ≤ self.now.base) }
         requires stored { self.now.base ≢ 2 }
-        requires rows { at + length block.old ≤ (length self.now.digits + 63) / 64 }
+        requires rows { at + length block.old ≤ word_count (length self.now.digits) }
         ensures len { length block.new ≡ length block.old }
         ensures bits { (p : ℕ) → p < 64 * length block.old → 64 * at + p < length self.now.digits →
             bit_of block.new p ≡ (bit_of block.old p

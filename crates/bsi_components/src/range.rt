@@ -1,10 +1,10 @@
 //! The range encoded component: bitmap j says of each row whether its digit is at most j (Chan and Ioannidis 1998).
 
-ghost use Rattle.std.specs.Prelude.{◌≡◌, ℕ, ◌+◌, ◌*◌, ◌/◌, ◌^◌, ◌<◌, ◌≤◌, ◌&&◌, ◌++◌, length, map, nat_le, nat_lt, true, slice_index, sum, IsTrue, IsFalse};
+ghost use Rattle.std.specs.Prelude.{◌≡◌, ℕ, ◌+◌, ◌*◌, ◌^◌, ◌<◌, ◌≤◌, ◌&&◌, ◌++◌, length, map, nat_le, nat_lt, true, slice_index, sum, IsTrue, IsFalse};
 ghost use Rattle.std.specs.List.{items_where_true};
-ghost use Rattle.bsi_bits.specs.BitList.{in_words};
+ghost use Rattle.bsi_bits.specs.BitList.{in_words, word_count};
+ghost use Rattle.bsi_bits.specs.BitLists.{bits_at};
 ghost use Rattle.bsi_bits.specs.Packed.{bit_of};
-ghost use Rattle.bsi_components.specs.Bitmaps.{bitmap};
 ghost use Rattle.bsi_bits.specs.Marked.{HasMarked};
 
 use crate::blocks::{exceeds, meets};
@@ -14,8 +14,8 @@ use std::marker::Model;
 
 mod encoding;
 
-/// A component of a base from 2 to 1,024. For each digit j but the greatest it stores the bitmap of the rows whose digit
-/// is at most j. That of the greatest digit would be all ones.
+/// A component of a base from 2 to 1,024. For each digit j but the greatest it stores the bitmap of the rows whose
+/// digit is at most j. That of the greatest digit would be all ones.
 #[derive(Drop)]
 pub struct RangeComponent {
     base: u32,
@@ -43,8 +43,8 @@ fn push_marked(bitmaps: &mut Bitmaps, block: &[u32], words: &mut [u64])
     requires below { (k : ℕ) → k < length block.now → slice_index block.now k < length words.old }
     ensures count { length bitmaps.new.vectors ≡ length bitmaps.old.vectors }
     ensures bits { (j : ℕ) → j < length bitmaps.old.vectors →
-        bitmap bitmaps.new.vectors j
-        ≡ bitmap bitmaps.old.vectors j ++ map (λ v. nat_le v j) block.now }
+        bits_at bitmaps.new.vectors j
+        ≡ bits_at bitmaps.old.vectors j ++ map (λ v. nat_le v j) block.now }
     ensures room { bitmaps.new.room + length block.now ≡ bitmaps.old.room }
 {
     mark(block, words);
@@ -61,8 +61,8 @@ fn push_block(bitmaps: &mut Bitmaps, base: u32, block: &[u32])
     requires below { (k : ℕ) → k < length block.now → slice_index block.now k < base }
     ensures count { length bitmaps.new.vectors ≡ length bitmaps.old.vectors }
     ensures bits { (j : ℕ) → j < length bitmaps.old.vectors →
-        bitmap bitmaps.new.vectors j
-        ≡ bitmap bitmaps.old.vectors j ++ map (λ v. nat_le v j) block.now }
+        bits_at bitmaps.new.vectors j
+        ≡ bits_at bitmaps.old.vectors j ++ map (λ v. nat_le v j) block.now }
     ensures room { bitmaps.new.room + length block.now ≡ bitmaps.old.room }
 {
     if base <= MAX_SMALL_BASE {
@@ -86,7 +86,7 @@ impl RangeComponent {
     /// Returns whether a row of a block has a digit of at most `d`.
     fn has_upto(&self, d: u32, at: usize, block: &[u64]) -> bool
         requires below { d + 1 < self.now.base }
-        requires within { at + length block.now ≤ (length self.now.digits + 63) / 64 }
+        requires within { at + length block.now ≤ word_count (length self.now.digits) }
         requires rows { (p : ℕ) → p < 64 * length block.now → bit_of block.now p ≡ true →
             64 * at + p < length self.now.digits }
         ensures some { IsTrue result →
@@ -101,7 +101,7 @@ impl RangeComponent {
     /// Returns whether a row of a block has a digit above `d`.
     fn has_above(&self, d: u32, at: usize, block: &[u64]) -> bool
         requires below { d + 1 < self.now.base }
-        requires within { at + length block.now ≤ (length self.now.digits + 63) / 64 }
+        requires within { at + length block.now ≤ word_count (length self.now.digits) }
         requires rows { (p : ℕ) → p < 64 * length block.now → bit_of block.now p ≡ true →
             64 * at + p < length self.now.digits }
         ensures some { IsTrue result →
@@ -127,7 +127,7 @@ impl RangeComponent {
     fn digit_sum_in(&self, found: &Bits, start: usize, end: usize) -> u128
         requires same { length self.now.digits ≡ length found.now.bits }
         requires forward { start ≤ end }
-        requires within { end ≤ (length found.now.bits + 63) / 64 }
+        requires within { end ≤ word_count (length found.now.bits) }
         ensures sum { result ≡ sum (items_where_true
             (in_words start end found.now.bits) (in_words start end self.now.digits)) }
         ensures few { result ≤ 2 ^ 84 }

@@ -4,7 +4,7 @@ use Rattle.std.specs.List.{range_with_len}
 use Rattle.std.proofs.Math.Nat.{mod-add-div, div-div-eq-div-mul}
 use Rattle.std.proofs.lemmas.Nat.{div_below, div-mul-add, mod-mul-add}
 use Rattle.std.proofs.lemmas.List.Sums.{sum_by-cons}
-use Rattle.bsi_digits.specs.Digits.{product, components, digit_of, digits_of, weighted_sum, size_of, IsDigits, IsBaseList}
+use Rattle.bsi_digits.specs.Digits.{product, components, digit_of, digits_of, weighted_sum, IsDigits, IsBaseList}
 use Rattle.bsi_digits.proofs.Parts.{length-digits_of, get_or-digits_of, digit_below}
 
 -- a list made of each number from a + 1 on is one made of each from a on, by the number after it
@@ -71,7 +71,7 @@ same_digits (b ∷ bs) (d ∷ ds) v count below total =
     ap (λ n. n ∷ ds) (sym first) ∙ ap (λ xs. v % b ∷ xs) (more ∙ ap (λ n. digits_of bs n) (sym high)) ∙ sym (digits_of-cons b bs v)
 
 -- what a value below the size has
-pub IsDigits-digits_of : (bs : List ℕ) (v : ℕ) → IsBaseList bs → v < size_of bs → IsDigits bs v (digits_of bs v)
+pub IsDigits-digits_of : (bs : List ℕ) (v : ℕ) → IsBaseList bs → v < product bs → IsDigits bs v (digits_of bs v)
 IsDigits-digits_of bs v valid small = record {
   count = length-digits_of bs v;
   below = λ i h. rw (get_or-digits_of bs v i h) (digit_below valid v i h);

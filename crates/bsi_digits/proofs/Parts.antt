@@ -6,7 +6,7 @@ use Rattle.std.proofs.lemmas.List.FromFn.{length-map-range_with_len, get_or-map-
 use Rattle.std.proofs.lemmas.Nat.{mul-le, mod_below, div-add-mod'}
 use Rattle.std.proofs.Math.Nat.{mul-le-mul_right, div-div-eq-div-mul, mod-eq_of_lt, div-eq_of_lt}
 use Rattle.std.proofs.Math.Arith.{mod-mul}
-use Rattle.bsi_digits.specs.Digits.{product, size_of, weight, digit_of, digits_of, IsBaseList}
+use Rattle.bsi_digits.specs.Digits.{product, weight, digit_of, digits_of, IsBaseList}
 use Rattle.bsi_digits.proofs.Products.{product-take_more, product_pos, product-take_pos, product-take_le}
 
 -- each base is at least 1
@@ -18,16 +18,16 @@ pub weight_more : (bs : List ℕ) (i : ℕ) → i < length bs → weight bs (i +
 weight_more bs i h = product-take_more bs i h
 
 -- past the last component stands the size
-pub weight_all : (bs : List ℕ) → weight bs (length bs) ≡ size_of bs
+pub weight_all : (bs : List ℕ) → weight bs (length bs) ≡ product bs
 weight_all bs = ap product (take_all (length bs) bs (omega arith))
 
 pub weight_pos : {bs : List ℕ} → IsBaseList bs → (i : ℕ) → 1 ≤ weight bs i
 weight_pos {bs} valid i = product-take_pos bs i (base_pos valid)
 
-pub weight_le_size : {bs : List ℕ} → IsBaseList bs → (i : ℕ) → weight bs i ≤ size_of bs
+pub weight_le_size : {bs : List ℕ} → IsBaseList bs → (i : ℕ) → weight bs i ≤ product bs
 weight_le_size {bs} valid i = product-take_le bs i (base_pos valid)
 
-pub size_pos : {bs : List ℕ} → IsBaseList bs → 1 ≤ size_of bs
+pub size_pos : {bs : List ℕ} → IsBaseList bs → 1 ≤ product bs
 size_pos {bs} valid = product_pos bs (base_pos valid)
 
 -- weights rise
@@ -75,10 +75,10 @@ high_parts {bs} valid v i here above base h here_is above_is base_is =
     ap (λ n. above * n + digit_of bs v i) (sym base_is)
 
 -- below all components stands the value, and above them nothing
-pub low_all : (bs : List ℕ) (v : ℕ) → v < size_of bs → v % weight bs (length bs) ≡ v
+pub low_all : (bs : List ℕ) (v : ℕ) → v < product bs → v % weight bs (length bs) ≡ v
 low_all bs v small = ap (λ w. v % w) (weight_all bs) ∙ mod-eq_of_lt small
 
-pub high_all : (bs : List ℕ) (v : ℕ) → v < size_of bs → v / weight bs (length bs) ≡ 0
+pub high_all : (bs : List ℕ) (v : ℕ) → v < product bs → v / weight bs (length bs) ≡ 0
 high_all bs v small = ap (λ w. v / w) (weight_all bs) ∙ div-eq_of_lt small
 
 -- numbers of two parts, of which the higher part differs

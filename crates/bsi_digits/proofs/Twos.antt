@@ -4,7 +4,7 @@ use Rattle.std.proofs.lemmas.Grind.{same_number_lists}
 use Rattle.std.proofs.lemmas.List.{get_or-reverse, length-reverse, length-replicate, get_or-replicate}
 use Rattle.std.proofs.lemmas.List.Folds.{sum_by-replicate}
 use Rattle.std.proofs.Math.Nat.{pow-le-pow_right}
-use Rattle.bsi_digits.specs.Digits.{weight, size_of, digit_of, IsBase, IsBaseList}
+use Rattle.bsi_digits.specs.Digits.{weight, digit_of, IsBase, IsBaseList}
 use Rattle.bsi_digits.specs.Refusal.{refusal}
 use Rattle.bsi_digits.proofs.Products.{product-replicate}
 use Rattle.bsi_digits.proofs.Refusals.{refusal_from_base_list_as_written}
@@ -23,9 +23,6 @@ each_two w i h =
     let long : length (replicate {A = ℕ} w 2) ≡ w = length-replicate w 2 in
     let two : get_or (replicate {A = ℕ} w 2) i 0 ≡ 2 = get_or-replicate w i 2 0 (omega arith) in
     (omega arith, omega arith)
-
-pub size_of-twos : (w : ℕ) → size_of (replicate w 2) ≡ 2 ^ w
-size_of-twos w = product-replicate w
 
 pub IsBaseList-twos : (w : ℕ) → 1 ≤ w → w ≤ 63 → IsBaseList (replicate w 2)
 IsBaseList-twos w some few =

@@ -2,13 +2,10 @@
 use Rattle.std.specs.Prelude.{◌≡◌, ℕ, ◌*◌, ◌/◌, ◌%◌, ◌^◌, ◌<◌, ◌≤◌, List, [], ◌∷◌, length, take, map, sum, sum_by, slice_index, EachIndex}
 use Rattle.std.specs.List.{range_with_len}
 
+-- the product of the bases: how many values they tell apart
 abbrev pub product : List ℕ → ℕ
 product [] = 1
 product (b ∷ bs) = b * product bs
-
--- how many values the bases tell apart
-abbrev pub size_of : List ℕ → ℕ
-size_of bs = product bs
 
 -- the weight of a digit of component i: the product of the bases below it
 abbrev pub weight : List ℕ → ℕ → ℕ
@@ -44,4 +41,4 @@ pub record IsBaseList (bs : List ℕ) : Type 0 where
   pub few : length bs ≤ 63
   pub each : EachIndex bs (λ i. IsBase (slice_index bs i))
   pub narrow : sum bs ≤ 4096
-  pub small : size_of bs ≤ 2 ^ 63
+  pub small : product bs ≤ 2 ^ 63

@@ -2,7 +2,7 @@
 
 ghost use Rattle.std.specs.Prelude.{◌≡◌, ℕ, ◌^◌, ◌<◌, ◌≤◌, ◌↔◌, length, slice_index, position, sum, reverse, replicate, EachIndex, IsNone, IfNone, IfOk, IfErr, IfSome, IsErrOf};
 ghost use Rattle.std.specs.Result.{result_err};
-ghost use Rattle.bsi_digits.specs.Digits.{product, size_of, weight, digit_of, IsBase, IsBaseList};
+ghost use Rattle.bsi_digits.specs.Digits.{product, weight, digit_of, IsBase, IsBaseList};
 ghost use Rattle.bsi_digits.specs.Refusal.{refusal, is_bad_base, IsFirstOr};
 ghost use Rattle.bsi_digits.specs.Weights.{HoldsWeights};
 
@@ -101,7 +101,7 @@ impl Bases {
 
     /// Returns how many values the bases tell apart, at most 2^63: the product of all bases.
     pub fn size(&self) -> u64
-        ensures size { result ≡ size_of self.now }
+        ensures size { result ≡ product self.now }
         ensures within { result ≤ 2 ^ 63 }
         ensures valid { IsBaseList self.now }
     {
@@ -129,7 +129,7 @@ impl Bases {
     /// Returns the digit of component `i` of `v`. It costs no division.
     pub fn digit(&self, v: u64, i: u32) -> u32
         requires within { i < length self.now }
-        requires below { v < size_of self.now }
+        requires below { v < product self.now }
         ensures digit { result ≡ digit_of self.now v i }
         ensures below { result < slice_index self.now i }
     {
@@ -142,12 +142,12 @@ impl Bases {
     pub fn weight(&self, i: u32) -> u64
         requires { i < length self.now }
         ensures weight { result ≡ weight self.now i }
-        ensures within { (1 ≤ result) × (result ≤ size_of self.now) }
+        ensures within { (1 ≤ result) × (result ≤ product self.now) }
     {
         self.divisor(i as usize).value()
     }
 
-    /// Returns the weight of the component at `place` or, behind the last component, the size.
+    /// Returns the weight of the component at `place` or, after the last component, the size.
     fn divisor(&self, place: usize) -> &Divisor
         requires { place ≤ length self.now }
         ensures weight { result.now ≡ weight self.now place }
@@ -177,7 +177,7 @@ fn sum_of(bases: &[u32]) -> u64
     bases.iter().map(|base| u64::from(*base)).sum()
 }
 
-/// Returns the weight of each component and, behind the last one, the product of all bases. The bases are least
+/// Returns the weight of each component and, after the last one, the product of all bases. The bases are least
 /// significant first. It returns `None` if the product is over the largest size.
 fn weights(bases: &[u32]) -> Option<[Divisor; 64]>
     requires few { length bases.now ≤ 63 }

@@ -2,12 +2,12 @@
 ghost use Rattle.std.specs.Prelude.{◌≡◌, ℕ, ◌<◌, ◌↔◌, List, None, reverse, IsPermutation};
 ghost use Rattle.std.specs.Ordering.{nat_cmp};
 ghost use Rattle.std.specs.Cmp.Lexicographic.{slice_cmp};
-ghost use Rattle.bsi_digits.specs.Digits.{size_of, components, weighted_sum, digits_of, IsDigits, IsBaseList};
+ghost use Rattle.bsi_digits.specs.Digits.{product, components, weighted_sum, digits_of, IsDigits, IsBaseList};
 ghost use Rattle.bsi_digits.specs.Refusal.{refusal};
 
 /// States that a value below the size has exactly one list of digits.
 pub fn digits_are_unique()
-    ensures exist { (bs : List ℕ) (v : ℕ) → IsBaseList bs → v < size_of bs →
+    ensures exist { (bs : List ℕ) (v : ℕ) → IsBaseList bs → v < product bs →
         IsDigits bs v (digits_of bs v) }
     ensures unique { (bs ds : List ℕ) (v : ℕ) → IsDigits bs v ds → ds ≡ digits_of bs v }
 {}
@@ -21,7 +21,7 @@ pub fn weighted_sum_in_any_order()
 
 /// States that two values compare as their lists of digits do, from the most significant digit down.
 pub fn values_compare_by_digits()
-    ensures { (bs : List ℕ) (u v : ℕ) → IsBaseList bs → u < size_of bs → v < size_of bs →
+    ensures { (bs : List ℕ) (u v : ℕ) → IsBaseList bs → u < product bs → v < product bs →
         slice_cmp nat_cmp (reverse (digits_of bs u)) (reverse (digits_of bs v)) ≡ nat_cmp u v }
 {}
 

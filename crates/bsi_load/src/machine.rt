@@ -1,6 +1,6 @@
 //! The machine: a bounded queue for each feeder, over the index of a table.
 
-ghost use Rattle.std.specs.Prelude.{◌≡◌, ℕ, ◌≤◌, List, [], ◌∷◌, Option, None, Ok, Err, length, map, IfErr, IfOk, OnOk, option_map, if◌then◌else◌};
+ghost use Rattle.std.specs.Prelude.{◌≡◌, ℕ, ◌≤◌, [], ◌∷◌, None, length, map, IfErr, IfOk, OnOk, if◌then◌else◌};
 ghost use Rattle.bsi_table.specs.Answers.{IsReply};
 ghost use Rattle.bsi_table.specs.Refusals.{IsFirstOr};
 ghost use Rattle.bsi_load.specs.declared.event.Event.TheVariants as event;
@@ -48,7 +48,7 @@ impl Core {
         ensures ok { IfOk result (λ core. core ≡ new_machine schema capacities.items limit) }
         ensures taken { OnOk result (sizes_refusal schema capacities.items limit ≡ None) }
         ensures refused { IfErr result
-            (λ e. IsFirstOr MakeError.NoMemory (sizes_refusal schema capacities.items limit) e) }
+            (IsFirstOr MakeError.NoMemory (sizes_refusal schema capacities.items limit)) }
     {
         check_sizes(&schema, &capacities, limit)?;
         let feeders = open_feeders(alloc, &capacities)?;
@@ -80,7 +80,7 @@ impl Core {
         self.index.schema()
     }
 
-    /// Accepts a row of a feeder. From then on the row waits behind the feeder's other rows. It allocates no memory.
+    /// Accepts a row of a feeder. From then on the row waits after the feeder's other rows. It allocates no memory.
     pub fn submit(&mut self, f: u32, row: Row) -> Result<(), SubmitRefused>
         ensures reply { result ≡ submit_reply self.old f row }
         ensures after { self.new

@@ -1,9 +1,10 @@
 -- The rows of a found set, each by its feeder and its number among the feeder's.
-use Rattle.std.specs.Prelude.{ℕ, List, map, take, count_by, nat_eq, slice_index}
+use Rattle.std.specs.Prelude.{ℕ, List, map, slice_index}
+use Rattle.bsi_origins.specs.Origins.{count_before}
 
 -- the number of row r among its feeder's, of rows from these feeders: how many before it came from the same feeder
 abbrev pub number_within : List ℕ → ℕ → ℕ
-number_within feeders r = count_by (λ feeder. nat_eq feeder (slice_index feeders r)) (take r feeders)
+number_within feeders r = count_before feeders r (slice_index feeders r)
 
 -- the rows at these positions, each by its feeder and its number among the feeder's
 abbrev pub numbered_at : List ℕ → List ℕ → List (ℕ × ℕ)

@@ -1,8 +1,8 @@
 -- The feeder of each row, and marks: counts by feeder before every 512th row.
 use Rattle.std.specs.Prelude.{◌≡◌, ℕ, ◌+◌, ◌*◌, ◌/◌, ◌^◌, ◌<◌, ◌≤◌, List, All, length, take, count_by, nat_eq, nat_le, slice_index, if◌then◌else◌}
 
--- what a contract sees of an 'Origins': the feeder of each row, how many feeders there are, and how many more rows can be
--- appended with no memory
+-- what a contract sees of an 'Origins': the feeder of each row, how many feeders there are, and how many more rows can
+-- be appended with no memory
 pub record OriginList : Type 0 where
   pub rows : List ℕ
   pub feeders : ℕ
@@ -26,7 +26,9 @@ mark_count rows = (rows + 511) / 512
 
 -- mark k has the counts of the first 512 k rows; the marks stand one after the other
 abbrev pub AreMarks : ℕ → List ℕ → List ℕ → Type 0
-AreMarks len rows marks = (k f : ℕ) → 512 * k < length rows → f < len → slice_index marks (len * k + f) ≡ count_before rows (512 * k) f
+AreMarks len rows marks =
+    (k f : ℕ) → 512 * k < length rows → f < len
+    → slice_index marks (len * k + f) ≡ count_before rows (512 * k) f
 
 -- the feeders of rows are kept so: with the counts of all rows, and the marks
 pub record IsMarked (feeders : ℕ) (rows counts marks : List ℕ) : Type 0 where

@@ -1,7 +1,7 @@
 -- The columns that a schema declares, and the rows that fit them.
 use Rattle.std.specs.Prelude.{ℕ, ◌^◌, ◌≤◌, Bool, true, false, ◌&&◌, ◌||◌, List, [], ◌∷◌, ◌++◌, length, position, All, Option, Some, None, reverse, slice_index_or, String, string_bytes, ℤ, pos, ◌+ℤ◌, ◌≤ℤ◌, int_le, int_lt, IsTrue}
 use Rattle.std.specs.Str.{bytes_eq}
-use Rattle.bsi_digits.specs.Digits.{size_of, IsBaseList}
+use Rattle.bsi_digits.specs.Digits.{product, IsBaseList}
 use Rattle.bsi_schema.specs.Names.{is_name}
 use Rattle.bsi_schema.specs.declared.form.ColumnSpec.{ColumnSpec}
 use Rattle.bsi_schema.specs.declared.form.ColumnSpec.TheVariants.{Slices as spec_slices, Equality as spec_equality, Range as spec_range}
@@ -12,8 +12,8 @@ use Rattle.bsi_schema.specs.declared.form.Kind.{Kind}
 -- how many numbers a column of this form tells apart
 abbrev pub size_in : Form → ℕ
 size_in (Slices w) = 2 ^ w
-size_in (Equality bs) = size_of bs
-size_in (Range bs) = size_of bs
+size_in (Equality bs) = product bs
+size_in (Range bs) = product bs
 
 -- 1 to 63 slices, or a list of bases
 abbrev pub IsForm : Form → Type 0
@@ -86,10 +86,14 @@ Entries = List (Option ℤ)
 abbrev pub entry_at : Entries → ℕ → Option ℤ
 entry_at row c = slice_index_or row c None
 
+-- a null, or a number from the least up, as many as the size
+abbrev pub is_between : ℤ → ℕ → Option ℤ → Bool
+is_between least size None = true
+is_between least size (Some x) = int_le least x && int_lt x (least +ℤ pos size)
+
 -- a null, or a number from the offset up, as many as the column tells apart
 abbrev pub is_taken_by : NamedColumn → Option ℤ → Bool
-is_taken_by column None = true
-is_taken_by column (Some x) = int_le column.offset x && int_lt x (column.offset +ℤ pos (size_in column.form))
+is_taken_by column entry = is_between column.offset (size_in column.form) entry
 
 -- a row fits: it has one entry for each column, and the column takes it
 abbrev pub fits : List NamedColumn → List (Option ℤ) → Bool

@@ -16,8 +16,8 @@ begins_lower (first ∷ rest) = is_ascii_lowercase first
 -- a word that predicates are written with
 abbrev pub is_word : List ℕ → Bool
 is_word text =
-    bytes_eq text (codes "all") || bytes_eq text (codes "null") || bytes_eq text (codes "and") || bytes_eq text (codes "or")
-    || bytes_eq text (codes "not")
+    bytes_eq text (codes "all") || bytes_eq text (codes "null") || bytes_eq text (codes "and")
+    || bytes_eq text (codes "or") || bytes_eq text (codes "not")
 
 -- the text is a name
 abbrev pub is_name : List ℕ → Bool

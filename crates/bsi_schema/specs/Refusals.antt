@@ -1,5 +1,5 @@
 -- Which refusal of a further column comes first.
-use Rattle.std.specs.Prelude.{◌≡◌, ℕ, ◌^◌, not, ◌+ℤ◌, ℤ, pos, int_lt, List, length, Option, Some, None, is_some, option_map, nat_eq, nat_lt, nat_le, if◌then◌else◌}
+use Rattle.std.specs.Prelude.{ℕ, ◌^◌, not, ◌+ℤ◌, ℤ, pos, int_lt, List, length, Option, Some, None, is_some, option_map, nat_eq, nat_lt, nat_le, if◌then◌else◌}
 use Rattle.std.specs.Option.{option_or}
 use Rattle.bsi_digits.specs.Refusal.{refusal}
 pub use Rattle.bsi_digits.specs.Refusal.{IsFirstOr}
@@ -31,7 +31,8 @@ name_refusal schema name =
 
 -- the refusal of an offset beside a form
 abbrev pub offset_refusal : ℤ → ColumnSpec → Option SchemaError
-offset_refusal offset spec = if int_lt (pos (2 ^ 63)) (offset +ℤ pos (size_in (form_of spec))) then Some BadOffset else None
+offset_refusal offset spec =
+    if int_lt (pos (2 ^ 63)) (offset +ℤ pos (size_in (form_of spec))) then Some BadOffset else None
 
 -- the first refusal of one more column
 abbrev pub column_refusal : Declared → List ℕ → ColumnSpec → Option SchemaError

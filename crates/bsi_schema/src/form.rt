@@ -47,7 +47,7 @@ impl Form {
     pub(crate) fn of(spec: ColumnSpec) -> Result<Form, BasesError>
         ensures refused { result_err result ≡ form_refusal spec }
         ensures ok { IfOk result (λ form. form ≡ form_of spec) }
-        ensures valid { IfOk result (λ form. IsForm form) }
+        ensures valid { IfOk result IsForm }
     {
         match spec {
             ColumnSpec::Slices(0) => Err(BasesError::Empty),

@@ -1,6 +1,6 @@
 //! The columns of a table: their names in order of declaration, their forms and offsets.
 
-ghost use Rattle.std.specs.Prelude.{◌≡◌, ◌<◌, ◌≤◌, ◌^◌, ◌++◌, ◌∷◌, [], Some, None, true, false, length, is_some, pos, ◌+ℤ◌, ◌≤ℤ◌, IfOk, IfErr, OnOk, OnErr, IsTrue, Ok};
+ghost use Rattle.std.specs.Prelude.{◌≡◌, ◌<◌, ◌≤◌, ◌^◌, None, true, false, length, pos, ◌+ℤ◌, ◌≤ℤ◌, IfOk, IfErr, OnOk, OnErr, IsTrue};
 ghost use Rattle.std.specs.Result.{result_err};
 ghost use Rattle.bsi_schema.specs.Columns.{column_at, fits, form_of, is_taken_by, named_column, no_columns, position_of, size_in, with_column, AreNamed, IsForm};
 ghost use Rattle.bsi_schema.specs.Names.{is_name};
@@ -152,7 +152,7 @@ impl Schema {
         least <= number && number < least + i128::from(self.size(c))
     }
 
-    /// Adds a column of numbers from 0 up, behind the others. If it is refused, the column is dropped and the schema
+    /// Adds a column of numbers from 0 up, after the others. If it is refused, the column is dropped and the schema
     /// stays.
     pub fn add(&mut self, name: &str, spec: ColumnSpec) -> Result<(), SchemaError>
         ensures added { OnOk result (self.new
@@ -167,7 +167,7 @@ impl Schema {
         Ok(())
     }
 
-    /// Adds a column of numbers from `offset` up, behind the others. If it is refused, the column is dropped and the
+    /// Adds a column of numbers from `offset` up, after the others. If it is refused, the column is dropped and the
     /// schema stays.
     pub fn add_signed(
         &mut self,
@@ -217,7 +217,7 @@ impl Schema {
         Ok(())
     }
 
-    /// Adds a column behind the others, under a name that is not taken.
+    /// Adds a column after the others, under a name that is not taken.
     fn push(&mut self, name: &str, kind: Kind, signed: bool) -> Result<(), NoMemory>
         requires fresh { position_of self.old.columns name.now ≡ None }
         requires name { IsTrue (is_name name.now) }

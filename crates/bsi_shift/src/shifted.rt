@@ -1,6 +1,6 @@
 //! A column of whole numbers from an offset on, stored as the column of the numbers less the offset.
 
-ghost use Rattle.std.specs.Prelude.{◌≡◌, ℕ, pos, ◌+ℤ◌, ◌≤ℤ◌, ◌<ℤ◌, ◌+◌, ◌<◌, ◌≤◌, ◌^◌, [], ◌∷◌, ◌++◌, All, length, map, None, slice_index_or, is_some, nat_lt, IsOk, IfOk, IfSome, OnOk, OnErr};
+ghost use Rattle.std.specs.Prelude.{◌≡◌, ℕ, pos, ◌+ℤ◌, ◌≤ℤ◌, ◌+◌, ◌<◌, ◌≤◌, ◌^◌, [], ◌∷◌, ◌++◌, All, length, map, None, slice_index_or, is_some, nat_lt, IsOk, IfOk, OnOk, OnErr};
 ghost use Rattle.std.specs.Option.{option_map};
 ghost use Rattle.bsi_columns.specs.AnyRows.{any_entries, any_size};
 ghost use Rattle.bsi_shift.specs.Shifted.{shifted_entries, shifted_size, shifted_room, number_of, IsAlike, IsInRange};
@@ -18,7 +18,7 @@ mod totals;
 pub struct Shifted {
     stored: AnyColumn,
     offset: i64,
-    // (that of the stored column)
+    // The size of the stored column.
     size: u64,
 }
 
@@ -174,7 +174,7 @@ impl Shifted {
 
 /// Returns what is stored of an entry that is not below the offset: its number less the offset, or a null.
 fn stored_from(offset: i64, entry: Option<i64>) -> Option<u64>
-    requires { IfSome entry (λ x. (offset ≤ℤ x) × (x <ℤ (offset +ℤ pos (2 ^ 63)))) }
+    requires { IsInRange offset (2 ^ 63) entry }
     ensures { option_map (number_of offset) result ≡ entry }
 {
     let number = entry?;
@@ -184,8 +184,7 @@ fn stored_from(offset: i64, entry: Option<i64>) -> Option<u64>
 /// Writes what is stored of each entry of a block.
 fn store_block(offset: i64, block: &[Option<i64>], stored: &mut [Option<u64>; 64])
     requires few { length block.now ≤ 64 }
-    requires range { All (λ entry. IfSome entry
-        (λ x. (offset ≤ℤ x) × (x <ℤ (offset +ℤ pos (2 ^ 63))))) block.now }
+    requires range { All (IsInRange offset (2 ^ 63)) block.now }
     ensures long { length stored.new ≡ 64 }
     ensures each { (r : ℕ) → r < length block.now →
         option_map (number_of offset) (slice_index_or stored.new r None)

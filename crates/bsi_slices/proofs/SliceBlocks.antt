@@ -10,7 +10,8 @@ use Rattle.std.proofs.lemmas.Nat.Bits.{bit_at-lt, shr_and_one}
 use Rattle.std.proofs.lemmas.Simd.{length-zip2, length-chunk, get_or-chunk}
 use Rattle.bsi_bits.specs.BitList.{BitList}
 use Rattle.bsi_bits.specs.Packed.{bit_of}
-use Rattle.bsi_slices.specs.Slices.{slice_at, number}
+use Rattle.bsi_bits.specs.BitLists.{bits_at}
+use Rattle.bsi_slices.specs.Slices.{number}
 use Rattle.bsi_slices.proofs.WordBlocks.{bit_of-chunk, and_bit, or_bit, not_bit}
 use Rattle.bsi_slices.proofs.SliceNumbers.{above_more, equal_more}
 
@@ -58,8 +59,8 @@ zero_read c i = ap (λ b. b == 0) (shr_and_one c i) ∙ other (bit_at c i) (bit_
     other b small = grind (arith, nat_tests)
 
 module _ (slices : List BitList) (c at n i : ℕ) (words : List ℕ) (within : i < length slices) (enough : at + n ≤ length words)
-    (places : (k : ℕ) → bit_of words k ≡ get_or (slice_at slices i) k false) where
-  lane : (p : ℕ) → p < 64 * n → bit_of (chunk at n words) p ≡ get_or (slice_at slices i) (64 * at + p) false
+    (places : (k : ℕ) → bit_of words k ≡ get_or (bits_at slices i) k false) where
+  lane : (p : ℕ) → p < 64 * n → bit_of (chunk at n words) p ≡ get_or (bits_at slices i) (64 * at + p) false
   lane p below = bit_of-chunk at n words p below ∙ places (64 * at + p)
 
   -- the rows above by one more place
@@ -83,7 +84,7 @@ module _ (slices : List BitList) (c at n i : ℕ) (words : List ℕ) (within : i
       ap (λ ws. bit_of ws p) is
       ∙ cut_bit n found (chunk at n words) long (length-chunk at n words enough) (bit_and (c / 2 ^ i) 1 == 0) (chunk_fits at n words fits enough) p below
       ∙ (λ j. before p below j && turned (zero_read c i j) (lane p below j))
-      ∙ ap (λ b. (c % 2 ^ i == number (take i slices) (64 * at + p)) && b) (of_one (bit_at c i == 1) (get_or (slice_at slices i) (64 * at + p) false))
+      ∙ ap (λ b. (c % 2 ^ i == number (take i slices) (64 * at + p)) && b) (of_one (bit_at c i == 1) (get_or (bits_at slices i) (64 * at + p) false))
       ∙ sym (equal_more slices c i (64 * at + p) within)
     where
       of_one : (one s : Bool) → turned (not one) s ≡ (if one then s else not s)

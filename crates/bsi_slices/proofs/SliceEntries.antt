@@ -9,7 +9,8 @@ use Rattle.std.proofs.lemmas.List.Elements.{All-from_get_or}
 use Rattle.std.proofs.lemmas.List.FromFn.{length-map-range_with_len, get_or-map-range_with_len, fill_by_all}
 use Rattle.bsi_bits.specs.BitList.{BitList}
 use Rattle.bsi_slices.specs.Rows.{number_or_zero}
-use Rattle.bsi_slices.specs.Slices.{empty_slice, slice_at, bit_value, number, sliced_entry, entries_in, IsSliced}
+use Rattle.bsi_bits.specs.BitLists.{bits_at, no_bits}
+use Rattle.bsi_slices.specs.Slices.{bit_value, number, sliced_entry, entries_in, IsSliced}
 use Rattle.bsi_slices.proofs.SliceNumbers.{number_below, number_place}
 
 -- two functions that agree below n
@@ -19,17 +20,17 @@ same_below default f g n each =
     (λ i within. get_or-map-range_with_len f 0 n i i default within (omega arith) ∙ each i within)
 
 -- an element of the slices as it is read
-pub slice_read : (slices : List BitList) (i : ℕ) (slice : BitList) → i < length slices → slice ≡ get_or slices i slice → slice.bits ≡ slice_at slices i
+pub slice_read : (slices : List BitList) (i : ℕ) (slice : BitList) → i < length slices → slice ≡ get_or slices i slice → slice.bits ≡ bits_at slices i
 slice_read [] i slice within is = absurd (omega arith)
 slice_read (s ∷ slices) zero slice within is = ap (λ b. b.bits) is
 slice_read (s ∷ slices) (suc i) slice within is = slice_read slices i slice (omega arith) is
 
--- one more slice behind the others
-pub slice_behind : (slices : List BitList) (last : BitList) → slice_at (slices ++ last ∷ []) (length slices) ≡ last.bits
-slice_behind slices last = ap (λ s. s.bits) (get_or-append_seam slices last [] empty_slice)
+-- one more slice after the others
+pub slice_behind : (slices : List BitList) (last : BitList) → bits_at (slices ++ last ∷ []) (length slices) ≡ last.bits
+slice_behind slices last = ap (λ s. s.bits) (get_or-append_seam slices last [] no_bits)
 
-pub slice_before : (slices : List BitList) (last : BitList) (k : ℕ) → k < length slices → slice_at (slices ++ last ∷ []) k ≡ slice_at slices k
-slice_before slices last k below = ap (λ s. s.bits) (get_or_append_left slices (last ∷ []) empty_slice k below)
+pub slice_before : (slices : List BitList) (last : BitList) (k : ℕ) → k < length slices → bits_at (slices ++ last ∷ []) k ≡ bits_at slices k
+slice_before slices last k below = ap (λ s. s.bits) (get_or_append_left slices (last ∷ []) no_bits k below)
 
 -- as many entries as there are marks
 pub length-entries_in : (present : List Bool) (slices : List BitList) → length (entries_in present slices) ≡ length present
@@ -82,9 +83,9 @@ stored_number present slices sliced r within = of_mark (get_or present r false) 
 
 -- slice k is binary place k of what is stored
 pub slice_of : (present : List Bool) (slices : List BitList) → IsSliced present slices → (k : ℕ) → k < length slices
-    → slice_at slices k ≡ map (λ e. bit_at (number_or_zero e) k == 1) (entries_in present slices)
+    → bits_at slices k ≡ map (λ e. bit_at (number_or_zero e) k == 1) (entries_in present slices)
 slice_of present slices sliced k within =
-    by_entries (λ e. bit_at (number_or_zero e) k == 1) present slices false (slice_at slices k) (sliced.even k within)
+    by_entries (λ e. bit_at (number_or_zero e) k == 1) present slices false (bits_at slices k) (sliced.even k within)
     (λ r below. sym (ap (λ x. bit_at x k == 1) (stored_number present slices sliced r below) ∙ number_place slices r k within))
 
 -- each entry is below two to the power of the width
@@ -101,7 +102,7 @@ entries_below present slices =
 
 -- slices that have the same bits in row r
 pub number_same : (old new : List BitList) (r : ℕ) → length new ≡ length old
-    → ((k : ℕ) → k < length old → get_or (slice_at new k) r false ≡ get_or (slice_at old k) r false) → number new r ≡ number old r
+    → ((k : ℕ) → k < length old → get_or (bits_at new k) r false ≡ get_or (bits_at old k) r false) → number new r ≡ number old r
 unfolding number
 number_same [] [] r long same = refl
 number_same [] (s ∷ new) r long same = absurd (omega arith)
@@ -109,7 +110,7 @@ number_same (t ∷ old) [] r long same = absurd (omega arith)
 number_same (t ∷ old) (s ∷ new) r long same =
     (λ i. bit_value (same 0 (omega arith) i) + 2 * number_same old new r (omega arith) (λ k below. same (suc k) (omega arith)) i)
 
-module _ (present now : List Bool) (old new : List BitList) (marks : now ≡ present) (long : length new ≡ length old) (same : (k : ℕ) → k < length old → slice_at new k ≡ slice_at old k) where
+module _ (present now : List Bool) (old new : List BitList) (marks : now ≡ present) (long : length new ≡ length old) (same : (k : ℕ) → k < length old → bits_at new k ≡ bits_at old k) where
   alike : (r : ℕ) → number new r ≡ number old r
   alike r = number_same old new r long (λ k within. ap (λ b. get_or b r false) (same k within))
 
@@ -133,7 +134,7 @@ module _ (present now : List Bool) (old new : List BitList) (marks : now ≡ pre
 
 -- empty slices are a column's
 pub sliced_empty : (present : List Bool) (slices : List BitList) → 1 ≤ length slices → length slices ≤ 63 → present ≡ []
-    → ((k : ℕ) → k < length slices → slice_at slices k ≡ []) → IsSliced present slices
+    → ((k : ℕ) → k < length slices → bits_at slices k ≡ []) → IsSliced present slices
 sliced_empty present slices some few none each = record {
   some = some;
   few = few;

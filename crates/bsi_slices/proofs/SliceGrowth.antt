@@ -8,12 +8,13 @@ use Rattle.std.proofs.lemmas.List.{get_or_append_left, get_or-append_right, take
 use Rattle.std.proofs.lemmas.List.FromFn.{fill_by_all}
 use Rattle.bsi_bits.specs.BitList.{BitList}
 use Rattle.bsi_slices.specs.Rows.{number_or_zero}
-use Rattle.bsi_slices.specs.Slices.{slice_at, bit_value, number, sliced_entry, entries_in, IsSliced}
+use Rattle.bsi_bits.specs.BitLists.{bits_at}
+use Rattle.bsi_slices.specs.Slices.{bit_value, number, sliced_entry, entries_in, IsSliced}
 use Rattle.bsi_slices.proofs.SliceNumbers.{number_more, number_none, places_more}
 use Rattle.bsi_slices.proofs.SliceEntries.{number_same, length-entries_in, get_or-entries_in}
 
 -- the number of a row whose bit in each slice is the binary place of x
-module _ (slices : List BitList) (x r : ℕ) (placed : (k : ℕ) → k < length slices → get_or (slice_at slices k) r false ≡ (bit_at x k == 1)) where
+module _ (slices : List BitList) (x r : ℕ) (placed : (k : ℕ) → k < length slices → get_or (bits_at slices k) r false ≡ (bit_at x k == 1)) where
   number_low : (i : ℕ) → i ≤ length slices → number (take i slices) r ≡ x % 2 ^ i
   number_low zero within = number_none r ∙ omega arith
   number_low (suc i) within =
@@ -30,7 +31,7 @@ module _ (slices : List BitList) (x r : ℕ) (placed : (k : ℕ) → k < length 
 
 module _ (present now : List Bool) (old new : List BitList) (block : List (Option ℕ)) (sliced : IsSliced present old) (fit : (i : ℕ) → i < length block → number_or_zero (get_or block i None) < 2 ^ length old)
     (marks : now ≡ present ++ map is_some block) (long : length new ≡ length old)
-    (pushed : (k : ℕ) → k < length old → slice_at new k ≡ slice_at old k ++ map (λ e. bit_at (number_or_zero e) k == 1) block) where
+    (pushed : (k : ℕ) → k < length old → bits_at new k ≡ bits_at old k ++ map (λ e. bit_at (number_or_zero e) k == 1) block) where
   marks_long : length now ≡ length present + length block
   marks_long = ap length marks ∙ length-append present (map is_some block) ∙ ap (λ n. length present + n) (length-map block is_some)
 
@@ -40,7 +41,7 @@ module _ (present now : List Bool) (old new : List BitList) (block : List (Optio
 
   number_before : (r : ℕ) → r < length present → number new r ≡ number old r
   number_before r below = number_same old new r long (λ k within.
-      ap (λ b. get_or b r false) (pushed k within) ∙ get_or_append_left (slice_at old k) (map (λ e. bit_at (number_or_zero e) k == 1) block) false r (omega (arith, sliced.even k within)))
+      ap (λ b. get_or b r false) (pushed k within) ∙ get_or_append_left (bits_at old k) (map (λ e. bit_at (number_or_zero e) k == 1) block) false r (omega (arith, sliced.even k within)))
 
   -- and the new ones
   mark_of : (r : ℕ) → length present ≤ r → r < length now → get_or now r false ≡ is_some (get_or block (r - length present) None)
@@ -55,7 +56,7 @@ module _ (present now : List Bool) (old new : List BitList) (block : List (Optio
       placed_number new (number_or_zero (get_or block i None)) r (λ k below.
       let in_old : k < length old = omega (arith, long) in
       ap (λ b. get_or b r false) (pushed k in_old)
-      ∙ get_or-append_right (slice_at old k) (map (λ e. bit_at (number_or_zero e) k == 1) block) (length present) r false (sliced.even k in_old) from
+      ∙ get_or-append_right (bits_at old k) (map (λ e. bit_at (number_or_zero e) k == 1) block) (length present) r false (sliced.even k in_old) from
       ∙ get_or-map (λ e. bit_at (number_or_zero e) k == 1) block i None false (omega (arith, marks_long)))
       (rw long (fit i (omega (arith, marks_long))))
 
@@ -94,7 +95,7 @@ module _ (present now : List Bool) (old new : List BitList) (block : List (Optio
     even = λ k within.
         let in_old : k < length old = omega arith in
         ap length (pushed k in_old)
-        ∙ length-append (slice_at old k) (map (λ e. bit_at (number_or_zero e) k == 1) block)
+        ∙ length-append (bits_at old k) (map (λ e. bit_at (number_or_zero e) k == 1) block)
         ∙ omega (arith, sliced.even k in_old, length-map block (λ e. bit_at (number_or_zero e) k == 1), marks_long);
     clear = λ r within null. elim (cases_lt r (length present)) [
       | inl before ↦ number_before r before ∙ sliced.clear r before (sym (mark_before r before) ∙ null)

@@ -9,7 +9,8 @@ use Rattle.std.proofs.lemmas.Nat.Bits.{bit_at-suc}
 use Rattle.std.proofs.lemmas.List.{take_all}
 use Rattle.std.proofs.Math.Nat.{mod-eq_of_lt}
 use Rattle.bsi_bits.specs.BitList.{BitList}
-use Rattle.bsi_slices.specs.Slices.{slice_at, bit_value, number}
+use Rattle.bsi_bits.specs.BitLists.{bits_at}
+use Rattle.bsi_slices.specs.Slices.{bit_value, number}
 
 -- twice a power
 two_pow : (i : ℕ) → 2 ^ (suc i) ≡ 2 * 2 ^ i
@@ -22,7 +23,7 @@ place_small false = omega arith
 
 -- the number in the first i + 1 slices
 pub number_more : (slices : List BitList) (r i : ℕ) → i < length slices
-    → number (take (i + 1) slices) r ≡ number (take i slices) r + bit_value (get_or (slice_at slices i) r false) * 2 ^ i
+    → number (take (i + 1) slices) r ≡ number (take i slices) r + bit_value (get_or (bits_at slices i) r false) * 2 ^ i
 unfolding number
 number_more [] r i within = absurd (omega arith)
 number_more (s ∷ slices) r zero within = grind arith
@@ -30,7 +31,7 @@ number_more (s ∷ slices) r (suc i) within =
     let next : suc i + 1 ≡ suc (i + 1) = omega arith in
     ap (λ k. number (take k (s ∷ slices)) r) next
     ∙ ap (λ m. bit_value (get_or s.bits r false) + 2 * m) (number_more slices r i (omega arith))
-    ∙ (let d : ℕ = bit_value (get_or (slice_at slices i) r false) in let p = two_pow i in grind arith)
+    ∙ (let d : ℕ = bit_value (get_or (bits_at slices i) r false) in let p = two_pow i in grind arith)
 
 -- it is below two to the power of their number
 pub number_below : (slices : List BitList) (r : ℕ) → number slices r < 2 ^ length slices
@@ -44,7 +45,7 @@ unfolding number
 number_none r = refl
 
 -- binary place k of a number is the bit in slice k
-pub number_place : (slices : List BitList) (r k : ℕ) → k < length slices → (bit_at (number slices r) k == 1) ≡ get_or (slice_at slices k) r false
+pub number_place : (slices : List BitList) (r k : ℕ) → k < length slices → (bit_at (number slices r) k == 1) ≡ get_or (bits_at slices k) r false
 unfolding number
 number_place [] r k within = absurd (omega arith)
 number_place (s ∷ slices) r zero within = lowest (get_or s.bits r false) (number slices r)
@@ -98,17 +99,17 @@ low_below slices r i within =
 module _ (slices : List BitList) (n i r : ℕ) (within : i < length slices) where
   -- by one more place, whether the number is above a constant
   pub above_more : nat_lt (n % 2 ^ (i + 1)) (number (take (i + 1) slices) r)
-      ≡ (if bit_at n i == 1 then nat_lt (n % 2 ^ i) (number (take i slices) r) && get_or (slice_at slices i) r false else (nat_lt (n % 2 ^ i) (number (take i slices) r) || get_or (slice_at slices i) r false))
+      ≡ (if bit_at n i == 1 then nat_lt (n % 2 ^ i) (number (take i slices) r) && get_or (bits_at slices i) r false else (nat_lt (n % 2 ^ i) (number (take i slices) r) || get_or (bits_at slices i) r false))
   above_more =
       (λ j. nat_lt (places_more n i j) (number_more slices r i within j))
-      ∙ above_place (n % 2 ^ i) (number (take i slices) r) (2 ^ i) (bit_at n i == 1) (get_or (slice_at slices i) r false) (mod_below n (2 ^ i) (pow_pos i)) (low_below slices r i within)
+      ∙ above_place (n % 2 ^ i) (number (take i slices) r) (2 ^ i) (bit_at n i == 1) (get_or (bits_at slices i) r false) (mod_below n (2 ^ i) (pow_pos i)) (low_below slices r i within)
 
   -- and whether it is the constant
   pub equal_more : (n % 2 ^ (i + 1) == number (take (i + 1) slices) r)
-      ≡ ((n % 2 ^ i == number (take i slices) r) && (if bit_at n i == 1 then get_or (slice_at slices i) r false else not (get_or (slice_at slices i) r false)))
+      ≡ ((n % 2 ^ i == number (take i slices) r) && (if bit_at n i == 1 then get_or (bits_at slices i) r false else not (get_or (bits_at slices i) r false)))
   equal_more =
       (λ j. places_more n i j == number_more slices r i within j)
-      ∙ equal_place (n % 2 ^ i) (number (take i slices) r) (2 ^ i) (bit_at n i == 1) (get_or (slice_at slices i) r false) (mod_below n (2 ^ i) (pow_pos i)) (low_below slices r i within)
+      ∙ equal_place (n % 2 ^ i) (number (take i slices) r) (2 ^ i) (bit_at n i == 1) (get_or (bits_at slices i) r false) (mod_below n (2 ^ i) (pow_pos i)) (low_below slices r i within)
 
 -- by no place no number is above the constant, and each is the constant
 pub above_none : (n r : ℕ) → nat_lt (n % 1) (number [] r) ≡ false

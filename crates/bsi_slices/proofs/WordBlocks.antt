@@ -21,7 +21,7 @@ block_room n k len some below =
     omega arith
 
 module _ (at : ℕ) (words ys : List ℕ) (fits : at + length ys ≤ length words) where
-  -- a bit within the block that was written, before it and behind it
+  -- a bit within the block that was written, before it and after it
   pub bit_in_block : (p : ℕ) → p < 64 * length ys → bit_of (put_chunk at words ys) (64 * at + p) ≡ bit_of ys p
   bit_in_block p within =
       let word : (64 * at + p) / 64 ≡ at + p / 64 = omega arith in

@@ -1,5 +1,6 @@
 -- The number at an end of a found set, row by row.
 use Rattle.std.specs.Prelude.{◌≡◌, ℕ, ◌<◌, ◌≤◌, ◌&&◌, Bool, true, false, not, List, Option, Some, None, MatchOption, is_some, slice_index_or}
+use Rattle.bsi_bits.specs.Marked.{HasValue}
 use Rattle.bsi_slices.specs.Rows.{number_or_zero}
 use Rattle.bsi_slices.specs.Slices.{bit_value}
 use Rattle.bsi_slices.specs.Totals.{IsLeastOf, IsGreatestOf}
@@ -46,14 +47,18 @@ has_number found entries r = slice_index_or found r false && is_some (slice_inde
 
 -- m is the number of one of the n rows that are marked, and the nearest
 pub record IsEndAmong (end : End) (marked : ℕ → Bool) (number : ℕ → ℕ) (n m : ℕ) : Type 0 where
-  pub member : (p : ℕ) × (p < n) × (marked p ≡ true) × (number p ≡ m)
+  pub member : HasValue marked number n m
   pub first : (p : ℕ) → p < n → marked p ≡ true → comes_first end m (number p)
 
 -- the number at the end of the first n rows of a found set, none where none of them has one
 abbrev pub IsEndUpto : End → List Bool → List (Option ℕ) → ℕ → Option ℕ → Type 0
-IsEndUpto end found entries n answer = MatchOption answer ((r : ℕ) → r < n → has_number found entries r ≡ false) (IsEndAmong end (has_number found entries) (number_at entries) n)
+IsEndUpto end found entries n answer =
+    MatchOption answer ((r : ℕ) → r < n → has_number found entries r ≡ false)
+    (IsEndAmong end (has_number found entries) (number_at entries) n)
 
--- the number at the end of the n rows that are marked, where it is as near as the best so far; none where that leads them all
+-- the number at the end of the n rows that are marked, where it is as near as the best so far; none where that leads
+-- them all
 abbrev pub IsBetterIn : End → (ℕ → Bool) → (ℕ → ℕ) → ℕ → Option ℕ → Option ℕ → Type 0
 IsBetterIn end marked number n best answer =
-    MatchOption answer ((p : ℕ) → p < n → marked p ≡ true → leads end best (number p)) (λ m. IsEndAmong end marked number n m × yields end m best)
+    MatchOption answer ((p : ℕ) → p < n → marked p ≡ true → leads end best (number p))
+    (λ m. IsEndAmong end marked number n m × yields end m best)

@@ -2,21 +2,14 @@
 use Rattle.std.specs.Prelude.{◌≡◌, ℕ, ◌+◌, ◌*◌, ◌^◌, ◌<◌, ◌≤◌, Bool, false, if◌then◌else◌, List, [], ◌∷◌, length, map, Option, Some, None, slice_index_or}
 use Rattle.std.specs.List.{range_with_len}
 use Rattle.bsi_bits.specs.BitList.{BitList}
-use Rattle.bsi_bits.specs.BitLists.{no_bits}
+use Rattle.bsi_bits.specs.BitLists.{bits_at}
 
--- what a contract sees of a column of slices: how many there are, its rows, and how many more can be appended with no memory
+-- what a contract sees of a column of slices: how many there are, its rows, and how many more can be appended with no
+-- memory
 pub record SliceRows : Type 0 where
   pub width : ℕ
   pub entries : List (Option ℕ)
   pub room : ℕ
-
--- what a list of slices has past its end
-abbrev pub empty_slice : BitList
-empty_slice = no_bits
-
--- the bits of slice k
-abbrev pub slice_at : List BitList → ℕ → List Bool
-slice_at slices k = (slice_index_or slices k empty_slice).bits
 
 -- a bit as a number
 abbrev pub bit_value : Bool → ℕ
@@ -40,5 +33,5 @@ pub record IsSliced (present : List Bool) (slices : List BitList) : Type 0 where
   pub some : 1 ≤ length slices
   pub few : length slices ≤ 63
   pub small : length present ≤ 2 ^ 32
-  pub even : (k : ℕ) → k < length slices → length (slice_at slices k) ≡ length present
+  pub even : (k : ℕ) → k < length slices → length (bits_at slices k) ≡ length present
   pub clear : (r : ℕ) → r < length present → slice_index_or present r false ≡ false → number slices r ≡ 0

@@ -158,8 +158,7 @@ pub trait Column: Drop {
     /// body counts the numbers and asks for the one at that place in order.
     fn of_rank(&self, found: &Bits, rank: Rank) -> Result<Option<u64>, NoMemory>
         requires { length (entries self.now) ≡ length found.now.bits }
-        ensures { IfOk result (λ o. IsOfRank rank (numbers_at found.now.bits (entries self.now))
-            o) }
+        ensures { IfOk result (IsOfRank rank (numbers_at found.now.bits (entries self.now))) }
     {
         let numbers = found.count_and(self.present());
         if numbers == 0 {
@@ -176,7 +175,7 @@ pub trait Column: Drop {
     /// Returns the least number at the rows of a found set, or none if there is no number.
     fn least(&self, found: &Bits) -> Result<Option<u64>, NoMemory>
         requires { length (entries self.now) ≡ length found.now.bits }
-        ensures { IfOk result (λ o. IsLeastOf (numbers_at found.now.bits (entries self.now)) o) }
+        ensures { IfOk result (IsLeastOf (numbers_at found.now.bits (entries self.now))) }
     {
         self.of_rank(found, Rank::Least)
     }
@@ -184,7 +183,7 @@ pub trait Column: Drop {
     /// Returns the greatest number at the rows of a found set, or none if there is no number.
     fn greatest(&self, found: &Bits) -> Result<Option<u64>, NoMemory>
         requires { length (entries self.now) ≡ length found.now.bits }
-        ensures { IfOk result (λ o. IsGreatestOf (numbers_at found.now.bits (entries self.now)) o) }
+        ensures { IfOk result (IsGreatestOf (numbers_at found.now.bits (entries self.now))) }
     {
         self.of_rank(found, Rank::Greatest)
     }
@@ -192,7 +191,7 @@ pub trait Column: Drop {
     /// Returns the lower median of the numbers at the rows of a found set, or none if there is no number.
     fn median(&self, found: &Bits) -> Result<Option<u64>, NoMemory>
         requires { length (entries self.now) ≡ length found.now.bits }
-        ensures { IfOk result (λ o. IsMedianOf (numbers_at found.now.bits (entries self.now)) o) }
+        ensures { IfOk result (IsMedianOf (numbers_at found.now.bits (entries self.now))) }
     {
         self.of_rank(found, Rank::Median)
     }

@@ -11,7 +11,7 @@ ghost use Rattle.bsi_slices.specs.declared.decision.Decision.TheVariants.{Tested
 use crate::column::Op;
 
 /// The relation of a number to a constant.
-#[derive(Clone, Copy)]
+#[derive(Clone, Copy, Debug, PartialEq, Eq)]
 pub enum Relation {
     /// Equal to the constant.
     Equal,
@@ -20,7 +20,7 @@ pub enum Relation {
 }
 
 /// A relation to a constant, and whether the numbers are wanted that are in it or those that are not.
-#[derive(Clone, Copy)]
+#[derive(Clone, Copy, Debug, PartialEq, Eq)]
 pub struct Test {
     /// The relation.
     pub relation: Relation,
@@ -31,7 +31,7 @@ pub struct Test {
 }
 
 /// How a comparison with a constant is decided for the numbers below a size.
-#[derive(Clone, Copy)]
+#[derive(Clone, Copy, Debug, PartialEq, Eq)]
 pub enum Decision {
     /// None of them compares so.
     Nothing,

@@ -1,7 +1,8 @@
 //! The not-null bitmap of a column, and whether any row is null.
 
-ghost use Rattle.std.specs.Prelude.{◌≡◌, ℕ, ◌+◌, ◌*◌, ◌/◌, ◌^◌, ◌≤◌, ◌<◌, ◌&&◌, [], ◌∷◌, ◌++◌, length, false, slice_index_or, IsTrue, IfOk, IsOk, OnOk, OnErr};
+ghost use Rattle.std.specs.Prelude.{◌≡◌, ℕ, ◌+◌, ◌*◌, ◌^◌, ◌≤◌, ◌<◌, ◌&&◌, [], ◌∷◌, ◌++◌, length, false, slice_index_or, IsTrue, IfOk, IsOk, OnOk, OnErr};
 ghost use Rattle.std.specs.Int.{bit_at};
+ghost use Rattle.bsi_bits.specs.BitList.{word_count};
 ghost use Rattle.bsi_bits.specs.Packed.{bit_of, bits_of};
 
 use crate::NoMemory;
@@ -13,7 +14,7 @@ use std::marker::Model;
 #[derive(Drop)]
 pub struct NotNull {
     bits: Bits,
-    // (false only if no row is null)
+    // This is false only if no row is null.
     has_null: bool,
 }
 
@@ -116,7 +117,7 @@ impl NotNull {
     /// Keeps in a block of words the rows that have a number. The first word stands for the 64 rows from row `64 * at`
     /// on. Bits past the last row are unspecified. It reads no bit if no row is null.
     pub fn keep_in(&self, at: usize, block: &mut [u64])
-        requires { at + length block.old ≤ (length self.now.bits + 63) / 64 }
+        requires { at + length block.old ≤ word_count (length self.now.bits) }
         ensures len { length block.new ≡ length block.old }
         ensures bits { (p : ℕ) → p < 64 * length block.old → 64 * at + p < length self.now.bits →
             bit_of block.new p ≡ (bit_of block.old p

@@ -1,7 +1,8 @@
 //! A column as bit slices: one bit vector for each binary place of its numbers, as O'Neil and Quass described in 1997.
 
-ghost use Rattle.std.specs.Prelude.{◌≡◌, ℕ, ◌++◌, ◌∷◌, [], All, ◌<◌, ◌≤◌, ◌^◌, ◌+◌, ◌*◌, ◌/◌, ◌&&◌, ◌==◌, length, map, min, replicate, IfOk, IsOk, OnOk, OnErr};
+ghost use Rattle.std.specs.Prelude.{◌≡◌, ℕ, ◌++◌, ◌∷◌, [], All, ◌<◌, ◌≤◌, ◌^◌, ◌+◌, ◌==◌, length, map, min, replicate, IfOk, IsOk, OnOk, OnErr};
 ghost use Rattle.std.specs.Int.{bit_at};
+ghost use Rattle.bsi_bits.specs.BitList.{word_count};
 ghost use Rattle.bsi_slices.specs.Blocks.{KeepsRows};
 ghost use Rattle.bsi_slices.specs.Rows.{number_or_zero, selects};
 ghost use Rattle.bsi_slices.specs.Slices.{entries_in, IsSliced};
@@ -81,7 +82,7 @@ impl Slices {
     /// the size. The first word stands for the 64 rows from row `64 * at` on. A null row is not kept. It allocates no
     /// memory.
     pub fn keep_selected(&self, op: Op, constant: u64, at: usize, block: &mut [u64])
-        requires { at + length block.old ≤ (length self.now.entries + 63) / 64 }
+        requires { at + length block.old ≤ word_count (length self.now.entries) }
         ensures { KeepsRows (selects op constant) self.now.entries at block.old block.new }
     {
         keep_selected(
@@ -153,8 +154,7 @@ impl Column for Slices {
     // It passes once over the slices, and takes no memory.
     fn least(&self, found: &Bits) -> Result<Option<u64>, NoMemory>
         requires { length self.now.entries ≡ length found.now.bits }
-        ensures least { IfOk result
-            (λ o. IsLeastOf (numbers_at found.now.bits self.now.entries) o) }
+        ensures least { IfOk result (IsLeastOf (numbers_at found.now.bits self.now.entries)) }
         ensures succeeds { IsOk result }
     {
         Ok(self.end_found(found, End::Least))
@@ -163,8 +163,7 @@ impl Column for Slices {
     // It passes once over the slices, and takes no memory.
     fn greatest(&self, found: &Bits) -> Result<Option<u64>, NoMemory>
         requires { length self.now.entries ≡ length found.now.bits }
-        ensures greatest { IfOk result
-            (λ o. IsGreatestOf (numbers_at found.now.bits self.now.entries) o) }
+        ensures greatest { IfOk result (IsGreatestOf (numbers_at found.now.bits self.now.entries)) }
         ensures succeeds { IsOk result }
     {
         Ok(self.end_found(found, End::Greatest))
@@ -224,7 +223,7 @@ fn push_row(slices: &mut Bitmaps, present: &mut NotNull, entry: Option<u64>)
         { place < 64 && number >> place & 1 == 1 },
     );
     present.push_reserved(entry.is_some());
-    // a column of slices has at most 2^32 rows
+    // The proof takes from this that there are at most 2^32 rows.
     prove!(present.len() <= 1 << 32);
 }
 
@@ -248,6 +247,6 @@ fn push_rows(slices: &mut Bitmaps, present: &mut NotNull, block: &[Option<u64>])
     let count = block.len() as u64;
     slices.push_words(&words[..slices.as_slice().len()], count);
     present.push_word_reserved(mark_present(block), count);
-    // a column of slices has at most 2^32 rows
+    // The proof takes from this that there are at most 2^32 rows.
     prove!(present.len() <= 1 << 32);
 }

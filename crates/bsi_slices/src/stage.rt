@@ -1,6 +1,6 @@
 //! A block of at most 64 entries, turned into words: one for each binary place.
 
-ghost use Rattle.std.specs.Prelude.{◌≡◌, ℕ, ◌+◌, ◌-◌, ◌*◌, ◌/◌, ◌%◌, ◌<◌, ◌≤◌, ◌^◌, ◌==◌, [], ◌∷◌, length, map, is_some, None, slice_index, slice_index_or};
+ghost use Rattle.std.specs.Prelude.{◌≡◌, ℕ, ◌+◌, ◌-◌, ◌*◌, ◌/◌, ◌%◌, ◌<◌, ◌≤◌, ◌^◌, [], ◌∷◌, length, map, is_some, None, slice_index, slice_index_or};
 ghost use Rattle.std.specs.Int.{bit_at};
 ghost use Rattle.bsi_bits.specs.Packed.{bits_of};
 ghost use Rattle.bsi_slices.specs.Exchanges.{across, IsLow};
@@ -8,7 +8,7 @@ ghost use Rattle.bsi_slices.specs.Rows.{number_or_zero};
 
 use bsi_bits::know_fits;
 
-/// Writes the numbers of a block of entries, with a 0 for each null and for each place behind the last entry.
+/// Writes the numbers of a block of entries, with a 0 for each null and for each place after the last entry.
 pub fn place_numbers(block: &[Option<u64>], numbers: &mut [u64; 64])
     requires { length block.now ≤ 64 }
     ensures long { length numbers.new ≡ 64 }
@@ -67,7 +67,7 @@ fn exchange(words: &mut [u64; 64], s: usize, low: u64)
 }
 
 /// Exchanges that place, as `exchange` does, for the `s` rows from `from` on, whose number has a 0 there, and for the
-/// `s` rows behind them, whose number has a 1 there.
+/// `s` rows after them, whose number has a 1 there.
 fn exchange_run(words: &mut [u64; 64], from: usize, s: usize, low: u64)
     requires within { (1 ≤ s) × (from + 2 * s ≤ 64) }
     requires low { IsLow s low }

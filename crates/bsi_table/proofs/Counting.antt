@@ -33,7 +33,7 @@ none_set : (block : List ℕ) → set_before 0 block ≡ 0
 unfolding set_before bits_of
 none_set block = refl
 
--- a block of m rows, behind the first n
+-- a block of m rows, after the first n
 pub counted_more : (kept : List OffsetColumn) (pred : Pred) (n m : ℕ) (block : List ℕ)
     → ((p : ℕ) → p < m → bit_of block p ≡ holds pred (row_in kept (n + p)))
     → selected_before kept pred n + count_by (λ b. b) (bits_of m block) ≡ selected_before kept pred (n + m)

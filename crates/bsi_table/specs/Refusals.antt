@@ -6,7 +6,7 @@ use Rattle.bsi_table.specs.declared.errors.AppendError.{AppendError}
 use Rattle.bsi_table.specs.declared.errors.AppendError.TheVariants.{IndexFull}
 use Rattle.bsi_schema.specs.Columns.{Declared}
 use Rattle.bsi_table.specs.Table.{Table}
-pub use Rattle.bsi_schema.specs.Refusals.{column_refusal, form_refusal, name_refusal, offset_refusal, signed_refusal, slices_refusal, IsFirstOr}
+pub use Rattle.bsi_schema.specs.Refusals.{column_refusal, form_refusal, name_refusal, signed_refusal, IsFirstOr}
 
 -- of an index of this schema with this row limit
 abbrev pub index_refusal : Declared → ℕ → Option IndexError

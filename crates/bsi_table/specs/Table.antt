@@ -96,7 +96,7 @@ pub record IsSameColumn (old new : OffsetColumn) : Type 0 where
   pub entries : shifted_entries new ≡ shifted_entries old
   pub alike : IsAlike old new
 
--- a column is another one with these entries behind its own
+-- a column is another one with these entries after its own
 pub record HasMore (old new : OffsetColumn) (added : Entries) : Type 0 where
   pub entries : shifted_entries new ≡ shifted_entries old ++ added
   pub alike : IsAlike old new

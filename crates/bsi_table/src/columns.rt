@@ -36,7 +36,7 @@ fn make_one(alloc: Global, schema: &Schema, c: u32) -> Result<Shifted, NoMemory>
 /// Makes an empty column in a form.
 fn make_stored(alloc: Global, form: &Form) -> Result<AnyColumn, NoMemory>
     requires { IsForm form.now }
-    ensures form { IfOk result (λ made. IsInForm form.now made) }
+    ensures form { IfOk result (IsInForm form.now) }
     ensures empty { IfOk result (λ made. any_entries made ≡ []) }
 {
     match form {

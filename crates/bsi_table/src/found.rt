@@ -1,6 +1,7 @@
 //! The rows that a predicate selects, one block of rows after another.
 
-ghost use Rattle.std.specs.Prelude.{◌≡◌, ℕ, ◌+◌, ◌-◌, ◌/◌, ◌^◌, ◌≤◌, ◌++◌, bit_or, bit_xor, count_by, drop, false, length, map, take, IfOk, IsFalse, OnOk};
+ghost use Rattle.std.specs.Prelude.{◌≡◌, ℕ, ◌+◌, ◌-◌, ◌^◌, ◌≤◌, ◌++◌, bit_or, bit_xor, count_by, drop, false, length, map, take, IfOk, IsFalse, OnOk};
+ghost use Rattle.bsi_bits.specs.BitList.{word_count};
 ghost use Rattle.bsi_bits.specs.Packed.{bit_of};
 ghost use Rattle.std.specs.Simd.Lanes.{zip2};
 ghost use Rattle.bsi_table.specs.Answers.{ReadsAmong};
@@ -14,7 +15,7 @@ use bsi_shift::Shifted;
 use std::alloc::Global;
 
 /// The number of words in a block. They stay in the first cache while a predicate goes over them.
-const BLOCK: usize = 1024;
+const BLOCK_WORDS: usize = 1024;
 
 /// The rows of a block.
 const BLOCK_ROWS: u64 = 65_536;
@@ -53,7 +54,7 @@ pub(crate) fn count_selected(
         ≡ count_by (λ b. b) (map (holds pred.now) (rows_in columns.now count))) }
 {
     let mut spare = Vec::new(alloc);
-    let mut words = vec![in alloc; u64::MAX; BLOCK]?;
+    let mut words = vec![in alloc; u64::MAX; BLOCK_WORDS]?;
     let mut selected = 0;
     'blocks: for k in 0..count.div_ceil(BLOCK_ROWS) {
         let rows = BLOCK_ROWS.min(count - BLOCK_ROWS * k);
@@ -62,7 +63,7 @@ pub(crate) fn count_selected(
             columns,
             count,
             pred,
-            BLOCK * k as usize,
+            BLOCK_WORDS * k as usize,
             &mut words,
             &mut spare,
         )?;
@@ -82,16 +83,16 @@ fn narrow_each(
     words: &mut [u64],
 ) -> Result<(), NoMemory>
     requires few { count ≤ 2 ^ 32 }
-    requires long { length words.old ≡ (count + 63) / 64 }
+    requires long { length words.old ≡ word_count count }
     requires even { HaveRows columns.now count }
     requires there { ReadsAmong (length columns.now) pred.now }
     ensures { OnOk result (AreNarrowed columns.now count pred.now 0 words.old words.new) }
 {
     let mut spare = Vec::new(alloc);
     let len = words.len();
-    'blocks: for k in 0..len.div_ceil(BLOCK) {
-        let at = BLOCK * k;
-        let block = &mut words[at..len.min(at + BLOCK)];
+    'blocks: for k in 0..len.div_ceil(BLOCK_WORDS) {
+        let at = BLOCK_WORDS * k;
+        let block = &mut words[at..len.min(at + BLOCK_WORDS)];
         narrow(columns, count, pred, at, block, &mut spare)?;
     }
     Ok(())
@@ -107,7 +108,7 @@ fn find_block(
     spare: &mut Vec<u64>,
 ) -> Result<(), NoMemory>
     requires few { length block.old ≤ 1024 }
-    requires within { at + length block.old ≤ (count + 63) / 64 }
+    requires within { at + length block.old ≤ word_count count }
     requires even { HaveRows columns.now count }
     requires there { ReadsAmong (length columns.now) pred.now }
     ensures rows { OnOk result (AreFound columns.now count pred.now at block.new) }
@@ -117,8 +118,8 @@ fn find_block(
     narrow(columns, count, pred, at, block, spare)
 }
 
-/// Keeps in a block of words the rows of which the predicate holds. The first word stands for the 64 rows from row `64
-/// * at` on. It calls itself for each part of the predicate. What it appends to `spare` it takes away again.
+/// Keeps in a block of words the rows of which the predicate holds. The first word stands for the 64 rows from row
+/// `64 * at` on. It calls itself for each part of the predicate. What it appends to `spare` it takes away again.
 fn narrow(
     columns: &[Shifted],
     count: u64,
@@ -128,7 +129,7 @@ fn narrow(
     spare: &mut Vec<u64>,
 ) -> Result<(), NoMemory>
     requires few { length block.old ≤ 1024 }
-    requires within { at + length block.old ≤ (count + 63) / 64 }
+    requires within { at + length block.old ≤ word_count count }
     requires even { HaveRows columns.now count }
     requires there { ReadsAmong (length columns.now) pred.now }
     ensures rows { OnOk result (AreNarrowed columns.now count pred.now at block.old block.new) }

@@ -142,10 +142,10 @@ impl Index {
     pub fn ask(&self, query: &Query) -> Result<Answer, AskError>
         ensures { IsReply self.now.schema self.now.rows query.now result }
     {
-        match query.missing_column(self.schema.columns()) {
-            Some(missing) => Err(AskError::BadColumn(missing)),
-            None => Ok(self.answer(query)?),
+        if let Some(missing) = query.missing_column(self.schema.columns()) {
+            return Err(AskError::BadColumn(missing));
         }
+        Ok(self.answer(query)?)
     }
 
     /// Answers a query of which no column is missing. A count keeps no bit for each row.

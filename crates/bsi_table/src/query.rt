@@ -1,6 +1,6 @@
 //! Queries of a table, and their answers.
 
-ghost use Rattle.std.specs.Prelude.{◌≡◌, ◌++◌, ◌∷◌, [], Option};
+ghost use Rattle.std.specs.Prelude.{◌≡◌};
 ghost use Rattle.bsi_table.specs.Answers.{columns_of_pred, columns_of_total, missing_column, missing_of};
 
 use bsi_columns::Op;

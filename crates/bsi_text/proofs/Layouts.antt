@@ -8,10 +8,10 @@ use Rattle.std.proofs.lemmas.Simd.{map-map}
 use Rattle.std.proofs.lemmas.List.Folds.{list_all_more, list_all_at}
 use Rattle.std.proofs.lemmas.List.Sums.{prefix_len-drop_all}
 use Rattle.csv.specs.Records.{field_at}
-use Rattle.bsi_table.specs.Columns.{Declared, NamedColumn, column_at, is_taken_by, no_column}
+use Rattle.bsi_table.specs.Columns.{Declared, NamedColumn, column_at, is_between, is_taken_by, no_column}
 use Rattle.bsi_table.specs.Rows.{Entries}
 use Rattle.bsi_records.specs.Numbers.{Field, value_in, values_in}
-use Rattle.bsi_text.specs.Limits.{is_within, limits_of}
+use Rattle.bsi_text.specs.Limits.{limits_of}
 use Rattle.bsi_text.specs.declared.limits.Limits.{Limits}
 use Rattle.bsi_text.specs.RowFiles.{in_order, place_of}
 use Rattle.bsi_records.proofs.Values.{behind, values_done, values_next, values_stop}
@@ -108,17 +108,13 @@ module _ (signed : Bool) (fields : List Field) (places : List ℕ) (i : ℕ) (va
 
 -- ---- the numbers that a column takes
 
-pub taken_within : (column : NamedColumn) (entry : Option ℤ) → is_within (limits_of column) entry ≡ is_taken_by column entry
-taken_within column None = refl
-taken_within column (Some x) = refl
-
 -- the limits of column c, where they stand in a list
 module _ (columns : List NamedColumn) (limits : List Limits) (are : limits ≡ map limits_of columns) where
   pub limits_long : length limits ≡ length columns
   limits_long = ap length are ∙ length-map columns limits_of
 
-  pub limits_at : (c : ℕ) (d : Limits) (entry : Option ℤ) → c < length columns → is_within (get_or limits c d) entry ≡ is_taken_by (column_at columns c) entry
+  pub limits_at : (c : ℕ) (d : Limits) (entry : Option ℤ) → c < length columns
+      → is_between (get_or limits c d).least (get_or limits c d).size entry ≡ is_taken_by (column_at columns c) entry
   limits_at c d entry within =
-      ap (λ l. is_within (get_or l c d) entry) are
-      ∙ ap (λ l. is_within l entry) (get_or-map limits_of columns c no_column d within)
-      ∙ taken_within (column_at columns c) entry
+      ap (λ l. is_between (get_or l c d).least (get_or l c d).size entry) are
+      ∙ ap (λ l. is_between l.least l.size entry) (get_or-map limits_of columns c no_column d within)

@@ -1,8 +1,8 @@
 //! The numbers that a column takes.
 
 ghost use Rattle.std.specs.Prelude.{◌≡◌, ◌<◌, length};
-ghost use Rattle.bsi_table.specs.Columns.{column_at};
-ghost use Rattle.bsi_text.specs.Limits.{is_within, limits_of};
+ghost use Rattle.bsi_table.specs.Columns.{column_at, is_between};
+ghost use Rattle.bsi_text.specs.Limits.{limits_of};
 
 use bsi_table::Schema;
 
@@ -27,7 +27,7 @@ impl Limits {
 
     /// Returns whether an entry is a null or one of these numbers.
     pub(crate) fn take(self, entry: Option<i128>) -> bool
-        ensures { result ≡ is_within self entry }
+        ensures { result ≡ is_between self.least self.size entry }
     {
         let Some(number) = entry else {
             return true;

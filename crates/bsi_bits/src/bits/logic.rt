@@ -2,9 +2,9 @@
 //!
 //! Each call passes over its words once and allocates no memory. No operation in place changes the room for more bits.
 
-ghost use Rattle.std.specs.Prelude.{◌≡◌, ◌+◌, ◌/◌, ◌≤◌, ◌&&◌, ◌||◌, not, length, map, count_by};
+ghost use Rattle.std.specs.Prelude.{◌≡◌, ◌≤◌, ◌&&◌, ◌||◌, not, length, map, count_by};
 ghost use Rattle.std.specs.Simd.Lanes.{zip2};
-ghost use Rattle.bsi_bits.specs.BitList.{differ, in_words, without};
+ghost use Rattle.bsi_bits.specs.BitList.{differ, in_words, without, word_count};
 
 use crate::bits::Bits;
 use crate::lanes;
@@ -99,7 +99,7 @@ impl Bits {
     pub fn count_and_in(&self, other: &Bits, start: usize, end: usize) -> u64
         requires same { length self.now.bits ≡ length other.now.bits }
         requires forward { start ≤ end }
-        requires within { end ≤ (length self.now.bits + 63) / 64 }
+        requires within { end ≤ word_count (length self.now.bits) }
         ensures { result ≡ count_by (λ b. b)
             (zip2 ◌&&◌ (in_words start end self.now.bits) (in_words start end other.now.bits)) }
     {
@@ -116,7 +116,7 @@ impl Bits {
     pub fn count_and_not_in(&self, other: &Bits, start: usize, end: usize) -> u64
         requires same { length self.now.bits ≡ length other.now.bits }
         requires forward { start ≤ end }
-        requires within { end ≤ (length self.now.bits + 63) / 64 }
+        requires within { end ≤ word_count (length self.now.bits) }
         ensures { result ≡ count_by (λ b. b)
             (zip2 without (in_words start end self.now.bits) (in_words start end other.now.bits)) }
     {

@@ -3,10 +3,11 @@
 //! It reads digits only where the constant alone does not decide. The rows that it finds are narrowed by the not-null
 //! bitmap, so that a complement selects no null.
 
-ghost use Rattle.std.specs.Prelude.{◌≡◌, ℕ, ◌+◌, ◌*◌, ◌/◌, ◌^◌, ◌≤◌, ◌<◌, ◌&&◌, [], None, false, length, map, slice_index_or, IfOk, IfSome, OnErr, OnOk};
+ghost use Rattle.std.specs.Prelude.{◌≡◌, ℕ, ◌+◌, ◌*◌, ◌≤◌, ◌<◌, ◌&&◌, [], None, false, length, map, slice_index_or, IfOk, IfSome, OnErr, OnOk};
 ghost use Rattle.std.specs.Bool.{OnTrue};
+ghost use Rattle.bsi_bits.specs.BitList.{word_count};
 ghost use Rattle.bsi_bits.specs.Packed.{bit_of};
-ghost use Rattle.bsi_digits.specs.Digits.{size_of};
+ghost use Rattle.bsi_digits.specs.Digits.{product};
 ghost use Rattle.bsi_columns.specs.Rows.{number_or_zero, selects};
 ghost use Rattle.bsi_columns.specs.DigitTests.{wants};
 ghost use Rattle.bsi_slices.specs.Blocks.{KeepsRows};
@@ -49,7 +50,7 @@ impl<E: Encoding> Decomposed<E> {
         block: &mut [u64],
     ) -> Result<(), NoMemory>
         requires few { length block.old ≤ 1024 }
-        requires within { at + length block.old ≤ (length self.now.entries + 63) / 64 }
+        requires within { at + length block.old ≤ word_count (length self.now.entries) }
         ensures kept { OnErr result (block.new ≡ block.old) }
         ensures rows { OnOk result
             (KeepsRows (selects op constant) self.now.entries at block.old block.new) }
@@ -69,9 +70,9 @@ impl<E: Encoding> Decomposed<E> {
 
     /// Keeps in a block the rows that a test wants, whose constant is below the size.
     fn keep_tested(&self, test: Test, at: usize, block: &mut [u64]) -> Result<(), NoMemory>
-        requires below { test.constant < size_of self.now.bases }
+        requires below { test.constant < product self.now.bases }
         requires few { length block.old ≤ 1024 }
-        requires within { at + length block.old ≤ (length self.now.entries + 63) / 64 }
+        requires within { at + length block.old ≤ word_count (length self.now.entries) }
         ensures kept { OnErr result (block.new ≡ block.old) }
         ensures rows { OnOk result
             (KeepsRows (wants test) self.now.entries at block.old block.new) }
@@ -89,7 +90,7 @@ impl<E: Encoding> Decomposed<E> {
 
     /// Returns the rows that a test wants, whose constant is below the size.
     fn select(&self, test: Test) -> Result<Bits, NoMemory>
-        requires { test.constant < size_of self.now.bases }
+        requires { test.constant < product self.now.bases }
         ensures { IfOk result (λ b. b.bits ≡ map (wants test) self.now.entries) }
     {
         match self.select_words(test)? {
@@ -103,9 +104,9 @@ impl<E: Encoding> Decomposed<E> {
 
     /// Returns the words of the rows that a test wants, or `None` if a component works on whole vectors alone.
     fn select_words(&self, test: Test) -> Result<Option<Vec<u64>>, NoMemory>
-        requires { test.constant < size_of self.now.bases }
+        requires { test.constant < product self.now.bases }
         ensures few { IfOk result (λ o. IfSome o (λ words. length words.items
-            ≡ (length self.now.entries + 63) / 64)) }
+            ≡ word_count (length self.now.entries))) }
         ensures bits { IfOk result (λ o. IfSome o (λ words. (p : ℕ) → p < length self.now.entries →
             bit_of words.items p ≡ slice_index_or (map (wants test) self.now.entries) p false)) }
     {
@@ -121,8 +122,8 @@ impl<E: Encoding> Decomposed<E> {
     /// Appends to an empty list the words of the rows that a test wants, block by block. It returns `false` if a
     /// component works on whole vectors alone.
     fn select_blocks(&self, test: Test, len: usize, words: &mut Vec<u64>) -> Result<bool, NoMemory>
-        requires below { test.constant < size_of self.now.bases }
-        requires len { len ≡ (length self.now.entries + 63) / 64 }
+        requires below { test.constant < product self.now.bases }
+        requires len { len ≡ word_count (length self.now.entries) }
         requires empty { words.old.items ≡ [] }
         ensures len { IfOk result (λ whole. OnTrue whole (length words.new.items ≡ len)) }
         ensures bits { IfOk result (λ whole. OnTrue whole ((p : ℕ) → p < length self.now.entries →
@@ -144,8 +145,8 @@ impl<E: Encoding> Decomposed<E> {
     /// Writes in a block the rows that a test wants. The first word stands for the 64 rows from row `64 * at` on. It
     /// returns `false` if a component works on whole vectors alone.
     fn select_block(&self, test: Test, at: usize, block: &mut [u64]) -> bool
-        requires below { test.constant < size_of self.now.bases }
-        requires within { at + length block.old ≤ (length self.now.entries + 63) / 64 }
+        requires below { test.constant < product self.now.bases }
+        requires within { at + length block.old ≤ word_count (length self.now.entries) }
         ensures { OnTrue result ((p : ℕ) → p < 64 * length block.old →
             64 * at + p < length self.now.entries → bit_of block.new p
             ≡ slice_index_or (map (wants test) self.now.entries) (64 * at + p) false) }
@@ -163,8 +164,8 @@ impl<E: Encoding> Decomposed<E> {
     /// Writes in a block the rows whose number is in the test's relation to the constant, be that wanted or not. A null
     /// row counts as 0. It returns `false` if a component works on whole vectors alone.
     fn find_block(&self, test: Test, at: usize, block: &mut [u64]) -> bool
-        requires below { test.constant < size_of self.now.bases }
-        requires within { at + length block.old ≤ (length self.now.entries + 63) / 64 }
+        requires below { test.constant < product self.now.bases }
+        requires within { at + length block.old ≤ word_count (length self.now.entries) }
         ensures { OnTrue result ((p : ℕ) → p < 64 * length block.old →
             64 * at + p < length self.now.entries → bit_of block.new p
             ≡ relates test.relation (number_or_zero

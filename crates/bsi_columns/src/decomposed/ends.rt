@@ -5,6 +5,7 @@
 //! this at their first component.
 
 ghost use Rattle.std.specs.Prelude.{◌≡◌, ℕ, ◌+◌, ◌*◌, ◌/◌, ◌<◌, ◌≤◌, ◌&&◌, true, false, length, slice_index, slice_index_or, is_some, None, IfSome};
+ghost use Rattle.bsi_bits.specs.BitList.{word_count};
 ghost use Rattle.bsi_bits.specs.Packed.{bit_of};
 ghost use Rattle.bsi_columns.specs.BlockEnds.{AnswersEnd, IsPast, KeepsNearest};
 ghost use Rattle.bsi_bits.specs.Marked.{HasMarked};
@@ -27,7 +28,7 @@ impl<E: Encoding> Decomposed<E> {
         requires { length self.now.entries ≡ length found.now.bits }
         ensures { IfSome result (IsEndOf end (numbers_at found.now.bits self.now.entries)) }
     {
-        // a found set has at most 2^32 rows, so at most 2^26 words
+        // The proof takes from this that there are at most 2^32 rows, so at most 2^26 words.
         prove!(found.len() <= 1 << 32);
         let len = found.words().len();
         let mut buffer = [0; BLOCK_WORDS];
@@ -52,7 +53,7 @@ impl<E: Encoding> Decomposed<E> {
         at: usize,
         block: &mut [u64],
     ) -> Option<Option<u64>>
-        requires within { at + length block.old ≤ (length self.now.entries + 63) / 64 }
+        requires within { at + length block.old ≤ word_count (length self.now.entries) }
         requires rows { (p : ℕ) → p < 64 * length block.old → bit_of block.old p ≡ true →
             is_some (slice_index_or self.now.entries (64 * at + p) None) ≡ true }
         ensures { IfSome result (IsBetterIn end (bit_of block.old)
@@ -85,8 +86,8 @@ impl<E: Encoding> Decomposed<E> {
 
 /// Writes the rows of a block that are found and not null.
 fn rows_into(found: &Bits, present: &Bits, at: usize, block: &mut [u64])
-    requires found { at + length block.old ≤ (length found.now.bits + 63) / 64 }
-    requires present { at + length block.old ≤ (length present.now.bits + 63) / 64 }
+    requires found { at + length block.old ≤ word_count (length found.now.bits) }
+    requires present { at + length block.old ≤ word_count (length present.now.bits) }
     ensures len { length block.new ≡ length block.old }
     ensures bits { (p : ℕ) → p < 64 * length block.old → bit_of block.new p
         ≡ (slice_index_or found.now.bits (64 * at + p) false
@@ -106,12 +107,10 @@ fn limit_of(end: End, best: Option<u64>, above: u64, base: u32, weight: u64) -> 
     ensures past { (d x : ℕ) → d < base → IsPast end result d →
         comes_first end (above + d) (x / weight) → leads end best x }
 {
-    match best {
-        None => match end {
-            End::Least => base - 1,
-            End::Greatest => 0,
-        },
-        Some(best) => (best / weight)
+    match (best, end) {
+        (None, End::Least) => base - 1,
+        (None, End::Greatest) => 0,
+        (Some(best), _) => (best / weight)
             .saturating_sub(above)
             .min(u64::from(base) - 1) as u32,
     }
@@ -120,7 +119,7 @@ fn limit_of(end: End, best: Option<u64>, above: u64, base: u32, weight: u64) -> 
 /// Finds the digit at an end among those of a block's rows, if it is within a limit.
 fn end_digit<E: Encoding>(component: &E, end: End, limit: u32, at: usize, block: &[u64]) -> EndDigit
     requires below { limit < E.base_of component.now }
-    requires within { at + length block.now ≤ (length (E.digits component.now) + 63) / 64 }
+    requires within { at + length block.now ≤ word_count (length (E.digits component.now)) }
     requires rows { (p : ℕ) → p < 64 * length block.now → bit_of block.now p ≡ true →
         64 * at + p < length (E.digits component.now) }
     requires some { HasMarked (bit_of block.now) (64 * length block.now) }
@@ -143,7 +142,7 @@ fn keep_nearest<E: Encoding>(
     block: &mut [u64],
 ) -> EndDigit
     requires below { limit < E.base_of component.now }
-    requires within { at + length block.old ≤ (length (E.digits component.now) + 63) / 64 }
+    requires within { at + length block.old ≤ word_count (length (E.digits component.now)) }
     requires same { length present.now.bits ≡ length (E.digits component.now) }
     requires rows { (p : ℕ) → p < 64 * length block.old → bit_of block.old p ≡ true →
         slice_index_or present.now.bits (64 * at + p) false ≡ true }
@@ -152,17 +151,14 @@ fn keep_nearest<E: Encoding>(
     ensures digit { KeepsNearest end limit (bit_of block.old) (bit_of block.new)
         (λ p. slice_index (E.digits component.now) (64 * at + p)) (64 * length block.old) result }
 {
-    // `base` says that each digit is below the base, so the digit at the end is
+    // The proof takes from this call that each digit is below the base, and so is the digit at the end.
     let _base = component.base();
-    match end_digit(component, end, limit, at, block) {
-        EndDigit::Digit(digit) => {
-            if !component.eq_block(digit, at, block) {
-                return EndDigit::Unanswered;
-            }
-            keep_in(present, at, block);
-            EndDigit::Digit(digit)
+    let answer = end_digit(component, end, limit, at, block);
+    if let EndDigit::Digit(digit) = answer {
+        if !component.eq_block(digit, at, block) {
+            return EndDigit::Unanswered;
         }
-        EndDigit::Past => EndDigit::Past,
-        EndDigit::Unanswered => EndDigit::Unanswered,
+        keep_in(present, at, block);
     }
+    answer
 }

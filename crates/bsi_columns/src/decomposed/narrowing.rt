@@ -1,7 +1,8 @@
 //! One digit of a test, taken into a block of words.
 
-ghost use Rattle.std.specs.Prelude.{◌≡◌, ℕ, ◌+◌, ◌*◌, ◌/◌, ◌^◌, ◌≤◌, ◌<◌, ◌||◌, length, slice_index};
+ghost use Rattle.std.specs.Prelude.{◌≡◌, ℕ, ◌+◌, ◌*◌, ◌^◌, ◌≤◌, ◌<◌, ◌||◌, length, slice_index};
 ghost use Rattle.std.specs.Bool.{OnTrue};
+ghost use Rattle.bsi_bits.specs.BitList.{word_count};
 ghost use Rattle.bsi_bits.specs.Packed.{bit_of};
 ghost use Rattle.bsi_columns.specs.DigitTests.{relates_from};
 
@@ -23,7 +24,7 @@ pub(crate) fn narrow_digit<E: Encoding>(
     block: &mut [u64],
 ) -> bool
     requires below { digit < E.base_of component.now }
-    requires within { at + length block.old ≤ (length (E.digits component.now) + 63) / 64 }
+    requires within { at + length block.old ≤ word_count (length (E.digits component.now)) }
     ensures { OnTrue result ((p : ℕ) → p < 64 * length block.old →
         64 * at + p < length (E.digits component.now) → bit_of block.new p
         ≡ relates_from relation (is_lowest || bit_of block.old p)
@@ -58,7 +59,7 @@ fn narrow_part<E: Encoding>(
     block: &mut [u64],
 ) -> bool
     requires below { digit < E.base_of component.now }
-    requires within { at + length block.old ≤ (length (E.digits component.now) + 63) / 64 }
+    requires within { at + length block.old ≤ word_count (length (E.digits component.now)) }
     ensures { OnTrue result ((p : ℕ) → p < 64 * length block.old →
         64 * at + p < length (E.digits component.now) → bit_of block.new p
         ≡ relates_from relation (is_lowest || bit_of block.old p)

@@ -1,7 +1,7 @@
 //! The totals of a found set: the sum, by the sums of the digits, and the number of a rank, by narrowing the found set
 //! from the most significant component down.
 
-ghost use Rattle.std.specs.Prelude.{◌≡◌, ◌^◌, ◌≤◌, ◌<◌, length, sum, IfOk};
+ghost use Rattle.std.specs.Prelude.{◌≡◌, ◌^◌, ◌<◌, length, sum, IfOk};
 ghost use Rattle.bsi_columns.specs.Totals.{numbers_at, IsRanked};
 
 use crate::choosing::choose_digit;
@@ -17,7 +17,7 @@ impl<E: Encoding> Decomposed<E> {
         ensures sum { result ≡ sum (numbers_at found.now.bits self.now.entries) }
         ensures within { result < 2 ^ 95 }
     {
-        // at most 2^32 numbers, each below 2^63, add up to less than 2^95
+        // The proof takes from this that at most 2^32 numbers, each below 2^63, add up to less than 2^95.
         prove!(found.len() <= 1 << 32);
         let bases = self.bases();
         let mut total = 0;

@@ -2,7 +2,7 @@
 
 ghost use Rattle.std.specs.Prelude.{◌≡◌, ◌<◌, ◌&&◌, length, map, IfOk};
 ghost use Rattle.std.specs.Simd.Lanes.{zip2};
-ghost use Rattle.bsi_digits.specs.Digits.{size_of};
+ghost use Rattle.bsi_digits.specs.Digits.{product};
 ghost use Rattle.bsi_columns.specs.Rows.{number_or_zero};
 ghost use Rattle.bsi_columns.specs.DigitTests.{relates_from, wants};
 ghost use Rattle.bsi_slices.specs.Decisions.{as_wanted, relates};
@@ -16,7 +16,7 @@ impl<E: Encoding> Decomposed<E> {
     /// Selects the rows whose number passes a test, by whole vectors. It works in the memory of `found` and one further
     /// vector.
     pub(crate) fn select_vectors(&self, test: Test, mut found: Bits) -> Result<Bits, NoMemory>
-        requires below { test.constant < size_of self.now.bases }
+        requires below { test.constant < product self.now.bases }
         requires same { length self.now.entries ≡ length found.bits }
         ensures { IfOk result (λ b. b.bits ≡ map (wants test) self.now.entries) }
     {
@@ -29,7 +29,7 @@ impl<E: Encoding> Decomposed<E> {
     /// Writes for each row whether its number is in the test's relation to the constant, be that wanted or not. A null
     /// row counts as 0.
     fn narrow_vectors(&self, test: Test, part: &mut Bits, found: &mut Bits)
-        requires below { test.constant < size_of self.now.bases }
+        requires below { test.constant < product self.now.bases }
         requires same_part { length self.now.entries ≡ length part.old.bits }
         requires same { length self.now.entries ≡ length found.old.bits }
         ensures { found.new.bits

@@ -1,9 +1,9 @@
 //! Counts of found rows by digit in an equality encoded component, and the digit of a rank and the sum by them.
 
-ghost use Rattle.std.specs.Prelude.{◌≡◌, ◌+◌, ◌/◌, ◌^◌, ◌<◌, ◌≤◌, ◌==◌, length, count_by, nat_le, nat_lt, sum};
+ghost use Rattle.std.specs.Prelude.{◌≡◌, ◌^◌, ◌<◌, ◌≤◌, ◌==◌, length, count_by, sum};
 ghost use Rattle.std.specs.List.{items_where_true};
-ghost use Rattle.bsi_bits.specs.BitList.{in_words};
-ghost use Rattle.bsi_components.specs.Component.{count_where};
+ghost use Rattle.bsi_bits.specs.BitList.{in_words, word_count};
+ghost use Rattle.bsi_components.specs.Component.{count_where, IsRankedDigit};
 ghost use Rattle.bsi_components.specs.Equality.{is_among};
 
 use crate::answers::RankedDigit;
@@ -46,10 +46,7 @@ impl EqualityComponent {
         requires same { length self.now.digits ≡ length found.now.bits }
         requires there { rank < count_by (λ b. b) found.now.bits }
         ensures digit { result.digit < self.now.base }
-        ensures rank { rank ≡ count_where (λ v. nat_lt v result.digit) found.now.bits
-            self.now.digits + result.rank }
-        ensures there { rank < count_where (λ v. nat_le v result.digit) found.now.bits
-            self.now.digits }
+        ensures ranked { IsRankedDigit rank found.now.bits self.now.digits result }
     {
         let top = self.base() - 1;
         let mut left = rank;
@@ -73,10 +70,7 @@ impl EqualityComponent {
         requires all { rows ≡ count_by (λ b. b) found.now.bits }
         requires there { rank < rows }
         ensures digit { result.digit < self.now.base }
-        ensures rank { rank ≡ count_where (λ v. nat_lt v result.digit) found.now.bits
-            self.now.digits + result.rank }
-        ensures there { rank < count_where (λ v. nat_le v result.digit) found.now.bits
-            self.now.digits }
+        ensures ranked { IsRankedDigit rank found.now.bits self.now.digits result }
     {
         let mut digit = self.base() - 1;
         let mut upto = rows;
@@ -99,7 +93,7 @@ impl EqualityComponent {
     pub(crate) fn digit_sum_in(&self, found: &Bits, start: usize, end: usize) -> u128
         requires same { length self.now.digits ≡ length found.now.bits }
         requires forward { start ≤ end }
-        requires within { end ≤ (length found.now.bits + 63) / 64 }
+        requires within { end ≤ word_count (length found.now.bits) }
         ensures sum { result ≡ sum (items_where_true
             (in_words start end found.now.bits) (in_words start end self.now.digits)) }
         ensures few { result ≤ 2 ^ 84 }

@@ -1,7 +1,8 @@
 //! The calls of an equality encoded component as an encoding.
 
-ghost use Rattle.std.specs.Prelude.{◌≡◌, ◌≢◌, ℕ, ◌+◌, ◌*◌, ◌/◌, ◌<◌, ◌≤◌, ◌==◌, ◌&&◌, length, nat_le, true, slice_index, sum, IsTrue};
+ghost use Rattle.std.specs.Prelude.{◌≡◌, ◌≢◌, ℕ, ◌+◌, ◌*◌, ◌<◌, ◌≤◌, ◌==◌, ◌&&◌, length, nat_le, true, slice_index, IsTrue};
 ghost use Rattle.std.specs.Bool.{OnTrue, OnFalse};
+ghost use Rattle.bsi_bits.specs.BitList.{word_count};
 ghost use Rattle.bsi_bits.specs.Packed.{bit_of};
 ghost use Rattle.bsi_components.specs.Component.{at_most_from};
 ghost use Rattle.bsi_bits.specs.Marked.{HasMarked};
@@ -135,7 +136,7 @@ impl Encoding for EqualityComponent {
 
     fn eq_block(&self, d: u32, at: usize, block: &mut [u64]) -> bool
         requires below { d < self.now.base }
-        requires within { at + length block.old ≤ (length self.now.digits + 63) / 64 }
+        requires within { at + length block.old ≤ word_count (length self.now.digits) }
         ensures done { IsTrue result }
         ensures kept { OnFalse result (block.new ≡ block.old) }
         ensures bits { OnTrue result ((p : ℕ) → p < 64 * length block.old →
@@ -154,7 +155,7 @@ impl Encoding for EqualityComponent {
     // It copies one bitmap, but for digit 0 under base 2, which has none.
     fn eq_block_into(&self, d: u32, at: usize, block: &mut [u64]) -> bool
         requires below { d < self.now.base }
-        requires within { at + length block.old ≤ (length self.now.digits + 63) / 64 }
+        requires within { at + length block.old ≤ word_count (length self.now.digits) }
         ensures done { IsTrue result }
         ensures bits { OnTrue result ((p : ℕ) → p < 64 * length block.old →
             64 * at + p < length self.now.digits →
@@ -171,7 +172,7 @@ impl Encoding for EqualityComponent {
     // It reads the bitmaps up to the digit, or those from it on, whichever are fewer.
     fn le_block(&self, d: u32, at: usize, block: &mut [u64]) -> bool
         requires below { d < self.now.base }
-        requires within { at + length block.old ≤ (length self.now.digits + 63) / 64 }
+        requires within { at + length block.old ≤ word_count (length self.now.digits) }
         ensures done { IsTrue result }
         ensures kept { OnFalse result (block.new ≡ block.old) }
         ensures bits { OnTrue result ((p : ℕ) → p < 64 * length block.old →
@@ -199,7 +200,7 @@ impl Encoding for EqualityComponent {
     // It is the provided body, under a clause that says that it is always done.
     fn le_block_into(&self, d: u32, at: usize, block: &mut [u64]) -> bool
         requires below { d < self.now.base }
-        requires within { at + length block.old ≤ (length self.now.digits + 63) / 64 }
+        requires within { at + length block.old ≤ word_count (length self.now.digits) }
         ensures done { IsTrue result }
         ensures bits { OnTrue result ((p : ℕ) → p < 64 * length block.old →
             64 * at + p < length self.now.digits →
@@ -212,7 +213,7 @@ impl Encoding for EqualityComponent {
     // It reads the bitmaps from digit 0 up.
     fn least_in_block(&self, limit: u32, at: usize, block: &[u64]) -> EndDigit
         requires below { limit < self.now.base }
-        requires within { at + length block.now ≤ (length self.now.digits + 63) / 64 }
+        requires within { at + length block.now ≤ word_count (length self.now.digits) }
         requires rows { (p : ℕ) → p < 64 * length block.now → bit_of block.now p ≡ true →
             64 * at + p < length self.now.digits }
         requires some { HasMarked (bit_of block.now) (64 * length block.now) }
@@ -233,7 +234,7 @@ impl Encoding for EqualityComponent {
     // It reads the bitmaps from the greatest digit down.
     fn greatest_in_block(&self, limit: u32, at: usize, block: &[u64]) -> EndDigit
         requires below { limit < self.now.base }
-        requires within { at + length block.now ≤ (length self.now.digits + 63) / 64 }
+        requires within { at + length block.now ≤ word_count (length self.now.digits) }
         requires rows { (p : ℕ) → p < 64 * length block.now → bit_of block.now p ≡ true →
             64 * at + p < length self.now.digits }
         requires some { HasMarked (bit_of block.now) (64 * length block.now) }

@@ -1,7 +1,8 @@
 //! The calls of a range encoded component as an encoding.
 
-ghost use Rattle.std.specs.Prelude.{◌≡◌, ◌≢◌, ℕ, ◌+◌, ◌*◌, ◌/◌, ◌<◌, ◌≤◌, ◌==◌, ◌&&◌, length, nat_le, true, slice_index, sum, IsTrue};
+ghost use Rattle.std.specs.Prelude.{◌≡◌, ◌≢◌, ℕ, ◌+◌, ◌*◌, ◌<◌, ◌≤◌, ◌==◌, ◌&&◌, length, nat_le, true, slice_index, IsTrue};
 ghost use Rattle.std.specs.Bool.{OnTrue, OnFalse};
+ghost use Rattle.bsi_bits.specs.BitList.{word_count};
 ghost use Rattle.bsi_bits.specs.Packed.{bit_of};
 ghost use Rattle.bsi_components.specs.Component.{at_most_from};
 ghost use Rattle.bsi_bits.specs.Marked.{HasMarked};
@@ -123,7 +124,7 @@ impl Encoding for RangeComponent {
 
     fn eq_block(&self, d: u32, at: usize, block: &mut [u64]) -> bool
         requires below { d < self.now.base }
-        requires within { at + length block.old ≤ (length self.now.digits + 63) / 64 }
+        requires within { at + length block.old ≤ word_count (length self.now.digits) }
         ensures done { IsTrue result }
         ensures kept { OnFalse result (block.new ≡ block.old) }
         ensures bits { OnTrue result ((p : ℕ) → p < 64 * length block.old →
@@ -143,7 +144,7 @@ impl Encoding for RangeComponent {
 
     fn le_block(&self, d: u32, at: usize, block: &mut [u64]) -> bool
         requires below { d < self.now.base }
-        requires within { at + length block.old ≤ (length self.now.digits + 63) / 64 }
+        requires within { at + length block.old ≤ word_count (length self.now.digits) }
         ensures done { IsTrue result }
         ensures kept { OnFalse result (block.new ≡ block.old) }
         ensures bits { OnTrue result ((p : ℕ) → p < 64 * length block.old →
@@ -164,7 +165,7 @@ impl Encoding for RangeComponent {
     // It is the provided body, under a clause that says that it is always done.
     fn eq_block_into(&self, d: u32, at: usize, block: &mut [u64]) -> bool
         requires below { d < self.now.base }
-        requires within { at + length block.old ≤ (length self.now.digits + 63) / 64 }
+        requires within { at + length block.old ≤ word_count (length self.now.digits) }
         ensures done { IsTrue result }
         ensures bits { OnTrue result ((p : ℕ) → p < 64 * length block.old →
             64 * at + p < length self.now.digits →
@@ -177,7 +178,7 @@ impl Encoding for RangeComponent {
     // It reads one bitmap, where `le_block` may read two.
     fn le_block_into(&self, d: u32, at: usize, block: &mut [u64]) -> bool
         requires below { d < self.now.base }
-        requires within { at + length block.old ≤ (length self.now.digits + 63) / 64 }
+        requires within { at + length block.old ≤ word_count (length self.now.digits) }
         ensures done { IsTrue result }
         ensures bits { OnTrue result ((p : ℕ) → p < 64 * length block.old →
             64 * at + p < length self.now.digits →
@@ -194,7 +195,7 @@ impl Encoding for RangeComponent {
     // The first bitmap that it reads tells whether a digit is within the limit.
     fn least_in_block(&self, limit: u32, at: usize, block: &[u64]) -> EndDigit
         requires below { limit < self.now.base }
-        requires within { at + length block.now ≤ (length self.now.digits + 63) / 64 }
+        requires within { at + length block.now ≤ word_count (length self.now.digits) }
         requires rows { (p : ℕ) → p < 64 * length block.now → bit_of block.now p ≡ true →
             64 * at + p < length self.now.digits }
         requires some { HasMarked (bit_of block.now) (64 * length block.now) }
@@ -218,7 +219,7 @@ impl Encoding for RangeComponent {
     // The first bitmap that it reads tells whether a digit is within the limit.
     fn greatest_in_block(&self, limit: u32, at: usize, block: &[u64]) -> EndDigit
         requires below { limit < self.now.base }
-        requires within { at + length block.now ≤ (length self.now.digits + 63) / 64 }
+        requires within { at + length block.now ≤ word_count (length self.now.digits) }
         requires rows { (p : ℕ) → p < 64 * length block.now → bit_of block.now p ≡ true →
             64 * at + p < length self.now.digits }
         requires some { HasMarked (bit_of block.now) (64 * length block.now) }

@@ -1,6 +1,7 @@
 //! Comparisons of whole numbers with a constant, as comparisons of the stored numbers.
 
-ghost use Rattle.std.specs.Prelude.{◌≡◌, ℕ, ℤ, ◌<ℤ◌, ◌+◌, ◌*◌, ◌/◌, ◌&&◌, ◌<◌, ◌≤◌, ◌^◌, length, map, is_none, IfOk, OnOk, OnErr};
+ghost use Rattle.std.specs.Prelude.{◌≡◌, ℕ, ℤ, ◌<ℤ◌, ◌+◌, ◌<◌, ◌≤◌, ◌^◌, length, map, is_none, IfOk, OnOk, OnErr};
+ghost use Rattle.bsi_bits.specs.BitList.{word_count};
 ghost use Rattle.bsi_slices.specs.Blocks.{KeepsRows};
 ghost use Rattle.bsi_slices.specs.Orders.{compares_by};
 ghost use Rattle.bsi_slices.specs.Rows.{number_order};
@@ -41,7 +42,7 @@ impl Shifted {
         block: &mut [u64],
     ) -> Result<(), NoMemory>
         requires few { length block.old ≤ 1024 }
-        requires within { at + length block.old ≤ (length (shifted_entries self.now) + 63) / 64 }
+        requires within { at + length block.old ≤ word_count (length (shifted_entries self.now)) }
         ensures kept { OnErr result (block.new ≡ block.old) }
         ensures rows { OnOk result (KeepsRows
             (signed_selects op constant) (shifted_entries self.now) at block.old block.new) }
@@ -53,7 +54,7 @@ impl Shifted {
     /// Keeps in a block of words the rows that are null. The first word stands for the 64 rows from row `64 * at` on.
     /// It allocates no memory.
     pub fn keep_nulls(&self, at: usize, block: &mut [u64])
-        requires { at + length block.old ≤ (length (shifted_entries self.now) + 63) / 64 }
+        requires { at + length block.old ≤ word_count (length (shifted_entries self.now)) }
         ensures { KeepsRows is_none (shifted_entries self.now) at block.old block.new }
     {
         self.stored.keep_nulls(at, block);

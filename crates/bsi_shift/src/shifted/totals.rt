@@ -21,7 +21,7 @@ impl Shifted {
         ensures sum { result ≡ signed_sum (values_at found.now.bits (shifted_entries self.now)) }
         ensures within { (neg_ℤ (pos (2 ^ 95)) ≤ℤ result) × (result <ℤ pos (2 ^ 95)) }
     {
-        // a found set has at most 2^32 rows, so the offset is added at most 2^32 times
+        // The proof takes from this that there are at most 2^32 rows, so the offset is added at most 2^32 times.
         prove!(found.len() <= 1 << 32);
         let numbers = found.count_and(self.stored.present());
         sum_from(self.stored.sum(found), self.offset, numbers)
@@ -30,8 +30,8 @@ impl Shifted {
     /// Finds the number of a rank among those at the rows of a found set, or none if there is no number.
     fn of_rank(&self, found: &Bits, rank: Rank) -> Result<Option<i64>, NoMemory>
         requires { length (shifted_entries self.now) ≡ length found.now.bits }
-        ensures { IfOk result (λ o. IsSignedOfRank rank
-            (values_at found.now.bits (shifted_entries self.now)) o) }
+        ensures { IfOk result (IsSignedOfRank rank
+            (values_at found.now.bits (shifted_entries self.now))) }
     {
         let stored = stored_of_rank(&self.stored, found, rank)?;
         Ok(number_from(self.offset, stored))
@@ -40,8 +40,8 @@ impl Shifted {
     /// Returns the least number at the rows of a found set, or none if there is no number.
     pub fn least(&self, found: &Bits) -> Result<Option<i64>, NoMemory>
         requires { length (shifted_entries self.now) ≡ length found.now.bits }
-        ensures { IfOk result (λ o. IsSignedLeastOf
-            (values_at found.now.bits (shifted_entries self.now)) o) }
+        ensures { IfOk result (IsSignedLeastOf
+            (values_at found.now.bits (shifted_entries self.now))) }
     {
         self.of_rank(found, Rank::Least)
     }
@@ -49,8 +49,8 @@ impl Shifted {
     /// Returns the greatest number at the rows of a found set, or none if there is no number.
     pub fn greatest(&self, found: &Bits) -> Result<Option<i64>, NoMemory>
         requires { length (shifted_entries self.now) ≡ length found.now.bits }
-        ensures { IfOk result (λ o. IsSignedGreatestOf
-            (values_at found.now.bits (shifted_entries self.now)) o) }
+        ensures { IfOk result (IsSignedGreatestOf
+            (values_at found.now.bits (shifted_entries self.now))) }
     {
         self.of_rank(found, Rank::Greatest)
     }
@@ -58,8 +58,8 @@ impl Shifted {
     /// Returns the lower median of the numbers at the rows of a found set, or none if there is no number.
     pub fn median(&self, found: &Bits) -> Result<Option<i64>, NoMemory>
         requires { length (shifted_entries self.now) ≡ length found.now.bits }
-        ensures { IfOk result (λ o. IsSignedMedianOf
-            (values_at found.now.bits (shifted_entries self.now)) o) }
+        ensures { IfOk result (IsSignedMedianOf
+            (values_at found.now.bits (shifted_entries self.now))) }
     {
         self.of_rank(found, Rank::Median)
     }
@@ -69,8 +69,7 @@ impl Shifted {
 /// counts.
 fn stored_of_rank(stored: &AnyColumn, found: &Bits, rank: Rank) -> Result<Option<u64>, NoMemory>
     requires { length (any_entries stored.now) ≡ length found.now.bits }
-    ensures { IfOk result (λ o. IsOfRank rank (numbers_at found.now.bits (any_entries stored.now))
-        o) }
+    ensures { IfOk result (IsOfRank rank (numbers_at found.now.bits (any_entries stored.now))) }
 {
     match rank {
         Rank::Least => stored.least(found),

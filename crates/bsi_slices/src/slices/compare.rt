@@ -1,13 +1,15 @@
 //! Comparisons of the numbers in slices with a constant, block by block and from the least significant slice up.
 
-ghost use Rattle.std.specs.Prelude.{◌≡◌, ℕ, ◌+◌, ◌*◌, ◌-◌, ◌/◌, ◌<◌, ◌≤◌, ◌^◌, ◌==◌, ◌&&◌, if◌then◌else◌, length, map, nat_lt, slice_index, slice_index_or, false, None, IfOk, bit_and, bit_or};
+ghost use Rattle.std.specs.Prelude.{◌≡◌, ℕ, ◌+◌, ◌*◌, ◌-◌, ◌/◌, ◌<◌, ◌≤◌, ◌^◌, ◌==◌, ◌&&◌, if◌then◌else◌, length, map, nat_lt, slice_index, slice_index_or, false, IfOk, bit_and, bit_or};
 ghost use Rattle.std.specs.Int.{bit_not, w64};
 ghost use Rattle.std.specs.Simd.Lanes.{zip2};
+ghost use Rattle.bsi_bits.specs.BitList.{word_count};
+ghost use Rattle.bsi_bits.specs.BitLists.{bits_at};
 ghost use Rattle.bsi_bits.specs.Packed.{bit_of};
-ghost use Rattle.bsi_slices.specs.Blocks.{IsKept};
+ghost use Rattle.bsi_slices.specs.Blocks.{IsKept, KeepsRows};
 ghost use Rattle.bsi_slices.specs.Decisions.{passes};
 ghost use Rattle.bsi_slices.specs.Rows.{selects};
-ghost use Rattle.bsi_slices.specs.Slices.{entries_in, number, slice_at, IsSliced};
+ghost use Rattle.bsi_slices.specs.Slices.{entries_in, number, IsSliced};
 
 use crate::NoMemory;
 use crate::column::Op;
@@ -55,11 +57,9 @@ pub fn keep_selected(
     block: &mut [u64],
 )
     requires sliced { IsSliced present.now.bits slices.now }
-    requires within { at + length block.old ≤ (length present.now.bits + 63) / 64 }
-    ensures { (p : ℕ) → p < 64 * length block.old → 64 * at + p < length present.now.bits →
-        bit_of block.new p
-        ≡ (bit_of block.old p && selects op constant
-        (slice_index_or (entries_in present.now.bits slices.now) (64 * at + p) None)) }
+    requires within { at + length block.old ≤ word_count (length present.now.bits) }
+    ensures { KeepsRows (selects op constant) (entries_in present.now.bits slices.now) at block.old
+        block.new }
 {
     match decide(op, constant, 1 << slices.len()) {
         Decision::Nothing => block.fill(0),
@@ -72,13 +72,13 @@ pub fn keep_selected(
 }
 
 /// Keeps in `words` the rows whose numbers pass the test. The first word stands for the 64 rows from row `64 * start`
-/// on. It works on whole blocks first, and on single words behind them.
+/// on. It works on whole blocks first, and on single words after them.
 fn keep(slices: &[Bits], test: Test, start: usize, words: &mut [u64])
     requires few { length slices.now ≤ 63 }
     requires below { test.constant < 2 ^ length slices.now }
     requires small { start + length words.old ≤ 2 ^ 26 }
     requires long { (i : ℕ) → i < length slices.now →
-        start + length words.old ≤ (length (slice_at slices.now i) + 63) / 64 }
+        start + length words.old ≤ word_count (length (bits_at slices.now i)) }
     ensures { IsKept (λ r. passes test (number slices.now (64 * start + r))) 0 (length words.old)
         words.old words.new }
 {
@@ -101,7 +101,7 @@ fn keep_blocks<const N: usize>(
     requires within { from ≤ length words.old }
     requires small { start + length words.old ≤ 2 ^ 26 }
     requires long { (i : ℕ) → i < length slices.now →
-        start + length words.old ≤ (length (slice_at slices.now i) + 63) / 64 }
+        start + length words.old ≤ word_count (length (bits_at slices.now i)) }
     ensures { IsKept (λ r. passes test (number slices.now (64 * start + r))) from
         (from + N * ((length words.old - from) / N)) words.old words.new }
 {
@@ -124,7 +124,7 @@ fn kept_block<const N: usize>(
     requires few { length slices.now ≤ 63 }
     requires below { test.constant < 2 ^ length slices.now }
     requires long { (i : ℕ) → i < length slices.now →
-        at + N ≤ (length (slice_at slices.now i) + 63) / 64 }
+        at + N ≤ word_count (length (bits_at slices.now i)) }
     ensures long { length result ≡ N }
     ensures bits { (p : ℕ) → p < 64 * N → bit_of result p
         ≡ (bit_of block.entry p && passes test (number slices.now (64 * at + p))) }
@@ -143,7 +143,7 @@ fn above_block<const N: usize>(slices: &[Bits], constant: u64, at: usize) -> Sim
     requires few { length slices.now ≤ 63 }
     requires below { constant < 2 ^ length slices.now }
     requires long { (i : ℕ) → i < length slices.now →
-        at + N ≤ (length (slice_at slices.now i) + 63) / 64 }
+        at + N ≤ word_count (length (bits_at slices.now i)) }
     ensures long { length result ≡ N }
     ensures fits { (k : ℕ) → slice_index result k < 2 ^ 64 }
     ensures bits { (p : ℕ) → p < 64 * N →
@@ -164,7 +164,7 @@ fn equal_block<const N: usize>(slices: &[Bits], constant: u64, at: usize) -> Sim
     requires few { length slices.now ≤ 63 }
     requires below { constant < 2 ^ length slices.now }
     requires long { (i : ℕ) → i < length slices.now →
-        at + N ≤ (length (slice_at slices.now i) + 63) / 64 }
+        at + N ≤ word_count (length (bits_at slices.now i)) }
     ensures long { length result ≡ N }
     ensures fits { (k : ℕ) → slice_index result k < 2 ^ 64 }
     ensures bits { (p : ℕ) → p < 64 * N →
@@ -203,14 +203,14 @@ pub(super) fn cut<const N: usize>(
 /// Returns the words of the slice of a place, at most 2^26 of them.
 fn words_at(slices: &[Bits], place: usize) -> &[u64]
     requires { place < length slices.now }
-    ensures few { length result.now ≡ (length (slice_at slices.now place) + 63) / 64 }
+    ensures few { length result.now ≡ word_count (length (bits_at slices.now place)) }
     ensures small { length result.now ≤ 2 ^ 26 }
     ensures places { (i : ℕ) →
-        bit_of result.now i ≡ slice_index_or (slice_at slices.now place) i false }
+        bit_of result.now i ≡ slice_index_or (bits_at slices.now place) i false }
     ensures fits { (k : ℕ) → slice_index result.now k < 2 ^ 64 }
 {
     let slice = &slices[place];
-    // a vector has at most 2^32 bits, so at most 2^26 words
+    // The proof takes from this that there are at most 2^32 bits, so at most 2^26 words.
     prove!(slice.len() <= 1 << 32);
     let words = slice.words();
     know_fits(words);

@@ -4,7 +4,8 @@
 //! The search leaves a block as soon as none of its rows can come before the best number found so far. Most blocks show
 //! this at their first slices.
 
-ghost use Rattle.std.specs.Prelude.{◌≡◌, ℕ, ◌+◌, ◌*◌, ◌-◌, ◌/◌, ◌^◌, ◌<◌, ◌≤◌, ◌==◌, ◌&&◌, Some, None, false, if◌then◌else◌, length, slice_index, slice_index_or, IsTrue, IsFalse};
+ghost use Rattle.std.specs.Prelude.{◌≡◌, ℕ, ◌+◌, ◌*◌, ◌-◌, ◌/◌, ◌^◌, ◌<◌, ◌≤◌, false, if◌then◌else◌, length, slice_index, slice_index_or, IsTrue, IsFalse};
+ghost use Rattle.bsi_bits.specs.BitList.{word_count};
 ghost use Rattle.bsi_bits.specs.Packed.{bit_of};
 ghost use Rattle.bsi_bits.specs.Marked.{HasMarked};
 ghost use Rattle.bsi_slices.specs.Ends.{comes_first, leads, yields, IsBetterIn, IsEndUpto, IsEndOf, first_is_clear, nearest_place, number_at};
@@ -21,7 +22,7 @@ use std::simd::Simd;
 const BLOCK_WORDS: usize = 16;
 
 /// An end of some numbers in order.
-#[derive(Clone, Copy)]
+#[derive(Clone, Copy, Debug, PartialEq, Eq)]
 pub enum End {
     /// The least one.
     Least,
@@ -31,7 +32,7 @@ pub enum End {
 
 impl End {
     /// Returns true only if the best number so far comes before or equals every number whose quotient by `weight` is
-    /// `number` or comes behind `number`. If it returns false at weight 1, `number` comes before or equals the best
+    /// `number` or comes after `number`. If it returns false at weight 1, `number` comes before or equals the best
     /// number so far.
     pub fn leads_all(self, best: Option<u64>, number: u64, weight: u64) -> bool
         requires small { number * weight + weight ≤ 2 ^ 63 }
@@ -70,12 +71,12 @@ impl Slices {
     ) -> Option<u64>
         requires blocks { (1 ≤ N) × (N ≤ 64) }
         requires same { length self.now.entries ≡ length found.now.bits }
-        requires within { from ≤ (length found.now.bits + 63) / 64 }
+        requires within { from ≤ word_count (length found.now.bits) }
         requires before { IsEndUpto end found.now.bits self.now.entries (64 * from) before }
         ensures { IsEndUpto end found.now.bits self.now.entries
-            (64 * (from + N * (((length found.now.bits + 63) / 64 - from) / N))) result }
+            (64 * (from + N * ((word_count (length found.now.bits) - from) / N))) result }
     {
-        // a found set has at most 2^32 rows, so at most 2^26 words
+        // The proof takes from this that there are at most 2^32 rows, so at most 2^26 words.
         prove!(found.len() <= 1 << 32);
         let mut best = before;
         'block: for k in 0..(found.words().len() - from) / N {
@@ -96,7 +97,7 @@ impl Slices {
         best: Option<u64>,
     ) -> Option<u64>
         requires blocks { (1 ≤ N) × (N ≤ 64) }
-        requires within { at + N ≤ (length self.now.entries + 63) / 64 }
+        requires within { at + N ≤ word_count (length self.now.entries) }
         ensures { IsBetterIn end (bit_of rows.entry) (λ p. number_at self.now.entries (64 * at + p))
             (64 * N) best result }
     {
@@ -161,13 +162,13 @@ fn either<const N: usize>(wanted: bool, first: Simd<u64, N>, second: Simd<u64, N
 
 /// Returns a block of the words of a vector, from word `at` on.
 fn block_at<const N: usize>(bits: &Bits, at: usize) -> Simd<u64, N>
-    requires { at + N ≤ (length bits.now.bits + 63) / 64 }
+    requires { at + N ≤ word_count (length bits.now.bits) }
     ensures long { length result ≡ N }
     ensures fits { (k : ℕ) → slice_index result k < 2 ^ 64 }
     ensures places { (p : ℕ) → p < 64 * N →
         bit_of result p ≡ slice_index_or bits.now.bits (64 * at + p) false }
 {
-    // a vector has at most 2^32 bits, so at most 2^26 words
+    // The proof takes from this that there are at most 2^32 bits, so at most 2^26 words.
     prove!(bits.len() <= 1 << 32);
     let words = bits.words();
     know_fits(words);

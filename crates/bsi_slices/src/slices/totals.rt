@@ -1,9 +1,9 @@
 //! The totals of a found set: the sum, with one count per slice and block, and the number of a rank, by narrowing the
 //! found set from the most significant slice down.
 
-ghost use Rattle.std.specs.Prelude.{◌≡◌, ℕ, ◌+◌, ◌*◌, ◌/◌, ◌^◌, ◌≤◌, ◌<◌, ◌&&◌, false, if◌then◌else◌, length, not, slice_index, sum, sum_by, count_by, count_ones, IfOk, IsTrue, ◌↔◌};
+ghost use Rattle.std.specs.Prelude.{◌≡◌, ℕ, ◌+◌, ◌*◌, ◌^◌, ◌≤◌, ◌<◌, ◌&&◌, false, if◌then◌else◌, length, not, slice_index, sum, sum_by, count_by, count_ones, IfOk, IsTrue, ◌↔◌};
 ghost use Rattle.std.specs.Simd.Lanes.{zip2};
-ghost use Rattle.bsi_bits.specs.BitList.{in_words, without};
+ghost use Rattle.bsi_bits.specs.BitList.{in_words, without, word_count};
 ghost use Rattle.bsi_bits.specs.Packed.{bits_of, IsPacked};
 ghost use Rattle.bsi_slices.specs.Blocks.{word_kept};
 ghost use Rattle.bsi_slices.specs.Totals.{numbers_at, IsRanked};
@@ -28,7 +28,7 @@ impl Slices {
         ensures sum { result ≡ sum (numbers_at found.now.bits self.now.entries) }
         ensures within { result < 2 ^ 95 }
     {
-        // at most 2^32 numbers, each below 2^63, add up to less than 2^95
+        // The proof takes from these that at most 2^32 numbers, each below 2^63, add up to less than 2^95.
         prove!(found.len() <= 1 << 32);
         prove!(self.width() <= 63);
         let words = found.words().len();
@@ -45,7 +45,7 @@ impl Slices {
     fn sum_in(&self, found: &Bits, start: usize, end: usize) -> u128
         requires same { length self.now.entries ≡ length found.now.bits }
         requires forward { start ≤ end }
-        requires within { end ≤ (length found.now.bits + 63) / 64 }
+        requires within { end ≤ word_count (length found.now.bits) }
         requires few { length found.now.bits ≤ 2 ^ 32 }
         ensures { result ≡ sum (numbers_at
             (in_words start end found.now.bits) (in_words start end self.now.entries)) }
@@ -64,7 +64,7 @@ impl Slices {
         requires there { k < length (numbers_at found.now.bits self.now.entries) }
         ensures { IfOk result (IsRanked (numbers_at found.now.bits self.now.entries) k) }
     {
-        // a found set has at most 2^32 rows, so each count below fits
+        // The proof takes from this that there are at most 2^32 rows, so each count below fits.
         prove!(found.len() <= 1 << 32);
         let mut chosen = found.copy()?.into_words();
         let mut last = self.present();

@@ -19,7 +19,7 @@ returns-else-count-gt0-clause-bits c =
     spliced_bits c.args.n c.args.count c.args.word c.args.words.now.items c.args.words.now.items c.requires.few
     (splices_none c.args.n c.args.count c.args.word c.args.words.now.items c.requires.few c.requires.clear c.requires.packed (omega (arith, c.if-count-gt0.false)))
 
--- further places of the last word, and of one behind it
+-- further places of the last word, and of one after it
 pub returns-then-place-count-gt64-clause-packed : goal.returns-then-place-count-gt64-clause-packed
 returns-then-place-count-gt64-clause-packed c =
     rw c.push_reserved-then-place-count-gt64.ensures.items (spliced_packed c.args.n c.args.count c.args.word c.args.words.now.items _ c.requires.within c.requires.clear

@@ -9,4 +9,4 @@ returns-clause-there g c =
     let digits = g.E.Encoding.digits c.args.component.now in
     let parts = where_at_most c.digit_of_rank-choice.result.digit c.args.chosen.now.bits digits in
     let left = ap (count_by (λ b. b)) c.keep_digit.ensures.rows in
-    omega (arith, c.digit_of_rank-choice.ensures.rank, c.digit_of_rank-choice.ensures.there, parts, left)
+    omega (arith, c.digit_of_rank-choice.ensures.ranked.rank_is, c.digit_of_rank-choice.ensures.ranked.there, parts, left)

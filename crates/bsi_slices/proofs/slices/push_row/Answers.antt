@@ -2,7 +2,7 @@ use Rattle.std.proofs.Common.{◌≡◌, ℕ, zero, suc, ◌<◌, ◌++◌, ◌�
 use Rattle.std.specs.Prelude.{◌==◌, Option}
 use Rattle.std.specs.Int.{bit_at}
 use Rattle.bsi_slices.specs.Rows.{number_or_zero}
-use Rattle.bsi_slices.specs.Slices.{slice_at}
+use Rattle.bsi_bits.specs.BitLists.{bits_at}
 use Rattle.bsi_slices.proofs.SliceGrowth.{entries_more, sliced_more}
 use Rattle.bsi_slices.proofs.slices.push_row.Goals as goal
 
@@ -10,12 +10,12 @@ one_fits : (entry : Option ℕ) (bound : ℕ) → number_or_zero entry < bound �
 one_fits entry bound fit zero within = fit
 one_fits entry bound fit (suc i) within = absurd (omega arith)
 
--- each slice has its place of the number behind its bits
+-- each slice has its place of the number after its bits
 pub returns-clause-sliced : goal.returns-clause-sliced
 returns-clause-sliced c =
     let marks : c.push_reserved.new.self.bits ≡ c.args.present.now.bits ++ is_some c.args.entry ∷ [] =
     c.push_reserved.ensures.bits ∙ (λ i. c.args.present.now.bits ++ c.is_some.ensures i ∷ []) in
-    let pushed : (k : ℕ) → k < length c.args.slices.now.vectors → slice_at c.push_each.new.self.vectors k ≡ slice_at c.args.slices.now.vectors k ++ (bit_at (number_or_zero c.args.entry) k == 1) ∷ [] =
+    let pushed : (k : ℕ) → k < length c.args.slices.now.vectors → bits_at c.push_each.new.self.vectors k ≡ bits_at c.args.slices.now.vectors k ++ (bit_at (number_or_zero c.args.entry) k == 1) ∷ [] =
     c.push_each.ensures.bits (λ k. bit_at (number_or_zero c.args.entry) k == 1) (λ k b within said. said (omega (arith, within, c.requires.sliced.few)) ∙ ap (λ n. bit_at n k == 1) c.unwrap_or-number.ensures) in
     sliced_more c.args.present.now.bits c.push_reserved.new.self.bits c.args.slices.now.vectors c.push_each.new.self.vectors (c.args.entry ∷ []) c.requires.sliced (one_fits c.args.entry _ c.requires.below)
     marks c.push_each.ensures.count pushed (omega (arith, c.len.ensures))
@@ -24,7 +24,7 @@ pub returns-clause-entries : goal.returns-clause-entries
 returns-clause-entries c =
     let marks : c.push_reserved.new.self.bits ≡ c.args.present.now.bits ++ is_some c.args.entry ∷ [] =
     c.push_reserved.ensures.bits ∙ (λ i. c.args.present.now.bits ++ c.is_some.ensures i ∷ []) in
-    let pushed : (k : ℕ) → k < length c.args.slices.now.vectors → slice_at c.push_each.new.self.vectors k ≡ slice_at c.args.slices.now.vectors k ++ (bit_at (number_or_zero c.args.entry) k == 1) ∷ [] =
+    let pushed : (k : ℕ) → k < length c.args.slices.now.vectors → bits_at c.push_each.new.self.vectors k ≡ bits_at c.args.slices.now.vectors k ++ (bit_at (number_or_zero c.args.entry) k == 1) ∷ [] =
     c.push_each.ensures.bits (λ k. bit_at (number_or_zero c.args.entry) k == 1) (λ k b within said. said (omega (arith, within, c.requires.sliced.few)) ∙ ap (λ n. bit_at n k == 1) c.unwrap_or-number.ensures) in
     entries_more c.args.present.now.bits c.push_reserved.new.self.bits c.args.slices.now.vectors c.push_each.new.self.vectors (c.args.entry ∷ []) c.requires.sliced (one_fits c.args.entry _ c.requires.below)
     marks c.push_each.ensures.count pushed

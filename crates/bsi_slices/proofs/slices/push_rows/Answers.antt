@@ -7,12 +7,12 @@ use Rattle.std.proofs.lemmas.List.{get_or-take, get_or_past, length-take}
 use Rattle.std.proofs.lemmas.List.Elements.{All-get_or}
 use Rattle.bsi_bits.specs.Packed.{bits_of}
 use Rattle.bsi_slices.specs.Rows.{number_or_zero}
-use Rattle.bsi_slices.specs.Slices.{slice_at}
+use Rattle.bsi_bits.specs.BitLists.{bits_at}
 use Rattle.bsi_slices.proofs.StageBits.{word_is, word_clear}
 use Rattle.bsi_slices.proofs.SliceGrowth.{entries_more, sliced_more}
 use Rattle.bsi_slices.proofs.slices.push_rows.Goals as goal
 
--- the words that are pushed have no bit behind the block's last row
+-- the words that are pushed have no bit after the block's last row
 pub push_words-requires-clause-clear : goal.push_words-requires-clause-clear
 push_words-requires-clause-clear c = λ j.
     let count = length c.as_slice.result.now in
@@ -28,7 +28,7 @@ push_words-requires-clause-clear c = λ j.
           omega (arith, none, pow_pos (length c.args.block.now))
     ]
 
--- each slice has its places of the numbers behind its bits
+-- each slice has its places of the numbers after its bits
 pub returns-clause-sliced : goal.returns-clause-sliced
 returns-clause-sliced c =
     let count = length c.as_slice.result.now in
@@ -36,11 +36,11 @@ returns-clause-sliced c =
     let few = ap length c.as_slice.ensures.vectors in
     let marks : c.push_word_reserved.new.self.bits ≡ c.args.present.now.bits ++ map is_some c.args.block.now =
     c.push_word_reserved.ensures.bits ∙ ap (λ bits. c.args.present.now.bits ++ bits) c.mark_present.ensures.marks in
-    let pushed : (k : ℕ) → k < length c.args.slices.now.vectors → slice_at c.push_words.new.self.vectors k ≡ slice_at c.args.slices.now.vectors k ++ map (λ e. bit_at (number_or_zero e) k == 1) c.args.block.now =
+    let pushed : (k : ℕ) → k < length c.args.slices.now.vectors → bits_at c.push_words.new.self.vectors k ≡ bits_at c.args.slices.now.vectors k ++ map (λ e. bit_at (number_or_zero e) k == 1) c.args.block.now =
     λ k within.
     c.push_words.ensures.bits k within
-    ∙ ap (λ word. slice_at c.args.slices.now.vectors k ++ bits_of (length c.args.block.now) (word ∷ [])) (get_or-take count words k 0 (omega (arith, within, few)))
-    ∙ ap (λ bits. slice_at c.args.slices.now.vectors k ++ bits) (word_is c.args.block.now c.place_numbers.new.numbers words c.requires.few c.place_numbers.ensures.numbers c.transpose.ensures.turned k (omega (arith, within, c.requires.sliced.few))) in
+    ∙ ap (λ word. bits_at c.args.slices.now.vectors k ++ bits_of (length c.args.block.now) (word ∷ [])) (get_or-take count words k 0 (omega (arith, within, few)))
+    ∙ ap (λ bits. bits_at c.args.slices.now.vectors k ++ bits) (word_is c.args.block.now c.place_numbers.new.numbers words c.requires.few c.place_numbers.ensures.numbers c.transpose.ensures.turned k (omega (arith, within, c.requires.sliced.few))) in
     sliced_more c.args.present.now.bits c.push_word_reserved.new.self.bits c.args.slices.now.vectors c.push_words.new.self.vectors c.args.block.now c.requires.sliced
     (λ i within. All-get_or (λ e. number_or_zero e < 2 ^ length c.args.slices.now.vectors) c.args.block.now i None within c.requires.below) marks c.push_words.ensures.count pushed (omega (arith, c.len.ensures))
 
@@ -51,10 +51,10 @@ returns-clause-entries c =
     let few = ap length c.as_slice.ensures.vectors in
     let marks : c.push_word_reserved.new.self.bits ≡ c.args.present.now.bits ++ map is_some c.args.block.now =
     c.push_word_reserved.ensures.bits ∙ ap (λ bits. c.args.present.now.bits ++ bits) c.mark_present.ensures.marks in
-    let pushed : (k : ℕ) → k < length c.args.slices.now.vectors → slice_at c.push_words.new.self.vectors k ≡ slice_at c.args.slices.now.vectors k ++ map (λ e. bit_at (number_or_zero e) k == 1) c.args.block.now =
+    let pushed : (k : ℕ) → k < length c.args.slices.now.vectors → bits_at c.push_words.new.self.vectors k ≡ bits_at c.args.slices.now.vectors k ++ map (λ e. bit_at (number_or_zero e) k == 1) c.args.block.now =
     λ k within.
     c.push_words.ensures.bits k within
-    ∙ ap (λ word. slice_at c.args.slices.now.vectors k ++ bits_of (length c.args.block.now) (word ∷ [])) (get_or-take count words k 0 (omega (arith, within, few)))
-    ∙ ap (λ bits. slice_at c.args.slices.now.vectors k ++ bits) (word_is c.args.block.now c.place_numbers.new.numbers words c.requires.few c.place_numbers.ensures.numbers c.transpose.ensures.turned k (omega (arith, within, c.requires.sliced.few))) in
+    ∙ ap (λ word. bits_at c.args.slices.now.vectors k ++ bits_of (length c.args.block.now) (word ∷ [])) (get_or-take count words k 0 (omega (arith, within, few)))
+    ∙ ap (λ bits. bits_at c.args.slices.now.vectors k ++ bits) (word_is c.args.block.now c.place_numbers.new.numbers words c.requires.few c.place_numbers.ensures.numbers c.transpose.ensures.turned k (omega (arith, within, c.requires.sliced.few))) in
     entries_more c.args.present.now.bits c.push_word_reserved.new.self.bits c.args.slices.now.vectors c.push_words.new.self.vectors c.args.block.now c.requires.sliced
     (λ i within. All-get_or (λ e. number_or_zero e < 2 ^ length c.args.slices.now.vectors) c.args.block.now i None within c.requires.below) marks c.push_words.ensures.count pushed

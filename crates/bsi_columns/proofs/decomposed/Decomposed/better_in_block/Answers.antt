@@ -1,7 +1,7 @@
 use Rattle.std.proofs.Common.{◌≡◌, ℕ, ◌+◌, ◌-◌, ◌*◌, ◌/◌, ◌%◌, ◌<◌, ◌≤◌, Bool, true, false, List, length, get_or, map, All, ap, ap₂, sym, ◌∙◌, subst, arith}
 use Rattle.std.proofs.lemmas.Nat.{mul-le}
 use Rattle.bsi_bits.specs.Packed.{bit_of}
-use Rattle.bsi_digits.specs.Digits.{weight, size_of, digit_of}
+use Rattle.bsi_digits.specs.Digits.{weight, product, digit_of}
 use Rattle.bsi_digits.proofs.CallerLemmas.{weight_all, weight_more, weight_pos}
 use Rattle.bsi_columns.specs.Rows.{number_or_zero}
 use Rattle.bsi_columns.specs.Ends.{comes_first, leads, yields, number_at}
@@ -19,13 +19,13 @@ pub components-init : goal.components-init
 components-init g c =
     let bs = c.bases-bases.result.now in
     let entries = c.args.self.now.entries in
-    let size : ℕ = size_of bs in
+    let size : ℕ = product bs in
     let numbers : ℕ → ℕ = λ p. number_at entries (64 * c.args.at + p) in
     let marked : ℕ → Bool = bit_of c.args.block.now in
     let row = c.meets.ensures.some c.if-not-meets.false in
     let whole : weight bs c.len-i.result ≡ size = ap (weight bs) c.len-i.ensures.len ∙ weight_all bs in
     let positive : 0 < size = omega (arith, weight_pos c.len-i.ensures.valid c.len-i.result, whole) in
-    let IsBelow : List ℕ → Type 0 = λ bs. All (λ e. number_or_zero e < size_of bs) entries in
+    let IsBelow : List ℕ → Type 0 = λ bs. All (λ e. number_or_zero e < product bs) entries in
     let below = subst IsBelow (sym c.bases-bases.ensures.bases) c.bases-bases.ensures.below in
     let AtWeight : ℕ → Type 0 = λ w. IsNearest c.args.end marked numbers (64 * length c.args.block.now) w 0 marked in
     record {
@@ -49,9 +49,9 @@ overflow_mul-above g c =
     let some : 0 < base = omega (arith, c.base-base.ensures.base, c.base-base.ensures.within) in
     let up : c.components.i ≡ j + 1 = omega (arith, c.components-test.true) in
     let more : weight bs c.components.i ≡ w * base = ap (weight bs) up ∙ weight_more bs j inside in
-    let Small : ℕ → Type 0 = λ v. c.components.number * v + v ≤ size_of bs in
-    let before : c.components.number * (w * base) + w * base ≤ size_of bs = subst Small more c.components.invariant.small in
-    let fits = room c.components.number w base (size_of bs) positive before in
+    let Small : ℕ → Type 0 = λ v. c.components.number * v + v ≤ product bs in
+    let before : c.components.number * (w * base) + w * base ≤ product bs = subst Small more c.components.invariant.small in
+    let fits = room c.components.number w base (product bs) positive before in
     let made : c.components.number * c.from.result ≡ c.components.number * base = ap (λ b. c.components.number * b) (c.from.ensures ∙ c.base-base.ensures.base) in
     omega (arith, fits, made, c.len-i.ensures.valid.small)
 
@@ -122,9 +122,9 @@ overflow_add-number g c =
     let low : d < base = digit_low c.args.end marked numbers n w base (weight bs c.components.i) c.components.number d kept (bit_of c.keep_nearest.new.block) digit positive some more digits step in
     let added : c.components.number * c.from.result + c.from-in-Digit.result ≡ c.components.number * base + d =
     ap₂ (λ b v. c.components.number * b + v) (c.from.ensures ∙ c.base-base.ensures.base) c.from-in-Digit.ensures in
-    let Small : ℕ → Type 0 = λ v. c.components.number * v + v ≤ size_of bs in
-    let before : c.components.number * (w * base) + w * base ≤ size_of bs = subst Small more c.components.invariant.small in
-    let fits = room c.components.number w base (size_of bs) positive before in
+    let Small : ℕ → Type 0 = λ v. c.components.number * v + v ≤ product bs in
+    let before : c.components.number * (w * base) + w * base ≤ product bs = subst Small more c.components.invariant.small in
+    let fits = room c.components.number w base (product bs) positive before in
     omega (arith, fits, low, added, c.len-i.ensures.valid.small)
 
 pub leads_all-requires-clause-small : goal.leads_all-requires-clause-small
@@ -154,9 +154,9 @@ leads_all-requires-clause-small g c =
     let low : d < base = digit_low c.args.end marked numbers n w base (weight bs c.components.i) c.components.number d kept (bit_of c.keep_nearest.new.block) digit positive some more digits step in
     let added : c.components.number * c.from.result + c.from-in-Digit.result ≡ c.components.number * base + d =
     ap₂ (λ b v. c.components.number * b + v) (c.from.ensures ∙ c.base-base.ensures.base) c.from-in-Digit.ensures in
-    let Small : ℕ → Type 0 = λ v. c.components.number * v + v ≤ size_of bs in
-    let before : c.components.number * (w * base) + w * base ≤ size_of bs = subst Small more c.components.invariant.small in
-    let fits : (c.components.number * base + d) * w + w ≤ size_of bs = next_small c.components.number w base d (size_of bs) low before in
+    let Small : ℕ → Type 0 = λ v. c.components.number * v + v ≤ product bs in
+    let before : c.components.number * (w * base) + w * base ≤ product bs = subst Small more c.components.invariant.small in
+    let fits : (c.components.number * base + d) * w + w ≤ product bs = next_small c.components.number w base d (product bs) low before in
     rw (added, c.weight-weight.ensures.weight) (omega (arith, fits, c.len-i.ensures.valid.small))
 
 -- the best number so far leads those that begin so
@@ -223,9 +223,9 @@ components-preserved g c =
     ap₂ (λ b v. c.components.number * b + v) (c.from.ensures ∙ c.base-base.ensures.base) c.from-in-Digit.ensures in
     let lower : IsNearest c.args.end marked numbers n w (c.components.number * base + d) (bit_of c.keep_nearest.new.block) =
     component_step c.args.end marked numbers n w base (weight bs c.components.i) c.components.number d kept (bit_of c.keep_nearest.new.block) digit positive some more digits step state in
-    let Small : ℕ → Type 0 = λ v. c.components.number * v + v ≤ size_of bs in
-    let before : c.components.number * (w * base) + w * base ≤ size_of bs = subst Small more c.components.invariant.small in
-    let fits : (c.components.number * base + d) * w + w ≤ size_of bs = next_small c.components.number w base d (size_of bs) low before in
+    let Small : ℕ → Type 0 = λ v. c.components.number * v + v ≤ product bs in
+    let before : c.components.number * (w * base) + w * base ≤ product bs = subst Small more c.components.invariant.small in
+    let fits : (c.components.number * base + d) * w + w ≤ product bs = next_small c.components.number w base d (product bs) low before in
     let AtRows : ℕ → ℕ → Type 0 = λ m number. IsNearest c.args.end marked numbers (64 * m) w number (bit_of c.keep_nearest.new.block) in
     let AtNumber : ℕ → Type 0 = λ number. AtRows (length c.args.block.now) number in
     let AtLast : ℕ → Type 0 = λ m. AtRows m (c.components.number * base + d) in

@@ -1,6 +1,6 @@
 use Rattle.std.proofs.Common.{◌≡◌, ◌+◌, ◌*◌, ◌≤◌, length}
 use Rattle.bsi_bits.specs.Packed.{bit_of}
-use Rattle.bsi_digits.specs.Digits.{weight, size_of}
+use Rattle.bsi_digits.specs.Digits.{weight, product}
 use Rattle.bsi_columns.specs.Ends.{yields, number_at}
 use Rattle.bsi_columns.proofs.EndBlocks.{IsNearest}
 use Rattle.bsi_columns.proofs.decomposed.Decomposed.better_in_block.Given as goal
@@ -10,7 +10,7 @@ abbrev pub invariant-components : goal.invariant-components
 invariant-components g l = record {
   within : l.i ≤ length l.bases;
   nearest : IsNearest l.end (bit_of l.fn.block) (λ p. number_at l.self.entries (64 * l.at + p)) (64 * length l.fn.block) (weight l.bases l.i) l.number (bit_of l.block);
-  small : l.number * weight l.bases l.i + weight l.bases l.i ≤ size_of l.bases;
+  small : l.number * weight l.bases l.i + weight l.bases l.i ≤ product l.bases;
   better : l.i ≡ 0 → yields l.end l.number l.best;
 }
 

@@ -1,6 +1,6 @@
 use Rattle.std.proofs.Common.{◌≡◌, ◌<◌, ◌≤◌, ◌+◌, ◌*◌, ◌/◌, ℕ, [], length, map, subst, ap, sym, ◌∙◌, arith}
 use Rattle.std.proofs.lemmas.List.{length-map}
-use Rattle.bsi_digits.specs.Digits.{size_of, digit_of}
+use Rattle.bsi_digits.specs.Digits.{product, digit_of}
 use Rattle.bsi_columns.specs.Rows.{number_or_zero}
 use Rattle.bsi_columns.specs.Decomposed.{entries_of}
 use Rattle.bsi_columns.proofs.ComponentLists.{read_map}
@@ -48,7 +48,7 @@ returns g c = λ p below row.
     let bs = inside.bases in
     let entries = entries_of bs inside.present.bits (map g.E.Encoding.digits inside.components.items) in
     let narrowed : IsNarrowed bs c.args.test.relation c.args.test.constant entries c.args.at c.loop-i.i c.loop-i.block = rw (← c.self.view_is) at c.loop-i.invariant in
-    let small : c.args.test.constant < size_of bs = rw (← c.self.view_is) at c.requires.below in
+    let small : c.args.test.constant < product bs = rw (← c.self.view_is) at c.requires.below in
     let all : c.loop-i.i ≡ length bs = omega arith in
     let at_end : IsNarrowed bs c.args.test.relation c.args.test.constant entries c.args.at (length bs) c.loop-i.block =
     subst (λ (i : ℕ). IsNarrowed bs c.args.test.relation c.args.test.constant entries c.args.at i c.loop-i.block) all narrowed in

@@ -1,6 +1,6 @@
 use Rattle.std.proofs.Common.{◌≡◌, ◌<◌, [], length, map, ap, sym, ◌∙◌, arith}
 use Rattle.std.proofs.lemmas.List.{length-map}
-use Rattle.bsi_digits.specs.Digits.{size_of, digit_of}
+use Rattle.bsi_digits.specs.Digits.{product, digit_of}
 use Rattle.bsi_columns.specs.Rows.{number_or_zero}
 use Rattle.bsi_columns.specs.Decomposed.{entries_of}
 use Rattle.bsi_columns.proofs.ComponentLists.{read_map}
@@ -78,7 +78,7 @@ returns g c =
     let entries = entries_of bs inside.present.bits (map g.E.Encoding.digits inside.components.items) in
     let valid = c.len-places.ensures.valid in
     let found : c.loop-i.found.bits ≡ low_answers valid c.args.test.relation c.args.test.constant entries c.loop-i.i = rw (← c.self.view_is) at c.loop-i.invariant.found in
-    let small : c.args.test.constant < size_of bs = rw (← c.self.view_is) at c.requires.below in
+    let small : c.args.test.constant < product bs = rw (← c.self.view_is) at c.requires.below in
     let all : c.loop-i.i ≡ length bs = omega arith in
     rw (← c.self.view_is)
     (found ∙ ap (low_answers valid c.args.test.relation c.args.test.constant entries) all

@@ -3,7 +3,7 @@ use Rattle.std.specs.Prelude.{is_some, nat_eq, ◌&&◌}
 use Rattle.std.specs.Simd.Lanes.{zip2}
 use Rattle.std.proofs.lemmas.Simd.{length-zip2}
 use Rattle.std.proofs.lemmas.List.{length-map}
-use Rattle.bsi_digits.specs.Digits.{weight, size_of, digit_of}
+use Rattle.bsi_digits.specs.Digits.{weight, product, digit_of}
 use Rattle.bsi_digits.proofs.CallerLemmas.{weight_pos}
 use Rattle.bsi_columns.specs.Rows.{number_or_zero}
 use Rattle.bsi_columns.proofs.Ranking.{narrowed_end}
@@ -17,7 +17,7 @@ components-init g c =
     let bs = c.bases-bases.result.now in
     let entries = c.args.self.now.entries in
     let found = c.args.found.now.bits in
-    let IsBelow : List ℕ → Type 0 = λ bs. All (λ e. number_or_zero e < size_of bs) entries in
+    let IsBelow : List ℕ → Type 0 = λ bs. All (λ e. number_or_zero e < product bs) entries in
     let below = subst IsBelow (sym c.bases-bases.ensures.bases) c.bases-bases.ensures.below in
     let chosen : c.and_with.new.self.bits ≡ zip2 ◌&&◌ found (map is_some entries) = c.and_with.ensures.bits ∙ ap₂ (zip2 ◌&&◌) c.in_ok-chosen.ensures c.present.ensures in
     let start = rung_start bs c.len-i.ensures.valid found entries c.args.k c.and_with.new.self.bits below chosen c.requires.there in
@@ -54,7 +54,7 @@ small g c =
     let bs = c.bases-bases.result.now in
     let valid = c.len-i.ensures.valid in
     let rung = next g c in
-    let below = fits_size (c.components.number * c.from.result + c.choose_digit-choice.result.digit) (weight bs (c.components.i - 1)) (size_of bs) (weight_pos valid (c.components.i - 1)) rung.small in
+    let below = fits_size (c.components.number * c.from.result + c.choose_digit-choice.result.digit) (weight bs (c.components.i - 1)) (product bs) (weight_pos valid (c.components.i - 1)) rung.small in
     omega (arith, below, valid.small)
 
 pub overflow_mul-number : goal.overflow_mul-number

@@ -1,6 +1,6 @@
 use Rattle.std.proofs.Common.{◌≡◌, ◌<◌, ℕ, false, replicate, map, ap, ◌∙◌, arith}
 use Rattle.bsi_bits.specs.BitList.{BitList}
-use Rattle.bsi_digits.specs.Digits.{size_of}
+use Rattle.bsi_digits.specs.Digits.{product}
 use Rattle.bsi_columns.specs.Rows.{compares, selects}
 use Rattle.bsi_slices.specs.Decisions.{decides, relates}
 use Rattle.bsi_columns.specs.DigitTests.{answers}
@@ -17,11 +17,11 @@ returns-in-Nothing g c =
     let present = c.self.inside.present.bits in
     let ds = map g.E.Encoding.digits c.self.inside.components.items in
     let entries = entries_of bs present ds in
-    let agree : (x : ℕ) → x < size_of bs → decides c.decide.result x ≡ compares c.args.op x c.args.constant = λ x below. c.decide.ensures.decided x (omega (arith, c.size.ensures.size)) in
+    let agree : (x : ℕ) → x < product bs → decides c.decide.result x ≡ compares c.args.op x c.args.constant = λ x below. c.decide.ensures.decided x (omega (arith, c.size.ensures.size)) in
     rw (← c.self.view_is)
     (IfOk-same_bits c.filled.result (λ (b : BitList). b.bits) (replicate c.len.result false) (map (selects c.args.op c.args.constant) entries)
     (ap (λ n. replicate n false) (c.len.ensures.len ∙ rows_of bs present ds entries c.self.invariant.0)
-    ∙ rows_none c.args.op c.args.constant (size_of bs) c.decide.result agree c.in-Nothing.is entries c.self.invariant.0.below)
+    ∙ rows_none c.args.op c.args.constant (product bs) c.decide.result agree c.in-Nothing.is entries c.self.invariant.0.below)
     c.filled.ensures)
 
 -- each number
@@ -31,10 +31,10 @@ returns-in-Everything g c =
     let present = c.self.inside.present.bits in
     let ds = map g.E.Encoding.digits c.self.inside.components.items in
     let entries = entries_of bs present ds in
-    let agree : (x : ℕ) → x < size_of bs → decides c.decide.result x ≡ compares c.args.op x c.args.constant = λ x below. c.decide.ensures.decided x (omega (arith, c.size.ensures.size)) in
+    let agree : (x : ℕ) → x < product bs → decides c.decide.result x ≡ compares c.args.op x c.args.constant = λ x below. c.decide.ensures.decided x (omega (arith, c.size.ensures.size)) in
     rw (← c.self.view_is)
     (IfOk-same_bits c.copy.result (λ (b : BitList). b.bits) c.bits.result.now.bits (map (selects c.args.op c.args.constant) entries)
-    (ap (λ b. b.bits) c.bits.ensures ∙ c.self.invariant.0.present_is ∙ rows_all c.args.op c.args.constant (size_of bs) c.decide.result agree c.in-Everything.is entries c.self.invariant.0.below)
+    (ap (λ b. b.bits) c.bits.ensures ∙ c.self.invariant.0.present_is ∙ rows_all c.args.op c.args.constant (product bs) c.decide.result agree c.in-Everything.is entries c.self.invariant.0.below)
     c.copy.ensures)
 
 -- the numbers that pass a test, or fail it
@@ -43,9 +43,9 @@ returns-in-Tested g c =
     let bs = c.self.inside.bases in
     let entries = entries_of bs c.self.inside.present.bits (map g.E.Encoding.digits c.self.inside.components.items) in
     let test = c.in-Tested.test in
-    let agree : (x : ℕ) → x < size_of bs → decides c.decide.result x ≡ compares c.args.op x c.args.constant = λ x below. c.decide.ensures.decided x (omega (arith, c.size.ensures.size)) in
+    let agree : (x : ℕ) → x < product bs → decides c.decide.result x ≡ compares c.args.op x c.args.constant = λ x below. c.decide.ensures.decided x (omega (arith, c.size.ensures.size)) in
     let tested = rw (← c.self.view_is) at c.select.ensures in
     rw (← c.self.view_is)
     (IfOk-same_bits c.select.result (λ (b : BitList). b.bits) (map (answers (λ x. relates test.relation x test.constant) test.wanted) entries) (map (selects c.args.op c.args.constant) entries)
-    (rows_tested c.args.op c.args.constant (size_of bs) c.decide.result agree test c.in-Tested.is entries c.self.invariant.0.below)
+    (rows_tested c.args.op c.args.constant (product bs) c.decide.result agree test c.in-Tested.is entries c.self.invariant.0.below)
     tested)

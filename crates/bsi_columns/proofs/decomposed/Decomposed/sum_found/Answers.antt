@@ -1,6 +1,6 @@
 use Rattle.std.proofs.Common.{◌≡◌, ◌+◌, ◌*◌, ◌%◌, ◌<◌, ◌≤◌, ◌^◌, ap, sym, map, length, subst, List, ℕ, All, ◌∙◌, arith}
 use Rattle.std.specs.Prelude.{sum_by}
-use Rattle.bsi_digits.specs.Digits.{weight, digit_of, size_of}
+use Rattle.bsi_digits.specs.Digits.{weight, digit_of, product}
 use Rattle.bsi_digits.proofs.CallerLemmas.{weight_pos, weight_le_size, weight_all}
 use Rattle.bsi_columns.specs.Rows.{number_or_zero}
 use Rattle.bsi_columns.specs.Totals.{numbers_at}
@@ -46,10 +46,10 @@ returns-clause-sum g c =
     let bs = c.bases-bases.result.now in
     let numbers = numbers_at c.args.found.now.bits c.args.self.now.entries in
     let all : c.components.i ≡ length bs = omega (arith, c.len-i-end.ensures.len) in
-    let IsBelow : List ℕ → Type 0 = λ bs. All (λ e. number_or_zero e < size_of bs) c.args.self.now.entries in
+    let IsBelow : List ℕ → Type 0 = λ bs. All (λ e. number_or_zero e < product bs) c.args.self.now.entries in
     let below = subst IsBelow (sym c.bases-bases.ensures.bases) c.bases-bases.ensures.below in
     c.components.invariant ∙ ap (λ i. sum_by (λ n. n % weight bs i) numbers) all ∙ ap (λ w. sum_by (λ n. n % w) numbers) (weight_all bs)
-    ∙ sum_whole (size_of bs) c.args.found.now.bits c.args.self.now.entries below
+    ∙ sum_whole (product bs) c.args.found.now.bits c.args.self.now.entries below
 
 pub returns-clause-within : goal.returns-clause-within
 returns-clause-within g c =

@@ -1,7 +1,7 @@
 use Rattle.std.proofs.Common.{◌≡◌, ◌+◌, ◌<◌, ◌≤◌, ◌++◌, [], ℕ, length, map, get_or, is_some, ap, ◌∙◌, sym, arith, length-append}
 use Rattle.std.specs.Prelude.{All}
 use Rattle.std.proofs.lemmas.List.{length-map, length-take-le}
-use Rattle.bsi_digits.specs.Digits.{digit_of, size_of}
+use Rattle.bsi_digits.specs.Digits.{digit_of, product}
 use Rattle.bsi_columns.specs.Rows.{number_or_zero}
 use Rattle.bsi_columns.specs.Decomposed.{entries_of, Decomposes}
 use Rattle.bsi_columns.proofs.EntriesFrom.{more_entries, entries_from, kept_itself, block_digits, roomy_less}
@@ -19,7 +19,7 @@ invariant_of-self g c =
     let more = map g.E.Encoding.digits items in
     let bits = c.push_word_reserved.new.self.bits in
     let long : length more ≡ length bs = length-map items g.E.Encoding.digits ∙ length-map_is g.E.Encoding.base_of items bs c.push_blocks.ensures.bases in
-    let small : All (λ e. number_or_zero e < size_of bs) (c.args.block.now) = rw (← c.self.view_is) at c.requires.below in
+    let small : All (λ e. number_or_zero e < product bs) (c.args.block.now) = rw (← c.self.view_is) at c.requires.below in
     let bits_are : bits ≡ present ++ map is_some (c.args.block.now) = c.push_word_reserved.ensures.bits ∙ ap (λ b. present ++ b) c.mark_present.ensures.marks in
     let each : (i : ℕ) → i < length bs → get_or more i [] ≡ get_or ds i [] ++ map (λ e. digit_of bs (number_or_zero e) i) (c.args.block.now) = λ i below. c.push_blocks.ensures.digits i below ∙ ap (λ xs. get_or ds i [] ++ xs) (block_digits (λ n. digit_of bs n i) c.args.block.now c.place_numbers.new.numbers c.place_numbers.ensures.numbers (omega (arith, c.requires.few, c.place_numbers.ensures.long))) in
     let kept : Decomposes bs bits more (entries ++ c.args.block.now) = more_entries bs present ds entries (c.args.block.now) bits more c.self.invariant.0 bits_are long each small in
@@ -45,7 +45,7 @@ returns-clause-entries g c =
     let more = map g.E.Encoding.digits items in
     let bits = c.push_word_reserved.new.self.bits in
     let long : length more ≡ length bs = length-map items g.E.Encoding.digits ∙ length-map_is g.E.Encoding.base_of items bs c.push_blocks.ensures.bases in
-    let small : All (λ e. number_or_zero e < size_of bs) (c.args.block.now) = rw (← c.self.view_is) at c.requires.below in
+    let small : All (λ e. number_or_zero e < product bs) (c.args.block.now) = rw (← c.self.view_is) at c.requires.below in
     let bits_are : bits ≡ present ++ map is_some (c.args.block.now) = c.push_word_reserved.ensures.bits ∙ ap (λ b. present ++ b) c.mark_present.ensures.marks in
     let each : (i : ℕ) → i < length bs → get_or more i [] ≡ get_or ds i [] ++ map (λ e. digit_of bs (number_or_zero e) i) (c.args.block.now) = λ i below. c.push_blocks.ensures.digits i below ∙ ap (λ xs. get_or ds i [] ++ xs) (block_digits (λ n. digit_of bs n i) c.args.block.now c.place_numbers.new.numbers c.place_numbers.ensures.numbers (omega (arith, c.requires.few, c.place_numbers.ensures.long))) in
     let kept : Decomposes bs bits more (entries ++ c.args.block.now) = more_entries bs present ds entries (c.args.block.now) bits more c.self.invariant.0 bits_are long each small in

@@ -2,7 +2,7 @@ use Rattle.std.proofs.Common.{◌≡◌, ◌+◌, ◌<◌, ◌≤◌, ◌∷◌,
 use Rattle.std.specs.Prelude.{All}
 use Rattle.std.proofs.lemmas.List.{length-map}
 use Rattle.std.proofs.lemmas.List.Elements.{All-nil, All-push}
-use Rattle.bsi_digits.specs.Digits.{digit_of, size_of}
+use Rattle.bsi_digits.specs.Digits.{digit_of, product}
 use Rattle.bsi_columns.specs.Rows.{number_or_zero}
 use Rattle.bsi_columns.specs.Decomposed.{entries_of, Decomposes}
 use Rattle.bsi_columns.proofs.EntriesFrom.{more_entries, entries_from, kept_itself, roomy_less}
@@ -20,7 +20,7 @@ invariant_of-self g c =
     let more = map g.E.Encoding.digits items in
     let bits = c.push_reserved.new.self.bits in
     let long : length more ≡ length bs = length-map items g.E.Encoding.digits ∙ length-map_is g.E.Encoding.base_of items bs c.push_digits.ensures.bases in
-    let small : All (λ e. number_or_zero e < size_of bs) (c.args.entry ∷ []) = All-push (λ e. number_or_zero e < size_of bs) [] c.args.entry (All-nil (λ e. number_or_zero e < size_of bs)) (rw (← c.self.view_is) at c.requires.below) in
+    let small : All (λ e. number_or_zero e < product bs) (c.args.entry ∷ []) = All-push (λ e. number_or_zero e < product bs) [] c.args.entry (All-nil (λ e. number_or_zero e < product bs)) (rw (← c.self.view_is) at c.requires.below) in
     let bits_are : bits ≡ present ++ map is_some (c.args.entry ∷ []) = c.push_reserved.ensures.bits ∙ ap (λ b. present ++ b ∷ []) c.is_some.ensures in
     let each : (i : ℕ) → i < length bs → get_or more i [] ≡ get_or ds i [] ++ map (λ e. digit_of bs (number_or_zero e) i) (c.args.entry ∷ []) = λ i below. c.push_digits.ensures.digits i below ∙ ap (λ n. get_or ds i [] ++ digit_of bs n i ∷ []) c.unwrap_or.ensures in
     let kept : Decomposes bs bits more (entries ++ c.args.entry ∷ []) = more_entries bs present ds entries (c.args.entry ∷ []) bits more c.self.invariant.0 bits_are long each small in
@@ -45,7 +45,7 @@ returns-clause-entries g c =
     let more = map g.E.Encoding.digits items in
     let bits = c.push_reserved.new.self.bits in
     let long : length more ≡ length bs = length-map items g.E.Encoding.digits ∙ length-map_is g.E.Encoding.base_of items bs c.push_digits.ensures.bases in
-    let small : All (λ e. number_or_zero e < size_of bs) (c.args.entry ∷ []) = All-push (λ e. number_or_zero e < size_of bs) [] c.args.entry (All-nil (λ e. number_or_zero e < size_of bs)) (rw (← c.self.view_is) at c.requires.below) in
+    let small : All (λ e. number_or_zero e < product bs) (c.args.entry ∷ []) = All-push (λ e. number_or_zero e < product bs) [] c.args.entry (All-nil (λ e. number_or_zero e < product bs)) (rw (← c.self.view_is) at c.requires.below) in
     let bits_are : bits ≡ present ++ map is_some (c.args.entry ∷ []) = c.push_reserved.ensures.bits ∙ ap (λ b. present ++ b ∷ []) c.is_some.ensures in
     let each : (i : ℕ) → i < length bs → get_or more i [] ≡ get_or ds i [] ++ map (λ e. digit_of bs (number_or_zero e) i) (c.args.entry ∷ []) = λ i below. c.push_digits.ensures.digits i below ∙ ap (λ n. get_or ds i [] ++ digit_of bs n i ∷ []) c.unwrap_or.ensures in
     let kept : Decomposes bs bits more (entries ++ c.args.entry ∷ []) = more_entries bs present ds entries (c.args.entry ∷ []) bits more c.self.invariant.0 bits_are long each small in

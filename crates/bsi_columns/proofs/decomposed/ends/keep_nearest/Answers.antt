@@ -18,7 +18,7 @@ returns-else-not-eq_block-clause-digit g c =
     let old : ℕ → Bool = bit_of c.args.block.now in
     let digit : ℕ → ℕ = λ p. get_or digits (64 * at + p) 0 in
     let n : ℕ = 64 * length c.args.block.now in
-    let answered : AnswersEnd c.args.end c.args.limit old digit n (Digit d) = rw c.in-Digit.is at c.end_digit.ensures in
+    let answered : AnswersEnd c.args.end c.args.limit old digit n (Digit d) = rw c.in-Digit.is at c.end_digit-answer.ensures in
     let narrowed = rw c.if-not-eq_block.false at c.eq_block.ensures.bits in
     let kept : (p : ℕ) → p < n → bit_of c.keep_in.new.block p ≡ (old p && nat_eq (digit p) d) = λ p below.
     elim (cases_lt (64 * at + p) (length digits)) [

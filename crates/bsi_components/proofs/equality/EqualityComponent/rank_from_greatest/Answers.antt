@@ -1,4 +1,4 @@
-use Rattle.std.proofs.Common.{◌≡◌, ℕ, ◌+◌, ◌-◌, ◌≤◌, ◌<◌, length, get_or, sym, ap, ◌∙◌, arith}
+use Rattle.std.proofs.Common.{◌≡◌, ℕ, ◌+◌, ◌-◌, ◌≤◌, ◌<◌, length, get_or, sym, ap, subst, ◌∙◌, arith}
 use Rattle.std.specs.Prelude.{nat_lt, nat_le}
 use Rattle.bsi_components.specs.Component.{count_where}
 use Rattle.bsi_components.proofs.DigitCounts.{where_all, where_at_most, where_below_next, where_below_zero}
@@ -23,10 +23,13 @@ overflow_sub-below c =
     omega (arith, parts, c.digits.invariant.upto, c.count_eq.ensures)
 
 -- no more rows than the rank have a lower digit
-pub returns-then-rank-below-clause-rank : goal.returns-then-rank-below-clause-rank
-returns-then-rank-below-clause-rank c =
+pub returns-then-rank-below-clause-ranked : goal.returns-then-rank-below-clause-ranked
+returns-then-rank-below-clause-ranked c =
     let parts = where_at_most c.digits.digit c.args.found.now.bits c.args.self.now.digits in
-    omega (arith, parts, c.digits.invariant.upto, c.count_eq.ensures, c.if-rank-below.true)
+    record {
+      rank_is = omega (arith, parts, c.digits.invariant.upto, c.count_eq.ensures, c.if-rank-below.true);
+      there = omega (arith, c.digits.invariant.upto, c.digits.invariant.there);
+    }
 
 -- the rows of this digit are passed over
 pub digits-preserved : goal.digits-preserved
@@ -44,7 +47,12 @@ digits-preserved c =
     }
 
 -- no digit is below 0
-pub returns-clause-rank : goal.returns-clause-rank
-returns-clause-rank c =
+pub returns-clause-ranked : goal.returns-clause-ranked
+returns-clause-ranked c =
     let none = where_below_zero c.args.found.now.bits c.args.self.now.digits in
-    omega (arith, none)
+    let zero_left : c.digits.digit ≡ 0 = omega (arith, c.digits-test.false) in
+    let Upto : ℕ → Type 0 = λ d. c.digits.upto ≡ count_where (λ v. nat_le v d) c.args.found.now.bits c.args.self.now.digits in
+    record {
+      rank_is = omega (arith, none);
+      there = omega (arith, subst Upto zero_left c.digits.invariant.upto, c.digits.invariant.there);
+    }

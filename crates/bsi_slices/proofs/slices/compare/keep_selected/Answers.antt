@@ -5,13 +5,15 @@ use Rattle.bsi_bits.specs.Packed.{bit_of}
 use Rattle.bsi_bits.proofs.Reading.{none_set}
 use Rattle.bsi_slices.specs.Slices.{number}
 use Rattle.bsi_slices.specs.Decisions.{decides, passes}
+use Rattle.bsi_slices.proofs.SliceEntries.{length-entries_in}
 use Rattle.bsi_slices.proofs.WordBlocks.{replicate_bit}
 use Rattle.bsi_slices.proofs.SliceSelections.{and_assoc, kept_decided}
 use Rattle.bsi_slices.proofs.slices.compare.keep_selected.Goals as goal
 
 -- no number below the size
 pub returns-in-Nothing : goal.returns-in-Nothing
-returns-in-Nothing c = λ p below row.
+returns-in-Nothing c = λ p below entry.
+    let row : 64 * c.args.at + p < length c.args.present.now.bits = omega (arith, entry, length-entries_in c.args.present.now.bits c.args.slices.now) in
     let few : length c.args.slices.now < 64 = omega (arith, c.requires.sliced.few) in
     let size_is : 1 * 2 ^ length c.args.slices.now % 2 ^ 64 ≡ 2 ^ length c.args.slices.now = one_shl (length c.args.slices.now) 64 few in
     let r : ℕ = 64 * c.args.at + p in
@@ -24,7 +26,8 @@ returns-in-Nothing c = λ p below row.
 
 -- each number below the size
 pub returns-in-Everything : goal.returns-in-Everything
-returns-in-Everything c = λ p below row.
+returns-in-Everything c = λ p below entry.
+    let row : 64 * c.args.at + p < length c.args.present.now.bits = omega (arith, entry, length-entries_in c.args.present.now.bits c.args.slices.now) in
     let few : length c.args.slices.now < 64 = omega (arith, c.requires.sliced.few) in
     let size_is : 1 * 2 ^ length c.args.slices.now % 2 ^ 64 ≡ 2 ^ length c.args.slices.now = one_shl (length c.args.slices.now) 64 few in
     let r : ℕ = 64 * c.args.at + p in
@@ -36,7 +39,8 @@ returns-in-Everything c = λ p below row.
 
 -- the numbers that pass the test, of which those of the rows that are there are kept
 pub returns-in-Tested : goal.returns-in-Tested
-returns-in-Tested c = λ p below row.
+returns-in-Tested c = λ p below entry.
+    let row : 64 * c.args.at + p < length c.args.present.now.bits = omega (arith, entry, length-entries_in c.args.present.now.bits c.args.slices.now) in
     let few : length c.args.slices.now < 64 = omega (arith, c.requires.sliced.few) in
     let size_is : 1 * 2 ^ length c.args.slices.now % 2 ^ 64 ≡ 2 ^ length c.args.slices.now = one_shl (length c.args.slices.now) 64 few in
     let r : ℕ = 64 * c.args.at + p in

@@ -1,8 +1,8 @@
 use Rattle.std.proofs.Common.{◌≡◌, ◌<◌, length, map, ap, sym, ◌∙◌, arith, below_more, get_or, None}
-use Rattle.bsi_table.specs.Columns.{column_at, is_taken_by}
+use Rattle.bsi_table.specs.Columns.{column_at, is_between, is_taken_by}
 use Rattle.bsi_table.specs.Rows.{entry_at}
 use Rattle.bsi_table.proofs.Fitting.{fits-each, misfit-at, misfit-length}
-use Rattle.bsi_text.specs.Limits.{is_within, limits_of}
+use Rattle.bsi_text.specs.Limits.{limits_of}
 use Rattle.bsi_text.proofs.Layouts.{limits_at, limits_long}
 use Rattle.bsi_text.proofs.layout.Layout.takes.Goals as goal
 
@@ -22,7 +22,7 @@ returns-then-not-take c =
     let are : c.self.inside.limits.items ≡ map limits_of columns = c.self.invariant.1 ∙ ap (λ l. map limits_of l.schema.columns) c.self.view_is in
     let long = limits_long columns c.self.inside.limits.items are in
     let within : at < length columns = omega (arith, c.columns-test.true, c.if-values-len.false, long, c.len.ensures) in
-    let limit = ap (λ l. is_within l entry) c.index.ensures ∙ limits_at columns c.self.inside.limits.items are at c.index.result.now entry within in
+    let limit = ap (λ l. is_between l.least l.size entry) c.index.ensures ∙ limits_at columns c.self.inside.limits.items are at c.index.result.now entry within in
     misfit-at columns c.args.row.now at within
     (ap (λ row. is_taken_by (column_at columns at) (entry_at row at)) (sym c.values-values.ensures)
     ∙ sym limit ∙ sym c.take.ensures ∙ c.if-not-take.true)
@@ -35,7 +35,7 @@ columns-preserved c =
     let are : c.self.inside.limits.items ≡ map limits_of columns = c.self.invariant.1 ∙ ap (λ l. map limits_of l.schema.columns) c.self.view_is in
     let long = limits_long columns c.self.inside.limits.items are in
     let within : at < length columns = omega (arith, c.columns-test.true, c.if-values-len.false, long, c.len.ensures) in
-    let limit = ap (λ l. is_within l entry) c.index.ensures ∙ limits_at columns c.self.inside.limits.items are at c.index.result.now entry within in
+    let limit = ap (λ l. is_between l.least l.size entry) c.index.ensures ∙ limits_at columns c.self.inside.limits.items are at c.index.result.now entry within in
     below_more _ _ c.columns.invariant
     (ap (λ row. is_taken_by (column_at columns at) (entry_at row at)) (sym c.values-values.ensures)
     ∙ sym limit ∙ sym c.take.ensures ∙ c.if-not-take.false)
