@@ -22,7 +22,8 @@ spelled_number text = if is_number text then Some (digits_value 10 text) else No
 abbrev pub signed_of : Field → Option ℤ
 signed_of [] = None
 signed_of (first ∷ rest) =
-    if first == 45 then option_map (λ n. neg_ℤ (pos n)) (spelled_number rest) else option_map pos (spelled_number (first ∷ rest))
+    if first == 45 then option_map (λ n. neg_ℤ (pos n)) (spelled_number rest)
+    else option_map pos (spelled_number (first ∷ rest))
 
 -- the number of a text, with a minus sign where numbers are signed alone
 abbrev pub number_in : Bool → Field → Option ℤ
