@@ -1,9 +1,11 @@
 -- What a feeder has sent so far of a source.
-use Rattle.std.proofs.Common.{◌≡◌, ℕ, ◌+◌, List, [], ◌∷◌, ◌++◌, Option, Some, length, refl, sym, ap, ◌∙◌, arith, length-append}
+use Rattle.std.proofs.Common.{◌≡◌, ℕ, ◌+◌, Bool, false, List, [], ◌∷◌, ◌++◌, Option, Some, None, IfSome, length, refl, sym, ap, ◌∙◌, arith, length-append}
 use Rattle.std.proofs.lemmas.List.{append_assoc, append-nil}
 use Rattle.bsi_rings.specs.Rings.{with_sent, Sending}
 use Rattle.bsi_table.specs.Rows.{Entries}
 use Rattle.bsi_text.specs.Sources.{GivesFirst, Source, StillHas}
+use Rattle.bsi_text.specs.declared.rows.SourceFault.{SourceFault}
+use Rattle.bsi_files.specs.Feeding.{HasFed}
 
 -- of all good rows and all other records that a source still had, it has the rest
 pub record HasRest {R : Type 0} (rem : R → Option (List ℕ)) (old new : Source R) (rows all : List Entries) (others : ℕ) : Type 0 where
@@ -52,3 +54,24 @@ module _ {R : Type 0} (rem : R → Option (List ℕ)) (feeder : Sending) (source
           count = one.4 ∙ was.count;
         };
   }
+
+  -- a feeder that sends no more has sent the first rows, and all of them where the source has none left
+  pub fed_first : (n : ℕ) (now : Sending) (after : Source R) (sent : List Entries) (accepted bad : ℕ) (stopped : Bool) (fault : Option SourceFault)
+      → HasSent rem feeder source n now after → sent ≡ now.sent → accepted ≡ n
+      → (stopped ≡ false → fault ≡ None → (rest : List Entries) → (left : ℕ) → StillHas rem after rest left → (rest ≡ []) × (bad ≡ after.tally.bad + left))
+      → HasFed rem source feeder.sent sent accepted bad stopped fault
+  fed_first n now after sent accepted bad stopped fault has is many none = record {
+    rows = has.rows;
+    sent = is ∙ has.sent;
+    many = has.many ∙ sym many;
+    first = λ all others still. (let was = has.gives all others still in (was.rest, sym was.parts));
+    all = λ going fine. λ all others still.
+        let was = has.gives all others still in
+        let end = none going fine was.rest was.left was.still in
+        (sym (was.parts ∙ ap (λ xs. has.rows ++ xs) end.0 ∙ append-nil has.rows), end.1 ∙ was.count);
+  }
+
+-- what follows for each value follows for one that is there
+pub of_some : {A : Type 0} {P Q : A → Type 0} (found : Option A) → IfSome found P → ((x : A) → P x → Q x) → IfSome found Q
+of_some None is follows = tt
+of_some (Some x) is follows = follows x is

@@ -32,14 +32,15 @@ pub(crate) fn answer_all<B: Naming, A: Read + Drop, W: Write>(
     let mut fields = ByteRecord::new(alloc);
     // No text has so many records. The bound lets the proof see that the loop ends.
     'records: for _ in 0..u64::MAX {
-        match records.next_record(&mut fields) {
-            Ok(true) => {}
-            Ok(false) => break,
-            Err(fault) => return Err(FilesFault::of_text(Which::AsksFile, fault)),
+        let read = records.next_record(&mut fields);
+        if !read.map_err(|fault| FilesFault::of_text(Which::AsksFile, fault))? {
+            break;
         }
         line.clear();
         answer(alloc, schema, analyst, &fields, &mut line)?;
-        write_bytes(writer, line.as_slice())?;
+        writer
+            .write_all(line.as_slice())
+            .map_err(|_| FilesFault::Write)?;
     }
     Ok(())
 }
@@ -51,7 +52,9 @@ fn tell_all<W: Write>(fed: &[Fed], line: &mut Vec<u8>, writer: &mut W) -> Result
     'feeders: for (feeder, end) in fed.iter().enumerate() {
         line.clear();
         write_fed(file_number(feeder), end.accepted, end.bad, line)?;
-        write_bytes(writer, line.as_slice())?;
+        writer
+            .write_all(line.as_slice())
+            .map_err(|_| FilesFault::Write)?;
     }
     Ok(())
 }
@@ -88,19 +91,4 @@ fn ask<B: Naming>(analyst: &mut Analyst<B>, query: &Query) -> Result<Reply, File
         Err(AnalystRefused::Ask(refused)) => Ok(Reply::Answered(Err(refused))),
         Err(AnalystRefused::Gone) => Err(FilesFault::Readers),
     }
-}
-
-/// Writes all bytes.
-fn write_bytes<W: Write>(writer: &mut W, bytes: &[u8]) -> Result<(), FilesFault>
-    ensures { IfErr result (λ fault. fault ≡ FilesFault.Write) }
-{
-    let mut at = 0;
-    'bytes: while at < bytes.len() {
-        match writer.write(&bytes[at..]) {
-            Ok(0) => return Err(FilesFault::Write),
-            Ok(taken) => at += taken,
-            Err(_) => return Err(FilesFault::Write),
-        }
-    }
-    Ok(())
 }

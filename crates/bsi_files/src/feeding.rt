@@ -29,6 +29,7 @@ pub struct FeedEnd {
 }
 
 /// The result of one turn of a feeder.
+#[derive(Clone, Copy, Debug, PartialEq, Eq)]
 pub(crate) enum Turn {
     /// The next row was sent.
     Sent,
@@ -45,8 +46,8 @@ pub(crate) enum Turn {
 /// gate tells it to, after a try that found no place in the ring. It closes the feeder in each case.
 pub fn feed<R: Wait, I: Read + Drop, G: Gate>(
     rt: &R,
-    feeder: Feeder,
-    source: RowSource<I>,
+    mut feeder: Feeder,
+    mut source: RowSource<I>,
     gate: &G,
 ) -> FeedEnd
     ensures number { IfSome result.closing (λ closing. closing.number ≡ feeder.number) }
@@ -59,18 +60,15 @@ pub fn feed<R: Wait, I: Read + Drop, G: Gate>(
         (λ closing. HasFed I.remaining source feeder.sent closing.rows result.accepted result.bad
         result.stopped result.fault) }
 {
-    let mut feeder = feeder;
-    let mut source = source;
     // No text has so many records. The bound lets the proof see that the loop ends.
     'rows: for point in 0..u64::MAX {
-        match feed_one(rt, &mut feeder, &mut source, gate, point) {
-            Turn::Sent => {}
-            Turn::Stopped => return finish(rt, feeder, source, gate, point, true, None),
-            Turn::Over => return finish(rt, feeder, source, gate, point, false, None),
-            Turn::Failed(fault) => {
-                return finish(rt, feeder, source, gate, point, false, Some(fault));
-            }
-        }
+        let (stopped, fault) = match feed_one(rt, &mut feeder, &mut source, gate, point) {
+            Turn::Sent => continue,
+            Turn::Stopped => (true, None),
+            Turn::Over => (false, None),
+            Turn::Failed(fault) => (false, Some(fault)),
+        };
+        return finish(rt, feeder, source, gate, point, stopped, fault);
     }
     // No text has so many records, so the loop has returned.
     finish(rt, feeder, source, gate, u64::MAX, true, None)
@@ -100,12 +98,11 @@ fn feed_one<R: Wait, I: Read + Drop, G: Gate>(
 }
 
 /// Tries to send a row until it is accepted or the feeder stops, and returns whether it was accepted.
-fn send<R: Wait, G: Gate>(rt: &R, feeder: &mut Feeder, row: Row, gate: &G, point: u64) -> bool
+fn send<R: Wait, G: Gate>(rt: &R, feeder: &mut Feeder, mut row: Row, gate: &G, point: u64) -> bool
     ensures sent { result ≡ true → feeder.new ≡ with_sent feeder.old row }
     ensures kept { result ≡ false → feeder.new ≡ feeder.old }
 {
     let who = feeder.number();
-    let mut row = row;
     let mut pause = Pause::new();
     gate.pass(rt, who, point);
     'tries: for _ in rt.forever() {

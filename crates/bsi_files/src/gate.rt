@@ -2,7 +2,8 @@
 
 use std::sync::Wait;
 
-/// What a feeder calls while it reads a file, so that a test can decide which thread goes on, and when.
+/// What a feeder calls while it reads a file, so that a test can decide which thread goes on, and when. The calls have
+/// no clauses, because what is proved of a feeder holds whatever its gate does.
 pub trait Gate {
     /// Holds feeder `who` up for as long as it likes. The feeder calls it before its first try of a row, when `point`
     /// rows were accepted before this one. It calls it once more before it is closed, when `point` rows were accepted

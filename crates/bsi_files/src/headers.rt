@@ -1,6 +1,6 @@
 //! The headers of the row files, which are read before any row is.
 
-ghost use Rattle.std.specs.Prelude.{◌≡◌, IfErr, IfOk, length, true};
+ghost use Rattle.std.specs.Prelude.{◌≡◌, ◌<◌, IfErr, IfOk, length, true};
 ghost use Rattle.bsi_files.specs.Faults.{is_early};
 
 use crate::{FilesFault, NoMemory};
@@ -13,7 +13,9 @@ use std::io::Read;
 const RING_CAPACITY: u32 = 1_024;
 
 /// Returns the number of the file at a place. There are at most 64 files.
-pub(crate) fn file_number(place: usize) -> u32 {
+pub(crate) fn file_number(place: usize) -> u32
+    ensures { place < 64 → result ≡ place }
+{
     u32::try_from(place).unwrap_or(u32::MAX)
 }
 

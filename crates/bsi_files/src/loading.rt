@@ -12,7 +12,7 @@ use bsi_system::{Closing, LoadRefused, Loader, Naming};
 use bsi_text::SourceFault;
 use std::sync::Wait;
 
-/// How many rows of one feeder are taken before the next feeder's turn.
+/// The most rows of one feeder that are taken before the next feeder's turn.
 const MAX_IN_TURN: u32 = 256;
 
 /// The fewest held rows that are published.
@@ -150,13 +150,10 @@ fn load_end<B: Naming, R: Wait>(
         fault,
         closing,
     } = end;
-    let closed = match closing {
-        None => false,
-        Some(closing) => {
-            settle(rt, loader, closing)?;
-            true
-        }
-    };
+    let closed = closing.is_some();
+    if let Some(closing) = closing {
+        settle(rt, loader, closing)?;
+    }
     Ok(Fed {
         accepted,
         bad,

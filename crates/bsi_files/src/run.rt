@@ -104,12 +104,13 @@ fn run_in<
         W.contents writer.new ≡ W.contents writer.old) }
 {
     match open::<B>(rt.alloc(), history, columns, capacities, limit, 1) {
-        Ok(system) => {
-            let System {
+        Ok(
+            System {
                 feeders,
                 mut loader,
                 analysts,
-            } = system;
+            },
+        ) => {
             let ran = run_ends(rt, &mut loader, feeders, analysts, run, writer, gate);
             loader.end(rt);
             ran
@@ -135,7 +136,7 @@ fn run_ends<
     rt: &R,
     loader: &mut Loader<B>,
     feeders: Vec<Feeder>,
-    analysts: Vec<Analyst<B>>,
+    mut analysts: Vec<Analyst<B>>,
     run: Run<A, I>,
     writer: &mut W,
     gate: &G,
@@ -151,7 +152,6 @@ fn run_ends<
         asks,
     } = run;
     let fed = feed_files(rt, loader, feeders, sources, gate)?;
-    let mut analysts = analysts;
     let Some(mut analyst) = analysts.pop() else {
         // The system was opened with one analyst.
         return Err(FilesFault::Readers);

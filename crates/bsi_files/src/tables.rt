@@ -24,10 +24,9 @@ pub(crate) fn read_table<S: Read + Drop>(
     let mut limit = MAX_ROWS;
     // No text has so many records. The bound lets the proof see that the loop ends.
     'records: for before in 0..u64::MAX {
-        match records.next_record(&mut fields) {
-            Ok(true) => {}
-            Ok(false) => break,
-            Err(fault) => return Err(FilesFault::of_text(Which::SchemaFile, fault)),
+        let read = records.next_record(&mut fields);
+        if !read.map_err(|fault| FilesFault::of_text(Which::SchemaFile, fault))? {
+            break;
         }
         if !read_setup(alloc, &mut schema, &mut limit, &fields)? {
             return Err(FilesFault::BadSchema(before + 1));

@@ -1,6 +1,6 @@
 //! The feeders' threads: one for each file, started with the promise that its closing keeps.
 
-ghost use Rattle.std.specs.Prelude.{◌≡◌, All, IfOk, IfSome};
+ghost use Rattle.std.specs.Prelude.{◌≡◌, All, IfSome};
 ghost use Rattle.bsi_system.specs.Running.{IsFeederOf, IsOf};
 
 use crate::{FeedEnd, Gate, NoMemory, feed};
@@ -93,7 +93,8 @@ fn start<'s, E, R: Wait + Sync + 's, I: Read + Drop + Send + 's, G: Gate + Sync 
         .ok()
 }
 
-/// Starts a thread for each feeder, in their order, and returns whether all were started.
+/// Starts a thread for each feeder, in their order, and returns whether all were started. `loader` is there for the
+/// clauses, which name its system.
 pub(crate) fn start_all<
     's,
     E,
@@ -132,7 +133,7 @@ pub(crate) fn start_all<
     true
 }
 
-/// Joins all threads, in their order.
+/// Joins all threads, in their order. `loader` is there for the clauses, which name its system.
 pub(crate) fn join_all<B: Naming, R: Threads>(
     rt: &R,
     loader: &Loader<B>,
@@ -153,7 +154,7 @@ pub(crate) fn join_all<B: Naming, R: Threads>(
     Ok(())
 }
 
-/// Joins a feeder's thread.
+/// Joins a feeder's thread. `_loader` is there for the clauses, which name its system.
 fn join_one<B: Naming, R: Threads>(rt: &R, _loader: &Loader<B>, thread: Thread) -> FeedEnd
     requires { IsFeederOf thread.promise.0.value _loader.now.system }
     ensures { IfSome result.closing (λ closing. IsOf closing _loader.now.system) }

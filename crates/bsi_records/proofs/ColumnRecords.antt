@@ -1,16 +1,15 @@
 -- The records that declare a column.
 use Rattle.std.proofs.Common.{◌≡◌, ◌^◌, ◌<◌, ◌≤◌, true, false, ◌&&◌, List, [], ◌∷◌, length, get_or, drop, Option, Some, None, is_none, is_some, unwrap_or, option_map, option_and_then, if◌then◌else◌, ℤ, pos, ◌+ℤ◌, refl, sym, ◌∙◌, ap, subst, arith}
 use Rattle.std.specs.Prelude.{int_le, IsUtf8}
-use Rattle.csv.specs.Records.{field_at}
 use Rattle.bsi_schema.specs.declared.form.ColumnSpec.{ColumnSpec}
 use Rattle.bsi_schema.specs.declared.form.Form.{Form}
 use Rattle.bsi_table.specs.Columns.{Declared, named_column, size_in, with_column}
 use Rattle.bsi_records.specs.Numbers.{Field, offset_of}
 use Rattle.bsi_records.specs.Setups.{added_after, column_after, form_had, form_in, given_offset, one_more}
 use Rattle.bsi_records.proofs.Adding.{no_text}
-use Rattle.bsi_records.proofs.Fields.{field_is, three_behind}
+use Rattle.bsi_records.proofs.Fields.{three_behind}
 
--- ---- what stands behind the sizes
+-- ---- what stands after the sizes
 
 pub many_given : (fields : List Field) → 1 < length fields → given_offset fields ≡ None
 many_given [] many = absurd (omega arith)
@@ -54,28 +53,25 @@ module _ (schema : Declared) (fields : List Field) (four : 4 ≤ length fields) 
   pub unplaced : given_offset (drop 4 fields) ≡ None → column_after schema (drop 1 fields) ≡ None
   unplaced none = whole ∙ ap (by_parts schema (get_or fields 1 []) (form_in (get_or fields 2 []) (get_or fields 3 []))) none
 
-  module _ (name : Field) (first : field_at fields 1 ≡ Some name) where
+  module _ (name : Field) (first : get_or fields 1 [] ≡ name) where
     -- no column has a name that is no text
     pub unnamed : (IsUtf8 name → ⊥) → column_after schema (drop 1 fields) ≡ None
     unnamed wrong = whole ∙ by (form_in (get_or fields 2 []) (get_or fields 3 [])) (given_offset (drop 4 fields))
       where
-        bad : get_or fields 1 [] ≡ name
-        bad = field_is fields 1 name first
-
         by : (form : Option Form) (given : Option (Option ℤ)) → by_parts schema (get_or fields 1 []) form given ≡ None
         by form None = refl
         by None (Some offset) = refl
         by (Some f) (Some offset) =
             ap (λ o. if is_none o && int_le (unwrap_or offset (pos 0) +ℤ pos (size_in f)) (pos (2 ^ 63))
             then Some (with_column schema (named_column (get_or fields 1 []) f (unwrap_or offset (pos 0))) (is_some offset)) else None)
-            (no_text schema (get_or fields 1 []) (λ text. wrong (subst IsUtf8 bad text)))
+            (no_text schema (get_or fields 1 []) (λ text. wrong (subst IsUtf8 first text)))
 
-    module _ (form sizes : Field) (second : field_at fields 2 ≡ Some form) (third : field_at fields 3 ≡ Some sizes) where
+    module _ (form sizes : Field) (second : get_or fields 2 [] ≡ form) (third : get_or fields 3 [] ≡ sizes) where
       parts : column_after schema (drop 1 fields) ≡ by_parts schema name (form_in form sizes) (given_offset (drop 4 fields))
       parts =
-          whole ∙ ap (λ n. by_parts schema n (form_in (get_or fields 2 []) (get_or fields 3 [])) (given_offset (drop 4 fields))) (field_is fields 1 name first)
-          ∙ ap (λ w. by_parts schema name (form_in w (get_or fields 3 [])) (given_offset (drop 4 fields))) (field_is fields 2 form second)
-          ∙ ap (λ s. by_parts schema name (form_in form s) (given_offset (drop 4 fields))) (field_is fields 3 sizes third)
+          whole ∙ ap (λ n. by_parts schema n (form_in (get_or fields 2 []) (get_or fields 3 [])) (given_offset (drop 4 fields))) first
+          ∙ ap (λ w. by_parts schema name (form_in w (get_or fields 3 [])) (given_offset (drop 4 fields))) second
+          ∙ ap (λ s. by_parts schema name (form_in form s) (given_offset (drop 4 fields))) third
 
       -- there is no such form
       pub formless : form_in form sizes ≡ None → column_after schema (drop 1 fields) ≡ None

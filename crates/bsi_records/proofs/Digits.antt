@@ -44,7 +44,7 @@ pub is_some : (text : List ℕ) → 0 < length text → length text ≤ 20 → l
 is_some text some few digits small =
     rw (lt-ltb _ _ some, le-leb _ _ few, digits, lt-ltb _ _ small) refl
 
--- one more digit behind i of them
+-- one more digit after i of them
 pub ten_more : (i : ℕ) → 10 ^ (i + 1) ≡ 10 ^ i * 10
 ten_more i = pow-add 10 i 1
 

@@ -9,6 +9,7 @@ use Rattle.bsi_table.specs.declared.query.Query.{Query}
 use Rattle.bsi_records.specs.Events.{IsEvent, IsQuery, feeder_event, only_feeder, plain_event, total_of}
 use Rattle.bsi_records.specs.Predicates.{IsPredicate}
 use Rattle.bsi_records.specs.Numbers.{Field, feeder_of, values_in}
+use Rattle.bsi_records.specs.Reading.{IsReadAs}
 use Rattle.bsi_records.proofs.Fields.{behind_word, no_field}
 use Rattle.bsi_records.proofs.SpellWords.{none_is_some, same_bytes}
 
@@ -128,7 +129,7 @@ plain_never_asks schema (word ∷ text ∷ rest) query is = by (feeder_of text) 
 
 -- what a record that asks for no query is read as
 pub plain_read : (schema : Declared) (fields : List Field) → total_of schema fields ≡ None
-    → (read : Option Event) → read ≡ plain_event schema fields → MatchOption read ((event : Event) → IsEvent schema fields event → ⊥) (IsEvent schema fields)
+    → (read : Option Event) → read ≡ plain_event schema fields → IsReadAs (IsEvent schema fields) read
 plain_read schema fields no_total read is = by read is
   where
     no_query : (query : Query) → IsQuery schema fields query → ⊥
@@ -146,7 +147,7 @@ plain_read schema fields no_total read is = by read is
     some (Close f) there = there
     some (Ask query) there = absurd (plain_never_asks schema fields query there)
 
-    by : (read : Option Event) → read ≡ plain_event schema fields → MatchOption read ((event : Event) → IsEvent schema fields event → ⊥) (IsEvent schema fields)
+    by : (read : Option Event) → read ≡ plain_event schema fields → IsReadAs (IsEvent schema fields) read
     by None is = none (sym is)
     by (Some event) is = some event (sym is)
 
@@ -170,9 +171,9 @@ mapped_by make P gives (Some x) (Some y) is = ap (λ v. Some v) (gives x y is)
 pub query_event : (schema : Declared) (fields : List Field)
     → (((query : Query) → IsQuery schema fields query → ⊥) → (event : Event) → IsEvent schema fields event → ⊥)
     → (read : Option Query) (made : Option Event)
-    → MatchOption read ((query : Query) → IsQuery schema fields query → ⊥) (IsQuery schema fields)
+    → IsReadAs (IsQuery schema fields) read
     → MatchOption read (made ≡ None) (λ x. IsSomeAnd made (λ y. y ≡ Ask x))
-    → MatchOption made ((event : Event) → IsEvent schema fields event → ⊥) (IsEvent schema fields)
-query_event schema fields other None made none is = subst (λ o. MatchOption o ((event : Event) → IsEvent schema fields event → ⊥) (IsEvent schema fields)) (sym is) (other none)
+    → IsReadAs (IsEvent schema fields) made
+query_event schema fields other None made none is = subst (IsReadAs (IsEvent schema fields)) (sym is) (other none)
 query_event schema fields other (Some query) None asked is = absurd is
 query_event schema fields other (Some query) (Some event) asked is = subst (IsEvent schema fields) (sym is) asked

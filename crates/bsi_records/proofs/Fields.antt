@@ -1,14 +1,26 @@
 -- The fields of a record, by their places.
-use Rattle.std.proofs.Common.{◌≡◌, ℕ, zero, suc, ◌+◌, ◌≤◌, List, [], ◌∷◌, length, get_or, drop, Some, None, arith, refl}
+use Rattle.std.proofs.Common.{◌≡◌, ℕ, zero, suc, ◌+◌, ◌<◌, ◌≤◌, List, [], ◌∷◌, length, get_or, drop, Option, Some, None, option_map, unwrap_or, arith, refl}
 use Rattle.csv.specs.Records.{field_at}
 use Rattle.bsi_records.specs.Numbers.{Field}
 
--- a field that is there
-pub field_is : (fields : List Field) (place : ℕ) (text : Field) → field_at fields place ≡ Some text → get_or fields place [] ≡ text
+-- the field at a place, or no byte
+pub at_place : (fields : List Field) (place : ℕ) → get_or fields place [] ≡ unwrap_or (field_at fields place) []
 unfolding field_at
-field_is [] place text there = cc
-field_is (field ∷ fields) zero text there = cc
-field_is (field ∷ fields) (suc place) text there = field_is fields place text there
+at_place [] place = refl
+at_place (field ∷ fields) zero = refl
+at_place (field ∷ fields) (suc place) = at_place fields place
+
+-- the field at the place of one
+pub is_there : (fields : List Field) (place : ℕ) → place < length fields → field_at fields place ≡ Some (get_or fields place [])
+unfolding field_at
+is_there [] place within = absurd (omega arith)
+is_there (field ∷ fields) zero within = refl
+is_there (field ∷ fields) (suc place) within = is_there fields place (omega arith)
+
+-- the text of what was found, or of another
+pub text_of : {B : Type 0} (text : B → Field) (found : Option B) (other : B) → text (unwrap_or found other) ≡ unwrap_or (option_map text found) (text other)
+text_of text None other = refl
+text_of text (Some x) other = refl
 
 -- a record that begins with a word
 pub behind_word : (fields : List Field) (word : Field) → field_at fields 0 ≡ Some word → fields ≡ word ∷ drop 1 fields
@@ -31,7 +43,7 @@ last_field (field ∷ []) zero text at few = cc
 last_field (field ∷ another ∷ fields) zero text at few = absurd (omega arith)
 last_field (field ∷ fields) (suc place) text at few = last_field fields place text at (omega arith)
 
--- the fields of a record of four or more, behind its word
+-- the fields of a record of four or more, after its word
 pub three_behind : (fields : List Field) → 4 ≤ length fields → drop 1 fields ≡ get_or fields 1 [] ∷ get_or fields 2 [] ∷ get_or fields 3 [] ∷ drop 4 fields
 three_behind [] four = absurd (omega arith)
 three_behind (a ∷ []) four = absurd (omega arith)

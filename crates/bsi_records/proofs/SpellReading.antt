@@ -1,5 +1,5 @@
 -- Fields are read as the predicate that they spell, and as no other.
-use Rattle.std.proofs.Common.{◌≡◌, ℕ, Bool, true, false, List, [], ◌∷◌, ◌++◌, ◌-◌, ◌<◌, ◌≤◌, length, length-drop, drop, arith, MatchOption, Option, Some, None, option_map, option_and_then, ap, sym, ◌∙◌, refl, append_assoc, codes, subst}
+use Rattle.std.proofs.Common.{◌≡◌, ℕ, Bool, true, false, List, [], ◌∷◌, ◌++◌, ◌-◌, ◌<◌, ◌≤◌, length, length-drop, drop, arith, Option, Some, None, option_map, option_and_then, ap, sym, ◌∙◌, refl, append_assoc, codes, subst}
 use Rattle.std.proofs.lemmas.List.{append-nil}
 use Rattle.std.proofs.lemmas.Option.{option_and_then_some}
 use Rattle.bsi_slices.specs.declared.column.Op.{Op}
@@ -10,6 +10,7 @@ use Rattle.bsi_records.specs.declared.predicates.Pending.TheVariants.{Nothing, C
 use Rattle.bsi_records.specs.Numbers.{Field, number_in}
 use Rattle.bsi_records.specs.Postfix.{after_field, after_fields, after_name, after_sign, after_word, begun, joined, joint, negated, nowhere, only_of, op_of, plain, ready, shown, State}
 use Rattle.bsi_records.specs.Predicates.{IsPredicate, sign_of, Spells}
+use Rattle.bsi_records.specs.Reading.{IsReadAs}
 use Rattle.bsi_records.proofs.SpellWords.{if_same, mapped, name_leads, none_is_some, read_is_sign, sign_leads, some_same}
 
 -- one more field
@@ -84,7 +85,7 @@ joined_fields fields before own lower one word is was =
     ap (λ f. f ++ word ∷ []) (is ∙ ap (λ b. b ++ own) was) ∙ append_assoc (lower ++ one) own (word ∷ []) ∙ append_assoc lower one (own ++ word ∷ [])
     ∙ ap (λ t. lower ++ t) (sym (append_assoc one own (word ∷ [])))
 
--- behind a word that joins two predicates into one
+-- after a word that joins two predicates into one
 joined_read : (schema : Declared) (fields : List Field) (stack : List Pred) (both : Bool) (word : Field) (state : State) → AreSpelled schema fields stack
     → ((one two : List Field) (first second : Pred) → Spells schema one first → Spells schema two second → Spells schema (one ++ two ++ word ∷ []) (joint both first second))
     → joined both stack ≡ Some state → AreRead schema (fields ++ word ∷ []) state.0 state.1
@@ -198,7 +199,7 @@ only_at (Some state) = only_of state.0 state.1
 -- what they lead to is what they spell
 pub only_read : (schema : Declared) → AreNamed schema.columns → (fields : List Field) (before stack : List Pred) (pending : Pending) (read : Option Pred)
     → length fields ≤ 1000 → before ≡ [] → begun pending stack ≡ after_fields schema fields Nothing (shown before) → option_map plain read ≡ only_of pending stack
-    → MatchOption read ((P : Pred) → IsPredicate schema fields P → ⊥) (IsPredicate schema fields)
+    → IsReadAs (IsPredicate schema fields) read
 unfolding only_at
 only_read schema named fields before stack pending None few empty leads is = λ P spelled.
     let state : begun pending stack ≡ after_fields schema fields Nothing [] = leads ∙ ap (λ s. after_fields schema fields Nothing (shown s)) empty in

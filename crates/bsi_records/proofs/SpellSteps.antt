@@ -7,7 +7,7 @@ use Rattle.bsi_records.specs.declared.predicates.Pending.{Pending}
 use Rattle.bsi_records.specs.Numbers.{Field}
 use Rattle.bsi_records.specs.Postfix.{after_field, after_fields, State}
 
--- what is left leads on behind one more field
+-- what is left leads on after one more field
 pub field_next : (schema : Declared) (fields : List Field) (place : ℕ) (field : Field) (pending : Pending) (stack : List Pred)
     → Some field ≡ field_at fields place
     → after_fields schema (drop place fields) pending stack

@@ -19,7 +19,7 @@ total_of_column word =
     else (if bytes_eq word (codes "median") then Some Median
     else None)))
 
--- the total of a record that begins with this word, and the fields of its predicate: behind the column's name, if it
+-- the total of a record that begins with this word, and the fields of its predicate: after the column's name, if it
 -- reads one
 abbrev pub column_total : Declared → Field → List Field → Option (Total × List Field)
 column_total schema word [] = None
@@ -39,7 +39,7 @@ abbrev pub IsQuery : Declared → List Field → Query → Type 0
 IsQuery schema fields query =
     MatchOption (total_of schema fields) ⊥ (λ found. (query.total ≡ found.0) × IsPredicate schema found.1 query.pred)
 
--- the event of a record that names a feeder, by the fields behind the feeder's
+-- the event of a record that names a feeder, by the fields after the feeder's
 abbrev pub feeder_event : Declared → Field → ℕ → List Field → Option Event
 feeder_event schema word feeder [] =
     if bytes_eq word (codes "submit") then Some (Submit feeder [])
@@ -55,7 +55,7 @@ abbrev pub plain_event : Declared → List Field → Option Event
 plain_event schema (word ∷ feeder ∷ rest) = option_and_then (λ f. feeder_event schema word f rest) (feeder_of feeder)
 plain_event schema fields = None
 
--- the feeder that the only field behind a word gives
+-- the feeder that the only field after a word gives
 abbrev pub only_feeder : List Field → Option ℕ
 only_feeder (feeder ∷ []) = feeder_of feeder
 only_feeder fields = None

@@ -3,4 +3,5 @@ pub mod Lines
 pub mod Numbers
 pub mod Postfix
 pub mod Predicates
+pub mod Reading
 pub mod Setups

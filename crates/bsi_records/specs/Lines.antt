@@ -1,6 +1,7 @@
 -- The lines that answer records, each with its line feed.
-use Rattle.std.specs.Prelude.{ℕ, List, [], ◌∷◌, ◌++◌, Some, None, Result, Ok, Err, codes, decimal}
+use Rattle.std.specs.Prelude.{◌≡◌, ℕ, List, [], ◌∷◌, ◌++◌, Some, None, Result, Ok, Err, OnOk, codes, decimal}
 use Rattle.std.specs.Fmt.{signed_decimal}
+use Rattle.std.specs.Io.{StartsWith}
 use Rattle.bsi_load.specs.declared.event.Reply.{Reply}
 use Rattle.bsi_load.specs.declared.event.Reply.TheVariants.{Submitted, Loaded, Closed, Answered}
 use Rattle.bsi_load.specs.declared.event.SubmitRefused.{SubmitRefused}
@@ -71,3 +72,8 @@ reply_line (Submitted reply) = submit_line reply
 reply_line (Loaded reply) = load_line reply
 reply_line (Closed reply) = close_line reply
 reply_line (Answered reply) = ask_line reply
+
+-- a line was appended; where memory was refused, what stood before it still begins what stands there
+pub record IsAppended {E : Type 0} (old new line : List ℕ) (result : Result (Unit {0}) E) : Type 0 where
+  pub ok : OnOk result (new ≡ old ++ line)
+  pub begins : StartsWith new old

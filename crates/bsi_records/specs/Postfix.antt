@@ -38,21 +38,25 @@ begun pending stack = Some (pending, stack)
 abbrev pub ready : List Pred → Option State
 ready stack = begun Nothing stack
 
+-- what a call read, and the predicates that it leaves, oldest first; none where no predicate goes on so
+abbrev pub state_of : Option Pending → List Pred → Option State
+state_of read stack = option_map (λ next. (next, shown stack)) read
+
 -- two predicates as one: that both hold, or else that one of them holds
 abbrev pub joint : Bool → Pred → Pred → Pred
 joint both first second = if both then Both' nowhere first nowhere second else Either' nowhere first nowhere second
 
--- behind `and` and `or`
+-- after `and` and `or`
 abbrev pub joined : Bool → List Pred → Option State
 joined both (second ∷ first ∷ stack) = ready (joint both first second ∷ stack)
 joined both stack = None
 
--- behind `not`
+-- after `not`
 abbrev pub negated : List Pred → Option State
 negated (pred ∷ stack) = ready (Not' nowhere pred ∷ stack)
 negated [] = None
 
--- behind the first field of a token: a word, or a column's name
+-- after the first field of a token: a word, or a column's name
 abbrev pub after_word : Declared → List Pred → Field → Option State
 after_word schema stack field =
     if bytes_eq field (codes "all") then ready (All ∷ stack)
@@ -72,23 +76,23 @@ op_of sign =
     else (if bytes_eq sign (codes ">=") then Some Ge
     else None)))))
 
--- behind the field that follows a column's name
+-- after the field that follows a column's name
 abbrev pub after_name : ℕ → List Pred → Field → Option State
 after_name c stack field =
     if bytes_eq field (codes "null") then ready (Null c ∷ stack)
     else option_map (λ op. (Comparison c op, stack)) (op_of field)
 
--- behind the field that follows a sign
+-- after the field that follows a sign
 abbrev pub after_sign : Bool → ℕ → Op → List Pred → Field → Option State
 after_sign signed c op stack field = option_map (λ n. (Nothing, Compare c op n ∷ stack)) (number_in signed field)
 
--- behind one more field, none where no predicate goes on so
+-- after one more field, none where no predicate goes on so
 abbrev pub after_field : Declared → Pending → List Pred → Field → Option State
 after_field schema Nothing stack field = after_word schema stack field
 after_field schema (Column c) stack field = after_name c stack field
 after_field schema (Comparison c op) stack field = after_sign schema.signed c op stack field
 
--- behind all of these fields
+-- after all of these fields
 unfoldable pub after_fields : Declared → List Field → Pending → List Pred → Option State
 after_fields schema [] pending stack = begun pending stack
 after_fields schema (field ∷ fields) pending stack =

@@ -3,6 +3,8 @@ use Rattle.std.specs.Prelude.{◌≡◌, is_some, unwrap_or, ℕ, ◌^◌, ◌�
 use Rattle.std.specs.Option.{is_none}
 use Rattle.std.specs.Str.{bytes_eq}
 use Rattle.bsi_digits.specs.Refusal.{refusal}
+use Rattle.bsi_load.specs.Shown.{Shown}
+use Rattle.bsi_load.specs.Sizes.{new_machine}
 use Rattle.bsi_schema.specs.declared.form.ColumnSpec.{ColumnSpec}
 use Rattle.bsi_schema.specs.declared.form.Form.{Form}
 use Rattle.bsi_schema.specs.declared.form.Form.TheVariants.{Slices, Equality, Range}
@@ -78,7 +80,8 @@ abbrev pub declared_after : Setup → List Field → Option Setup
 declared_after before [] = None
 declared_after before (word ∷ fields) =
     if bytes_eq word (codes "feeder")
-    then option_map (λ capacities. record before { capacities = capacities }) (capacities_after before.capacities fields)
+    then option_map (λ capacities. record before { capacities = capacities })
+    (capacities_after before.capacities fields)
     else option_map (λ after. record before { schema = after.0; limit = after.1 })
     (table_after before.schema before.limit (word ∷ fields))
 
@@ -91,13 +94,17 @@ is_begin fields = false
 abbrev pub can_begin : Setup → Bool
 can_begin setup = nat_lt 0 (length setup.schema.columns) && nat_lt 0 (length setup.capacities)
 
+-- the machine that a setup makes
+abbrev pub machine_of : Setup → Shown
+machine_of setup = new_machine setup.schema setup.capacities setup.limit
+
 -- ---- words of the functions that do records
 
 -- the form that is asked for, if its bases can be had
 abbrev pub form_had : ColumnSpec → Option Form
 form_had spec = if is_none (form_refusal spec) then Some (form_of spec) else None
 
--- the least number that stands behind the sizes, if there is one; none where something else stands there
+-- the least number that stands after the sizes, if there is one; none where something else stands there
 abbrev pub given_offset : List Field → Option (Option ℤ)
 given_offset [] = Some None
 given_offset (offset ∷ []) = option_map (λ x. Some x) (offset_of offset)

@@ -1,16 +1,17 @@
 //! Records that declare a column.
 
-ghost use Rattle.std.specs.Prelude.{◌≡◌, ◌≢◌, drop, false, true, length, option_map, option_and_then, IfOk, IsErr, MatchResult, OnErr, OnOk};
+ghost use Rattle.std.specs.Prelude.{◌≡◌, ◌≢◌, drop, false, true, option_map, option_and_then, IfOk, IsErr, MatchResult, OnErr};
 ghost use Rattle.csv.specs.Records.{fields_of};
 ghost use Rattle.bsi_schema.specs.declared.form.Form.TheVariants.{Slices};
 ghost use Rattle.bsi_records.specs.Numbers.{number_between};
 ghost use Rattle.bsi_records.specs.Setups.{added_after, column_after, form_had, form_in, given_offset, IsChange};
 
+use crate::NoMemory;
 use crate::numbers::{read_bases, read_offset, read_within};
-use crate::records::lend;
+use crate::records::field;
 use bsi_table::{ColumnSpec, MAX_SLICES, Schema, SchemaError};
 use csv::ByteRecord;
-use std::alloc::{AllocError as NoMemory, Global};
+use std::alloc::Global;
 
 /// Reads the form of a column, or returns none if the word names no form or the text does not fit the form.
 fn read_form(alloc: Global, word: &[u8], text: &[u8]) -> Result<Option<ColumnSpec>, NoMemory>
@@ -45,8 +46,7 @@ fn add(
     offset: Option<i64>,
 ) -> Result<bool, NoMemory>
     ensures done { IfOk result
-        (λ done. IsChange (added_after schema.old name.now spec offset) schema.old schema.new
-        done) }
+        (IsChange (added_after schema.old name.now spec offset) schema.old schema.new) }
     ensures kept { OnErr result (schema.new ≡ schema.old) }
 {
     match offset {
@@ -69,7 +69,7 @@ fn check_added(added: Result<(), SchemaError>) -> Result<bool, NoMemory>
     }
 }
 
-/// Reads what stands behind the sizes of a column: an offset, or nothing.
+/// Reads what stands after the sizes of a column: an offset, or nothing.
 fn read_given_offset(fields: &ByteRecord) -> Option<Option<i64>>
     ensures { result ≡ given_offset (drop 4 (fields_of fields.now)) }
 {
@@ -91,8 +91,8 @@ pub(crate) fn declare_column(
     fields: &ByteRecord,
 ) -> Result<bool, NoMemory>
     ensures done { IfOk result
-        (λ done. IsChange (column_after schema.old (drop 1 (fields_of fields.now))) schema.old
-        schema.new done) }
+        (IsChange (column_after schema.old (drop 1 (fields_of fields.now))) schema.old
+        schema.new) }
     ensures kept { OnErr result (schema.new ≡ schema.old) }
 {
     if fields.len() < 4 {
@@ -101,10 +101,10 @@ pub(crate) fn declare_column(
     let Some(offset) = read_given_offset(fields) else {
         return Ok(false);
     };
-    let Ok(name) = str::from_utf8(lend(fields, 1)) else {
+    let Ok(name) = str::from_utf8(field(fields, 1)) else {
         return Ok(false);
     };
-    let Some(spec) = read_form(alloc, lend(fields, 2), lend(fields, 3))? else {
+    let Some(spec) = read_form(alloc, field(fields, 2), field(fields, 3))? else {
         return Ok(false);
     };
     add(schema, name, spec, offset)

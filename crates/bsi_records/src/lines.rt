@@ -1,13 +1,12 @@
 //! The lines that answer records: from replies to bytes.
 
 ghost use Rattle.std.specs.Prelude.{◌≡◌, ◌++◌, OnErr, OnOk, codes, decimal};
-ghost use Rattle.std.specs.Io.{StartsWith};
-ghost use Rattle.bsi_records.specs.Lines.{answer_line, ask_line, bad_line, close_line, fed_line, load_line, reply_line, rows_text, submit_line};
+ghost use Rattle.bsi_records.specs.Lines.{answer_line, bad_line, close_line, fed_line, load_line, reply_line, rows_text, submit_line, IsAppended};
 
+use crate::NoMemory;
 use bsi_load::{CloseRefused, LoadRefused, Reply, SubmitRefused};
 use bsi_table::{Answer, AskError};
 use itoa::{Buffer, Integer};
-use std::alloc::AllocError as NoMemory;
 
 /// Appends the line of a reply, with its line feed, as a whole or not at all. It allocates memory only for the line.
 pub fn write_reply(reply: &Reply, line: &mut Vec<u8>) -> Result<(), NoMemory>
@@ -46,8 +45,7 @@ pub fn write_fed(feeder: u32, accepted: u64, bad: u64, line: &mut Vec<u8>) -> Re
 
 /// Appends the line of a feeder that read a file, or a first part of it.
 fn write_counts(feeder: u32, accepted: u64, bad: u64, line: &mut Vec<u8>) -> Result<(), NoMemory>
-    ensures ok { OnOk result (line.new.items ≡ line.old.items ++ fed_line feeder accepted bad) }
-    ensures begins { StartsWith line.new.items line.old.items }
+    ensures { IsAppended line.old.items line.new.items (fed_line feeder accepted bad) result }
 {
     write_word(b"fed ", feeder, line)?;
     write_word(b" ", accepted, line)?;
@@ -57,8 +55,7 @@ fn write_counts(feeder: u32, accepted: u64, bad: u64, line: &mut Vec<u8>) -> Res
 
 /// Appends the line of a reply, or a first part of it.
 fn write_parts(reply: &Reply, line: &mut Vec<u8>) -> Result<(), NoMemory>
-    ensures ok { OnOk result (line.new.items ≡ line.old.items ++ reply_line reply.now) }
-    ensures begins { StartsWith line.new.items line.old.items }
+    ensures { IsAppended line.old.items line.new.items (reply_line reply.now) result }
 {
     match reply {
         Reply::Submitted(reply) => write_submitted(reply, line),
@@ -72,8 +69,7 @@ fn write_parts(reply: &Reply, line: &mut Vec<u8>) -> Result<(), NoMemory>
 
 /// Appends the line of a submission.
 fn write_submitted(reply: &Result<(), SubmitRefused>, line: &mut Vec<u8>) -> Result<(), NoMemory>
-    ensures ok { OnOk result (line.new.items ≡ line.old.items ++ submit_line reply.now) }
-    ensures begins { StartsWith line.new.items line.old.items }
+    ensures { IsAppended line.old.items line.new.items (submit_line reply.now) result }
 {
     match reply {
         Ok(()) => line.extend_from_slice(b"accepted\n"),
@@ -86,8 +82,7 @@ fn write_submitted(reply: &Result<(), SubmitRefused>, line: &mut Vec<u8>) -> Res
 
 /// Appends the line of a load.
 fn write_loaded(reply: Result<u64, LoadRefused>, line: &mut Vec<u8>) -> Result<(), NoMemory>
-    ensures ok { OnOk result (line.new.items ≡ line.old.items ++ load_line reply) }
-    ensures begins { StartsWith line.new.items line.old.items }
+    ensures { IsAppended line.old.items line.new.items (load_line reply) result }
 {
     match reply {
         Ok(position) => write_number(b"loaded ", position, line),
@@ -101,8 +96,7 @@ fn write_loaded(reply: Result<u64, LoadRefused>, line: &mut Vec<u8>) -> Result<(
 
 /// Appends the line of a closing.
 fn write_closed(reply: Result<(), CloseRefused>, line: &mut Vec<u8>) -> Result<(), NoMemory>
-    ensures ok { OnOk result (line.new.items ≡ line.old.items ++ close_line reply) }
-    ensures begins { StartsWith line.new.items line.old.items }
+    ensures { IsAppended line.old.items line.new.items (close_line reply) result }
 {
     match reply {
         Ok(()) => line.extend_from_slice(b"ok\n"),
@@ -113,8 +107,7 @@ fn write_closed(reply: Result<(), CloseRefused>, line: &mut Vec<u8>) -> Result<(
 
 /// Appends the line of an answer.
 fn write_answer(answer: &Answer, line: &mut Vec<u8>) -> Result<(), NoMemory>
-    ensures ok { OnOk result (line.new.items ≡ line.old.items ++ answer_line answer.now) }
-    ensures begins { StartsWith line.new.items line.old.items }
+    ensures { IsAppended line.old.items line.new.items (answer_line answer.now) result }
 {
     match answer {
         Answer::Count(count) => write_number(b"count ", *count, line),
@@ -127,8 +120,7 @@ fn write_answer(answer: &Answer, line: &mut Vec<u8>) -> Result<(), NoMemory>
 
 /// Appends a word and a number.
 fn write_word<I: Integer>(word: &[u8], number: I, line: &mut Vec<u8>) -> Result<(), NoMemory>
-    ensures ok { OnOk result (line.new.items ≡ line.old.items ++ (word.now ++ I.text number)) }
-    ensures begins { StartsWith line.new.items line.old.items }
+    ensures { IsAppended line.old.items line.new.items (word.now ++ I.text number) result }
 {
     let mut digits = Buffer::new();
     line.extend_from_slice(word)?;
@@ -137,9 +129,7 @@ fn write_word<I: Integer>(word: &[u8], number: I, line: &mut Vec<u8>) -> Result<
 
 /// Appends a word and a number, and the line feed.
 fn write_number<I: Integer>(word: &[u8], number: I, line: &mut Vec<u8>) -> Result<(), NoMemory>
-    ensures ok { OnOk result (line.new.items
-        ≡ line.old.items ++ (word.now ++ I.text number ++ codes "\n")) }
-    ensures begins { StartsWith line.new.items line.old.items }
+    ensures { IsAppended line.old.items line.new.items (word.now ++ I.text number ++ codes "\n") result }
 {
     write_word(word, number, line)?;
     line.extend_from_slice(b"\n")
@@ -147,9 +137,7 @@ fn write_number<I: Integer>(word: &[u8], number: I, line: &mut Vec<u8>) -> Resul
 
 /// Appends the line of a selection.
 fn write_rows(rows: &[(u32, u64)], line: &mut Vec<u8>) -> Result<(), NoMemory>
-    ensures ok { OnOk result (line.new.items
-        ≡ line.old.items ++ (codes "rows" ++ rows_text rows.now ++ codes "\n")) }
-    ensures begins { StartsWith line.new.items line.old.items }
+    ensures { IsAppended line.old.items line.new.items (codes "rows" ++ rows_text rows.now ++ codes "\n") result }
 {
     line.extend_from_slice(b"rows")?;
     write_each_row(rows, line)?;
@@ -158,8 +146,7 @@ fn write_rows(rows: &[(u32, u64)], line: &mut Vec<u8>) -> Result<(), NoMemory>
 
 /// Appends rows, each with a space before it.
 fn write_each_row(rows: &[(u32, u64)], line: &mut Vec<u8>) -> Result<(), NoMemory>
-    ensures ok { OnOk result (line.new.items ≡ line.old.items ++ rows_text rows.now) }
-    ensures begins { StartsWith line.new.items line.old.items }
+    ensures { IsAppended line.old.items line.new.items (rows_text rows.now) result }
 {
     'rows: for row in rows {
         write_row(row.0, row.1, line)?;
@@ -169,9 +156,7 @@ fn write_each_row(rows: &[(u32, u64)], line: &mut Vec<u8>) -> Result<(), NoMemor
 
 /// Appends a space, a row's feeder and the row's number among that feeder's rows.
 fn write_row(feeder: u32, number: u64, line: &mut Vec<u8>) -> Result<(), NoMemory>
-    ensures ok { OnOk result (line.new.items
-        ≡ line.old.items ++ (codes " " ++ decimal feeder ++ codes ":" ++ decimal number)) }
-    ensures begins { StartsWith line.new.items line.old.items }
+    ensures { IsAppended line.old.items line.new.items (codes " " ++ decimal feeder ++ codes ":" ++ decimal number) result }
 {
     write_word(b" ", feeder, line)?;
     write_word(b":", number, line)

@@ -1,14 +1,15 @@
 //! Numbers and values: what the bytes of a field spell.
 
 ghost use Rattle.std.specs.Prelude.{◌≡◌, ◌<◌, ◌≤◌, length, option_map, pos, IfOk, IfSome};
-ghost use Rattle.bsi_records.specs.Numbers.{bases_of, feeder_of, number_between, number_in, offset_of, signed_of, small_of, smalls_of, spelled_number, value_in};
+ghost use Rattle.bsi_records.specs.Numbers.{bases_of, feeder_of, number_between, number_in, offset_of, signed_of, small_of, spelled_number, value_in};
 
-use std::alloc::{AllocError as NoMemory, Global};
+use crate::NoMemory;
+use std::alloc::Global;
 
 /// The most digits of a number: those of the greatest `u64`.
 const MAX_DIGITS: usize = 20;
 
-/// The greatest number behind which every further digit still gives a `u64`.
+/// The greatest number after which every further digit still gives a `u64`.
 const MAX_BEFORE_DIGIT: u64 = (u64::MAX - 9) / 10;
 
 /// Reads a number of one to twenty digits, with leading zeros or without, whose value is a `u64`. It allocates no
@@ -116,29 +117,21 @@ pub(crate) fn read_within(least: u64, most: u64, text: &[u8]) -> Option<u64>
     ensures value { result ≡ number_between least most text.now }
     ensures within { IfSome result (λ n. (least ≤ n) × (n ≤ most)) }
 {
-    match read_number(text) {
-        Some(n) if n >= least && n <= most => Some(n),
-        _ => None,
-    }
+    read_number(text).filter(|n| *n >= least && *n <= most)
 }
 
 /// Reads a number of 32 bits.
 fn read_small(text: &[u8]) -> Option<u32>
     ensures { result ≡ small_of text.now }
 {
-    let number = read_within(0, u64::from(u32::MAX), text)?;
-    Some(number as u32)
+    u32::try_from(read_number(text)?).ok()
 }
 
 /// Reads the offset of a column, its least number: a whole number of 64 bits.
 pub(crate) fn read_offset(text: &[u8]) -> Option<i64>
     ensures { result ≡ offset_of text.now }
 {
-    let n = read_signed(text)?;
-    if n < i128::from(i64::MIN) || n > i128::from(i64::MAX) {
-        return None;
-    }
-    Some(n as i64)
+    i64::try_from(read_signed(text)?).ok()
 }
 
 /// Reads a list of bases: numbers of 32 bits, with one space between any two.

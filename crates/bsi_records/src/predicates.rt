@@ -1,13 +1,14 @@
 //! Predicates in postfix order: from the fields that spell a predicate to the predicate.
 
-ghost use Rattle.std.specs.Prelude.{◌≡◌, List, drop, option_map, IfOk, MatchOption};
+ghost use Rattle.std.specs.Prelude.{◌≡◌, drop, option_map, IfOk};
 ghost use Rattle.csv.specs.Records.{fields_of};
-ghost use Rattle.bsi_records.specs.Postfix.{after_field, after_fields, after_name, after_sign, after_word, joined, negated, only_of, op_of, plain, shown};
+ghost use Rattle.bsi_records.specs.Postfix.{after_field, after_fields, after_name, after_sign, after_word, joined, negated, only_of, op_of, plain, shown, state_of};
 ghost use Rattle.bsi_records.specs.Predicates.{IsPredicate};
+ghost use Rattle.bsi_records.specs.Reading.{IsReadAs};
 
 use crate::NoMemory;
 use crate::numbers::read_in;
-use crate::records::lend;
+use crate::records::field;
 use bsi_slices::Op;
 use bsi_table::{Pred, Schema};
 use csv::ByteRecord;
@@ -35,9 +36,8 @@ pub(crate) fn read_predicate(
     fields: &ByteRecord,
     from: usize,
 ) -> Result<Option<Pred>, NoMemory>
-    ensures { IfOk result (λ read. MatchOption read ((pred : Pred) →
-        IsPredicate schema.now (drop from (fields_of fields.now)) pred →
-        ⊥) (IsPredicate schema.now (drop from (fields_of fields.now)))) }
+    ensures { IfOk result (IsReadAs
+        (IsPredicate schema.now (drop from (fields_of fields.now)))) }
 {
     if fields.len().saturating_sub(from) > MAX_FIELDS {
         return Ok(None);
@@ -60,14 +60,14 @@ fn read_fields(
     from: usize,
     stack: &mut Vec<Pred>,
 ) -> Result<Option<Pending>, NoMemory>
-    ensures { IfOk result (λ read. option_map (λ pending. (pending, shown stack.new.items)) read
+    ensures { IfOk result (λ read. state_of read stack.new.items
         ≡ after_fields schema.now (drop from (fields_of fields.now)) Pending.Nothing
         (shown stack.old.items)) }
 {
     let mut pending = Pending::Nothing;
     'fields: for place in from..fields.len() {
-        let field = lend(fields, place);
-        let Some(next) = read_field(alloc, schema, pending, field, stack)? else {
+        let text = field(fields, place);
+        let Some(next) = read_field(alloc, schema, pending, text, stack)? else {
             return Ok(None);
         };
         pending = next;
@@ -83,12 +83,12 @@ fn read_field(
     field: &[u8],
     stack: &mut Vec<Pred>,
 ) -> Result<Option<Pending>, NoMemory>
-    ensures { IfOk result (λ read. option_map (λ next. (next, shown stack.new.items)) read
+    ensures { IfOk result (λ read. state_of read stack.new.items
         ≡ after_field schema.now pending (shown stack.old.items) field.now) }
 {
     match pending {
         Pending::Nothing => read_word(alloc, schema, field, stack),
-        Pending::Column(c) => read_behind_name(c, field, stack),
+        Pending::Column(c) => read_after_name(c, field, stack),
         Pending::Comparison(c, op) => read_constant(schema.signed(), c, op, field, stack),
     }
 }
@@ -100,7 +100,7 @@ fn read_word(
     field: &[u8],
     stack: &mut Vec<Pred>,
 ) -> Result<Option<Pending>, NoMemory>
-    ensures { IfOk result (λ read. option_map (λ next. (next, shown stack.new.items)) read
+    ensures { IfOk result (λ read. state_of read stack.new.items
         ≡ after_word schema.now (shown stack.old.items) field.now) }
 {
     if field == b"all".as_slice() {
@@ -120,12 +120,8 @@ fn read_word(
 }
 
 /// Reads the field that follows the name of column `c`.
-fn read_behind_name(
-    c: u32,
-    field: &[u8],
-    stack: &mut Vec<Pred>,
-) -> Result<Option<Pending>, NoMemory>
-    ensures { IfOk result (λ read. option_map (λ next. (next, shown stack.new.items)) read
+fn read_after_name(c: u32, field: &[u8], stack: &mut Vec<Pred>) -> Result<Option<Pending>, NoMemory>
+    ensures { IfOk result (λ read. state_of read stack.new.items
         ≡ after_name c (shown stack.old.items) field.now) }
 {
     if field == b"null".as_slice() {
@@ -143,7 +139,7 @@ fn read_constant(
     field: &[u8],
     stack: &mut Vec<Pred>,
 ) -> Result<Option<Pending>, NoMemory>
-    ensures { IfOk result (λ read. option_map (λ next. (next, shown stack.new.items)) read
+    ensures { IfOk result (λ read. state_of read stack.new.items
         ≡ after_sign signed c op (shown stack.old.items) field.now) }
 {
     let Some(n) = read_in(signed, field) else {
@@ -181,7 +177,7 @@ fn read_op(sign: &[u8]) -> Option<Op>
 /// Replaces the two newest predicates by one that holds where both of them hold or, if not `both`, where at least one
 /// holds.
 fn join(alloc: Global, both: bool, stack: &mut Vec<Pred>) -> Result<Option<Pending>, NoMemory>
-    ensures { IfOk result (λ read. option_map (λ next. (next, shown stack.new.items)) read
+    ensures { IfOk result (λ read. state_of read stack.new.items
         ≡ joined both (shown stack.old.items)) }
 {
     let Some(second) = stack.pop() else {
@@ -202,7 +198,7 @@ fn join(alloc: Global, both: bool, stack: &mut Vec<Pred>) -> Result<Option<Pendi
 
 /// Replaces the newest predicate by its negation.
 fn negate(alloc: Global, stack: &mut Vec<Pred>) -> Result<Option<Pending>, NoMemory>
-    ensures { IfOk result (λ read. option_map (λ next. (next, shown stack.new.items)) read
+    ensures { IfOk result (λ read. state_of read stack.new.items
         ≡ negated (shown stack.old.items)) }
 {
     let Some(pred) = stack.pop() else {

@@ -1,8 +1,9 @@
 //! The records that ask: from the fields of a record to a query.
 
-ghost use Rattle.std.specs.Prelude.{◌≡◌, drop, option_map, IfOk, MatchOption};
+ghost use Rattle.std.specs.Prelude.{◌≡◌, drop, option_map, IfOk};
 ghost use Rattle.csv.specs.Records.{fields_of};
 ghost use Rattle.bsi_records.specs.Events.{total_of, total_of_column, IsQuery};
+ghost use Rattle.bsi_records.specs.Reading.{IsReadAs};
 
 use crate::NoMemory;
 use crate::predicates::read_predicate;
@@ -18,9 +19,7 @@ pub fn read_query(
     schema: &Schema,
     fields: &ByteRecord,
 ) -> Result<Option<Query>, NoMemory>
-    ensures { IfOk result (λ read. MatchOption read ((query : Query) →
-        IsQuery schema.now (fields_of fields.now) query →
-        ⊥) (IsQuery schema.now (fields_of fields.now))) }
+    ensures { IfOk result (IsReadAs (IsQuery schema.now (fields_of fields.now))) }
 {
     let Some((total, from)) = read_total(schema, fields) else {
         return Ok(None);

@@ -1,17 +1,18 @@
 //! Records that ask for an event of the machine: from fields to rows and events.
 
-ghost use Rattle.std.specs.Prelude.{◌≡◌, ◌<◌, ◌∷◌, drop, length, codes, IfOk, MatchOption};
+ghost use Rattle.std.specs.Prelude.{◌≡◌, ◌<◌, ◌∷◌, [], Some, drop, get_or, length, codes, IfOk};
 ghost use Rattle.csv.specs.Records.{field_at, fields_of};
-ghost use Rattle.bsi_load.specs.declared.event.Event.{Event as AnEvent};
 ghost use Rattle.bsi_records.specs.Events.{only_feeder, plain_event, IsEvent};
 ghost use Rattle.bsi_records.specs.Numbers.{values_in};
+ghost use Rattle.bsi_records.specs.Reading.{IsReadAs};
 
+use crate::NoMemory;
 use crate::numbers::{read_feeder, read_value};
 use crate::queries::read_query;
 use bsi_load::Event;
 use bsi_table::{Row, Schema};
 use csv::ByteRecord;
-use std::alloc::{AllocError as NoMemory, Global};
+use std::alloc::Global;
 
 /// Reads the fields from place `from` on as the entries of a row, or returns none if one of them is not a value. `from`
 /// may be past the end, which gives the row of no entries. It allocates memory for the entries once.
@@ -28,7 +29,7 @@ pub fn read_row(
     let count = fields.len();
     let mut values = Vec::with_capacity(alloc, count.saturating_sub(from))?;
     'values: for place in from..count {
-        let Some(value) = read_value(signed, lend(fields, place)) else {
+        let Some(value) = read_value(signed, field(fields, place)) else {
             return Ok(None);
         };
         values.push_reserved(value);
@@ -44,9 +45,7 @@ pub fn read_event(
     schema: &Schema,
     fields: &ByteRecord,
 ) -> Result<Option<Event>, NoMemory>
-    ensures { IfOk result (λ read. MatchOption read ((event : AnEvent) →
-        IsEvent schema.now (fields_of fields.now) event →
-        ⊥) (IsEvent schema.now (fields_of fields.now))) }
+    ensures { IfOk result (IsReadAs (IsEvent schema.now (fields_of fields.now))) }
 {
     let Some(word) = fields.get(0) else {
         return Ok(None);
@@ -85,16 +84,14 @@ fn read_only_feeder(fields: &ByteRecord) -> Option<u32>
     if fields.len() != 2 {
         return None;
     }
-    read_feeder(lend(fields, 1))
+    read_feeder(field(fields, 1))
 }
 
-/// Lends the field at a place.
-pub(crate) fn lend(fields: &ByteRecord, place: usize) -> &[u8]
-    requires { place < length (fields_of fields.now) }
-    ensures { field_at (fields_of fields.now) place ≡ Some result.now }
+/// Lends the field at a place, or no byte past the last field.
+pub fn field(fields: &ByteRecord, place: usize) -> &[u8]
+    ensures value { result.now ≡ get_or (fields_of fields.now) place [] }
+    ensures there { place < length (fields_of fields.now) →
+        field_at (fields_of fields.now) place ≡ Some result.now }
 {
-    match fields.get(place) {
-        None => &[],
-        Some(field) => field,
-    }
+    fields.get(place).unwrap_or(&[])
 }

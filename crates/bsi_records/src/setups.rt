@@ -1,18 +1,18 @@
 //! Records before `begin`: columns, feeders and the row limit.
 
-ghost use Rattle.std.specs.Prelude.{◌≡◌, ◌≤◌, ◌<◌, ◌∷◌, [], None, Some, drop, if◌then◌else◌, IfNone, IfOk, IfSome, OnErr};
+ghost use Rattle.std.specs.Prelude.{◌≡◌, ◌≤◌, ◌<◌, [], None, Some, drop, if◌then◌else◌, IfNone, IfOk, IfSome, OnErr};
 ghost use Rattle.csv.specs.Records.{fields_of};
-ghost use Rattle.bsi_load.specs.Sizes.{new_machine};
 ghost use Rattle.bsi_table.specs.Columns.{no_columns};
-ghost use Rattle.bsi_records.specs.Setups.{can_begin, capacities_after, declared_after, is_begin, limit_of, nothing_declared, only_number, table_after, IsChange};
+ghost use Rattle.bsi_records.specs.Setups.{can_begin, capacities_after, declared_after, is_begin, limit_of, machine_of, nothing_declared, only_number, table_after, IsChange};
 
+use crate::NoMemory;
 use crate::columns::declare_column;
 use crate::numbers::read_within;
-use crate::records::lend;
+use crate::records::field;
 use bsi_load::{Core, MAX_WAITING, MakeError};
 use bsi_table::{MAX_FEEDERS, MAX_ROWS, Schema};
 use csv::ByteRecord;
-use std::alloc::{AllocError as NoMemory, Global};
+use std::alloc::Global;
 use std::marker::Model;
 use std::mem;
 
@@ -24,7 +24,7 @@ fn read_only_number(fields: &ByteRecord, most: u64) -> Option<u64>
     if fields.len() != 2 {
         return None;
     }
-    read_within(1, most, lend(fields, 1))
+    read_within(1, most, field(fields, 1))
 }
 
 /// Carries out a `column` or `limit` record, and returns true. It returns false, and changes nothing, for a record that
@@ -37,8 +37,8 @@ pub fn read_setup(
     fields: &ByteRecord,
 ) -> Result<bool, NoMemory>
     ensures done { IfOk result
-        (λ done. IsChange (table_after schema.old limit.old (fields_of fields.now))
-        (schema.old, limit.old) (schema.new, limit.new) done) }
+        (IsChange (table_after schema.old limit.old (fields_of fields.now))
+        (schema.old, limit.old) (schema.new, limit.new)) }
     ensures kept { OnErr result ((schema.new ≡ schema.old) × (limit.new ≡ limit.old)) }
 {
     let Some(word) = fields.get(0) else {
@@ -68,7 +68,7 @@ fn declare_limit(limit: &mut u64, fields: &ByteRecord) -> bool
 pub fn is_begin(fields: &ByteRecord) -> bool
     ensures { result ≡ is_begin (fields_of fields.now) }
 {
-    fields.len() == 1 && lend(fields, 0) == b"begin".as_slice()
+    fields.len() == 1 && field(fields, 0) == b"begin".as_slice()
 }
 
 /// What the records of a script before `begin` have declared so far: the columns, the feeders, each with the number of
@@ -108,8 +108,7 @@ impl Setup {
     /// a record that a script answers `bad`, or for another record. If memory is refused, it changes nothing.
     pub fn declare(&mut self, alloc: Global, fields: &ByteRecord) -> Result<bool, NoMemory>
         ensures done { IfOk result
-            (λ done. IsChange (declared_after self.old (fields_of fields.now)) self.old self.new
-            done) }
+            (IsChange (declared_after self.old (fields_of fields.now)) self.old self.new) }
         ensures kept { OnErr result (self.new ≡ self.old) }
     {
         let Some(word) = fields.get(0) else {
@@ -125,8 +124,7 @@ impl Setup {
     /// changes nothing, if there is no column or no feeder. If memory is refused, it drops the columns and the feeders.
     pub fn begin(&mut self, alloc: Global) -> Result<Option<Core>, NoMemory>
         ensures made { IfOk result (λ made. made
-            ≡ (if can_begin self.old then Some
-            (new_machine self.old.schema self.old.capacities self.old.limit) else None)) }
+            ≡ (if can_begin self.old then Some (machine_of self.old) else None)) }
         ensures kept { IfOk result (λ made. IfNone made (self.new ≡ self.old)) }
         ensures emptied { OnErr result (self.new
             ≡ record { schema = no_columns; capacities = []; limit = self.old.limit }) }
@@ -136,10 +134,9 @@ impl Setup {
         }
         let schema = mem::replace(&mut self.schema, Schema::new(alloc));
         let capacities = mem::replace(&mut self.capacities, Vec::new(alloc));
-        match Core::new(alloc, schema, capacities, self.limit) {
-            Ok(core) => Ok(Some(core)),
-            Err(refused) => Err(only_memory(refused)),
-        }
+        Core::new(alloc, schema, capacities, self.limit)
+            .map_err(only_memory)
+            .map(Some)
     }
 }
 
@@ -153,8 +150,8 @@ fn only_memory(_refused: MakeError) -> NoMemory
 /// Declares the feeder of a record `feeder,CAPACITY`, if there are fewer than 64 feeders, and returns whether it did.
 fn declare_feeder(capacities: &mut Vec<u32>, fields: &ByteRecord) -> Result<bool, NoMemory>
     ensures done { IfOk result
-        (λ done. IsChange (capacities_after capacities.old.items (drop 1 (fields_of fields.now)))
-        capacities.old.items capacities.new.items done) }
+        (IsChange (capacities_after capacities.old.items (drop 1 (fields_of fields.now)))
+        capacities.old.items capacities.new.items) }
     ensures kept { OnErr result (capacities.new.items ≡ capacities.old.items) }
 {
     if capacities.len() >= MAX_FEEDERS as usize {

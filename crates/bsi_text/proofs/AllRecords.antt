@@ -84,7 +84,7 @@ all_within cfg (suc n) s (c ∷ rest) small = by (next_record cfg s [] [] (c ∷
 pub all_records : (cfg : Config) (s : State) (xs : List ℕ) → All cfg s xs
 all_records cfg s xs = all_within cfg (length xs) s xs (omega arith)
 
--- all records from where the first ones lead to stand behind these
+-- all records from where the first ones lead to stand after these
 pub records_behind : (cfg : Config) (s s2 : State) (xs ys : List ℕ) (first last : List (List (List ℕ)))
     → Reached cfg s xs first s2 ys → AreRecords cfg s2 ys last → AreRecords cfg s xs (first ++ last)
 unfolding Reached

@@ -44,12 +44,12 @@ module _ {R : Type 0} (rem : R → Option (List ℕ)) (layout : Layout) (a b c :
         records = one.records ++ two.records;
         read = read_both rem a b c one.records two.records one.read two.read;
         good = filter_map-append (good_row layout.schema layout.header) one.records two.records ∙ ap₂ (λ p q. p ++ q) one.good two.good;
-        passed = omega (arith, one.passed, two.passed, length-append {A = List Field} one.records two.records);
+        taken = omega (arith, one.taken, two.taken, length-append {A = List Field} one.records two.records);
         bad = omega (arith, one.bad, two.bad, bads);
       }
 
 module _ {R : Type 0} (rem : R → Option (List ℕ)) (layout : Layout) (a b : Reader R) (text : List ℕ) where
-  -- a file that was read from behind its header to its end
+  -- a file that was read from its header on to its end
   pub is_whole : (start end : Tally) (rows : List Entries) → StandsAfter rem layout a text → HasTaken rem layout a b start end rows → IsOver rem b
       → IsWholeFile layout text start end rows
   unfolding Reached
@@ -70,7 +70,7 @@ module _ {R : Type 0} (rem : R → Option (List ℕ)) (layout : Layout) (a b : R
             records = taken.records;
             all = (reader_state b, ys, (read, e, h.0, subst (λ s. Reached default_config s read.2 taken.records (reader_state b) ys) h.1 g), subst (λ o. IfSome o (λ rest. next_record default_config (reader_state b) [] [] rest ≡ None)) e2 over);
             good = sym taken.good;
-            passed = taken.passed;
+            taken = taken.taken;
             bad = taken.bad;
           }
 

@@ -1,5 +1,5 @@
 -- The fields of a record by their places, and a header's names.
-use Rattle.std.proofs.Common.{◌≡◌, ℕ, zero, suc, ◌+◌, ◌<◌, ◌≤◌, Bool, true, false, cond, not, ◌&&◌, List, [], ◌∷◌, length, take, drop, get_or, Option, Some, None, unwrap_or, map, nat_eq, refl, sym, ap, ap₂, ◌∙◌, arith, ℤ, ◌++◌}
+use Rattle.std.proofs.Common.{◌≡◌, ℕ, ◌+◌, ◌<◌, ◌≤◌, Bool, true, false, cond, not, ◌&&◌, List, [], ◌∷◌, length, take, drop, get_or, Option, Some, None, map, nat_eq, refl, sym, ap, ap₂, ◌∙◌, arith, ℤ, ◌++◌}
 use Rattle.std.specs.List.{list_all}
 use Rattle.std.specs.Str.{bytes_eq}
 use Rattle.std.proofs.lemmas.Bool.Decides.{Decides-eqb}
@@ -7,7 +7,6 @@ use Rattle.std.proofs.lemmas.List.{at_drop_more, get_or-map, length-append, leng
 use Rattle.std.proofs.lemmas.Simd.{map-map}
 use Rattle.std.proofs.lemmas.List.Folds.{list_all_more, list_all_at}
 use Rattle.std.proofs.lemmas.List.Sums.{prefix_len-drop_all}
-use Rattle.csv.specs.Records.{field_at}
 use Rattle.bsi_table.specs.Columns.{Declared, NamedColumn, column_at, is_between, is_taken_by, no_column}
 use Rattle.bsi_table.specs.Rows.{Entries}
 use Rattle.bsi_records.specs.Numbers.{Field, value_in, values_in}
@@ -15,13 +14,6 @@ use Rattle.bsi_text.specs.Limits.{limits_of}
 use Rattle.bsi_text.specs.declared.limits.Limits.{Limits}
 use Rattle.bsi_text.specs.RowFiles.{in_order, place_of}
 use Rattle.bsi_records.proofs.Values.{behind, values_done, values_next, values_stop}
-
--- the field at a place, or no byte
-pub at_place : (fields : List (List ℕ)) (place : ℕ) → get_or fields place [] ≡ unwrap_or (field_at fields place) []
-unfolding field_at
-at_place [] place = refl
-at_place (field ∷ fields) zero = refl
-at_place (field ∷ fields) (suc place) = at_place fields place
 
 -- ---- a test of each element, one after another
 

@@ -1,5 +1,5 @@
 -- The rows that a source still has, and those that it gives of them.
-use Rattle.std.proofs.Common.{◌≡◌, ℕ, ◌+◌, List, [], ◌∷◌, ◌++◌, Option, Some, None, Result, Ok, Err, is_some, if◌then◌else◌, IsSome, IfOk, IfSome, MatchOption, length, refl, sym, ap, ap₂, subst, ◌∙◌, arith, Bool, true, false}
+use Rattle.std.proofs.Common.{◌≡◌, ℕ, ◌+◌, List, [], ◌∷◌, ◌++◌, Option, Some, None, Result, Ok, Err, is_some, IsSome, IfOk, IfSome, MatchOption, length, refl, sym, ap, ap₂, subst, ◌∙◌, arith, Bool, true, false}
 use Rattle.std.proofs.lemmas.List.{append_assoc}
 use Rattle.std.proofs.lemmas.List.Elements.{filter_map-append}
 use Rattle.std.proofs.lemmas.List.Sums.{sum_by-append}
@@ -12,7 +12,7 @@ use Rattle.csv.specs.declared.reader.Reader.{Reader}
 use Rattle.bsi_table.specs.Rows.{Entries}
 use Rattle.bsi_records.specs.Numbers.{Field}
 use Rattle.bsi_text.specs.RowFiles.{bad_count, good_row, good_rows, given}
-use Rattle.bsi_text.specs.Sources.{AreLeft, GivesFirst, HasGiven, HasLeft, HasRead, HasTaken, IsOver, IsWholeFile, Layout, Source, StandsAfter, Tally, tally_of}
+use Rattle.bsi_text.specs.Sources.{AreLeft, GivesFirst, HasGiven, HasLeft, HasRead, HasTaken, IsOver, IsWholeFile, Layout, Source, StandsAfter, Tally, end_after, tally_of}
 use Rattle.bsi_text.specs.declared.rows.SourceFault.{SourceFault}
 use Rattle.bsi_text.proofs.AllRecords.{all_records, one_reading, records_behind}
 use Rattle.bsi_text.proofs.Taking.{bad_one}
@@ -87,7 +87,7 @@ module _ {R : Type 0} (rem : R → Option (List ℕ)) where
         let same = one_left input (source_of rem input) one.records two.records one.left two.left in
         (sym one.good ∙ ap (good_rows layout.schema layout.header) same ∙ two.good, sym one.others ∙ ap (bad_count layout.schema layout.header) same ∙ two.others)
 
-    -- what was taken, and what is left behind it
+    -- what was taken, and what is left after it
     record Parts (a b : Reader R) (xs rows : List Entries) (n : ℕ) (start end : Tally) : Type 0 where
       pub rest : List (List Field)
       pub left : AreLeft rem b rest
@@ -151,7 +151,7 @@ module _ {R : Type 0} (rem : R → Option (List ℕ)) where
 
     -- an open source gives the first of the rows that it still has
     pub gives_first : (old new : Source R) (r : Result (Option Entries) SourceFault) → old.layout ≡ layout → old.end ≡ None → new.layout ≡ layout
-        → IfOk r (λ found. new.end ≡ (if is_some found then None else Some (Ok tt)))
+        → IfOk r (λ found. new.end ≡ end_after (is_some found))
         → IfOk r (HasGiven rem layout old.input new.input old.tally new.tally) → IfOk r (GivesFirst rem old new)
     gives_first old new (Err fault) same going layout_is goes given = tt
     gives_first old new (Ok None) same going layout_is goes given = λ rows bad still.
@@ -178,13 +178,13 @@ module _ {R : Type 0} (rem : R → Option (List ℕ)) where
 
     -- the same of a call that fills a row
     pub fills_first : (old new : Source R) (r : Result Bool SourceFault) (row : Entries) → old.layout ≡ layout → old.end ≡ None → new.layout ≡ layout
-        → IfOk r (λ found. new.end ≡ (if found then None else Some (Ok tt)))
+        → IfOk r (λ found. new.end ≡ end_after found)
         → IfOk r (λ found. HasGiven rem layout old.input new.input old.tally new.tally (given found row)) → IfOk r (λ found. GivesFirst rem old new (given found row))
     fills_first old new (Err fault) row same going layout_is goes has = tt
     fills_first old new (Ok true) row same going layout_is goes has = gives_first old new (Ok (Some row)) same going layout_is goes has
     fills_first old new (Ok false) row same going layout_is goes has = gives_first old new (Ok None) same going layout_is goes has
 
-    -- what is left behind the header is all of a file
+    -- what is left after the header is all of a file
     pub left_of_file : (input : Reader R) (text : List ℕ) (rows : List Entries) (n : ℕ) → StandsAfter rem layout input text → HasLeft rem layout input rows n
         → (m : ℕ) × IsWholeFile layout text (tally_of 0 0) (tally_of m n) rows
     unfolding Reached
@@ -202,7 +202,7 @@ module _ {R : Type 0} (rem : R → Option (List ℕ)) where
                 records = has.records;
                 all = (there.0, there.1, (read, e, h.0, there.2), there.3);
                 good = sym has.good;
-                passed = omega arith;
+                taken = omega arith;
                 bad = omega (arith, has.others);
               },
             )

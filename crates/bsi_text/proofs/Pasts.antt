@@ -9,9 +9,9 @@ use Rattle.bsi_load.specs.declared.event.Reply.{Reply}
 use Rattle.bsi_records.specs.Events.{IsEvent}
 use Rattle.bsi_records.specs.Lines.{bad_line, done_line}
 use Rattle.bsi_records.specs.Numbers.{Field}
-use Rattle.bsi_text.specs.Pasts.{AreAddedBy, HasPast, IsAddedBy, machine_of}
+use Rattle.bsi_text.specs.Pasts.{AreAddedBy, HasPast, IsAddedBy}
 use Rattle.bsi_text.specs.Scripts.{AreTurns, Declaring, IsTurn, Running, Stage, set_up}
-use Rattle.bsi_records.specs.Setups.{Setup, can_begin, declared_after, is_begin, nothing_declared}
+use Rattle.bsi_records.specs.Setups.{Setup, can_begin, declared_after, is_begin, machine_of, nothing_declared}
 use Rattle.bsi_text.proofs.Named.{same_schema}
 use Rattle.bsi_text.proofs.Turns.{no_turn, one_turn, turns_behind}
 
@@ -24,7 +24,7 @@ pub record Adds (new : Shown) (past : List Done) (records : List (List Field)) (
   pub lawful : AreLawful new after
   pub shows : last ≡ Running (shown_after new after)
 
--- an event and its reply stand behind a lawful past
+-- an event and its reply stand after a lawful past
 lawful_more : (new : Shown) (past : List Done) (e : Event) (r : Reply) → AreLawful new past → IsLawful (shown_after new past) e r → AreLawful new ((e, r) ∷ past)
 unfolding AreLawful
 lawful_more new past e r before next = (before, next)

@@ -33,7 +33,7 @@ module _ {R : Type 0} (rem : R → Option (List ℕ)) (layout : Layout) where
     records = [];
     read = nothing_read (source_of rem input) (reader_state input);
     good = refl;
-    passed = omega arith;
+    taken = omega arith;
     bad = omega arith;
   }
 
@@ -103,27 +103,27 @@ module _ {R : Type 0} (rem : R → Option (List ℕ)) (layout : Layout) (old b :
     (are : AreTaken rem layout old b before after) where
   -- one more good record
   pub taken_good : (c : Reader R) (fields : List Field) (row : Entries) → ReadRecord rem b c true fields
-      → Some row ≡ good_row layout.schema layout.header fields → HasTaken rem layout old c before (record { passed = after.passed + 1; bad = after.bad }) (row ∷ [])
+      → Some row ≡ good_row layout.schema layout.header fields → HasTaken rem layout old c before (record { taken = after.taken + 1; bad = after.bad }) (row ∷ [])
   taken_good c fields row next good = record {
     records = are.taken.records ++ fields ∷ [];
     read = read_more rem old b c fields are.plain.config are.taken.records are.taken.read next;
     good = filter_map-append (good_row layout.schema layout.header) are.taken.records (fields ∷ [])
         ∙ ap₂ (λ xs o. xs ++ cons_option o []) are.taken.good (sym good);
-    passed = omega (arith, are.taken.passed, length-append {A = List Field} are.taken.records (fields ∷ []));
+    taken = omega (arith, are.taken.taken, length-append {A = List Field} are.taken.records (fields ∷ []));
     bad = are.taken.bad ∙ ap (λ n. before.bad + n) (sym (count_good layout are.taken.records fields (ap is_none (sym good))));
   }
 
   -- one more bad record
-  pub taken_bad : (c : Reader R) (fields : List Field) → ReadRecord rem b c true fields → IsPlain c → after.passed < 1000000
+  pub taken_bad : (c : Reader R) (fields : List Field) → ReadRecord rem b c true fields → IsPlain c → after.taken < 1000000
       → None ≡ good_row layout.schema layout.header fields
-      → AreTaken rem layout old c before (record { passed = after.passed + 1; bad = after.bad + 1 })
+      → AreTaken rem layout old c before (record { taken = after.taken + 1; bad = after.bad + 1 })
   taken_bad c fields next plain few bad = record {
     taken = record {
       records = are.taken.records ++ fields ∷ [];
       read = read_more rem old b c fields are.plain.config are.taken.records are.taken.read next;
       good = filter_map-append (good_row layout.schema layout.header) are.taken.records (fields ∷ [])
           ∙ ap₂ (λ xs o. xs ++ cons_option o []) are.taken.good (sym bad);
-      passed = omega (arith, are.taken.passed, length-append {A = List Field} are.taken.records (fields ∷ []));
+      taken = omega (arith, are.taken.taken, length-append {A = List Field} are.taken.records (fields ∷ []));
       bad = omega (arith, are.taken.bad, count_bad layout are.taken.records fields (ap is_none (sym bad)));
     };
     plain = plain;
@@ -146,7 +146,7 @@ module _ {R : Type 0} (rem : R → Option (List ℕ)) (layout : Layout) (old b :
   memory_fails (Err fault) is = record { at = b; taken = are.taken; later = λ bad. cc (is, bad); too_long = λ long. cc (is, long) }
 
   -- there are too many
-  pub is_too_long : (c : Reader R) (fields : List Field) → ReadRecord rem b c true fields → 1000000 ≤ after.passed → HasStopped rem layout old before after TooLong
+  pub is_too_long : (c : Reader R) (fields : List Field) → ReadRecord rem b c true fields → 1000000 ≤ after.taken → HasStopped rem layout old before after TooLong
   is_too_long c fields next many = record {
     at = b;
     taken = are.taken;
@@ -156,7 +156,7 @@ module _ {R : Type 0} (rem : R → Option (List ℕ)) (layout : Layout) (old b :
 
 -- ---- the header
 
--- what is so of a text, by the bytes of which it is what stands behind a byte order mark
+-- what is so of a text, by the bytes of which it is what stands after a byte order mark
 pub of_text : (P : List ℕ → Type 0) (known : Option (List ℕ)) (source : Option (List ℕ)) → source ≡ option_map strip_bom known → IfSome source P → IfSome known (λ bytes. P (strip_bom bytes))
 of_text P None source is holds = tt
 of_text P (Some bytes) source is holds = subst (λ o. IfSome o P) is holds

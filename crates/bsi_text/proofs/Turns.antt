@@ -21,7 +21,7 @@ use Rattle.bsi_text.proofs.Named.{HasNames, IfSome-choice, IfSome-map, IfSome-th
 use Rattle.bsi_table.specs.Columns.{AreNamed}
 use Rattle.bsi_records.proofs.Spelling.{query_is_there, query_or_not}
 
--- ---- runs behind one another
+-- ---- runs after one another
 
 pub turns_behind : (first middle last : Stage) (records more : List (List Field)) (lines others : List (List ℕ))
     → AreTurns first records lines middle → AreTurns middle more others last → AreTurns first (records ++ more) (lines ++ others) last

@@ -22,14 +22,14 @@ put_all before after text waiting written none = record {
   written = written;
 }
 
--- what waited was written, and then the text behind it
+-- what waited was written, and then the text after it
 pub cut_whole : (before middle after : Option (List ℕ)) (first last : List ℕ) → Appends before middle first → IsCut middle after last
     → IsCut before after (first ++ last)
 cut_whole before middle after first last written cut =
     (length first + cut.0, subst (Appends before after) (sym (take-append-add first last cut.0)) (appends-more before middle after first (take cut.0 last) written cut.1))
 
 module _ (before middle after : Option (List ℕ)) (waiting text : List ℕ) (put : IsPut before middle waiting text) where
-  -- more text waits behind what waited, of which a first part was written
+  -- more text waits after what waited, of which a first part was written
   pub put_more : (rest more : List ℕ) → IsPut middle after rest (waiting ++ more) → IsPut before after rest (text ++ more)
   put_more rest more next = record {
     gone = put.gone ++ next.gone;
@@ -54,7 +54,7 @@ module _ (before middle after : Option (List ℕ)) (waiting text : List ℕ) (pu
 pub cut_all : (before after : Option (List ℕ)) (text : List ℕ) → Appends before after text → IsCut before after text
 cut_all before after text written = (length text, subst (Appends before after) (sym (take_all (length text) text (omega arith))) written)
 
--- a first part of what waited is one of what waited and of the text behind it
+-- a first part of what waited is one of what waited and of the text after it
 pub cut_front : (before after : Option (List ℕ)) (waiting more : List ℕ) → IsCut before after waiting → IsCut before after (waiting ++ more)
 cut_front before after waiting more cut =
     let m : ℕ = min cut.0 (length waiting) in

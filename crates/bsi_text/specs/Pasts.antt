@@ -2,7 +2,6 @@
 use Rattle.std.specs.Prelude.{◌≡◌, ◌≢◌, ℕ, true, List, [], ◌∷◌, ◌++◌, All, ◌⊎◌}
 use Rattle.bsi_load.specs.Runs.{AreLawful, Done, IsConserved, shown_after}
 use Rattle.bsi_load.specs.Shown.{Shown}
-use Rattle.bsi_load.specs.Sizes.{new_machine}
 use Rattle.bsi_load.specs.declared.event.Event.{Event}
 use Rattle.bsi_load.specs.declared.event.Reply.{Reply}
 use Rattle.bsi_table.specs.Columns.{Declared}
@@ -10,11 +9,7 @@ use Rattle.bsi_records.specs.Events.{IsEvent}
 use Rattle.bsi_records.specs.Lines.{bad_line, done_line, no_memory_line, reply_line}
 use Rattle.bsi_records.specs.Numbers.{Field}
 use Rattle.bsi_text.specs.Scripts.{AreTurns, Declaring}
-use Rattle.bsi_records.specs.Setups.{Setup, can_begin, is_begin, nothing_declared}
-
--- the machine that a setup makes
-abbrev pub machine_of : Setup → Shown
-machine_of setup = new_machine setup.schema setup.capacities setup.limit
+use Rattle.bsi_records.specs.Setups.{Setup, can_begin, is_begin, machine_of, nothing_declared}
 
 -- the record asks for nothing, and adds nothing to what was done
 pub record AddsNothing (schema : Declared) (fields : List Field) (line : List ℕ) (before after : List Done)

@@ -1,8 +1,8 @@
 -- The source of the records of a text.
-use Rattle.std.specs.Prelude.{◌≡◌, ◌≢◌, ℕ, ◌+◌, List, [], ◌∷◌, Option, Some, None, Ok, Err, Bool, true, false}
+use Rattle.std.specs.Prelude.{◌≡◌, ◌≢◌, ℕ, ◌+◌, List, [], ◌∷◌, Option, Some, Err, Bool, true, false}
 use Rattle.csv.specs.declared.reader.Reader.{Reader}
 use Rattle.bsi_records.specs.Numbers.{Field}
-use Rattle.bsi_text.specs.Sources.{End, HasNext, HasRead, IsOver}
+use Rattle.bsi_text.specs.Sources.{End, end_after, HasNext, HasRead, IsOver}
 use Rattle.bsi_text.specs.declared.rows.SourceFault.{SourceFault}
 use Rattle.bsi_text.specs.declared.rows.SourceFault.TheVariants.{BadHeader, TooLong}
 
@@ -21,11 +21,6 @@ TakesRecord rem old new before after fields false = IsOver rem old × (after ≡
 abbrev pub Stops : {R : Type 0} → (R → Option (List ℕ)) → Reader R → ℕ → ℕ → SourceFault → Type 0
 Stops rem old before after fault =
     (fault ≢ BadHeader) × (fault ≡ TooLong → (before ≡ 1000000) × HasNext rem old) × (after ≡ before)
-
--- how a source stands after a call that takes a record, or finds none left
-abbrev pub end_after : Bool → End
-end_after true = None
-end_after false = Some (Ok tt)
 
 abbrev pub TakesNext : {R : Type 0} → (R → Option (List ℕ)) → RecordText R → RecordText R → List Field → Bool → Type 0
 TakesNext rem old new fields found =

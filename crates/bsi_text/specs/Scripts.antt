@@ -4,11 +4,10 @@ use Rattle.bsi_load.specs.declared.event.Event.{Event}
 use Rattle.bsi_load.specs.declared.event.Reply.{Reply}
 use Rattle.bsi_load.specs.Runs.{shown_after}
 use Rattle.bsi_load.specs.Shown.{Shown, IsLawful}
-use Rattle.bsi_load.specs.Sizes.{new_machine}
 use Rattle.bsi_records.specs.Events.{IsEvent}
 use Rattle.bsi_records.specs.Lines.{bad_line, done_line, reply_line}
 use Rattle.bsi_records.specs.Numbers.{Field}
-use Rattle.bsi_records.specs.Setups.{Setup, can_begin, declared_after, is_begin, nothing_declared}
+use Rattle.bsi_records.specs.Setups.{Setup, can_begin, declared_after, is_begin, machine_of, nothing_declared}
 
 -- what a script has come to: its setup, and from `begin` on its machine
 pub data Stage : Type 0 where
@@ -16,11 +15,11 @@ pub data Stage : Type 0 where
   Running : Shown → Stage
 
 -- what a record of the setup leads to, none where it can't be done
-abbrev pub begun : Setup → Option Stage
-begun setup = if can_begin setup then Some (Running (new_machine setup.schema setup.capacities setup.limit)) else None
+abbrev pub stage_begun : Setup → Option Stage
+stage_begun setup = if can_begin setup then Some (Running (machine_of setup)) else None
 
 abbrev pub set_up : Setup → List Field → Option Stage
-set_up setup fields = if is_begin fields then begun setup else option_map Declaring (declared_after setup fields)
+set_up setup fields = if is_begin fields then stage_begun setup else option_map Declaring (declared_after setup fields)
 
 -- a record that asks for nothing is bad, and does nothing
 pub record IsBad (shown : Shown) (fields : List Field) (line : List ℕ) (next : Stage) : Type 0 where

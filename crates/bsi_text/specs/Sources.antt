@@ -1,5 +1,5 @@
 -- The source of the rows of a row file.
-use Rattle.std.specs.Prelude.{◌≡◌, ◌≢◌, ◌⊎◌, ℕ, ◌+◌, ◌≤◌, List, [], ◌∷◌, Option, None, Some, Result, IsSome, IsTrue, IfSome, length, false, MatchOption}
+use Rattle.std.specs.Prelude.{◌≡◌, ◌≢◌, ◌⊎◌, ℕ, ◌+◌, ◌≤◌, List, [], ◌∷◌, Option, None, Some, Result, Ok, IsSome, IsTrue, IfSome, length, Bool, true, false, MatchOption}
 use Rattle.csv.specs.Machine.{next_record}
 use Rattle.csv.specs.Reading.{AreRecords, Ready, Reached, default_config, is_flexible, is_io, reader_config, reader_state, reader_trim, source_of}
 use Rattle.csv.specs.declared.error.ErrorKind.{ErrorKind}
@@ -21,17 +21,22 @@ pub record Layout : Type 0 where
 
 -- how many records were taken, and how many of them were bad
 pub record Tally : Type 0 where
-  pub passed : ℕ
+  pub taken : ℕ
   pub bad : ℕ
 
 abbrev pub tally_of : ℕ → ℕ → Tally
-tally_of passed bad = record { passed = passed; bad = bad }
+tally_of taken bad = record { taken = taken; bad = bad }
 
 -- how a source ended: with all that there is, or by a fault; none while there may be more
 abbrev pub End : Type 0
 End = Option (Result (Unit {0}) SourceFault)
 
--- a row source: its file's layout, what it reads from, how many records it took behind the header and how many of these
+-- how a source stands after a call that takes a record, or finds none left
+abbrev pub end_after : Bool → End
+end_after true = None
+end_after false = Some (Ok tt)
+
+-- a row source: its file's layout, what it reads from, how many records it took after the header and how many of these
 -- were bad, and how it ended
 pub record Source (R : Type 0) : Type 0 where
   pub layout : Layout
@@ -75,7 +80,7 @@ pub record HasTaken {R : Type 0} (rem : R → Option (List ℕ)) (layout : Layou
   pub records : List (List Field)
   pub read : HasRead rem old new records
   pub good : good_rows layout.schema layout.header records ≡ rows
-  pub passed : after.passed ≡ before.passed + length records
+  pub taken : after.taken ≡ before.taken + length records
   pub bad : after.bad ≡ before.bad + bad_count layout.schema layout.header records
 
 -- all records that were left were read and counted, all of them bad
@@ -92,7 +97,7 @@ pub record HasStopped {R : Type 0} (rem : R → Option (List ℕ)) (layout : Lay
   pub at : Reader R
   pub taken : HasTaken rem layout old at before after []
   pub later : fault ≢ BadHeader
-  pub too_long : fault ≡ TooLong → (after.passed ≡ 1000000) × HasNext rem at
+  pub too_long : fault ≡ TooLong → (after.taken ≡ 1000000) × HasNext rem at
 
 -- what a call leaves that gives a row, or finds that none is left
 abbrev pub HasGiven : {R : Type 0} → (R → Option (List ℕ)) → Layout → Reader R → Reader R → Tally → Tally
@@ -103,8 +108,8 @@ HasGiven rem layout old new before after found =
 
 -- the counts of a source
 pub record IsTally (tally : Tally) : Type 0 where
-  pub few : tally.passed ≤ 1000000
-  pub bad : tally.bad ≤ tally.passed
+  pub few : tally.taken ≤ 1000000
+  pub bad : tally.bad ≤ tally.taken
 
 -- ---- what is left of a text
 
@@ -152,5 +157,5 @@ pub record IsWholeFile (layout : Layout) (text : List ℕ) (before after : Tally
   pub records : List (List Field)
   pub all : AreRecords default_config st.StartRecord text (layout.header ∷ records)
   pub good : rows ≡ good_rows layout.schema layout.header records
-  pub passed : after.passed ≡ before.passed + length records
+  pub taken : after.taken ≡ before.taken + length records
   pub bad : after.bad ≡ before.bad + bad_count layout.schema layout.header records

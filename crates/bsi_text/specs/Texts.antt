@@ -18,12 +18,12 @@ AreAllRecords bytes records = AreRecords default_config st.StartRecord (strip_bo
 abbrev pub AreFirstRecords : List ℕ → List (List Field) → State → List ℕ → Type 0
 AreFirstRecords bytes records state rest = Reached default_config st.StartRecord (strip_bom bytes) records state rest
 
--- the lines of a script run of records were put behind what a writer held
+-- the lines of a script run of records were put after what a writer held
 abbrev pub WritesLines : Option (List ℕ) → Option (List ℕ) → List (List Field) → Type 0
 WritesLines before after records =
     (lines : List (List ℕ)) × IsScriptRun records lines × Appends before after (concat lines)
 
--- a first part of the lines of a script run was put behind what a writer held
+-- a first part of the lines of a script run was put after what a writer held
 abbrev pub WritesPart : Option (List ℕ) → Option (List ℕ) → List (List Field) → Type 0
 WritesPart before after records =
     (lines : List (List ℕ)) × (n : ℕ) × IsScriptRun records lines × Appends before after (take n (concat lines))

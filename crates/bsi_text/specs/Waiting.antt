@@ -2,13 +2,13 @@
 use Rattle.std.specs.Prelude.{◌≡◌, ℕ, List, ◌++◌, Option, take}
 use Rattle.std.specs.Io.KnownBytes.{Appends}
 
--- a first part of a text was put behind what a writer held, and the rest waits
+-- a first part of a text was put after what a writer held, and the rest waits
 pub record IsPut (before after : Option (List ℕ)) (waiting text : List ℕ) : Type 0 where
   pub gone : List ℕ
   pub text_is : text ≡ gone ++ waiting
   pub written : Appends before after gone
 
--- a first part of a text was put behind what a writer held, and the rest is dropped
+-- a first part of a text was put after what a writer held, and the rest is dropped
 abbrev pub IsCut : Option (List ℕ) → Option (List ℕ) → List ℕ → Type 0
 IsCut before after text = (n : ℕ) × Appends before after (take n text)
 

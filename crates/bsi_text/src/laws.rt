@@ -24,6 +24,7 @@ pub fn nothing_is_lost()
         → AreTurns (Declaring nothing_declared) records lines (Running shown) →
         HasPast records lines shown }
 {
+    // The proof takes this law of the machine.
     bsi_load::laws::nothing_is_lost();
 }
 
@@ -48,7 +49,7 @@ pub fn taken_in_turn<R: Read + Drop>()
         HasTaken R.remaining layout a c start end (xs ++ ys) }
 {}
 
-/// States that what is taken, from behind the header to where no record is left, are the rows of the good records of
+/// States that what is taken, from after the header to where no record is left, are the rows of the good records of
 /// the whole text, in their order, and that the count of bad records is that of all others.
 pub fn rows_of_a_file<R: Read + Drop>()
     ensures { (layout : Layout) → (a b : Reader R) → (text : List ℕ) → (start end : Tally) →
@@ -73,7 +74,7 @@ pub fn rows_left<R: Read + Drop>()
         (xs ≡ ys) × (m ≡ n) }
 {}
 
-/// States that a reader that stands behind the header of a text has left the rows of all good records of the text, and
+/// States that a reader that stands after the header of a text has left the rows of all good records of the text, and
 /// a number of bad ones that is the number of all other records.
 pub fn left_of_a_file<R: Read + Drop>()
     ensures { (layout : Layout) → (input : Reader R) → (text : List ℕ) → (rows : List Entries) →

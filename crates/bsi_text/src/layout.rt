@@ -1,6 +1,6 @@
 //! The header of a row file, and the rows that its records give.
 
-ghost use Rattle.std.specs.Prelude.{◌≡◌, [], get_or, if◌then◌else◌, map, count_by, Some, None, true, IfOk, IsTrue, OnOk};
+ghost use Rattle.std.specs.Prelude.{◌≡◌, [], if◌then◌else◌, map, count_by, Some, None, true, IfOk, IsTrue, OnOk};
 ghost use Rattle.std.specs.List.{list_all};
 ghost use Rattle.std.specs.Str.{bytes_eq};
 ghost use Rattle.csv.specs.Records.{fields_of};
@@ -11,7 +11,7 @@ ghost use Rattle.bsi_text.specs.RowFiles.{given, good_row, in_order, is_header, 
 
 use crate::NoMemory;
 use crate::limits::Limits;
-use bsi_records::read_value;
+use bsi_records::{field, read_value};
 use bsi_table::{Row, Schema};
 use csv::ByteRecord;
 use std::alloc::Global;
@@ -110,7 +110,7 @@ impl Layout {
             return false;
         }
         'columns: for c in 0..values.len() {
-            if !self.limits[c].take(values[c]) {
+            if !self.limits[c].takes(values[c]) {
                 return false;
             }
         }
@@ -140,16 +140,6 @@ impl Layout {
         }
         *row = Row::new(values);
         Ok(true)
-    }
-}
-
-/// Lends the field at a place, or no byte past the last field.
-fn field(fields: &ByteRecord, place: usize) -> &[u8]
-    ensures { result.now ≡ get_or (fields_of fields.now) place [] }
-{
-    match fields.get(place) {
-        None => &[],
-        Some(field) => field,
     }
 }
 
@@ -204,7 +194,7 @@ fn places_of(alloc: Global, schema: &Schema, header: &ByteRecord) -> Result<Vec<
 {
     let mut places = Vec::with_capacity(alloc, schema.columns() as usize)?;
     'columns: for c in 0..schema.columns() {
-        places.push_reserved(count_before(header, schema.name(c).as_bytes()));
+        places.push_reserved(place_of(header, schema.name(c).as_bytes()));
     }
     Ok(places)
 }
@@ -221,7 +211,7 @@ fn limits_in(alloc: Global, schema: &Schema) -> Result<Vec<Limits>, NoMemory>
 }
 
 /// Returns how many fields stand before the first one that equals this name.
-fn count_before(header: &ByteRecord, name: &[u8]) -> usize
+fn place_of(header: &ByteRecord, name: &[u8]) -> usize
     ensures { result ≡ place_of (fields_of header.now) name.now }
 {
     'fields: for place in 0..header.len() {

@@ -26,16 +26,13 @@ impl Limits {
     }
 
     /// Returns whether an entry is a null or one of these numbers.
-    pub(crate) fn take(self, entry: Option<i128>) -> bool
+    pub(crate) fn takes(self, entry: Option<i128>) -> bool
         ensures { result ≡ is_between self.least self.size entry }
     {
         let Some(number) = entry else {
             return true;
         };
         let least = i128::from(self.least);
-        if number < least {
-            return false;
-        }
-        number < least + i128::from(self.size)
+        least <= number && number < least + i128::from(self.size)
     }
 }

@@ -1,16 +1,17 @@
 //! Readers of records, and their records one after another.
 
-ghost use Rattle.std.specs.Prelude.{◌≡◌, IfErr, IfOk, OnOk, option_map};
+ghost use Rattle.std.specs.Prelude.{◌≡◌, Err, IfErr, IfOk, OnOk, Some, option_map};
 ghost use Rattle.csv.specs.Reading.{ReadRecord, error_kind, reader_state, source_of, strip_bom};
 ghost use Rattle.csv.specs.Records.{fields_of};
 ghost use Rattle.csv.specs.declared.parser.State.TheVariants as st;
-ghost use Rattle.bsi_text.specs.Sources.{IsPlain, IsReadFault};
+ghost use Rattle.bsi_text.specs.Sources.{end_after, IsPlain, IsReadFault};
 
+use crate::rows::SourceFault;
 use csv::{ByteRecord, Reader, ReaderBuilder};
 use std::alloc::Global;
 use std::io::Read;
 
-/// The most records that are read of a text, or behind the header of a row file.
+/// The most records that are read of a text, or after the header of a row file.
 pub(crate) const MAX_RECORDS: u64 = 1_000_000;
 
 /// Makes the reader of a text. Its first record is a record like the others, and records may have any number of fields.
@@ -37,4 +38,16 @@ pub(crate) fn read_next<R: Read + Drop>(
     ensures fault { IfErr result (λ e. IsReadFault (error_kind e)) }
 {
     input.read_byte_record(fields)
+}
+
+/// Returns how a source stands after a call: it has ended if no record was found, or by a fault.
+pub(crate) fn end_after(found: Result<bool, SourceFault>) -> Option<Result<(), SourceFault>>
+    ensures found { IfOk found (λ more. result ≡ end_after more) }
+    ensures fault { IfErr found (λ fault. result ≡ Some (Err fault)) }
+{
+    match found {
+        Ok(true) => None,
+        Ok(false) => Some(Ok(())),
+        Err(fault) => Some(Err(fault)),
+    }
 }

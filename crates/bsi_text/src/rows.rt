@@ -1,14 +1,14 @@
 //! The rows of a row file, one after another.
 
-ghost use Rattle.std.specs.Prelude.{◌≡◌, ◌≢◌, ◌≤◌, [], Option, Some, None, Ok, Err, true, false, is_some, if◌then◌else◌, IfOk, IfErr, IfSome, IsTrue, OnOk, OnErr};
+ghost use Rattle.std.specs.Prelude.{◌≡◌, ◌≢◌, ◌≤◌, Option, Some, None, Ok, Err, true, false, is_some, IfOk, IfErr, IfSome, IsTrue, OnOk};
 ghost use Rattle.csv.specs.Reading.{reader_state, source_of, strip_bom};
 ghost use Rattle.csv.specs.declared.parser.State.TheVariants as st;
 ghost use Rattle.bsi_table.specs.Columns.{fits};
 ghost use Rattle.bsi_text.specs.RowFiles.{given, is_header};
-ghost use Rattle.bsi_text.specs.Sources.{tally_of, GivesFirst, HasGiven, HasNoHeader, HasStopped, IsPlain, IsTally, StandsAfter};
+ghost use Rattle.bsi_text.specs.Sources.{end_after, tally_of, GivesFirst, HasGiven, HasNoHeader, HasStopped, IsPlain, IsTally, StandsAfter};
 
 use crate::layout::Layout;
-use crate::reading::{MAX_RECORDS, plain_reader, read_next};
+use crate::reading::{MAX_RECORDS, end_after, plain_reader, read_next};
 use bsi_table::{Row, Schema};
 use csv::{ByteRecord, Reader};
 use std::alloc::{AllocError, Global};
@@ -28,7 +28,7 @@ pub enum SourceFault {
     /// Memory was refused for the header, a record, a row or the copy of the schema.
     #[error("no memory")]
     NoMemory,
-    /// There are more than 1,000,000 records behind the header.
+    /// There are more than 1,000,000 records after the header.
     #[error("input too long")]
     TooLong,
 }
@@ -68,10 +68,10 @@ pub struct RowSource<R: Read + Drop> {
     layout: Layout,
     input: Reader<R>,
     fields: ByteRecord,
-    // (records taken behind the header, and how many of them were bad)
-    passed: u64,
+    // How many records were taken after the header, and how many of them were bad.
+    taken: u64,
     bad: u64,
-    // (none while there may be rows left)
+    // None while there may be more.
     end: Option<Result<(), SourceFault>>,
 }
 
@@ -83,9 +83,9 @@ impl<R: Read + Drop> Model for RowSource<R> {
     ghost Value = { Source R };
 
     ghost view = { λ s. record
-        { layout = s.layout; input = s.input; tally = tally_of s.passed s.bad; end = s.end } };
+        { layout = s.layout; input = s.input; tally = tally_of s.taken s.bad; end = s.end } };
 
-    ghost invariant = { λ s. IsTally (tally_of s.passed s.bad) × (s.end ≡ None → IsPlain s.input) };
+    ghost invariant = { λ s. IsTally (tally_of s.taken s.bad) × (s.end ≡ None → IsPlain s.input) };
 }
 
 impl<R: Read + Drop> RowSource<R> {
@@ -96,7 +96,7 @@ impl<R: Read + Drop> RowSource<R> {
     pub fn begin(alloc: Global, schema: &Schema, reader: R) -> Result<RowSource<R>, SourceFault>
         ensures schema { IfOk result (λ source. source.layout.schema ≡ schema.now) }
         ensures header { IfOk result (λ source. is_header schema.now source.layout.header ≡ true) }
-        ensures fresh { IfOk result (λ source. (source.tally ≡ record { passed = 0; bad = 0 })
+        ensures fresh { IfOk result (λ source. (source.tally ≡ record { taken = 0; bad = 0 })
             × (source.end ≡ None)) }
         ensures behind { IfOk result
             (λ source. IfSome (R.remaining reader)
@@ -112,7 +112,7 @@ impl<R: Read + Drop> RowSource<R> {
             layout,
             input,
             fields: ByteRecord::new(alloc),
-            passed: 0,
+            taken: 0,
             bad: 0,
             end: None,
         })
@@ -128,7 +128,7 @@ impl<R: Read + Drop> RowSource<R> {
             IfOk result (HasGiven R.remaining self.old.layout self.old.input self.new.input
             self.old.tally self.new.tally) }
         ensures goes_on { self.old.end ≡ None →
-            IfOk result (λ found. self.new.end ≡ (if is_some found then None else Some (Ok tt))) }
+            IfOk result (λ found. self.new.end ≡ end_after (is_some found)) }
         ensures stopped { self.old.end ≡ None →
             IfErr result (λ fault. HasStopped R.remaining self.old.layout self.old.input
             self.old.tally self.new.tally fault × (self.new.end ≡ Some (Err fault))) }
@@ -138,7 +138,7 @@ impl<R: Read + Drop> RowSource<R> {
         ensures first { IfOk result (GivesFirst R.remaining self.old self.new) }
         ensures fits { IfOk result
             (λ found. IfSome found (λ row. IsTrue (fits self.old.layout.schema.columns row))) }
-        ensures few { self.new.tally.passed ≤ 1000000 }
+        ensures few { self.new.tally.taken ≤ 1000000 }
     {
         let mut row = Row::new(Vec::new(self.alloc));
         if !self.next_into(&mut row)? {
@@ -158,7 +158,7 @@ impl<R: Read + Drop> RowSource<R> {
             IfOk result (λ found. HasGiven R.remaining self.old.layout self.old.input self.new.input
             self.old.tally self.new.tally (given found row.new)) }
         ensures goes_on { self.old.end ≡ None →
-            IfOk result (λ found. self.new.end ≡ (if found then None else Some (Ok tt))) }
+            IfOk result (λ found. self.new.end ≡ end_after found) }
         ensures stopped { self.old.end ≡ None →
             IfErr result (λ fault. HasStopped R.remaining self.old.layout self.old.input
             self.old.tally self.new.tally fault × (self.new.end ≡ Some (Err fault))) }
@@ -169,12 +169,10 @@ impl<R: Read + Drop> RowSource<R> {
             (λ found. GivesFirst R.remaining self.old self.new (given found row.new)) }
         ensures fits { IfOk result (λ found. found ≡ true →
             IsTrue (fits self.old.layout.schema.columns row.new)) }
-        ensures few { self.new.tally.passed ≤ 1000000 }
+        ensures few { self.new.tally.taken ≤ 1000000 }
     {
-        match self.end {
-            Some(Ok(())) => return Ok(false),
-            Some(Err(fault)) => return Err(fault),
-            None => {}
+        if let Some(end) = self.end {
+            return end.map(|()| false);
         }
         let found = take_row(
             self.alloc,
@@ -182,14 +180,10 @@ impl<R: Read + Drop> RowSource<R> {
             &mut self.input,
             &mut self.fields,
             row,
-            &mut self.passed,
+            &mut self.taken,
             &mut self.bad,
         );
-        self.end = match &found {
-            Ok(true) => None,
-            Ok(false) => Some(Ok(())),
-            Err(fault) => Some(Err(*fault)),
-        };
+        self.end = end_after(found);
         found
     }
 
@@ -235,29 +229,29 @@ fn take_row<R: Read + Drop>(
     input: &mut Reader<R>,
     fields: &mut ByteRecord,
     row: &mut Row,
-    passed: &mut u64,
+    taken: &mut u64,
     bad: &mut u64,
 ) -> Result<bool, SourceFault>
     requires plain { IsPlain input.old }
-    requires tally { IsTally (tally_of passed.old bad.old) }
+    requires tally { IsTally (tally_of taken.old bad.old) }
     ensures given { IfOk result
-        (λ found. HasGiven R.remaining layout.now input.old input.new (tally_of passed.old bad.old)
-        (tally_of passed.new bad.new) (given found row.new)) }
+        (λ found. HasGiven R.remaining layout.now input.old input.new (tally_of taken.old bad.old)
+        (tally_of taken.new bad.new) (given found row.new)) }
     ensures stopped { IfErr result
-        (λ fault. HasStopped R.remaining layout.now input.old (tally_of passed.old bad.old)
-        (tally_of passed.new bad.new) fault) }
+        (HasStopped R.remaining layout.now input.old (tally_of taken.old bad.old)
+        (tally_of taken.new bad.new)) }
     ensures fits { IfOk result (λ found. found ≡ true →
         IsTrue (fits layout.now.schema.columns row.new)) }
     ensures plain { OnOk result (IsPlain input.new) }
-    ensures tally { IsTally (tally_of passed.new bad.new) }
+    ensures tally { IsTally (tally_of taken.new bad.new) }
 {
     layout.make_room(alloc, row)?;
-    'records: while *passed < MAX_RECORDS {
+    'records: while *taken < MAX_RECORDS {
         if !read_next(input, fields)? {
             return Ok(false);
         }
         let good = layout.read(alloc, fields, row)?;
-        *passed += 1;
+        *taken += 1;
         if good {
             return Ok(true);
         }

@@ -1,6 +1,6 @@
 //! A script: records from a reader, and one line for each record to a writer.
 
-ghost use Rattle.std.specs.Prelude.{◌≡◌, ◌≢◌, ◌++◌, [], Err, OnOk, OnErr, IfErr, IfOk};
+ghost use Rattle.std.specs.Prelude.{◌≡◌, ◌≢◌, ◌++◌, [], Err, OnOk, OnErr, IfErr};
 ghost use Rattle.std.specs.Io.KnownBytes.{Appends};
 ghost use Rattle.csv.specs.Reading.{reader_state, source_of};
 ghost use Rattle.csv.specs.declared.parser.State.TheVariants as st;
@@ -92,14 +92,14 @@ pub fn run_script<R: Read + Drop, W: Write>(
 {
     let mut input = plain_reader(alloc, Watched::new(reader));
     let mut session = Session::new(alloc);
-    let mut row = ByteRecord::new(alloc);
+    let mut fields = ByteRecord::new(alloc);
     let mut line = Vec::new(alloc);
     let mut waiting = Vec::new(alloc);
     let ended = serve(
         alloc,
         &mut session,
         &mut input,
-        &mut row,
+        &mut fields,
         &mut line,
         &mut waiting,
         writer,
@@ -114,7 +114,7 @@ fn serve<R: Read + Drop, W: Write>(
     alloc: Global,
     session: &mut Session,
     input: &mut Reader<Watched<R>>,
-    row: &mut ByteRecord,
+    fields: &mut ByteRecord,
     line: &mut Vec<u8>,
     waiting: &mut Vec<u8>,
     writer: &mut W,
@@ -138,14 +138,14 @@ fn serve<R: Read + Drop, W: Write>(
 {
     'records: for count in 0..MAX_RECORDS {
         make_way(input, waiting, writer)?;
-        if !read_next(input, row)? {
+        if !read_next(input, fields)? {
             return Ok(());
         }
-        session.answer(alloc, row, line)?;
+        session.answer(alloc, fields, line)?;
         gather(line.as_slice(), waiting, writer)?;
     }
     make_way(input, waiting, writer)?;
-    if read_next(input, row)? {
+    if read_next(input, fields)? {
         return Err(ScriptFault::TooLong);
     }
     Ok(())
@@ -171,7 +171,7 @@ fn make_way<R: Read + Drop, W: Write>(
     write_waiting(waiting, writer)
 }
 
-/// Lets a line wait behind the others. If there would be too many bytes, or memory is refused, it writes all lines.
+/// Lets a line wait after the others. If there would be too many bytes, or memory is refused, it writes all lines.
 fn gather<W: Write>(line: &[u8], waiting: &mut Vec<u8>, writer: &mut W) -> Result<(), ScriptFault>
     ensures ok { OnOk result
         (IsPut (W.contents writer.old) (W.contents writer.new) waiting.new.items
@@ -203,7 +203,8 @@ fn write_waiting<W: Write>(waiting: &mut Vec<u8>, writer: &mut W) -> Result<(), 
     written
 }
 
-/// Writes all bytes. After a fault, what went out is a first part of them.
+/// Writes all bytes. After a fault, what went out is a first part of them. It is not `write_all`, which does not promise
+/// what a fault leaves.
 fn write_bytes<W: Write>(writer: &mut W, bytes: &[u8]) -> Result<(), ScriptFault>
     ensures ok { OnOk result (Appends (W.contents writer.old) (W.contents writer.new) bytes.now) }
     ensures part { OnErr result (IsCut (W.contents writer.old) (W.contents writer.new) bytes.now) }

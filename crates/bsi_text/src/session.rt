@@ -23,10 +23,8 @@ pub(crate) enum Session {
 }
 
 impl Session {
-    ghost use Rattle.std.specs.Prelude.{◌≡◌, IfOk, OnOk};
-    ghost use Rattle.csv.specs.Records.{fields_of};
     ghost use Rattle.bsi_records.specs.Setups.{nothing_declared};
-    ghost use Rattle.bsi_text.specs.Scripts.{Declaring, IsTurn};
+    ghost use Rattle.bsi_text.specs.Scripts.{Declaring};
     ghost use Rattle.bsi_text.specs.Sessions.{stage_of};
 
     /// Makes a script of which no record has been read.
@@ -95,7 +93,7 @@ fn run(
 
 /// Carries out one event, and returns its reply.
 fn step(alloc: Global, core: &mut Core, event: Event) -> Result<Reply, NoMemory>
-    ensures lawful { IfOk result (λ reply. IsLawful core.old event reply) }
+    ensures lawful { IfOk result (IsLawful core.old event) }
     ensures after { IfOk result (λ reply. core.new ≡ shown_after core.old ((event, reply) ∷ [])) }
 {
     let mut events = Vec::with_capacity(alloc, 1)?;

@@ -7,7 +7,7 @@ ghost use Rattle.csv.specs.declared.parser.State.TheVariants as st;
 ghost use Rattle.bsi_text.specs.RecordTexts.{Stops, StopsAt, TakesNext, TakesRecord};
 ghost use Rattle.bsi_text.specs.Sources.{IsPlain};
 
-use crate::reading::{MAX_RECORDS, plain_reader, read_next};
+use crate::reading::{MAX_RECORDS, end_after, plain_reader, read_next};
 use crate::rows::SourceFault;
 use csv::{ByteRecord, Reader};
 use std::alloc::Global;
@@ -19,7 +19,7 @@ use std::marker::Model;
 pub struct RecordSource<R: Read + Drop> {
     input: Reader<R>,
     taken: u64,
-    // (none while there may be records left)
+    // None while there may be more.
     end: Option<Result<(), SourceFault>>,
 }
 
@@ -52,7 +52,7 @@ impl<R: Read + Drop> RecordSource<R> {
     }
 
     /// Takes the next record into `fields`, and returns whether there was one. After the last record, each later call
-    /// answers `false`, and after a fault the same fault. The fault is `TooLong` if there is a record behind the first
+    /// answers `false`, and after a fault the same fault. The fault is `TooLong` if there is a record after the first
     /// 1,000,000.
     pub fn next_record(&mut self, fields: &mut ByteRecord) -> Result<bool, SourceFault>
         ensures failed { (fault : SourceFault) → self.old.end ≡ Some (Err fault) →
@@ -64,17 +64,11 @@ impl<R: Read + Drop> RecordSource<R> {
             IfErr result (StopsAt R.remaining self.old self.new) }
         ensures few { self.new.taken ≤ 1000000 }
     {
-        match self.end {
-            Some(Ok(())) => return Ok(false),
-            Some(Err(fault)) => return Err(fault),
-            None => {}
+        if let Some(end) = self.end {
+            return end.map(|()| false);
         }
         let found = take_record(&mut self.input, fields, &mut self.taken);
-        self.end = match found {
-            Ok(true) => None,
-            Ok(false) => Some(Ok(())),
-            Err(fault) => Some(Err(fault)),
-        };
+        self.end = end_after(found);
         found
     }
 }

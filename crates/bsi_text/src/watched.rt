@@ -10,8 +10,7 @@ use std::io::Read;
 #[derive(Drop)]
 pub(crate) struct Watched<R: Read + Drop> {
     inner: R,
-    // (how many bytes were read, and how many of them stand up to the end of the last line that is surely that of a
-    // record)
+    // How many bytes were read, and how many of them stand up to the last line end that surely ends a record.
     read: u64,
     whole: u64,
 }

@@ -1,4 +1,8 @@
-use Rattle.bsi_files.proofs.Feeds.{sent_more}
+use Rattle.std.proofs.Common.{◌≡◌, Bool, true, Option, Some, ap, ◌∙◌}
+use Rattle.bsi_rings.specs.Rings.{Sending}
+use Rattle.bsi_text.specs.declared.rows.SourceFault.{SourceFault}
+use Rattle.bsi_files.proofs.Feeds.{fed_first, of_some, sent_more}
+use Rattle.bsi_files.proofs.feeding.feed.Goals.{in-Stopped, in-Over, in-Failed}
 use Rattle.bsi_files.proofs.feeding.feed.Goals as goal
 
 pub rows-preserved : goal.rows-preserved
@@ -6,3 +10,28 @@ rows-preserved g c =
     let turn = c.in-Sent.ensures in
     sent_more g.I.Read.remaining c.args.feeder c.args.source c.rows.point c.rows.feeder c.feed_one.new.feeder c.rows.source c.feed_one.new.source
     turn.0 c.rows.invariant turn.1 turn.2
+
+-- the feeder stopped, no row is left, or the source failed
+pub returns-in-rows-clause-fed : goal.returns-in-rows-clause-fed
+returns-in-rows-clause-fed g c = elim c.match-feed_one.branch [
+  | in-Stopped w ↦
+      let told : c.match-feed_one.stopped.0 ≡ true = ap (λ (p : Bool × Option SourceFault). p.0) w.stopped-is in
+      of_some c.finish.result.closing c.finish.ensures.closing (λ closing closes.
+      fed_first g.I.Read.remaining c.args.feeder c.args.source c.rows.point c.rows.feeder c.rows.source closing.rows c.finish.result.accepted
+      c.finish.result.bad c.finish.result.stopped c.finish.result.fault c.rows.invariant
+      (closes.rows ∙ ap (λ (s : Sending). s.sent) w.in-Stopped.ensures) c.finish.ensures.accepted
+      (λ going fine rest left still. cc (told, c.finish.ensures.stopped, going)))
+  | in-Over w ↦
+      of_some c.finish.result.closing c.finish.ensures.closing (λ closing closes.
+      fed_first g.I.Read.remaining c.args.feeder c.args.source c.rows.point c.rows.feeder c.rows.source closing.rows c.finish.result.accepted
+      c.finish.result.bad c.finish.result.stopped c.finish.result.fault c.rows.invariant
+      (closes.rows ∙ ap (λ (s : Sending). s.sent) w.in-Over.ensures.0) c.finish.ensures.accepted
+      (λ going fine rest left still. (let none = w.in-Over.ensures.1 rest left still in (none.0, c.finish.ensures.bad ∙ none.1))))
+  | in-Failed w ↦
+      let told : c.match-feed_one.stopped.1 ≡ Some w.in-Failed.fault = ap (λ (p : Bool × Option SourceFault). p.1) w.stopped-is in
+      of_some c.finish.result.closing c.finish.ensures.closing (λ closing closes.
+      fed_first g.I.Read.remaining c.args.feeder c.args.source c.rows.point c.rows.feeder c.rows.source closing.rows c.finish.result.accepted
+      c.finish.result.bad c.finish.result.stopped c.finish.result.fault c.rows.invariant
+      (closes.rows ∙ ap (λ (s : Sending). s.sent) w.in-Failed.ensures) c.finish.ensures.accepted
+      (λ going fine rest left still. cc (told, c.finish.ensures.fault, fine)))
+]

@@ -13,7 +13,7 @@ returns-then-len-lt4-clause-done c =
     let fields = fields_of c.args.fields.now in
     not_done (column_after schema (drop 1 fields)) schema (too_few schema fields (omega (arith, c.len.ensures, c.if-len-lt4.true)))
 
--- neither an offset nor nothing behind the sizes
+-- neither an offset nor nothing after the sizes
 pub returns-in_default-clause-done : goal.returns-in_default-clause-done
 returns-in_default-clause-done c =
     let schema = c.args.schema.now in
@@ -27,7 +27,7 @@ returns-in_default-from_utf8-clause-done c =
     let schema = c.args.schema.now in
     let fields = fields_of c.args.fields.now in
     let four : 4 ≤ length fields = omega (arith, c.len.ensures, c.if-len-lt4.false) in
-    not_done (column_after schema (drop 1 fields)) schema (unnamed schema fields four c.lend.result.now c.lend.ensures c.in_default-from_utf8.ensures.cases.0)
+    not_done (column_after schema (drop 1 fields)) schema (unnamed schema fields four c.field.result.now (sym c.field.ensures.value) c.in_default-from_utf8.ensures.cases.0)
 
 -- there is no such form
 pub returns-in_default-2-clause-done : goal.returns-in_default-2-clause-done
@@ -35,19 +35,19 @@ returns-in_default-2-clause-done c =
     let schema = c.args.schema.now in
     let fields = fields_of c.args.fields.now in
     let four : 4 ≤ length fields = omega (arith, c.len.ensures, c.if-len-lt4.false) in
-    let none : form_in c.lend-2.result.now c.lend-3.result.now ≡ None = sym c.in_ok-spec.ensures ∙ ap (option_and_then form_had) c.in_default-2.is in
+    let none : form_in c.field-2.result.now c.field-3.result.now ≡ None = sym c.in_ok-spec.ensures ∙ ap (option_and_then form_had) c.in_default-2.is in
     not_done (column_after schema (drop 1 fields)) schema
-    (formless schema fields four c.lend.result.now c.lend.ensures c.lend-2.result.now c.lend-3.result.now c.lend-2.ensures c.lend-3.ensures none)
+    (formless schema fields four c.field.result.now (sym c.field.ensures.value) c.field-2.result.now c.field-3.result.now (sym c.field-2.ensures.value) (sym c.field-3.ensures.value) none)
 
 pub returns-clause-done : goal.returns-clause-done
 returns-clause-done c =
     let schema = c.args.schema.now in
     let fields = fields_of c.args.fields.now in
     let four : 4 ≤ length fields = omega (arith, c.len.ensures, c.if-len-lt4.false) in
-    let had : form_had c.in-Some-2.spec ≡ form_in c.lend-2.result.now c.lend-3.result.now = ap (option_and_then form_had) (sym c.in-Some-2.is) ∙ c.in_ok-spec.ensures in
+    let had : form_had c.in-Some-2.spec ≡ form_in c.field-2.result.now c.field-3.result.now = ap (option_and_then form_had) (sym c.in-Some-2.is) ∙ c.in_ok-spec.ensures in
     let given : given_offset (drop 4 fields) ≡ Some c.in-Some.offset = sym c.read_given_offset.ensures ∙ c.in-Some.is in
-    let name : c.in-Ok.name.now ≡ c.lend.result.now = search (rules, c.in-Ok.ensures.cases) in
+    let name : c.in-Ok.name.now ≡ c.field.result.now = search (rules, c.in-Ok.ensures.cases) in
     let whole : column_after schema (drop 1 fields) ≡ added_after schema c.in-Ok.name.now c.in-Some-2.spec c.in-Some.offset =
-    column_is schema fields four c.lend.result.now c.lend.ensures c.lend-2.result.now c.lend-3.result.now c.lend-2.ensures c.lend-3.ensures c.in-Some-2.spec c.in-Some.offset had given
+    column_is schema fields four c.field.result.now (sym c.field.ensures.value) c.field-2.result.now c.field-3.result.now (sym c.field-2.ensures.value) (sym c.field-3.ensures.value) c.in-Some-2.spec c.in-Some.offset had given
     ∙ ap (λ n. added_after schema n c.in-Some-2.spec c.in-Some.offset) (sym name) in
     IfOk-weaker c.add.result _ _ (λ b change. subst (λ after. IsChange after schema c.add.new.schema b) (sym whole) change) c.add.ensures.done

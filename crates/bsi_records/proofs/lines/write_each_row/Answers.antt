@@ -10,5 +10,8 @@ rows-preserved c = record {
 }
 
 -- all rows were written
-pub returns-clause-ok : goal.returns-clause-ok
-returns-clause-ok c = rows_all c.args.rows.now c.rows.row-index c.args.line.now.items c.rows.line.items (omega arith) c.rows.invariant.written
+pub returns : goal.returns
+returns c = record {
+  ok = rows_all c.args.rows.now c.rows.row-index c.args.line.now.items c.rows.line.items (omega arith) c.rows.invariant.written;
+  begins = c.rows.invariant.begins;
+}

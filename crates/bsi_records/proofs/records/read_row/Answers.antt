@@ -2,7 +2,6 @@ use Rattle.std.proofs.Common.{◌≡◌, ◌+◌, ◌∷◌, [], Some, None, get
 use Rattle.std.proofs.lemmas.List.{length-append}
 use Rattle.csv.specs.Records.{fields_of}
 use Rattle.bsi_records.specs.Numbers.{value_in, values_in}
-use Rattle.bsi_records.proofs.Fields.{field_is}
 use Rattle.bsi_records.proofs.Values.{behind, values_next, values_stop, values_done}
 use Rattle.bsi_records.proofs.records.read_row.Goals as goal
 
@@ -12,7 +11,7 @@ returns-in_default c =
     let signed = c.args.schema.now.signed in
     let fields = fields_of c.args.fields.now in
     let this : value_in signed (get_or fields c.values.place []) ≡ None =
-    ap (value_in signed) (field_is fields c.values.place c.lend.result.now c.lend.ensures) ∙ ap (λ s. value_in s c.lend.result.now) (sym c.signed-signed.ensures)
+    ap (value_in signed) (sym c.field.ensures.value) ∙ ap (λ s. value_in s c.field.result.now) (sym c.signed-signed.ensures)
     ∙ sym c.read_value.ensures ∙ c.in_default.is in
     values_stop signed (values_in signed (drop c.args.from fields)) fields c.values.place c.values.values.items c.values.invariant.read (omega arith) this
 
@@ -21,7 +20,7 @@ values-preserved c =
     let signed = c.args.schema.now.signed in
     let fields = fields_of c.args.fields.now in
     let this : value_in signed (get_or fields c.values.place []) ≡ Some c.in-Some.value =
-    ap (value_in signed) (field_is fields c.values.place c.lend.result.now c.lend.ensures) ∙ ap (λ s. value_in s c.lend.result.now) (sym c.signed-signed.ensures)
+    ap (value_in signed) (sym c.field.ensures.value) ∙ ap (λ s. value_in s c.field.result.now) (sym c.signed-signed.ensures)
     ∙ sym c.read_value.ensures ∙ c.in-Some.is in
     record {
       read = values_next signed (values_in signed (drop c.args.from fields)) fields c.values.place c.values.values.items c.values.invariant.read c.in-Some.value (omega arith) this

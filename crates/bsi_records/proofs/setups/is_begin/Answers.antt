@@ -7,4 +7,4 @@ use Rattle.bsi_records.proofs.setups.is_begin.Goals as goal
 pub returns-then-len-eq1 : goal.returns-then-len-eq1
 returns-then-len-eq1 c =
     let one : length (fields_of c.args.fields.now) ≡ 1 = sym c.len.ensures ∙ c.if-len-eq1.true in
-    rw (last_field (fields_of c.args.fields.now) 0 c.lend.result.now c.lend.ensures (omega (arith, one)), ← c.as_slice.ensures) c.eq.ensures
+    rw (last_field (fields_of c.args.fields.now) 0 c.field.result.now (c.field.ensures.there (omega (arith, one))) (omega (arith, one)), ← c.as_slice.ensures) c.eq.ensures

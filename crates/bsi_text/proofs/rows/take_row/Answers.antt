@@ -21,7 +21,7 @@ returns-then-not-branch-clause-given g c =
 
 pub returns-in_err-make_room-clause-stopped : goal.returns-in_err-make_room-clause-stopped
 returns-in_err-make_room-clause-stopped g c =
-    memory_fails g.R.Read.remaining c.args.layout.now c.args.input.now c.args.input.now (tally_of c.args.passed.now c.args.bad.now) (tally_of c.args.passed.now c.args.bad.now)
+    memory_fails g.R.Read.remaining c.args.layout.now c.args.input.now c.args.input.now (tally_of c.args.taken.now c.args.bad.now) (tally_of c.args.taken.now c.args.bad.now)
     (record { taken = taken_none _ _ _ _; plain = c.requires.plain; tally = c.requires.tally }) c.from_residual.result c.from_residual.ensures.1
 
 pub returns-in_err-good-clause-stopped : goal.returns-in_err-good-clause-stopped

@@ -6,7 +6,7 @@ use Rattle.bsi_text.proofs.rows.take_row.Given as goal
 -- all records so far were bad
 abbrev pub invariant-records : goal.invariant-records
 invariant-records g l =
-    AreTaken (g.R.Read.remaining) l.fn.layout l.initial.input l.input (tally_of l.initial.passed l.initial.bad) (tally_of l.passed l.bad)
+    AreTaken (g.R.Read.remaining) l.fn.layout l.initial.input l.input (tally_of l.initial.taken l.initial.bad) (tally_of l.taken l.bad)
 
 abbrev pub decreases-records : goal.decreases-records
-decreases-records g l = 1000000 - l.passed
+decreases-records g l = 1000000 - l.taken

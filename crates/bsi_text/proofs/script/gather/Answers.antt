@@ -18,7 +18,7 @@ returns-in_err-write_waiting-clause-part g c =
     subst (λ text. IsCut (g.W.Write.contents c.args.writer.now) (g.W.Write.contents c.write_waiting.new.writer) text) same c.in_err-write_waiting.ensures.part in
     on_err c.from_residual.result (cut_front _ _ c.args.waiting.now.items c.args.line.now part)
 
--- what waited was written, and the line behind it
+-- what waited was written, and the line after it
 pub returns-clause-ok : goal.returns-clause-ok
 returns-clause-ok g c =
     let same : c.else-not-many.waiting.items ≡ c.args.waiting.now.items = elim c.else-not-many.branch [

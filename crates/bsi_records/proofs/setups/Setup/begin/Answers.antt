@@ -7,14 +7,15 @@ use Rattle.bsi_records.proofs.Machines.{sizes_taken}
 use Rattle.bsi_records.proofs.setups.Setup.begin.Goals as goal
 
 -- the sizes are in range
-pub only_memory-requires : goal.only_memory-requires
-only_memory-requires c =
+pub map_err-requires : goal.map_err-requires
+map_err-requires c = λ refused is.
     let schema = c.self.inside.schema in
     let capacities = c.self.inside.capacities.items in
     let limit = c.self.inside.limit in
     let columns : 0 < length schema.columns = omega (arith, c.columns.ensures.columns, c.if-columns-eq0.false) in
     let feeders : 0 < length capacities = grind (arith, nat_tests, c.if-is_empty.ensures) in
     let none : sizes_refusal schema capacities limit ≡ None = sizes_taken schema capacities limit c.self.invariant columns feeders in
-    let first : IsFirstOr NoMemory (sizes_refusal schema capacities limit) c.in-Err.refused =
-    search (rules, c.in-Err.ensures.refused, c.replace-schema.ensures.value, c.replace-capacities.ensures.value) in
-    subst (λ o. IsFirstOr NoMemory o c.in-Err.refused) none first
+    let told = rw is at c.new-3.ensures.refused in
+    let first : IsFirstOr NoMemory (sizes_refusal schema capacities limit) refused =
+    search (rules, told, c.replace-schema.ensures.value, c.replace-capacities.ensures.value) in
+    subst (λ o. IsFirstOr NoMemory o refused) none first

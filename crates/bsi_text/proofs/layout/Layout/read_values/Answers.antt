@@ -13,12 +13,12 @@ returns-in_default c =
     let order = ordered inside.schema (fields_of inside.header) fields c.deref-place-items.result.now places
     ∙ ap (λ l. in_order l.schema l.header fields) c.self.view_is in
     let signed = c.signed-signed.ensures ∙ ap (λ l. l.schema.signed) c.self.view_is in
-    let missing = ap (value_in c.signed-signed.result) (sym c.field.ensures) ∙ sym c.read_value.ensures ∙ c.in_default.is in
+    let missing = ap (value_in c.signed-signed.result) (sym c.field.ensures.value) ∙ sym c.read_value.ensures ∙ c.in_default.is in
     value_stop _ _ _ _ _ c.places.invariant c.places-test.true missing ∙ ap₂ values_in signed order
 
 pub places-preserved : goal.places-preserved
 places-preserved c =
-    let this = ap (value_in c.signed-signed.result) (sym c.field.ensures) ∙ sym c.read_value.ensures ∙ c.in-Some.is in
+    let this = ap (value_in c.signed-signed.result) (sym c.field.ensures.value) ∙ sym c.read_value.ensures ∙ c.in-Some.is in
     let items : c.push.new.self.items ≡ c.places.values.items ++ c.in-Some.value ∷ [] = search rules in
     subst (IsRead c.signed-signed.result (fields_of c.args.fields.now) c.deref-place-items.result.now (c.places.place-index + 1))
     (sym items)

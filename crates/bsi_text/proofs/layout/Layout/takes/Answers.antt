@@ -14,8 +14,8 @@ returns-then-values-len c =
     misfit-length columns c.args.row.now
     (λ same. c.if-values-len.true (omega (arith, ap length c.values-values.ensures, same, long, c.len.ensures)))
 
-pub returns-then-not-take : goal.returns-then-not-take
-returns-then-not-take c =
+pub returns-then-not-takes : goal.returns-then-not-takes
+returns-then-not-takes c =
     let columns = c.args.self.now.schema.columns in
     let at = c.columns.c in
     let entry = get_or c.values-values.result.now at None in
@@ -25,7 +25,7 @@ returns-then-not-take c =
     let limit = ap (λ l. is_between l.least l.size entry) c.index.ensures ∙ limits_at columns c.self.inside.limits.items are at c.index.result.now entry within in
     misfit-at columns c.args.row.now at within
     (ap (λ row. is_taken_by (column_at columns at) (entry_at row at)) (sym c.values-values.ensures)
-    ∙ sym limit ∙ sym c.take.ensures ∙ c.if-not-take.true)
+    ∙ sym limit ∙ sym c.takes.ensures ∙ c.if-not-takes.true)
 
 pub columns-preserved : goal.columns-preserved
 columns-preserved c =
@@ -38,7 +38,7 @@ columns-preserved c =
     let limit = ap (λ l. is_between l.least l.size entry) c.index.ensures ∙ limits_at columns c.self.inside.limits.items are at c.index.result.now entry within in
     below_more _ _ c.columns.invariant
     (ap (λ row. is_taken_by (column_at columns at) (entry_at row at)) (sym c.values-values.ensures)
-    ∙ sym limit ∙ sym c.take.ensures ∙ c.if-not-take.false)
+    ∙ sym limit ∙ sym c.takes.ensures ∙ c.if-not-takes.false)
 
 pub returns : goal.returns
 returns c =

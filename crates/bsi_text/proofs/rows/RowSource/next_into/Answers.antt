@@ -1,8 +1,7 @@
-use Rattle.std.proofs.Common.{rules, ◌≡◌, Some, None, Ok, if◌then◌else◌, IfOk, refl, subst}
+use Rattle.std.proofs.Common.{IfOk, refl, subst}
 use Rattle.bsi_text.specs.RowFiles.{given}
 use Rattle.bsi_text.specs.Sources.{tally_of, GivesFirst, Source}
 use Rattle.bsi_text.proofs.Left.{fills_first}
-use Rattle.bsi_text.proofs.rows.RowSource.next_into.Goals.{in-Ok-true, in-Ok-false, in-Err}
 use Rattle.bsi_text.proofs.rows.RowSource.next_into.Goals as goal
 
 -- the row is the first of those that were left, since all records before it were bad
@@ -11,13 +10,8 @@ returns-clause-first g c =
     let i = c.self.inside in
     let found = c.take_row-found.result in
     let new = c.take_row-found.new in
-    let goes : IfOk found (λ given. c.match-found.self ≡ (if given then None else Some (Ok tt))) = elim c.match-found.branch [
-      | in-Ok-true w ↦ search rules
-      | in-Ok-false w ↦ search rules
-      | in-Err w ↦ search rules
-    ] in
-    let view : Source g.row.R.Denot = record { layout = i.layout; input = i.input; tally = tally_of i.passed i.bad; end = i.end } in
-    let after : Source g.row.R.Denot = record { layout = i.layout; input = new.input; tally = tally_of new.passed new.bad; end = c.match-found.self } in
+    let view : Source g.row.R.Denot = record { layout = i.layout; input = i.input; tally = tally_of i.taken i.bad; end = i.end } in
+    let after : Source g.row.R.Denot = record { layout = i.layout; input = new.input; tally = tally_of new.taken new.bad; end = c.end_after-self-inside.result } in
     let has = c.take_row-found.ensures.given in
     subst (λ (old : Source g.row.R.Denot). IfOk found (λ is. GivesFirst g.R.Read.remaining old after (given is new.row))) c.self.view_is
-    (fills_first g.R.Read.remaining i.layout view after found new.row refl c.in-None.is refl goes has)
+    (fills_first g.R.Read.remaining i.layout view after found new.row refl c.in_default.is refl c.end_after-self-inside.ensures.found has)

@@ -1,7 +1,7 @@
 use Rattle.std.proofs.Common.{◌≡◌, ◌+◌, drop}
 use Rattle.csv.specs.Records.{fields_of}
 use Rattle.bsi_text.specs.RowFiles.{place_of}
-use Rattle.bsi_text.proofs.layout.count_before.Given as goal
+use Rattle.bsi_text.proofs.layout.place_of.Given as goal
 
 -- no field so far is the name
 abbrev pub invariant-fields : goal.invariant-fields
