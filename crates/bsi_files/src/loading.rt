@@ -1,7 +1,7 @@
 //! The loader's part of a run: beside the feeders, and for what is left when they have ended.
 
 ghost use Rattle.std.specs.Prelude.{◌≡◌, All, IfErr, IfSome, true};
-ghost use Rattle.bsi_system.specs.Running.{IsOf};
+ghost use Rattle.bsi_system.specs.Running.{IsClosingOf};
 ghost use Rattle.bsi_files.specs.Faults.{is_early};
 
 use crate::headers::file_number;
@@ -120,7 +120,7 @@ pub(crate) fn load_all<B: Naming, R: Wait>(
     ends: Vec<FeedEnd>,
     fed: &mut Vec<Fed>,
 ) -> Result<(), FilesFault>
-    requires { All (λ end. IfSome end.closing (λ closing. IsOf closing loader.old.system))
+    requires { All (λ end. IfSome end.closing (λ closing. IsClosingOf closing loader.old.system))
         ends.items }
     ensures system { loader.new.system ≡ loader.old.system }
     ensures early { IfErr result (λ fault. is_early fault ≡ true) }
@@ -139,7 +139,7 @@ fn load_end<B: Naming, R: Wait>(
     loader: &mut Loader<B>,
     end: FeedEnd,
 ) -> Result<Fed, FilesFault>
-    requires { IfSome end.closing (λ closing. IsOf closing loader.old.system) }
+    requires { IfSome end.closing (λ closing. IsClosingOf closing loader.old.system) }
     ensures system { loader.new.system ≡ loader.old.system }
     ensures early { IfErr result (λ fault. is_early fault ≡ true) }
 {
@@ -168,7 +168,7 @@ fn settle<B: Naming, R: Wait>(
     loader: &mut Loader<B>,
     closing: Closing,
 ) -> Result<(), FilesFault>
-    requires { IsOf closing loader.old.system }
+    requires { IsClosingOf closing loader.old.system }
     ensures system { loader.new.system ≡ loader.old.system }
     ensures early { IfErr result (λ fault. is_early fault ≡ true) }
 {

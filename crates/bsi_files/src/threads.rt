@@ -1,7 +1,7 @@
 //! The feeders' threads: one for each file, started with the promise that its closing keeps.
 
 ghost use Rattle.std.specs.Prelude.{◌≡◌, All, IfSome};
-ghost use Rattle.bsi_system.specs.Running.{IsFeederOf, IsOf};
+ghost use Rattle.bsi_system.specs.Running.{IsClosingOf, IsFeederOf};
 
 use crate::{FeedEnd, Gate, NoMemory, feed};
 use bsi_system::{Feeder, Loader, Naming};
@@ -142,9 +142,9 @@ pub(crate) fn join_all<B: Naming, R: Threads>(
 ) -> Result<(), NoMemory>
     requires own { All (λ thread. IsFeederOf thread.promise.0.value loader.now.system)
         threads.items }
-    requires before { All (λ end. IfSome end.closing (λ closing. IsOf closing loader.now.system))
+    requires before { All (λ end. IfSome end.closing (λ closing. IsClosingOf closing loader.now.system))
         ends.old.items }
-    ensures { All (λ end. IfSome end.closing (λ closing. IsOf closing loader.now.system))
+    ensures { All (λ end. IfSome end.closing (λ closing. IsClosingOf closing loader.now.system))
         ends.new.items }
 {
     'threads: for thread in threads {
@@ -157,7 +157,7 @@ pub(crate) fn join_all<B: Naming, R: Threads>(
 /// Joins a feeder's thread. `_loader` is there for the clauses, which name its system.
 fn join_one<B: Naming, R: Threads>(rt: &R, _loader: &Loader<B>, thread: Thread) -> FeedEnd
     requires { IsFeederOf thread.promise.0.value _loader.now.system }
-    ensures { IfSome result.closing (λ closing. IsOf closing _loader.now.system) }
+    ensures { IfSome result.closing (λ closing. IsClosingOf closing _loader.now.system) }
 {
     thread.join(rt)
 }

@@ -115,8 +115,8 @@ abbrev pub IsLaneOf : ℕ → LaneName → System → Type 0
 IsLaneOf number lane system = slice_get system.lanes number ≡ Some lane
 
 -- a closing of a feeder of this system
-abbrev pub IsOf : Sent → System → Type 0
-IsOf closing system = IsLaneOf closing.number closing.lane system
+abbrev pub IsClosingOf : Sent → System → Type 0
+IsClosingOf closing system = IsLaneOf closing.number closing.lane system
 
 -- a feeder of this system
 abbrev pub IsFeederOf : Sending → System → Type 0

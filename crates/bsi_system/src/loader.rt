@@ -1,7 +1,7 @@
 //! The loader: it takes rows out of the feeders' rings, holds them, and publishes them.
 
 ghost use Rattle.std.specs.Prelude.{◌≡◌, ◌≢◌, ◌+◌, ◌≤◌, IfErr, IfOk, OnErr, OnOk, length};
-ghost use Rattle.bsi_system.specs.Running.{published_all, settled_as, AlwaysHolds, IsLoaderReply, IsOf, LoadsOne};
+ghost use Rattle.bsi_system.specs.Running.{published_all, settled_as, AlwaysHolds, IsClosingOf, IsLoaderReply, LoadsOne};
 
 use crate::NoMemory;
 use crate::lanes::{first_of, settle_of, take_of};
@@ -70,7 +70,7 @@ impl<B: Naming> Loader<B> {
     /// Learns from a feeder's closing what the feeder sent. From then on each of those rows can be loaded, and once all
     /// are loaded, a load from this feeder is refused for good. It takes no row, allocates no memory and never waits.
     pub fn settle(&mut self, feeder: u32, closing: Closing) -> Result<(), SettleRefused>
-        requires { IsOf closing self.old.system }
+        requires { IsClosingOf closing self.old.system }
         ensures ok { OnOk result ((closing.number ≡ feeder)
             × (self.new ≡ settled_as self.old feeder closing.rows)) }
         ensures wrong { IfErr result (λ e. (e ≡ SettleRefused.WrongClosing closing)
@@ -91,7 +91,7 @@ impl<B: Naming> Loader<B> {
     /// Learns of a closing that is this feeder's. It is a call of its own, so that `settle` can then show what always
     /// holds.
     fn settle_lane(&mut self, feeder: u32, closing: Closing)
-        requires closing { IsOf closing self.old.system }
+        requires closing { IsClosingOf closing self.old.system }
         requires feeder { closing.number ≡ feeder }
         ensures { self.new ≡ settled_as self.old feeder closing.rows }
     {

@@ -2,7 +2,7 @@
 
 ghost use Rattle.std.specs.Prelude.{◌≡◌, [], All, length};
 ghost use Rattle.bsi_table.specs.Table.{no_rows};
-ghost use Rattle.bsi_system.specs.Running.{IsFeederOf, IsOf};
+ghost use Rattle.bsi_system.specs.Running.{IsFeederOf, IsClosingOf};
 
 use crate::calls::{load, opened, publish, quantities, row};
 use bsi_system::{
@@ -58,7 +58,7 @@ fn load_to_the_limit<B: Naming, R: Abort>(rt: &R, loader: &mut Loader<B>)
 
 /// Tells a closing as another feeder's, gets it back, and then tells it as what it is.
 fn settle_as_both<B: Naming, R: Abort>(rt: &R, loader: &mut Loader<B>, closing: Closing)
-    requires { IsOf closing loader.old.system }
+    requires { IsClosingOf closing loader.old.system }
     ensures { loader.new.system ≡ loader.old.system }
 {
     let back = match loader.settle(0, closing) {
