@@ -11,8 +11,8 @@ const MAX_YIELDS: u32 = 16;
 /// How long a thread sleeps each time, in microseconds.
 const SLEEP_MICROS: u64 = 100;
 
-/// How long one thread has waited since it last had something to do. Its calls have no clauses, because nothing is proved
-/// of how long a thread waits.
+/// How long one thread has waited since it last had something to do. Its calls have no clauses, because nothing is
+/// proved of how long a thread waits.
 #[derive(Clone, Copy)]
 pub(crate) struct Pause {
     yields: u32,

@@ -142,7 +142,8 @@ pub(crate) fn join_all<B: Naming, R: Threads>(
 ) -> Result<(), NoMemory>
     requires own { All (λ thread. IsFeederOf thread.promise.0.value loader.now.system)
         threads.items }
-    requires before { All (λ end. IfSome end.closing (λ closing. IsClosingOf closing loader.now.system))
+    requires before { All
+        (λ end. IfSome end.closing (λ closing. IsClosingOf closing loader.now.system))
         ends.old.items }
     ensures { All (λ end. IfSome end.closing (λ closing. IsClosingOf closing loader.now.system))
         ends.new.items }

@@ -59,8 +59,8 @@ fn add_once(alloc: Global, schema: &mut Schema, column: Declared) -> Result<(), 
     }
 }
 
-/// Adds a column to the schema, which stays where the column is refused. Where memory is refused, it makes the same call
-/// again.
+/// Adds a column to the schema, which stays where the column is refused. Where memory is refused, it makes the same
+/// call again.
 pub fn add(alloc: Global, schema: &mut Schema, column: Declared) -> Result<(), SchemaError>
     ensures added { OnOk result (schema.new
         ≡ with_column schema.old (as_column column.entry) (has_offset column.entry)) }

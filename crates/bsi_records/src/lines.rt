@@ -129,7 +129,8 @@ fn write_word<I: Integer>(word: &[u8], number: I, line: &mut Vec<u8>) -> Result<
 
 /// Appends a word and a number, and the line feed.
 fn write_number<I: Integer>(word: &[u8], number: I, line: &mut Vec<u8>) -> Result<(), NoMemory>
-    ensures { IsAppended line.old.items line.new.items (word.now ++ I.text number ++ codes "\n") result }
+    ensures { IsAppended line.old.items line.new.items
+        (word.now ++ I.text number ++ codes "\n") result }
 {
     write_word(word, number, line)?;
     line.extend_from_slice(b"\n")
@@ -137,7 +138,8 @@ fn write_number<I: Integer>(word: &[u8], number: I, line: &mut Vec<u8>) -> Resul
 
 /// Appends the line of a selection.
 fn write_rows(rows: &[(u32, u64)], line: &mut Vec<u8>) -> Result<(), NoMemory>
-    ensures { IsAppended line.old.items line.new.items (codes "rows" ++ rows_text rows.now ++ codes "\n") result }
+    ensures { IsAppended line.old.items line.new.items
+        (codes "rows" ++ rows_text rows.now ++ codes "\n") result }
 {
     line.extend_from_slice(b"rows")?;
     write_each_row(rows, line)?;
@@ -156,7 +158,8 @@ fn write_each_row(rows: &[(u32, u64)], line: &mut Vec<u8>) -> Result<(), NoMemor
 
 /// Appends a space, a row's feeder and the row's number among that feeder's rows.
 fn write_row(feeder: u32, number: u64, line: &mut Vec<u8>) -> Result<(), NoMemory>
-    ensures { IsAppended line.old.items line.new.items (codes " " ++ decimal feeder ++ codes ":" ++ decimal number) result }
+    ensures { IsAppended line.old.items line.new.items
+        (codes " " ++ decimal feeder ++ codes ":" ++ decimal number) result }
 {
     write_word(b" ", feeder, line)?;
     write_word(b":", number, line)

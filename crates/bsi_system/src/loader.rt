@@ -51,8 +51,8 @@ impl<B: Naming> Loader<B> {
         loaded
     }
 
-    /// Takes the next row out of a feeder's ring, and holds it. If it is refused, the row stays in the ring. It is a call
-    /// of its own, so that `load` can then show what always holds.
+    /// Takes the next row out of a feeder's ring, and holds it. If it is refused, the row stays in the ring. It is a
+    /// call of its own, so that `load` can then show what always holds.
     fn load_row(&mut self, feeder: u32) -> Result<(), LoadRefused>
         ensures reply { IsLoaderReply self.old feeder result }
         ensures loaded { OnOk result (LoadsOne self.old feeder self.new) }

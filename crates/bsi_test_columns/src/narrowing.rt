@@ -28,8 +28,8 @@ const BEFORE: u64 = 0xF0F0_FFFF_3333_7777;
 /// Constants of which the last is past the size.
 const CONSTANTS: [u64; 4] = [0, 3, 7, 40];
 
-// Returns whether a comparison holds. It has no contract on purpose: were it proved from the definition by which columns
-// select, these tests would show nothing of that definition.
+// Returns whether a comparison holds. It has no contract on purpose: were it proved from the definition by which
+// columns select, these tests would show nothing of that definition.
 fn compares(op: Op, number: u64, constant: u64) -> bool {
     match op {
         Op::Eq => number == constant,
@@ -44,7 +44,7 @@ fn compares(op: Op, number: u64, constant: u64) -> bool {
 // Whether a block of so many words from there on is one of the column's.
 fn is_within<C: Column>(column: &C, at: usize, words: usize) -> bool
     ensures few { IsTrue result → words ≤ 1024 }
-    ensures within { IsTrue result → at + words ≤ (length (C.entries column.now) + 63) / 64 }
+    ensures within { IsTrue result → at + words ≤ word_count (length (C.entries column.now)) }
 {
     if at > 3 || words > 3 {
         return false;

@@ -203,8 +203,8 @@ fn write_waiting<W: Write>(waiting: &mut Vec<u8>, writer: &mut W) -> Result<(), 
     written
 }
 
-/// Writes all bytes. After a fault, what went out is a first part of them. It is not `write_all`, which does not promise
-/// what a fault leaves.
+/// Writes all bytes. After a fault, what went out is a first part of them. It is not `write_all`, which does not
+/// promise what a fault leaves.
 fn write_bytes<W: Write>(writer: &mut W, bytes: &[u8]) -> Result<(), ScriptFault>
     ensures ok { OnOk result (Appends (W.contents writer.old) (W.contents writer.new) bytes.now) }
     ensures part { OnErr result (IsCut (W.contents writer.old) (W.contents writer.new) bytes.now) }

@@ -75,7 +75,8 @@ fn narrow_into<E: Encoding>(
     requires same_part { length (E.digits component.now) ≡ length part.old.bits }
     requires same { length (E.digits component.now) ≡ length found.old.bits }
     ensures found { found.new.bits
-        ≡ zip2 (λ low v. relates_from relation low v digit) found.old.bits (E.digits component.now) }
+        ≡ zip2 (λ low v. relates_from relation low v digit) found.old.bits
+        (E.digits component.now) }
     ensures part { length part.new.bits ≡ length part.old.bits }
 {
     match relation {
