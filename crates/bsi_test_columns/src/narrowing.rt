@@ -1,7 +1,8 @@
 //! Blocks of words in which a comparison keeps rows, or their nulls. Each test tolerates one refused allocation, and
 //! then makes the same call again.
 
-ghost use Rattle.std.specs.Prelude.{◌≤◌, ◌<◌, ◌+◌, ◌/◌, length, IsTrue};
+ghost use Rattle.std.specs.Prelude.{◌≤◌, ◌<◌, ◌+◌, length, IsTrue};
+ghost use Rattle.bsi_bits.specs.BitList.{word_count};
 
 use crate::comparisons::OPERATORS;
 use bsi_columns::{AnyColumn, Column, Decomposed, NoMemory, Op, RangeComponent};
