@@ -6,7 +6,7 @@ use Rattle.bsi_schema.specs.declared.form.Form.TheVariants.{Slices as stored_sli
 use Rattle.bsi_schema.specs.Columns.{named_column, NamedColumn}
 use Rattle.bsi_table.specs.declared.query.Pred.{Pred}
 use Rattle.bsi_table.specs.Rows.{holds, Entries}
-use Rattle.bsi_plain_tables.specs.declared.making.Declared.{Declared}
+use Rattle.bsi_plain_tables.specs.declared.making.DeclaredColumn.{DeclaredColumn}
 use Rattle.bsi_plain.specs.declared.making.Form.{Form}
 use Rattle.bsi_plain.specs.declared.making.Form.TheVariants.{Slices, Equality, Range}
 use Rattle.bsi_plain.specs.declared.making.Wide.{Wide}
@@ -18,11 +18,11 @@ stored_form Equality wide = stored_equality (reverse wide.bases.now)
 stored_form Range wide = stored_range (reverse wide.bases.now)
 
 -- the column as its schema declares it
-abbrev pub as_column : Declared → NamedColumn
+abbrev pub as_column : DeclaredColumn → NamedColumn
 as_column column = named_column column.name.now (stored_form column.form column.wide) column.offset
 
 -- it takes numbers from another one than 0 up
-abbrev pub has_offset : Declared → Bool
+abbrev pub has_offset : DeclaredColumn → Bool
 has_offset column = not (int_eq column.offset (pos 0))
 
 -- one predicate holds where the other does not

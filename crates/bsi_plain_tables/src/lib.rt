@@ -5,5 +5,5 @@ mod making;
 mod table;
 
 pub use bsi_plain::{FORMS, Form, Wide};
-pub use making::{Declared, QTY, add, both, either, not, row_of, schema_of};
+pub use making::{DeclaredColumn, QTY, add, both, either, not, row_of, schema_of};
 pub use table::PlainTable;

@@ -12,7 +12,7 @@ use std::alloc::Global;
 
 /// A column that is declared: its name, its form, and the least number that it takes.
 #[derive(Clone, Copy)]
-pub struct Declared<'a> {
+pub struct DeclaredColumn<'a> {
     /// The name.
     pub name: &'a str,
     /// The form.
@@ -24,7 +24,7 @@ pub struct Declared<'a> {
 }
 
 /// A column of three slices, for the numbers below 8.
-pub const QTY: Declared<'static> = Declared {
+pub const QTY: DeclaredColumn<'static> = DeclaredColumn {
     name: "qty",
     form: Form::Slices,
     wide: Wide {
@@ -46,7 +46,7 @@ fn spec(alloc: Global, form: Form, wide: Wide) -> Result<ColumnSpec, NoMemory>
 }
 
 /// Adds a column to the schema, in one call.
-fn add_once(alloc: Global, schema: &mut Schema, column: Declared) -> Result<(), SchemaError>
+fn add_once(alloc: Global, schema: &mut Schema, column: DeclaredColumn) -> Result<(), SchemaError>
     ensures added { OnOk result (schema.new
         ≡ with_column schema.old (as_column column.entry) (has_offset column.entry)) }
     ensures kept { OnErr result (schema.new ≡ schema.old) }
@@ -61,7 +61,7 @@ fn add_once(alloc: Global, schema: &mut Schema, column: Declared) -> Result<(), 
 
 /// Adds a column to the schema, which stays where the column is refused. Where memory is refused, it makes the same
 /// call again.
-pub fn add(alloc: Global, schema: &mut Schema, column: Declared) -> Result<(), SchemaError>
+pub fn add(alloc: Global, schema: &mut Schema, column: DeclaredColumn) -> Result<(), SchemaError>
     ensures added { OnOk result (schema.new
         ≡ with_column schema.old (as_column column.entry) (has_offset column.entry)) }
     ensures kept { OnErr result (schema.new ≡ schema.old) }
@@ -73,7 +73,7 @@ pub fn add(alloc: Global, schema: &mut Schema, column: Declared) -> Result<(), S
 }
 
 /// Makes a schema of these columns.
-pub fn schema_of(alloc: Global, columns: &[Declared]) -> Result<Schema, SchemaError>
+pub fn schema_of(alloc: Global, columns: &[DeclaredColumn]) -> Result<Schema, SchemaError>
     ensures columns { IfOk result (λ schema. schema.columns ≡ map as_column columns.now) }
     ensures signed { IfOk result (λ schema. schema.signed ≡ list_any has_offset columns.now) }
 {

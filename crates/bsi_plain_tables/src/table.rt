@@ -2,7 +2,7 @@
 
 ghost use Rattle.std.specs.Prelude.{◌≡◌, []};
 
-use bsi_columns::{NoMemory, Op};
+use bsi_columns::{NoMemory, Op, Rank};
 use bsi_table::{Answer, Pred, Query, Row, Total};
 use std::alloc::Global;
 
@@ -13,10 +13,12 @@ pub struct PlainTable {
     pub rows: Vec<(u32, Row)>,
 }
 
+/// Returns the entry of column `c`.
 fn entry_at(row: &Row, c: u32) -> Option<i128> {
     row.values().get(c as usize).copied().flatten()
 }
 
+/// Returns whether the comparison holds.
 fn compares(op: Op, number: i128, constant: i128) -> bool {
     match op {
         Op::Eq => number == constant,
@@ -28,13 +30,13 @@ fn compares(op: Op, number: i128, constant: i128) -> bool {
     }
 }
 
+/// Returns whether the predicate holds of the row.
 fn holds(pred: &Pred, row: &Row) -> bool {
     match pred {
         Pred::All => true,
-        Pred::Compare(c, op, constant) => match entry_at(row, *c) {
-            None => false,
-            Some(number) => compares(*op, number, *constant),
-        },
+        Pred::Compare(c, op, constant) => {
+            entry_at(row, *c).is_some_and(|number| compares(*op, number, *constant))
+        }
         Pred::Null(c) => entry_at(row, *c).is_none(),
         Pred::Both(first, second) => holds(first, row) && holds(second, row),
         Pred::Either(first, second) => holds(first, row) || holds(second, row),
@@ -52,7 +54,7 @@ impl PlainTable {
         }
     }
 
-    // The numbers of a column in the selected rows, in order of size.
+    /// Returns the numbers of a column in the selected rows, in order of size.
     fn numbers(&self, alloc: Global, c: u32, pred: &Pred) -> Result<Vec<i128>, NoMemory> {
         let mut numbers = Vec::with_capacity(alloc, self.rows.len())?;
         for (_, row) in &self.rows {
@@ -64,18 +66,19 @@ impl PlainTable {
         Ok(numbers)
     }
 
-    // The number of this rank.
+    /// Returns the number of this rank among those.
     fn ranked(&self, alloc: Global, c: u32, pred: &Pred, rank: Rank) -> Result<Answer, NoMemory> {
         let numbers = self.numbers(alloc, c, pred)?;
         let place = match rank {
-            Rank::First => 0,
-            Rank::Middle => numbers.len().saturating_sub(1) / 2,
-            Rank::Last => numbers.len().saturating_sub(1),
+            Rank::Least => 0,
+            Rank::Median => numbers.len().saturating_sub(1) / 2,
+            Rank::Greatest => numbers.len().saturating_sub(1),
         };
         let found = numbers.get(place).copied();
         Ok(Answer::Value(found.and_then(|n| i64::try_from(n).ok())))
     }
 
+    /// Returns the selected rows, each by its feeder and its number among the feeder's rows.
     fn listed(&self, alloc: Global, pred: &Pred) -> Result<Answer, NoMemory> {
         let mut listed = Vec::with_capacity(alloc, self.rows.len())?;
         for (position, (feeder, row)) in self.rows.iter().enumerate() {
@@ -104,17 +107,10 @@ impl PlainTable {
                 }
                 Ok(Answer::Sum(sum))
             }
-            Total::Least(c) => self.ranked(alloc, c, pred, Rank::First),
-            Total::Median(c) => self.ranked(alloc, c, pred, Rank::Middle),
-            Total::Greatest(c) => self.ranked(alloc, c, pred, Rank::Last),
+            Total::Least(c) => self.ranked(alloc, c, pred, Rank::Least),
+            Total::Median(c) => self.ranked(alloc, c, pred, Rank::Median),
+            Total::Greatest(c) => self.ranked(alloc, c, pred, Rank::Greatest),
             Total::Rows => self.listed(alloc, pred),
         }
     }
-}
-
-#[derive(Clone, Copy)]
-enum Rank {
-    First,
-    Middle,
-    Last,
 }

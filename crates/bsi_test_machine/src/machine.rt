@@ -4,7 +4,7 @@ use bsi_columns::NoMemory;
 use bsi_load::{
     CloseRefused, Core, Event, LoadRefused, MakeError, Reply, RunRefused, SubmitRefused,
 };
-use bsi_plain_tables::{Declared, QTY, row_of, schema_of};
+use bsi_plain_tables::{DeclaredColumn, QTY, row_of, schema_of};
 use bsi_table::{Answer, AskError, IndexError, Pred, Query, Row, Total};
 use std::alloc::Global;
 use std::process::Abort;
@@ -13,7 +13,7 @@ use std::test::Fail;
 /// What a machine is made of.
 #[derive(Clone, Copy)]
 pub(crate) struct Machine<'a> {
-    pub(crate) columns: &'a [Declared<'a>],
+    pub(crate) columns: &'a [DeclaredColumn<'a>],
     pub(crate) capacities: &'a [u32],
     pub(crate) limit: u64,
 }
@@ -199,7 +199,7 @@ fn check_sizes(rt: HostRuntime) -> Result<(), Fail> {
     let no_columns = Some(MakeError::Index(IndexError::NoColumns));
     let no_limit = Some(MakeError::Index(IndexError::LimitOutOfRange));
     let second = Some(MakeError::CapacityOutOfRange(1));
-    let cases: &[(&[Declared], &[u32], u64, Option<MakeError>)] = &[
+    let cases: &[(&[DeclaredColumn], &[u32], u64, Option<MakeError>)] = &[
         (&[QTY], &[], 10, Some(MakeError::NoFeeders)),
         (&[QTY], &[4; 65], 10, Some(MakeError::TooManyFeeders)),
         (&[QTY], &[1, 0], 10, second),

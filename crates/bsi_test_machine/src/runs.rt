@@ -4,16 +4,16 @@ use crate::machine::*;
 use crate::plain::*;
 use bsi_columns::{NoMemory, Op};
 use bsi_load::{Event, Reply};
-use bsi_plain_tables::{Declared, Form, QTY, Wide, both, either, not, row_of};
+use bsi_plain_tables::{DeclaredColumn, Form, QTY, Wide, both, either, not, row_of};
 use bsi_table::{Pred, Query, Row, Total};
 use std::alloc::Global;
 use std::process::Abort;
 use std::test::Fail;
 
 /// A column in each form, and one with numbers below zero.
-const COLUMNS: [Declared<'static>; 4] = [
+const COLUMNS: [DeclaredColumn<'static>; 4] = [
     QTY,
-    Declared {
+    DeclaredColumn {
         name: "equality",
         form: Form::Equality,
         wide: Wide {
@@ -22,7 +22,7 @@ const COLUMNS: [Declared<'static>; 4] = [
         },
         offset: 0,
     },
-    Declared {
+    DeclaredColumn {
         name: "range",
         form: Form::Range,
         wide: Wide {
@@ -31,7 +31,7 @@ const COLUMNS: [Declared<'static>; 4] = [
         },
         offset: 0,
     },
-    Declared {
+    DeclaredColumn {
         name: "signed",
         form: Form::Slices,
         wide: Wide {

@@ -3,27 +3,27 @@
 
 use crate::tables::{append_row, asked, index_of};
 use bsi_columns::{NoMemory, Op};
-use bsi_plain_tables::{Declared, Form, PlainTable, Wide, both, either, not, row_of};
+use bsi_plain_tables::{DeclaredColumn, Form, PlainTable, Wide, both, either, not, row_of};
 use bsi_table::{Answer, Index, Pred, Query, Row, Total};
 use std::alloc::Global;
 use std::process::Abort;
 use std::test::Fail;
 
 /// A column of each form, of 16 numbers each, two of them with negative ones.
-pub(crate) const COLUMNS: [Declared<'static>; 3] = [
-    Declared {
+pub(crate) const COLUMNS: [DeclaredColumn<'static>; 3] = [
+    DeclaredColumn {
         name: "slices",
         form: Form::Slices,
         wide: WIDE,
         offset: -8,
     },
-    Declared {
+    DeclaredColumn {
         name: "equality",
         form: Form::Equality,
         wide: WIDE,
         offset: 0,
     },
-    Declared {
+    DeclaredColumn {
         name: "range",
         form: Form::Range,
         wide: WIDE,
@@ -44,7 +44,7 @@ const TOTALS: [[Total; 3]; 3] = [
 ];
 
 // The entry of a column: a null now and then, else one of the column's numbers.
-fn entry_of(row: u64, column: &Declared, place: u64) -> Option<i128> {
+fn entry_of(row: u64, column: &DeclaredColumn, place: u64) -> Option<i128> {
     match row.wrapping_mul(7).wrapping_add(place.wrapping_mul(3)) % 6 {
         0 => None,
         _ => {
@@ -113,7 +113,7 @@ pub(crate) struct Both {
 pub(crate) fn no_rows(
     rt: &impl Abort,
     alloc: Global,
-    columns: &[Declared],
+    columns: &[DeclaredColumn],
     feeders: u32,
     limit: u64,
 ) -> Both {
@@ -192,7 +192,7 @@ fn append_entry(
 }
 
 // A column of sixteen numbers from an offset on.
-fn six_rows(rt: &impl Abort, alloc: Global, column: Declared) -> Result<Both, NoMemory> {
+fn six_rows(rt: &impl Abort, alloc: Global, column: DeclaredColumn) -> Result<Both, NoMemory> {
     let mut both = no_rows(rt, alloc, &[column], 1, 10);
     let offset = i128::from(column.offset);
     append_entry(rt, alloc, &mut both, None)?;
@@ -243,7 +243,7 @@ fn same_everywhere(
     same_totals(rt, alloc, both)
 }
 
-fn same_from(rt: &impl Abort, alloc: Global, column: Declared) -> Result<(), NoMemory> {
+fn same_from(rt: &impl Abort, alloc: Global, column: DeclaredColumn) -> Result<(), NoMemory> {
     let both = six_rows(rt, alloc, column)?;
     same_everywhere(rt, alloc, &both, column.offset)
 }
@@ -252,7 +252,7 @@ fn same_from(rt: &impl Abort, alloc: Global, column: Declared) -> Result<(), NoM
 fn columns_at_every_offset_answer_as_a_plain_table(rt: HostRuntime) -> Result<(), Fail> {
     for offset in [i64::MIN, -8, -1, 0, 1, 1 << 62] {
         for column in COLUMNS {
-            same_from(&rt, rt.alloc(), Declared { offset, ..column })?;
+            same_from(&rt, rt.alloc(), DeclaredColumn { offset, ..column })?;
         }
     }
     Ok(())

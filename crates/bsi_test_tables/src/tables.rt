@@ -1,13 +1,13 @@
 //! Indexes that the tests make and ask. A refused allocation is tried again.
 
-use bsi_plain_tables::{Declared, schema_of};
+use bsi_plain_tables::{DeclaredColumn, schema_of};
 use bsi_table::{Answer, AppendError, AskError, Index, IndexError, Pred, Query, Row, Total};
 use std::alloc::Global;
 use std::process::Abort;
 
 fn index_once(
     alloc: Global,
-    columns: &[Declared],
+    columns: &[DeclaredColumn],
     feeders: u32,
     limit: u64,
 ) -> Result<Index, IndexError> {
@@ -20,7 +20,7 @@ fn index_once(
 /// Makes an index of no rows. Where memory is refused, it makes the same call again.
 pub(crate) fn index_of(
     alloc: Global,
-    columns: &[Declared],
+    columns: &[DeclaredColumn],
     feeders: u32,
     limit: u64,
 ) -> Result<Index, IndexError> {

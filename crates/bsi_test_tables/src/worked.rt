@@ -5,7 +5,7 @@ use crate::tables::{answer, append_row, has_rows, index_of};
 use bsi_columns::{AnyColumn, NoMemory, Op};
 use bsi_digits::BasesError;
 use bsi_plain::shows;
-use bsi_plain_tables::{Declared, FORMS, Form, QTY, Wide, add, both, not, row_of};
+use bsi_plain_tables::{DeclaredColumn, FORMS, Form, QTY, Wide, add, both, not, row_of};
 use bsi_table::{
     Answer, AppendError, AskError, Index, IndexError, Pred, Row, Schema, SchemaError, Total,
 };
@@ -22,7 +22,7 @@ fn listed(answer: Result<Answer, AskError>, wanted: &[(u32, u64)]) -> bool {
 
 // The rows 2 of feeder 1, and 1 and 3 of feeder 0.
 fn three_rows(rt: &impl Abort, alloc: Global, form: Form) -> Result<Index, NoMemory> {
-    let column = Declared { form, ..QTY };
+    let column = DeclaredColumn { form, ..QTY };
     let mut index = index_of(alloc, &[column], 2, 10).expect(rt, "a column and a limit");
     for (position, feeder, number) in [(0, 1, 2), (1, 0, 1), (2, 0, 3)] {
         let row = row_of(alloc, &[Some(number)])?;
@@ -142,7 +142,7 @@ fn is_refused(
     rt: &impl Abort,
     alloc: Global,
     schema: &mut Schema,
-    column: Declared,
+    column: DeclaredColumn,
     refusal: SchemaError,
 ) {
     let refused = add(alloc, schema, column);
@@ -152,9 +152,9 @@ fn is_refused(
 // What is refused of a schema of one column.
 fn refusals(rt: &impl Abort, alloc: Global, schema: &mut Schema) {
     is_refused(rt, alloc, schema, QTY, SchemaError::NameTaken);
-    let named = Declared { name: "Qty", ..QTY };
+    let named = DeclaredColumn { name: "Qty", ..QTY };
     is_refused(rt, alloc, schema, named, SchemaError::BadName);
-    let empty = Declared {
+    let empty = DeclaredColumn {
         name: "empty",
         form: Form::Range,
         wide: Wide {
@@ -200,7 +200,7 @@ fn add_numbered(
     k: u32,
 ) -> Result<(), NoMemory> {
     let name = numbered(alloc, k)?;
-    let column = Declared {
+    let column = DeclaredColumn {
         name: name.as_str(),
         ..QTY
     };
@@ -214,7 +214,7 @@ fn the_most_columns(rt: HostRuntime) -> Result<(), Fail> {
     for k in 0..64 {
         add_numbered(&rt, rt.alloc(), &mut schema, k)?;
     }
-    let more = Declared {
+    let more = DeclaredColumn {
         name: "one_more",
         ..QTY
     };
@@ -225,7 +225,7 @@ fn the_most_columns(rt: HostRuntime) -> Result<(), Fail> {
         more,
         SchemaError::TooManyColumns,
     );
-    let again = Declared { name: "c0", ..QTY };
+    let again = DeclaredColumn { name: "c0", ..QTY };
     is_refused(&rt, rt.alloc(), &mut schema, again, SchemaError::NameTaken);
     assert_eq!(rt; schema.columns(), 64);
     Ok(())
