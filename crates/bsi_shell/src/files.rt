@@ -1,5 +1,5 @@
 //! A run over files: it opens all files in the order of the words, and then reads them.
-ghost use Rattle.std.specs.Prelude.{◌≡◌, ◌≤◌, ◌<◌, IfOk, length};
+ghost use Rattle.std.specs.Prelude.{◌≡◌, ◌<◌, IfOk, length};
 
 use crate::paths::Paths;
 use bsi_files::{FilesFault, Go, run_files};
@@ -36,7 +36,7 @@ struct Opened<S: Read + Drop> {
 }
 
 /// Opens the files, answers the questions over their rows, and flushes the output. A flush that fails counts only if
-/// the run met no fault.
+/// the run met no fault. It has no clauses, because no contract can say what a file gives.
 pub(crate) fn run_over<
     'a,
     R: AllocGlobal + Files<File = S> + Threads + Wait + Sync,
@@ -45,10 +45,8 @@ pub(crate) fn run_over<
 >(rt: &R, paths: &Paths<'a>, output: &mut O) -> Result<(), Failure<'a>> {
     let Opened { schema, asks, rows } = open_all(rt, paths)?;
     let run = run_files(rt, schema, asks, rows, output, &Go);
-    match output.flush() {
-        Ok(()) => run?,
-        Err(_) => run.and(Err(FilesFault::Write))?,
-    }
+    let flushed = output.flush().map_err(|_| FilesFault::Write);
+    run.and(flushed)?;
     Ok(())
 }
 
@@ -64,9 +62,7 @@ fn open_all<'a, R: AllocGlobal + Files<File = S>, S: Read + Drop>(
     let mut rows = Vec::with_capacity(rt.alloc(), paths.rows.len())?;
     for path in &paths.rows {
         let file = open_one(rt, path)?;
-        if let Err(refused) = rows.push(file) {
-            return Err(AllocError::from(refused).into());
-        }
+        rows.push(file).map_err(|_| FilesFault::NoMemory)?;
     }
     Ok(Opened { schema, asks, rows })
 }

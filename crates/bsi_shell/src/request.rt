@@ -1,4 +1,4 @@
-//! What the words behind the program's name ask for.
+//! What the words after the program's name ask for.
 ghost use Rattle.std.specs.Prelude.{◌≡◌, ◌↔◌, Ok, true};
 ghost use Rattle.bsi_shell.specs.Commands.{BeginsWithFiles};
 ghost use Rattle.bsi_shell.specs.declared.request.Request.TheVariants.{Files};
@@ -27,13 +27,8 @@ pub(crate) fn read_request<'a>(alloc: Global, words: &'a [String]) -> Request<'a
 {
     match parse_words(alloc, words) {
         Ok(request) => request,
-        Err(error) => {
-            if error.kind() == ErrorKind::OutOfMemory {
-                Request::NoMemory
-            } else {
-                Request::Wrong
-            }
-        }
+        Err(error) if error.kind() == ErrorKind::OutOfMemory => Request::NoMemory,
+        Err(_) => Request::Wrong,
     }
 }
 
@@ -44,7 +39,7 @@ fn parse_words<'a>(alloc: Global, words: &'a [String]) -> Result<Request<'a>, Er
     let matches = commands(alloc)?.try_get_matches_from(words)?;
     match matches.subcommand() {
         Some(("script", _)) => Ok(Request::Script),
-        // (a command is named by the first word, since no option stands before it)
+        // The first word names a command, since no option stands before it.
         Some(("files", files)) if begins_with_files(words) => Ok(read_paths(alloc, files)?),
         _ => Ok(Request::Wrong),
     }

@@ -1,4 +1,4 @@
-//! The command line: the words behind the program's name, and the status that they end with.
+//! The command line: the words after the program's name, and the status that they end with.
 ghost use Rattle.std.specs.Prelude.{◌≡◌, ◌≤◌, OnErr, OnOk};
 ghost use Rattle.bsi_shell.specs.Commands.{BeginsWithFiles};
 ghost use Rattle.bsi_text.specs.Texts.{IfKnown, IsAnswered, IsBegun};
@@ -16,7 +16,7 @@ use std::thread::Threads;
 /// The line that answers words that are not a command.
 const USAGE: &str = "usage: bsi script | bsi files --schema FILE --asks FILE CSV..";
 
-/// Carries out what the words behind the program's name ask for, and returns the status that the program ends with. The
+/// Carries out what the words after the program's name ask for, and returns the status that the program ends with. The
 /// status is 0, or 1 with one line on `faults` that tells which fault was met, or 2 with the usage line for words that
 /// are not a command.
 pub fn run_words<
@@ -39,6 +39,7 @@ pub fn run_words<
     ensures quiet { result ≡ 0 → F.contents faults.new ≡ F.contents faults.old }
     ensures wrong { result ≡ 2 → O.contents output.new ≡ O.contents output.old }
 {
+    // The proof takes from this that what answers the whole input has also begun to.
     bsi_text::laws::begun();
     match read_request(rt.alloc(), &words) {
         Request::Script => match run_to_end(rt.alloc(), input, output) {
@@ -65,12 +66,11 @@ fn run_to_end<I: Read + Drop, O: Write>(
     ensures fault { OnErr result
         (IfKnown (I.remaining input) IsBegun (O.contents output.old) (O.contents output.new)) }
 {
+    // The proof takes from this that what answers the whole input has also begun to.
     bsi_text::laws::begun();
     let run = run_script(alloc, input, output);
-    match output.flush() {
-        Ok(()) => run,
-        Err(_) => run.and(Err(ScriptFault::Write)),
-    }
+    let flushed = output.flush().map_err(|_| ScriptFault::Write);
+    run.and(flushed)
 }
 
 /// Writes the line of a fault, and returns its status.

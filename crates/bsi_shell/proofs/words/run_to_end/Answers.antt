@@ -1,11 +1,20 @@
 use Rattle.std.specs.Prelude.{IfSome}
 use Rattle.bsi_text.specs.Texts.{IsAnswered, IsBegun}
-use Rattle.bsi_shell.proofs.Runs.{begun_kept, if_some, of_each, on_err}
+use Rattle.bsi_shell.proofs.Runs.{answered_kept, begun_kept, if_some, of_each, on_both, on_err}
 use Rattle.bsi_shell.proofs.words.run_to_end.Goals as goal
 
+-- all lines were written, and the flush kept them
+pub returns-clause-ok : goal.returns-clause-ok
+returns-clause-ok g c =
+    let known = g.I.Read.remaining c.args.input in
+    let before = g.O.Write.contents c.args.output.now in
+    let after = g.O.Write.contents c.run_script-run.new.writer in
+    on_both c.run_script-run.result c.map_err-flushed.result c.and.result c.and.ensures c.run_script-run.ensures.ok
+    (if_some known (answered_kept before after (g.O.Write.contents c.flush.new.self) c.flush.ensures.bytes))
+
 -- a run whose output can't be flushed wrote all lines, or met a fault
-pub returns-in-Err-clause-fault : goal.returns-in-Err-clause-fault
-returns-in-Err-clause-fault g c =
+pub returns-clause-fault : goal.returns-clause-fault
+returns-clause-fault g c =
     let known = g.I.Read.remaining c.args.input in
     let before = g.O.Write.contents c.args.output.now in
     let after = g.O.Write.contents c.run_script-run.new.writer in
