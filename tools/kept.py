@@ -11,6 +11,7 @@ checks again what does not.
 import hashlib
 import json
 import os
+from functools import lru_cache
 
 # The proof files of one function, which no other module can name.
 OF_ONE_FUNCTION = ("Answers.antt", "Invariants.antt", "Proof.antt")
@@ -60,6 +61,18 @@ def sum_of_shown(rlib):
     return total.hexdigest()
 
 
+def written_at(rlib):
+    """Returns what changes where the library is built again."""
+    found = os.stat(os.path.join(rlib, "toolchain", "made.json"))
+    return found.st_ino, found.st_mtime_ns
+
+
+@lru_cache(maxsize=None)
+def shown_since(rlib, _written):
+    """Returns the sum of what a library shows that was built then."""
+    return sum_of_shown(rlib)
+
+
 def sum_of_seen(crate, rtlib):
     """Returns a sum of a crate's own files, and of what it sees of the libraries below, which are built."""
     total = hashlib.sha256(repr((crate.said, text_in(f"{rtlib.KIT}/WHAT"))).encode())
@@ -67,7 +80,7 @@ def sum_of_seen(crate, rtlib):
         with open(path, "rb") as file:
             total.update(os.path.relpath(path, crate.folder).encode() + b"\n" + file.read())
     for below in crate.below():
-        total.update(f"{below.name} {sum_of_shown(below.rlib)}\n".encode())
+        total.update(f"{below.name} {shown_since(below.rlib, written_at(below.rlib))}\n".encode())
     return total.hexdigest()
 
 
