@@ -17,15 +17,6 @@ from functools import lru_cache
 OF_ONE_FUNCTION = ("Answers.antt", "Invariants.antt", "Proof.antt")
 
 
-def text_in(path):
-    """Returns the text of the file, or None where it is not there."""
-    try:
-        with open(path, encoding="utf-8") as file:
-            return file.read()
-    except FileNotFoundError:
-        return None
-
-
 def write(path, text):
     with open(path, "w", encoding="utf-8") as file:
         file.write(text)
@@ -75,7 +66,7 @@ def shown_since(rlib, _written):
 
 def sum_of_seen(crate, rtlib):
     """Returns a sum of a crate's own files, and of what it sees of the libraries below, which are built."""
-    total = hashlib.sha256(repr((crate.said, text_in(f"{rtlib.KIT}/WHAT"))).encode())
+    total = hashlib.sha256(repr((crate.said, rtlib.text_of(f"{rtlib.KIT}/WHAT"))).encode())
     for path in rtlib.files_of(crate.folder):
         with open(path, "rb") as file:
             total.update(os.path.relpath(path, crate.folder).encode() + b"\n" + file.read())
@@ -90,7 +81,7 @@ def leave_what_sees_the_same(rtlib):
 
     def build_rlib(crate, flags, anew):
         folder = os.path.dirname(crate.rlib)
-        is_same = os.path.isdir(crate.rlib) and text_in(f"{folder}/seen") == sum_of_seen(crate, rtlib)
+        is_same = os.path.isdir(crate.rlib) and rtlib.text_of(f"{folder}/seen") == sum_of_seen(crate, rtlib)
         if is_same and not crate.is_built():
             print("rt: the libraries below show what they showed, so this one is not built again", file=crate.out)
             write(f"{folder}/stamp", crate.stamp())
@@ -112,7 +103,7 @@ def leave_tests_of_the_same_sources(rtlib):
         program = f"{crate.folder}/out/{crate.name}_tests"
         if crate.is_program or not crate.has_tests():
             return test_all(crate, flags)
-        sources, noted = crate.stamp(), text_in(f"{program}.sources")
+        sources, noted = crate.stamp(), rtlib.text_of(f"{program}.sources")
         if os.path.isfile(program) and noted == f"{sources} {rtlib.sum_of(program)}":
             print("rt: these tests are built from the sources as they are", file=crate.out)
             return crate.call(rtlib.RUNNER, "--seconds", str(rtlib.LIMIT), program)
