@@ -6,7 +6,6 @@ import os
 import re
 import shutil
 import sys
-import threading
 from collections import namedtuple
 
 import workspace
@@ -89,25 +88,6 @@ def shown(place):
     return f"{place.owner}::{place.function}" if place.owner else place.function
 
 
-def sum_each_once(rtlib):
-    """Lets the kit sum the sources of a crate and of those below it by reading each crate once, and not once for each path to it.
-    The sum is the same."""
-    sum_of, reading = rtlib.Crate.stamp, threading.local()
-
-    def stamp(crate):
-        if getattr(reading, "sums", None) is None:
-            reading.sums = {}
-            try:
-                return stamp(crate)
-            finally:
-                reading.sums = None
-        if crate not in reading.sums:
-            reading.sums[crate] = sum_of(crate)
-        return reading.sums[crate]
-
-    rtlib.Crate.stamp = stamp
-
-
 def kit():
     """Returns the kit's command as a module: how it checks a crate with texts changed is not written anew."""
     path = os.path.realpath(shutil.which("rt"))
@@ -115,5 +95,4 @@ def kit():
     made = importlib.util.module_from_spec(importlib.util.spec_from_loader("rt", loader))
     sys.modules["rt"] = made
     loader.exec_module(made)
-    sum_each_once(made.rtlib)
     return made
