@@ -11,10 +11,13 @@ checks again what does not.
 import hashlib
 import json
 import os
+import time
 from functools import lru_cache
 
 # The proof files of one function, which no other module can name.
 OF_ONE_FUNCTION = ("Answers.antt", "Invariants.antt", "Proof.antt")
+# For how many seconds the sum of a crate's sources counts as their sum. A build takes longer, and compares the sums before and after it.
+MOMENT = 2
 
 
 def write(path, text):
@@ -73,6 +76,22 @@ def sum_of_seen(crate, rtlib):
     for below in crate.below():
         total.update(f"{below.name} {shown_since(below.rlib, written_at(below.rlib))}\n".encode())
     return total.hexdigest()
+
+
+def sum_once_a_moment(rtlib):
+    """Lets the kit take the sum of a crate's sources once a moment. It asks for it a dozen times in a row for each crate, and reads all
+    sources below each time."""
+    sum_of, taken = rtlib.Crate.stamp, {}
+
+    def stamp(crate):
+        now = time.monotonic()
+        at, known = taken.get(crate.folder, (-MOMENT, ""))
+        if now - at >= MOMENT:
+            known = sum_of(crate)
+            taken[crate.folder] = now, known
+        return known
+
+    rtlib.Crate.stamp = stamp
 
 
 def leave_what_sees_the_same(rtlib):

@@ -1,8 +1,8 @@
 """Which crates of a check of all are built and tested side by side.
 
 The kit begins crates in a fixed order, as many at a time as it is told, and one that waits for a library below holds its place. So it
-is told to begin all of them at once, and here each waits for its turn once the libraries below it are built. Of those that wait the
-one comes first that most crates stand above, then the one with the most lines: it likely takes longest.
+is told to begin all of them at once, and here each waits for its turn before the prover is called for it. Of those that wait the one
+comes first that most crates stand above, then the one above most crates: its check and its program take longest.
 """
 
 import contextlib
@@ -32,16 +32,14 @@ class Turns:
 
 
 def take_turns(rtlib, at_once, crates):
-    """Lets the kit build and test so many of these crates at a time."""
-    turns = Turns(at_once)
+    """Lets the kit call the prover for so many of these crates at a time."""
+    turns, call = Turns(at_once), rtlib.Crate.call
     above = {crate.name: sum(crate in other.below() for other in crates) for crate in crates}
 
-    def in_turn(call):
-        def called(crate, *given):
-            with turns.turn((-above[crate.name], -crate.count(rb"\n"), crate.name)):
-                return call(crate, *given)
+    def in_turn(crate, *words):
+        if words[0] != rtlib.RATTLE:
+            return call(crate, *words)
+        with turns.turn((-above[crate.name], -len(crate.below()), crate.name)):
+            return call(crate, *words)
 
-        return called
-
-    rtlib.Crate.build_rlib = in_turn(rtlib.Crate.build_rlib)
-    rtlib.Crate.test_whole = in_turn(rtlib.Crate.test_whole)
+    rtlib.Crate.call = in_turn
