@@ -99,11 +99,12 @@ def leave_what_sees_the_same(rtlib):
     build = rtlib.Crate.build_rlib
 
     def build_rlib(crate, flags, anew):
-        folder = os.path.dirname(crate.rlib)
+        # The sources are summed first, so that what is changed from here on is not taken for what was built.
+        folder, sources = os.path.dirname(crate.rlib), crate.stamp()
         is_same = os.path.isdir(crate.rlib) and rtlib.text_of(f"{folder}/seen") == sum_of_seen(crate, rtlib)
         if is_same and not crate.is_built():
             print("rt: the libraries below show what they showed, so this one is not built again", file=crate.out)
-            write(f"{folder}/stamp", crate.stamp())
+            write(f"{folder}/stamp", sources)
         status = build(crate, flags, anew)
         if status == 0:
             seen = sum_of_seen(crate, rtlib)
