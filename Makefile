@@ -7,25 +7,19 @@ MAN = $(DESTDIR)$(PREFIX)/share/man/man1
 BASH = $(DESTDIR)$(PREFIX)/share/bash-completion/completions
 ZSH = $(DESTDIR)$(PREFIX)/share/zsh/site-functions
 
-.PHONY: build check demo test mutants promises install uninstall clean bench plot
+.PHONY: build check demo test install uninstall clean bench plot
 
 build:
 	@tools/build
 
 demo: build
-	@tools/demo examples/first.bsi examples/weather
+	@tools/demo
 
 check:
 	@tools/check
 
 test:
 	@tools/gate
-
-mutants:
-	@tools/wrong-bodies --mutants
-
-promises:
-	@tools/promises
 
 install: build
 	install -d "$(BIN)" "$(MAN)" "$(BASH)" "$(ZSH)"

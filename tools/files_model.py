@@ -5,6 +5,7 @@ one after the other, in one thread, so no order of threads can show in it. The t
 also those in which memory was refused.
 """
 
+import argparse
 import os
 import re
 import sys
@@ -151,19 +152,12 @@ def fault_in_lines(lines, wanted):
 
 def paths_of(words):
     """Returns the paths of the schema, of the asks and of the row files that well-formed words name."""
-    named, rest, left = {}, [], list(words)
-    while left:
-        word = left.pop(0)
-        if word in ("--schema", "--asks"):
-            named[word] = left.pop(0)
-        elif word.startswith(("--schema=", "--asks=")):
-            name, _, named[name] = word.partition("=")
-        elif word != "--":
-            rest.append(word)
-        else:
-            rest += left
-            break
-    return [named["--schema"]], [named["--asks"]], rest
+    parser = argparse.ArgumentParser(allow_abbrev=False)
+    parser.add_argument("--schema", nargs=1)
+    parser.add_argument("--asks", nargs=1)
+    parser.add_argument("files", nargs="+")
+    given = parser.parse_args(words)
+    return given.schema, given.asks, given.files
 
 
 def read_file(path):

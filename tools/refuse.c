@@ -46,32 +46,16 @@ static int is_refused(void) {
     return refuses;
 }
 
-/* The C library's own function of that name, looked up at its first call. */
-#define REAL(name)                      \
-    static __typeof__(&name) real;      \
-    if (!real) real = (__typeof__(&name))dlsym(RTLD_NEXT, #name)
+/* The call of that name: refused, or the C library's own, which is looked up at the first call. */
+#define GROWTH(type, name, parameters, refused, ...)                       \
+    type name parameters {                                                 \
+        static __typeof__(&name) real;                                     \
+        if (!real) real = (__typeof__(&name))dlsym(RTLD_NEXT, #name);      \
+        return is_refused() ? refused : real(__VA_ARGS__);                 \
+    }
 
-void *malloc(size_t size) {
-    REAL(malloc);
-    return is_refused() ? NULL : real(size);
-}
-
-void *calloc(size_t items, size_t size) {
-    REAL(calloc);
-    return is_refused() ? NULL : real(items, size);
-}
-
-void *realloc(void *block, size_t size) {
-    REAL(realloc);
-    return is_refused() ? NULL : real(block, size);
-}
-
-void *aligned_alloc(size_t alignment, size_t size) {
-    REAL(aligned_alloc);
-    return is_refused() ? NULL : real(alignment, size);
-}
-
-int posix_memalign(void **block, size_t alignment, size_t size) {
-    REAL(posix_memalign);
-    return is_refused() ? ENOMEM : real(block, alignment, size);
-}
+GROWTH(void *, malloc, (size_t size), NULL, size)
+GROWTH(void *, calloc, (size_t items, size_t size), NULL, items, size)
+GROWTH(void *, realloc, (void *block, size_t size), NULL, block, size)
+GROWTH(void *, aligned_alloc, (size_t alignment, size_t size), NULL, alignment, size)
+GROWTH(int, posix_memalign, (void **block, size_t alignment, size_t size), ENOMEM, block, alignment, size)

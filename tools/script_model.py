@@ -5,10 +5,13 @@ which memory was refused: at a line `no memory` the machine stays as it was, and
 machine as it then stands.
 """
 
+import operator
+import re
 import sys
 from collections import namedtuple
 from functools import lru_cache
 from math import prod
+from types import SimpleNamespace
 
 NO_MEMORY = b"no memory"
 BAD = b"bad"
@@ -25,8 +28,7 @@ MAX_BASE = 1_024
 MAX_SUM_OF_BASES = 4_096
 MAX_SIZE = 2**63
 MAX_BASES = 63
-MAX_COLUMNS = 64
-MAX_FEEDERS = 64
+MAX_COLUMNS = MAX_FEEDERS = 64
 MAX_FIELDS = 1_000
 MAX_RECORDS = 1_000_000
 
@@ -41,73 +43,26 @@ Column = namedtuple("Column", "name least size")
 # ---- Bytes to records ----
 
 
-def without_mark(data):
-    """Drops a byte order mark at the start."""
-    return data[3:] if data.startswith(b"\xef\xbb\xbf") else data
-
-
-class Reader:
-    """The state of reading comma separated records: the fields so far, and where in a field the next byte falls."""
-
-    def __init__(self):
-        self.found = []
-        self.fields = []
-        self.field = bytearray()
-        self.place = "record"
-
-    def end_field(self):
-        self.fields.append(bytes(self.field))
-        self.field = bytearray()
-        self.place = "field"
-
-    def end_record(self):
-        self.end_field()
-        self.found.append(self.fields)
-        self.fields = []
-        self.place = "record"
-
-    def take_quoted(self, byte):
-        if byte == b'"':
-            self.place = "quote"
-        else:
-            self.field += byte
-
-    def take_plain(self, byte):
-        if byte == b",":
-            self.end_field()
-        elif byte in (b"\r", b"\n"):
-            self.end_record()
-        else:
-            self.field += byte
-            self.place = "plain"
-
-    def take(self, byte):
-        if self.place == "record" and byte in (b"\r", b"\n"):
-            return
-        if self.place == "quoted":
-            self.take_quoted(byte)
-        elif self.place == "quote" and byte == b'"':
-            self.field += byte
-            self.place = "quoted"
-        elif self.place in ("record", "field") and byte == b'"':
-            self.place = "quoted"
-        else:
-            self.take_plain(byte)
-
-    def end(self):
-        if self.place != "record":
-            self.end_record()
-        return self.found
+# A field: what stands in quotes, what stands behind or without them, and what ends it.
+FIELD = re.compile(rb'(?:"([^"]*(?:""[^"]*)*)(?:"|\Z))?([^,\r\n]*)(,|[\r\n]|\Z)')
 
 
 @lru_cache(maxsize=64)
 def records(data):
     """Returns the records of the bytes, each a list of fields. They are kept, as one script is judged many times."""
-    reader = Reader()
-    data = without_mark(data)
-    for at in range(len(data)):
-        reader.take(data[at : at + 1])
-    return reader.end()
+    found, fields, data, at = [], [], data.removeprefix(b"\xef\xbb\xbf"), 0
+    while at < len(data) or fields:
+        if not fields and data[at] in b"\r\n":
+            at += 1
+            continue
+        field = FIELD.match(data, at)
+        quoted, plain, end = field.groups()
+        fields.append((quoted or b"").replace(b'""', b'"') + plain)
+        at = field.end()
+        if end != b",":
+            found.append(fields)
+            fields = []
+    return found
 
 
 # ---- Fields to values ----
@@ -161,23 +116,13 @@ def read_values(fields, read):
 
 # ---- The machine ----
 
-SIGNS = {
-    b"=": lambda value, constant: value == constant,
-    b"!=": lambda value, constant: value != constant,
-    b"<": lambda value, constant: value < constant,
-    b"<=": lambda value, constant: value <= constant,
-    b">": lambda value, constant: value > constant,
-    b">=": lambda value, constant: value >= constant,
-}
+SIGNS = {b"=": operator.eq, b"!=": operator.ne, b"<": operator.lt, b"<=": operator.le, b">": operator.gt, b">=": operator.ge}
+JOINS = {b"and": all, b"or": any}
 
 
-class Feeder:
-    """One bounded queue: the rows that wait, how many rows were taken from it, and whether it is closed."""
-
-    def __init__(self, capacity):
-        self.capacity = capacity
-        self.waiting = []
-        self.is_closed = False
+def new_feeder(capacity):
+    """Returns one bounded queue: its capacity, the rows that wait, and whether it is closed."""
+    return SimpleNamespace(capacity=capacity, waiting=[], is_closed=False)
 
 
 class Machine:
@@ -255,7 +200,7 @@ def setup_feeder(machine, fields):
     capacity = number_within(fields[0], 1, MAX_CAPACITY) if len(fields) == 1 else None
     if capacity is None or len(machine.feeders) == MAX_FEEDERS:
         return None
-    return ok(lambda: machine.feeders.append(Feeder(capacity)))
+    return ok(lambda: machine.feeders.append(new_feeder(capacity)))
 
 
 def setup_limit(machine, fields):
@@ -312,51 +257,42 @@ def run_close(machine, fields):
     return at_feeder(machine, fields, close)
 
 
+def negation(test):
+    return lambda row: not test(row)
+
+
+def joined(join, first, second):
+    return lambda row: join((first(row), second(row)))
+
+
+def read_comparison(machine, name, left):
+    """Returns the test of a column that the name and the next fields spell, which it takes from the list, or None."""
+    place, sign = machine.position(name), left.pop() if left else None
+    if place is not None and sign == b"null":
+        return lambda row: row[place] is None
+    compares, constant = SIGNS.get(sign), machine.read(left.pop()) if left else None
+    if None in (place, compares, constant):
+        return None
+    return lambda row: row[place] is not None and compares(row[place], constant)
+
+
 def read_predicate(machine, fields):
     """Returns a function from a row to whether it is selected, or None where the fields spell no predicate."""
-    if not 1 <= len(fields) <= MAX_FIELDS:
-        return None
-    found, at = [], 0
-    while at < len(fields):
-        taken = take_part(machine, fields[at:], found)
-        if not taken:
-            return None
-        at += taken
+    found, left = [], fields[::-1] if len(fields) <= MAX_FIELDS else []
+    while left:
+        word = left.pop()
+        if word == b"all":
+            found.append(lambda row: True)
+        elif word == b"not" and found:
+            found.append(negation(found.pop()))
+        elif word in JOINS and len(found) > 1:
+            second = found.pop()
+            found.append(joined(JOINS[word], found.pop(), second))
+        else:
+            found.append(read_comparison(machine, word, left))
+            if found[-1] is None:
+                return None
     return found[0] if len(found) == 1 else None
-
-
-def take_part(machine, fields, found):
-    """Puts what the first fields spell behind the tests found so far, or in the place of those that it joins. Returns
-    how many fields that takes, or 0 where they spell nothing."""
-    word = fields[0]
-    if word == b"all":
-        found.append(lambda row: True)
-        return 1
-    if word == b"not" and found:
-        test = found.pop()
-        found.append(lambda row: not test(row))
-        return 1
-    if word in (b"and", b"or") and len(found) > 1:
-        second, first = found.pop(), found.pop()
-        join = all if word == b"and" else any
-        found.append(lambda row: join((first(row), second(row))))
-        return 1
-    return take_comparison(machine, fields, found)
-
-
-def take_comparison(machine, fields, found):
-    """Does the same for fields that begin with the name of a column."""
-    place = machine.position(fields[0])
-    if place is None or len(fields) < 2:
-        return 0
-    if fields[1] == b"null":
-        found.append(lambda row: row[place] is None)
-        return 2
-    sign, constant = SIGNS.get(fields[1]), machine.read(fields[2]) if len(fields) > 2 else None
-    if sign is None or constant is None:
-        return 0
-    found.append(lambda row: row[place] is not None and sign(row[place], constant))
-    return 3
 
 
 def selected(machine, fields):
