@@ -27,7 +27,6 @@ NAMED = re.compile(r"\bdocs/[A-Z_-]+\.md\b")
 BLOCK = re.compile(r"^```(\w*)\n(.*?)^```$", re.MULTILINE | re.DOTALL)
 HEADING = re.compile(r"^#+ (.*)$", re.MULTILINE)
 VERSION = re.compile(r"\d+\.\d+\.\d+")
-SECONDS = 60
 
 
 def text_of(path):
@@ -157,7 +156,7 @@ def fault_in_runs(top, program):
     if not found:
         return "no document runs an example"
     for document, (command, wanted) in found:
-        ran = workspace.run(["sh", "-c", command], b"", {"PATH": path}, os.path.join(top, "examples"), SECONDS)
+        ran = workspace.run(["sh", "-c", command], b"", {"PATH": path}, os.path.join(top, "examples"))
         printed = ran.out.decode(errors="replace")
         if ran.status or printed != wanted:
             pairs = zip(printed.splitlines() + [""], wanted.splitlines() + [""])
