@@ -1,6 +1,11 @@
 //! Kernels over slices of words: Boolean operations in place and population counts, four words at a time.
 //!
 //! The slices of one call have the same length. No kernel allocates memory, and each passes over its words once.
+//!
+//! One loop serves all operations, over a private trait that gives an operation on single words and on four side by
+//! side. A count reads the four quarters of its words side by side: four read streams use more memory bandwidth than
+//! one. It counts by parts of 2^57 words in 64 bits, since a slice may be longer than 2^58 words as far as its type
+//! says; no memory is, so there is one part.
 
 ghost use Rattle.std.specs.Prelude.{◌≡◌, ◌*◌, ◌^◌, ◌≤◌, ◌<◌, length, map, sum_by, bit_and, bit_or, bit_xor, count_ones};
 ghost use Rattle.std.specs.Int.{bit_not, w64};

@@ -1,4 +1,7 @@
 //! The iterator over the places of the bits that are set.
+//!
+//! The next place is found from the words as they are, so no half-used word is kept, and the proof needs the places of
+//! one word alone.
 
 ghost use Rattle.std.specs.Prelude.{◌≡◌, ℕ, List};
 ghost use Rattle.std.specs.Iterator.{YieldsFirst, item_count};

@@ -1,4 +1,7 @@
 //! The equality encoded component: a bitmap for each digit says which rows have it.
+//!
+//! A step reads the bitmaps up to the digit or those past it, whichever are fewer. The rank of a digit is counted one
+//! digit after another from the nearer end: a count of "at most" would read as many bitmaps.
 
 ghost use Rattle.std.specs.Prelude.{◌≡◌, ◌≢◌, ℕ, ◌+◌, ◌*◌, ◌<◌, ◌≤◌, ◌==◌, ◌&&◌, ◌||◌, not, ◌++◌, length, map, true, slice_index, IsTrue, IsFalse};
 ghost use Rattle.bsi_bits.specs.BitList.{word_count};

@@ -1,4 +1,8 @@
 //! The loader's part of a run: beside the feeders, and for what is left when they have ended.
+//!
+//! It takes at most 256 rows of a feeder before the next one's turn, so that no ring stays full because another is
+//! long, and publishes from 4,096 held rows on, so that few stand beside the two copies of the table. Such a publish
+//! may be refused memory: the rows stay held. Nobody asks before the last one.
 
 ghost use Rattle.std.specs.Prelude.{◌≡◌, All, IfErr, IfSome, true};
 ghost use Rattle.bsi_system.specs.Running.{IsClosingOf};

@@ -1,4 +1,7 @@
 //! How a thread waits that has nothing to do: it yields at first, and then it sleeps for short times.
+//!
+//! A thread yields sixteen times and then sleeps for 100 microseconds at a time (`AtomicU64::park_timeout`, which needs
+//! `Wait` alone, where `thread::sleep` needs a clock). Waking the feeders would cost the loader a system call a row.
 
 use std::sync::Wait;
 use std::sync::atomic::AtomicU64;

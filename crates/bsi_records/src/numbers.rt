@@ -1,4 +1,7 @@
 //! Numbers and values: what the bytes of a field spell.
+//!
+//! A `u64` holds whatever fewer than twenty digits spell, so each takes one test. Only the last digits of very great
+//! numbers take the checked multiplication.
 
 ghost use Rattle.std.specs.Prelude.{◌≡◌, ◌<◌, ◌≤◌, length, option_map, pos, IfOk, IfSome};
 ghost use Rattle.bsi_records.specs.Numbers.{bases_of, feeder_of, number_between, number_in, offset_of, signed_of, small_of, spelled_number, value_in};

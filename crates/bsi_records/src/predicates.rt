@@ -1,4 +1,6 @@
 //! Predicates in postfix order: from the fields that spell a predicate to the predicate.
+//!
+//! A list in place of recursion keeps the predicates that the fields so far spell, so memory bounds their depth.
 
 ghost use Rattle.std.specs.Prelude.{◌≡◌, drop, option_map, IfOk};
 ghost use Rattle.csv.specs.Records.{fields_of};

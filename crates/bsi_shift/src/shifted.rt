@@ -1,4 +1,8 @@
 //! A column of whole numbers from an offset on, stored as the column of the numbers less the offset.
+//!
+//! A constant less the offset is below 0, or a number of 64 bits, or past them. Below 0, `=`, `<` and `<=` ask the
+//! stored column for `< 0` and the others for `>= 0`; past 64 bits the greatest constant stands for it, because each
+//! stored number is below 2^63.
 
 ghost use Rattle.std.specs.Prelude.{◌≡◌, ℕ, pos, ◌+ℤ◌, ◌≤ℤ◌, ◌+◌, ◌<◌, ◌≤◌, ◌^◌, [], ◌∷◌, ◌++◌, All, length, map, None, slice_index_or, is_some, nat_lt, IsOk, IfOk, OnOk, OnErr};
 ghost use Rattle.std.specs.Option.{option_map};

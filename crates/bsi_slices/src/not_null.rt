@@ -1,4 +1,7 @@
 //! The not-null bitmap of a column, and whether any row is null.
+//!
+//! Where no row is null, a comparison of a block does not read the bitmap. The mark is set by the first null and never
+//! cleared, since rows are only appended.
 
 ghost use Rattle.std.specs.Prelude.{◌≡◌, ℕ, ◌+◌, ◌*◌, ◌^◌, ◌≤◌, ◌<◌, ◌&&◌, [], ◌∷◌, ◌++◌, length, false, slice_index_or, IsTrue, IfOk, IsOk, OnOk, OnErr};
 ghost use Rattle.std.specs.Int.{bit_at};

@@ -1,4 +1,8 @@
 //! The loader: it takes rows out of the feeders' rings, holds them, and publishes them.
+//!
+//! The row that stands first is copied, and taken out of the ring only once the copy is held: `left_right` makes no
+//! room for an operation before it is handed over, and a row that comes back could not go to the front of the ring
+//! again.
 
 ghost use Rattle.std.specs.Prelude.{◌≡◌, ◌≢◌, ◌+◌, ◌≤◌, IfErr, IfOk, OnErr, OnOk, length};
 ghost use Rattle.bsi_system.specs.Running.{published_all, settled_as, AlwaysHolds, IsClosingOf, IsLoaderReply, LoadsOne};

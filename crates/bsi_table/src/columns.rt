@@ -1,4 +1,7 @@
 //! The columns of a table, side by side: each call is made on each of them.
+//!
+//! A block of rows goes in column by column, gathered into an array of 64 that stays in the cache. All columns and the
+//! list of feeders grow before the first is changed.
 
 ghost use Rattle.std.specs.Prelude.{◌≡◌, ℕ, ◌+◌, ◌<◌, ◌≤◌, ◌^◌, [], All, length, IfOk, OnOk};
 ghost use Rattle.bsi_columns.specs.AnyRows.{any_entries};

@@ -1,4 +1,8 @@
 //! The rows that a predicate selects, one block of rows after another.
+//!
+//! A block is 1,024 words: with shorter ones too little of a bitmap is read before the next. `or` and `not` save the
+//! block's words in one list that grows and shrinks with them, so a level of a predicate takes no more stack than the
+//! call. A count narrows, trims and counts one block after the other in the same words.
 
 ghost use Rattle.std.specs.Prelude.{◌≡◌, ℕ, ◌+◌, ◌-◌, ◌^◌, ◌≤◌, ◌++◌, bit_or, bit_xor, count_by, drop, false, length, map, take, IfOk, IsFalse, OnOk};
 ghost use Rattle.bsi_bits.specs.BitList.{word_count};

@@ -1,4 +1,6 @@
 //! The header of a row file, and the rows that its records give.
+//!
+//! The header is tested as it is defined, once a file: each column has one field, and each field is a column.
 
 ghost use Rattle.std.specs.Prelude.{◌≡◌, [], if◌then◌else◌, map, count_by, Some, None, true, IfOk, IsTrue, OnOk};
 ghost use Rattle.std.specs.List.{list_all};

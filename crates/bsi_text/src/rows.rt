@@ -1,4 +1,7 @@
 //! The rows of a row file, one after another.
+//!
+//! The room of a row is asked for before a record is taken, so a bad record takes none. An ended source has no rows
+//! left because it has ended: no clause of `csv` says that its reader is over.
 
 ghost use Rattle.std.specs.Prelude.{◌≡◌, ◌≢◌, ◌≤◌, Option, Some, None, Ok, Err, true, false, is_some, IfOk, IfErr, IfSome, IsTrue, OnOk};
 ghost use Rattle.csv.specs.Reading.{reader_state, source_of, strip_bom};

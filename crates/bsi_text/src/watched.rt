@@ -1,4 +1,8 @@
 //! A reader that knows whether a whole record was read that has not been taken yet.
+//!
+//! If the text of a read has no quote, the end of a line that is not empty ends a record. If it has one, a record may
+//! go on past the end of a line, so each answer is written at once. So no text is parsed twice. A reader that writes
+//! what waits before it reads would share the answers in a cell, whose contents no contract can describe.
 
 ghost use Rattle.std.specs.Prelude.{◌≡◌};
 

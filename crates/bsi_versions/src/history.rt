@@ -1,5 +1,8 @@
 //! The history of a table: each list of rows that was published. It exists only in the proofs, except for the length of
 //! its last list.
+//!
+//! It holds whole lists, each beginning with the one before, since a step of it can't be taken back and a load may be
+//! refused. One word is shared, the length of the last list.
 
 use bsi_table::Row;
 use logbook::{Gain, Offer, Plain, Play, Rule, Seen, Start, Word};

@@ -2,6 +2,11 @@
 //!
 //! It reads digits only where the constant alone does not decide. The rows that it finds are narrowed by the not-null
 //! bitmap, so that a complement selects no null.
+//!
+//! A block of 1,024 words is written by the lowest component, narrowed by each further one, complemented if needed, and
+//! cut with the not-null bitmap. So each bitmap that the constant needs is read once, the result is written once, and
+//! nothing else is as long as the column. An encoding without calls on blocks works on whole vectors, with one vector
+//! more.
 
 ghost use Rattle.std.specs.Prelude.{◌≡◌, ℕ, ◌+◌, ◌*◌, ◌≤◌, ◌<◌, ◌&&◌, [], None, false, length, map, slice_index_or, IfOk, IfSome, OnErr, OnOk};
 ghost use Rattle.std.specs.Bool.{OnTrue};

@@ -3,6 +3,9 @@
 //!
 //! The search leaves a block as soon as none of its rows can come before the best number found so far. Most blocks show
 //! this at their first component.
+//!
+//! A component is asked for a digit within a limit, which a division of the best number gives. What its steps leave
+//! past the last row of a block is open, so the rows are cut with the not-null bitmap again.
 
 ghost use Rattle.std.specs.Prelude.{◌≡◌, ℕ, ◌+◌, ◌*◌, ◌/◌, ◌<◌, ◌≤◌, ◌&&◌, true, false, length, slice_index, slice_index_or, is_some, None, IfSome};
 ghost use Rattle.bsi_bits.specs.BitList.{word_count};

@@ -1,5 +1,8 @@
 //! The totals of a found set: the sum, by the sums of the digits, and the number of a rank, by narrowing the found set
 //! from the most significant component down.
+//!
+//! Each component goes over the rows by itself: one pass for all would need a further call of `Encoding`, and would
+//! read the found set once in place of once a component.
 
 ghost use Rattle.std.specs.Prelude.{◌≡◌, ◌^◌, ◌<◌, length, sum, IfOk};
 ghost use Rattle.bsi_columns.specs.Totals.{numbers_at, IsRanked};

@@ -1,4 +1,10 @@
 //! Comparisons of the numbers in slices with a constant, block by block and from the least significant slice up.
+//!
+//! There is one state. It starts at 0; where the constant has a 1 it is narrowed to the slice, where it has a 0 the
+//! slice is added. After the last slice it says whether the number is above the constant. The published algorithm
+//! (O'Neil and Quass 1997) goes from the most significant slice down with two or three states, and needs one more
+//! operation a slice; this form is this project's own. A block is 16 words, so the state fits eight registers of two
+//! words over all slices, and each slice is read once.
 
 ghost use Rattle.std.specs.Prelude.{◌≡◌, ℕ, ◌+◌, ◌*◌, ◌-◌, ◌/◌, ◌<◌, ◌≤◌, ◌^◌, ◌==◌, ◌&&◌, if◌then◌else◌, length, map, nat_lt, slice_index, slice_index_or, false, IfOk, bit_and, bit_or};
 ghost use Rattle.std.specs.Int.{bit_not, w64};

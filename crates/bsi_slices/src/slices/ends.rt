@@ -3,6 +3,9 @@
 //!
 //! The search leaves a block as soon as none of its rows can come before the best number found so far. Most blocks show
 //! this at their first slices.
+//!
+//! The test is one product and one comparison, on the number and not on its digits, so a tie needs no state. No set is
+//! copied, so no memory is taken.
 
 ghost use Rattle.std.specs.Prelude.{◌≡◌, ℕ, ◌+◌, ◌*◌, ◌-◌, ◌/◌, ◌^◌, ◌<◌, ◌≤◌, false, if◌then◌else◌, length, slice_index, slice_index_or, IsTrue, IsFalse};
 ghost use Rattle.bsi_bits.specs.BitList.{word_count};

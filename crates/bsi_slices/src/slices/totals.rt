@@ -1,5 +1,10 @@
 //! The totals of a found set: the sum, with one count per slice and block, and the number of a rank, by narrowing the
 //! found set from the most significant slice down.
+//!
+//! A sum goes by blocks of 1,024 words: every slice is counted within one, so the block's found rows come from memory
+//! once. A null's slices are 0, so no pass cuts the found set with the not-null bitmap. A rank narrows and counts in
+//! one pass a slice: the step of a slice first cuts the chosen rows by the slice before, and at once counts those that
+//! are clear in its own. It skips blocks of 32 words that have no chosen row any more.
 
 ghost use Rattle.std.specs.Prelude.{◌≡◌, ℕ, ◌+◌, ◌*◌, ◌^◌, ◌≤◌, ◌<◌, ◌&&◌, false, if◌then◌else◌, length, not, slice_index, sum, sum_by, count_by, count_ones, IfOk, IsTrue, ◌↔◌};
 ghost use Rattle.std.specs.Simd.Lanes.{zip2};
