@@ -5,10 +5,8 @@
 - The version in VERSION is that of the manual page, whose date is that of the newest heading of CHANGELOG.md, of that
   heading, and of README.md.
 - The lines of a block ```rust stand so, one below the other, in a file of crates/bsi_uses/src.
-- examples/README.md names each file and folder of examples/.
+- examples/README.md names each file and folder of examples/, and docs/ARCHITECTURE.md lists the crates of crates.txt, in its order.
 - A line `$ COMMAND` of a block ```console, run in examples/ with the program on the path, prints the lines below it.
-
-usage: tools/documents.py
 """
 
 import sys
@@ -136,6 +134,13 @@ def fault_in_names(top):
     return None
 
 
+def fault_in_crates(top):
+    """Returns what differs between crates.txt and the list of crates in docs/ARCHITECTURE.md, or None."""
+    listed = re.findall(r"^(\w+)[^:#\n]*:", text_of(os.path.join(top, "crates.txt")), re.MULTILINE)
+    rows = re.findall(r"^\| `(\w+)` \|", text_of(os.path.join(top, "docs", "ARCHITECTURE.md")), re.MULTILINE)
+    return None if rows == listed else f"crates.txt and docs/ARCHITECTURE.md list other crates: {set(rows) ^ set(listed)}"
+
+
 def runs_of(text):
     """Returns each command of a block, and the lines that it is to print."""
     commands = []
@@ -170,6 +175,7 @@ CHECKS = (
     ("the version", fault_in_version),
     ("lines of Rattle", fault_in_rattle),
     ("names of examples", fault_in_names),
+    ("the list of crates", fault_in_crates),
     ("runs of examples", lambda top: fault_in_runs(top, workspace.PROGRAM)),
 )
 

@@ -66,12 +66,6 @@ def read_row(machine, places, record):
     return row if machine.fits(row) else None
 
 
-def split(rows):
-    """Returns the good rows, and how many records were bad."""
-    good = [row for row in rows if row is not None]
-    return good, len(rows) - len(good)
-
-
 # ---- A run ----
 
 
@@ -80,9 +74,9 @@ def fed(machine, files):
     found = [records(data) for data in files]
     places = [read_header(machine, file, records_of) for file, records_of in enumerate(found)]
     read = [
-        split([read_row(machine, order, record) for record in records_of[1 : MAX_ROWS + 1]])
-        for order, records_of in zip(places, found)
+        [read_row(machine, order, record) for record in records_of[1 : MAX_ROWS + 1]] for order, records_of in zip(places, found)
     ]
+    read = [([row for row in rows if row is not None], rows.count(None)) for rows in read]
     if sum(len(good) for good, _ in read) > machine.limit:
         raise Fault(b"index full")
     for file, records_of in enumerate(found):
