@@ -3,7 +3,7 @@
 use crate::inputs::{Input, QUANTITIES, broken, text};
 use crate::runs::{Files, copy_of, end_of};
 use bsi_files::{FilesFault, Go, Which, run_files};
-use bsi_plain_streams::NarrowWriter;
+use bsi_plain::NarrowWriter;
 use bsi_text::SourceFault;
 use std::alloc::{AllocError, Global};
 use std::process::Abort;

@@ -4,7 +4,7 @@ use bsi_columns::NoMemory;
 use bsi_load::{
     CloseRefused, Core, Event, LoadRefused, MakeError, Reply, RunRefused, SubmitRefused,
 };
-use bsi_plain_tables::{DeclaredColumn, QTY, row_of, schema_of};
+use bsi_plain::{DeclaredColumn, QTY, row_of, schema_of};
 use bsi_table::{Answer, AskError, IndexError, Pred, Query, Row, Total};
 use std::alloc::Global;
 use std::process::Abort;

@@ -4,7 +4,7 @@ use crate::machine::*;
 use crate::plain::*;
 use bsi_columns::{NoMemory, Op};
 use bsi_load::{Event, Reply};
-use bsi_plain_tables::{DeclaredColumn, Form, QTY, Wide, both, either, not, row_of};
+use bsi_plain::{DeclaredColumn, Form, QTY, Wide, both, either, not, row_of};
 use bsi_table::{Pred, Query, Row, Total};
 use std::alloc::Global;
 use std::process::Abort;

@@ -3,7 +3,7 @@
 
 use crate::tables::{append_row, asked, index_of};
 use bsi_columns::{NoMemory, Op};
-use bsi_plain_tables::{DeclaredColumn, Form, PlainTable, Wide, both, either, not, row_of};
+use bsi_plain::{DeclaredColumn, Form, PlainTable, Wide, both, either, not, row_of};
 use bsi_table::{Answer, Index, Pred, Query, Row, Total};
 use std::alloc::Global;
 use std::process::Abort;

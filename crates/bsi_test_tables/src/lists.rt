@@ -3,7 +3,7 @@
 
 use crate::tables::{answer, index_of};
 use bsi_columns::{NoMemory, Op};
-use bsi_plain_tables::{QTY, row_of};
+use bsi_plain::{QTY, row_of};
 use bsi_table::{Answer, AppendError, Index, MAX_FEEDERS, Pred, Row, Total};
 use std::alloc::Global;
 use std::process::Abort;

@@ -4,7 +4,7 @@
 use crate::answers::COLUMNS;
 use crate::tables::{append_row, asked, index_of};
 use bsi_columns::{NoMemory, Op};
-use bsi_plain_tables::{both, either, not, row_of};
+use bsi_plain::{both, either, not, row_of};
 use bsi_table::{Answer, Index, Pred, Query, Row, Total};
 use std::alloc::Global;
 use std::process::Abort;

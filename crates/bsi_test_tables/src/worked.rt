@@ -4,8 +4,7 @@
 use crate::tables::{answer, append_row, has_rows, index_of};
 use bsi_columns::{AnyColumn, NoMemory, Op};
 use bsi_digits::BasesError;
-use bsi_plain::shows;
-use bsi_plain_tables::{DeclaredColumn, FORMS, Form, QTY, Wide, add, both, not, row_of};
+use bsi_plain::{DeclaredColumn, FORMS, Form, QTY, Wide, add, both, not, row_of, shows};
 use bsi_table::{
     Answer, AppendError, AskError, Index, IndexError, Pred, Row, Schema, SchemaError, Total,
 };
