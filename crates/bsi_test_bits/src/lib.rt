@@ -7,5 +7,3 @@ mod bits;
 mod components;
 #[cfg(test)]
 mod digits;
-#[cfg(test)]
-mod words;

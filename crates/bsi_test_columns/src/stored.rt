@@ -1,13 +1,14 @@
 //! What each form stores of a row, and that a column works by its components.
 
+use crate::comparisons::{FIFTEEN, selects_shown};
 use bsi_bits::Bits;
 use bsi_columns::{
     AnyColumn, Column, Decomposed, Encoding, EqualityComponent, NoMemory, Op, RangeComponent,
     Slices,
 };
 use bsi_plain::{
-    FORMS, MakingError, WholeVectors, Wide, append, entry, filled, is_set, no_digits, no_rows,
-    no_slices, shows,
+    FORMS, MakingError, PlainColumn, WholeVectors, append, filled, no_digits, no_rows, no_slices,
+    shows,
 };
 use std::alloc::Global;
 use std::process::Abort;
@@ -16,7 +17,7 @@ use std::test::Fail;
 const ENTRIES: [Option<u64>; 3] = [Some(3), None, Some(2)];
 
 fn digits_of<E: Encoding>(alloc: Global) -> Result<Decomposed<E>, MakingError> {
-    let mut column = no_digits::<E>(alloc, &[5, 3])?;
+    let mut column = no_digits::<E>(alloc, FIFTEEN.bases)?;
     append(&mut column, &ENTRIES)?;
     Ok(column)
 }
@@ -70,54 +71,6 @@ fn a_slice_stores_a_binary_place(rt: HostRuntime) -> Result<(), Fail> {
     Ok(())
 }
 
-// Whether a row is a number, and the number that the slices hold of it.
-fn held(column: &Slices, row: u64) -> (bool, u64) {
-    let mut number = 0;
-    for i in 0..column.width() {
-        if is_set(column.slice(i), row) {
-            number |= 1u64 << i;
-        }
-    }
-    (is_set(column.present(), row), number)
-}
-
-fn slices_hold(rt: &impl Abort, alloc: Global, width: u32) -> Result<(), MakingError> {
-    let column = filled(no_slices(alloc, width)?, 130)?;
-    for row in 0..130 {
-        let wanted = entry(row, column.size());
-        assert_eq!(rt;
-            held(&column, row),
-            (wanted.is_some(), wanted.unwrap_or(0)),
-            "row {row}"
-        );
-    }
-    Ok(())
-}
-
-#[test]
-fn slices_store_the_numbers(rt: HostRuntime) -> Result<(), Fail> {
-    for width in [1, 2, 3, 20, 63] {
-        slices_hold(&rt, rt.alloc(), width)?;
-    }
-    Ok(())
-}
-
-fn eq<E: Encoding>(component: &E, digit: u32, out: &mut Bits) -> bool {
-    if digit >= component.base() || component.len() != out.len() {
-        return false;
-    }
-    component.eq_into(digit, out);
-    true
-}
-
-// Whether the component has this base and these digits.
-fn has_digits<E: Encoding>(component: &E, base: u32, digits: &[u32], out: &mut Bits) -> bool {
-    component.base() == base
-        && component.len() == digits.len() as u64
-        && digits.iter().enumerate().all(|(row, digit)| eq(component, *digit, out)
-            && is_set(out, row as u64))
-}
-
 // Copies bits. A refused copy is made again.
 fn copied(bits: &Bits) -> Result<Bits, NoMemory> {
     match bits.copy() {
@@ -126,28 +79,33 @@ fn copied(bits: &Bits) -> Result<Bits, NoMemory> {
     }
 }
 
-// The digits of 7, none and 14 under the bases 5 and 3.
-fn digits_are_read<E: Encoding>(rt: &impl Abort, alloc: Global) -> Result<(), MakingError> {
-    let mut column = no_digits::<E>(alloc, &[5, 3])?;
-    append(&mut column, &[Some(7), None, Some(14)])?;
-    let mut out = copied(column.present())?;
-    assert_eq!(rt; (column.size(), column.bases().len()), (15, 2));
-    for (i, base, digits) in [(0, 3, [1, 0, 2]), (1, 5, [2, 0, 4])] {
-        if i < column.bases().len() {
-            let component = column.component(i);
-            assert!(rt;
-                has_digits(component, base, &digits, &mut out),
-                "component {i}"
-            );
-        }
+// Appends the entries at once, where there is room for them.
+fn push_block<C: Column>(column: &mut C) -> bool {
+    if column.room() < 3 || column.size() < 4 {
+        return false;
     }
-    Ok(())
+    column.push_block_reserved(&ENTRIES);
+    true
+}
+
+// A block goes into an empty column.
+fn takes_a_block<C: Column>(rt: &impl Abort, mut column: C) -> Result<(), NoMemory> {
+    if column.reserve(64).is_err() {
+        assert!(rt; column.len() == 0 && column.room() < 64);
+        column.reserve(64)?;
+    }
+    assert!(rt; push_block(&mut column));
+    selects_shown(rt, &column)
 }
 
 #[test]
-fn digits_are_those_of_the_numbers(rt: HostRuntime) -> Result<(), Fail> {
-    digits_are_read::<EqualityComponent>(&rt, rt.alloc())?;
-    digits_are_read::<RangeComponent>(&rt, rt.alloc())?;
+fn blocks_append_as_single_rows(rt: HostRuntime) -> Result<(), Fail> {
+    for form in FORMS {
+        takes_a_block(&rt, no_rows(rt.alloc(), form, FIFTEEN)?)?;
+    }
+    takes_a_block(&rt, PlainColumn::new(rt.alloc(), 15))?;
+    let column = no_digits::<WholeVectors<RangeComponent>>(rt.alloc(), FIFTEEN.bases)?;
+    takes_a_block(&rt, column)?;
     Ok(())
 }
 
@@ -161,16 +119,10 @@ fn nulls(column: &AnyColumn) -> Result<Bits, NoMemory> {
 
 #[test]
 fn nulls_are_the_rows_of_no_number(rt: HostRuntime) -> Result<(), Fail> {
-    let wide = Wide {
-        width: 3,
-        bases: &[2, 4],
-    };
     for form in FORMS {
-        let column = filled(no_rows(rt.alloc(), form, wide)?, 257)?;
-        let nulls = nulls(&column)?;
-        for row in 0..257 {
-            assert_eq!(rt; is_set(&nulls, row), row % 7 == 0, "row {row}");
-        }
+        let mut column = no_rows(rt.alloc(), form, FIFTEEN)?;
+        append(&mut column, &ENTRIES)?;
+        assert!(rt; shows(&nulls(&column)?, &[false, true, false]));
     }
     Ok(())
 }
@@ -194,7 +146,7 @@ fn sums<E: Encoding>(column: &Counted<E>, i: u32) -> u32 {
 }
 
 fn counted<E: Encoding>(alloc: Global) -> Result<Counted<E>, MakingError> {
-    filled(no_digits::<WholeVectors<E>>(alloc, &[5, 3])?, 100)
+    filled(no_digits::<WholeVectors<E>>(alloc, FIFTEEN.bases)?, 100)
 }
 
 fn calls_of_both<E: Encoding>(column: &Counted<E>) -> [u32; 2] {
