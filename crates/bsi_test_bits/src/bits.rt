@@ -185,7 +185,7 @@ fn ones_are_the_places_set(rt: HostRuntime) -> Result<(), Fail> {
     for place in [Some(0), Some(64), Some(128), None] {
         assert_eq!(rt; ones.next(), place);
     }
-    assert!(rt; bits.get(64));
+    assert!(rt; bits.len() == 130 && bits.get(64));
     Ok(())
 }
 
@@ -203,11 +203,18 @@ fn reserve(bits: &mut Bits) -> Result<bool, NoMemory> {
     Ok(stayed && bits.room() >= 64)
 }
 
+fn push_places(bits: &mut Bits) -> bool {
+    if bits.room() < 4 {
+        return false;
+    }
+    bits.push_word_reserved(0b1011, 4);
+    true
+}
+
 #[test]
 fn places_of_a_word_go_in_at_once(rt: HostRuntime) -> Result<(), Fail> {
     let mut bits = filled(rt.alloc(), 62, false)?;
-    assert!(rt; reserve(&mut bits)?);
-    bits.push_word_reserved(0b1011, 4);
+    assert!(rt; reserve(&mut bits)? && push_places(&mut bits));
     assert_eq!(rt; bits.words(), [0b11 << 62, 0b10].as_slice());
     assert_eq!(rt; (bits.len(), bits.count()), (66, 3));
     Ok(())
