@@ -14,6 +14,14 @@ pub(crate) fn broken(text: &[u8]) -> TextReader<'_> {
     }
 }
 
+// Gives the text, and then ends.
+pub(crate) fn whole(text: &[u8]) -> TextReader<'_> {
+    TextReader {
+        left: text,
+        ..EMPTY
+    }
+}
+
 // A buffer that a test writes to; a refused growth is asked for again.
 pub(crate) fn buffer(alloc: Global) -> Result<Vec<u8>, NoMemory> {
     match Vec::with_capacity(alloc, 4096) {
