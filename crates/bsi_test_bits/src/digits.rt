@@ -70,55 +70,6 @@ fn digits_of_fourteen(rt: &impl Abort, bases: &Bases) {
     assert_eq!(rt; [bases.base(1), bases.base(0)], [5, 3]);
 }
 
-#[test]
-fn the_first_refusal_that_applies_is_answered(rt: HostRuntime) -> Result<(), Fail> {
-    let ones = [1; 64];
-    let wide_and_large = [1024; 7];
-    let rows: [(&[u32], Result<u64, BasesError>); 8] = [
-        (&ones, Err(BasesError::TooMany)),
-        (
-            &[1024, 1025, 1024, 1024, 1024, 0],
-            Err(BasesError::BaseOutOfRange(1)),
-        ),
-        (&[4294967295], Err(BasesError::BaseOutOfRange(0))),
-        (&wide_and_large, Err(BasesError::TooWide)),
-        (&[1024, 1024, 1024, 1024], Ok(1099511627776)),
-        (
-            &[512, 512, 512, 512, 512, 512, 512],
-            Ok(9223372036854775808),
-        ),
-        (
-            &[1024, 512, 512, 512, 512, 512, 512],
-            Err(BasesError::ProductTooLarge),
-        ),
-        (&[2], Ok(2)),
-    ];
-    for (bases, want) in rows {
-        assert_eq!(rt; sized(rt.alloc(), bases)?, want, "at {bases:?}");
-    }
-    Ok(())
-}
-
-#[test]
-fn at_most_63_bases_are_taken(rt: HostRuntime) -> Result<(), Fail> {
-    let most = [2; 63];
-    let too_many = [2; 64];
-    let mut last_bad = most;
-    last_bad[62] = 1;
-    let mut too_large = most;
-    too_large[0] = 3;
-    let rows: [(&[u32], Result<u64, BasesError>); 4] = [
-        (&most, Ok(9223372036854775808)),
-        (&too_many, Err(BasesError::TooMany)),
-        (&last_bad, Err(BasesError::BaseOutOfRange(62))),
-        (&too_large, Err(BasesError::ProductTooLarge)),
-    ];
-    for (bases, want) in rows {
-        assert_eq!(rt; sized(rt.alloc(), bases)?, want, "at {bases:?}");
-    }
-    Ok(())
-}
-
 fn time_of(clock: &Bases, seconds: u64) -> Option<[u32; 3]> {
     if clock.len() != 3 || seconds >= clock.size() {
         return None;

@@ -1,9 +1,9 @@
-//! Tests of bit vectors and of digits. No crate uses it, so that no library is proved twice.
+//! Tests of bit vectors, digits, and components of both encodings. No crate uses it.
 #![tactic(auto)]
 
 #[cfg(test)]
 mod bits;
 #[cfg(test)]
-mod digits;
+mod components;
 #[cfg(test)]
-mod words;
+mod digits;

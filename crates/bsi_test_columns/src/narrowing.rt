@@ -6,9 +6,7 @@ ghost use Rattle.bsi_bits.specs.BitList.{word_count};
 
 use crate::comparisons::OPERATORS;
 use bsi_columns::{AnyColumn, Column, Decomposed, NoMemory, Op, RangeComponent};
-use bsi_plain::{
-    FORMS, MakingError, WholeVectors, Wide, append, entry, filled, no_digits, no_rows,
-};
+use bsi_plain::{FORMS, WholeVectors, Wide, entry, filled, no_digits, no_rows};
 use std::process::Abort;
 use std::test::Fail;
 
@@ -188,58 +186,6 @@ fn nulls_are_kept_of_blocks(rt: HostRuntime) -> Result<(), Fail> {
             let block = &mut buffer[..words.min(3)];
             assert!(&rt; nulls_of(&column, at, block), "{at}");
             same_rows(&rt, block, at, column.size(), Kept::Nulls);
-        }
-    }
-    Ok(())
-}
-
-// Each row has a number but one.
-fn number_but(null: u64, row: u64) -> Option<u64> {
-    if row == null { None } else { Some(row % 8) }
-}
-
-// Of the rows of the first words, those whose number the comparison with 3 selects.
-fn same_numbers(rt: &impl Abort, kept: &[u64], null: u64, rows: u64, op: Op) {
-    for (word, bits) in kept.iter().enumerate() {
-        for place in 0..64usize {
-            let row = word.wrapping_mul(64).wrapping_add(place) as u64;
-            if row < rows {
-                let wanted = number_but(null, row).is_some_and(|n| compares(op, n, 3));
-                assert_eq!(rt; bits >> place & 1 == 1, wanted, "{op:?} {row} of {rows}");
-            }
-        }
-    }
-}
-
-fn numbers_are_kept(rt: &impl Abort, column: &AnyColumn, null: u64) {
-    let words = column.len().div_ceil(64) as usize;
-    for op in OPERATORS {
-        let mut buffer = [u64::MAX; 3];
-        let block = &mut buffer[..words.min(3)];
-        assert!(rt; keep_any(column, op, 3, 0, block), "{op:?}");
-        same_numbers(rt, block, null, column.len(), op);
-    }
-}
-
-// Fills a column up to its first null, and past it.
-fn around_a_null(rt: &impl Abort, column: &mut AnyColumn, null: u64) -> Result<(), MakingError> {
-    for row in 0..null {
-        append(column, &[number_but(null, row)])?;
-    }
-    numbers_are_kept(rt, column, null);
-    for row in null..null.saturating_add(2) {
-        append(column, &[number_but(null, row)])?;
-    }
-    numbers_are_kept(rt, column, null);
-    Ok(())
-}
-
-#[test]
-fn the_first_null_is_left_out(rt: HostRuntime) -> Result<(), Fail> {
-    for form in FORMS {
-        for null in [0, 63, 64, 130] {
-            let mut column = no_rows(rt.alloc(), form, WIDE)?;
-            around_a_null(&rt, &mut column, null)?;
         }
     }
     Ok(())

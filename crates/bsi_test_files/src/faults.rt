@@ -1,64 +1,14 @@
-//! The faults of runs, in the order in which they are checked, and their texts.
+//! Runs that a reader or a writer ends, and the texts of faults.
 
-use crate::inputs::{Input, QUANTITIES, broken, text};
+use crate::inputs::{QUANTITIES, broken, text};
 use crate::runs::{Files, copy_of, end_of};
 use bsi_files::{FilesFault, Go, Which, run_files};
-use bsi_plain_streams::NarrowWriter;
+use bsi_plain::NarrowWriter;
 use bsi_text::SourceFault;
 use std::alloc::{AllocError, Global};
-use std::process::Abort;
 use std::sync::Wait;
 use std::test::Fail;
 use std::thread::Threads;
-
-// A run ends so, and has written nothing.
-fn ends_early<R: Threads + Wait + AllocGlobal + Abort + Sync>(
-    rt: &R,
-    schema: Input,
-    rows: &[Input],
-    want: FilesFault,
-) -> Result<(), AllocError> {
-    let files = Files {
-        schema,
-        asks: text("count,all\n"),
-        rows,
-    };
-    let ended = end_of(rt, files)?;
-    assert_eq!(rt; ended.run, Err(want));
-    assert_eq!(rt; ended.output.len(), 0, "at {want}");
-    Ok(())
-}
-
-#[test]
-fn schemas_that_are_refused(rt: HostRuntime) -> Result<(), Fail> {
-    let rows = [text("qty\n1\n")];
-    let begun = text("column,qty,slices,3\nbegin\n");
-    ends_early(&rt, begun, &rows, FilesFault::BadSchema(2))?;
-    ends_early(&rt, text("feeder,4\n"), &rows, FilesFault::BadSchema(1))?;
-    ends_early(&rt, text(""), &rows, FilesFault::NoColumns)?;
-    ends_early(&rt, text("limit,4\n"), &rows, FilesFault::NoColumns)?;
-    ends_early(
-        &rt,
-        broken(QUANTITIES),
-        &rows,
-        FilesFault::Read(Which::SchemaFile),
-    )?;
-    Ok(())
-}
-
-#[test]
-fn row_files_that_are_refused(rt: HostRuntime) -> Result<(), Fail> {
-    let limited = text("column,qty,slices,3\nlimit,1\n");
-    let headers = [text("qty\n1\n"), text("price\n1\n"), text("")];
-    let bad_header = FilesFault::Source(1, SourceFault::BadHeader);
-    ends_early(&rt, text(QUANTITIES), &headers, bad_header)?;
-    let failing = [text("qty\n1\n"), broken("qty\n1\n2\n"), broken("qty\n")];
-    let read = FilesFault::Source(1, SourceFault::Read);
-    ends_early(&rt, text(QUANTITIES), &failing, read)?;
-    ends_early(&rt, limited, &failing, FilesFault::IndexFull)?;
-    ends_early(&rt, limited, &[text("qty\n1\n2\n")], FilesFault::IndexFull)?;
-    Ok(())
-}
 
 #[test]
 fn more_than_64_files(rt: HostRuntime) -> Result<(), Fail> {

@@ -1,6 +1,6 @@
 //! Readers of the tests.
 
-use bsi_plain_streams::{EMPTY, TextReader};
+use bsi_plain::{EMPTY, TextReader};
 
 pub(crate) type Input = TextReader<'static>;
 

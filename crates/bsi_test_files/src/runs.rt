@@ -90,36 +90,6 @@ fn end_with<R: Threads + Wait + AllocGlobal + Sync, G: Gate + Sync>(
 }
 
 #[test]
-fn two_feeders(rt: HostRuntime) -> Result<(), Fail> {
-    let files = Files {
-        schema: text(QUANTITIES),
-        asks: text("list,all\n"),
-        rows: &[text("qty\n1\n3\n"), text("qty\n2\n")],
-    };
-    let ended = end_of(&rt, files)?;
-    assert_eq!(&rt; ended.run, Ok(()));
-    assert_eq!(&rt;
-        ended.output.as_slice(),
-        b"fed 0 2 0\nfed 1 1 0\nrows 0:0 0:1 1:0\n".as_slice()
-    );
-    Ok(())
-}
-
-#[test]
-fn a_row_file(rt: HostRuntime) -> Result<(), Fail> {
-    let files = Files {
-        schema: text("column,a,slices,4\ncolumn,b,range,10\n"),
-        asks: text("sum,b,all\ncount,a,null\nmedian,b,all\nlist,a,=,15\nload,0\n"),
-        rows: &[text("b,a\n3,15\n9,\nx,1\n10,2\n\"4\",\"0\"\n\n7\n")],
-    };
-    let want = b"fed 0 3 3\nsum 16\ncount 1\nvalue 4\nrows 0:0\nbad\n";
-    let ended = end_of(&rt, files)?;
-    assert_eq!(&rt; ended.run, Ok(()));
-    assert_eq!(&rt; ended.output.as_slice(), want.as_slice());
-    Ok(())
-}
-
-#[test]
 fn two_files_are_fed_side_by_side(rt: HostRuntime) -> Result<(), Fail> {
     let files = Files {
         schema: text(QUANTITIES),
@@ -156,23 +126,5 @@ fn the_loader_goes_on_beside_the_feeders(rt: HostRuntime) -> Result<(), Fail> {
         b"fed 0 3000 0\ncount 3000\n".as_slice()
     );
     assert_eq!(&rt; gate.passes(), 3_001);
-    Ok(())
-}
-
-#[test]
-fn rows_that_find_a_place_ask_no_gate(rt: HostRuntime) -> Result<(), Fail> {
-    let files = Files {
-        schema: text(QUANTITIES),
-        asks: text("count,all\ncount,qty,=,1\n"),
-        rows: &[text("qty\n1\n1\n")],
-    };
-    let once = Patience::new(0);
-    let twice = Patience::new(0);
-    let (ended, _) = end_with(&rt, files, &once, &twice)?;
-    assert_eq!(&rt; ended.run, Ok(()));
-    assert_eq!(&rt;
-        ended.output.as_slice(),
-        b"fed 0 2 0\ncount 2\ncount 2\n".as_slice()
-    );
     Ok(())
 }

@@ -2,10 +2,10 @@
 
 use bsi_columns::NoMemory;
 use bsi_load::{
-    CloseRefused, Core, Event, LoadRefused, MakeError, Reply, RunRefused, SubmitRefused,
+    Core, Event, LoadRefused, MakeError, Reply, RunRefused, SubmitRefused, check_sizes,
 };
-use bsi_plain_tables::{DeclaredColumn, QTY, row_of, schema_of};
-use bsi_table::{Answer, AskError, IndexError, Pred, Query, Row, Total};
+use bsi_plain::{DeclaredColumn, QTY, row_of, schema_of};
+use bsi_table::{Answer, AskError, Pred, Query, Row, Total};
 use std::alloc::Global;
 use std::process::Abort;
 use std::test::Fail;
@@ -186,40 +186,17 @@ fn two_runs(rt: HostRuntime) -> Result<(), Fail> {
     Ok(())
 }
 
-// Why such a machine is refused. Asserts that `check_sizes` gives the same refusal as the maker.
-fn refusal(rt: &impl Abort, alloc: Global, machine: Machine) -> Option<MakeError> {
-    let schema = schema_of(alloc, machine.columns).expect(rt, "columns");
-    let refused = bsi_load::check_sizes(&schema, machine.capacities, machine.limit).err();
-    assert_eq!(rt; made(alloc, machine).err(), refused);
-    refused
-}
-
 #[test]
-fn check_sizes(rt: HostRuntime) -> Result<(), Fail> {
-    let no_columns = Some(MakeError::Index(IndexError::NoColumns));
-    let no_limit = Some(MakeError::Index(IndexError::LimitOutOfRange));
-    let second = Some(MakeError::CapacityOutOfRange(1));
-    let cases: &[(&[DeclaredColumn], &[u32], u64, Option<MakeError>)] = &[
-        (&[QTY], &[], 10, Some(MakeError::NoFeeders)),
-        (&[QTY], &[4; 65], 10, Some(MakeError::TooManyFeeders)),
-        (&[QTY], &[1, 0], 10, second),
-        (&[QTY], &[1, 65537], 10, second),
-        (&[QTY], &[4], 0, no_limit),
-        (&[QTY], &[4], 10, None),
-        (&[], &[4], 0, no_columns),
-    ];
-    for (columns, capacities, limit, wanted) in cases {
-        let machine = Machine {
-            columns,
-            capacities,
-            limit: *limit,
-        };
-        assert_eq!(rt;
-            refusal(&rt, rt.alloc(), machine),
-            *wanted,
-            "{capacities:?}"
-        );
-    }
+fn sizes_are_checked(rt: HostRuntime) -> Result<(), Fail> {
+    let schema = schema_of(rt.alloc(), &[QTY]).expect(&rt, "a column");
+    assert_eq!(rt; check_sizes(&schema, &[4], 10), Ok(()));
+    let refused = check_sizes(&schema, &[1, 0], 10);
+    assert_eq!(rt; refused, Err(MakeError::CapacityOutOfRange(1)));
+    let machine = Machine {
+        capacities: &[1, 0],
+        ..PAIR
+    };
+    assert_eq!(rt; made(rt.alloc(), machine).err(), refused.err());
     Ok(())
 }
 

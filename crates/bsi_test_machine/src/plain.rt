@@ -2,7 +2,7 @@
 
 use bsi_columns::NoMemory;
 use bsi_load::{CloseRefused, Event, LoadRefused, Reply, SubmitRefused};
-use bsi_plain_tables::PlainTable;
+use bsi_plain::PlainTable;
 use bsi_table::Row;
 use std::alloc::Global;
 

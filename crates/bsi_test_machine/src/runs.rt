@@ -4,7 +4,7 @@ use crate::machine::*;
 use crate::plain::*;
 use bsi_columns::{NoMemory, Op};
 use bsi_load::{Event, Reply};
-use bsi_plain_tables::{DeclaredColumn, Form, QTY, Wide, both, either, not, row_of};
+use bsi_plain::{DeclaredColumn, Form, QTY, Wide, both, either, not, row_of};
 use bsi_table::{Pred, Query, Row, Total};
 use std::alloc::Global;
 use std::process::Abort;
@@ -153,11 +153,17 @@ fn plain_replies(alloc: Global, newest_first: bool) -> Result<Vec<Reply>, NoMemo
     Ok(replies)
 }
 
+// What the machine replies to them.
+fn core_replies(rt: &impl Abort, alloc: Global) -> Result<Vec<Reply>, NoMemory> {
+    let mut core = made(alloc, THREE_FEEDERS).expect(rt, "a machine");
+    replies(&mut core, events(alloc)?)
+}
+
 // Whether both machines reply alike to each event.
 fn agree_once(rt: &impl Abort, alloc: Global, newest_first: bool) -> Result<bool, NoMemory> {
     let plain = plain_replies(alloc, newest_first)?;
-    let mut core = made(alloc, THREE_FEEDERS).expect(rt, "a machine");
-    are_replies(&replies(&mut core, events(alloc)?)?, &plain)
+    let found = core_replies(rt, alloc)?;
+    are_replies(&found, &plain)
 }
 
 fn agree(rt: &impl Abort, alloc: Global, newest_first: bool) -> Result<bool, NoMemory> {

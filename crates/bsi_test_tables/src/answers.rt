@@ -3,7 +3,7 @@
 
 use crate::tables::{append_row, asked, index_of};
 use bsi_columns::{NoMemory, Op};
-use bsi_plain_tables::{DeclaredColumn, Form, PlainTable, Wide, both, either, not, row_of};
+use bsi_plain::{DeclaredColumn, Form, PlainTable, Wide, both, either, not, row_of};
 use bsi_table::{Answer, Index, Pred, Query, Row, Total};
 use std::alloc::Global;
 use std::process::Abort;
@@ -171,89 +171,6 @@ fn answers_are_those_of_a_plain_table(rt: HostRuntime) -> Result<(), Fail> {
     for rows in [0, 1, 65, 130] {
         let both = mixed_rows(&rt, rt.alloc(), rows)?;
         same_answers(&rt, rt.alloc(), &both)?;
-    }
-    Ok(())
-}
-
-const OPERATORS: [Op; 6] = [Op::Eq, Op::Ne, Op::Lt, Op::Le, Op::Gt, Op::Ge];
-
-/// Constants above an offset: about each end of sixteen numbers, and far from both.
-const CONSTANTS: [i128; 8] = [-(1 << 64), -1, 0, 7, 8, 15, 16, 1 << 64];
-
-// A row of this entry is appended to both.
-fn append_entry(
-    rt: &impl Abort,
-    alloc: Global,
-    both: &mut Both,
-    entry: Option<i128>,
-) -> Result<(), NoMemory> {
-    let row = row_of(alloc, &[entry])?;
-    append_to_both(rt, both, 0, row)
-}
-
-// A column of sixteen numbers from an offset on.
-fn six_rows(rt: &impl Abort, alloc: Global, column: DeclaredColumn) -> Result<Both, NoMemory> {
-    let mut both = no_rows(rt, alloc, &[column], 1, 10);
-    let offset = i128::from(column.offset);
-    append_entry(rt, alloc, &mut both, None)?;
-    for above in [0, 15, 7, 8, 7] {
-        append_entry(rt, alloc, &mut both, Some(offset + above))?;
-    }
-    Ok(both)
-}
-
-// The rows that each comparison with a constant selects.
-fn same_comparisons(
-    rt: &impl Abort,
-    alloc: Global,
-    both: &Both,
-    constant: i128,
-) -> Result<(), NoMemory> {
-    for op in OPERATORS {
-        let pred = Pred::Compare(0, op, constant);
-        let total = Total::Rows;
-        same_answer(rt, alloc, both, Query { total, pred })?;
-    }
-    Ok(())
-}
-
-// The totals of the numbers of all rows.
-fn same_totals(rt: &impl Abort, alloc: Global, both: &Both) -> Result<(), NoMemory> {
-    for total in [
-        Total::Sum(0),
-        Total::Least(0),
-        Total::Greatest(0),
-        Total::Median(0),
-    ] {
-        let pred = Pred::All;
-        same_answer(rt, alloc, both, Query { total, pred })?;
-    }
-    Ok(())
-}
-
-fn same_everywhere(
-    rt: &impl Abort,
-    alloc: Global,
-    both: &Both,
-    offset: i64,
-) -> Result<(), NoMemory> {
-    for above in CONSTANTS {
-        same_comparisons(rt, alloc, both, i128::from(offset) + above)?;
-    }
-    same_totals(rt, alloc, both)
-}
-
-fn same_from(rt: &impl Abort, alloc: Global, column: DeclaredColumn) -> Result<(), NoMemory> {
-    let both = six_rows(rt, alloc, column)?;
-    same_everywhere(rt, alloc, &both, column.offset)
-}
-
-#[test]
-fn columns_at_every_offset_answer_as_a_plain_table(rt: HostRuntime) -> Result<(), Fail> {
-    for offset in [i64::MIN, -8, -1, 0, 1, 1 << 62] {
-        for column in COLUMNS {
-            same_from(&rt, rt.alloc(), DeclaredColumn { offset, ..column })?;
-        }
     }
     Ok(())
 }

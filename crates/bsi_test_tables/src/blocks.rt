@@ -5,7 +5,7 @@ ghost use Rattle.std.specs.Prelude.{IsTrue};
 ghost use Rattle.bsi_table.specs.Table.{AreFitting, AreFrom};
 
 use crate::answers::{Both, COLUMNS, keep, no_rows, row_at, same_answers};
-use crate::tables::{has_rows, index_of};
+use crate::tables::has_rows;
 use bsi_columns::NoMemory;
 use bsi_table::{AppendError, Index, MAX_BLOCK_ROWS, Row};
 use std::alloc::Global;
@@ -92,36 +92,5 @@ fn blocks_beside_a_plain_table(rt: HostRuntime) -> Result<(), Fail> {
         append_to_both(&rt, rt.alloc(), &mut both, count)?;
     }
     same_answers(&rt, rt.alloc(), &both)?;
-    Ok(())
-}
-
-fn answers_block(
-    rt: &impl Abort,
-    alloc: Global,
-    index: &mut Index,
-    count: usize,
-    wanted: Result<u64, AppendError>,
-) -> Result<(), NoMemory> {
-    let rows = block_from(alloc, index.len(), count)?;
-    assert_eq!(rt; append_block(rt, index, &rows), Some(wanted), "{count}");
-    Ok(())
-}
-
-// A block that crosses the limit is left out whole, and one that ends at it goes in.
-#[test]
-fn blocks_at_the_limit(rt: HostRuntime) -> Result<(), Fail> {
-    let full = Err(AppendError::IndexFull);
-    let mut index = index_of(rt.alloc(), &COLUMNS, 3, 66).expect(&rt, "columns and a limit");
-    for (count, wanted, after) in [
-        (64, Ok(0), 64),
-        (3, full, 64),
-        (64, full, 64),
-        (2, Ok(64), 66),
-        (1, full, 66),
-        (0, Ok(66), 66),
-    ] {
-        answers_block(&rt, rt.alloc(), &mut index, count, wanted)?;
-        has_rows(&rt, &index, after);
-    }
     Ok(())
 }

@@ -6,8 +6,6 @@ mod answers;
 #[cfg(test)]
 mod blocks;
 #[cfg(test)]
-mod lists;
-#[cfg(test)]
 mod selections;
 #[cfg(test)]
 mod tables;

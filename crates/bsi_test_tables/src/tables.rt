@@ -1,6 +1,6 @@
 //! Indexes that the tests make and ask. A refused allocation is tried again.
 
-use bsi_plain_tables::{DeclaredColumn, schema_of};
+use bsi_plain::{DeclaredColumn, schema_of};
 use bsi_table::{Answer, AppendError, AskError, Index, IndexError, Pred, Query, Row, Total};
 use std::alloc::Global;
 use std::process::Abort;

@@ -1,14 +1,10 @@
-//! What a schema and an index refuse, and an index on worked rows. Each test tolerates one refused allocation, and then
+//! A schema, and an index on worked rows. Each test tolerates one refused allocation, and then
 //! makes the same call again.
 
 use crate::tables::{answer, append_row, has_rows, index_of};
 use bsi_columns::{AnyColumn, NoMemory, Op};
-use bsi_digits::BasesError;
-use bsi_plain::shows;
-use bsi_plain_tables::{DeclaredColumn, FORMS, Form, QTY, Wide, add, both, not, row_of};
-use bsi_table::{
-    Answer, AppendError, AskError, Index, IndexError, Pred, Row, Schema, SchemaError, Total,
-};
+use bsi_plain::{DeclaredColumn, FORMS, Form, QTY, add, both, not, row_of, shows};
+use bsi_table::{Answer, AskError, Index, Pred, Row, Schema, SchemaError, Total};
 use std::alloc::Global;
 use std::process::Abort;
 use std::test::Fail;
@@ -138,35 +134,6 @@ fn taken(rt: &impl Abort, schema: &Schema, columns: u32) {
     }
 }
 
-fn is_refused(
-    rt: &impl Abort,
-    alloc: Global,
-    schema: &mut Schema,
-    column: DeclaredColumn,
-    refusal: SchemaError,
-) {
-    let refused = add(alloc, schema, column);
-    assert_eq!(rt; refused, Err(refusal), "{}", column.name);
-}
-
-// What is refused of a schema of one column.
-fn refusals(rt: &impl Abort, alloc: Global, schema: &mut Schema) {
-    is_refused(rt, alloc, schema, QTY, SchemaError::NameTaken);
-    let named = DeclaredColumn { name: "Qty", ..QTY };
-    is_refused(rt, alloc, schema, named, SchemaError::BadName);
-    let empty = DeclaredColumn {
-        name: "empty",
-        form: Form::Range,
-        wide: Wide {
-            width: 0,
-            bases: &[],
-        },
-        offset: 0,
-    };
-    let refusal = SchemaError::BadBases(BasesError::Empty);
-    is_refused(rt, alloc, schema, empty, refusal);
-}
-
 fn copy_is_taken(rt: &impl Abort, schema: &Schema) -> Result<(), NoMemory> {
     let copy = match schema.copy() {
         Err(_) => schema.copy()?,
@@ -180,63 +147,11 @@ fn copy_is_taken(rt: &impl Abort, schema: &Schema) -> Result<(), NoMemory> {
 fn makers_of_a_schema(rt: HostRuntime) -> Result<(), Fail> {
     let mut schema = Schema::new(rt.alloc());
     assert_eq!(rt; add(rt.alloc(), &mut schema, QTY), Ok(()));
-    refusals(&rt, rt.alloc(), &mut schema);
+    let again = add(rt.alloc(), &mut schema, QTY);
+    assert_eq!(rt; again, Err(SchemaError::NameTaken));
     taken(&rt, &schema, 1);
     copy_is_taken(&rt, &schema)?;
     Ok(())
-}
-
-fn numbered(alloc: Global, k: u32) -> Result<String, NoMemory> {
-    match format!(in alloc; "c{k}") {
-        Err(_) => format!(in alloc; "c{k}"),
-        name => name,
-    }
-}
-
-fn add_numbered(
-    rt: &impl Abort,
-    alloc: Global,
-    schema: &mut Schema,
-    k: u32,
-) -> Result<(), NoMemory> {
-    let name = numbered(alloc, k)?;
-    let column = DeclaredColumn {
-        name: name.as_str(),
-        ..QTY
-    };
-    assert_eq!(rt; add(alloc, schema, column), Ok(()), "{k}");
-    Ok(())
-}
-
-#[test]
-fn the_most_columns(rt: HostRuntime) -> Result<(), Fail> {
-    let mut schema = Schema::new(rt.alloc());
-    for k in 0..64 {
-        add_numbered(&rt, rt.alloc(), &mut schema, k)?;
-    }
-    let more = DeclaredColumn {
-        name: "one_more",
-        ..QTY
-    };
-    is_refused(
-        &rt,
-        rt.alloc(),
-        &mut schema,
-        more,
-        SchemaError::TooManyColumns,
-    );
-    let again = DeclaredColumn { name: "c0", ..QTY };
-    is_refused(&rt, rt.alloc(), &mut schema, again, SchemaError::NameTaken);
-    assert_eq!(rt; schema.columns(), 64);
-    Ok(())
-}
-
-// An index of one row at most takes one.
-fn is_full_after_one(rt: &impl Abort, index: &mut Index, row: &Row) {
-    assert_eq!(rt; append_row(index, 0, row), Some(Ok(0)));
-    let refused = Some(Err(AppendError::IndexFull));
-    assert_eq!(rt; append_row(index, 0, row), refused);
-    assert_eq!(rt; index.len(), 1);
 }
 
 fn copied_row(row: &Row) -> Result<Row, NoMemory> {
@@ -244,25 +159,6 @@ fn copied_row(row: &Row) -> Result<Row, NoMemory> {
         Err(_) => row.copy(),
         copy => copy,
     }
-}
-
-#[test]
-fn makers_of_an_index(rt: HostRuntime) -> Result<(), Fail> {
-    let refused = index_of(rt.alloc(), &[], 1, 10).err();
-    assert_eq!(rt; refused, Some(IndexError::NoColumns));
-    for limit in [0, 4294967297] {
-        let refused = index_of(rt.alloc(), &[QTY], 1, limit).err();
-        assert_eq!(rt; refused, Some(IndexError::LimitOutOfRange), "{limit}");
-    }
-    Ok(())
-}
-
-#[test]
-fn an_index_of_one_row_is_full(rt: HostRuntime) -> Result<(), Fail> {
-    let row = row_of(rt.alloc(), &[Some(5)])?;
-    let mut index = index_of(rt.alloc(), &[QTY], 1, 1).expect(&rt, "a column and a limit");
-    is_full_after_one(&rt, &mut index, &row);
-    Ok(())
 }
 
 #[test]

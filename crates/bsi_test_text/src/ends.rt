@@ -1,6 +1,6 @@
 //! Scripts whose readers and writers fail.
 
-use bsi_plain_streams::{EMPTY, NarrowWriter, TextReader};
+use bsi_plain::{EMPTY, NarrowWriter, TextReader};
 use bsi_text::{NoMemory, ScriptFault, run_script};
 use std::alloc::Global;
 use std::test::Fail;
@@ -10,6 +10,14 @@ pub(crate) fn broken(text: &[u8]) -> TextReader<'_> {
     TextReader {
         left: text,
         fails: true,
+        ..EMPTY
+    }
+}
+
+// Gives the text, and then ends.
+pub(crate) fn whole(text: &[u8]) -> TextReader<'_> {
+    TextReader {
+        left: text,
         ..EMPTY
     }
 }

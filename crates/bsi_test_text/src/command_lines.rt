@@ -1,0 +1,116 @@
+//! How a command line ends, and how often its output is flushed.
+
+use bsi_plain::{EMPTY, NarrowWriter, TextReader};
+use bsi_shell::run_words;
+use std::alloc::{AllocError, Global};
+use std::io::Read;
+use std::rt::Files;
+use std::sync::Wait;
+use std::test::Fail;
+use std::thread::Threads;
+
+// How a command line ends: its status, what it wrote, and how often it flushed its output.
+#[derive(Drop)]
+struct Ended {
+    status: u8,
+    output: Vec<u8>,
+    faults: Vec<u8>,
+    flushes: u64,
+}
+
+// How a command line is run: its words, whether its reader fails after the text, and how much its writer takes.
+#[derive(Clone, Copy)]
+struct Line<'a> {
+    words: &'a str,
+    text: &'a str,
+    is_broken: bool,
+    room: usize,
+    fails: bool,
+}
+
+fn words_of(alloc: Global, line: &str) -> Result<Vec<String>, AllocError> {
+    let mut list = Vec::new(alloc);
+    for word in line.split_whitespace() {
+        list.push(String::from_str(alloc, word)?)?;
+    }
+    Ok(list)
+}
+
+fn end_once<R: AllocGlobal + Files<File = S> + Threads + Wait + Sync, S: Read + Drop + Send>(
+    rt: &R,
+    line: Line<'_>,
+) -> Result<Ended, AllocError> {
+    let words = words_of(rt.alloc(), line.words)?;
+    let mut output = NarrowWriter {
+        taken: Vec::with_capacity(rt.alloc(), 4096)?,
+        room: line.room,
+        fails: line.fails,
+        flushes: 0,
+    };
+    let mut faults = Vec::with_capacity(rt.alloc(), 4096)?;
+    let reader = TextReader {
+        left: line.text.as_bytes(),
+        fails: line.is_broken,
+        ..EMPTY
+    };
+    Ok(Ended {
+        status: run_words(rt, words, reader, &mut output, &mut faults),
+        flushes: output.flushes,
+        output: output.taken,
+        faults,
+    })
+}
+
+// How the line ends. Where memory was refused, it is run again.
+fn end_of<R: AllocGlobal + Files<File = S> + Threads + Wait + Sync, S: Read + Drop + Send>(
+    rt: &R,
+    line: Line<'_>,
+) -> Result<Ended, AllocError> {
+    match end_once(rt, line) {
+        Ok(end) if end.faults.as_slice() != b"bsi: no memory\n".as_slice() => Ok(end),
+        _ => end_once(rt, line),
+    }
+}
+
+// A line whose reader and writer do not fail.
+const PLAIN: Line<'static> = Line {
+    words: "script",
+    text: "begin\nbegin\nload,0",
+    is_broken: false,
+    room: 99,
+    fails: false,
+};
+
+#[test]
+fn the_script_word_runs_the_script(rt: HostRuntime) -> Result<(), Fail> {
+    let end = end_of(&rt, PLAIN)?;
+    assert_eq!(rt; end.status, 0);
+    assert_eq!(rt; end.output.as_slice(), b"bad\nbad\nbad\n".as_slice());
+    assert_eq!(rt; end.faults.len(), 0);
+    assert_eq!(rt; end.flushes, 1);
+    Ok(())
+}
+
+#[test]
+fn each_fault_has_its_text_and_status_one(rt: HostRuntime) -> Result<(), Fail> {
+    for (is_broken, room, fails, wrote, want) in [
+        (true, 99, false, "bad\nbad\n", "bsi: read failed\n"),
+        (true, 99, true, "bad\nbad\n", "bsi: read failed\n"),
+        (false, 6, true, "bad\nba", "bsi: write failed\n"),
+        (false, 6, false, "bad\nba", "bsi: write failed\n"),
+        (false, 99, true, "bad\nbad\nbad\n", "bsi: write failed\n"),
+    ] {
+        let line = Line {
+            is_broken,
+            room,
+            fails,
+            ..PLAIN
+        };
+        let end = end_of(&rt, line)?;
+        assert_eq!(rt; end.status, 1, "at {want}");
+        assert_eq!(rt; end.faults.as_slice(), want.as_bytes());
+        assert_eq!(rt; end.output.as_slice(), wrote.as_bytes(), "at {want}");
+        assert_eq!(rt; end.flushes, 1, "at {want}");
+    }
+    Ok(())
+}
