@@ -1,6 +1,6 @@
 //! A lane: the loader's end of one ring, and what the feeder's closing told about it.
 
-ghost use Rattle.std.specs.Prelude.{◌≡◌, ◌<◌, ◌↔◌, [], ◌∷◌, IfOk, IsTrue, length};
+ghost use Rattle.std.specs.Prelude.{◌≡◌, ◌<◌, ◌↔◌, [], ◌∷◌, IfOk, IfSome, IsTrue, length};
 ghost use mathlib.Core.List.{IsPrefix};
 
 use crate::{Closing, NoMemory};
@@ -31,7 +31,7 @@ pub struct Lane {
 
 // Clauses see which ring it is, the rows that were taken, those that are seen in the ring, and what was told.
 impl Model for Lane {
-    ghost use Rattle.std.specs.Prelude.{option_map};
+    ghost use Rattle.std.specs.Prelude.{◌≡◌, IfSome, option_map};
     ghost use Rattle.rtrb.specs.Ring.{all_sent, received, known_items};
     ghost use Rattle.bsi_rings.specs.Rings.{ring_of, Intake, IsLane};
 
@@ -45,7 +45,8 @@ impl Model for Lane {
     } };
 
     ghost invariant = { λ l. IsLane (record { ring = ring_of l.ring.end; schema = l.schema.value })
-        (received l.ring) (known_items l.ring) (option_map all_sent l.finished) };
+        (received l.ring) (known_items l.ring) (option_map all_sent l.finished)
+        × IfSome l.finished (λ finished. ring_of finished.end ≡ ring_of l.ring.end) };
 }
 
 impl Lane {
@@ -112,14 +113,22 @@ impl Lane {
         self.ring.pop_known()
     }
 
-    /// Learns from the closing of the ring's feeder what was sent. It takes no row and allocates no memory.
+    /// Learns from the closing of the ring's feeder what was sent. It takes no row and allocates no memory. A second
+    /// closing of one ring would tell the same rows.
     pub fn settle(&mut self, closing: Closing)
         requires { closing.lane ≡ self.old.lane }
         ensures settled { Settles self.old closing self.new }
         ensures whole { IsWhole self.new }
+        ensures once { IfSome self.old.told (λ sent. closing.rows ≡ sent) }
     {
         let mut finished = closing.into_finished();
         self.ring.slots_after(&mut finished);
-        self.finished = Some(finished);
+        match &mut self.finished {
+            // What was told before stays.
+            Some(first) => {
+                self.ring.slots_after(first);
+            }
+            None => self.finished = Some(finished),
+        }
     }
 }

@@ -12,4 +12,4 @@ returns-then-look-clause-front c =
     let l = c.self.inside in
     let row = c.peek_known.result.now in
     let misfit = ap (λ s. fits s.columns row) (sym c.deref.ensures) ∙ (sym c.fits.ensures ∙ c.if-fits.false) in
-    ap (λ i. i.told) (sym c.self.view_is) ∙ untold (record { ring = ring_of l.ring.end; schema = l.schema.value }) (received l.ring) (known_items l.ring) (option_map all_sent l.finished) row c.self.invariant c.peek_known.ensures misfit
+    ap (λ i. i.told) (sym c.self.view_is) ∙ untold (record { ring = ring_of l.ring.end; schema = l.schema.value }) (received l.ring) (known_items l.ring) (option_map all_sent l.finished) row c.self.invariant.0 c.peek_known.ensures misfit
