@@ -7,10 +7,10 @@ use Rattle.logbook.specs.Pages.{Book}
 use Rattle.bsi_table.specs.Rows.{Entries}
 use Rattle.bsi_table.specs.Table.{with_rows, Table}
 use Rattle.bsi_versions.specs.Pages.{with_list, Edition, Known, Rows}
-use Rattle.bsi_versions.specs.Editions.{after, published_all, rows_of, with_held, written, HasStaged, IsWriting, Stands}
+use Rattle.bsi_versions.specs.Editions.{after, published_all, rows_of, with_held, written, HasStaged, IsMarked, IsWriting, Stands}
 use Rattle.bsi_versions.specs.declared.operation.Operation.{Operation}
 use Rattle.bsi_versions.specs.declared.operation.Operation.TheVariants.{Rows as rows_operation, Mark}
-use Rattle.bsi_versions.proofs.Growing.{prefix_self, prefix_trans}
+use Rattle.bsi_versions.proofs.Growing.{prefix_self, prefix_trans, prefix_whole}
 
 -- ---- pending operations
 
@@ -41,20 +41,28 @@ pub marked : (e : Edition) (pending : List Operation) (known : Known)
     → fold after e (pending ++ Mark known ∷ []) ≡ record { table = with_rows e.table (rows_of pending); known = known }
 marked e pending known = fold-push e pending (Mark known) ∙ ap (λ (t : Table). record { table = t; known = known }) (table_after e pending)
 
+-- a block of rows marks no list
+pub known_after : (e : Edition) (pending more : List Operation) (x : Operation) → more ≡ pending ++ x ∷ [] → ((d : Edition) → (after d x).known ≡ d.known)
+    → (fold after e more).known ≡ (fold after e pending).known
+known_after e pending more x is keeps = ap (λ (xs : List Operation). (fold after e xs).known) is ∙ ap (λ (d : Edition). d.known) (fold-push e pending x) ∙ keeps (fold after e pending)
+
 -- ---- the stage
 
 -- nothing went into the pending operations
-pub staged_none : (pending more : List Operation) (stage left : Rows) → rows_of more ≡ rows_of pending → left ≡ stage → HasStaged pending stage more left
-staged_none pending more stage left rows same = record {
-  held = ap (λ (xs : Rows). xs ++ left) rows ∙ ap (λ (xs : Rows). rows_of pending ++ xs) same;
-  begins = subst (λ (xs : Rows). IsPrefix (rows_of pending) xs) (sym rows) (prefix_self (rows_of pending));
+pub staged_none : (pending more : List Operation) (stage left : Rows) → more ≡ pending → left ≡ stage → HasStaged pending stage more left
+staged_none pending more stage left kept same = record {
+  held = ap (λ (xs : List Operation). rows_of xs ++ left) kept ∙ ap (λ (xs : Rows). rows_of pending ++ xs) same;
+  begins = subst (λ (xs : List Operation). IsPrefix (rows_of pending) (rows_of xs)) (sym kept) (prefix_self (rows_of pending));
+  known = λ e. ap (λ (xs : List Operation). (fold after e xs).known) kept;
 }
 
 -- all rows of the stage did
-pub staged_all : (pending more : List Operation) (stage left : Rows) → rows_of more ≡ rows_of pending ++ stage → left ≡ [] → HasStaged pending stage more left
-staged_all pending more stage left rows none = record {
+pub staged_all : (pending more : List Operation) (stage left : Rows) (known : (e : Edition) → (fold after e more).known ≡ (fold after e pending).known)
+    → rows_of more ≡ rows_of pending ++ stage → left ≡ [] → HasStaged pending stage more left
+staged_all pending more stage left known rows none = record {
   held = ap (λ (xs : Rows). rows_of more ++ xs) none ∙ append-nil (rows_of more) ∙ rows;
   begins = (stage, sym rows);
+  known = known;
 }
 
 -- a prefix of the front begins the whole
@@ -131,36 +139,86 @@ module _ (book : Book) (about : Table) where
       places = omega (arith, is.places, ap length rows);
     }
 
-    -- what is to be shown once it is marked
-    pub next_stands : (again : Known) → again ≡ with_list history next_list → Stands book about (fold after shown (pending ++ Mark again ∷ []))
-    next_stands again added = subst (Stands book about) (sym (marked shown pending again))
-        (record {
-          book_is = ap (λ k. k.book) added ∙ is.same_book;
-          list_is = ap (λ k. k.list) added;
-          about_is = is.stands.about_is;
-        })
+    -- how many rows are to be shown, where the stage is empty
+    pub next_len : (limit : ℕ) → limit ≡ shown.table.limit → stage ≡ [] → limit - free ≡ length next_list
+    next_len limit same none = omega (arith, is.places, same, ap length none, length-append shown.table.rows (rows_of pending))
 
     -- all held rows are shown
-    pub shown_writing : (again : Known) (next : Edition) (none : List Operation) → again ≡ with_list history next_list → next ≡ fold after shown (pending ++ Mark again ∷ []) → none ≡ []
-        → IsWriting book about next none stage again free
-    shown_writing again next none added now nothing =
-        let e : Edition = record { table = with_rows shown.table (rows_of pending); known = again } in
-        let is_e : next ≡ e = now ∙ marked shown pending again in
-        subst (λ (x : Edition). IsWriting book about x none stage again free) (sym is_e)
-        (subst (λ (ops : List Operation). IsWriting book about e ops stage again free) (sym nothing)
+    pub shown_writing : (again : Known) (marks : List Operation) (next : Edition) (none : List Operation) → (again ≡ history) ⊎ (again ≡ with_list history next_list) → rows_of marks ≡ rows_of pending
+        → Stands book about (fold after shown marks) → next ≡ fold after shown marks → none ≡ [] → IsWriting book about next none stage again free
+    shown_writing again marks next none added rows stands now nothing =
+        let kept = kept_writing again marks added rows in
+        let table = table_after shown marks in
+        subst (λ (x : Edition). IsWriting book about x none stage again free) (sym now)
+        (subst (λ (ops : List Operation). IsWriting book about (fold after shown marks) ops stage again free) (sym nothing)
         (record {
-          stands = record { book_is = ap (λ k. k.book) added ∙ is.same_book; list_is = ap (λ k. k.list) added; about_is = is.stands.about_is };
-          same_book = ap (λ k. k.book) added ∙ is.same_book;
-          begins = subst (λ (xs : Rows). IsPrefix xs (next_list ++ [])) (sym (ap (λ k. k.list) added)) ([], refl);
-          places = omega (arith, is.places, length-append shown.table.rows (rows_of pending));
+          stands = stands;
+          same_book = kept.same_book;
+          begins = subst (λ (xs : Rows). IsPrefix again.list (xs ++ [])) (sym (ap (λ (t : Table). t.rows) table))
+              (subst (λ (xs : Rows). IsPrefix again.list xs) (sym (append-nil (shown.table.rows ++ rows_of marks))) kept.begins);
+          places = omega (arith, kept.places, ap (λ (t : Table). length t.rows) table, ap (λ (t : Table). t.limit) table, length-append shown.table.rows (rows_of marks));
         }))
 
+-- ---- the last list that is marked
+
+module _ (book : Book) (shown : Edition) (pending : List Operation) (n : ℕ) (is : IsMarked book shown pending n) where
+  -- it stays while rows of the stage become pending
+  pub staged_marked : (more : List Operation) (stage left : Rows) → HasStaged pending stage more left → IsMarked book shown more n
+  staged_marked more stage left staged =
+      let same = staged.known shown in
+      record {
+        same_book = ap (λ (k : Known). k.book) same ∙ is.same_book;
+        begins = subst (λ (xs : Rows). IsPrefix xs (shown.table.rows ++ rows_of more)) (sym (ap (λ (k : Known). k.list) same))
+            (prefix_trans (fold after shown pending).known.list (shown.table.rows ++ rows_of pending) (shown.table.rows ++ rows_of more) is.begins
+            (front_begins shown.table.rows (rows_of pending) (rows_of more) staged.begins));
+        many = ap (λ (k : Known). length k.list) same ∙ is.many;
+      }
+
+  -- where it has all rows, the edition that it leads to may be shown
+  pub marked_stands : (about : Table) → Stands book about shown → n ≡ length (shown.table.rows ++ rows_of pending) → Stands book about (fold after shown pending)
+  marked_stands about stands all = record {
+    book_is = is.same_book;
+    list_is = prefix_whole (fold after shown pending).known.list (shown.table.rows ++ rows_of pending) is.begins (omega (arith, is.many, all))
+        ∙ sym (ap (λ (t : Table). t.rows) (table_after shown pending));
+    about_is = ap (λ (t : Table). Rattle.bsi_versions.specs.Editions.emptied t) (table_after shown pending) ∙ stands.about_is;
+  }
+
+  -- it is shown
+  pub shown_marked : (next : Edition) (none : List Operation) → next ≡ fold after shown pending → none ≡ [] → IsMarked book next none n
+  shown_marked next none now nothing =
+      subst (λ (e : Edition). IsMarked book e none n) (sym now)
+      (subst (λ (ops : List Operation). IsMarked book (fold after shown pending) ops n) (sym nothing)
+      (record {
+        same_book = is.same_book;
+        begins = subst (λ (xs : Rows). IsPrefix (fold after shown pending).known.list (xs ++ [])) (sym (ap (λ (t : Table). t.rows) (table_after shown pending)))
+            (subst (λ (xs : Rows). IsPrefix (fold after shown pending).known.list xs) (sym (append-nil (shown.table.rows ++ rows_of pending))) is.begins);
+        many = is.many;
+      }))
+
+-- a list that is to be shown is marked
+pub marked_all : (book : Book) (shown : Edition) (pending more : List Operation) (known : Known) (len : ℕ)
+    → more ≡ pending ++ Mark known ∷ [] → known.book ≡ book → known.list ≡ shown.table.rows ++ rows_of pending
+    → len ≡ length (shown.table.rows ++ rows_of pending) → IsMarked book shown more len
+marked_all book shown pending more known len is same list all =
+    let knows : (fold after shown more).known ≡ known =
+    ap (λ (xs : List Operation). (fold after shown xs).known) is ∙ ap (λ (e : Edition). e.known) (marked shown pending known) in
+    let rows : rows_of more ≡ rows_of pending = ap rows_of is ∙ rows_of-mark pending known in
+    record {
+      same_book = ap (λ (k : Known). k.book) knows ∙ same;
+      begins = subst (λ (xs : Rows). IsPrefix xs (shown.table.rows ++ rows_of more)) (sym (ap (λ (k : Known). k.list) knows))
+          (subst (λ (xs : Rows). IsPrefix known.list (shown.table.rows ++ xs)) (sym rows)
+          (subst (λ (xs : Rows). IsPrefix known.list xs) list (prefix_self known.list)));
+      many = ap (λ (k : Known). length k.list) knows ∙ ap length list ∙ sym all;
+    }
+
 -- what contracts see once all held rows are shown
-pub published_view : (shown : Edition) (pending : List Operation) (stage : Rows) (again : Known) (next : Edition) (none : List Operation)
-    → next ≡ fold after shown (pending ++ Mark again ∷ []) → none ≡ [] → stage ≡ [] → written next none stage ≡ published_all (written shown pending stage)
-published_view shown pending stage again next none now nothing empty =
+pub published_view : (shown : Edition) (pending marks : List Operation) (stage : Rows) (next : Edition) (none : List Operation)
+    → next ≡ fold after shown marks → rows_of marks ≡ rows_of pending → none ≡ [] → stage ≡ [] → written next none stage ≡ published_all (written shown pending stage)
+published_view shown pending marks stage next none now rows nothing empty =
     ap (λ (ops : List Operation). written next ops stage) nothing
-    ∙ ap (λ (e : Edition). written e [] stage) (now ∙ marked shown pending again)
+    ∙ ap (λ (e : Edition). written e [] stage) now
+    ∙ ap (λ (t : Table). record { table = t; held = stage }) (table_after shown marks)
+    ∙ ap (λ (xs : Rows). record { table = with_rows shown.table xs; held = stage }) rows
     ∙ ap (λ (xs : Rows). record { table = with_rows shown.table (rows_of pending); held = xs }) empty
     ∙ ap (λ (xs : Rows). record { table = with_rows shown.table xs; held = [] }) (sym (append-nil (rows_of pending)) ∙ ap (λ (xs : Rows). rows_of pending ++ xs) (sym empty))
 

@@ -1,5 +1,5 @@
 -- What is published of a system, and what is held back.
-use Rattle.std.specs.Prelude.{◌≡◌, ℕ, ◌+◌, List, [], ◌∷◌, ◌++◌, drop, length}
+use Rattle.std.specs.Prelude.{◌≡◌, ℕ, ◌+◌, List, [], ◌∷◌, ◌++◌, drop, fold, length}
 use mathlib.Core.List.{IsPrefix}
 use Rattle.left_right.specs.declared.Absorb.{Ghosts}
 use Rattle.left_right.specs.declared.writer.Writer.{Writer}
@@ -52,10 +52,18 @@ with_held w feeder row = record w { held = w.held ++ (feeder, row) ∷ [] }
 abbrev pub published_all : Written → Written
 published_all w = record { table = record w.table { rows = w.table.rows ++ w.held }; held = [] }
 
--- rows of the stage may have gone into the pending operations: held are the same rows, in the same order
+-- rows of the stage may have gone into the pending operations: held are the same rows, in the same order, and no list
+-- was marked
 pub record HasStaged (pending : List Operation) (stage : Rows) (more : List Operation) (left : Rows) : Type 0 where
   pub held : rows_of more ++ left ≡ rows_of pending ++ stage
   pub begins : IsPrefix (rows_of pending) (rows_of more)
+  pub known : (e : Edition) → (fold after e more).known ≡ (fold after e pending).known
+
+-- the last list that is marked, or shown where none is pending, has so many rows: the first ones that are to be shown
+pub record IsMarked (book : Book) (shown : Edition) (pending : List Operation) (marked : ℕ) : Type 0 where
+  pub same_book : (fold after shown pending).known.book ≡ book
+  pub begins : IsPrefix (fold after shown pending).known.list (shown.table.rows ++ rows_of pending)
+  pub many : length (fold after shown pending).known.list ≡ marked
 
 -- what the writing end keeps to, of the edition that is shown, the pending operations, the stage, the history, and the
 -- places that are free

@@ -1,4 +1,4 @@
--- The history of a table: the lists of rows that were published, each whole.
+-- The history of a table: the lists of rows that publishes were to show, each whole.
 use Rattle.std.specs.Prelude.{◌≡◌, ℕ, true, List, [], ◌∷◌, length}
 use mathlib.Core.List.{IsPrefix}
 use Rattle.logbook.specs.Pages.{Book, Cell, Named, Step, View}
@@ -31,7 +31,7 @@ head_of b = record { tracked = true; key = 0; book = b }
 abbrev pub Adds : Step Rows → View Rows ℕ → ℕ → View Rows ℕ → Type 0
 Adds s v found w = found ≡ s.old → latest [] w.0 ≡ s.ask
 
--- a list that was published, and in which history
+-- a list, and in which history it stands
 pub record Known : Type 0 where
   pub book : Book
   pub list : Rows
@@ -39,7 +39,7 @@ pub record Known : Type 0 where
 abbrev pub with_list : Known → Rows → Known
 with_list known rows = record { book = known.book; list = rows }
 
--- a table, and the list that its rows are where it is published
+-- a table, and the list of the history that its rows are where it is shown
 pub record Edition : Type 0 where
   pub table : Table
   pub known : Known

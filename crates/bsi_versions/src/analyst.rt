@@ -16,7 +16,8 @@ use std::marker::Model;
 /// Why a question is not answered, in the order of the checks.
 #[derive(Clone, Copy, Debug, PartialEq, Eq)]
 pub enum AnalystRefused {
-    /// The analyst was given no copy of the table, as may happen once the writing end is gone.
+    /// The analyst was given no copy of the table, as may happen once the writing end is gone. It is also the answer to
+    /// a copy with fewer rows than the analyst knows, which no run meets.
     Gone,
     /// The table refused the question.
     Ask(AskError),

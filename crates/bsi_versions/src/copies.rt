@@ -3,7 +3,7 @@
 ghost use Rattle.std.specs.Prelude.{◌≡◌, ◌<◌, ◌≤◌, ◌++◌, ◌∷◌, [], ◌⊎◌, OnErr, OnOk, fold, length, vec_capacity, vec_len};
 ghost use mathlib.Core.List.{IsPrefix};
 ghost use Rattle.bsi_versions.specs.Pages.{with_list};
-ghost use Rattle.bsi_versions.specs.Editions.{after, pending, rows_of, HasStaged, Stands};
+ghost use Rattle.bsi_versions.specs.Editions.{after, pending, rows_of, HasStaged, IsMarked, Stands};
 ghost use Rattle.bsi_versions.specs.declared.operation.Operation.TheVariants.{Mark};
 
 use crate::history::{History, Page};
@@ -94,12 +94,37 @@ fn append_stage<B: Naming>(
     }
 }
 
-/// Adds to the history the list that is to be shown, and appends its mark after the pending rows.
-pub(crate) fn mark<B: Naming>(
+/// Marks the list that is to be shown, unless a publish that was refused has marked it, or it is shown already.
+pub(crate) fn mark_all<B: Naming>(
     copies: &mut Copies<B>,
     history: &mut History,
+    marked: &mut u64,
     len: u64,
 ) -> Result<(), NoMemory>
+    requires begins { IsPrefix history.old.list (copies.old.desk.shown.value.table.rows
+        ++ rows_of (pending copies.old)) }
+    requires len { len ≡ length (copies.old.desk.shown.value.table.rows
+        ++ rows_of (pending copies.old)) }
+    requires book { history.old.book ≡ B.book }
+    requires marked { IsMarked B.book copies.old.desk.shown.value (pending copies.old) marked.old }
+    ensures desk { copies.new.desk ≡ copies.old.desk }
+    ensures history { (history.new ≡ history.old)
+        ⊎ (history.new ≡ with_list history.old (copies.old.desk.shown.value.table.rows
+        ++ rows_of (pending copies.old))) }
+    ensures rows { rows_of (pending copies.new) ≡ rows_of (pending copies.old) }
+    ensures marked { IsMarked B.book copies.old.desk.shown.value (pending copies.new) marked.new }
+    ensures ok { OnOk result (marked.new ≡ len) }
+{
+    if *marked == len {
+        return Ok(());
+    }
+    mark(copies, history, len)?;
+    *marked = len;
+    Ok(())
+}
+
+/// Adds to the history the list that is to be shown, and appends its mark after the pending rows.
+fn mark<B: Naming>(copies: &mut Copies<B>, history: &mut History, len: u64) -> Result<(), NoMemory>
     requires begins { IsPrefix history.old.list (copies.old.desk.shown.value.table.rows
         ++ rows_of (pending copies.old)) }
     requires len { len ≡ length (copies.old.desk.shown.value.table.rows

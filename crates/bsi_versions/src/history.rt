@@ -1,5 +1,5 @@
-//! The history of a table: each list of rows that was published. It exists only in the proofs, except for the length of
-//! its last list.
+//! The history of a table: each list of rows that a publish was to show. It exists only in the proofs, except for the
+//! length of its last list. A publish that is refused may leave a list that was never shown.
 //!
 //! It holds whole lists, each beginning with the one before, since a step of it can't be taken back and a load may be
 //! refused. One word is shared, the length of the last list.
@@ -51,7 +51,7 @@ impl Play<Page, u64> for Add {
     ghost then = { Adds };
 }
 
-/// A list that was published, and its length.
+/// A list of the history, and its length.
 #[derive(Drop)]
 pub(crate) struct Reached {
     len: u64,
@@ -156,7 +156,7 @@ impl History {
     ghost use mathlib.Core.List.{IsPrefix};
     ghost use Rattle.bsi_versions.specs.Pages.{with_list};
 
-    /// Makes a history in which nothing has been published. It allocates no memory.
+    /// Makes a history with no list. It allocates no memory.
     pub fn new() -> History
         ensures { result.list ≡ [] }
     {

@@ -8,7 +8,7 @@ ghost use Rattle.std.specs.Prelude.{◌≡◌, ◌+◌, ◌<◌, ◌≤◌, [], 
 ghost use Rattle.bsi_table.specs.Columns.{fits};
 ghost use Rattle.bsi_versions.specs.Editions.{published_all, with_held};
 
-use crate::copies::{Copies, empty_stage, make_place, mark, show};
+use crate::copies::{Copies, empty_stage, make_place, mark_all, show};
 use crate::history::History;
 use crate::version::Version;
 use crate::{Analyst, Naming, NoMemory, Told};
@@ -26,12 +26,14 @@ pub struct Publisher<B: Naming> {
     stage: Vec<(u32, Row)>,
     /// This many more rows may be held.
     free: u64,
+    /// The last list that is marked, or shown where none is pending, has so many rows.
+    marked: u64,
 }
 
 // Clauses see the table that is published, and the rows that are held.
 impl<B: Naming> Model for Publisher<B> {
     ghost use Rattle.std.specs.Prelude.{◌≤◌, vec_capacity};
-    ghost use Rattle.bsi_versions.specs.Editions.{pending, written, IsWriting, Written};
+    ghost use Rattle.bsi_versions.specs.Editions.{pending, written, IsMarked, IsWriting, Written};
 
     ghost Value = { Written };
 
@@ -39,7 +41,8 @@ impl<B: Naming> Model for Publisher<B> {
 
     ghost invariant = { λ p. IsWriting B.book B.about p.copies.desk.shown.value (pending p.copies)
         p.stage.items p.history p.free
-        × (64 ≤ vec_capacity p.stage) };
+        × (64 ≤ vec_capacity p.stage)
+        × IsMarked B.book p.copies.desk.shown.value (pending p.copies) p.marked };
 }
 
 impl<B: Naming> Publisher<B> {
@@ -66,6 +69,7 @@ impl<B: Naming> Publisher<B> {
             history,
             stage,
             free,
+            marked: 0,
         })
     }
 
@@ -111,7 +115,8 @@ impl<B: Naming> Publisher<B> {
     }
 
     /// Publishes the held rows: at one step analysts see every row that was held. It returns how many rows they then
-    /// see. It waits for analysts that read the copy that is not shown.
+    /// see. It waits for analysts that read the copy that is not shown. `NoMemory` is also the answer where the history
+    /// has a list that the publisher does not know, which no run meets.
     pub fn publish<R: Wait>(&mut self, rt: &R) -> Result<u64, NoMemory>
         ensures len { IfOk result (λ len. len ≡ length self.new.table.rows) }
         ensures ok { OnOk result (self.new ≡ published_all self.old) }
@@ -119,7 +124,7 @@ impl<B: Naming> Publisher<B> {
     {
         let len = self.copies.published().index().limit() - self.free;
         empty_stage(&mut self.copies, &mut self.stage)?;
-        mark(&mut self.copies, &mut self.history, len)?;
+        mark_all(&mut self.copies, &mut self.history, &mut self.marked, len)?;
         show(&mut self.copies, rt)?;
         Ok(len)
     }
@@ -148,6 +153,7 @@ impl<B: Naming> Publisher<B> {
             history: _history,
             stage: _stage,
             free: _,
+            marked: _,
         } = self;
         copies.take(rt);
     }

@@ -1,8 +1,8 @@
-use Rattle.std.proofs.Common.{◌++◌, ◌∷◌, [], drop, ap, ◌∙◌}
+use Rattle.std.proofs.Common.{◌++◌, ◌∷◌, [], drop, refl, ap, ◌∙◌}
 use Rattle.std.proofs.lemmas.List.{append-nil}
 use Rattle.bsi_versions.specs.Editions.{rows_of}
 use Rattle.bsi_versions.specs.declared.operation.Operation.TheVariants.{Rows as rows_operation}
-use Rattle.bsi_versions.proofs.Writing.{rows_of-append, staged_all}
+use Rattle.bsi_versions.proofs.Writing.{known_after, rows_of-append, staged_all}
 use Rattle.bsi_versions.proofs.copies.append_stage.Goals as goal
 
 -- the block stands last among the pending operations
@@ -13,4 +13,5 @@ returns-in-Ok-clause-staged g c =
     let stage = c.args.stage.now.items in
     let rows = ap rows_of c.in-Ok.ensures.pending ∙ rows_of-append pending (rows_operation c.replace.result ∷ [])
     ∙ ap (λ xs. rows_of pending ++ xs) (append-nil c.replace.result.items ∙ ap (λ v. v.items) c.replace.ensures.value) in
-    staged_all pending more stage c.replace.new.dest.items rows (ap (λ v. v.items) c.replace.ensures.after ∙ c.in_ok-next.ensures.items)
+    staged_all pending more stage c.replace.new.dest.items
+    (λ e. known_after e pending more (rows_operation c.replace.result) c.in-Ok.ensures.pending (λ d. refl)) rows (ap (λ v. v.items) c.replace.ensures.after ∙ c.in_ok-next.ensures.items)

@@ -1,6 +1,6 @@
 use Rattle.std.proofs.Common.{◌+◌, ◌-◌, ◌≡◌, drop, length, ap, sym, ◌∙◌, subst, arith}
-use Rattle.bsi_versions.specs.Editions.{rows_of, with_held, IsWriting}
-use Rattle.bsi_versions.proofs.Writing.{free_place, held_view, held_writing, on_err, staged_view, staged_writing}
+use Rattle.bsi_versions.specs.Editions.{rows_of, with_held, IsMarked, IsWriting}
+use Rattle.bsi_versions.proofs.Writing.{free_place, held_view, held_writing, on_err, staged_marked, staged_view, staged_writing}
 use Rattle.bsi_versions.proofs.publisher.Publisher.hold.Goals as goal
 
 -- the rows that are held stay, wherever they stand
@@ -12,6 +12,8 @@ invariant_of-self g c =
       subst (λ e. IsWriting g.B.Naming.book g.B.Naming.about e more left p.history p.free) (ap (λ d. d.shown.value) (sym c.make_place.ensures.desk))
           (staged_writing g.B.Naming.book g.B.Naming.about p.copies.desk.shown.value (drop p.copies.behind p.copies.log.items) p.stage.items p.history p.free c.self.invariant.0 more left c.make_place.ensures.staged),
       c.make_place.ensures.room,
+      subst (λ e. IsMarked g.B.Naming.book e more p.marked) (ap (λ d. d.shown.value) (sym c.make_place.ensures.desk))
+          (staged_marked g.B.Naming.book p.copies.desk.shown.value (drop p.copies.behind p.copies.log.items) p.marked c.self.invariant.2 more p.stage.items left c.make_place.ensures.staged),
     )
 
 pub returns-in_err-make_place-clause-err : goal.returns-in_err-make_place-clause-err
@@ -38,6 +40,8 @@ invariant_of-self-2 g c =
       subst (λ e. IsWriting g.B.Naming.book g.B.Naming.about e more grown p.history (p.free - 1)) (ap (λ d. d.shown.value) (sym c.make_place.ensures.desk))
           (held_writing g.B.Naming.book g.B.Naming.about shown more left p.history p.free staged c.args.feeder c.args.row grown (p.free - 1) c.push_reserved.ensures.items less),
       omega (arith, c.push_reserved.ensures.capacity, c.make_place.ensures.room),
+      subst (λ e. IsMarked g.B.Naming.book e more p.marked) (ap (λ d. d.shown.value) (sym c.make_place.ensures.desk))
+          (staged_marked g.B.Naming.book shown pending p.marked c.self.invariant.2 more p.stage.items left c.make_place.ensures.staged),
     )
 
 pub returns-clause-ok : goal.returns-clause-ok
