@@ -3,7 +3,7 @@
 ghost use Rattle.std.specs.Prelude.{◌≡◌, ◌+◌, ◌≤◌, is_none, length, OnOk, OnErr};
 ghost use Rattle.bsi_bits.specs.BitList.{word_count};
 ghost use Rattle.bsi_slices.specs.Blocks.{KeepsRows};
-ghost use Rattle.bsi_columns.specs.AnyRows.{any_entries, any_form, any_room, bases_in_form, size_in_form, AnyForm};
+ghost use Rattle.bsi_columns.specs.AnyRows.{any_entries, any_form, any_room, size_in_form, AnyForm};
 ghost use Rattle.bsi_columns.specs.Rows.{selects};
 
 use crate::{Column, Decomposed, EqualityComponent, NoMemory, Op, RangeComponent, Slices};
@@ -62,8 +62,6 @@ impl Column for AnyColumn {
     ghost form_of = { any_form };
 
     ghost size_of = { size_in_form };
-
-    ghost bases_of = { bases_in_form };
 
     ghost entries = { any_entries };
 

@@ -1,6 +1,6 @@
 //! A column as a plain list of its entries, whose calls are what their contracts say.
 
-ghost use Rattle.std.specs.Prelude.{◌≡◌, ℕ, ◌*◌, ◌^◌, ◌≤◌, ◌<◌, [], ◌∷◌, ◌++◌, All, None, false, if◌then◌else◌, map, length, slice_index_or, sum, IfOk, OnOk};
+ghost use Rattle.std.specs.Prelude.{◌≡◌, ℕ, ◌*◌, ◌^◌, ◌≤◌, ◌<◌, [], ◌++◌, All, None, false, if◌then◌else◌, map, length, slice_index_or, sum, IfOk, OnOk};
 ghost use Rattle.bsi_columns.specs.Rows.{number_or_zero, selects};
 ghost use Rattle.bsi_columns.specs.Totals.{numbers_at};
 
@@ -65,8 +65,6 @@ impl Column for PlainColumn {
     ghost form_of = { λ c. c.size };
 
     ghost size_of = { λ size. size };
-
-    ghost bases_of = { λ size. size ∷ [] };
 
     ghost entries = { λ c. c.entries };
 

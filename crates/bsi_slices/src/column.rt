@@ -47,10 +47,6 @@ pub trait Column: Drop {
     /// The size of a column of a form: each number is below it.
     ghost size_of: { Form → ℕ };
 
-    /// The bases of the digits that a number is stored as in a form, least significant first. A slice is a digit under
-    /// base 2.
-    ghost bases_of: { Form → List ℕ };
-
     /// The numbers and nulls, in order of the rows.
     ghost entries: { Self → List (Option ℕ) };
 

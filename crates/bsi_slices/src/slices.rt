@@ -1,6 +1,6 @@
 //! A column as bit slices: one bit vector for each binary place of its numbers, as O'Neil and Quass described in 1997.
 
-ghost use Rattle.std.specs.Prelude.{◌≡◌, ℕ, ◌++◌, ◌∷◌, [], All, ◌<◌, ◌≤◌, ◌^◌, ◌+◌, ◌==◌, length, map, min, replicate, IfOk, IsOk, OnOk, OnErr};
+ghost use Rattle.std.specs.Prelude.{◌≡◌, ℕ, ◌++◌, ◌∷◌, [], All, ◌<◌, ◌≤◌, ◌^◌, ◌+◌, ◌==◌, length, map, min, IfOk, IsOk, OnOk, OnErr};
 ghost use Rattle.std.specs.Int.{bit_at};
 ghost use Rattle.bsi_bits.specs.BitList.{word_count};
 ghost use Rattle.bsi_slices.specs.Blocks.{KeepsRows};
@@ -102,8 +102,6 @@ impl Column for Slices {
     ghost form_of = { λ c. c.width };
 
     ghost size_of = { λ width. 2 ^ width };
-
-    ghost bases_of = { λ width. replicate width 2 };
 
     ghost entries = { λ c. c.entries };
 
