@@ -48,15 +48,15 @@ pub trait Encoding: Drop {
         ensures within { length (digits self.now) + result ≤ 2 ^ 32 };
 
     /// Makes room for `more` further digits. Whatever the result, the digits stay and there is no less room than
-    /// before. If it is refused, there is still no room for so many. It allocates memory only if there is not enough
-    /// room already.
+    /// before. If it is refused, the room is as it was. It allocates memory only if there is not enough room already.
     fn reserve(&mut self, more: u64) -> Result<(), NoMemory>
         requires { length (digits self.old) + more ≤ 2 ^ 32 }
         ensures digits { digits self.new ≡ digits self.old }
         ensures base { base_of self.new ≡ base_of self.old }
         ensures ok { OnOk result (more ≤ room_of self.new) }
         ensures kept { room_of self.old ≤ room_of self.new }
-        ensures err { OnErr result (room_of self.new < more) }
+        ensures err { OnErr result (room_of self.new ≡ room_of self.old) }
+        ensures refused { OnErr result (room_of self.new < more) }
         ensures succeeds { more ≤ room_of self.old → IsOk result };
 
     /// Appends a digit, into room that is already there.

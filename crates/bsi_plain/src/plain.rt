@@ -84,8 +84,14 @@ impl Column for PlainColumn {
     }
 
     fn reserve(&mut self, more: u64) -> Result<(), NoMemory> {
-        self.entries.reserve(more as usize)?;
-        self.present.reserve(more)
+        let spare = (self.entries.capacity() - self.entries.len()) as u64;
+        if spare < self.present.room() {
+            self.present.reserve(more)?;
+            self.entries.reserve(more as usize)
+        } else {
+            self.entries.reserve(more as usize)?;
+            self.present.reserve(more)
+        }
     }
 
     fn push_reserved(&mut self, entry: Option<u64>) {

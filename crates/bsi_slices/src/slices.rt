@@ -185,7 +185,8 @@ impl Column for Slices {
     }
 }
 
-/// Makes room for `more` further rows. Whatever the result, the rows stay and there is no less room than before.
+/// Makes room for `more` further rows. Whatever the result, the rows stay and there is no less room than before. That
+/// which has less room grows last, so a refused growth leaves the room as it was.
 fn reserve_rows(slices: &mut Bitmaps, present: &mut NotNull, more: u64) -> Result<(), NoMemory>
     requires sliced { IsSliced present.old.bits slices.old.vectors }
     requires below { length present.old.bits + more ≤ 2 ^ 32 }
@@ -195,11 +196,18 @@ fn reserve_rows(slices: &mut Bitmaps, present: &mut NotNull, more: u64) -> Resul
         ≡ entries_in present.old.bits slices.old.vectors }
     ensures ok { OnOk result (more ≤ min slices.new.room present.new.room) }
     ensures kept { min slices.old.room present.old.room ≤ min slices.new.room present.new.room }
-    ensures err { OnErr result (min slices.new.room present.new.room < more) }
+    ensures err { OnErr result (min slices.new.room present.new.room
+        ≡ min slices.old.room present.old.room) }
+    ensures refused { OnErr result (min slices.new.room present.new.room < more) }
     ensures succeeds { more ≤ min slices.old.room present.old.room → IsOk result }
 {
-    slices.reserve(more)?;
-    present.reserve(more)
+    if slices.room() < present.room() {
+        present.reserve(more)?;
+        slices.reserve(more)
+    } else {
+        slices.reserve(more)?;
+        present.reserve(more)
+    }
 }
 
 /// Appends a row into room that is already there: each slice gets its binary place of the number, which is 0 if the row
