@@ -1,6 +1,6 @@
 //! A column of whichever form, chosen when the program runs.
 
-ghost use Rattle.std.specs.Prelude.{◌≡◌, ◌+◌, ◌≤◌, is_none, length, OnOk, OnErr};
+ghost use Rattle.std.specs.Prelude.{◌≡◌, ◌+◌, ◌≤◌, is_none, length, IsOk, OnOk, OnErr};
 ghost use Rattle.bsi_bits.specs.BitList.{word_count};
 ghost use Rattle.bsi_slices.specs.Blocks.{KeepsRows};
 ghost use Rattle.bsi_columns.specs.AnyRows.{any_entries, any_form, any_room, size_in_form, AnyForm};
@@ -37,6 +37,7 @@ impl AnyColumn {
         ensures rows { OnOk result
             (KeepsRows (selects op constant) (any_entries self.now) at block.old block.new) }
     {
+        ensures succeeds { IsOk result }
         match self {
             AnyColumn::Slices(column) => {
                 column.keep_selected(op, constant, at, block);

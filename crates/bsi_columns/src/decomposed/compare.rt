@@ -3,7 +3,7 @@
 //! It reads digits only where the constant alone does not decide. The rows that it finds are narrowed by the not-null
 //! bitmap, so that a complement selects no null.
 
-ghost use Rattle.std.specs.Prelude.{◌≡◌, ℕ, ◌+◌, ◌*◌, ◌≤◌, ◌<◌, ◌&&◌, [], None, false, length, map, slice_index_or, IfOk, IfSome, OnErr, OnOk};
+ghost use Rattle.std.specs.Prelude.{◌≡◌, ℕ, ◌+◌, ◌*◌, ◌≤◌, ◌<◌, ◌&&◌, [], None, false, length, map, slice_index_or, IfOk, IfSome, IsOk, IsTrue, OnErr, OnOk};
 ghost use Rattle.std.specs.Bool.{OnTrue};
 ghost use Rattle.bsi_bits.specs.BitList.{word_count};
 ghost use Rattle.bsi_bits.specs.Packed.{bit_of};
@@ -54,6 +54,7 @@ impl<E: Encoding> Decomposed<E> {
         ensures kept { OnErr result (block.new ≡ block.old) }
         ensures rows { OnOk result
             (KeepsRows (selects op constant) self.now.entries at block.old block.new) }
+        ensures succeeds { IsTrue E.works_on_blocks → IsOk result }
     {
         match decide(op, constant, self.bases.size()) {
             Decision::Nothing => {
@@ -76,6 +77,7 @@ impl<E: Encoding> Decomposed<E> {
         ensures kept { OnErr result (block.new ≡ block.old) }
         ensures rows { OnOk result
             (KeepsRows (wants test) self.now.entries at block.old block.new) }
+        ensures succeeds { IsTrue E.works_on_blocks → IsOk result }
     {
         let mut buffer = [0; BLOCK_WORDS];
         let found = &mut buffer[..block.len()];
@@ -166,7 +168,8 @@ impl<E: Encoding> Decomposed<E> {
     fn find_block(&self, test: Test, at: usize, block: &mut [u64]) -> bool
         requires below { test.constant < product self.now.bases }
         requires within { at + length block.old ≤ word_count (length self.now.entries) }
-        ensures { OnTrue result ((p : ℕ) → p < 64 * length block.old →
+        ensures done { IsTrue E.works_on_blocks → IsTrue result }
+        ensures bits { OnTrue result ((p : ℕ) → p < 64 * length block.old →
             64 * at + p < length self.now.entries → bit_of block.new p
             ≡ relates test.relation (number_or_zero
             (slice_index_or self.now.entries (64 * at + p) None)) test.constant) }

@@ -1,6 +1,6 @@
 //! Comparisons of whole numbers with a constant, as comparisons of the stored numbers.
 
-ghost use Rattle.std.specs.Prelude.{◌≡◌, ℕ, ℤ, ◌<ℤ◌, ◌+◌, ◌<◌, ◌≤◌, ◌^◌, length, map, is_none, IfOk, OnOk, OnErr};
+ghost use Rattle.std.specs.Prelude.{◌≡◌, ℕ, ℤ, ◌<ℤ◌, ◌+◌, ◌<◌, ◌≤◌, ◌^◌, length, map, is_none, IfOk, IsOk, OnOk, OnErr};
 ghost use Rattle.bsi_bits.specs.BitList.{word_count};
 ghost use Rattle.bsi_slices.specs.Blocks.{KeepsRows};
 ghost use Rattle.bsi_slices.specs.Orders.{compares_by};
@@ -47,6 +47,7 @@ impl Shifted {
         ensures rows { OnOk result (KeepsRows
             (signed_selects op constant) (shifted_entries self.now) at block.old block.new) }
     {
+        ensures succeeds { IsOk result }
         let (op, constant) = stored_comparison(op, constant, self.offset);
         self.stored.keep_selected(op, constant, at, block)
     }

@@ -20,7 +20,7 @@ returns-then-find_block-clause-rows g c =
     let size : length c.find_block.new.block ≡ length block =
     omega (arith, c.find_block.auto.block, c.requires.few, length-take {A = ℕ} (length block) (replicate 1024 0)) in
     let rows : length present ≡ length entries = ap length c.self.invariant.0.present_is ∙ length-map entries is_some in
-    let found = rw (← c.self.view_is) at c.if-find_block.ensures in
+    let found = rw (← c.self.view_is) at c.if-find_block.ensures.bits in
     rw (← c.self.view_is)
     (λ p below row.
     let r = 64 * c.args.at + p in
