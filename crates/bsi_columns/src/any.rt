@@ -23,7 +23,8 @@ pub enum AnyColumn {
 
 impl AnyColumn {
     /// Keeps in a block of at most 1,024 words the rows whose number satisfies the comparison `op` with `constant`,
-    /// which may be past the size. The first word stands for the 64 rows from row `64 * at` on. A null row is not kept.
+    /// which may be past the size. The first word stands for the 64 rows from row `64 * at` on. A null row is not kept,
+    /// nor a bit past the last row. It allocates no memory.
     pub fn keep_selected(
         &self,
         op: Op,
@@ -36,8 +37,8 @@ impl AnyColumn {
         ensures kept { OnErr result (block.new ≡ block.old) }
         ensures rows { OnOk result
             (KeepsRows (selects op constant) (any_entries self.now) at block.old block.new) }
-    {
         ensures succeeds { IsOk result }
+    {
         match self {
             AnyColumn::Slices(column) => {
                 column.keep_selected(op, constant, at, block);
@@ -49,6 +50,7 @@ impl AnyColumn {
     }
 
     /// Keeps in a block of words the rows that are null. The first word stands for the 64 rows from row `64 * at` on.
+    /// Bits past the last row stay as they are.
     pub fn keep_nulls(&self, at: usize, block: &mut [u64])
         requires within { at + length block.old ≤ word_count (length (any_entries self.now)) }
         ensures { KeepsRows is_none (any_entries self.now) at block.old block.new }

@@ -79,8 +79,8 @@ impl Slices {
     }
 
     /// Keeps in a block of words the rows whose number satisfies the comparison `op` with `constant`, which may be past
-    /// the size. The first word stands for the 64 rows from row `64 * at` on. A null row is not kept. It allocates no
-    /// memory.
+    /// the size. The first word stands for the 64 rows from row `64 * at` on. A null row is not kept, nor a bit past the
+    /// last row. It allocates no memory.
     pub fn keep_selected(&self, op: Op, constant: u64, at: usize, block: &mut [u64])
         requires { at + length block.old ≤ word_count (length self.now.entries) }
         ensures { KeepsRows (selects op constant) self.now.entries at block.old block.new }

@@ -39,9 +39,9 @@ impl<E: Encoding> Decomposed<E> {
     }
 
     /// Keeps in a block of at most 1,024 words the rows whose number satisfies the comparison `op` with `constant`,
-    /// which may be past the size. The first word stands for the 64 rows from row `64 * at` on. A null row is not kept.
-    /// Bits past the last row are unspecified. If a component works on whole vectors alone, each call reads all rows
-    /// and allocates memory for them.
+    /// which may be past the size. The first word stands for the 64 rows from row `64 * at` on. A null row is not kept,
+    /// nor a bit past the last row. If a component works on whole vectors alone, each call reads all rows and allocates
+    /// memory for them.
     pub fn keep_selected(
         &self,
         op: Op,
