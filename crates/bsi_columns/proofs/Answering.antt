@@ -128,6 +128,11 @@ pub cut_answer : (test : ℕ → Bool) (wanted : Bool) (e : Option ℕ) → (as_
 cut_answer test wanted None = and_false (as_wanted wanted (test 0))
 cut_answer test wanted (Some x) = and_true (as_wanted wanted (test x))
 
+-- past the last row no entry is there, whatever was found
+pub cut_past : (test : ℕ → Bool) (wanted was found : Bool) (e : Option ℕ) → e ≡ None → (found && is_some e) ≡ (was && answers test wanted e)
+cut_past test wanted was found None past = and_false found ∙ sym (and_false was)
+cut_past test wanted was found (Some x) past = absurd (grind (arith, ap is_some past))
+
 -- so where it was written for each row, and cut with the not-null bitmap
 pub cut_answers : (test : ℕ → Bool) (wanted : Bool) (es : List (Option ℕ)) (found present : List Bool)
     → found ≡ map (λ e. test (number_or_zero e)) es → present ≡ map is_some es

@@ -6,6 +6,7 @@ pub mod Deciding
 pub mod DigitSums
 pub mod EndDigits
 pub mod EntriesFrom
+pub mod EntryReads
 pub mod Rungs
 pub use Rattle.bsi_slices.proofs.Adding
 pub use Rattle.bsi_slices.proofs.CallerLemmas

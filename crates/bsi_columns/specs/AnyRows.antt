@@ -1,5 +1,5 @@
 -- What a contract sees of a column of any form.
-use Rattle.std.specs.Prelude.{ℕ, ◌^◌, List, Option, replicate}
+use Rattle.std.specs.Prelude.{ℕ, ◌^◌, List, Option}
 use Rattle.bsi_digits.specs.Digits.{product}
 use Rattle.bsi_columns.specs.declared.any.AnyColumn.{AnyColumn}
 use Rattle.bsi_columns.specs.declared.any.AnyColumn.TheVariants.{Slices, Equality, Range}
@@ -20,12 +20,6 @@ abbrev pub size_in_form : AnyForm → ℕ
 size_in_form (slices_of width) = 2 ^ width
 size_in_form (equality_under bs) = product bs
 size_in_form (range_under bs) = product bs
-
--- the bases of the digits that a form keeps a number as
-abbrev pub bases_in_form : AnyForm → List ℕ
-bases_in_form (slices_of width) = replicate width 2
-bases_in_form (equality_under bs) = bs
-bases_in_form (range_under bs) = bs
 
 -- what each number is below
 abbrev pub any_size : AnyColumn → ℕ

@@ -1,9 +1,9 @@
 //! A column of whichever form, chosen when the program runs.
 
-ghost use Rattle.std.specs.Prelude.{◌≡◌, ◌+◌, ◌≤◌, is_none, length, OnOk, OnErr};
+ghost use Rattle.std.specs.Prelude.{◌≡◌, ◌+◌, ◌≤◌, is_none, length, IsOk, OnOk, OnErr};
 ghost use Rattle.bsi_bits.specs.BitList.{word_count};
 ghost use Rattle.bsi_slices.specs.Blocks.{KeepsRows};
-ghost use Rattle.bsi_columns.specs.AnyRows.{any_entries, any_form, any_room, bases_in_form, size_in_form, AnyForm};
+ghost use Rattle.bsi_columns.specs.AnyRows.{any_entries, any_form, any_room, size_in_form, AnyForm};
 ghost use Rattle.bsi_columns.specs.Rows.{selects};
 
 use crate::{Column, Decomposed, EqualityComponent, NoMemory, Op, RangeComponent, Slices};
@@ -23,7 +23,8 @@ pub enum AnyColumn {
 
 impl AnyColumn {
     /// Keeps in a block of at most 1,024 words the rows whose number satisfies the comparison `op` with `constant`,
-    /// which may be past the size. The first word stands for the 64 rows from row `64 * at` on. A null row is not kept.
+    /// which may be past the size. The first word stands for the 64 rows from row `64 * at` on. A null row is not kept,
+    /// nor a bit past the last row. It allocates no memory.
     pub fn keep_selected(
         &self,
         op: Op,
@@ -36,6 +37,7 @@ impl AnyColumn {
         ensures kept { OnErr result (block.new ≡ block.old) }
         ensures rows { OnOk result
             (KeepsRows (selects op constant) (any_entries self.now) at block.old block.new) }
+        ensures succeeds { IsOk result }
     {
         match self {
             AnyColumn::Slices(column) => {
@@ -48,6 +50,7 @@ impl AnyColumn {
     }
 
     /// Keeps in a block of words the rows that are null. The first word stands for the 64 rows from row `64 * at` on.
+    /// Bits past the last row stay as they are.
     pub fn keep_nulls(&self, at: usize, block: &mut [u64])
         requires within { at + length block.old ≤ word_count (length (any_entries self.now)) }
         ensures { KeepsRows is_none (any_entries self.now) at block.old block.new }
@@ -62,8 +65,6 @@ impl Column for AnyColumn {
     ghost form_of = { any_form };
 
     ghost size_of = { size_in_form };
-
-    ghost bases_of = { bases_in_form };
 
     ghost entries = { any_entries };
 

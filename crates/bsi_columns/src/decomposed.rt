@@ -89,8 +89,6 @@ impl<E: Encoding> Column for Decomposed<E> {
 
     ghost size_of = { product };
 
-    ghost bases_of = { λ bs. bs };
-
     ghost entries = { λ c. c.entries };
 
     ghost room_of = { λ c. c.room };

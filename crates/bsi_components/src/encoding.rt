@@ -1,6 +1,6 @@
 //! What a component is to a column: a list of digits below its base.
 
-ghost use Rattle.std.specs.Prelude.{◌≡◌, ℕ, ◌+◌, ◌*◌, ◌^◌, ◌≤◌, ◌<◌, ◌==◌, ◌&&◌, true, List, [], ◌∷◌, ◌++◌, length, map, sum, count_by, slice_index, nat_lt, nat_le, IfOk, OnOk, OnErr, IsOk};
+ghost use Rattle.std.specs.Prelude.{◌≡◌, ℕ, ◌+◌, ◌*◌, ◌^◌, ◌≤◌, ◌<◌, ◌==◌, ◌&&◌, Bool, true, List, [], ◌∷◌, ◌++◌, length, map, sum, count_by, slice_index, nat_lt, nat_le, IfOk, OnOk, OnErr, IsOk, IsTrue};
 ghost use Rattle.std.specs.List.{items_where_true};
 ghost use Rattle.std.specs.Bool.{OnTrue, OnFalse};
 ghost use Rattle.std.specs.Simd.Lanes.{zip2};
@@ -26,6 +26,9 @@ pub trait Encoding: Drop {
     /// How many more digits can be appended with no memory.
     ghost room_of: { Self → ℕ };
 
+    /// Whether the calls on blocks of words are done. An encoding without them works on whole vectors alone.
+    ghost works_on_blocks: { Bool };
+
     /// Makes an empty component of a base from 2 to 1,024.
     fn make(alloc: Global, base: u32) -> Result<Self, NoMemory>
         requires { (2 ≤ base) × (base ≤ 1024) }
@@ -48,15 +51,15 @@ pub trait Encoding: Drop {
         ensures within { length (digits self.now) + result ≤ 2 ^ 32 };
 
     /// Makes room for `more` further digits. Whatever the result, the digits stay and there is no less room than
-    /// before. If it is refused, there is still no room for so many. It allocates memory only if there is not enough
-    /// room already.
+    /// before. If it is refused, the room is as it was. It allocates memory only if there is not enough room already.
     fn reserve(&mut self, more: u64) -> Result<(), NoMemory>
         requires { length (digits self.old) + more ≤ 2 ^ 32 }
         ensures digits { digits self.new ≡ digits self.old }
         ensures base { base_of self.new ≡ base_of self.old }
         ensures ok { OnOk result (more ≤ room_of self.new) }
         ensures kept { room_of self.old ≤ room_of self.new }
-        ensures err { OnErr result (room_of self.new < more) }
+        ensures err { OnErr result (room_of self.new ≡ room_of self.old) }
+        ensures refused { OnErr result (room_of self.new < more) }
         ensures succeeds { more ≤ room_of self.old → IsOk result };
 
     /// Appends a digit, into room that is already there.
@@ -187,14 +190,12 @@ pub trait Encoding: Drop {
     fn eq_block(&self, d: u32, at: usize, block: &mut [u64]) -> bool
         requires below { d < base_of self.now }
         requires within { at + length block.old ≤ word_count (length (digits self.now)) }
+        ensures done { IsTrue works_on_blocks → IsTrue result }
         ensures kept { OnFalse result (block.new ≡ block.old) }
         ensures bits { OnTrue result ((p : ℕ) → p < 64 * length block.old →
             64 * at + p < length (digits self.now) →
             bit_of block.new p ≡ (bit_of block.old p
-            && (slice_index (digits self.now) (64 * at + p) == d))) }
-    {
-        false
-    }
+            && (slice_index (digits self.now) (64 * at + p) == d))) };
 
     /// Sets in a block of words the rows whose digit is below `d`, and clears those whose digit is above. The words
     /// stand for the rows from `64 * at` on. Where a bit told whether a row's digits of the lower places are at most
@@ -203,14 +204,12 @@ pub trait Encoding: Drop {
     fn le_block(&self, d: u32, at: usize, block: &mut [u64]) -> bool
         requires below { d < base_of self.now }
         requires within { at + length block.old ≤ word_count (length (digits self.now)) }
+        ensures done { IsTrue works_on_blocks → IsTrue result }
         ensures kept { OnFalse result (block.new ≡ block.old) }
         ensures bits { OnTrue result ((p : ℕ) → p < 64 * length block.old →
             64 * at + p < length (digits self.now) →
             bit_of block.new p ≡ at_most_from (bit_of block.old p)
-            (slice_index (digits self.now) (64 * at + p)) d) }
-    {
-        false
-    }
+            (slice_index (digits self.now) (64 * at + p)) d) };
 
     /// Writes into a block of words whether the digit of each row is `d`. The words stand for the rows from `64 * at`
     /// on. It returns `false` if the encoding works on whole vectors alone, and the words are then unspecified. The
@@ -218,6 +217,7 @@ pub trait Encoding: Drop {
     fn eq_block_into(&self, d: u32, at: usize, block: &mut [u64]) -> bool
         requires below { d < base_of self.now }
         requires within { at + length block.old ≤ word_count (length (digits self.now)) }
+        ensures done { IsTrue works_on_blocks → IsTrue result }
         ensures bits { OnTrue result ((p : ℕ) → p < 64 * length block.old →
             64 * at + p < length (digits self.now) →
             bit_of block.new p ≡ (slice_index (digits self.now) (64 * at + p) == d)) }
@@ -232,6 +232,7 @@ pub trait Encoding: Drop {
     fn le_block_into(&self, d: u32, at: usize, block: &mut [u64]) -> bool
         requires below { d < base_of self.now }
         requires within { at + length block.old ≤ word_count (length (digits self.now)) }
+        ensures done { IsTrue works_on_blocks → IsTrue result }
         ensures bits { OnTrue result ((p : ℕ) → p < 64 * length block.old →
             64 * at + p < length (digits self.now) →
             bit_of block.new p ≡ nat_le (slice_index (digits self.now) (64 * at + p)) d) }

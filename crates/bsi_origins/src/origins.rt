@@ -4,10 +4,11 @@
 //! rows before came from it, in 4 bytes. A mark costs 0.008 bytes a row and feeder, and a row that stands alone is
 //! numbered by one mark and up to 511 bytes.
 
-ghost use Rattle.std.specs.Prelude.{◌≡◌, ◌+◌, ◌*◌, ◌<◌, ◌≤◌, ◌^◌, ◌++◌, ◌∷◌, [], All, IfOk, IsOk, OnErr, OnOk, length, slice_index, vec_len, vec_capacity};
+ghost use Rattle.std.specs.Prelude.{◌≡◌, ◌+◌, ◌-◌, ◌*◌, ◌<◌, ◌≤◌, ◌^◌, ◌++◌, ◌∷◌, [], All, IfOk, IsOk, OnErr, OnOk, length, min, slice_index, vec_len, vec_capacity};
 ghost use Rattle.bsi_origins.specs.Origins.{mark_len, AreCounts};
 
 use crate::NoMemory;
+use bsi_bits::room_to_make;
 use std::alloc::Global;
 use std::marker::Model;
 
@@ -90,12 +91,15 @@ impl Origins {
     }
 
     /// Makes room for `more` further rows. Whatever the result, the rows stay and there is no less room than before. It
-    /// allocates memory only if there is not enough room already.
+    /// allocates memory only if there is not enough room already; then there is room for at least twice the rows,
+    /// within 2^32.
     pub fn reserve(&mut self, more: u64) -> Result<(), NoMemory>
         requires { length self.old.rows + more ≤ 2 ^ 32 }
         ensures rows { self.new.rows ≡ self.old.rows }
         ensures feeders { self.new.feeders ≡ self.old.feeders }
         ensures ok { OnOk result (more ≤ self.new.room) }
+        ensures doubles { OnOk result (self.old.room < more →
+            min (length self.old.rows) (2 ^ 32 - length self.old.rows) ≤ self.new.room) }
         ensures kept { self.old.room ≤ self.new.room }
         ensures err { OnErr result (self.new ≡ self.old) }
         ensures succeeds { more ≤ self.old.room → IsOk result }
@@ -103,11 +107,12 @@ impl Origins {
         if more <= self.room {
             return Ok(());
         }
-        let rows = self.row_feeders.len() as u64 + more;
+        let wanted = room_to_make(self.len(), more);
+        let rows = self.len() + wanted;
         let marks = mark_len(self.feeders) * rows.div_ceil(STRETCH_ROWS) as usize;
-        self.row_feeders.reserve(more as usize)?;
+        self.row_feeders.reserve(wanted as usize)?;
         self.marks.reserve(marks - self.marks.len())?;
-        self.room = more;
+        self.room = wanted;
         Ok(())
     }
 

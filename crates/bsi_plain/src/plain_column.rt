@@ -1,6 +1,6 @@
 //! A column as a plain list of its entries, whose calls are what their contracts say.
 
-ghost use Rattle.std.specs.Prelude.{◌≡◌, ℕ, ◌*◌, ◌^◌, ◌≤◌, ◌<◌, [], ◌∷◌, ◌++◌, All, None, false, if◌then◌else◌, map, length, slice_index_or, sum, IfOk, OnOk};
+ghost use Rattle.std.specs.Prelude.{◌≡◌, ℕ, ◌*◌, ◌^◌, ◌≤◌, ◌<◌, [], ◌++◌, All, None, false, if◌then◌else◌, map, length, slice_index_or, sum, IfOk, OnOk};
 ghost use Rattle.bsi_columns.specs.Rows.{number_or_zero, selects};
 ghost use Rattle.bsi_columns.specs.Totals.{numbers_at};
 
@@ -66,8 +66,6 @@ impl Column for PlainColumn {
 
     ghost size_of = { λ size. size };
 
-    ghost bases_of = { λ size. size ∷ [] };
-
     ghost entries = { λ c. c.entries };
 
     ghost room_of = { λ c. c.room };
@@ -86,8 +84,14 @@ impl Column for PlainColumn {
     }
 
     fn reserve(&mut self, more: u64) -> Result<(), NoMemory> {
-        self.entries.reserve(more as usize)?;
-        self.present.reserve(more)
+        let spare = (self.entries.capacity() - self.entries.len()) as u64;
+        if spare < self.present.room() {
+            self.present.reserve(more)?;
+            self.entries.reserve(more as usize)
+        } else {
+            self.entries.reserve(more as usize)?;
+            self.present.reserve(more)
+        }
     }
 
     fn push_reserved(&mut self, entry: Option<u64>) {

@@ -1,5 +1,7 @@
 //! A component that works on whole vectors alone. It counts the calls that write one, and the sums.
 
+ghost use Rattle.std.specs.Prelude.{false};
+
 use crate::NoMemory;
 use bsi_bits::Bits;
 use bsi_columns::Encoding;
@@ -38,6 +40,8 @@ impl<E: Encoding> Encoding for WholeVectors<E> {
 
     ghost room_of = { λ c. E.room_of c.inner };
 
+    ghost works_on_blocks = { false };
+
     fn make(alloc: Global, base: u32) -> Result<Self, NoMemory> {
         let inner = E::make(alloc, base)?;
         Ok(WholeVectors {
@@ -75,6 +79,14 @@ impl<E: Encoding> Encoding for WholeVectors<E> {
     fn le_into(&self, d: u32, out: &mut Bits) {
         self.count();
         self.inner.le_into(d, out);
+    }
+
+    fn eq_block(&self, _d: u32, _at: usize, _block: &mut [u64]) -> bool {
+        false
+    }
+
+    fn le_block(&self, _d: u32, _at: usize, _block: &mut [u64]) -> bool {
+        false
     }
 
     fn digit_sum(&self, found: &Bits) -> u128 {

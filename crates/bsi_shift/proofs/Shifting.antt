@@ -6,6 +6,7 @@ use Rattle.std.proofs.lemmas.Int.{ints}
 use Rattle.std.proofs.lemmas.List.{length-map, length-take-le, get_or-map, get_or-take, get_or_default, same_lists, map-append}
 use Rattle.std.proofs.lemmas.List.Elements.{All-head, All-tail, All-map, All-weaker}
 use Rattle.bsi_columns.specs.AnyRows.{any_entries}
+use Rattle.bsi_columns.proofs.EntryReads.{map_read}
 use Rattle.bsi_slices.specs.Orders.{compares_by, values_at}
 use Rattle.bsi_slices.specs.Rows.{number_or_zero, number_order, selects}
 use Rattle.bsi_slices.specs.Totals.{numbers_at}
@@ -91,9 +92,9 @@ entries_from-block offset stored block enough each =
     ∙ each r below
     ∙ get_or_default block r None d below)
 
--- entry r is that of what is stored
-pub entry_from : (c : OffsetColumn) (r : ℕ) → r < length (any_entries c.stored) → get_or (shifted_entries c) r None ≡ option_map (number_of c.offset) (get_or (any_entries c.stored) r None)
-entry_from c r within = ap (λ es. get_or es r None) (shifted_entries-is c) ∙ get_or-map (option_map (number_of c.offset)) (any_entries c.stored) r None None within
+-- entry r is that of what is stored, and none past the last
+pub entry_from : (c : OffsetColumn) (r : ℕ) → get_or (shifted_entries c) r None ≡ option_map (number_of c.offset) (get_or (any_entries c.stored) r None)
+entry_from c r = ap (λ es. get_or es r None) (shifted_entries-is c) ∙ map_read (option_map (number_of c.offset)) (any_entries c.stored) r
 
 pub null_from : (offset : ℤ) (e : Option ℕ) → is_none (option_map (number_of offset) e) ≡ is_none e
 null_from offset None = refl

@@ -94,15 +94,15 @@ impl Shifted {
     }
 
     /// Makes room for `more` further entries. Whatever the result, the entries stay and there is no less room than
-    /// before. If it is refused, there is still not enough room. It allocates memory only if there is not enough room
-    /// already.
+    /// before. If it is refused, the room is as it was. It allocates memory only if there is not enough room already.
     pub fn reserve(&mut self, more: u64) -> Result<(), NoMemory>
         requires { length (shifted_entries self.old) + more ≤ 2 ^ 32 }
         ensures entries { shifted_entries self.new ≡ shifted_entries self.old }
         ensures alike { IsAlike self.old self.new }
         ensures ok { OnOk result (more ≤ shifted_room self.new) }
         ensures kept { shifted_room self.old ≤ shifted_room self.new }
-        ensures err { OnErr result (shifted_room self.new < more) }
+        ensures err { OnErr result (shifted_room self.new ≡ shifted_room self.old) }
+        ensures refused { OnErr result (shifted_room self.new < more) }
         ensures succeeds { more ≤ shifted_room self.old → IsOk result }
     {
         self.stored.reserve(more)

@@ -1,7 +1,8 @@
 -- What a comparison selects of the rows of a column of slices.
-use Rattle.std.proofs.Common.{◌≡◌, ℕ, ◌+◌, ◌/◌, ◌^◌, ◌<◌, Bool, true, false, ◌&&◌, List, length, get_or, map, replicate, Some, None, sym, ◌∙◌, ap, refl, arith, zero-add}
+use Rattle.std.proofs.Common.{◌≡◌, ℕ, ◌+◌, ◌/◌, ◌^◌, ◌<◌, Bool, true, false, ◌&&◌, List, length, get_or, map, replicate, Some, None, inl, inr, sym, ◌∙◌, ap, refl, arith, zero-add}
 use Rattle.std.specs.Prelude.{if◌then◌else◌}
-use Rattle.std.proofs.lemmas.List.{length-replicate, get_or-replicate}
+use Rattle.std.proofs.lemmas.Bool.{cases_lt}
+use Rattle.std.proofs.lemmas.List.{length-replicate, get_or-replicate, get_or_past}
 use Rattle.std.proofs.Math.Bool.{and-true, and-false}
 use Rattle.bsi_bits.specs.BitList.{BitList}
 use Rattle.bsi_bits.specs.Packed.{bit_of, bits_of}
@@ -14,7 +15,7 @@ use Rattle.bsi_slices.specs.declared.decision.Decision.TheVariants.{Nothing, Eve
 use Rattle.bsi_slices.specs.Slices.{number, entries_in}
 use Rattle.bsi_slices.specs.Blocks.{IsKept}
 use Rattle.bsi_slices.specs.Decisions.{decides, passes}
-use Rattle.bsi_slices.proofs.SliceEntries.{by_entries, get_or-entries_in}
+use Rattle.bsi_slices.proofs.SliceEntries.{by_entries, get_or-entries_in, length-entries_in}
 use Rattle.bsi_slices.proofs.SliceNumbers.{number_below}
 
 module _ (present : List Bool) (slices : List BitList) (op : Op) (n size : ℕ) (size_is : size ≡ 2 ^ length slices) (choice : Decision)
@@ -52,13 +53,17 @@ module _ (present : List Bool) (slices : List BitList) (op : Op) (n size : ℕ) 
       ∙ (λ j. places r j && passes test (number slices (zero-add r j)))
       ∙ sym (ap (λ s. get_or present r false && decides s (number slices r)) is))
 
-  -- a row of a block that is there and decided for is one that the comparison selects
-  pub kept_decided : (was : Bool) (r : ℕ) → r < length present → (was && (get_or present r false && decides choice (number slices r)))
+  -- a row of a block that is there and decided for is one that the comparison selects; past the last row none is there
+  pub kept_decided : (was : Bool) (r : ℕ) → (was && (get_or present r false && decides choice (number slices r)))
       ≡ (was && selects op n (get_or (entries_in present slices) r None))
-  kept_decided was r below =
-      ap (λ b. was && b)
-      (of_mark (get_or present r false) (number slices r) (omega (arith, size_is, number_below slices r))
-      ∙ ap (selects op n) (sym (get_or-entries_in present slices r None below)))
+  kept_decided was r = ap (λ b. was && b) (elim (cases_lt r (length present)) [
+    | inl below ↦
+        of_mark (get_or present r false) (number slices r) (omega (arith, size_is, number_below slices r))
+        ∙ ap (selects op n) (sym (get_or-entries_in present slices r None below))
+    | inr past ↦
+        ap (λ b. b && decides choice (number slices r)) (get_or_past present r false past)
+        ∙ ap (selects op n) (sym (get_or_past (entries_in present slices) r None (omega (arith, past, length-entries_in present slices))))
+  ])
 
 pub and_assoc : (a b c : Bool) → ((a && b) && c) ≡ (a && (b && c))
 and_assoc true b c = refl

@@ -9,10 +9,11 @@ pub record IsKept (kept : ℕ → Bool) (from to : ℕ) (old now : List ℕ) : T
   pub before : (r : ℕ) → r < 64 * from → bit_of now r ≡ bit_of old r
   pub after : (r : ℕ) → 64 * to ≤ r → bit_of now r ≡ bit_of old r
 
--- of the rows that the words from `at` on stand for, those are kept whose entry passes; bits past the last row are open
+-- of the rows that the words from `at` on stand for, those are kept whose entry passes; a bit past the last row counts
+-- as a null row
 abbrev pub KeepsRows : {X : Type 0} → (Option X → Bool) → List (Option X) → ℕ → List ℕ → List ℕ → Type 0
 KeepsRows passes entries at old now =
-    (p : ℕ) → p < 64 * length old → 64 * at + p < length entries
+    (p : ℕ) → p < 64 * length old
     → bit_of now p ≡ (bit_of old p && passes (slice_index_or entries (64 * at + p) None))
 
 -- of the rows of a word those are kept that are set in another one or, as wanted, those that are clear there

@@ -47,10 +47,6 @@ pub trait Column: Drop {
     /// The size of a column of a form: each number is below it.
     ghost size_of: { Form → ℕ };
 
-    /// The bases of the digits that a number is stored as in a form, least significant first. A slice is a digit under
-    /// base 2.
-    ghost bases_of: { Form → List ℕ };
-
     /// The numbers and nulls, in order of the rows.
     ghost entries: { Self → List (Option ℕ) };
 
@@ -75,15 +71,15 @@ pub trait Column: Drop {
         ensures within { length (entries self.now) + result ≤ 2 ^ 32 };
 
     /// Makes room for `more` further entries. Whatever the result, the entries stay and there is no less room than
-    /// before. If it is refused, there is still not enough room. It allocates memory only if there is not enough room
-    /// already.
+    /// before. If it is refused, the room is as it was. It allocates memory only if there is not enough room already.
     fn reserve(&mut self, more: u64) -> Result<(), NoMemory>
         requires { length (entries self.old) + more ≤ 2 ^ 32 }
         ensures entries { entries self.new ≡ entries self.old }
         ensures form { form_of self.new ≡ form_of self.old }
         ensures ok { OnOk result (more ≤ room_of self.new) }
         ensures kept { room_of self.old ≤ room_of self.new }
-        ensures err { OnErr result (room_of self.new < more) }
+        ensures err { OnErr result (room_of self.new ≡ room_of self.old) }
+        ensures refused { OnErr result (room_of self.new < more) }
         ensures succeeds { more ≤ room_of self.old → IsOk result };
 
     /// Appends a number below the size, or a null, into room that is already there.

@@ -118,17 +118,20 @@ impl NotNull {
     }
 
     /// Keeps in a block of words the rows that have a number. The first word stands for the 64 rows from row `64 * at`
-    /// on. Bits past the last row are unspecified. It reads no bit if no row is null.
+    /// on. It clears bits past the last row. If no row is null, it reads one word alone, that of the last bits.
     pub fn keep_in(&self, at: usize, block: &mut [u64])
         requires { at + length block.old ≤ word_count (length self.now.bits) }
         ensures len { length block.new ≡ length block.old }
-        ensures bits { (p : ℕ) → p < 64 * length block.old → 64 * at + p < length self.now.bits →
+        ensures bits { (p : ℕ) → p < 64 * length block.old →
             bit_of block.new p ≡ (bit_of block.old p
             && slice_index_or self.now.bits (64 * at + p) false) }
     {
+        let words = self.bits.words();
         if self.has_null {
-            let words = self.bits.words();
             lanes::and(block, &words[at..at + block.len()]);
+        } else if !block.is_empty() {
+            let last = block.len() - 1;
+            block[last] &= words[at + last];
         }
     }
 }

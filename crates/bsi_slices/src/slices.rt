@@ -1,6 +1,6 @@
 //! A column as bit slices: one bit vector for each binary place of its numbers, as O'Neil and Quass described in 1997.
 
-ghost use Rattle.std.specs.Prelude.{◌≡◌, ℕ, ◌++◌, ◌∷◌, [], All, ◌<◌, ◌≤◌, ◌^◌, ◌+◌, ◌==◌, length, map, min, replicate, IfOk, IsOk, OnOk, OnErr};
+ghost use Rattle.std.specs.Prelude.{◌≡◌, ℕ, ◌++◌, ◌∷◌, [], All, ◌<◌, ◌≤◌, ◌^◌, ◌+◌, ◌==◌, length, map, min, IfOk, IsOk, OnOk, OnErr};
 ghost use Rattle.std.specs.Int.{bit_at};
 ghost use Rattle.bsi_bits.specs.BitList.{word_count};
 ghost use Rattle.bsi_slices.specs.Blocks.{KeepsRows};
@@ -79,8 +79,8 @@ impl Slices {
     }
 
     /// Keeps in a block of words the rows whose number satisfies the comparison `op` with `constant`, which may be past
-    /// the size. The first word stands for the 64 rows from row `64 * at` on. A null row is not kept. It allocates no
-    /// memory.
+    /// the size. The first word stands for the 64 rows from row `64 * at` on. A null row is not kept, nor a bit past the
+    /// last row. It allocates no memory.
     pub fn keep_selected(&self, op: Op, constant: u64, at: usize, block: &mut [u64])
         requires { at + length block.old ≤ word_count (length self.now.entries) }
         ensures { KeepsRows (selects op constant) self.now.entries at block.old block.new }
@@ -102,8 +102,6 @@ impl Column for Slices {
     ghost form_of = { λ c. c.width };
 
     ghost size_of = { λ width. 2 ^ width };
-
-    ghost bases_of = { λ width. replicate width 2 };
 
     ghost entries = { λ c. c.entries };
 
@@ -187,7 +185,8 @@ impl Column for Slices {
     }
 }
 
-/// Makes room for `more` further rows. Whatever the result, the rows stay and there is no less room than before.
+/// Makes room for `more` further rows. Whatever the result, the rows stay and there is no less room than before. That
+/// which has less room grows last, so a refused growth leaves the room as it was.
 fn reserve_rows(slices: &mut Bitmaps, present: &mut NotNull, more: u64) -> Result<(), NoMemory>
     requires sliced { IsSliced present.old.bits slices.old.vectors }
     requires below { length present.old.bits + more ≤ 2 ^ 32 }
@@ -197,11 +196,18 @@ fn reserve_rows(slices: &mut Bitmaps, present: &mut NotNull, more: u64) -> Resul
         ≡ entries_in present.old.bits slices.old.vectors }
     ensures ok { OnOk result (more ≤ min slices.new.room present.new.room) }
     ensures kept { min slices.old.room present.old.room ≤ min slices.new.room present.new.room }
-    ensures err { OnErr result (min slices.new.room present.new.room < more) }
+    ensures err { OnErr result (min slices.new.room present.new.room
+        ≡ min slices.old.room present.old.room) }
+    ensures refused { OnErr result (min slices.new.room present.new.room < more) }
     ensures succeeds { more ≤ min slices.old.room present.old.room → IsOk result }
 {
-    slices.reserve(more)?;
-    present.reserve(more)
+    if slices.room() < present.room() {
+        present.reserve(more)?;
+        slices.reserve(more)
+    } else {
+        slices.reserve(more)?;
+        present.reserve(more)
+    }
 }
 
 /// Appends a row into room that is already there: each slice gets its binary place of the number, which is 0 if the row

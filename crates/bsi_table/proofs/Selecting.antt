@@ -35,9 +35,6 @@ module _ (kept : List OffsetColumn) (c : ℕ) (column : OffsetColumn) (within : 
   pub entry_read : (r : ℕ) → get_or (shifted_entries column) r None ≡ entry_at (row_in kept r) c
   entry_read r = ap (λ k. get_or (shifted_entries k) r None) (sym (kept_read kept c column within is)) ∙ sym (entry-row_in kept c r within)
 
-  pub rows_read : (count : ℕ) → ((k : ℕ) → k < length kept → length (shifted_entries (kept_at kept k)) ≡ count) → length (shifted_entries column) ≡ count
-  rows_read count even = ap (λ k. length (shifted_entries k)) (sym (kept_read kept c column within is)) ∙ even c within
-
 -- one of two tests holds of a row, where both were asked of it
 either_kept : (was first second : Bool) → ((was && second) || (was && first)) ≡ (was && (first || second))
 either_kept true true true = refl

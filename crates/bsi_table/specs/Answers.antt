@@ -35,6 +35,15 @@ IsTotal Rows pred rows answer = IsRows (numbered_at (feeders_of rows) (selected 
 abbrev pub IsAnswer : Query → List FedRow → Answer → Type 0
 IsAnswer query rows answer = IsTotal query.total query.pred rows answer
 
+-- the total is answered without memory
+abbrev pub NeedsNoMemory : Total → Type 0
+NeedsNoMemory Count = Unit {0}
+NeedsNoMemory (Sum c) = Unit {0}
+NeedsNoMemory (Least c) = ⊥
+NeedsNoMemory (Greatest c) = ⊥
+NeedsNoMemory (Median c) = ⊥
+NeedsNoMemory Rows = ⊥
+
 -- the columns that a total reads
 abbrev pub columns_of_total : Total → List ℕ
 columns_of_total Count = []

@@ -196,10 +196,10 @@ impl Index {
         &self.schema
     }
 
-    /// Returns the number of feeders, at most 64. Each row came from one of them.
+    /// Returns the number of feeders, from 1 to 64. Each row came from one of them.
     pub fn feeders(&self) -> u32
         ensures feeders { result ≡ self.now.feeders }
-        ensures within { result ≤ 64 }
+        ensures within { (1 ≤ result) × (result ≤ 64) }
         ensures from { AreFrom self.now.feeders self.now.rows }
     {
         self.origins.feeders()

@@ -1,7 +1,7 @@
 //! The total that a query asks for, of the rows that its predicate selects.
 
-ghost use Rattle.std.specs.Prelude.{◌≡◌, None, length, map, IfOk};
-ghost use Rattle.bsi_table.specs.Answers.{columns_of_total, missing_of, IsAnswer};
+ghost use Rattle.std.specs.Prelude.{◌≡◌, None, length, map, IfOk, IsOk};
+ghost use Rattle.bsi_table.specs.Answers.{columns_of_total, missing_of, IsAnswer, NeedsNoMemory};
 ghost use Rattle.bsi_table.specs.Rows.{holds};
 ghost use Rattle.bsi_table.specs.Table.{fed_rows, HaveRows};
 
@@ -24,7 +24,8 @@ pub(crate) fn answer_total(
     requires found { found.now.bits
         ≡ map (λ row. holds query.now.pred row.1) (fed_rows origins.now.rows columns.now) }
     requires there { missing_of (length columns.now) (columns_of_total query.now.total) ≡ None }
-    ensures { IfOk result (IsAnswer query.now (fed_rows origins.now.rows columns.now)) }
+    ensures answer { IfOk result (IsAnswer query.now (fed_rows origins.now.rows columns.now)) }
+    ensures succeeds { NeedsNoMemory query.now.total → IsOk result }
 {
     match query.total {
         Total::Count => Ok(Answer::Count(found.count())),

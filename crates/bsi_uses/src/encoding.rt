@@ -28,6 +28,8 @@ impl Encoding for ByBase {
 
     ghost room_of = { kept_room };
 
+    ghost works_on_blocks = { true };
+
     fn make(alloc: Global, base: u32) -> Result<Self, NoMemory> {
         if base <= MAX_RANGE_BASE {
             return Ok(ByBase::Range(RangeComponent::make(alloc, base)?));
@@ -81,6 +83,20 @@ impl Encoding for ByBase {
         match self {
             ByBase::Range(component) => component.le_into(d, out),
             ByBase::Equality(component) => component.le_into(d, out),
+        }
+    }
+
+    fn eq_block(&self, d: u32, at: usize, block: &mut [u64]) -> bool {
+        match self {
+            ByBase::Range(component) => component.eq_block(d, at, block),
+            ByBase::Equality(component) => component.eq_block(d, at, block),
+        }
+    }
+
+    fn le_block(&self, d: u32, at: usize, block: &mut [u64]) -> bool {
+        match self {
+            ByBase::Range(component) => component.le_block(d, at, block),
+            ByBase::Equality(component) => component.le_block(d, at, block),
         }
     }
 

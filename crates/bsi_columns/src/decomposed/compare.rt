@@ -8,7 +8,7 @@
 //! nothing else is as long as the column. An encoding without calls on blocks works on whole vectors, with one vector
 //! more.
 
-ghost use Rattle.std.specs.Prelude.{◌≡◌, ℕ, ◌+◌, ◌*◌, ◌≤◌, ◌<◌, ◌&&◌, [], None, false, length, map, slice_index_or, IfOk, IfSome, OnErr, OnOk};
+ghost use Rattle.std.specs.Prelude.{◌≡◌, ℕ, ◌+◌, ◌*◌, ◌≤◌, ◌<◌, ◌&&◌, [], None, false, length, map, slice_index_or, IfOk, IfSome, IsOk, IsTrue, OnErr, OnOk};
 ghost use Rattle.std.specs.Bool.{OnTrue};
 ghost use Rattle.bsi_bits.specs.BitList.{word_count};
 ghost use Rattle.bsi_bits.specs.Packed.{bit_of};
@@ -44,9 +44,9 @@ impl<E: Encoding> Decomposed<E> {
     }
 
     /// Keeps in a block of at most 1,024 words the rows whose number satisfies the comparison `op` with `constant`,
-    /// which may be past the size. The first word stands for the 64 rows from row `64 * at` on. A null row is not kept.
-    /// Bits past the last row are unspecified. If a component works on whole vectors alone, each call reads all rows
-    /// and allocates memory for them.
+    /// which may be past the size. The first word stands for the 64 rows from row `64 * at` on. A null row is not kept,
+    /// nor a bit past the last row. If a component works on whole vectors alone, each call reads all rows and allocates
+    /// memory for them.
     pub fn keep_selected(
         &self,
         op: Op,
@@ -59,6 +59,7 @@ impl<E: Encoding> Decomposed<E> {
         ensures kept { OnErr result (block.new ≡ block.old) }
         ensures rows { OnOk result
             (KeepsRows (selects op constant) self.now.entries at block.old block.new) }
+        ensures succeeds { IsTrue E.works_on_blocks → IsOk result }
     {
         match decide(op, constant, self.bases.size()) {
             Decision::Nothing => {
@@ -81,6 +82,7 @@ impl<E: Encoding> Decomposed<E> {
         ensures kept { OnErr result (block.new ≡ block.old) }
         ensures rows { OnOk result
             (KeepsRows (wants test) self.now.entries at block.old block.new) }
+        ensures succeeds { IsTrue E.works_on_blocks → IsOk result }
     {
         let mut buffer = [0; BLOCK_WORDS];
         let found = &mut buffer[..block.len()];
@@ -171,7 +173,8 @@ impl<E: Encoding> Decomposed<E> {
     fn find_block(&self, test: Test, at: usize, block: &mut [u64]) -> bool
         requires below { test.constant < product self.now.bases }
         requires within { at + length block.old ≤ word_count (length self.now.entries) }
-        ensures { OnTrue result ((p : ℕ) → p < 64 * length block.old →
+        ensures done { IsTrue E.works_on_blocks → IsTrue result }
+        ensures bits { OnTrue result ((p : ℕ) → p < 64 * length block.old →
             64 * at + p < length self.now.entries → bit_of block.new p
             ≡ relates test.relation (number_or_zero
             (slice_index_or self.now.entries (64 * at + p) None)) test.constant) }

@@ -1,6 +1,6 @@
 //! One digit of a test, taken into a block of words.
 
-ghost use Rattle.std.specs.Prelude.{◌≡◌, ℕ, ◌+◌, ◌*◌, ◌^◌, ◌≤◌, ◌<◌, ◌||◌, length, slice_index};
+ghost use Rattle.std.specs.Prelude.{◌≡◌, ℕ, ◌+◌, ◌*◌, ◌^◌, ◌≤◌, ◌<◌, ◌||◌, length, slice_index, IsTrue};
 ghost use Rattle.std.specs.Bool.{OnTrue};
 ghost use Rattle.bsi_bits.specs.BitList.{word_count};
 ghost use Rattle.bsi_bits.specs.Packed.{bit_of};
@@ -25,7 +25,8 @@ pub(crate) fn narrow_digit<E: Encoding>(
 ) -> bool
     requires below { digit < E.base_of component.now }
     requires within { at + length block.old ≤ word_count (length (E.digits component.now)) }
-    ensures { OnTrue result ((p : ℕ) → p < 64 * length block.old →
+    ensures done { IsTrue E.works_on_blocks → IsTrue result }
+    ensures bits { OnTrue result ((p : ℕ) → p < 64 * length block.old →
         64 * at + p < length (E.digits component.now) → bit_of block.new p
         ≡ relates_from relation (is_lowest || bit_of block.old p)
         (slice_index (E.digits component.now) (64 * at + p)) digit) }
@@ -60,7 +61,8 @@ fn narrow_part<E: Encoding>(
 ) -> bool
     requires below { digit < E.base_of component.now }
     requires within { at + length block.old ≤ word_count (length (E.digits component.now)) }
-    ensures { OnTrue result ((p : ℕ) → p < 64 * length block.old →
+    ensures done { IsTrue E.works_on_blocks → IsTrue result }
+    ensures bits { OnTrue result ((p : ℕ) → p < 64 * length block.old →
         64 * at + p < length (E.digits component.now) → bit_of block.new p
         ≡ relates_from relation (is_lowest || bit_of block.old p)
         (slice_index (E.digits component.now) (64 * at + p)) digit) }

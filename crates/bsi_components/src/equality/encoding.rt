@@ -23,6 +23,8 @@ impl Encoding for EqualityComponent {
 
     ghost room_of = { λ c. c.room };
 
+    ghost works_on_blocks = { true };
+
     fn make(alloc: Global, base: u32) -> Result<Self, NoMemory> {
         let bitmaps = Bitmaps::new(alloc, (base - first_stored(base)) as usize)?;
         Ok(EqualityComponent { base, bitmaps })

@@ -25,6 +25,8 @@ impl Encoding for RangeComponent {
 
     ghost room_of = { λ c. c.room };
 
+    ghost works_on_blocks = { true };
+
     fn make(alloc: Global, base: u32) -> Result<Self, NoMemory> {
         let bitmaps = Bitmaps::new(alloc, base as usize - 1)?;
         Ok(RangeComponent { base, bitmaps })

@@ -1,6 +1,6 @@
 //! Comparisons of whole numbers with a constant, as comparisons of the stored numbers.
 
-ghost use Rattle.std.specs.Prelude.{◌≡◌, ℕ, ℤ, ◌<ℤ◌, ◌+◌, ◌<◌, ◌≤◌, ◌^◌, length, map, is_none, IfOk, OnOk, OnErr};
+ghost use Rattle.std.specs.Prelude.{◌≡◌, ℕ, ℤ, ◌<ℤ◌, ◌+◌, ◌<◌, ◌≤◌, ◌^◌, length, map, is_none, IfOk, IsOk, OnOk, OnErr};
 ghost use Rattle.bsi_bits.specs.BitList.{word_count};
 ghost use Rattle.bsi_slices.specs.Blocks.{KeepsRows};
 ghost use Rattle.bsi_slices.specs.Orders.{compares_by};
@@ -33,7 +33,8 @@ impl Shifted {
     }
 
     /// Keeps in a block of at most 1,024 words the rows whose number satisfies the comparison `op` with `constant`,
-    /// which may be any number. The first word stands for the 64 rows from row `64 * at` on. A null row is not kept.
+    /// which may be any number. The first word stands for the 64 rows from row `64 * at` on. A null row is not kept,
+    /// nor a bit past the last row. It allocates no memory.
     pub fn keep_selected(
         &self,
         op: Op,
@@ -46,13 +47,14 @@ impl Shifted {
         ensures kept { OnErr result (block.new ≡ block.old) }
         ensures rows { OnOk result (KeepsRows
             (signed_selects op constant) (shifted_entries self.now) at block.old block.new) }
+        ensures succeeds { IsOk result }
     {
         let (op, constant) = stored_comparison(op, constant, self.offset);
         self.stored.keep_selected(op, constant, at, block)
     }
 
     /// Keeps in a block of words the rows that are null. The first word stands for the 64 rows from row `64 * at` on.
-    /// It allocates no memory.
+    /// Bits past the last row stay as they are. It allocates no memory.
     pub fn keep_nulls(&self, at: usize, block: &mut [u64])
         requires { at + length block.old ≤ word_count (length (shifted_entries self.now)) }
         ensures { KeepsRows is_none (shifted_entries self.now) at block.old block.new }

@@ -10,7 +10,7 @@ use Rattle.bsi_table.specs.Rows.{holds}
 use Rattle.bsi_table.specs.Table.{row_in}
 use Rattle.bsi_table.proofs.Missing.{none_missing_first, none_missing_second, there}
 use Rattle.bsi_table.proofs.Parts.{parts_of}
-use Rattle.bsi_table.proofs.Selecting.{entry_read, joined_bit, rows_read, saved_before, saved_last, turned_bit}
+use Rattle.bsi_table.proofs.Selecting.{entry_read, joined_bit, saved_before, saved_last, turned_bit}
 use Rattle.bsi_table.proofs.found.+narrow.Goals as goal
 
 pub returns-in_ok-keep_selected-in-Compare-clause-rows : goal.returns-in_ok-keep_selected-in-Compare-clause-rows
@@ -20,8 +20,7 @@ returns-in_ok-keep_selected-in-Compare-clause-rows t c = λ p below row.
     let column = c.index-columns-c.result in
     let within = there (length columns) c.in-Compare.c (ap (λ q. missing_of (length columns) (columns_of_pred q)) (sym c.in-Compare.is) ∙ c.requires.there) in
     let read : SFits w128 c.in-Compare.constant = search rules in
-    let rows = rows_read columns c.in-Compare.c column within c.index-columns-c.is c.args.count c.requires.even in
-    c.in_ok-keep_selected-in-Compare.ensures.rows p below (omega (arith, row, rows))
+    c.in_ok-keep_selected-in-Compare.ensures.rows p below
     ∙ ap (λ k. bit_of c.args.block.now p && signed_selects c.in-Compare.op k (get_or (shifted_entries column) r None)) (to_z-of_z read)
     ∙ ap (λ e. bit_of c.args.block.now p && signed_selects c.in-Compare.op c.in-Compare.constant e) (entry_read columns c.in-Compare.c column within c.index-columns-c.is r)
     ∙ ap (λ q. bit_of c.args.block.now p && holds q (row_in columns r)) (sym c.in-Compare.is)
@@ -32,8 +31,7 @@ returns-in-Null-clause-rows t c = λ p below row.
     let r : ℕ = 64 * c.args.at + p in
     let column = c.index-columns-c-in-Null.result in
     let within = there (length columns) c.in-Null.c (ap (λ q. missing_of (length columns) (columns_of_pred q)) (sym c.in-Null.is) ∙ c.requires.there) in
-    let rows = rows_read columns c.in-Null.c column within c.index-columns-c-in-Null.is c.args.count c.requires.even in
-    c.keep_nulls.ensures p below (omega (arith, row, rows))
+    c.keep_nulls.ensures p below
     ∙ ap (λ e. bit_of c.args.block.now p && is_none e) (entry_read columns c.in-Null.c column within c.index-columns-c-in-Null.is r)
     ∙ ap (λ q. bit_of c.args.block.now p && holds q (row_in columns r)) (sym c.in-Null.is)
 

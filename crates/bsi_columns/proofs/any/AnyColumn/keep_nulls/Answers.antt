@@ -1,8 +1,8 @@
 use Rattle.std.proofs.Common.{◌≡◌, ◌+◌, ◌*◌, ◌&&◌, ℕ, false, not, get_or, refl, ap, ◌∙◌}
 use Rattle.std.specs.Prelude.{None, Option, Some, is_none, is_some}
-use Rattle.std.proofs.lemmas.List.{get_or-map}
 use Rattle.bsi_bits.specs.Packed.{bit_of}
 use Rattle.bsi_columns.specs.AnyRows.{any_entries}
+use Rattle.bsi_columns.proofs.EntryReads.{map_read}
 use Rattle.bsi_columns.proofs.any.AnyColumn.keep_nulls.Goals as goal
 
 no_number : (e : Option ℕ) → not (is_some e) ≡ is_none e
@@ -10,9 +10,9 @@ no_number None = refl
 no_number (Some x) = refl
 
 pub returns : goal.returns
-returns c = λ p below row.
+returns c = λ p below.
     let r = 64 * c.args.at + p in
     let entries = any_entries c.args.self.now in
     c.drop_in.ensures.bits p below
     ∙ ap (◌&&◌ (bit_of c.args.block.now p))
-    (ap (λ bits. not (get_or bits r false)) c.present.ensures ∙ ap not (get_or-map is_some entries r None false row) ∙ no_number (get_or entries r None))
+    (ap (λ bits. not (get_or bits r false)) c.present.ensures ∙ ap not (map_read is_some entries r) ∙ no_number (get_or entries r None))

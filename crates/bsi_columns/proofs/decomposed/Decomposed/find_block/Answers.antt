@@ -40,10 +40,10 @@ loop-i-preserved g c =
     let before : IsNarrowed bs c.args.test.relation c.args.test.constant entries c.args.at c.loop-i.i c.loop-i.block = rw (← c.self.view_is) at c.loop-i.invariant in
     rw (← c.self.view_is)
     (narrowed_more c.len-i-end.ensures.valid c.args.test.relation c.args.test.constant entries c.args.at c.loop-i.i c.digit-digit.result c.loop-i.block c.narrow_digit.new.block
-    (g.E.Encoding.digits c.index.result.now) (omega arith) c.digit-digit.ensures.digit digits c.narrow_digit.auto.block before c.if-not-narrow_digit.ensures)
+    (g.E.Encoding.digits c.index.result.now) (omega arith) c.digit-digit.ensures.digit digits c.narrow_digit.auto.block before c.if-not-narrow_digit.ensures.bits)
 
-pub returns : goal.returns
-returns g c = λ p below row.
+pub returns-clause-bits : goal.returns-clause-bits
+returns-clause-bits g c = λ p below row.
     let inside = c.self.inside in
     let bs = inside.bases in
     let entries = entries_of bs inside.present.bits (map g.E.Encoding.digits inside.components.items) in

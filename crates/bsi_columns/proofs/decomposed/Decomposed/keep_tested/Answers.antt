@@ -1,11 +1,13 @@
-use Rattle.std.proofs.Common.{◌≡◌, ℕ, ◌+◌, ◌*◌, ◌&&◌, false, length, get_or, map, replicate, ap, ap₂, ◌∙◌, arith}
+use Rattle.std.proofs.Common.{◌≡◌, ℕ, ◌+◌, ◌*◌, ◌&&◌, false, length, get_or, map, replicate, inl, inr, ap, ap₂, ◌∙◌, arith}
 use Rattle.std.specs.Prelude.{None, is_some}
-use Rattle.std.proofs.lemmas.List.{get_or-map, length-map, length-take}
+use Rattle.std.proofs.lemmas.Bool.{cases_lt}
+use Rattle.std.proofs.lemmas.List.{get_or_past, length-take}
 use Rattle.bsi_bits.specs.Packed.{bit_of}
 use Rattle.bsi_columns.specs.Rows.{number_or_zero}
 use Rattle.bsi_slices.specs.Decisions.{as_wanted, relates}
 use Rattle.bsi_columns.specs.Decomposed.{entries_of}
-use Rattle.bsi_columns.proofs.Answering.{and_assoc, cut_answer}
+use Rattle.bsi_columns.proofs.Answering.{and_assoc, cut_answer, cut_past}
+use Rattle.bsi_columns.proofs.EntryReads.{map_read}
 use Rattle.bsi_columns.proofs.decomposed.Decomposed.keep_tested.Goals as goal
 
 -- the rows of the block that pass, found in words of their own
@@ -19,15 +21,19 @@ returns-then-find_block-clause-rows g c =
     let wanted = c.args.test.wanted in
     let size : length c.find_block.new.block ≡ length block =
     omega (arith, c.find_block.auto.block, c.requires.few, length-take {A = ℕ} (length block) (replicate 1024 0)) in
-    let rows : length present ≡ length entries = ap length c.self.invariant.0.present_is ∙ length-map entries is_some in
-    let found = rw (← c.self.view_is) at c.if-find_block.ensures in
+    let found = rw (← c.self.view_is) at c.if-find_block.ensures.bits in
     rw (← c.self.view_is)
-    (λ p below row.
+    (λ p below.
     let r = 64 * c.args.at + p in
     let was = bit_of block p in
     let entry = get_or entries r None in
-    c.keep_in.ensures.bits p (omega (arith, c.keep_wanted.auto.block, below)) (omega (arith, rows, row))
-    ∙ ap₂ ◌&&◌ (c.keep_wanted.ensures.bits p below) (ap (λ bits. get_or bits r false) c.self.invariant.0.present_is ∙ get_or-map is_some entries r None false row)
-    ∙ ap (λ b. (was && as_wanted wanted b) && is_some entry) (found p (omega (arith, size, below)) row)
-    ∙ and_assoc was (as_wanted wanted (test (number_or_zero entry))) (is_some entry)
-    ∙ ap (◌&&◌ was) (cut_answer test wanted entry))
+    let there : get_or present r false ≡ is_some entry = ap (λ bits. get_or bits r false) c.self.invariant.0.present_is ∙ map_read is_some entries r in
+    c.keep_in.ensures.bits p (omega (arith, c.keep_wanted.auto.block, below))
+    ∙ ap₂ ◌&&◌ (c.keep_wanted.ensures.bits p below) there
+    ∙ elim (cases_lt r (length entries)) [
+      | inl row ↦
+          ap (λ b. (was && as_wanted wanted b) && is_some entry) (found p (omega (arith, size, below)) row)
+          ∙ and_assoc was (as_wanted wanted (test (number_or_zero entry))) (is_some entry)
+          ∙ ap (◌&&◌ was) (cut_answer test wanted entry)
+      | inr past ↦ cut_past test wanted was (was && as_wanted wanted (bit_of c.find_block.new.block p)) entry (get_or_past entries r None past)
+    ])

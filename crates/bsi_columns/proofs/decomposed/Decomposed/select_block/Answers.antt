@@ -1,6 +1,5 @@
 use Rattle.std.proofs.Common.{◌≡◌, ◌<◌, ◌+◌, ◌*◌, ℕ, false, not, length, get_or, map, ap, ◌∙◌, arith}
 use Rattle.std.specs.Prelude.{None, is_some}
-use Rattle.std.proofs.lemmas.List.{length-map}
 use Rattle.bsi_bits.specs.Packed.{bit_of}
 use Rattle.bsi_columns.specs.Rows.{number_or_zero}
 use Rattle.bsi_slices.specs.Decisions.{as_wanted, relates}
@@ -18,7 +17,7 @@ returns g c = λ p below row.
     let test = λ (x : ℕ). relates c.args.test.relation x c.args.test.constant in
     let in_row : 64 * at + p < length entries = rw (← c.self.view_is) at row in
     let number : ℕ = number_or_zero (get_or entries (64 * at + p) None) in
-    let narrowed : bit_of c.find_block.new.block p ≡ test number = rw (← c.self.view_is) at (c.if-not-find_block.ensures p below row) in
+    let narrowed : bit_of c.find_block.new.block p ≡ test number = rw (← c.self.view_is) at (c.if-not-find_block.ensures.bits p below row) in
     let found : bit_of c.if-not-test.block p ≡ as_wanted c.args.test.wanted (test number) =
     elim c.if-not-test.branch [
       | then-not-test w ↦
@@ -28,8 +27,7 @@ returns g c = λ p below row.
           answer_kept c.args.test.wanted (bit_of c.if-not-test.block p) (test number) w.if-not-test.false
           (ap (λ ws. bit_of ws p) w.block-is ∙ narrowed)
     ] in
-    let rows : length present ≡ length entries = ap length c.self.invariant.0.present_is ∙ length-map entries is_some in
     let there : get_or present (64 * at + p) false ≡ get_or (map is_some entries) (64 * at + p) false = ap (λ bits. get_or bits (64 * at + p) false) c.self.invariant.0.present_is in
     rw (← c.self.view_is)
-    (c.keep_in.ensures.bits p (omega (arith, c.if-not-test.auto.block)) (omega (arith, rows, in_row))
+    (c.keep_in.ensures.bits p (omega (arith, c.if-not-test.auto.block))
     ∙ row_answer test c.args.test.wanted entries (64 * at + p) (bit_of c.if-not-test.block p) (get_or present (64 * at + p) false) in_row found there)

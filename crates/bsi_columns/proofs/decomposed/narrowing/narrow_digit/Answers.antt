@@ -18,4 +18,4 @@ parts-preserved g c =
     let long : length (take n (drop from block)) ≡ n = omega (arith, length-take n (drop from block), length-drop from block, size, begun) in
     stepped_more from (64 * (c.parts.k + 1)) (λ low v. relates_from c.args.relation (c.args.is_lowest || low) v c.args.digit) digits c.args.at n c.args.block.now block c.narrow_part.new.block
     same (omega (arith, same, size, begun)) (omega (arith, c.narrow_part.auto.block, long)) (omega (arith, size)) (λ p below inside. omega (arith, same, size, begun)) c.parts.invariant
-    (λ p below row. c.if-not-narrow_part.ensures p (omega (arith, long)) row)
+    (λ p below row. c.if-not-narrow_part.ensures.bits p (omega (arith, long)) row)

@@ -5,8 +5,8 @@ use Rattle.bsi_columns.specs.DigitTests.{relates_from}
 use Rattle.bsi_columns.proofs.decomposed.narrowing.narrow_part.Goals as goal
 
 -- of the lowest digit nothing is known before
-pub returns-in-Equal : goal.returns-in-Equal
-returns-in-Equal g c =
+pub returns-in-Equal-clause-bits : goal.returns-in-Equal-clause-bits
+returns-in-Equal-clause-bits g c =
     OnTrue_from c.eq_block_into.result _ (λ whole p below row.
     let old = c.args.block.now in
     let digit = get_or (g.E.Encoding.digits c.args.component.now) (64 * c.args.at + p) 0 in

@@ -7,6 +7,7 @@ use Rattle.bsi_components.proofs.encoding.Encoding.eq_block_into.Goals as goal
 -- of a block of ones the rows are kept that have the digit
 pub returns : goal.returns
 returns g c = record {
+  done = c.eq_block.ensures.done;
   bits = OnTrue_from c.eq_block.result _ (λ whole p below row.
       let n = length c.args.block.now in
       let digit = get_or (g.Self.Encoding.digits c.args.self.now) (64 * c.args.at + p) 0 in

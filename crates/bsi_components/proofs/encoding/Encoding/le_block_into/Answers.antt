@@ -8,6 +8,7 @@ use Rattle.bsi_components.proofs.encoding.Encoding.le_block_into.Goals as goal
 -- a block of ones says that the digits below are at most those of any constant
 pub returns : goal.returns
 returns g c = record {
+  done = c.le_block.ensures.done;
   bits = OnTrue_from c.le_block.result _ (λ whole p below row.
       let n = length c.args.block.now in
       let digit = get_or (g.Self.Encoding.digits c.args.self.now) (64 * c.args.at + p) 0 in

@@ -12,13 +12,11 @@ keep_nulls-requires c =
     omega (arith, c.requires, long)
 
 pub returns : goal.returns
-returns c = λ p below row.
-    let now = c.args.self.now in
+returns c = λ p below.
     let inside = c.self.inside in
     let r : ℕ = 64 * c.args.at + p in
-    let there : r < length (any_entries inside.stored) = omega (arith, row, ap (λ v. length (any_entries v.stored)) c.self.view_is ∙ sym (length-shifted_entries now)) in
-    c.keep_nulls.ensures p below there
+    c.keep_nulls.ensures p below
     ∙ ap (◌&&◌ (bit_of c.args.block.now p))
     (sym (null_from inside.offset (get_or (any_entries inside.stored) r None))
-    ∙ ap is_none (sym (entry_from (record { stored = inside.stored; offset = inside.offset }) r there))
+    ∙ ap is_none (sym (entry_from (record { stored = inside.stored; offset = inside.offset }) r))
     ∙ ap (λ v. is_none (get_or (shifted_entries v) r None)) c.self.view_is)
