@@ -5,15 +5,9 @@ ghost use Rattle.bsi_bits.specs.BitLists.{bits_at, room_at, AreSame, Says};
 ghost use Rattle.bsi_bits.specs.Packed.{bits_of};
 
 use crate::NoMemory;
-use crate::bits::Bits;
+use crate::bits::{Bits, room_to_make};
 use std::alloc::Global;
 use std::marker::Model;
-
-/// The most bits that a vector holds.
-const MAX_LEN: u64 = 1 << 32;
-
-/// The least room for bits that a vector has once it has grown: that of the four words that a `Vec` begins with.
-const MIN_ROOM: u64 = 256;
 
 /// Vectors of one length that grow together: a single test tells whether there is room, and if there is none, all grow
 /// at once.
@@ -146,17 +140,6 @@ impl Bitmaps {
         }
         self.room -= count;
     }
-}
-
-/// Returns for how many more bits to make room after `len` bits if `more` are needed: as many as there are bits, so
-/// that they double, or the least room if that is more. There are never more than 2^32 in all.
-pub fn room_to_make(len: u64, more: u64) -> u64
-    requires { len + more ≤ 2 ^ 32 }
-    ensures enough { more ≤ result }
-    ensures doubles { min len (2 ^ 32 - len) ≤ result }
-    ensures within { len + result ≤ 2 ^ 32 }
-{
-    more.max(len).max(MIN_ROOM).min(MAX_LEN - len)
 }
 
 /// Makes `count` empty vectors.

@@ -1,6 +1,6 @@
 //! The packed vector of bits.
 
-ghost use Rattle.std.specs.Prelude.{◌≡◌, ◌↔◌, ℕ, ◌+◌, ◌^◌, ◌≤◌, ◌<◌, Some, [], ◌∷◌, ◌++◌, length, nat_lt, slice_get, slice_index_or, false, replicate, IsTrue, IsOk, IfOk, OnOk, OnErr};
+ghost use Rattle.std.specs.Prelude.{◌≡◌, ◌↔◌, ℕ, ◌+◌, ◌-◌, ◌^◌, ◌≤◌, ◌<◌, Some, [], ◌∷◌, ◌++◌, length, min, nat_lt, slice_get, slice_index_or, false, replicate, IsTrue, IsOk, IfOk, OnOk, OnErr};
 ghost use Rattle.bsi_bits.specs.BitList.{set_places, word_count};
 ghost use Rattle.bsi_bits.specs.Packed.{bit_of, bits_of, IsPacked};
 
@@ -11,6 +11,12 @@ use std::alloc::Global;
 use std::marker::Model;
 
 mod logic;
+
+/// The most bits that a vector holds.
+const MAX_LEN: u64 = 1 << 32;
+
+/// The least room for bits that a vector has once it has grown: that of the four words that a `Vec` begins with.
+const MIN_ROOM: u64 = 256;
 
 /// The most words that a vector fills: those of 2^32 bits.
 const MAX_WORDS: u64 = 1 << 26;
@@ -156,12 +162,14 @@ impl Bits {
     }
 
     /// Makes room for `more` further bits. Whatever the result, the bits stay and there is no less room than before. It
-    /// allocates memory only if there is not enough room already; then the capacity at least doubles, as that of a
-    /// `Vec` does.
+    /// allocates memory only if there is not enough room already; then there is room for at least twice the bits,
+    /// within 2^32.
     pub fn reserve(&mut self, more: u64) -> Result<(), NoMemory>
         requires { length self.old.bits + more ≤ 2 ^ 32 }
         ensures bits { self.new.bits ≡ self.old.bits }
         ensures ok { OnOk result (more ≤ self.new.room) }
+        ensures doubles { OnOk result (self.old.room < more →
+            min (length self.old.bits) (2 ^ 32 - length self.old.bits) ≤ self.new.room) }
         ensures kept { self.old.room ≤ self.new.room }
         ensures err { OnErr result (self.new ≡ self.old) }
         ensures succeeds { more ≤ self.old.room → IsOk result }
@@ -169,7 +177,8 @@ impl Bits {
         if more <= self.room() {
             return Ok(());
         }
-        let words = (self.len + more).div_ceil(64) as usize;
+        let wanted = room_to_make(self.len, more);
+        let words = (self.len + wanted).div_ceil(64) as usize;
         self.words.reserve(words - self.words.len())
     }
 
@@ -195,4 +204,15 @@ impl Bits {
         push_word(&mut self.words, self.len, word, count);
         self.len += count;
     }
+}
+
+/// Returns for how many more bits to make room after `len` bits if `more` are needed: as many as there are bits, so
+/// that they double, or the least room if that is more. There are never more than 2^32 in all.
+pub fn room_to_make(len: u64, more: u64) -> u64
+    requires { len + more ≤ 2 ^ 32 }
+    ensures enough { more ≤ result }
+    ensures doubles { min len (2 ^ 32 - len) ≤ result }
+    ensures within { len + result ≤ 2 ^ 32 }
+{
+    more.max(len).max(MIN_ROOM).min(MAX_LEN - len)
 }

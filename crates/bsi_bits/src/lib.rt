@@ -8,9 +8,9 @@ mod ones;
 mod packing;
 
 pub use bitmaps::Bitmaps;
-#[doc(hidden)]
-pub use bitmaps::room_to_make;
 pub use bits::Bits;
+#[doc(hidden)]
+pub use bits::room_to_make;
 pub use ones::Ones;
 #[doc(hidden)]
 pub use packing::know_fits;

@@ -16,7 +16,7 @@ use Rattle.bsi_columns.proofs.WordBlocks.{bit_of-chunk, or_bit, zipped_bit}
 use Rattle.bsi_shift.specs.Shifted.{shifted_entries, OffsetColumn}
 use Rattle.bsi_table.specs.declared.query.Pred.{Pred}
 use Rattle.bsi_table.specs.Rows.{entry_at, holds}
-use Rattle.bsi_table.specs.Table.{kept_at, row_in, rows_in}
+use Rattle.bsi_table.specs.Table.{row_in, rows_in}
 use Rattle.bsi_table.proofs.TableRows.{entry-row_in, kept_read, map_twice}
 
 -- the words that were saved last, and those before them
