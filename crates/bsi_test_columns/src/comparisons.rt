@@ -2,7 +2,7 @@
 //! the same call again.
 
 use bsi_bits::Bits;
-use bsi_columns::{Column, Encoding, EqualityComponent, NoMemory, Op, RangeComponent};
+use bsi_columns::{AnyColumn, Column, Encoding, EqualityComponent, NoMemory, Op, RangeComponent};
 use bsi_plain::{
     FORMS, Form, MakingError, PlainColumn, WholeVectors, Wide, append, bases, compared, filled,
     is_set, no_digits, no_rows, shows,
@@ -50,12 +50,28 @@ pub(crate) const FIFTEEN: Wide<'static> = Wide {
     bases: &[5, 3],
 };
 
+fn nulls_once(column: &AnyColumn) -> Result<Bits, NoMemory> {
+    let mut out = column.present().copy()?;
+    column.nulls_into(&mut out);
+    Ok(out)
+}
+
+// Whether the nulls are these rows.
+fn nulls_are(column: &AnyColumn, wanted: &[bool]) -> Result<bool, NoMemory> {
+    let nulls = match nulls_once(column) {
+        Err(_) => nulls_once(column)?,
+        Ok(nulls) => nulls,
+    };
+    Ok(shows(&nulls, wanted))
+}
+
 #[test]
 fn comparisons_table(rt: HostRuntime) -> Result<(), Fail> {
     for form in FORMS {
         let mut column = no_rows(rt.alloc(), form, FIFTEEN)?;
         append(&mut column, &[Some(3), None, Some(2)])?;
         selects_shown(&rt, &column)?;
+        assert!(rt; nulls_are(&column, &[false, true, false])?);
     }
     Ok(())
 }

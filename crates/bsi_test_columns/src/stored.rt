@@ -7,8 +7,7 @@ use bsi_columns::{
     Slices,
 };
 use bsi_plain::{
-    FORMS, MakingError, PlainColumn, WholeVectors, append, filled, no_digits, no_rows, no_slices,
-    shows,
+    FORMS, Form, MakingError, WholeVectors, append, no_digits, no_rows, no_slices, shows,
 };
 use std::alloc::Global;
 use std::process::Abort;
@@ -71,16 +70,8 @@ fn a_slice_stores_a_binary_place(rt: HostRuntime) -> Result<(), Fail> {
     Ok(())
 }
 
-// Copies bits. A refused copy is made again.
-fn copied(bits: &Bits) -> Result<Bits, NoMemory> {
-    match bits.copy() {
-        Err(_) => bits.copy(),
-        made => made,
-    }
-}
-
 // Appends the entries at once, where there is room for them.
-fn push_block<C: Column>(column: &mut C) -> bool {
+fn push_block(column: &mut AnyColumn) -> bool {
     if column.room() < 3 || column.size() < 4 {
         return false;
     }
@@ -88,98 +79,66 @@ fn push_block<C: Column>(column: &mut C) -> bool {
     true
 }
 
-// A block goes into an empty column.
-fn takes_a_block<C: Column>(rt: &impl Abort, mut column: C) -> Result<(), NoMemory> {
+// Makes room for a block in an empty column. A refused growth changes nothing, and the same call is made again.
+fn reserve(rt: &impl Abort, column: &mut AnyColumn) -> Result<(), NoMemory> {
+    assert!(rt; column.len() == 0);
     if column.reserve(64).is_err() {
         assert!(rt; column.len() == 0 && column.room() < 64);
         column.reserve(64)?;
     }
+    Ok(())
+}
+
+fn takes_a_block(rt: &impl Abort, alloc: Global, form: Form) -> Result<(), MakingError> {
+    let mut column = no_rows(alloc, form, FIFTEEN)?;
+    reserve(rt, &mut column)?;
     assert!(rt; push_block(&mut column));
-    selects_shown(rt, &column)
+    Ok(selects_shown(rt, &column)?)
 }
 
 #[test]
 fn blocks_append_as_single_rows(rt: HostRuntime) -> Result<(), Fail> {
     for form in FORMS {
-        takes_a_block(&rt, no_rows(rt.alloc(), form, FIFTEEN)?)?;
-    }
-    takes_a_block(&rt, PlainColumn::new(rt.alloc(), 15))?;
-    let column = no_digits::<WholeVectors<RangeComponent>>(rt.alloc(), FIFTEEN.bases)?;
-    takes_a_block(&rt, column)?;
-    Ok(())
-}
-
-fn nulls(column: &AnyColumn) -> Result<Bits, NoMemory> {
-    let mut out = copied(column.present())?;
-    if out.len() == column.len() {
-        column.nulls_into(&mut out);
-    }
-    Ok(out)
-}
-
-#[test]
-fn nulls_are_the_rows_of_no_number(rt: HostRuntime) -> Result<(), Fail> {
-    for form in FORMS {
-        let mut column = no_rows(rt.alloc(), form, FIFTEEN)?;
-        append(&mut column, &ENTRIES)?;
-        assert!(rt; shows(&nulls(&column)?, &[false, true, false]));
+        takes_a_block(&rt, rt.alloc(), form)?;
     }
     Ok(())
 }
 
 type Counted<E> = Decomposed<WholeVectors<E>>;
 
-fn calls<E: Encoding>(column: &Counted<E>, i: u32) -> u32 {
-    if i < column.bases().len() {
-        column.component(i).calls()
-    } else {
-        0
+// How many calls of a component wrote a vector, and how many sums it was asked for.
+fn asked<E: Encoding>(column: &Counted<E>, i: u32) -> (u32, u32) {
+    if i >= column.bases().len() {
+        return (0, 0);
     }
+    let component = column.component(i);
+    (component.calls(), component.sums())
 }
 
-fn sums<E: Encoding>(column: &Counted<E>, i: u32) -> u32 {
-    if i < column.bases().len() {
-        column.component(i).sums()
-    } else {
-        0
-    }
-}
-
-fn counted<E: Encoding>(alloc: Global) -> Result<Counted<E>, MakingError> {
-    filled(no_digits::<WholeVectors<E>>(alloc, FIFTEEN.bases)?, 100)
-}
-
-fn calls_of_both<E: Encoding>(column: &Counted<E>) -> [u32; 2] {
-    [calls(column, 0), calls(column, 1)]
-}
-
-// The rows at most 7. A refused comparison calls no component.
-fn at_most_seven<E: Encoding>(rt: &impl Abort, column: &Counted<E>) -> Result<Bits, NoMemory> {
-    let before = calls_of_both(column);
-    match column.compare(Op::Le, 7) {
+// The rows at most 2. A refused comparison calls no component.
+fn at_most_two<E: Encoding>(rt: &impl Abort, column: &Counted<E>) -> Result<Bits, NoMemory> {
+    let before = (asked(column, 0), asked(column, 1));
+    match column.compare(Op::Le, 2) {
         Err(_) => {
-            assert_eq!(rt; calls_of_both(column), before);
-            column.compare(Op::Le, 7)
+            assert_eq!(rt; (asked(column, 0), asked(column, 1)), before);
+            column.compare(Op::Le, 2)
         }
         found => found,
     }
 }
 
-fn is_one_to_four(after: u32, before: u32) -> bool {
-    after > before && after - before <= 4
+fn is_one_to_four(after: (u32, u32), before: (u32, u32)) -> bool {
+    after.0 > before.0 && after.0 - before.0 <= 4
 }
 
 /// Asserts that a comparison calls each component one to four times, if its encoding has no calls on blocks.
 fn calls_each_component<E: Encoding>(rt: &impl Abort, alloc: Global) -> Result<(), MakingError> {
-    let column = counted::<E>(alloc)?;
-    let [first, second] = calls_of_both(&column);
-    let found = at_most_seven(rt, &column)?;
-    assert_eq!(rt; found.len(), 100);
-    let after = calls_of_both(&column);
-    assert!(rt;
-        is_one_to_four(after[0], first) && is_one_to_four(after[1], second),
-        "{after:?}"
-    );
+    let column = digits_of::<WholeVectors<E>>(alloc)?;
+    let (first, second) = (asked(&column, 0), asked(&column, 1));
+    let found = at_most_two(rt, &column)?;
+    assert!(rt; shows(&found, &[false, false, true]));
+    assert!(rt; is_one_to_four(asked(&column, 0), first));
+    assert!(rt; is_one_to_four(asked(&column, 1), second));
     Ok(())
 }
 
@@ -190,14 +149,12 @@ fn a_comparison_calls_each_component_one_to_four_times(rt: HostRuntime) -> Resul
     Ok(())
 }
 
+/// Asserts that a sum asks each component.
 fn sums_each_component<E: Encoding>(rt: &impl Abort, alloc: Global) -> Result<(), MakingError> {
-    let column = counted::<E>(alloc)?;
-    let before = [sums(&column, 0), sums(&column, 1)];
-    let found = copied(column.present())?;
-    if found.len() == column.len() {
-        assert!(rt; column.sum(&found) > 0);
-    }
-    assert!(rt; sums(&column, 0) > before[0] && sums(&column, 1) > before[1]);
+    let column = digits_of::<WholeVectors<E>>(alloc)?;
+    let (first, second) = (asked(&column, 0), asked(&column, 1));
+    assert_eq!(rt; column.sum(column.present()), 5);
+    assert!(rt; asked(&column, 0).1 > first.1 && asked(&column, 1).1 > second.1);
     Ok(())
 }
 

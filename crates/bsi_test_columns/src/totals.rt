@@ -37,28 +37,6 @@ fn totals_of<C: Column>(rt: &impl Abort, column: &C, found: &Bits) -> Result<Tot
 /// Some of the first rows, as places of a word, and the totals of their numbers.
 type Found = (u64, Totals);
 
-/// Entries, and their totals over found rows.
-#[derive(Clone, Copy)]
-struct Worked<'a> {
-    entries: &'a [Option<u64>],
-    wanted: &'a [Found],
-}
-
-const WORKED: [Worked<'static>; 3] = [
-    Worked {
-        entries: &[Some(5), None],
-        wanted: &[(0b11, (5, [Some(5); 3])), (0b10, NOTHING)],
-    },
-    Worked {
-        entries: &[Some(5), None, Some(0)],
-        wanted: &[(0b111, (5, [Some(0), Some(5), Some(0)]))],
-    },
-    Worked {
-        entries: &[None, None, Some(5), None, Some(2), Some(7)],
-        wanted: &[(0b111111, (14, [Some(2), Some(7), Some(5)]))],
-    },
-];
-
 fn found_once(alloc: Global, word: u64, rows: u64) -> Result<Bits, NoMemory>
     requires { rows ≤ 2 ^ 32 }
 {
@@ -89,10 +67,17 @@ fn comes_to(
     Ok(())
 }
 
-fn works(rt: &impl Abort, alloc: Global, form: Form, worked: Worked) -> Result<(), MakingError> {
+// Whether entries come to these totals.
+fn works(
+    rt: &impl Abort,
+    alloc: Global,
+    form: Form,
+    entries: &[Option<u64>],
+    wanted: &[Found],
+) -> Result<(), MakingError> {
     let mut column = no_rows(alloc, form, NARROW)?;
-    append(&mut column, worked.entries)?;
-    for found in worked.wanted {
+    append(&mut column, entries)?;
+    for found in wanted {
         comes_to(rt, alloc, &column, *found)?;
     }
     Ok(())
@@ -105,10 +90,13 @@ const NARROW: Wide<'static> = Wide {
 
 #[test]
 fn totals_table(rt: HostRuntime) -> Result<(), Fail> {
+    let pair = [Some(5), None];
+    let of_pair = [(0b11, (5, [Some(5); 3])), (0b10, NOTHING)];
+    let six = [None, None, Some(5), None, Some(2), Some(7)];
+    let of_six = [(0b111111, (14, [Some(2), Some(7), Some(5)]))];
     for form in FORMS {
-        for worked in WORKED {
-            works(&rt, rt.alloc(), form, worked)?;
-        }
+        works(&rt, rt.alloc(), form, &pair, &of_pair)?;
+        works(&rt, rt.alloc(), form, &six, &of_six)?;
     }
     Ok(())
 }
@@ -116,16 +104,24 @@ fn totals_table(rt: HostRuntime) -> Result<(), Fail> {
 /// The rows that are found of each 64: none, all, every second, the first and the last.
 const FOUND: [u64; 5] = [0, u64::MAX, 0x5555_5555_5555_5555, 1, 1 << 63];
 
-fn alike(
+fn found_alike(
     rt: &impl Abort,
     alloc: Global,
     column: &AnyColumn,
     plain: &PlainColumn,
+    word: u64,
 ) -> Result<(), NoMemory> {
+    let found = found_rows(alloc, word, column.len())?;
+    let wanted = totals_of(rt, plain, &found)?;
+    assert_eq!(rt; totals_of(rt, column, &found)?, wanted, "{word}");
+    Ok(())
+}
+
+// The column beside a plain one of the same entries.
+fn alike(rt: &impl Abort, alloc: Global, column: &AnyColumn, rows: u64) -> Result<(), MakingError> {
+    let plain = filled(PlainColumn::new(alloc, column.size()), rows)?;
     for word in FOUND {
-        let found = found_rows(alloc, word, column.len())?;
-        let wanted = totals_of(rt, plain, &found)?;
-        assert_eq!(rt; totals_of(rt, column, &found)?, wanted, "{word}");
+        found_alike(rt, alloc, column, &plain, word)?;
     }
     Ok(())
 }
@@ -138,8 +134,7 @@ fn form_alike(
     rows: u64,
 ) -> Result<(), MakingError> {
     let column = filled(no_rows(alloc, form, wide)?, rows)?;
-    let plain = filled(PlainColumn::new(alloc, column.size()), rows)?;
-    Ok(alike(rt, alloc, &column, &plain)?)
+    alike(rt, alloc, &column, rows)
 }
 
 // Of one word, of some words, and of two blocks of 16 words and two words and a bit behind them.
