@@ -27,10 +27,11 @@ fn reserve<C: Column>(column: &mut C) -> Result<bool, NoMemory> {
     if column.len() > 1 << 31 {
         return Ok(false);
     }
-    let before = (column.len(), column.present().count());
+    let before = (column.len(), column.present().count(), column.room());
     let mut stayed = true;
     if column.reserve(64).is_err() {
-        stayed = (column.len(), column.present().count()) == before && column.room() < 64;
+        let after = (column.len(), column.present().count(), column.room());
+        stayed = after == before && column.room() < 64;
         column.reserve(64)?;
     }
     Ok(stayed && column.room() >= 64)

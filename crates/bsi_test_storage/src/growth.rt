@@ -69,8 +69,9 @@ fn grows<C: Column>(column: &mut C) -> bool {
 }
 
 // Returns what a refused growth must not change.
-fn shown<C: Column>(column: &C) -> (u64, u64, u64) {
-    (column.len(), column.size(), column.present().count())
+fn shown<C: Column>(column: &C) -> (u64, u64, u64, u64) {
+    let count = column.present().count();
+    (column.len(), column.size(), count, column.room())
 }
 
 // Appends an entry. A refused growth changes nothing, and is tried again.
