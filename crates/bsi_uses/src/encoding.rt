@@ -1,6 +1,6 @@
 //! A column of a caller's own encoding: each component in the encoding that suits its base.
 
-ghost use Rattle.std.specs.Prelude.{◌≡◌, IfOk, map, sum};
+ghost use Rattle.std.specs.Prelude.{◌≡◌, true, IfOk, map, sum};
 ghost use Rattle.bsi_slices.specs.Rows.{selects};
 ghost use Rattle.bsi_slices.specs.Totals.{numbers_at};
 ghost use Rattle.bsi_uses.specs.Encodings.{kept_base, kept_digits, kept_room};
