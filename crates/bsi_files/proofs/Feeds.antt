@@ -1,11 +1,13 @@
 -- What a feeder has sent so far of a source.
-use Rattle.std.proofs.Common.{◌≡◌, ℕ, ◌+◌, Bool, false, List, [], ◌∷◌, ◌++◌, Option, Some, None, IfSome, length, refl, sym, ap, ◌∙◌, arith, length-append}
+use Rattle.std.proofs.Common.{◌≡◌, ℕ, ◌+◌, Bool, false, List, [], ◌∷◌, ◌++◌, Option, Some, None, IfSome, length, refl, sym, ap, ◌∙◌, subst, arith, length-append}
+use Rattle.std.specs.Prelude.{Result, Err, MatchOption}
 use Rattle.std.proofs.lemmas.List.{append_assoc, append-nil}
 use Rattle.bsi_rings.specs.Rings.{with_sent, Sending}
 use Rattle.bsi_table.specs.Rows.{Entries}
-use Rattle.bsi_text.specs.Sources.{GivesFirst, Source, StillHas}
+use Rattle.csv.specs.declared.reader.Reader.{Reader}
+use Rattle.bsi_text.specs.Sources.{End, GivesFirst, HasStopped, HasTaken, Layout, Source, StillHas, Tally}
 use Rattle.bsi_text.specs.declared.rows.SourceFault.{SourceFault}
-use Rattle.bsi_files.specs.Feeding.{HasFed}
+use Rattle.bsi_files.specs.Feeding.{FailsNow, GivesNext, HasFailed, HasFed, StopsAfter}
 
 -- of all good rows and all other records that a source still had, it has the rest
 pub record HasRest {R : Type 0} (rem : R → Option (List ℕ)) (old new : Source R) (rows all : List Entries) (others : ℕ) : Type 0 where
@@ -15,6 +17,12 @@ pub record HasRest {R : Type 0} (rem : R → Option (List ℕ)) (old new : Sourc
   pub still : StillHas rem new rest left
   pub count : new.tally.bad + left ≡ old.tally.bad + others
 
+-- a source has given these rows, and may go on as before
+pub record HasGone {R : Type 0} (rem : R → Option (List ℕ)) (old new : Source R) (rows : List Entries) : Type 0 where
+  pub layout : new.layout ≡ old.layout
+  pub end : new.end ≡ old.end
+  pub taken : HasTaken rem old.layout old.input new.input old.tally new.tally rows
+
 -- so many rows were sent of a source, the first ones that it still had
 pub record HasSent {R : Type 0} (rem : R → Option (List ℕ)) (feeder : Sending) (source : Source R) (n : ℕ) (now : Sending) (after : Source R) : Type 0 where
   pub rows : List Entries
@@ -23,21 +31,42 @@ pub record HasSent {R : Type 0} (rem : R → Option (List ℕ)) (feeder : Sendin
   pub sent : now.sent ≡ feeder.sent ++ rows
   pub many : length rows ≡ n
   pub gives : (all : List Entries) → (others : ℕ) → StillHas rem source all others → HasRest rem source after rows all others
+  pub gone : HasGone rem source after rows
+
+-- what follows where there is no end yet
+on_end : {P Q : Type 0} (L : Result (Unit {0}) SourceFault → Type 0) (end : End) → MatchOption end P L → (P → Q) → MatchOption end Q L
+on_end L None is follows = follows is
+on_end L (Some end) is follows = is
 
 module _ {R : Type 0} (rem : R → Option (List ℕ)) (feeder : Sending) (source : Source R) where
-  pub sent_none : HasSent rem feeder source 0 feeder source
-  sent_none = record {
+  -- what several calls took is taken as by one
+  abbrev pub JoinsTaken : Type 0
+  JoinsTaken = (layout : Layout) → (a b c : Reader R) → (start middle end : Tally) → (xs ys : List Entries)
+      → HasTaken rem layout a b start middle xs → HasTaken rem layout b c middle end ys → HasTaken rem layout a c start end (xs ++ ys)
+
+  pub sent_none : HasTaken rem source.layout source.input source.input source.tally source.tally [] → HasSent rem feeder source 0 feeder source
+  sent_none none = record {
     rows = [];
     number = refl;
     lane = refl;
     sent = sym (append-nil feeder.sent);
     many = refl;
     gives = λ all others still. record { rest = all; left = others; parts = refl; still = still; count = refl };
+    gone = record { layout = refl; end = refl; taken = none };
   }
 
-  pub sent_more : (n : ℕ) (now next : Sending) (after then_ : Source R) (row : Entries) → HasSent rem feeder source n now after
-      → next ≡ with_sent now row → GivesFirst rem after then_ (Some row) → HasSent rem feeder source (n + 1) next then_
-  sent_more n now next after then_ row has is first = record {
+  -- a row more was taken
+  gone_on : JoinsTaken → (after then_ : Source R) (rows : List Entries) (row : Entries) → HasGone rem source after rows → GivesNext rem after then_ row → HasGone rem source then_ (rows ++ row ∷ [])
+  gone_on join after then_ rows row has next = record {
+    layout = next.layout ∙ has.layout;
+    end = next.after ∙ sym next.before ∙ has.end;
+    taken = join source.layout source.input after.input then_.input source.tally after.tally then_.tally rows (row ∷ []) has.taken
+        (subst (λ (l : Layout). HasTaken rem l after.input then_.input after.tally then_.tally (row ∷ [])) has.layout next.taken);
+  }
+
+  pub sent_more : JoinsTaken → (n : ℕ) (now next : Sending) (after then_ : Source R) (row : Entries) → HasSent rem feeder source n now after
+      → next ≡ with_sent now row → GivesFirst rem after then_ (Some row) → GivesNext rem after then_ row → HasSent rem feeder source (n + 1) next then_
+  sent_more join n now next after then_ row has is first gives = record {
     rows = has.rows ++ row ∷ [];
     number = ap (λ (s : Sending). s.number) is ∙ has.number;
     lane = ap (λ (s : Sending). s.lane) is ∙ has.lane;
@@ -53,7 +82,23 @@ module _ {R : Type 0} (rem : R → Option (List ℕ)) (feeder : Sending) (source
           still = one.3;
           count = one.4 ∙ was.count;
         };
+    gone = gone_on join after then_ has.rows row has.gone gives;
   }
+
+  -- a fault that is met after so many rows is that of the source
+  pub failed_after : (n : ℕ) (now : Sending) (after : Source R) (many : ℕ) (fault : SourceFault)
+      → HasSent rem feeder source n now after → many ≡ n → FailsNow rem after fault → HasFailed rem source many fault
+  failed_after n now after many fault has is fails =
+      subst (λ (end : End). MatchOption end (StopsAfter rem source many fault) (λ e. e ≡ Err fault)) has.gone.end
+      (on_end (λ e. e ≡ Err fault) after.end fails (λ stops. record {
+        rows = has.rows;
+        number = has.many ∙ sym is;
+        at = after.input;
+        middle = after.tally;
+        end = stops.0;
+        taken = has.gone.taken;
+        stopped = subst (λ (l : Layout). HasStopped rem l after.input after.tally stops.0 fault) has.gone.layout stops.1;
+      }))
 
   -- a feeder that sends no more has sent the first rows, and all of them where the source has none left
   pub fed_first : (n : ℕ) (now : Sending) (after : Source R) (sent : List Entries) (accepted bad : ℕ) (stopped : Bool) (fault : Option SourceFault)

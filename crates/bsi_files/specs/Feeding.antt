@@ -1,9 +1,10 @@
 -- What a feeder that reads a row file sends.
-use Rattle.std.specs.Prelude.{◌≡◌, ℕ, ◌+◌, Bool, false, List, ◌++◌, Option, Some, None, length}
+use Rattle.std.specs.Prelude.{◌≡◌, ℕ, ◌+◌, Bool, false, List, [], ◌∷◌, ◌++◌, Option, Some, None, Err, length, MatchOption}
+use Rattle.csv.specs.declared.reader.Reader.{Reader}
 use mathlib.Core.List.{IsPrefix}
 use Rattle.bsi_rings.specs.Rings.{with_sent, Sending}
 use Rattle.bsi_table.specs.Rows.{Entries}
-use Rattle.bsi_text.specs.Sources.{GivesFirst, Source, StillHas}
+use Rattle.bsi_text.specs.Sources.{GivesFirst, HasStopped, HasTaken, Source, StillHas, Tally}
 use Rattle.bsi_text.specs.declared.rows.SourceFault.{SourceFault}
 use Rattle.bsi_files.specs.declared.feeding.Turn.{Turn}
 use Rattle.bsi_files.specs.declared.feeding.Turn.TheVariants as turn
@@ -27,11 +28,40 @@ pub record HasFed {R : Type 0} (rem : R → Option (List ℕ)) (source : Source 
   pub first : BeginsWith rem source rows
   pub all : stopped ≡ false → fault ≡ None → HasOnly rem source rows bad
 
+-- a source of which more was to be read gave so many rows, and then stopped at the fault
+pub record StopsAfter {R : Type 0} (rem : R → Option (List ℕ)) (source : Source R) (many : ℕ) (fault : SourceFault)
+    : Type 0 where
+  pub rows : List Entries
+  pub number : length rows ≡ many
+  pub at : Reader R
+  pub middle : Tally
+  pub end : Tally
+  pub taken : HasTaken rem source.layout source.input at source.tally middle rows
+  pub stopped : HasStopped rem source.layout at middle end fault
+
+-- the fault is that by which a source had ended, or at which it stopped once it had given so many rows
+abbrev pub HasFailed : {R : Type 0} → (R → Option (List ℕ)) → Source R → ℕ → SourceFault → Type 0
+HasFailed rem source many fault = MatchOption source.end (StopsAfter rem source many fault) (λ end. end ≡ Err fault)
+
+-- a source of which more was to be read gave the row, and more may be read
+pub record GivesNext {R : Type 0} (rem : R → Option (List ℕ)) (old new : Source R) (row : Entries) : Type 0 where
+  pub before : old.end ≡ None
+  pub after : new.end ≡ None
+  pub layout : new.layout ≡ old.layout
+  pub taken : HasTaken rem old.layout old.input new.input old.tally new.tally (row ∷ [])
+
+-- the fault is that by which a source had ended, or at which it stopped without giving a row
+abbrev pub FailsNow : {R : Type 0} → (R → Option (List ℕ)) → Source R → SourceFault → Type 0
+FailsNow rem source fault =
+    MatchOption source.end ((end : Tally) × HasStopped rem source.layout source.input source.tally end fault)
+    (λ end. end ≡ Err fault)
+
 -- what came of one turn: the first row that the source still had was sent, or nothing was, and there is then none left
 -- where the turn says so
 abbrev pub IsFeederTurn : {R : Type 0} → (R → Option (List ℕ)) → Sending → Source R → Turn → Sending → Source R → Type 0
 IsFeederTurn rem feeder source turn.Sent after rest =
     (row : Entries) × (after ≡ with_sent feeder row) × GivesFirst rem source rest (Some row)
+    × GivesNext rem source rest row
 IsFeederTurn rem feeder source turn.Over after rest = (after ≡ feeder) × GivesFirst rem source rest None
 IsFeederTurn rem feeder source turn.Stopped after rest = after ≡ feeder
-IsFeederTurn rem feeder source (turn.Failed fault) after rest = after ≡ feeder
+IsFeederTurn rem feeder source (turn.Failed fault) after rest = (after ≡ feeder) × FailsNow rem source fault

@@ -2,7 +2,7 @@
 
 ghost use Rattle.std.specs.Prelude.{◌≡◌, IfSome, true, false};
 ghost use Rattle.bsi_rings.specs.Rings.{with_sent, Closes};
-ghost use Rattle.bsi_files.specs.Feeding.{HasFed, IsFeederTurn};
+ghost use Rattle.bsi_files.specs.Feeding.{HasFailed, HasFed, IsFeederTurn};
 
 use crate::Gate;
 use crate::pause::Pause;
@@ -59,7 +59,13 @@ pub fn feed<R: Wait, I: Read + Drop, G: Gate>(
     ensures fed { IfSome result.closing
         (λ closing. HasFed I.remaining source feeder.sent closing.rows result.accepted result.bad
         result.stopped result.fault) }
+
+    // A fault is the one that the source answered once it had given so many rows.
+    ensures fault { IfSome result.fault (HasFailed I.remaining source result.accepted) }
 {
+    // The proof takes from these that the rows of all turns are taken as by one call.
+    bsi_text::laws::none_taken::<I>();
+    bsi_text::laws::taken_in_turn::<I>();
     // No text has so many records. The bound lets the proof see that the loop ends.
     'rows: for point in 0..u64::MAX {
         let (stopped, fault) = match feed_one(rt, &mut feeder, &mut source, gate, point) {

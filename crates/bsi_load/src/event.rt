@@ -30,7 +30,8 @@ pub enum SubmitRefused {
     Full(Row),
 }
 
-/// Why no row is loaded, in the order of the checks.
+/// Why no row is loaded, in the order of the checks. A running system answers the same, where the rows of a feeder wait
+/// in a ring: there `Empty` says that no row is seen, and `Ended` that the closing was told and all its rows are taken.
 #[derive(Clone, Copy, Debug, PartialEq, Eq)]
 pub enum LoadRefused {
     /// There is no such feeder.

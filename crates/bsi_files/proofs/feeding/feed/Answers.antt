@@ -1,15 +1,20 @@
-use Rattle.std.proofs.Common.{◌≡◌, Bool, true, Option, Some, ap, ◌∙◌}
+use Rattle.std.proofs.Common.{◌≡◌, Bool, true, Option, Some, IfSome, ap, sym, subst, ◌∙◌}
 use Rattle.bsi_rings.specs.Rings.{Sending}
 use Rattle.bsi_text.specs.declared.rows.SourceFault.{SourceFault}
-use Rattle.bsi_files.proofs.Feeds.{fed_first, of_some, sent_more}
+use Rattle.bsi_files.specs.Feeding.{HasFailed}
+use Rattle.bsi_files.proofs.Feeds.{failed_after, fed_first, of_some, sent_more, sent_none}
 use Rattle.bsi_files.proofs.feeding.feed.Goals.{in-Stopped, in-Over, in-Failed}
 use Rattle.bsi_files.proofs.feeding.feed.Goals as goal
+
+pub rows-init : goal.rows-init
+rows-init g c =
+    sent_none g.I.Read.remaining c.args.feeder c.args.source (c.none_taken.ensures c.args.source.layout c.args.source.input c.args.source.tally)
 
 pub rows-preserved : goal.rows-preserved
 rows-preserved g c =
     let turn = c.in-Sent.ensures in
-    sent_more g.I.Read.remaining c.args.feeder c.args.source c.rows.point c.rows.feeder c.feed_one.new.feeder c.rows.source c.feed_one.new.source
-    turn.0 c.rows.invariant turn.1 turn.2
+    sent_more g.I.Read.remaining c.args.feeder c.args.source c.taken_in_turn.ensures c.rows.point c.rows.feeder c.feed_one.new.feeder c.rows.source c.feed_one.new.source
+    turn.0 c.rows.invariant turn.1 turn.2 turn.3
 
 -- the feeder stopped, no row is left, or the source failed
 pub returns-in-rows-clause-fed : goal.returns-in-rows-clause-fed
@@ -32,6 +37,19 @@ returns-in-rows-clause-fed g c = elim c.match-feed_one.branch [
       of_some c.finish.result.closing c.finish.ensures.closing (λ closing closes.
       fed_first g.I.Read.remaining c.args.feeder c.args.source c.rows.point c.rows.feeder c.rows.source closing.rows c.finish.result.accepted
       c.finish.result.bad c.finish.result.stopped c.finish.result.fault c.rows.invariant
-      (closes.rows ∙ ap (λ (s : Sending). s.sent) w.in-Failed.ensures) c.finish.ensures.accepted
+      (closes.rows ∙ ap (λ (s : Sending). s.sent) w.in-Failed.ensures.0) c.finish.ensures.accepted
       (λ going fine rest left still. cc (told, c.finish.ensures.fault, fine)))
 ]
+
+-- a fault is the one that the source answered
+pub returns-in-rows-clause-fault : goal.returns-in-rows-clause-fault
+returns-in-rows-clause-fault g c =
+    let fails = λ (fault : Option SourceFault). IfSome fault (HasFailed g.I.Read.remaining c.args.source c.finish.result.accepted) in
+    elim c.match-feed_one.branch [
+      | in-Stopped w ↦ subst fails (sym (c.finish.ensures.fault ∙ ap (λ (p : Bool × Option SourceFault). p.1) w.stopped-is)) tt
+      | in-Over w ↦ subst fails (sym (c.finish.ensures.fault ∙ ap (λ (p : Bool × Option SourceFault). p.1) w.stopped-is)) tt
+      | in-Failed w ↦
+          subst fails (sym (c.finish.ensures.fault ∙ ap (λ (p : Bool × Option SourceFault). p.1) w.stopped-is))
+          (failed_after g.I.Read.remaining c.args.feeder c.args.source c.rows.point c.rows.feeder c.rows.source c.finish.result.accepted w.in-Failed.fault
+          c.rows.invariant c.finish.ensures.accepted w.in-Failed.ensures.1)
+    ]
