@@ -76,6 +76,30 @@ fn comparisons_table(rt: HostRuntime) -> Result<(), Fail> {
     Ok(())
 }
 
+fn selects_the_numbers(
+    rt: &impl Abort,
+    alloc: Global,
+    form: Form,
+    wide: Wide,
+) -> Result<(), MakingError> {
+    let mut column = no_rows(alloc, form, wide)?;
+    append(&mut column, &[Some(5), None, Some(0)])?;
+    assert_eq!(rt; (column.len(), column.size()), (3, 8), "{form:?}");
+    Ok(selects(rt, &column, Op::Ge, 0, &[true, false, true])?)
+}
+
+#[test]
+fn bits_and_columns_select_numbers_and_no_null(rt: HostRuntime) -> Result<(), Fail> {
+    let wide = Wide {
+        width: 3,
+        bases: &[2, 4],
+    };
+    for form in FORMS {
+        selects_the_numbers(&rt, rt.alloc(), form, wide)?;
+    }
+    Ok(())
+}
+
 // Whether these are the rows that a plain column selects, with no bits set behind the last. It takes no memory.
 fn selected(plain: &PlainColumn, op: Op, constant: u64, found: &Bits) -> bool {
     let mut count = 0u64;

@@ -94,9 +94,12 @@ fn totals_table(rt: HostRuntime) -> Result<(), Fail> {
     let of_pair = [(0b11, (5, [Some(5); 3])), (0b10, NOTHING)];
     let six = [None, None, Some(5), None, Some(2), Some(7)];
     let of_six = [(0b111111, (14, [Some(2), Some(7), Some(5)]))];
+    let three = [Some(5), None, Some(0)];
+    let of_three = [(0b111, (5, [Some(0), Some(5), Some(0)]))];
     for form in FORMS {
         works(&rt, rt.alloc(), form, &pair, &of_pair)?;
         works(&rt, rt.alloc(), form, &six, &of_six)?;
+        works(&rt, rt.alloc(), form, &three, &of_three)?;
     }
     Ok(())
 }

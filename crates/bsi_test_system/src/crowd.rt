@@ -602,6 +602,20 @@ fn run_once<R: Threads + Wait + Abort>(rt: &R, alloc: Global, crowd: Crowd) -> O
 }
 
 #[test]
+fn counts_never_fall(rt: HostRuntime) -> Result<(), Fail> {
+    let crowd = Crowd {
+        feeders: 1,
+        rows: 20,
+        analysts: 2,
+    };
+    match run_once(&rt, rt.alloc(), crowd) {
+        Some(right) => assert!(rt; right),
+        None => eprintln!(rt; "gave up: no memory for the threads")?,
+    }
+    Ok(())
+}
+
+#[test]
 fn sixty_four_feeders_and_eight_analysts(rt: HostRuntime) -> Result<(), Fail> {
     let crowd = Crowd {
         feeders: 64,

@@ -20,6 +20,8 @@ use std::test::Fail;
 enum Worked {
     ReadBack,
     DroppedFeeder,
+    Told,
+    RefusedMemory,
 }
 
 /// Sends two rows, and one that does not fit.
@@ -125,6 +127,79 @@ fn dropped_feeder<B: Naming, R: Wait + Abort>(
     Ok(())
 }
 
+/// Tells an analyst of two publishes, the later one first.
+fn told<B: Naming, R: Wait + Abort>(
+    rt: &R,
+    alloc: Global,
+    feeder: Feeder,
+    loader: &mut Loader<B>,
+    analyst: &mut Analyst<B>,
+) -> Result<(), Fail> {
+    let mut feeder = feeder;
+    assert!(rt; feeder.submit(row(alloc, 5)?).is_ok());
+    assert_eq!(rt; load(loader, 0), Ok(()));
+    assert_eq!(rt; publish(rt, loader), Some(1));
+    let earlier = loader.tell();
+    assert!(rt; feeder.submit(row(alloc, 6)?).is_ok());
+    assert_eq!(rt; load(loader, 0), Ok(()));
+    assert_eq!(rt; publish(rt, loader), Some(2));
+    let later = loader.tell();
+    analyst.learn(later);
+    assert_eq!(rt; count_of(analyst), Some(2));
+    analyst.learn(earlier);
+    assert_eq!(rt; count_of(analyst), Some(2));
+    assert_eq!(rt; sum_of(analyst), Some(11));
+    Ok(())
+}
+
+/// Sends three rows.
+fn send_three<R: Abort>(rt: &R, alloc: Global, feeder: &mut Feeder) -> Result<(), Fail>
+    ensures number { feeder.new.number ≡ feeder.old.number }
+    ensures lane { feeder.new.lane ≡ feeder.old.lane }
+{
+    let one = feeder.submit(row(alloc, 1)?);
+    let two = feeder.submit(row(alloc, 2)?);
+    let three = feeder.submit(row(alloc, 3)?);
+    assert!(rt; one.is_ok() && two.is_ok() && three.is_ok());
+    Ok(())
+}
+
+/// Holds two rows, asserts that they are not seen, and then publishes them.
+fn hold_and_publish<B: Naming, R: Wait + Abort>(
+    rt: &R,
+    loader: &mut Loader<B>,
+    analyst: &mut Analyst<B>,
+)
+    ensures { loader.new.system ≡ loader.old.system }
+{
+    let one = load(loader, 0);
+    let two = load(loader, 0);
+    assert!(rt; one == Ok(()) && two == Ok(()));
+    assert_eq!(rt; loader.counts(), (0, 2));
+    assert_eq!(rt; count_of(analyst), Some(0));
+    assert_eq!(rt; publish(rt, loader), Some(2));
+    assert_eq!(rt; loader.counts(), (2, 0));
+}
+
+/// Holds two rows and publishes them, and loads a third once its feeder is settled.
+fn refused_memory<B: Naming, R: Wait + Abort>(
+    rt: &R,
+    alloc: Global,
+    feeder: Feeder,
+    loader: &mut Loader<B>,
+    analyst: &mut Analyst<B>,
+) -> Result<(), Fail>
+    requires { IsFeederOf feeder loader.old.system }
+{
+    let mut feeder = feeder;
+    send_three(rt, alloc, &mut feeder)?;
+    hold_and_publish(rt, loader, analyst);
+    settle(loader, feeder)?;
+    load_last(rt, loader);
+    assert_eq!(rt; loader.counts(), (2, 1));
+    Ok(())
+}
+
 fn play<B: Naming, R: Wait + Abort>(
     rt: &R,
     alloc: Global,
@@ -141,6 +216,8 @@ fn play<B: Naming, R: Wait + Abort>(
     match worked {
         Worked::ReadBack => read_back(rt, alloc, feeder, loader, &mut first, &mut second),
         Worked::DroppedFeeder => dropped_feeder(rt, alloc, feeder, loader, &mut first),
+        Worked::Told => told(rt, alloc, feeder, loader, &mut first),
+        Worked::RefusedMemory => refused_memory(rt, alloc, feeder, loader, &mut first),
     }
 }
 
@@ -194,4 +271,14 @@ fn read_a_write_back(rt: HostRuntime) -> Result<(), Fail> {
 #[test]
 fn a_dropped_feeder(rt: HostRuntime) -> Result<(), Fail> {
     worked_twice(&rt, rt.alloc(), Worked::DroppedFeeder)
+}
+
+#[test]
+fn told_versions(rt: HostRuntime) -> Result<(), Fail> {
+    worked_twice(&rt, rt.alloc(), Worked::Told)
+}
+
+#[test]
+fn publish_refused_memory(rt: HostRuntime) -> Result<(), Fail> {
+    worked_twice(&rt, rt.alloc(), Worked::RefusedMemory)
 }

@@ -8,6 +8,8 @@ mod command_lines;
 #[cfg(test)]
 mod ends;
 #[cfg(test)]
+mod parts;
+#[cfg(test)]
 mod records;
 #[cfg(test)]
 mod row_files;

@@ -1,0 +1,119 @@
+//! Scripts that come in parts: what was written each time more is asked for.
+
+use bsi_text::{ScriptFault, run_script};
+use std::alloc::Global;
+use std::io;
+use std::io::{Read, Write};
+use std::sync::atomic::{AtomicU64, Ordering};
+use std::test::Fail;
+
+// A part of a text, and how many lines are to be written once it was given, and before more is asked for.
+type Part = (&'static str, u64);
+
+// Parts that end within a record, within a quoted line break, and behind a byte order mark.
+const TEXTS: [&[Part]; 3] = [
+    &[
+        ("column,qty,slices,3\nfee", 1),
+        ("der,2\nbegin", 2),
+        ("\nsub", 3),
+        ("mit,0,5\nload,0\n", 5),
+        ("sum,qty,all", 5),
+        ("\n", 6),
+    ],
+    &[
+        ("column,qty,slices,3\n\"x\n", 1),
+        ("y\nz", 1),
+        ("\",5\nfeeder,2\nbe", 3),
+        ("gin\n", 4),
+        ("\"load\",0\ncount,\"a", 5),
+        ("ll\"\n", 6),
+    ],
+    &[
+        ("\u{feff}", 0),
+        ("column,qty,slices,3\nfeeder,", 1),
+        ("2\n", 2),
+        ("\u{feff}begin\nbegin\nx", 4),
+        ("\n", 5),
+    ],
+];
+
+// Gives a part after the other. It counts as wrong each time that more is asked for where another number of lines was
+// written than is wanted.
+#[derive(Drop)]
+struct InParts<'a> {
+    rest: &'static [u8],
+    wanted: u64,
+    parts: &'static [Part],
+    lines: &'a AtomicU64,
+    wrong: &'a AtomicU64,
+}
+
+impl<'a> InParts<'a> {
+    fn take_part(&mut self) {
+        if self.lines.load(Ordering::SeqCst) != self.wanted {
+            self.wrong.fetch_add(1, Ordering::SeqCst);
+        }
+        if let Some((part, parts)) = self.parts.split_first() {
+            self.rest = part.0.as_bytes();
+            self.wanted = part.1;
+            self.parts = parts;
+        }
+    }
+}
+
+impl<'a> Read for InParts<'a> {
+    fn read(&mut self, buf: &mut [u8]) -> io::Result<usize> {
+        if self.rest.is_empty() {
+            self.take_part();
+        }
+        let count = self.rest.len().min(buf.len());
+        buf[..count].copy_from_slice(&self.rest[..count]);
+        self.rest = &self.rest[count..];
+        Ok(count)
+    }
+}
+
+// Counts the lines that are written.
+#[derive(Drop)]
+struct Counting<'a> {
+    lines: &'a AtomicU64,
+}
+
+impl<'a> Write for Counting<'a> {
+    fn write(&mut self, buf: &[u8]) -> io::Result<usize> {
+        let ends = buf.iter().filter(|byte| **byte == b'\n').count();
+        self.lines.fetch_add(ends as u64, Ordering::SeqCst);
+        Ok(buf.len())
+    }
+
+    fn flush(&mut self) -> io::Result<()> {
+        Ok(())
+    }
+}
+
+// How a script in parts ends, and how often more was asked for at a wrong time.
+fn run_once(alloc: Global, parts: &'static [Part]) -> (Result<(), ScriptFault>, u64) {
+    let lines = AtomicU64::new(0);
+    let wrong = AtomicU64::new(0);
+    let reader = InParts {
+        rest: &[],
+        wanted: 0,
+        parts,
+        lines: &lines,
+        wrong: &wrong,
+    };
+    let run = run_script(alloc, reader, &mut Counting { lines: &lines });
+    (run, wrong.load(Ordering::SeqCst))
+}
+
+#[test]
+fn each_line_is_written_before_more_is_asked_for(rt: HostRuntime) -> Result<(), Fail> {
+    for (number, parts) in TEXTS.iter().enumerate() {
+        let mut ended = run_once(rt.alloc(), parts);
+        if ended.0 == Err(ScriptFault::NoMemory) {
+            ended = run_once(rt.alloc(), parts);
+        }
+        assert_eq!(rt; ended, (Ok(()), 0), "in text {number}");
+    }
+    Ok(())
+}
