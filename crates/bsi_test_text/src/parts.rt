@@ -41,34 +41,45 @@ const TEXTS: [&[Part]; 3] = [
 // written than is wanted.
 #[derive(Drop)]
 struct InParts<'a> {
-    rest: &'static [u8],
-    wanted: u64,
     parts: &'static [Part],
+    given: usize,
+    at: usize,
+    wanted: u64,
     lines: &'a AtomicU64,
     wrong: &'a AtomicU64,
 }
 
 impl<'a> InParts<'a> {
+    // Returns what is left of the part that was given last.
+    fn rest(&self) -> &'static [u8] {
+        if self.given == 0 || self.given > self.parts.len() {
+            return &[];
+        }
+        let part = self.parts[self.given - 1].0.as_bytes();
+        &part[self.at.min(part.len())..]
+    }
+
     fn take_part(&mut self) {
         if self.lines.load(Ordering::SeqCst) != self.wanted {
             self.wrong.fetch_add(1, Ordering::SeqCst);
         }
-        if let Some((part, parts)) = self.parts.split_first() {
-            self.rest = part.0.as_bytes();
-            self.wanted = part.1;
-            self.parts = parts;
+        if self.given < self.parts.len() {
+            self.wanted = self.parts[self.given].1;
+            self.given += 1;
+            self.at = 0;
         }
     }
 }
 
 impl<'a> Read for InParts<'a> {
     fn read(&mut self, buf: &mut [u8]) -> io::Result<usize> {
-        if self.rest.is_empty() {
+        if self.rest().is_empty() {
             self.take_part();
         }
-        let count = self.rest.len().min(buf.len());
-        buf[..count].copy_from_slice(&self.rest[..count]);
-        self.rest = &self.rest[count..];
+        let rest = self.rest();
+        let count = rest.len().min(buf.len());
+        buf[..count].copy_from_slice(&rest[..count]);
+        self.at = self.at.saturating_add(count);
         Ok(count)
     }
 }
@@ -96,9 +107,10 @@ fn run_once(alloc: Global, parts: &'static [Part]) -> (Result<(), ScriptFault>, 
     let lines = AtomicU64::new(0);
     let wrong = AtomicU64::new(0);
     let reader = InParts {
-        rest: &[],
-        wanted: 0,
         parts,
+        given: 0,
+        at: 0,
+        wanted: 0,
         lines: &lines,
         wrong: &wrong,
     };
