@@ -34,6 +34,15 @@ first_set_is test d none before here (bit ∷ bits) at from tests past =
           ∙ first_set_is test d none before here bits (at + 1) (omega arith) (rest_tests test at bit bits tests) (λ beyond. past (omega arith))
     ]
 
+-- the first bit that is set stands no sooner than the test may hold
+pub first_set_from : (test : ℕ → Bool) (d none : ℕ) → ((e : ℕ) → e < d → test e ≡ false) → d ≤ none → (bits : List Bool) (at : ℕ) → AreTests test at bits → d ≤ first_set none at bits
+first_set_from test d none before most [] at tests = most
+first_set_from test d none before most (true ∷ bits) at tests = elim (cases_lt at d) [
+  | inl early ↦ let wrong : true ≡ false = head_test test at true bits tests ∙ before at early in absurd (cc)
+  | inr from ↦ from
+]
+first_set_from test d none before most (false ∷ bits) at tests = first_set_from test d none before most bits (at + 1) (rest_tests test at false bits tests)
+
 -- no bit is set where the test holds nowhere from there on
 pub none_set_is : (test : ℕ → Bool) (none : ℕ) (bits : List Bool) (at : ℕ) → ((e : ℕ) → at ≤ e → test e ≡ false) → AreTests test at bits → first_set none at bits ≡ none
 none_set_is test none [] at off tests = refl

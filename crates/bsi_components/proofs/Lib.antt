@@ -8,5 +8,8 @@ pub mod DigitMaps
 pub mod EqualityDigits
 pub mod EqualityReads
 pub mod MarkBits
+pub mod MarkPlaces
+pub mod PlaceSums
+pub mod PlaceBitmaps
 pub mod RangeDigits
 pub mod RangeReads

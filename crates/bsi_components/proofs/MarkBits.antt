@@ -1,15 +1,15 @@
 -- The bits of words that digits mark.
-use Rattle.std.proofs.Common.{◌≡◌, ◌≢◌, ℕ, zero, suc, ◌+◌, ◌*◌, ◌%◌, ◌^◌, ◌<◌, ◌≤◌, Bool, true, false, List, [], ◌∷◌, length, take, map, get_or, set, inl, inr, ap, ap₂, sym, ◌∙◌, refl, arith, length-set}
+use Rattle.std.proofs.Common.{◌≡◌, ◌≢◌, ℕ, zero, suc, ◌+◌, ◌*◌, ◌%◌, ◌^◌, ◌<◌, ◌≤◌, Bool, true, false, List, [], ◌∷◌, length, map, get_or, set, inl, inr, ap, ap₂, sym, ◌∙◌, refl, arith, length-set}
 use Rattle.std.specs.Prelude.{◌==◌, ◌&&◌, ◌||◌, bit_or, max, nat_le, nat_lt}
 use Rattle.std.specs.Int.{bit_at, w64}
 use Rattle.std.proofs.lemmas.Nat.{pow_pos}
 use Rattle.std.proofs.lemmas.Nat.Bits.{bit_at-zero, bit_at-lt, bit_at_or, bit_at_above, bit_at_set_same, bit_at_set_other}
-use Rattle.std.proofs.lemmas.List.{length-map, length-take, get_or-take, get_or-map, get_or_past, get_or-set_same, get_or-set_other}
+use Rattle.std.proofs.lemmas.List.{length-map, get_or-map, get_or_past, get_or-set_same, get_or-set_other}
 use Rattle.std.proofs.lemmas.Bool.{cases_eq, cases_lt}
 use Rattle.std.proofs.lemmas.Bool.Decides.{nat_tests}
 use Rattle.bsi_bits.proofs.Reading.{bits_are, get_or-bits_of}
 use Rattle.bsi_bits.proofs.Splicing.{below_power, one_word}
-use Rattle.bsi_components.specs.Marks.{union_upto, AreDigitMarks}
+use Rattle.bsi_components.specs.Marks.{union_of, AreDigitMarks}
 
 -- bit p of word j says of each of the first n digits whether it holds there; the bits after them are off
 pub record Marked (holds : ℕ → ℕ → Bool) (n : ℕ) (block words : List ℕ) : Type 0 where
@@ -91,31 +91,26 @@ marked_more n d x block words near inside digit word marked =
           ];
     }
 
-or_one : (a b : ℕ) → a < 2 → b < 2 → (max a b == 1) ≡ ((a == 1) || (b == 1))
+pub or_one : (a b : ℕ) → a < 2 → b < 2 → (max a b == 1) ≡ ((a == 1) || (b == 1))
 or_one a b first second = grind (arith, nat_tests)
 
-first_digit_joined : (c : Bool) (d : ℕ) → (c && (d == 0)) ≡ (c && nat_le d 0)
-first_digit_joined c d = grind (arith, nat_tests)
+none_within : (c : Bool) (at m : ℕ) → false ≡ (c && (nat_le at m && nat_lt m (at + 0)))
+none_within true at m = grind (arith, nat_tests)
+none_within false at m = refl
 
-next_digit_joined : (c : Bool) (d j : ℕ) → ((c && (d == suc j)) || (c && nat_le d j)) ≡ (c && nat_le d (suc j))
-next_digit_joined true d j = grind (arith, nat_tests)
-next_digit_joined false d j = refl
+one_within : (c : Bool) (at n m : ℕ) → ((c && (nat_le at m && nat_lt m (at + n))) || (c && (m == at + n))) ≡ (c && (nat_le at m && nat_lt m (at + suc n)))
+one_within true at n m = grind (arith, nat_tests)
+one_within false at n m = refl
 
--- the words up to word j, joined, have the digits up to j
-pub joined_marks : (n : ℕ) (block words : List ℕ) → Marked (λ j v. v == j) n block words → (j p : ℕ) → j < length words → (bit_at (union_upto words j) p == 1) ≡ (nat_lt p n && nat_le (get_or block p 0) j)
-joined_marks n block words marked zero p within = marked.each 0 p within ∙ first_digit_joined (nat_lt p n) (get_or block p 0)
-joined_marks n block words marked (suc j) p within =
-    ap (λ b. b == 1) (bit_at_or (get_or words (suc j) 0) (union_upto words j) p)
-    ∙ or_one (bit_at (get_or words (suc j) 0) p) (bit_at (union_upto words j) p) (bit_at-lt (get_or words (suc j) 0) p) (bit_at-lt (union_upto words j) p)
-    ∙ ap₂ ◌||◌ (marked.each (suc j) p within) (joined_marks n block words marked j p (omega arith))
-    ∙ next_digit_joined (nat_lt p n) (get_or block p 0) j
-
-pub marked_joined : (n : ℕ) (block words new : List ℕ) → Marked (λ j v. v == j) n block words → length new ≡ length words → ((j : ℕ) → j < length words → get_or new j 0 ≡ union_upto words j) → Marked (λ j v. nat_le v j) n block new
-marked_joined n block words new marked long each = record {
-  each = λ j p within.
-      let in_words : j < length words = omega arith in
-      ap (λ w. bit_at w p == 1) (each j in_words) ∙ joined_marks n block words marked j p in_words;
-}
+-- where each word tells whether a number is its own, several joined tell whether it is one of theirs
+pub union_bit : (words : List ℕ) (p m bound : ℕ) (c : Bool) → ((j : ℕ) → j < bound → (bit_at (get_or words j 0) p == 1) ≡ (c && (m == j)))
+    → (at n : ℕ) → at + n ≤ bound → (bit_at (union_of words at n) p == 1) ≡ (c && (nat_le at m && nat_lt m (at + n)))
+union_bit words p m bound c each at zero within = ap (λ b. b == 1) (bit_at-zero p) ∙ none_within c at m
+union_bit words p m bound c each at (suc n) within =
+    ap (λ b. b == 1) (bit_at_or (union_of words at n) (get_or words (at + n) 0) p)
+    ∙ or_one (bit_at (union_of words at n) p) (bit_at (get_or words (at + n) 0) p) (bit_at-lt (union_of words at n) p) (bit_at-lt (get_or words (at + n) 0) p)
+    ∙ ap₂ ◌||◌ (union_bit words p m bound c each at n (omega arith)) (each (at + n) (omega arith))
+    ∙ one_within c at n m
 
 -- words that are marks are so marked
 pub marks_marked : (holds : ℕ → ℕ → Bool) (block words : List ℕ) → length block ≤ 64 → AreDigitMarks holds block words → Marked holds (length block) block words
@@ -132,19 +127,3 @@ marks_marked holds block words few marks = record {
         ∙ sym (ge_test p (length block) (holds j (get_or block p 0)) past)
   ];
 }
-
--- the words joined are marks of the digits up to each
-pub marks_joined : (block words new : List ℕ) → length block ≤ 64 → AreDigitMarks (λ j v. v == j) block words → length new ≡ length words → ((j : ℕ) → j < length words → get_or new j 0 ≡ union_upto words j) → AreDigitMarks (λ j v. nat_le v j) block new
-marks_joined block words new few marks long each =
-    marks_of (λ j v. nat_le v j) (length block) block new refl few
-    (marked_joined (length block) block words new (marks_marked (λ j v. v == j) block words few marks) long each)
-
--- the first words of some, and of those that are 0
-pub first_word : (words : List ℕ) (n j : ℕ) → j < n → get_or (take n words) j 0 ≡ get_or words j 0
-first_word words n j below = get_or-take n words j 0 below
-
-pub first_clear : (words : List ℕ) (n bound : ℕ) → 0 < bound → ((j : ℕ) → get_or words j 0 < bound) → (j : ℕ) → get_or (take n words) j 0 < bound
-first_clear words n bound some clear j = elim (cases_lt j n) [
-  | inl below ↦ omega (arith, first_word words n j below, clear j)
-  | inr past ↦ omega (arith, get_or_past (take n words) j 0 (omega (arith, length-take n words)), some)
-]

@@ -1,7 +1,7 @@
 -- Equality encoding: a bitmap for each digit says which rows have it.
-use Rattle.std.specs.Prelude.{◌≡◌, ℕ, ◌+◌, ◌<◌, ◌≤◌, ◌==◌, ◌&&◌, Bool, nat_le, nat_lt, List, length, slice_index, if◌then◌else◌}
+use Rattle.std.specs.Prelude.{ℕ, ◌+◌, ◌-◌, ◌<◌, ◌≤◌, ◌==◌, ◌&&◌, Bool, nat_le, nat_lt, List, length, slice_index, if◌then◌else◌}
 use Rattle.bsi_bits.specs.BitList.{BitList}
-use Rattle.bsi_components.specs.Bitmaps.{IsEncoded, digits_by, first_set}
+use Rattle.bsi_components.specs.Bitmaps.{IsCount, IsEncoded, digits_by, first_set, then_places}
 
 -- the first digit that has a bitmap: base 2 stores that of digit 1 alone
 abbrev pub first_digit : ℕ → ℕ
@@ -11,13 +11,13 @@ first_digit base = if base == 2 then 1 else 0
 abbrev pub equality_digits : ℕ → List BitList → List ℕ
 equality_digits base bitmaps = digits_by (first_set 0 (first_digit base)) bitmaps
 
--- the bitmaps are those of the digits below the base, from the first that has one
+-- the bitmaps are those of the digits below the base, from the first that has one, and then those of the binary places
 pub record IsEquality (base : ℕ) (bitmaps : List BitList) (digits : List ℕ) : Type 0 where
-  pub count : length bitmaps + first_digit base ≡ base
+  pub count : IsCount base (base - first_digit base) (length bitmaps)
   pub least : 2 ≤ base
   pub most : base ≤ 1024
   pub below : (k : ℕ) → slice_index digits k < base
-  pub encoded : IsEncoded (λ j v. v == first_digit base + j) bitmaps digits
+  pub encoded : IsEncoded (then_places (base - first_digit base) (λ j v. v == first_digit base + j)) bitmaps digits
 
 -- the digit is from `from` on and below `to`
 abbrev pub is_among : ℕ → ℕ → ℕ → Bool

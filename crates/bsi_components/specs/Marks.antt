@@ -1,5 +1,5 @@
 -- A block of rows as words, a bit for each row.
-use Rattle.std.specs.Prelude.{◌≡◌, ℕ, zero, suc, ◌<◌, ◌^◌, Bool, List, [], ◌∷◌, length, map, bit_or, slice_index}
+use Rattle.std.specs.Prelude.{◌≡◌, ℕ, zero, suc, ◌+◌, ◌<◌, ◌^◌, Bool, List, [], ◌∷◌, length, map, bit_or, slice_index}
 use Rattle.bsi_bits.specs.Packed.{bits_of}
 
 -- word j says of each digit of the block whether it holds there
@@ -7,7 +7,7 @@ pub record AreDigitMarks (holds : ℕ → ℕ → Bool) (block words : List ℕ)
   pub each : (j : ℕ) → j < length words → bits_of (length block) (slice_index words j ∷ []) ≡ map (holds j) block
   pub clear : (j : ℕ) → slice_index words j < 2 ^ length block
 
--- the bits of the words up to word j
-abbrev pub union_upto : List ℕ → ℕ → ℕ
-union_upto words zero = slice_index words zero
-union_upto words (suc j) = bit_or (slice_index words (suc j)) (union_upto words j)
+-- the bits of so many words from word `at` on
+abbrev pub union_of : List ℕ → ℕ → ℕ → ℕ
+union_of words at zero = 0
+union_of words at (suc n) = bit_or (union_of words at n) (slice_index words (at + n))

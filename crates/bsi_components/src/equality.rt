@@ -1,18 +1,20 @@
 //! The equality encoded component: a bitmap for each digit says which rows have it.
 //!
 //! A step reads the bitmaps up to the digit or those past it, whichever are fewer. The rank of a digit is counted one
-//! digit after another from the nearer end: a count of "at most" would read as many bitmaps.
+//! digit after another from the nearer end: a count of "at most" would read as many bitmaps. A sum counts the binary
+//! places of the digits, which stand behind the bitmaps.
 
-ghost use Rattle.std.specs.Prelude.{◌≡◌, ◌≢◌, ℕ, ◌+◌, ◌*◌, ◌<◌, ◌≤◌, ◌==◌, ◌&&◌, ◌||◌, not, ◌++◌, length, map, true, slice_index, IsTrue, IsFalse};
+ghost use Rattle.std.specs.Prelude.{◌≡◌, ◌≢◌, ℕ, ◌+◌, ◌-◌, ◌*◌, ◌^◌, ◌<◌, ◌≤◌, ◌==◌, ◌&&◌, ◌||◌, not, ◌++◌, length, map, true, slice_index, IsTrue, IsFalse};
 ghost use Rattle.bsi_bits.specs.BitList.{word_count};
 ghost use Rattle.bsi_bits.specs.BitLists.{bits_at};
 ghost use Rattle.bsi_bits.specs.Packed.{bit_of};
 ghost use Rattle.bsi_bits.specs.Marked.{HasMarked};
+ghost use Rattle.bsi_components.specs.Bitmaps.{has_place, then_places, IsCount, IsEncoded};
 ghost use Rattle.bsi_components.specs.Equality.{first_digit, is_among};
 
 use crate::blocks::{add_in, drop_in, exceeds, meets};
 use crate::encoding::Encoding;
-use crate::marks::{MAX_COMPONENT_BASE, MAX_SMALL_BASE, mark};
+use crate::marks::{MAX_SMALL_WORDS, MAX_WORDS, mark_digits};
 use bsi_bits::{Bitmaps, Bits};
 use std::marker::Model;
 
@@ -20,7 +22,7 @@ mod counts;
 mod encoding;
 
 /// A component of a base from 2 to 1,024 that stores a bitmap for each digit. Under base 2 it stores that of digit 1
-/// alone.
+/// alone. From base 4 on it also stores the digits in binary, a bit vector for each place.
 #[derive(Drop)]
 pub struct EqualityComponent {
     base: u32,
@@ -51,42 +53,46 @@ fn first_stored(base: u32) -> u32
     if base == 2 { 1 } else { 0 }
 }
 
-/// Appends a block of digits to the bitmaps, of which the first is that of digit `first`. There is a word for each
-/// digit below the base.
-fn push_marked(bitmaps: &mut Bitmaps, first: u32, block: &[u32], words: &mut [u64])
+/// Appends a block of digits below a base to the bitmaps, of which the first is that of digit `first`. There is a word
+/// for each bitmap, and one for each digit before `first`.
+fn push_marked(bitmaps: &mut Bitmaps, first: u32, base: u32, block: &[u32], words: &mut [u64])
     requires long { length words.old ≡ first + length bitmaps.old.vectors }
-    requires few { length block.now ≤ 64 }
-    requires room { length block.now ≤ bitmaps.old.room }
-    requires below { (k : ℕ) → k < length block.now → slice_index block.now k < length words.old }
-    ensures count { length bitmaps.new.vectors ≡ length bitmaps.old.vectors }
-    ensures bits { (j : ℕ) → j < length bitmaps.old.vectors →
-        bits_at bitmaps.new.vectors j
-        ≡ bits_at bitmaps.old.vectors j ++ map (λ v. v == first + j) block.now }
-    ensures room { bitmaps.new.room + length block.now ≡ bitmaps.old.room }
-{
-    mark(block, words);
-    bitmaps.push_words(&words[first as usize..], block.len() as u64);
-}
-
-/// Appends a block of digits below a base to the bitmaps, of which the first is that of digit `first`.
-fn push_block(bitmaps: &mut Bitmaps, first: u32, base: u32, block: &[u32])
-    requires long { base ≡ first + length bitmaps.old.vectors }
-    requires small { base ≤ 1024 }
+    requires within { first ≤ base }
+    requires places { IsCount base (base - first) (length bitmaps.old.vectors) }
     requires few { length block.now ≤ 64 }
     requires room { length block.now ≤ bitmaps.old.room }
     requires below { (k : ℕ) → k < length block.now → slice_index block.now k < base }
     ensures count { length bitmaps.new.vectors ≡ length bitmaps.old.vectors }
     ensures bits { (j : ℕ) → j < length bitmaps.old.vectors →
-        bits_at bitmaps.new.vectors j
-        ≡ bits_at bitmaps.old.vectors j ++ map (λ v. v == first + j) block.now }
+        bits_at bitmaps.new.vectors j ≡ bits_at bitmaps.old.vectors j
+        ++ map (then_places (base - first) (λ i v. v == first + i) j) block.now }
     ensures room { bitmaps.new.room + length block.now ≡ bitmaps.old.room }
 {
-    if base <= MAX_SMALL_BASE {
-        let mut words = [0; MAX_SMALL_BASE as usize];
-        push_marked(bitmaps, first, block, &mut words[..base as usize]);
+    mark_digits(block, base as usize, words);
+    bitmaps.push_words(&words[first as usize..], block.len() as u64);
+}
+
+/// Appends a block of digits below a base to the bitmaps, of which the first is that of digit `first`.
+fn push_block(bitmaps: &mut Bitmaps, first: u32, base: u32, block: &[u32])
+    requires within { first ≤ base }
+    requires small { base ≤ 1024 }
+    requires places { IsCount base (base - first) (length bitmaps.old.vectors) }
+    requires few { length block.now ≤ 64 }
+    requires room { length block.now ≤ bitmaps.old.room }
+    requires below { (k : ℕ) → k < length block.now → slice_index block.now k < base }
+    ensures count { length bitmaps.new.vectors ≡ length bitmaps.old.vectors }
+    ensures bits { (j : ℕ) → j < length bitmaps.old.vectors →
+        bits_at bitmaps.new.vectors j ≡ bits_at bitmaps.old.vectors j
+        ++ map (then_places (base - first) (λ i v. v == first + i) j) block.now }
+    ensures room { bitmaps.new.room + length block.now ≡ bitmaps.old.room }
+{
+    let count = first as usize + bitmaps.as_slice().len();
+    if count <= MAX_SMALL_WORDS {
+        let mut words = [0; MAX_SMALL_WORDS];
+        push_marked(bitmaps, first, base, block, &mut words[..count]);
     } else {
-        let mut words = [0; MAX_COMPONENT_BASE as usize];
-        push_marked(bitmaps, first, block, &mut words[..base as usize]);
+        let mut words = [0; MAX_WORDS];
+        push_marked(bitmaps, first, base, block, &mut words[..count]);
     }
 }
 
@@ -98,6 +104,16 @@ impl EqualityComponent {
         ensures { result.now.bits ≡ map (λ v. v == j) self.now.digits }
     {
         &self.bitmaps.as_slice()[(j - first_stored(self.base)) as usize]
+    }
+
+    /// Lends the bit vectors of the binary places of the digits, the least first, if any are stored.
+    fn places(&self) -> &[Bits]
+        ensures places { IsEncoded has_place result.now self.now.digits }
+        ensures few { length result.now ≤ 10 }
+        ensures below { 0 < length result.now → (k : ℕ) →
+            slice_index self.now.digits k < 2 ^ length result.now }
+    {
+        &self.bitmaps.as_slice()[(self.base - first_stored(self.base)) as usize..]
     }
 
     /// Writes for each row whether its digit is from `from` on and below `to`.

@@ -7,6 +7,7 @@ pub mod blocks;
 mod encoding;
 mod equality;
 mod marks;
+mod places;
 mod range;
 
 pub use answers::{EndDigit, RankedDigit};

@@ -1,24 +1,27 @@
 //! The range encoded component: bitmap j says of each row whether its digit is at most j (Chan and Ioannidis 1998).
 //!
 //! A step reads one bitmap or two. The digit of a rank is found by halving, so by at most ten counts, since a base is
-//! at most 1,024.
+//! at most 1,024. A sum counts the binary places of the digits, which stand behind the bitmaps.
 
-ghost use Rattle.std.specs.Prelude.{◌≡◌, ℕ, ◌+◌, ◌*◌, ◌^◌, ◌<◌, ◌≤◌, ◌&&◌, ◌++◌, length, map, nat_le, nat_lt, true, slice_index, sum, IsTrue, IsFalse};
+ghost use Rattle.std.specs.Prelude.{◌≡◌, ℕ, ◌+◌, ◌-◌, ◌*◌, ◌^◌, ◌<◌, ◌≤◌, ◌&&◌, ◌++◌, length, map, nat_le, nat_lt, true, slice_index, sum, IsTrue, IsFalse};
 ghost use Rattle.std.specs.List.{items_where_true};
 ghost use Rattle.bsi_bits.specs.BitList.{in_words, word_count};
 ghost use Rattle.bsi_bits.specs.BitLists.{bits_at};
 ghost use Rattle.bsi_bits.specs.Packed.{bit_of};
 ghost use Rattle.bsi_bits.specs.Marked.{HasMarked};
+ghost use Rattle.bsi_components.specs.Bitmaps.{has_place, then_places, IsCount, IsEncoded};
 
 use crate::blocks::{exceeds, meets};
-use crate::marks::{MAX_COMPONENT_BASE, MAX_SMALL_BASE, join, mark};
+use crate::marks::{MAX_SMALL_WORDS, MAX_WORDS, join, mark_digits};
+use crate::places::sum_by_places;
 use bsi_bits::{Bitmaps, Bits};
 use std::marker::Model;
 
 mod encoding;
 
 /// A component of a base from 2 to 1,024. For each digit j but the greatest it stores the bitmap of the rows whose
-/// digit is at most j. That of the greatest digit would be all ones.
+/// digit is at most j. That of the greatest digit would be all ones. From base 4 on it also stores the digits in
+/// binary, a bit vector for each place.
 #[derive(Drop)]
 pub struct RangeComponent {
     base: u32,
@@ -33,47 +36,52 @@ impl Model for RangeComponent {
     ghost Value = { Component };
 
     ghost view = { λ c. record
-        { base = c.base; digits = range_digits c.bitmaps.vectors; room = c.bitmaps.room } };
+        { base = c.base; digits = range_digits c.base c.bitmaps.vectors; room = c.bitmaps.room } };
 
-    ghost invariant = { λ c. IsRange c.base c.bitmaps.vectors (range_digits c.bitmaps.vectors) };
+    ghost invariant = { λ c. IsRange c.base c.bitmaps.vectors
+        (range_digits c.base c.bitmaps.vectors) };
 }
 
-/// Appends a block of digits to the bitmaps. There is a word for each digit below the base.
-fn push_marked(bitmaps: &mut Bitmaps, block: &[u32], words: &mut [u64])
-    requires long { length words.old ≡ length bitmaps.old.vectors + 1 }
-    requires few { length block.now ≤ 64 }
-    requires room { length block.now ≤ bitmaps.old.room }
-    requires below { (k : ℕ) → k < length block.now → slice_index block.now k < length words.old }
-    ensures count { length bitmaps.new.vectors ≡ length bitmaps.old.vectors }
-    ensures bits { (j : ℕ) → j < length bitmaps.old.vectors →
-        bits_at bitmaps.new.vectors j
-        ≡ bits_at bitmaps.old.vectors j ++ map (λ v. nat_le v j) block.now }
-    ensures room { bitmaps.new.room + length block.now ≡ bitmaps.old.room }
-{
-    mark(block, words);
-    join(words);
-    bitmaps.push_words(&words[..words.len() - 1], block.len() as u64);
-}
-
-/// Appends a block of digits below a base to the bitmaps.
-fn push_block(bitmaps: &mut Bitmaps, base: u32, block: &[u32])
-    requires long { base ≡ length bitmaps.old.vectors + 1 }
-    requires small { base ≤ 1024 }
+/// Appends a block of digits below a base to the bitmaps. There is a word for each bitmap, and one before them.
+fn push_marked(bitmaps: &mut Bitmaps, base: u32, block: &[u32], words: &mut [u64])
+    requires long { length words.old ≡ 1 + length bitmaps.old.vectors }
+    requires least { 2 ≤ base }
+    requires places { IsCount base (base - 1) (length bitmaps.old.vectors) }
     requires few { length block.now ≤ 64 }
     requires room { length block.now ≤ bitmaps.old.room }
     requires below { (k : ℕ) → k < length block.now → slice_index block.now k < base }
     ensures count { length bitmaps.new.vectors ≡ length bitmaps.old.vectors }
     ensures bits { (j : ℕ) → j < length bitmaps.old.vectors →
-        bits_at bitmaps.new.vectors j
-        ≡ bits_at bitmaps.old.vectors j ++ map (λ v. nat_le v j) block.now }
+        bits_at bitmaps.new.vectors j ≡ bits_at bitmaps.old.vectors j
+        ++ map (then_places (base - 1) (λ i v. nat_le v i) j) block.now }
     ensures room { bitmaps.new.room + length block.now ≡ bitmaps.old.room }
 {
-    if base <= MAX_SMALL_BASE {
-        let mut words = [0; MAX_SMALL_BASE as usize];
-        push_marked(bitmaps, block, &mut words[..base as usize]);
+    mark_digits(block, base as usize, words);
+    join(words, base as usize);
+    bitmaps.push_words(&words[1..], block.len() as u64);
+}
+
+/// Appends a block of digits below a base to the bitmaps.
+fn push_block(bitmaps: &mut Bitmaps, base: u32, block: &[u32])
+    requires least { 2 ≤ base }
+    requires small { base ≤ 1024 }
+    requires places { IsCount base (base - 1) (length bitmaps.old.vectors) }
+    requires few { length block.now ≤ 64 }
+    requires room { length block.now ≤ bitmaps.old.room }
+    requires below { (k : ℕ) → k < length block.now → slice_index block.now k < base }
+    ensures count { length bitmaps.new.vectors ≡ length bitmaps.old.vectors }
+    ensures bits { (j : ℕ) → j < length bitmaps.old.vectors →
+        bits_at bitmaps.new.vectors j ≡ bits_at bitmaps.old.vectors j
+        ++ map (then_places (base - 1) (λ i v. nat_le v i) j) block.now }
+    ensures room { bitmaps.new.room + length block.now ≡ bitmaps.old.room }
+{
+    let count = 1 + bitmaps.as_slice().len();
+    if count <= MAX_SMALL_WORDS {
+        let mut words = [0; MAX_SMALL_WORDS];
+        push_marked(bitmaps, base, block, &mut words[..count]);
     } else {
-        let mut words = [0; MAX_COMPONENT_BASE as usize];
-        push_marked(bitmaps, block, &mut words[..base as usize]);
+        let mut words = [0; MAX_WORDS];
+        push_marked(bitmaps, base, block, &mut words[..count]);
     }
 }
 
@@ -125,9 +133,36 @@ impl RangeComponent {
         self.base - 1
     }
 
+    /// Lends the bit vectors of the binary places of the digits, the least first, if any are stored.
+    fn places(&self) -> &[Bits]
+        ensures places { IsEncoded has_place result.now self.now.digits }
+        ensures few { length result.now ≤ 10 }
+        ensures below { 0 < length result.now → (k : ℕ) →
+            slice_index self.now.digits k < 2 ^ length result.now }
+    {
+        &self.bitmaps.as_slice()[self.base as usize - 1..]
+    }
+
+    /// Returns the sum of the digits of the found rows in the words from `start` on and before `end`.
+    fn digit_sum_in(&self, found: &Bits, start: usize, end: usize) -> u128
+        requires same { length self.now.digits ≡ length found.now.bits }
+        requires forward { start ≤ end }
+        requires within { end ≤ word_count (length found.now.bits) }
+        ensures sum { result ≡ sum (items_where_true
+            (in_words start end found.now.bits) (in_words start end self.now.digits)) }
+        ensures few { result ≤ 2 ^ 84 }
+    {
+        let places = self.places();
+        if places.is_empty() {
+            self.sum_by_bitmaps(found, start, end)
+        } else {
+            sum_by_places(places, found, start, end)
+        }
+    }
+
     /// Returns the sum of the digits of the found rows in the words from `start` on and before `end`: for each bitmap,
     /// the number of these rows that it does not have.
-    fn digit_sum_in(&self, found: &Bits, start: usize, end: usize) -> u128
+    fn sum_by_bitmaps(&self, found: &Bits, start: usize, end: usize) -> u128
         requires same { length self.now.digits ≡ length found.now.bits }
         requires forward { start ≤ end }
         requires within { end ≤ word_count (length found.now.bits) }

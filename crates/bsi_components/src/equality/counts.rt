@@ -9,6 +9,7 @@ ghost use Rattle.bsi_components.specs.Equality.{is_among};
 use crate::answers::RankedDigit;
 use crate::encoding::Encoding;
 use crate::equality::EqualityComponent;
+use crate::places::sum_by_places;
 use bsi_bits::Bits;
 
 impl EqualityComponent {
@@ -88,9 +89,26 @@ impl EqualityComponent {
         RankedDigit { digit: 0, rank }
     }
 
+    /// Returns the sum of the digits of the found rows in the words from `start` on and before `end`.
+    pub(crate) fn digit_sum_in(&self, found: &Bits, start: usize, end: usize) -> u128
+        requires same { length self.now.digits ≡ length found.now.bits }
+        requires forward { start ≤ end }
+        requires within { end ≤ word_count (length found.now.bits) }
+        ensures sum { result ≡ sum (items_where_true
+            (in_words start end found.now.bits) (in_words start end self.now.digits)) }
+        ensures few { result ≤ 2 ^ 84 }
+    {
+        let places = self.places();
+        if places.is_empty() {
+            self.sum_by_bitmaps(found, start, end)
+        } else {
+            sum_by_places(places, found, start, end)
+        }
+    }
+
     /// Returns the sum of the digits of the found rows in the words from `start` on and before `end`: for each digit
     /// but 0, the digit times the number of these rows that have it.
-    pub(crate) fn digit_sum_in(&self, found: &Bits, start: usize, end: usize) -> u128
+    fn sum_by_bitmaps(&self, found: &Bits, start: usize, end: usize) -> u128
         requires same { length self.now.digits ≡ length found.now.bits }
         requires forward { start ≤ end }
         requires within { end ≤ word_count (length found.now.bits) }

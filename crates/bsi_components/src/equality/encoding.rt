@@ -4,6 +4,7 @@ ghost use Rattle.std.specs.Prelude.{◌≡◌, ◌≢◌, ℕ, ◌+◌, ◌*◌,
 ghost use Rattle.std.specs.Bool.{OnTrue, OnFalse};
 ghost use Rattle.bsi_bits.specs.BitList.{word_count};
 ghost use Rattle.bsi_bits.specs.Packed.{bit_of};
+ghost use Rattle.bsi_components.specs.Bitmaps.{then_places};
 ghost use Rattle.bsi_components.specs.Component.{at_most_from};
 ghost use Rattle.bsi_bits.specs.Marked.{HasMarked};
 ghost use Rattle.bsi_components.specs.EndDigits.{AnswersGreatest, AnswersLeast};
@@ -13,6 +14,7 @@ use crate::answers::{EndDigit, RankedDigit};
 use crate::blocks::{SUM_BLOCK_WORDS, add_missing, copy_in, drop_in, keep_in};
 use crate::encoding::Encoding;
 use crate::equality::{EqualityComponent, first_stored, push_block};
+use crate::places::{is_place_set, place_count};
 use bsi_bits::{Bitmaps, Bits};
 use std::alloc::Global;
 
@@ -26,7 +28,8 @@ impl Encoding for EqualityComponent {
     ghost works_on_blocks = { true };
 
     fn make(alloc: Global, base: u32) -> Result<Self, NoMemory> {
-        let bitmaps = Bitmaps::new(alloc, (base - first_stored(base)) as usize)?;
+        let own = (base - first_stored(base)) as usize;
+        let bitmaps = Bitmaps::new(alloc, own + place_count(base))?;
         Ok(EqualityComponent { base, bitmaps })
     }
 
@@ -52,10 +55,18 @@ impl Encoding for EqualityComponent {
 
     fn push_reserved(&mut self, digit: u32) {
         let first = first_stored(self.base);
+        let own = (self.base - first) as usize;
         self.bitmaps.push_each(
             |j: usize| -> bool
-                ensures { result ≡ (digit == first + j) }
-            { digit >= first && (digit - first) as usize == j },
+                ensures { j < own + 32 →
+                    result ≡ then_places own (λ i v. v == first + i) j digit }
+            {
+                if j < own {
+                    digit >= first && (digit - first) as usize == j
+                } else {
+                    is_place_set(digit, j - own)
+                }
+            },
         );
     }
 

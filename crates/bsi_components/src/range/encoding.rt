@@ -4,6 +4,7 @@ ghost use Rattle.std.specs.Prelude.{◌≡◌, ◌≢◌, ℕ, ◌+◌, ◌*◌,
 ghost use Rattle.std.specs.Bool.{OnTrue, OnFalse};
 ghost use Rattle.bsi_bits.specs.BitList.{word_count};
 ghost use Rattle.bsi_bits.specs.Packed.{bit_of};
+ghost use Rattle.bsi_components.specs.Bitmaps.{then_places};
 ghost use Rattle.bsi_components.specs.Component.{at_most_from};
 ghost use Rattle.bsi_bits.specs.Marked.{HasMarked};
 ghost use Rattle.bsi_components.specs.EndDigits.{AnswersGreatest, AnswersLeast};
@@ -14,6 +15,7 @@ use crate::blocks::{
     SUM_BLOCK_WORDS, add_in, copy_in, drop_in, keep_and_add, keep_but_drop, keep_in,
 };
 use crate::encoding::Encoding;
+use crate::places::{is_place_set, place_count};
 use crate::range::{RangeComponent, push_block};
 use bsi_bits::{Bitmaps, Bits};
 use std::alloc::Global;
@@ -28,7 +30,7 @@ impl Encoding for RangeComponent {
     ghost works_on_blocks = { true };
 
     fn make(alloc: Global, base: u32) -> Result<Self, NoMemory> {
-        let bitmaps = Bitmaps::new(alloc, base as usize - 1)?;
+        let bitmaps = Bitmaps::new(alloc, base as usize - 1 + place_count(base))?;
         Ok(RangeComponent { base, bitmaps })
     }
 
@@ -49,10 +51,17 @@ impl Encoding for RangeComponent {
     }
 
     fn push_reserved(&mut self, digit: u32) {
+        let own = self.base as usize - 1;
         self.bitmaps.push_each(
             |j: usize| -> bool
-                ensures { result ≡ nat_le digit j }
-            { digit as usize <= j },
+                ensures { j < own + 32 → result ≡ then_places own (λ i v. nat_le v i) j digit }
+            {
+                if j < own {
+                    digit as usize <= j
+                } else {
+                    is_place_set(digit, j - own)
+                }
+            },
         );
     }
 

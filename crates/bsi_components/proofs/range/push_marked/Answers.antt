@@ -1,20 +1,24 @@
-use Rattle.std.proofs.Common.{◌-◌, ◌<◌, ◌++◌, [], ◌∷◌, length, ap, ◌∙◌, arith}
-use Rattle.std.proofs.lemmas.Nat.{pow_pos}
-use Rattle.bsi_bits.specs.Packed.{bits_of}
+use Rattle.std.proofs.Common.{◌≤◌, ◌-◌, ◌++◌, length, length-take, length-drop, drop, ap, ◌∙◌, arith}
 use Rattle.bsi_bits.specs.BitLists.{bits_at}
-use Rattle.bsi_components.proofs.MarkBits.{marks_joined, first_word, first_clear}
+use Rattle.bsi_components.proofs.MarkPlaces.{below_marks}
+use Rattle.bsi_components.proofs.PlaceBitmaps.{count_moved}
 use Rattle.bsi_components.proofs.range.push_marked.Goals as goal
 
--- the words that are pushed mark the digits up to each
+pub mark_digits-requires-clause-count : goal.mark_digits-requires-clause-count
+mark_digits-requires-clause-count c =
+    count_moved c.args.base 1 (c.args.base - 1) (length c.args.bitmaps.now.vectors) (length c.args.words.now) (omega (arith, c.requires.least)) c.requires.long c.requires.places
+
+-- the words that are pushed mark the digits up to each, and then the binary places
 pub push_words-requires-clause-clear : goal.push_words-requires-clause-clear
 push_words-requires-clause-clear c =
-    let marks = marks_joined c.args.block.now c.mark.new.words c.join.new.words c.requires.few c.mark.ensures.marks c.join.ensures.long c.join.ensures.joined in
-    first_clear c.join.new.words (length c.join.new.words - 1) _ (pow_pos (length c.args.block.now)) marks.clear
+    let own : c.args.base ≤ length c.mark_digits.new.words = omega (arith, c.requires.long, c.requires.places.owned, c.mark_digits.ensures.long) in
+    (below_marks c.args.base c.args.block.now c.mark_digits.new.words c.join.new.words (omega (arith, c.requires.least)) c.requires.few own c.mark_digits.ensures.marks c.join.ensures.long c.join.ensures.joined c.join.ensures.rest).clear
 
 pub returns-clause-bits : goal.returns-clause-bits
 returns-clause-bits c = λ j within.
-    let marks = marks_joined c.args.block.now c.mark.new.words c.join.new.words c.requires.few c.mark.ensures.marks c.join.ensures.long c.join.ensures.joined in
-    let in_words : j < length c.join.new.words - 1 = omega (arith, within, c.requires.long, c.mark.ensures.long, c.join.ensures.long) in
+    let own : c.args.base ≤ length c.mark_digits.new.words = omega (arith, c.requires.long, c.requires.places.owned, c.mark_digits.ensures.long) in
+    let long = length-take (length c.join.new.words - 1) (drop 1 c.join.new.words) in
+    let rest = length-drop 1 c.join.new.words in
+    let marks = below_marks c.args.base c.args.block.now c.mark_digits.new.words c.join.new.words (omega (arith, c.requires.least)) c.requires.few own c.mark_digits.ensures.marks c.join.ensures.long c.join.ensures.joined c.join.ensures.rest in
     c.push_words.ensures.bits j within
-    ∙ ap (λ word. bits_at c.args.bitmaps.now.vectors j ++ bits_of (length c.args.block.now) (word ∷ [])) (first_word c.join.new.words (length c.join.new.words - 1) j in_words)
-    ∙ ap (λ bits. bits_at c.args.bitmaps.now.vectors j ++ bits) (marks.each j (omega arith))
+    ∙ ap (λ bits. bits_at c.args.bitmaps.now.vectors j ++ bits) (marks.each j (omega (arith, within, long, rest, c.requires.long, c.mark_digits.ensures.long, c.join.ensures.long)))

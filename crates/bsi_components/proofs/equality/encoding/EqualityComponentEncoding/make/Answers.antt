@@ -1,14 +1,22 @@
-use Rattle.std.proofs.Common.{[], refl, sym, arith}
-use Rattle.bsi_components.proofs.EqualityDigits.{equality_made, first_digit_most, equality_digits_are, itself_equality}
+use Rattle.std.proofs.Common.{◌+◌, ◌-◌, [], length, ap, refl, sym, ◌∙◌}
+use Rattle.bsi_components.specs.Equality.{first_digit}
+use Rattle.bsi_components.proofs.PlaceBitmaps.{count_made}
+use Rattle.bsi_components.proofs.EqualityDigits.{equality_made, equality_digits_are, itself_equality}
 use Rattle.bsi_components.proofs.equality.encoding.EqualityComponentEncoding.make.Goals as goal
 
+-- a bitmap for each digit from the first on, and those of the places
 pub invariant_of-result : goal.invariant_of-result
 invariant_of-result c =
-    itself_equality c.args.base c.in_ok-bitmaps.bitmaps.vectors []
-    (equality_made c.args.base c.in_ok-bitmaps.bitmaps.vectors c.requires.0 c.requires.1 (omega (arith, c.in_ok-bitmaps.ensures.count, c.requires.0, first_digit_most c.args.base, c.first_stored.ensures)) c.in_ok-bitmaps.ensures.empty)
+    let base = c.args.base in
+    let rs = c.in_ok-bitmaps.bitmaps.vectors in
+    let many = c.in_ok-bitmaps.ensures.count ∙ ap (λ f. base - f + c.place_count.result) c.first_stored.ensures in
+    let count = count_made base (base - first_digit base) c.place_count.result (length rs) many c.place_count.ensures.few c.place_count.ensures.enough in
+    itself_equality base rs [] (equality_made base rs c.requires.0 c.requires.1 count c.in_ok-bitmaps.ensures.empty)
 
 pub returns : goal.returns
-returns c = (
-  sym (equality_digits_are c.args.base c.in_ok-bitmaps.bitmaps.vectors [] (equality_made c.args.base c.in_ok-bitmaps.bitmaps.vectors c.requires.0 c.requires.1 (omega (arith, c.in_ok-bitmaps.ensures.count, c.requires.0, first_digit_most c.args.base, c.first_stored.ensures)) c.in_ok-bitmaps.ensures.empty)),
-  refl,
-)
+returns c =
+    let base = c.args.base in
+    let rs = c.in_ok-bitmaps.bitmaps.vectors in
+    let many = c.in_ok-bitmaps.ensures.count ∙ ap (λ f. base - f + c.place_count.result) c.first_stored.ensures in
+    let count = count_made base (base - first_digit base) c.place_count.result (length rs) many c.place_count.ensures.few c.place_count.ensures.enough in
+    (sym (equality_digits_are base rs [] (equality_made base rs c.requires.0 c.requires.1 count c.in_ok-bitmaps.ensures.empty)), refl)

@@ -1,23 +1,25 @@
-use Rattle.std.proofs.Common.{◌∷◌, [], ◌++◌, ◌+◌, ap, sym, ◌∙◌}
+use Rattle.std.proofs.Common.{◌+◌, ◌-◌, ◌∷◌, [], ◌++◌, sym, arith, ap, ◌∙◌}
 use Rattle.std.specs.Prelude.{◌==◌}
-use Rattle.bsi_components.specs.Equality.{equality_digits, first_digit}
+use Rattle.bsi_components.specs.Bitmaps.{then_places}
+use Rattle.bsi_components.specs.Equality.{equality_digits, first_digit, IsEquality}
 use Rattle.bsi_components.proofs.EqualityDigits.{equality_more, equality_digits_are, itself_equality, one_below}
 use Rattle.bsi_components.proofs.equality.encoding.EqualityComponentEncoding.push_reserved.Goals as goal
 
+-- the bitmaps are those of the digits with this one
+pushed : (c : goal.After-push_each) → IsEquality c.self.inside.base c.push_each.new.self.vectors (equality_digits c.self.inside.base c.self.inside.bitmaps.vectors ++ c.args.digit ∷ [])
+pushed c =
+    let base = c.self.inside.base in
+    let old = c.self.inside.bitmaps.vectors in
+    let below = rw (← c.self.view_is) at c.requires.below in
+    let few = c.self.invariant.count.few in
+    equality_more base old c.push_each.new.self.vectors (equality_digits base old) (c.args.digit ∷ []) c.self.invariant (one_below c.args.digit base below) c.push_each.ensures.count
+    (c.push_each.ensures.bits (λ j. then_places (base - first_digit base) (λ i v. v == first_digit base + i) j c.args.digit)
+    (λ j b within said. said (omega (arith, c.first_stored-first.ensures)) ∙ ap (λ f. then_places (base - f) (λ i v. v == f + i) j c.args.digit) c.first_stored-first.ensures))
+
 pub invariant_of-self : goal.invariant_of-self
 invariant_of-self c =
-    let old = c.self.inside.bitmaps.vectors in
-    let new = c.push_each.new.self.vectors in
-    let below = rw (← c.self.view_is) at c.requires.below in
-    let pushed = c.push_each.ensures.bits (λ j. c.args.digit == first_digit c.self.inside.base + j) (λ j b within said. said ∙ ap (λ k. c.args.digit == k + j) c.first_stored-first.ensures) in
-    itself_equality c.self.inside.base new (equality_digits c.self.inside.base old ++ c.args.digit ∷ [])
-    (equality_more c.self.inside.base old new (equality_digits c.self.inside.base old) (c.args.digit ∷ []) c.self.invariant (one_below c.args.digit c.self.inside.base below) c.push_each.ensures.count pushed)
+    itself_equality c.self.inside.base c.push_each.new.self.vectors (equality_digits c.self.inside.base c.self.inside.bitmaps.vectors ++ c.args.digit ∷ []) (pushed c)
 
 pub returns-clause-digits : goal.returns-clause-digits
 returns-clause-digits c =
-    let old = c.self.inside.bitmaps.vectors in
-    let new = c.push_each.new.self.vectors in
-    let below = rw (← c.self.view_is) at c.requires.below in
-    let pushed = c.push_each.ensures.bits (λ j. c.args.digit == first_digit c.self.inside.base + j) (λ j b within said. said ∙ ap (λ k. c.args.digit == k + j) c.first_stored-first.ensures) in
-    rw (← c.self.view_is) (sym (equality_digits_are c.self.inside.base new (equality_digits c.self.inside.base old ++ c.args.digit ∷ [])
-    (equality_more c.self.inside.base old new (equality_digits c.self.inside.base old) (c.args.digit ∷ []) c.self.invariant (one_below c.args.digit c.self.inside.base below) c.push_each.ensures.count pushed)))
+    rw (← c.self.view_is) (sym (equality_digits_are c.self.inside.base c.push_each.new.self.vectors (equality_digits c.self.inside.base c.self.inside.bitmaps.vectors ++ c.args.digit ∷ []) (pushed c)))

@@ -6,4 +6,4 @@ use Rattle.bsi_components.proofs.range.encoding.RangeComponentEncoding.len.Goals
 pub returns-clause-len : goal.returns-clause-len
 returns-clause-len c =
     let old = c.self.inside.bitmaps.vectors in
-    rw (← c.self.view_is) (c.len.ensures.first ∙ range_rows c.self.inside.base old (range_digits old) c.self.invariant)
+    rw (← c.self.view_is) (c.len.ensures.first ∙ range_rows c.self.inside.base old (range_digits c.self.inside.base old) c.self.invariant)

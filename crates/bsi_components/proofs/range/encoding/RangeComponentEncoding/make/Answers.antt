@@ -1,14 +1,19 @@
-use Rattle.std.proofs.Common.{[], refl, sym, arith}
+use Rattle.std.proofs.Common.{◌-◌, [], length, refl, sym}
+use Rattle.bsi_components.proofs.PlaceBitmaps.{count_made}
 use Rattle.bsi_components.proofs.RangeDigits.{range_made, range_digits_are, itself_range}
 use Rattle.bsi_components.proofs.range.encoding.RangeComponentEncoding.make.Goals as goal
 
+-- one bitmap for each digit but the greatest, and those of the places
 pub invariant_of-result : goal.invariant_of-result
 invariant_of-result c =
-    itself_range c.args.base c.in_ok-bitmaps.bitmaps.vectors []
-    (range_made c.args.base c.in_ok-bitmaps.bitmaps.vectors c.requires.0 c.requires.1 (omega (arith, c.in_ok-bitmaps.ensures.count, c.requires.0)) c.in_ok-bitmaps.ensures.empty)
+    let base = c.args.base in
+    let rs = c.in_ok-bitmaps.bitmaps.vectors in
+    let count = count_made base (base - 1) c.place_count.result (length rs) c.in_ok-bitmaps.ensures.count c.place_count.ensures.few c.place_count.ensures.enough in
+    itself_range base rs [] (range_made base rs c.requires.0 c.requires.1 count c.in_ok-bitmaps.ensures.empty)
 
 pub returns : goal.returns
-returns c = (
-  sym (range_digits_are c.args.base c.in_ok-bitmaps.bitmaps.vectors [] (range_made c.args.base c.in_ok-bitmaps.bitmaps.vectors c.requires.0 c.requires.1 (omega (arith, c.in_ok-bitmaps.ensures.count, c.requires.0)) c.in_ok-bitmaps.ensures.empty)),
-  refl,
-)
+returns c =
+    let base = c.args.base in
+    let rs = c.in_ok-bitmaps.bitmaps.vectors in
+    let count = count_made base (base - 1) c.place_count.result (length rs) c.in_ok-bitmaps.ensures.count c.place_count.ensures.few c.place_count.ensures.enough in
+    (sym (range_digits_are base rs [] (range_made base rs c.requires.0 c.requires.1 count c.in_ok-bitmaps.ensures.empty)), refl)

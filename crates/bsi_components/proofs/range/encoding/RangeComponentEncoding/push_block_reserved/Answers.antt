@@ -9,8 +9,8 @@ invariant_of-self c =
     let new = c.push_block.new.bitmaps.vectors in
     let below = rw (← c.self.view_is) at c.requires.below in
     let pushed = c.push_block.ensures.bits in
-    itself_range c.self.inside.base new (range_digits old ++ c.args.block.now)
-    (range_more c.self.inside.base old new (range_digits old) c.args.block.now c.self.invariant below c.push_block.ensures.count pushed)
+    itself_range c.self.inside.base new (range_digits c.self.inside.base old ++ c.args.block.now)
+    (range_more c.self.inside.base old new (range_digits c.self.inside.base old) c.args.block.now c.self.invariant below c.push_block.ensures.count pushed)
 
 pub returns-clause-digits : goal.returns-clause-digits
 returns-clause-digits c =
@@ -18,5 +18,5 @@ returns-clause-digits c =
     let new = c.push_block.new.bitmaps.vectors in
     let below = rw (← c.self.view_is) at c.requires.below in
     let pushed = c.push_block.ensures.bits in
-    rw (← c.self.view_is) (sym (range_digits_are c.self.inside.base new (range_digits old ++ c.args.block.now)
-    (range_more c.self.inside.base old new (range_digits old) c.args.block.now c.self.invariant below c.push_block.ensures.count pushed)))
+    rw (← c.self.view_is) (sym (range_digits_are c.self.inside.base new (range_digits c.self.inside.base old ++ c.args.block.now)
+    (range_more c.self.inside.base old new (range_digits c.self.inside.base old) c.args.block.now c.self.invariant below c.push_block.ensures.count pushed)))

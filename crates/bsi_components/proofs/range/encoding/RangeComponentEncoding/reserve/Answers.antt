@@ -6,17 +6,17 @@ use Rattle.bsi_components.proofs.range.encoding.RangeComponentEncoding.reserve.G
 pub reserve-requires : goal.reserve-requires
 reserve-requires c =
     let old = c.self.inside.bitmaps.vectors in
-    let within : length (range_digits old) + c.args.more ≤ 2 ^ 32 = rw (← c.self.view_is) at c.requires in
-    omega (arith, within, range_rows c.self.inside.base old (range_digits old) c.self.invariant)
+    let within : length (range_digits c.self.inside.base old) + c.args.more ≤ 2 ^ 32 = rw (← c.self.view_is) at c.requires in
+    omega (arith, within, range_rows c.self.inside.base old (range_digits c.self.inside.base old) c.self.invariant)
 
 pub invariant_of-self : goal.invariant_of-self
 invariant_of-self c =
     let old = c.self.inside.bitmaps.vectors in
-    itself_range c.self.inside.base c.reserve.new.self.vectors (range_digits old)
-    (range_same c.self.inside.base old c.reserve.new.self.vectors (range_digits old) c.self.invariant c.reserve.ensures.same.count c.reserve.ensures.same.bits)
+    itself_range c.self.inside.base c.reserve.new.self.vectors (range_digits c.self.inside.base old)
+    (range_same c.self.inside.base old c.reserve.new.self.vectors (range_digits c.self.inside.base old) c.self.invariant c.reserve.ensures.same.count c.reserve.ensures.same.bits)
 
 pub returns-clause-digits : goal.returns-clause-digits
 returns-clause-digits c =
     let old = c.self.inside.bitmaps.vectors in
-    rw (← c.self.view_is) (sym (range_digits_are c.self.inside.base c.reserve.new.self.vectors (range_digits old)
-    (range_same c.self.inside.base old c.reserve.new.self.vectors (range_digits old) c.self.invariant c.reserve.ensures.same.count c.reserve.ensures.same.bits)))
+    rw (← c.self.view_is) (sym (range_digits_are c.self.inside.base c.reserve.new.self.vectors (range_digits c.self.inside.base old)
+    (range_same c.self.inside.base old c.reserve.new.self.vectors (range_digits c.self.inside.base old) c.self.invariant c.reserve.ensures.same.count c.reserve.ensures.same.bits)))

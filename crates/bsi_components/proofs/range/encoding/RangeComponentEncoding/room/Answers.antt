@@ -6,4 +6,4 @@ use Rattle.bsi_components.proofs.range.encoding.RangeComponentEncoding.room.Goal
 pub returns-clause-within : goal.returns-clause-within
 returns-clause-within c =
     let old = c.self.inside.bitmaps.vectors in
-    rw (← c.self.view_is) (omega (arith, c.room.ensures.within, range_rows c.self.inside.base old (range_digits old) c.self.invariant))
+    rw (← c.self.view_is) (omega (arith, c.room.ensures.within, range_rows c.self.inside.base old (range_digits c.self.inside.base old) c.self.invariant))

@@ -2,7 +2,7 @@ use Rattle.std.proofs.Common.{◌≡◌, ◌*◌, ◌≤◌, ◌^◌}
 use Rattle.std.specs.Prelude.{sum_by, min}
 use Rattle.std.specs.List.{items_where_true}
 use Rattle.bsi_bits.specs.BitList.{in_words}
-use Rattle.bsi_components.proofs.range.RangeComponent.digit_sum_in.Given as goal
+use Rattle.bsi_components.proofs.range.RangeComponent.sum_by_bitmaps.Given as goal
 
 abbrev pub invariant-bitmaps : goal.invariant-bitmaps
 invariant-bitmaps l = record {

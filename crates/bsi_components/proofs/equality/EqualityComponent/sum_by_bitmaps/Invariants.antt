@@ -2,7 +2,7 @@ use Rattle.std.proofs.Common.{◌≡◌, ◌*◌, ◌≤◌, ◌^◌, cond}
 use Rattle.std.specs.Prelude.{sum_by, nat_lt}
 use Rattle.std.specs.List.{items_where_true}
 use Rattle.bsi_bits.specs.BitList.{in_words}
-use Rattle.bsi_components.proofs.equality.EqualityComponent.digit_sum_in.Given as goal
+use Rattle.bsi_components.proofs.equality.EqualityComponent.sum_by_bitmaps.Given as goal
 
 abbrev pub invariant-digits : goal.invariant-digits
 invariant-digits l = record {
