@@ -44,6 +44,19 @@ NeedsNoMemory (Greatest c) = ⊥
 NeedsNoMemory (Median c) = ⊥
 NeedsNoMemory Rows = ⊥
 
+-- the predicate has no `or` and no `not`
+abbrev pub IsConjunction : Pred → Type 0
+IsConjunction All = Unit {0}
+IsConjunction (Compare c op n) = Unit {0}
+IsConjunction (Null c) = Unit {0}
+IsConjunction (Both' p first q second) = IsConjunction first × IsConjunction second
+IsConjunction (Either' p first q second) = ⊥
+IsConjunction (Not' p pred) = ⊥
+
+-- the query is answered without memory: it counts the rows of a conjunction
+abbrev pub CountsConjunction : Query → Type 0
+CountsConjunction query = (query.total ≡ Count) × IsConjunction query.pred
+
 -- the columns that a total reads
 abbrev pub columns_of_total : Total → List ℕ
 columns_of_total Count = []

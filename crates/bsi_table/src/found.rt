@@ -2,19 +2,20 @@
 //!
 //! A block is 1,024 words: with shorter ones too little of a bitmap is read before the next. `or` and `not` save the
 //! block's words in one list that grows and shrinks with them, so a level of a predicate takes no more stack than the
-//! call. A count narrows, trims and counts one block after the other in the same words.
+//! call. A count narrows, trims and counts one block after the other in the same words, and takes memory for saved words
+//! alone.
 
-ghost use Rattle.std.specs.Prelude.{◌≡◌, ℕ, ◌+◌, ◌-◌, ◌^◌, ◌≤◌, ◌++◌, bit_or, bit_xor, count_by, drop, false, length, map, take, IfOk, IsFalse, OnOk};
+ghost use Rattle.std.specs.Prelude.{◌≡◌, ℕ, ◌+◌, ◌-◌, ◌^◌, ◌≤◌, ◌++◌, bit_or, bit_xor, count_by, drop, false, length, map, take, IfOk, IsFalse, IsOk, OnOk};
 ghost use Rattle.bsi_bits.specs.BitList.{word_count};
-ghost use Rattle.bsi_bits.specs.Packed.{bit_of};
+ghost use Rattle.bsi_bits.specs.Packed.{bit_of, bits_of, IsPacked};
 ghost use Rattle.std.specs.Simd.Lanes.{zip2};
-ghost use Rattle.bsi_table.specs.Answers.{ReadsAmong};
+ghost use Rattle.bsi_table.specs.Answers.{IsConjunction, ReadsAmong};
 ghost use Rattle.bsi_table.specs.Rows.{holds};
 ghost use Rattle.bsi_table.specs.Table.{rows_in, HaveRows};
 ghost use Rattle.bsi_table.specs.Blocks.{AreFound, AreNarrowed};
 
 use crate::{NoMemory, Pred};
-use bsi_bits::{Bits, lanes};
+use bsi_bits::{Bits, know_fits, lanes};
 use bsi_shift::Shifted;
 use std::alloc::Global;
 
@@ -44,7 +45,7 @@ pub(crate) fn find_rows(
 }
 
 /// Returns how many of `count` rows the predicate selects. Each column that it reads is there. It goes over the rows as
-/// `find_rows` does, but keeps the words of one block in place of a bit for each row.
+/// `find_rows` does, but keeps the words of one block, on the stack, in place of a bit for each row.
 pub(crate) fn count_selected(
     alloc: Global,
     columns: &[Shifted],
@@ -54,28 +55,53 @@ pub(crate) fn count_selected(
     requires few { count ≤ 2 ^ 32 }
     requires even { HaveRows columns.now count }
     requires there { ReadsAmong (length columns.now) pred.now }
-    ensures { IfOk result (λ selected. selected
+    ensures counted { IfOk result (λ selected. selected
         ≡ count_by (λ b. b) (map (holds pred.now) (rows_in columns.now count))) }
+    ensures succeeds { IsConjunction pred.now → IsOk result }
 {
     let mut spare = Vec::new(alloc);
-    let mut words = vec![in alloc; u64::MAX; BLOCK_WORDS]?;
+    let mut words = [u64::MAX; BLOCK_WORDS];
     let mut selected = 0;
     'blocks: for k in 0..count.div_ceil(BLOCK_ROWS) {
         let rows = BLOCK_ROWS.min(count - BLOCK_ROWS * k);
-        words.truncate(rows.div_ceil(64) as usize);
+        let block = &mut words[..rows.div_ceil(64) as usize];
         find_block(
             columns,
             count,
             pred,
             BLOCK_WORDS * k as usize,
-            &mut words,
+            block,
             &mut spare,
         )?;
-        let found = Bits::from_words(words, rows);
-        selected += found.count();
-        words = found.into_words();
+        selected += count_block(block, rows);
     }
     Ok(selected)
+}
+
+/// Returns how many of the first `rows` places of a block are set. Its words are as few as hold them; it clears the
+/// places behind.
+fn count_block(block: &mut [u64], rows: u64) -> u64
+    requires within { rows ≤ 65536 }
+    requires few { length block.old ≡ word_count rows }
+    ensures { result ≡ count_by (λ b. b) (bits_of rows block.old) }
+{
+    trim(block, rows);
+    know_fits(block);
+    lanes::count(block) as u64
+}
+
+/// Clears the places of a block past the first `rows`.
+fn trim(block: &mut [u64], rows: u64)
+    requires within { rows ≤ 65536 }
+    requires few { length block.old ≡ word_count rows }
+    ensures packed { IsPacked rows block.new }
+    ensures bits { bits_of rows block.new ≡ bits_of rows block.old }
+{
+    let kept = rows % 64;
+    if kept != 0 {
+        let last = (rows / 64) as usize;
+        block[last] &= (1 << kept) - 1;
+    }
 }
 
 /// Keeps the rows of which the predicate holds, in words that stand for all rows.
@@ -117,6 +143,7 @@ fn find_block(
     requires there { ReadsAmong (length columns.now) pred.now }
     ensures rows { OnOk result (AreFound columns.now count pred.now at block.new) }
     ensures spare { OnOk result (spare.new.items ≡ spare.old.items) }
+    ensures succeeds { IsConjunction pred.now → IsOk result }
 {
     block.fill(u64::MAX);
     narrow(columns, count, pred, at, block, spare)
@@ -138,6 +165,7 @@ fn narrow(
     requires there { ReadsAmong (length columns.now) pred.now }
     ensures rows { OnOk result (AreNarrowed columns.now count pred.now at block.old block.new) }
     ensures spare { OnOk result (spare.new.items ≡ spare.old.items) }
+    ensures succeeds { IsConjunction pred.now → IsOk result }
 {
     match pred {
         Pred::All => {}

@@ -1,9 +1,9 @@
 //! The index: rows from feeders, stored column by column, and the answers to queries over them.
 
-ghost use Rattle.std.specs.Prelude.{◌≡◌, ◌<◌, ◌≤◌, ◌^◌, None, length, IfErr, IfOk, IsTrue, OnErr, OnOk};
+ghost use Rattle.std.specs.Prelude.{◌≡◌, ◌≢◌, ◌<◌, ◌≤◌, ◌^◌, None, length, IfErr, IfOk, IsOk, IsTrue, OnErr, OnOk};
 ghost use Rattle.std.specs.Result.{result_err};
 ghost use Rattle.bsi_shift.specs.Shifted.{shifted_entries};
-ghost use Rattle.bsi_table.specs.Answers.{missing_column, IsAnswer, IsReply};
+ghost use Rattle.bsi_table.specs.Answers.{missing_column, CountsConjunction, IsAnswer, IsReply};
 ghost use Rattle.bsi_schema.specs.Columns.{column_at, fits};
 ghost use Rattle.bsi_table.specs.Refusals.{index_refusal, row_refusal, rows_refusal, IsFirstOr};
 ghost use Rattle.bsi_table.specs.Rows.{column_of};
@@ -138,9 +138,11 @@ impl Index {
         Ok(first)
     }
 
-    /// Answers a query over all rows.
+    /// Answers a query over all rows. A count by a predicate without `or` and `not` takes no memory.
     pub fn ask(&self, query: &Query) -> Result<Answer, AskError>
-        ensures { IsReply self.now.schema self.now.rows query.now result }
+        ensures reply { IsReply self.now.schema self.now.rows query.now result }
+        ensures succeeds { CountsConjunction query.now →
+            IfErr result (λ refused. refused ≢ AskError.NoMemory) }
     {
         if let Some(missing) = query.missing_column(self.schema.columns()) {
             return Err(AskError::BadColumn(missing));
@@ -151,7 +153,8 @@ impl Index {
     /// Answers a query of which no column is missing. A count keeps no bit for each row.
     fn answer(&self, query: &Query) -> Result<Answer, NoMemory>
         requires { missing_column (length self.now.schema.columns) query.now ≡ None }
-        ensures { IfOk result (IsAnswer query.now self.now.rows) }
+        ensures answer { IfOk result (IsAnswer query.now self.now.rows) }
+        ensures succeeds { CountsConjunction query.now → IsOk result }
     {
         let alloc = *self.columns.allocator();
         let columns: &[Shifted] = &self.columns;

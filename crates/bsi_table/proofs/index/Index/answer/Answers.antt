@@ -17,8 +17,8 @@ count_selected-requires-clause-even c =
     (λ k within. (invariant.each k (omega (arith, within, invariant.long))).rows ∙ rows)
 
 -- a count is that of the rows that the predicate selects
-pub returns-in-Count : goal.returns-in-Count
-returns-in-Count c =
+pub returns-in-Count-clause-answer : goal.returns-in-Count-clause-answer
+returns-in-Count-clause-answer c =
     let pred = c.args.query.now.pred in
     let sources = c.self.inside.origins.rows in
     let kept = c.self.inside.columns.items in
@@ -27,7 +27,7 @@ returns-in-Count c =
     let all = map (λ row. holds pred row.1) (fed_rows sources kept) in
     let selected = c.in_ok-count_selected.field-0 in
     let counted : selected ≡ count_by (λ b. b) all =
-    c.in_ok-count_selected.ensures
+    c.in_ok-count_selected.ensures.counted
     ∙ ap₂ (λ columns n. count_by (λ b. b) (map (holds pred) (rows_in columns n))) c.deref-columns.ensures.value long
     ∙ ap (count_by (λ b. b)) (sym (map-fed_rows sources kept (holds pred))) in
     let found = count-found sources kept pred all (λ i. all) (λ k within. (invariant.each k (omega (arith, within, invariant.long))).rows) in
