@@ -142,8 +142,9 @@ impl Core {
         self.index.ask(query)
     }
 
-    /// Carries out one event, and returns its reply.
-    fn step(&mut self, event: Event) -> Reply
+    /// Carries out one event, and returns its reply. Of a sequence of such steps the laws of `laws` say what they come to:
+    /// it is one run, and nothing is lost in it.
+    pub fn step(&mut self, event: Event) -> Reply
         ensures lawful { IsLawful self.old event result }
         ensures after { self.new ≡ shown_after self.old ((event, result) ∷ []) }
     {

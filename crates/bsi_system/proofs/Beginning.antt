@@ -4,14 +4,19 @@ use Rattle.std.specs.Prelude.{slice_get}
 use Rattle.std.proofs.lemmas.List.{length-map}
 use Rattle.std.proofs.lemmas.List.Elements.{All-cons, All-map, All-nil}
 use Rattle.bsi_table.specs.Columns.{Declared}
+use Rattle.bsi_table.specs.Rows.{Entries}
 use Rattle.bsi_table.specs.Table.{no_rows}
 use Rattle.bsi_rings.specs.Rings.{lanes_of, new_feeders, new_intake, new_sending, AreOpened, Intake, IsWhole, LaneName, Sending}
 use Rattle.bsi_versions.specs.Editions.{Written}
-use Rattle.bsi_system.specs.Running.{loading, new_loading, no_taking, taking_at, takings_of, IsFeederOf, IsLoader, System, Taking}
+use Rattle.bsi_system.specs.Running.{loading, new_loading, no_taking, seen_of, taking_at, takings_of, IsFeederOf, IsLoader, System, Taking}
 
 takings-new : (lanes : List LaneName) → takings_of (map new_intake lanes) ≡ map (λ (lane : LaneName). no_taking) lanes
 takings-new [] = refl
 takings-new (lane ∷ lanes) = ap (λ (ts : List Taking). no_taking ∷ ts) (takings-new lanes)
+
+seen-new : (lanes : List LaneName) → seen_of (map new_intake lanes) ≡ map (λ (lane : LaneName). []) lanes
+seen-new [] = refl
+seen-new (lane ∷ lanes) = ap (λ (xs : List (List Entries)). [] ∷ xs) (seen-new lanes)
 
 taking_at-new : (lanes : List LaneName) (f : ℕ) → (taking_at (map (λ (lane : LaneName). no_taking) lanes) f).taken ≡ []
 taking_at-new [] f = refl
@@ -22,6 +27,9 @@ module _ (schema : Declared) (capacities : List ℕ) (feeders : List Sending) (i
   takings_are : takings_of intakes ≡ map (λ (lane : LaneName). no_taking) (lanes_of intakes)
   takings_are = ap takings_of opened.intakes_are ∙ takings-new (lanes_of intakes)
 
+  seen_are : seen_of intakes ≡ map (λ (lane : LaneName). []) (lanes_of intakes)
+  seen_are = ap seen_of opened.intakes_are ∙ seen-new (lanes_of intakes)
+
   pub opened_alike : All (λ (lane : LaneName). lane.schema ≡ schema) (lanes_of intakes)
   opened_alike = All-map (λ (lane : LaneName). lane.schema ≡ schema) (λ (i : Intake). i.lane) intakes opened.alike
 
@@ -29,7 +37,8 @@ module _ (schema : Declared) (capacities : List ℕ) (feeders : List Sending) (i
     pub opened_loading : loading intakes w ≡ new_loading (lanes_of intakes) schema limit
     opened_loading =
         ap (loading intakes) is
-        ∙ ap (λ (ts : List Taking). record { system = record { lanes = lanes_of intakes; schema = schema; limit = limit }; takings = ts; published = []; held = [] }) takings_are
+        ∙ (ap (λ (ts : List Taking). record { system = record { lanes = lanes_of intakes; schema = schema; limit = limit }; takings = ts; seen = seen_of intakes; published = []; held = [] }) takings_are
+        ∙ ap (λ (xs : List (List Entries)). record { system = record { lanes = lanes_of intakes; schema = schema; limit = limit }; takings = map (λ (lane : LaneName). no_taking) (lanes_of intakes); seen = xs; published = []; held = [] }) seen_are)
 
     pub opened_loader : IsLoader intakes w
     opened_loader = subst (IsLoader intakes) (sym is) (record {

@@ -1,8 +1,9 @@
 -- What a loader keeps to, from call to call.
-use Rattle.std.proofs.Common.{◌≡◌, ◌≢◌, ℕ, zero, suc, ◌<◌, ◌≤◌, Bool, true, false, cond, List, [], ◌∷◌, ◌++◌, Option, None, Some, All, length, map, set, get_or, refl, sym, ◌∙◌, subst, ap, arith, append_assoc, length-append, inl, inr}
+use Rattle.std.proofs.Common.{◌≡◌, ◌≢◌, ℕ, zero, suc, ◌<◌, ◌≤◌, Bool, true, false, cond, List, [], ◌∷◌, ◌++◌, Option, None, Some, All, length, map, set, get_or, drop, refl, sym, ◌∙◌, subst, ap, arith, append_assoc, length-append, inl, inr}
 use Rattle.std.specs.Prelude.{nat_eq, slice_get, option_map, IfSome, IsTrue, Err, ◌⊎◌}
+use Rattle.std.proofs.Math.Seq.{drop-append_seam}
 use Rattle.std.proofs.lemmas.Bool.Decides.{nat_tests}
-use Rattle.std.proofs.lemmas.List.{append-nil, get_or-set_other, get_or-set_same, length-map, length-set, map-set, set-get_or}
+use Rattle.std.proofs.lemmas.List.{append-nil, get_or-set_other, get_or-set_same, length-map, length-set, map-set, set-get_or, set-set}
 use Rattle.std.proofs.lemmas.List.Elements.{filter_map-append, All-get_or, All-set}
 use Rattle.std.proofs.lemmas.Option.{get_or_from_slice_get, slice_get_cases, slice_get-map, slice_get_read, slice_get_within}
 use mathlib.Core.List.{IsPrefix}
@@ -16,7 +17,7 @@ use Rattle.bsi_rings.specs.Rings.{lanes_of, with_seen, Intake, IsWhole, LaneName
 use Rattle.bsi_versions.specs.Editions.{Written}
 use Rattle.bsi_versions.specs.Editions as editions
 use Rattle.bsi_system.specs.Lanes.{AreUntaken, IsFirstAt, IsFirstReply, LooksAt, SettlesAt, TakesAt}
-use Rattle.bsi_system.specs.Running.{loading, no_taking, settled_as, taken, taking, taking_at, takings_of, told, with_taken, Balanced, IsLoader, Loading, Loads, MayLoad, Taking, WithinTold}
+use Rattle.bsi_system.specs.Running.{loading, no_taking, seen, seen_at, seen_of, settled_as, taken, taking, taking_at, takings_of, told, with_taken, Balanced, IsLoader, Loading, Loads, Looks, MayLoad, Taking, WithinTold}
 
 -- ---- one place of a list
 
@@ -38,17 +39,36 @@ taking_at-past (i ∷ intakes) (suc f) past = taking_at-past intakes f (omega ar
 pub there : (intakes : List Intake) (f : ℕ) (i : Intake) → slice_get intakes f ≡ Some i → f < length (takings_of intakes)
 there intakes f i at = omega (arith, slice_get_within intakes f i at, length-map intakes taking)
 
+-- what is seen of a list in which one lane was written
+pub seen_set : (intakes new : List Intake) (f : ℕ) (i : Intake) → f < length intakes → new ≡ set intakes f i → seen_of new ≡ set (seen_of intakes) f i.seen
+seen_set intakes new f i within now = ap seen_of now ∙ map-set (λ (j : Intake). j.seen) intakes f i
+
+seen_same : (intakes new : List Intake) (f : ℕ) (i : Intake) → f < length intakes → new ≡ set intakes f i → seen_of new ≡ set (seen_of intakes) f (seen_at (seen_of new) f)
+seen_same intakes new f i within now =
+    let is = seen_set intakes new f i within now in
+    let there : f < length (seen_of intakes) = omega (arith, within, length-map intakes (λ (j : Intake). j.seen)) in
+    let read : seen_at (seen_of new) f ≡ i.seen = ap (λ (xs : List (List Entries)). seen_at xs f) is ∙ get_or-set_same (seen_of intakes) f i.seen [] there in
+    is ∙ ap (set (seen_of intakes) f) (sym read)
+
+-- a row stands first of those that are seen
+pub seen_first : (intakes : List Intake) (f : ℕ) → (row : Entries) × IsFirstAt intakes f row → 0 < length (seen_at (seen_of intakes) f)
+seen_first intakes f first =
+    let at = first.1 in
+    let read : seen_at (seen_of intakes) f ≡ at.intake.seen = get_or_from_slice_get (seen_of intakes) f at.intake.seen [] (slice_get-map (λ (j : Intake). j.seen) intakes f ∙ ap (option_map (λ (j : Intake). j.seen)) at.at) in
+    omega (arith, ap length (read ∙ at.first))
+
 -- ---- looking at a lane
 
-pub looks_same : (old : List Intake) (f : ℕ) (found : Front) (new : List Intake) → LooksAt old f found new → AreUntaken old new
+pub looks_same : (old : List Intake) (f : ℕ) (found : Front) (new : List Intake) → LooksAt old f found new → AreUntaken old f new
 looks_same old f found new looks = record {
   takings = ap takings_of looks.now ∙ map-set_same taking old f looks.before (with_seen looks.before looks.seen) looks.at refl;
   lanes = ap lanes_of looks.now ∙ map-set_same (λ (i : Intake). i.lane) old f looks.before (with_seen looks.before looks.seen) looks.at refl;
+  seen = seen_same old new f (with_seen looks.before looks.seen) (slice_get_within old f looks.before looks.at) looks.now;
   whole = λ all. subst (All IsWhole) (sym looks.now) (All-set IsWhole old f (with_seen looks.before looks.seen) looks.whole all);
 }
 
-pub same_self : (intakes : List Intake) → AreUntaken intakes intakes
-same_self intakes = record { takings = refl; lanes = refl; whole = λ all. all }
+pub same_self : (intakes : List Intake) (f : ℕ) → AreUntaken intakes f intakes
+same_self intakes f = record { takings = refl; lanes = refl; seen = sym (set-get_or (seen_of intakes) f []); whole = λ all. all }
 
 not_longer : (xs rest : List Entries) (row : Entries) → xs ++ (row ∷ rest) ≢ xs
 not_longer xs rest row e = omega (arith, ap length e, length-append xs (row ∷ rest))
@@ -105,15 +125,16 @@ module _ (intakes : List Intake) (w : Written) (is : IsLoader intakes w) where
           subst (λ (t : Taking). IfSome t.told (λ sent. IsPrefix t.taken sent)) (sym (taking_at-of intakes f at.0 at.2)) (prefix_of at.0 at.0.told refl whole)
       by (inr past) = subst (λ (t : Taking). IfSome t.told (λ sent. IsPrefix t.taken sent)) (sym (taking_at-past intakes f past.0)) tt
 
-  module _ (new : List Intake) (same : AreUntaken intakes new) where
-    pub same_loading : loading new w ≡ loading intakes w
-    same_loading =
-        ap (λ (ts : List Taking). record { system = record { lanes = lanes_of new; schema = w.table.schema; limit = w.table.limit }; takings = ts; published = w.table.rows; held = w.held }) same.takings
-        ∙ ap (λ (ls : List LaneName). record { system = record { lanes = ls; schema = w.table.schema; limit = w.table.limit }; takings = takings_of intakes; published = w.table.rows; held = w.held }) same.lanes
+  module _ (f : ℕ) (new : List Intake) (same : AreUntaken intakes f new) where
+    pub looks_loading : Looks (loading intakes w) f (loading new w)
+    looks_loading =
+        ap (λ (ts : List Taking). record { system = record { lanes = lanes_of new; schema = w.table.schema; limit = w.table.limit }; takings = ts; seen = seen_of new; published = w.table.rows; held = w.held }) same.takings
+        ∙ (ap (λ (ls : List LaneName). record { system = record { lanes = ls; schema = w.table.schema; limit = w.table.limit }; takings = takings_of intakes; seen = seen_of new; published = w.table.rows; held = w.held }) same.lanes
+        ∙ ap (λ (xs : List (List Entries)). record { system = record { lanes = lanes_of intakes; schema = w.table.schema; limit = w.table.limit }; takings = takings_of intakes; seen = xs; published = w.table.rows; held = w.held }) same.seen)
 
     pub same_loader : IsLoader new w
     same_loader = record {
-      balanced = subst Balanced (sym same_loading) is.balanced;
+      balanced = subst Balanced (sym looks_loading) is.balanced;
       whole = same.whole is.whole;
       alike = subst (All (λ (lane : LaneName). lane.schema ≡ w.table.schema)) (sym same.lanes) is.alike;
       many = ap length same.lanes ∙ is.many;
@@ -202,6 +223,9 @@ module _ (intakes : List Intake) (w : Written) (f : ℕ) (row : Entries) (new : 
   takes_lanes =
       ap lanes_of takes.now ∙ map-set_same (λ (i : Intake). i.lane) intakes f takes.before takes.after takes.at (ap (λ (i : Intake). i.lane) takes.takes.1)
 
+  takes_seen : seen_of new ≡ set (seen_of intakes) f (seen_at (seen_of new) f)
+  takes_seen = seen_same intakes new f takes.after (slice_get_within intakes f takes.before takes.at) takes.now
+
   pub takes_loads : Loads (loading intakes w) f row (loading new next)
   takes_loads =
       let after_is : taking takes.after ≡ with_taken (taking_at (takings_of intakes) f) row =
@@ -209,8 +233,9 @@ module _ (intakes : List Intake) (w : Written) (f : ℕ) (row : Entries) (new : 
       let takings : takings_of new ≡ set (takings_of intakes) f (with_taken (taking_at (takings_of intakes) f) row) =
       ap takings_of takes.now ∙ (map-set taking intakes f takes.after ∙ ap (set (takings_of intakes) f) after_is) in
       ap (loading new) held
-      ∙ (ap (λ (ts : List Taking). record { system = record { lanes = lanes_of new; schema = w.table.schema; limit = w.table.limit }; takings = ts; published = w.table.rows; held = w.held ++ (f, row) ∷ [] }) takings
-      ∙ ap (λ (ls : List LaneName). record { system = record { lanes = ls; schema = w.table.schema; limit = w.table.limit }; takings = set (takings_of intakes) f (with_taken (taking_at (takings_of intakes) f) row); published = w.table.rows; held = w.held ++ (f, row) ∷ [] }) takes_lanes)
+      ∙ (ap (λ (ts : List Taking). record { system = record { lanes = lanes_of new; schema = w.table.schema; limit = w.table.limit }; takings = ts; seen = seen_of new; published = w.table.rows; held = w.held ++ (f, row) ∷ [] }) takings
+      ∙ (ap (λ (ls : List LaneName). record { system = record { lanes = ls; schema = w.table.schema; limit = w.table.limit }; takings = set (takings_of intakes) f (with_taken (taking_at (takings_of intakes) f) row); seen = seen_of new; published = w.table.rows; held = w.held ++ (f, row) ∷ [] }) takes_lanes
+      ∙ ap (λ (xs : List (List Entries)). record { system = record { lanes = lanes_of intakes; schema = w.table.schema; limit = w.table.limit }; takings = set (takings_of intakes) f (with_taken (taking_at (takings_of intakes) f) row); seen = xs; published = w.table.rows; held = w.held ++ (f, row) ∷ [] }) takes_seen))
 
   pub takes_loader : IsLoader intakes w → IsLoader new next
   takes_loader is = record {
@@ -220,6 +245,13 @@ module _ (intakes : List Intake) (w : Written) (f : ℕ) (row : Entries) (new : 
         (subst (All (λ (lane : LaneName). lane.schema ≡ w.table.schema)) (sym takes_lanes) is.alike);
     many = ap length takes_lanes ∙ (is.many ∙ ap (λ (v : Written). v.table.feeders) (sym held));
   }
+
+-- a row is loaded from what was looked at
+pub looked_loads : (s t u : Loading) (f : ℕ) (row : Entries) → Looks s f t → Loads t f row u → Loads s f row u
+looked_loads s t u f row looks loads =
+    let from : Loads (record s { seen = set s.seen f (seen t f) }) f row u = subst (λ (v : Loading). Loads v f row u) looks loads in
+    from
+    ∙ ap (λ (xs : List (List Entries)). record s { takings = set s.takings f (with_taken (taking_at s.takings f) row); seen = xs; held = s.held ++ (f, row) ∷ [] }) (set-set s.seen f (seen t f) (seen u f))
 
 -- ---- a closing is told
 
@@ -240,14 +272,32 @@ module _ (intakes : List Intake) (w : Written) (f : ℕ) (closing : Sent) (new :
   settles_lanes =
       ap lanes_of settles.now ∙ map-set_same (λ (i : Intake). i.lane) intakes f settles.before settles.after settles.at (ap (λ (i : Intake). i.lane) settles.settles)
 
+  -- what is seen then is what was not taken
+  settles_rest : settles.after.seen ≡ drop (length (taken (loading intakes w) f)) closing.rows
+  settles_rest =
+      let after = settles.after in
+      let taken_is : after.taken ≡ taken (loading intakes w) f = ap (λ (i : Intake). i.taken) settles.settles ∙ ap (λ (t : Taking). t.taken) (sym (taking_at-of intakes f settles.before settles.at)) in
+      let told_is : after.told ≡ Some closing.rows = ap (λ (i : Intake). i.told) settles.settles in
+      let all : after.taken ++ after.seen ≡ closing.rows = subst (λ (o : Option (List Entries)). IfSome o (λ sent. after.taken ++ after.seen ≡ sent)) told_is settles.whole in
+      sym (drop-append_seam after.taken after.seen) ∙ (ap (drop (length after.taken)) all ∙ ap (λ (xs : List Entries). drop (length xs) closing.rows) taken_is)
+
+  settles_seen : seen_of new ≡ set (seen_of intakes) f (drop (length (taken (loading intakes w) f)) closing.rows)
+  settles_seen =
+      seen_set intakes new f settles.after (slice_get_within intakes f settles.before settles.at) settles.now ∙ ap (set (seen_of intakes) f) settles_rest
+
   pub settles_loading : loading new w ≡ settled_as (loading intakes w) f closing.rows
   settles_loading =
       let after_is : taking settles.after ≡ record { taken = taken (loading intakes w) f; told = Some closing.rows } =
       ap taking settles.settles ∙ ap (λ (t : Taking). record { taken = t.taken; told = Some closing.rows }) (sym (taking_at-of intakes f settles.before settles.at)) in
       let takings : takings_of new ≡ set (takings_of intakes) f (record { taken = taken (loading intakes w) f; told = Some closing.rows }) =
       ap takings_of settles.now ∙ (map-set taking intakes f settles.after ∙ ap (set (takings_of intakes) f) after_is) in
-      ap (λ (ts : List Taking). record { system = record { lanes = lanes_of new; schema = w.table.schema; limit = w.table.limit }; takings = ts; published = w.table.rows; held = w.held }) takings
-      ∙ ap (λ (ls : List LaneName). record { system = record { lanes = ls; schema = w.table.schema; limit = w.table.limit }; takings = set (takings_of intakes) f (record { taken = taken (loading intakes w) f; told = Some closing.rows }); published = w.table.rows; held = w.held }) settles_lanes
+      ap (λ (ts : List Taking). record { system = record { lanes = lanes_of new; schema = w.table.schema; limit = w.table.limit }; takings = ts; seen = seen_of new; published = w.table.rows; held = w.held }) takings
+      ∙ (ap (λ (ls : List LaneName). record { system = record { lanes = ls; schema = w.table.schema; limit = w.table.limit }; takings = set (takings_of intakes) f (record { taken = taken (loading intakes w) f; told = Some closing.rows }); seen = seen_of new; published = w.table.rows; held = w.held }) settles_lanes
+      ∙ ap (λ (xs : List (List Entries)). record { system = record { lanes = lanes_of intakes; schema = w.table.schema; limit = w.table.limit }; takings = set (takings_of intakes) f (record { taken = taken (loading intakes w) f; told = Some closing.rows }); seen = xs; published = w.table.rows; held = w.held }) settles_seen)
+
+  -- a second closing tells the same rows
+  pub settles_once : IfSome (told (loading intakes w) f) (λ sent. closing.rows ≡ sent)
+  settles_once = subst (λ (t : Taking). IfSome t.told (λ sent. closing.rows ≡ sent)) (sym (taking_at-of intakes f settles.before settles.at)) settles.once
 
   pub settles_loader : IsLoader intakes w → IsLoader new w
   settles_loader is = record {

@@ -1,12 +1,12 @@
 -- What is done with one lane of a list of them.
-use Rattle.std.specs.Prelude.{◌≡◌, ℕ, ◌<◌, ◌≤◌, ⊤, Bool, true, false, All, IsTrue, List, ◌∷◌, None, Some, Result, Ok, Err, length, slice_get, slice_set}
+use Rattle.std.specs.Prelude.{◌≡◌, ℕ, ◌<◌, ◌≤◌, Bool, true, false, All, IfSome, IsTrue, List, ◌∷◌, None, Some, Result, Ok, Err, length, slice_get, slice_set}
 use Rattle.bsi_table.specs.Columns.{fits}
 use Rattle.bsi_table.specs.Rows.{Entries}
 use Rattle.bsi_load.specs.declared.event.LoadRefused.{LoadRefused}
 use Rattle.bsi_load.specs.declared.event.LoadRefused.TheVariants as load
 use Rattle.bsi_rings.specs.declared.lane.Front.{Front}
 use Rattle.bsi_rings.specs.Rings.{lanes_of, with_seen, Intake, IsFront, IsWhole, Sent, Settles, TakesFirst}
-use Rattle.bsi_system.specs.Running.{taking_at, takings_of, IsSettled, MayLoad, Taking}
+use Rattle.bsi_system.specs.Running.{seen_at, seen_of, taking_at, takings_of, IsSettled, MayLoad, Taking}
 
 -- one lane was looked at
 pub record LooksAt (old : List Intake) (f : ℕ) (found : Front) (new : List Intake) : Type 0 where
@@ -33,12 +33,14 @@ pub record SettlesAt (old : List Intake) (f : ℕ) (closing : Sent) (new : List 
   pub at : slice_get old f ≡ Some before
   pub now : new ≡ slice_set old f after
   pub settles : Settles before closing after
+  pub once : IfSome before.told (λ sent. closing.rows ≡ sent)
   pub whole : IsWhole after
 
--- nothing was taken or told
-pub record AreUntaken (old new : List Intake) : Type 0 where
+-- nothing was taken or told; what is seen of one lane may be different
+pub record AreUntaken (old : List Intake) (f : ℕ) (new : List Intake) : Type 0 where
   pub takings : takings_of new ≡ takings_of old
   pub lanes : lanes_of new ≡ lanes_of old
+  pub seen : seen_of new ≡ slice_set (seen_of old) f (seen_at (seen_of new) f)
   pub whole : All IsWhole old → All IsWhole new
 
 -- the row is the first that is seen of a lane, and fits
@@ -48,12 +50,6 @@ pub record IsFirstAt (intakes : List Intake) (f : ℕ) (row : Entries) : Type 0 
   pub at : slice_get intakes f ≡ Some intake
   pub first : intake.seen ≡ row ∷ rest
   pub fitting : IsTrue (fits intake.lane.schema.columns row)
-
--- a load is refused for a full index or for memory only if a row stands first in the ring
-abbrev pub IsSeenWhere : List Intake → ℕ → LoadRefused → Type 0
-IsSeenWhere intakes f load.IndexFull = (row : Entries) × IsFirstAt intakes f row
-IsSeenWhere intakes f load.NoMemory = (row : Entries) × IsFirstAt intakes f row
-IsSeenWhere intakes f refused = ⊤
 
 -- the reply to the question for a copy of the first row, where the table is full or not
 abbrev pub IsFirstReply : List Taking → ℕ → Bool → Result Entries LoadRefused → Type 0

@@ -1,5 +1,5 @@
 -- What contracts see of a loader, and what its calls may answer.
-use Rattle.std.specs.Prelude.{◌≡◌, ℕ, ◌+◌, ◌<◌, ◌≤◌, All, IfSome, IsTrue, List, [], ◌∷◌, ◌++◌, Option, None, Some, Result, Ok, Err, length, map, slice_get, slice_index_or, slice_set}
+use Rattle.std.specs.Prelude.{◌≡◌, ℕ, ◌+◌, ◌<◌, ◌≤◌, ⊤, All, IfSome, IsTrue, List, [], ◌∷◌, ◌++◌, Option, None, Some, Result, Ok, Err, drop, length, map, slice_get, slice_index_or, slice_set}
 use mathlib.Core.List.{IsPrefix}
 use Rattle.bsi_table.specs.Columns.{fits, Declared}
 use Rattle.bsi_table.specs.Rows.{Entries, FedRow}
@@ -20,11 +20,12 @@ pub record Taking : Type 0 where
   pub taken : List Entries
   pub told : Option (List Entries)
 
--- what is seen of a loader: its system, what was taken of each feeder, the rows that are published, and those that are
--- held
+-- what is seen of a loader: its system, what was taken of each feeder, the rows that are seen in each ring and were not
+-- taken, the rows that are published, and those that are held
 pub record Loading : Type 0 where
   pub system : System
   pub takings : List Taking
+  pub seen : List (List Entries)
   pub published : List FedRow
   pub held : List FedRow
 
@@ -40,6 +41,12 @@ taken s f = (taking_at s.takings f).taken
 
 abbrev pub told : Loading → ℕ → Option (List Entries)
 told s f = (taking_at s.takings f).told
+
+abbrev pub seen_at : List (List Entries) → ℕ → List Entries
+seen_at seen f = slice_index_or seen f []
+
+abbrev pub seen : Loading → ℕ → List Entries
+seen s f = seen_at s.seen f
 
 -- ---- what always holds
 
@@ -63,11 +70,12 @@ pub record AlwaysHolds (s : Loading) : Type 0 where
 
 -- ---- the beginning
 
--- nothing was taken, told, published or held
+-- nothing was taken, told, seen, published or held
 abbrev pub new_loading : List LaneName → Declared → ℕ → Loading
 new_loading lanes schema limit = record {
   system = record { lanes = lanes; schema = schema; limit = limit };
   takings = map (λ lane. no_taking) lanes;
+  seen = map (λ lane. []) lanes;
   published = [];
   held = [];
 }
@@ -92,6 +100,16 @@ IsLoaderReply s f (Err load.Empty) = (f < length s.takings) × (told s f ≡ Non
 IsLoaderReply s f (Err load.IndexFull) = MayLoad s.takings f × (length s.published + length s.held ≡ s.system.limit)
 IsLoaderReply s f (Err load.NoMemory) = MayLoad s.takings f × (length s.published + length s.held < s.system.limit)
 
+-- a load is refused for a full table or for memory only where a row is seen in the feeder's ring
+abbrev pub IsSeenWhere : List Entries → LoadRefused → Type 0
+IsSeenWhere seen load.IndexFull = 0 < length seen
+IsSeenWhere seen load.NoMemory = 0 < length seen
+IsSeenWhere seen refused = ⊤
+
+-- what is seen in the feeder's ring may be different, and nothing else is
+abbrev pub Looks : Loading → ℕ → Loading → Type 0
+Looks s f t = t ≡ record s { seen = slice_set s.seen f (seen t f) }
+
 -- one row more was taken
 abbrev pub with_taken : Taking → Entries → Taking
 with_taken t row = record t { taken = t.taken ++ row ∷ [] }
@@ -101,6 +119,7 @@ abbrev pub Loads : Loading → ℕ → Entries → Loading → Type 0
 Loads s f row t =
     t ≡ record s {
       takings = slice_set s.takings f (with_taken (taking_at s.takings f) row);
+      seen = slice_set s.seen f (seen t f);
       held = s.held ++ (f, row) ∷ [];
     }
 
@@ -122,9 +141,12 @@ IsClosingOf closing system = IsLaneOf closing.number closing.lane system
 abbrev pub IsFeederOf : Sending → System → Type 0
 IsFeederOf feeder system = IsLaneOf feeder.number feeder.lane system
 
--- the closing of the feeder was told, which carried these rows
+-- the closing of the feeder was told, which carried these rows: those that were not taken are seen
 abbrev pub settled_as : Loading → ℕ → List Entries → Loading
-settled_as s f sent = record s { takings = slice_set s.takings f (record { taken = taken s f; told = Some sent }) }
+settled_as s f sent = record s {
+  takings = slice_set s.takings f (record { taken = taken s f; told = Some sent });
+  seen = slice_set s.seen f (drop (length (taken s f)) sent);
+}
 
 -- all held rows are published, in the order taken, after those that were
 abbrev pub published_all : Loading → Loading
@@ -138,10 +160,14 @@ taking i = record { taken = i.taken; told = i.told }
 abbrev pub takings_of : List Intake → List Taking
 takings_of intakes = map taking intakes
 
+abbrev pub seen_of : List Intake → List (List Entries)
+seen_of intakes = map (λ i. i.seen) intakes
+
 abbrev pub loading : List Intake → Written → Loading
 loading intakes w = record {
   system = record { lanes = lanes_of intakes; schema = w.table.schema; limit = w.table.limit };
   takings = takings_of intakes;
+  seen = seen_of intakes;
   published = w.table.rows;
   held = w.held;
 }

@@ -3,8 +3,8 @@
 ghost use Rattle.std.specs.Prelude.{◌≡◌, ◌<◌, Some, IfErr, IfOk, length, slice_get};
 ghost use Rattle.bsi_table.specs.Rows.{Entries};
 ghost use Rattle.bsi_rings.specs.Rings.{lanes_of};
-ghost use Rattle.bsi_system.specs.Running.{takings_of};
-ghost use Rattle.bsi_system.specs.Lanes.{AreUntaken, IsFirstAt, IsFirstReply, IsSeenWhere, LooksAt, SettlesAt, TakesAt};
+ghost use Rattle.bsi_system.specs.Running.{seen_at, seen_of, takings_of, IsSeenWhere};
+ghost use Rattle.bsi_system.specs.Lanes.{AreUntaken, IsFirstAt, IsFirstReply, LooksAt, SettlesAt, TakesAt};
 
 use bsi_load::LoadRefused;
 use bsi_rings::{Closing, Front, Lane};
@@ -13,9 +13,9 @@ use bsi_table::Row;
 /// Makes a copy of the row of a feeder that is to be taken next. The row stays in the ring.
 pub(crate) fn first_of(lanes: &mut Vec<Lane>, feeder: u32, full: bool) -> Result<Row, LoadRefused>
     ensures reply { IsFirstReply (takings_of lanes.old.items) feeder full result }
-    ensures same { AreUntaken lanes.old.items lanes.new.items }
+    ensures same { AreUntaken lanes.old.items feeder lanes.new.items }
     ensures first { IfOk result (IsFirstAt lanes.new.items feeder) }
-    ensures seen { IfErr result (IsSeenWhere lanes.new.items feeder) }
+    ensures seen { IfErr result (IsSeenWhere (seen_at (seen_of lanes.new.items) feeder)) }
 {
     let place = feeder as usize;
     if place >= lanes.len() {

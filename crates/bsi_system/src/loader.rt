@@ -4,8 +4,8 @@
 //! room for an operation before it is handed over, and a row that comes back could not go to the front of the ring
 //! again.
 
-ghost use Rattle.std.specs.Prelude.{◌≡◌, ◌≢◌, ◌+◌, ◌≤◌, IfErr, IfOk, OnErr, OnOk, length};
-ghost use Rattle.bsi_system.specs.Running.{published_all, settled_as, AlwaysHolds, IsClosingOf, IsLoaderReply, LoadsOne};
+ghost use Rattle.std.specs.Prelude.{◌≡◌, ◌≢◌, ◌+◌, ◌≤◌, IfErr, IfOk, IfSome, OnErr, OnOk, length};
+ghost use Rattle.bsi_system.specs.Running.{published_all, seen, settled_as, told, AlwaysHolds, IsClosingOf, IsLoaderReply, IsSeenWhere, LoadsOne, Looks};
 
 use crate::NoMemory;
 use crate::lanes::{first_of, settle_of, take_of};
@@ -29,7 +29,7 @@ pub struct Loader<B: Naming> {
 }
 
 // Clauses see which rings there are, the schema and the limit, what was taken of each feeder and what its closing told,
-// the rows that are published, and those that are held.
+// the rows that are seen in its ring, those that are published, and those that are held.
 impl<B: Naming> Model for Loader<B> {
     ghost use Rattle.bsi_system.specs.Running.{loading, IsLoader, Loading};
 
@@ -45,8 +45,9 @@ impl<B: Naming> Loader<B> {
     /// waits.
     pub fn load(&mut self, feeder: u32) -> Result<(), LoadRefused>
         ensures reply { IsLoaderReply self.old feeder result }
+        ensures seen { IfErr result (IsSeenWhere (seen self.new feeder)) }
         ensures loaded { OnOk result (LoadsOne self.old feeder self.new) }
-        ensures kept { OnErr result (self.new ≡ self.old) }
+        ensures kept { OnErr result (Looks self.old feeder self.new) }
         ensures system { self.new.system ≡ self.old.system }
         ensures always { AlwaysHolds self.new }
     {
@@ -59,8 +60,9 @@ impl<B: Naming> Loader<B> {
     /// call of its own, so that `load` can then show what always holds.
     fn load_row(&mut self, feeder: u32) -> Result<(), LoadRefused>
         ensures reply { IsLoaderReply self.old feeder result }
+        ensures seen { IfErr result (IsSeenWhere (seen self.new feeder)) }
         ensures loaded { OnOk result (LoadsOne self.old feeder self.new) }
-        ensures kept { OnErr result (self.new ≡ self.old) }
+        ensures kept { OnErr result (Looks self.old feeder self.new) }
     {
         let full = self.publisher.is_full();
         let row = first_of(&mut self.lanes, feeder, full)?;
@@ -77,6 +79,7 @@ impl<B: Naming> Loader<B> {
         requires { IsClosingOf closing self.old.system }
         ensures ok { OnOk result ((closing.number ≡ feeder)
             × (self.new ≡ settled_as self.old feeder closing.rows)) }
+        ensures once { OnOk result (IfSome (told self.old feeder) (λ sent. closing.rows ≡ sent)) }
         ensures wrong { IfErr result (λ e. (e ≡ SettleRefused.WrongClosing closing)
             × (closing.number ≢ feeder)) }
         ensures kept { OnErr result (self.new ≡ self.old) }
@@ -97,7 +100,8 @@ impl<B: Naming> Loader<B> {
     fn settle_lane(&mut self, feeder: u32, closing: Closing)
         requires closing { IsClosingOf closing self.old.system }
         requires feeder { closing.number ≡ feeder }
-        ensures { self.new ≡ settled_as self.old feeder closing.rows }
+        ensures settled { self.new ≡ settled_as self.old feeder closing.rows }
+        ensures once { IfSome (told self.old feeder) (λ sent. closing.rows ≡ sent) }
     {
         settle_of(&mut self.lanes, feeder, closing);
     }

@@ -1,6 +1,6 @@
 //! An analyst: a reader of the published table, who never goes back.
 
-ghost use Rattle.std.specs.Prelude.{◌≡◌, ◌⊎◌, IfSome, OnErr};
+ghost use Rattle.std.specs.Prelude.{◌≡◌, ◌⊎◌, IfSome, IsTrue, OnErr};
 ghost use mathlib.Core.List.{IsPrefix};
 ghost use Rattle.bsi_table.specs.Answers.{IsReply};
 
@@ -71,6 +71,29 @@ impl<B: Naming> Analyst<B> {
         let answer = reply.map_err(AnalystRefused::Ask)?;
         self.known = known;
         Ok(answer)
+    }
+
+    /// Answers a query over exactly the list that was told. It answers `Gone` also if it knows another list by then, as
+    /// it does once more rows were published. It never waits.
+    pub fn ask_told(&mut self, told: &Told<B>, query: &Query) -> Result<Answer, AnalystRefused>
+        ensures reply { IsAnalystReply B.about.schema told.now query.now result }
+        ensures known { IsPrefix self.old self.new }
+    {
+        let answer = self.ask(query)?;
+        if !self.knows(told) {
+            return Err(AnalystRefused::Gone);
+        }
+        Ok(answer)
+    }
+
+    /// Returns whether the list that was told is the longest list that the analyst knows.
+    fn knows(&self, told: &Told<B>) -> bool
+        ensures { IsTrue result → self.now ≡ told.now }
+    {
+        let told = told.known();
+        // The proof takes from this that, of two lists of one length, each begins with the other.
+        self.known.meet(told);
+        self.known.len() == told.len()
     }
 
     /// Learns of a list: each later answer is over a list that begins with it. It allocates no memory.

@@ -2,10 +2,10 @@ use Rattle.std.proofs.Common.{rules}
 use Rattle.std.specs.Prelude.{IfErr, IfOk}
 use Rattle.bsi_load.specs.declared.event.LoadRefused.TheVariants.{NoMemory}
 use Rattle.bsi_rings.specs.declared.lane.Front.TheVariants.{Row, Empty, Ended}
-use Rattle.bsi_system.specs.Lanes.{IsFirstAt, IsFirstReply, IsSeenWhere}
-use Rattle.bsi_system.specs.Running.{takings_of}
+use Rattle.bsi_system.specs.Lanes.{IsFirstAt, IsFirstReply}
+use Rattle.bsi_system.specs.Running.{seen_at, seen_of, takings_of, IsSeenWhere}
 use Rattle.bsi_system.proofs.Mapped.{by_mapped}
-use Rattle.bsi_system.proofs.Takings.{first_at, front_at, looks_ended, looks_same, may_load}
+use Rattle.bsi_system.proofs.Takings.{first_at, front_at, looks_ended, looks_same, may_load, seen_first}
 use Rattle.bsi_system.proofs.lanes.first_of.Goals as goal
 
 pub returns-in-Empty-clause-same : goal.returns-in-Empty-clause-same
@@ -39,10 +39,11 @@ returns-clause-first c =
     (λ row first. first_at c.args.lanes.now.items c.args.feeder now c.in-Row.ensures c.index.result.now row c.index.ensures first) tt
 
 pub returns-then-full-clause-seen : goal.returns-then-full-clause-seen
-returns-then-full-clause-seen c = front_at c.args.lanes.now.items c.args.feeder c.front_of.new.lanes.items c.in-Row.ensures
+returns-then-full-clause-seen c =
+    seen_first c.front_of.new.lanes.items c.args.feeder (front_at c.args.lanes.now.items c.args.feeder c.front_of.new.lanes.items c.in-Row.ensures)
 
 pub returns-clause-seen : goal.returns-clause-seen
 returns-clause-seen c =
     let now = c.front_of.new.lanes.items in
-    by_mapped (λ reply. IfErr reply (IsSeenWhere now c.args.feeder)) c.copy_first.result c.map_err.result NoMemory (λ e f learnt. search rules) c.map_err.ensures.cases c.copy_first.ensures
-    (λ row first. tt) (front_at c.args.lanes.now.items c.args.feeder now c.in-Row.ensures)
+    by_mapped (λ reply. IfErr reply (IsSeenWhere (seen_at (seen_of now) c.args.feeder))) c.copy_first.result c.map_err.result NoMemory (λ e f learnt. search rules) c.map_err.ensures.cases c.copy_first.ensures
+    (λ row first. tt) (seen_first now c.args.feeder (front_at c.args.lanes.now.items c.args.feeder now c.in-Row.ensures))
