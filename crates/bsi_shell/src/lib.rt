@@ -6,7 +6,7 @@ mod paths;
 mod request;
 mod words;
 
-pub use bsi_files::{FeedEnd, FilesFault, Gate, Go, Which, feed, run_files};
+pub use bsi_files::{FeedEnd, FilesFault, Gate, Go, Stopping, Which, feed, run_files};
 pub use bsi_system::{
     Analyst, AnalystRefused, Closing, Feeder, History, LoadRefused, Loader, Naming, NoMemory,
     OpenRefused, SettleRefused, SubmitRefused, System, Told, open,

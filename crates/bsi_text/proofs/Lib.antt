@@ -6,7 +6,6 @@ mod Left
 mod Named
 mod Pasts
 mod Standing
-mod Starting
 mod Taking
 mod Turns
 mod Unique

@@ -1,14 +1,12 @@
 //! The state of a script: its setup, and from `begin` on its machine.
 
-ghost use Rattle.std.specs.Prelude.{◌≡◌, ◌++◌, ◌∷◌, [], IfOk, OnOk};
+ghost use Rattle.std.specs.Prelude.{◌≡◌, ◌++◌, [], OnOk};
 ghost use Rattle.csv.specs.Records.{fields_of};
-ghost use Rattle.bsi_load.specs.Runs.{shown_after};
-ghost use Rattle.bsi_load.specs.Shown.{IsLawful};
 ghost use Rattle.bsi_records.specs.Lines.{done_line};
 ghost use Rattle.bsi_text.specs.Scripts.{IsTurn, Running};
 
 use crate::NoMemory;
-use bsi_load::{Core, Event, Reply};
+use bsi_load::Core;
 use bsi_records::{Setup, is_begin, read_event, write_bad, write_reply};
 use csv::ByteRecord;
 use std::alloc::Global;
@@ -87,17 +85,5 @@ fn run(
     let Some(event) = read_event(alloc, core.schema(), fields)? else {
         return write_bad(line);
     };
-    let reply = step(alloc, core, event)?;
-    write_reply(&reply, line)
-}
-
-/// Carries out one event, and returns its reply.
-fn step(alloc: Global, core: &mut Core, event: Event) -> Result<Reply, NoMemory>
-    ensures lawful { IfOk result (IsLawful core.old event) }
-    ensures after { IfOk result (λ reply. core.new ≡ shown_after core.old ((event, reply) ∷ [])) }
-{
-    let mut events = Vec::with_capacity(alloc, 1)?;
-    events.push_reserved(event);
-    let mut replies = core.run(events).map_err(|_| NoMemory)?;
-    Ok(replies.remove(0))
+    write_reply(&core.step(event), line)
 }
