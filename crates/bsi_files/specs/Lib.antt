@@ -1,2 +1,13 @@
+pub mod AskLines
+pub mod Begun
+pub mod Ends
 pub mod Faults
+pub mod Feds
 pub mod Feeding
+pub mod Matching
+pub mod Mixes
+pub mod RowFiles
+pub mod Runs
+pub mod SchemaFiles
+pub mod Takings
+pub mod Writing

@@ -1,94 +1,181 @@
 //! The lines of a run: what each feeder read, and the answers to the questions.
 
-ghost use Rattle.std.specs.Prelude.{◌≡◌, IfErr, true};
+ghost use Rattle.std.specs.Prelude.{◌≡◌, ◌≤◌, [], List, None, IfErr, IfOk, IfSome, OnErr, OnOk, length, map, true};
+ghost use Rattle.std.specs.Io.KnownBytes.{Appends};
+ghost use Rattle.std.specs.List.{concat};
+ghost use Rattle.csv.specs.Reading.{reader_state, source_of};
+ghost use Rattle.csv.specs.Records.{fields_of};
+ghost use Rattle.csv.specs.declared.parser.State.TheVariants as st;
+ghost use Rattle.bsi_records.specs.Lines.{fed_line};
+ghost use Rattle.bsi_text.specs.Texts.{FromText};
+ghost use Rattle.bsi_text.specs.Waiting.{IsCut};
+ghost use Rattle.bsi_files.specs.Feds.{fed_counts};
 ghost use Rattle.bsi_files.specs.Faults.{is_late};
+ghost use Rattle.bsi_table.specs.Answers.{IsAnswer};
+ghost use Rattle.bsi_table.specs.Rows.{FedRow};
+ghost use Rattle.bsi_table.specs.declared.query.Query.{Query};
+ghost use Rattle.bsi_files.specs.AskLines.{IsAskLine, IsShownAnswer, IsShownReply};
+ghost use Rattle.bsi_files.specs.Matching.{AreMatched};
+ghost use Rattle.bsi_files.specs.Runs.{fed_lines, AreLines};
+ghost use Rattle.bsi_files.specs.Writing.{WritesAll, WritesPart};
 
 use crate::headers::file_number;
 use crate::loading::Fed;
-use crate::{FilesFault, Which};
+use crate::writing::write_bytes;
+use crate::{FilesFault, NoMemory, Which};
 use bsi_load::Reply;
-use bsi_system::{Analyst, AnalystRefused, Naming};
-use bsi_table::{Answer, Query, Schema};
+use bsi_system::{Analyst, AnalystRefused, Naming, Told};
+use bsi_table::{Answer, AskError, Query, Schema};
 use bsi_text::{RecordSource, read_query, write_bad, write_fed, write_reply};
 use csv::ByteRecord;
 use std::alloc::Global;
 use std::io::{Read, Write};
 
-/// Writes a line for each feeder, and then a line for each record of the text: the answer to its question, or that it
-/// is bad.
+/// Writes a line for each feeder, and then a line for each record of the text: the answer to its question over the rows
+/// that were told, or that it is bad.
 pub(crate) fn answer_all<B: Naming, A: Read + Drop, W: Write>(
     alloc: Global,
     schema: &Schema,
     analyst: &mut Analyst<B>,
+    told: &Told<B>,
     fed: &[Fed],
     asks: A,
     writer: &mut W,
 ) -> Result<(), FilesFault>
-    ensures { IfErr result (λ fault. is_late fault ≡ true) }
+    requires schema { schema.now ≡ B.about.schema }
+    requires few { length fed.now ≤ 64 }
+    ensures late { IfErr result (λ fault. is_late fault ≡ true) }
+    ensures ok { OnOk result (IfSome (A.remaining asks) (λ bytes.
+        WritesAll (AreLines B.about.schema told.now (map fed_counts fed.now)) bytes
+        (W.contents writer.old) (W.contents writer.new))) }
+    ensures part { OnErr result (IfSome (A.remaining asks) (λ bytes.
+        WritesPart (AreLines B.about.schema told.now (map fed_counts fed.now)) bytes
+        (W.contents writer.old) (W.contents writer.new))) }
 {
     let mut line = Vec::new(alloc);
     tell_all(fed, &mut line, writer)?;
     let mut records = RecordSource::new(alloc, asks);
-    let mut fields = ByteRecord::new(alloc);
-    // No text has so many records. The bound lets the proof see that the loop ends.
-    'records: for _ in 0..u64::MAX {
-        let read = records.next_record(&mut fields);
-        if !read.map_err(|fault| FilesFault::of_text(Which::AsksFile, fault))? {
-            break;
-        }
-        line.clear();
-        answer(alloc, schema, analyst, &fields, &mut line)?;
-        writer
-            .write_all(line.as_slice())
-            .map_err(|_| FilesFault::Write)?;
-    }
-    Ok(())
+    answer_records(
+        alloc,
+        schema,
+        analyst,
+        told,
+        &mut records,
+        &mut line,
+        writer,
+    )
 }
 
 /// Writes a line for each feeder.
 fn tell_all<W: Write>(fed: &[Fed], line: &mut Vec<u8>, writer: &mut W) -> Result<(), FilesFault>
-    ensures { IfErr result (λ fault. is_late fault ≡ true) }
+    requires { length fed.now ≤ 64 }
+    ensures late { IfErr result (λ fault. is_late fault ≡ true) }
+    ensures ok { OnOk result (Appends (W.contents writer.old) (W.contents writer.new)
+        (concat (fed_lines 0 (map fed_counts fed.now)))) }
+    ensures part { OnErr result (IsCut (W.contents writer.old) (W.contents writer.new)
+        (concat (fed_lines 0 (map fed_counts fed.now)))) }
 {
-    'feeders: for (feeder, end) in fed.iter().enumerate() {
-        line.clear();
-        write_fed(file_number(feeder), end.accepted, end.bad, line)?;
-        writer
-            .write_all(line.as_slice())
-            .map_err(|_| FilesFault::Write)?;
+    'feeders: for feeder in 0..fed.len() {
+        tell(file_number(feeder), &fed[feeder], line)?;
+        write_bytes(writer, line.as_slice())?;
     }
     Ok(())
 }
 
-/// Appends the line that answers a record.
+/// Makes `line` the line of a feeder.
+fn tell(feeder: u32, end: &Fed, line: &mut Vec<u8>) -> Result<(), NoMemory>
+    ensures { OnOk result (line.new.items ≡ fed_line feeder end.now.accepted end.now.bad) }
+{
+    line.clear();
+    write_fed(feeder, end.accepted, end.bad, line)
+}
+
+/// Writes a line for each record of a text of which no record was read.
+fn answer_records<B: Naming, A: Read + Drop, W: Write>(
+    alloc: Global,
+    schema: &Schema,
+    analyst: &mut Analyst<B>,
+    told: &Told<B>,
+    records: &mut RecordSource<A>,
+    line: &mut Vec<u8>,
+    writer: &mut W,
+) -> Result<(), FilesFault>
+    requires schema { schema.now ≡ B.about.schema }
+    requires fresh { records.old.end ≡ None }
+    requires start { reader_state records.old.input ≡ st.StartRecord }
+    ensures late { IfErr result (λ fault. is_late fault ≡ true) }
+    ensures ok { OnOk result (FromText (source_of A.remaining records.old.input) (λ bytes.
+        WritesAll (AreMatched (IsAskLine B.about.schema told.now)) bytes
+        (W.contents writer.old) (W.contents writer.new))) }
+    ensures part { OnErr result (FromText (source_of A.remaining records.old.input) (λ bytes.
+        WritesPart (AreMatched (IsAskLine B.about.schema told.now)) bytes
+        (W.contents writer.old) (W.contents writer.new))) }
+{
+    let mut fields = ByteRecord::new(alloc);
+    // No text has so many records. The bound lets the proof see that the loop ends.
+    'records: for _ in 0..u64::MAX {
+        match records.next_record(&mut fields) {
+            Ok(true) => {}
+            Ok(false) => return Ok(()),
+            Err(fault) => return Err(FilesFault::of_text(Which::AsksFile, fault)),
+        }
+        answer(alloc, schema, analyst, told, &fields, line)?;
+        write_bytes(writer, line.as_slice())?;
+    }
+    // No text has so many records, so the loop has returned.
+    Err(FilesFault::TooLong(Which::AsksFile))
+}
+
+/// Makes `line` the line that answers a record.
 fn answer<B: Naming>(
     alloc: Global,
     schema: &Schema,
     analyst: &mut Analyst<B>,
+    told: &Told<B>,
     fields: &ByteRecord,
     line: &mut Vec<u8>,
 ) -> Result<(), FilesFault>
-    ensures { IfErr result (λ fault. is_late fault ≡ true) }
+    requires { schema.now ≡ B.about.schema }
+    ensures late { IfErr result (λ fault. is_late fault ≡ true) }
+    ensures line { OnOk result
+        (IsAskLine B.about.schema told.now (fields_of fields.now) line.new.items) }
 {
+    line.clear();
     let Some(query) = read_query(alloc, schema, fields)? else {
         write_bad(line)?;
         return Ok(());
     };
-    let reply = ask(analyst, &query)?;
-    write_reply(&reply, line)?;
+    let reply = ask(analyst, told, &query)?;
+    write_reply(&Reply::Answered(reply), line)?;
     Ok(())
 }
 
 /// Asks the analyst. It answers rows in order of feeder, and then of their numbers.
-fn ask<B: Naming>(analyst: &mut Analyst<B>, query: &Query) -> Result<Reply, FilesFault>
-    ensures { IfErr result (λ fault. is_late fault ≡ true) }
+fn ask<B: Naming>(
+    analyst: &mut Analyst<B>,
+    told: &Told<B>,
+    query: &Query,
+) -> Result<Result<Answer, AskError>, FilesFault>
+    ensures late { IfErr result (λ fault. is_late fault ≡ true) }
+    ensures reply { IfOk result (IsShownReply B.about.schema told.now query.now) }
 {
-    match analyst.ask(query) {
-        Ok(Answer::Rows(mut rows)) => {
-            rows.sort_unstable();
-            Ok(Reply::Answered(Ok(Answer::Rows(rows))))
-        }
-        Ok(answer) => Ok(Reply::Answered(Ok(answer))),
-        Err(AnalystRefused::Ask(refused)) => Ok(Reply::Answered(Err(refused))),
+    match analyst.ask_told(told, query) {
+        Ok(answer) => Ok(Ok(arranged(answer))),
+        Err(AnalystRefused::Ask(refused)) => Ok(Err(refused)),
         Err(AnalystRefused::Gone) => Err(FilesFault::Readers),
+    }
+}
+
+/// Arranges the rows of an answer in order of feeder, and then of their numbers.
+fn arranged(answer: Answer) -> Answer
+    ensures { (query : Query) → (rows : List FedRow) → IsAnswer query rows answer →
+        IsShownAnswer query rows result }
+{
+    match answer {
+        Answer::Rows(mut rows) => {
+            rows.sort_unstable();
+            Answer::Rows(rows)
+        }
+        other => other,
     }
 }

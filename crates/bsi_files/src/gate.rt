@@ -26,3 +26,22 @@ impl Gate for Go {
         true
     }
 }
+
+/// Whether the gate of a run may stop a feeder. Where it says that it never does and a feeder was stopped, a run
+/// answers a fault.
+pub trait Stopping {
+    ghost use Rattle.std.specs.Prelude.{Bool};
+
+    /// Whether the gate may stop a feeder.
+    const STOPS: bool;
+
+    ghost STOPS: { Bool };
+}
+
+impl Stopping for Go {
+    ghost use Rattle.std.specs.Prelude.{false};
+
+    const STOPS: bool = false;
+
+    ghost STOPS = { false };
+}

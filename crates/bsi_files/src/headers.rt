@@ -1,6 +1,8 @@
 //! The headers of the row files, which are read before any row is.
 
 ghost use Rattle.std.specs.Prelude.{◌≡◌, ◌<◌, IfErr, IfOk, length, true};
+ghost use Rattle.bsi_files.specs.Begun.{Begins};
+ghost use Rattle.bsi_files.specs.Matching.{AreMatched};
 ghost use Rattle.bsi_files.specs.Faults.{is_early};
 
 use crate::{FilesFault, NoMemory};
@@ -25,18 +27,35 @@ pub(crate) fn begin_all<I: Read + Drop>(
     schema: &Schema,
     readers: Vec<I>,
 ) -> Result<Vec<RowSource<I>>, FilesFault>
-    ensures { IfErr result (λ fault. is_early fault ≡ true) }
+    ensures early { IfErr result (λ fault. is_early fault ≡ true) }
+    ensures begun { IfOk result (λ sources.
+        AreMatched (Begins I.remaining schema.now) readers.items sources.items) }
 {
     let mut sources = Vec::with_capacity(alloc, readers.len())?;
-    'files: for (file, reader) in readers.into_iter().enumerate() {
-        let number = file_number(file);
-        let begun = RowSource::begin(alloc, schema, reader);
-        let source = begun.map_err(|fault| FilesFault::Source(number, fault))?;
+    'files: for reader in readers {
+        let number = file_number(sources.len());
+        let source = begin(alloc, schema, reader, number)?;
         if sources.push(source).is_err() {
             return Err(FilesFault::NoMemory);
         }
     }
     Ok(sources)
+}
+
+/// Reads the header of the file of this number, and makes the source of its rows.
+fn begin<I: Read + Drop>(
+    alloc: Global,
+    schema: &Schema,
+    reader: I,
+    number: u32,
+) -> Result<RowSource<I>, FilesFault>
+    ensures early { IfErr result (λ fault. is_early fault ≡ true) }
+    ensures begun { IfOk result (Begins I.remaining schema.now reader) }
+{
+    match RowSource::begin(alloc, schema, reader) {
+        Ok(source) => Ok(source),
+        Err(fault) => Err(FilesFault::Source(number, fault)),
+    }
 }
 
 /// Returns the capacity of each file's ring.

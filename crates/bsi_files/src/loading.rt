@@ -4,15 +4,17 @@
 //! long, and publishes from 4,096 held rows on, so that few stand beside the two copies of the table. Such a publish
 //! may be refused memory: the rows stay held. Nobody asks before the last one.
 
-ghost use Rattle.std.specs.Prelude.{◌≡◌, All, IfErr, IfSome, true};
-ghost use Rattle.bsi_system.specs.Running.{IsClosingOf};
+ghost use Rattle.std.specs.Prelude.{◌≡◌, [], Bool, All, IfErr, IfOk, IfSome, None, OnOk, Ok, false, true};
+ghost use Rattle.bsi_system.specs.Running.{published_all, taking_at, AlwaysHolds, IsClosingOf};
+ghost use Rattle.bsi_files.specs.Ends.{AreClosings};
+ghost use Rattle.bsi_files.specs.Takings.{all_taken, AreLoaded, IsDrained, IsFine, IsKept, IsLoaded, KeepsOthers, TakesOnlyOf};
 ghost use Rattle.bsi_files.specs.Faults.{is_early};
 
 use crate::headers::file_number;
 use crate::pause::Pause;
 use crate::threads::Watch;
 use crate::{FeedEnd, FilesFault, Gate};
-use bsi_system::{Closing, LoadRefused, Loader, Naming};
+use bsi_system::{Closing, LoadRefused, Loader, Naming, Told};
 use bsi_text::SourceFault;
 use std::sync::Wait;
 
@@ -27,6 +29,7 @@ const MIN_HELD_TO_PUBLISH: u64 = 4_096;
 pub(crate) struct Fed {
     pub(crate) accepted: u64,
     pub(crate) bad: u64,
+    stopped: bool,
     fault: Option<SourceFault>,
     closed: bool,
 }
@@ -95,6 +98,8 @@ fn load_some<B: Naming>(loader: &mut Loader<B>, feeder: u32) -> Result<bool, Fil
 /// Takes the next row of a feeder, and returns whether there was one.
 fn load_one<B: Naming>(loader: &mut Loader<B>, feeder: u32) -> Result<bool, FilesFault>
     ensures system { loader.new.system ≡ loader.old.system }
+    ensures takes { TakesOnlyOf feeder loader.old.takings loader.new.takings }
+    ensures drained { result ≡ Ok false → IsDrained feeder loader.new.takings }
     ensures early { IfErr result (λ fault. is_early fault ≡ true) }
 {
     match loader.load(feeder) {
@@ -108,7 +113,8 @@ fn load_one<B: Naming>(loader: &mut Loader<B>, feeder: u32) -> Result<bool, File
 /// Publishes the held rows if there are many, so that few are kept beside the two copies of the table. It leaves a
 /// refusal to a later publish.
 fn publish_many<B: Naming, R: Wait>(rt: &R, loader: &mut Loader<B>)
-    ensures { loader.new.system ≡ loader.old.system }
+    ensures system { loader.new.system ≡ loader.old.system }
+    ensures takings { loader.new.takings ≡ loader.old.takings }
 {
     if loader.counts().1 >= MIN_HELD_TO_PUBLISH {
         // After a refusal the rows are still held, and a later publish shows them.
@@ -116,25 +122,40 @@ fn publish_many<B: Naming, R: Wait>(rt: &R, loader: &mut Loader<B>)
     }
 }
 
-/// Tells the loader of each closing, in the order of the feeders, and takes all rows that are left. Then it looks for a
-/// fault of a source, and for a feeder that left no closing.
+/// Publishes all rows that are held, and tells which rows are published then.
+pub(crate) fn publish_rest<B: Naming, R: Wait>(
+    rt: &R,
+    loader: &mut Loader<B>,
+) -> Result<Told<B>, FilesFault>
+    ensures early { IfErr result (λ fault. is_early fault ≡ true) }
+    ensures shown { OnOk result (loader.new ≡ published_all loader.old) }
+    ensures told { IfOk result (λ told. told ≡ loader.new.published) }
+    ensures always { AlwaysHolds loader.new }
+{
+    loader.publish(rt)?;
+    Ok(loader.tell())
+}
+
+/// Tells the loader of each closing, in the order of the feeders, and takes all rows that are left.
 pub(crate) fn load_all<B: Naming, R: Wait>(
     rt: &R,
     loader: &mut Loader<B>,
     ends: Vec<FeedEnd>,
     fed: &mut Vec<Fed>,
 ) -> Result<(), FilesFault>
-    requires { All (λ end. IfSome end.closing (λ closing. IsClosingOf closing loader.old.system))
-        ends.items }
+    requires closings { AreClosings loader.old.system 0 ends.items }
+    requires none { fed.old.items ≡ [] }
     ensures system { loader.new.system ≡ loader.old.system }
     ensures early { IfErr result (λ fault. is_early fault ≡ true) }
+    ensures loaded { OnOk result (AreLoaded loader.new.takings 0 ends.items fed.new.items) }
 {
     'ends: for end in ends {
         let left = load_end(rt, loader, end)?;
-        fed.push(left).map_err(|_| FilesFault::NoMemory)?;
+        if fed.push(left).is_err() {
+            return Err(FilesFault::NoMemory);
+        }
     }
-    check_sources(fed.as_slice())?;
-    check_closings(fed.as_slice())
+    Ok(())
 }
 
 /// Takes all rows that a feeder left.
@@ -146,11 +167,17 @@ fn load_end<B: Naming, R: Wait>(
     requires { IfSome end.closing (λ closing. IsClosingOf closing loader.old.system) }
     ensures system { loader.new.system ≡ loader.old.system }
     ensures early { IfErr result (λ fault. is_early fault ≡ true) }
+    ensures kept { IfOk result (IsKept end) }
+    ensures taken { OnOk result (IfSome end.closing
+        (λ closing. taking_at loader.new.takings closing.number ≡ all_taken closing.rows)) }
+    ensures others { OnOk result (IfSome end.closing
+        (λ closing. KeepsOthers closing.number loader.old.takings loader.new.takings)) }
+    ensures same { OnOk result (end.closing ≡ None → loader.new.takings ≡ loader.old.takings) }
 {
     let FeedEnd {
         accepted,
         bad,
-        stopped: _,
+        stopped,
         fault,
         closing,
     } = end;
@@ -161,6 +188,7 @@ fn load_end<B: Naming, R: Wait>(
     Ok(Fed {
         accepted,
         bad,
+        stopped,
         fault,
         closed,
     })
@@ -175,10 +203,24 @@ fn settle<B: Naming, R: Wait>(
     requires { IsClosingOf closing loader.old.system }
     ensures system { loader.new.system ≡ loader.old.system }
     ensures early { IfErr result (λ fault. is_early fault ≡ true) }
+    ensures taken { OnOk result
+        (taking_at loader.new.takings closing.number ≡ all_taken closing.rows) }
+    ensures others { OnOk result
+        (KeepsOthers closing.number loader.old.takings loader.new.takings) }
 {
     let feeder = closing.feeder();
     // A closing is refused only for another feeder's number, and this number is its own.
     let _ = loader.settle(feeder, closing);
+    drain(rt, loader, feeder)
+}
+
+/// Takes the rows that are left of a feeder whose closing was told.
+fn drain<B: Naming, R: Wait>(rt: &R, loader: &mut Loader<B>, feeder: u32) -> Result<(), FilesFault>
+    ensures system { loader.new.system ≡ loader.old.system }
+    ensures early { IfErr result (λ fault. is_early fault ≡ true) }
+    ensures takes { TakesOnlyOf feeder loader.old.takings loader.new.takings }
+    ensures drained { OnOk result (IsDrained feeder loader.new.takings) }
+{
     'rows: for _ in rt.forever() {
         if !load_one(loader, feeder)? {
             return Ok(());
@@ -189,9 +231,24 @@ fn settle<B: Naming, R: Wait>(
     unreachable!()
 }
 
+/// Looks for a fault of a source, then for a feeder that left no closing and, where no gate stops a feeder, for one
+/// that was stopped.
+pub(crate) fn check_all(fed: &[Fed], stops: bool) -> Result<(), FilesFault>
+    ensures early { IfErr result (λ fault. is_early fault ≡ true) }
+    ensures fine { OnOk result (All (IsFine stops) fed.now) }
+{
+    check_sources(fed)?;
+    check_closings(fed)?;
+    if !stops {
+        check_going(fed)?;
+    }
+    Ok(())
+}
+
 /// Looks for the first file whose source answered a fault, and answers this fault.
 fn check_sources(fed: &[Fed]) -> Result<(), FilesFault>
-    ensures { IfErr result (λ fault. is_early fault ≡ true) }
+    ensures early { IfErr result (λ fault. is_early fault ≡ true) }
+    ensures fine { OnOk result (All (λ end. end.fault ≡ None) fed.now) }
 {
     'files: for (file, end) in fed.iter().enumerate() {
         if let Some(fault) = end.fault {
@@ -203,10 +260,24 @@ fn check_sources(fed: &[Fed]) -> Result<(), FilesFault>
 
 /// Looks for the first feeder that left no closing, and answers this fault.
 fn check_closings(fed: &[Fed]) -> Result<(), FilesFault>
-    ensures { IfErr result (λ fault. is_early fault ≡ true) }
+    ensures early { IfErr result (λ fault. is_early fault ≡ true) }
+    ensures fine { OnOk result (All (λ end. end.closed ≡ true) fed.now) }
 {
     'files: for (file, end) in fed.iter().enumerate() {
         if !end.closed {
+            return Err(FilesFault::NotClosed(file_number(file)));
+        }
+    }
+    Ok(())
+}
+
+/// Looks for the first feeder that was stopped, though no gate stops one, and answers this fault.
+fn check_going(fed: &[Fed]) -> Result<(), FilesFault>
+    ensures early { IfErr result (λ fault. is_early fault ≡ true) }
+    ensures fine { OnOk result (All (λ end. end.stopped ≡ false) fed.now) }
+{
+    'files: for (file, end) in fed.iter().enumerate() {
+        if end.stopped {
             return Err(FilesFault::NotClosed(file_number(file)));
         }
     }

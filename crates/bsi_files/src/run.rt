@@ -1,19 +1,22 @@
 //! A run over row files, from their headers to the answers.
 
-ghost use Rattle.std.specs.Prelude.{◌≡◌, ◌≢◌, ◌<◌, ◌↔◌, [], All, Err, IfErr, false, length, true};
+ghost use Rattle.std.specs.Prelude.{◌≡◌, ◌≢◌, ◌<◌, ◌≤◌, ◌⊎◌, ◌↔◌, [], Err, IfErr, IfOk, IfSome, OnErr, OnOk, false, length, map, true};
 ghost use Rattle.bsi_table.specs.Table.{no_rows};
-ghost use Rattle.bsi_system.specs.Running.{IsFeederOf};
+ghost use Rattle.bsi_files.specs.Ends.{AreReady};
+ghost use Rattle.bsi_files.specs.Feds.{HasRun, IsAllFed};
 ghost use Rattle.bsi_files.specs.Faults.{is_early, is_late};
+ghost use Rattle.bsi_files.specs.Runs.{IsRun};
+ghost use Rattle.bsi_files.specs.Writing.{WhereKnown, WritesAll, WritesPart};
 
 use crate::asks::answer_all;
 use crate::headers::{begin_all, capacities, file_number};
-use crate::loading::{Fed, load_all, load_beside};
+use crate::loading::{Fed, check_all, load_all, load_beside, publish_rest};
 use crate::tables::read_table;
 use crate::threads::{Watch, join_all, start_all};
-use crate::{FilesFault, Gate};
-use bsi_system::{Analyst, Feeder, History, Loader, Naming, OpenRefused, System, open};
+use crate::{FilesFault, Gate, Stopping};
+use bsi_system::{Analyst, Feeder, History, Loader, Naming, OpenRefused, System, Told, open};
 use bsi_table::{MAX_FEEDERS, Schema};
-use bsi_text::RowSource;
+use bsi_text::{RowSource, laws};
 use std::alloc::Global;
 use std::io::{Read, Write};
 use std::marker::Brand;
@@ -30,25 +33,39 @@ use std::thread::{Scope, Threads};
 ///
 /// It looks for faults in this order: the number of files; the schema file; the header of each row file; a reader of
 /// the table and a thread for each feeder; once the threads have ended the row limit, then the first row file that
-/// gives no more rows, then the first feeder without a closing; and, while it writes answers, the questions, a reader
-/// and the writer. Refused memory is answered where it is met. It keeps two copies of the table, and beside them some
-/// thousand rows.
+/// gives no more rows, then the first feeder without a closing, or that was stopped though its gate stops none; and,
+/// while it writes answers, the questions, a reader and the writer. Refused memory is answered where it is met. It keeps
+/// two copies of the table, and beside them some thousand rows.
 pub fn run_files<
     R: Threads + Wait + AllocGlobal + Sync,
     S: Read + Drop,
     A: Read + Drop,
     I: Read + Drop + Send,
     W: Write,
-    G: Gate + Sync,
+    G: Gate + Stopping + Sync,
 >(rt: &R, schema: S, asks: A, sources: Vec<I>, writer: &mut W, gate: &G) -> Result<(), FilesFault>
     requires { 0 < length sources.items }
     ensures files { (result ≡ Err FilesFault.TooManyFiles) ↔ (64 < length sources.items) }
     ensures quiet { IfErr result (λ fault. is_late fault ≡ false →
         W.contents writer.new ≡ W.contents writer.old) }
+
+    // From bytes to bytes, where no gate stops a feeder.
+    ensures lines { OnOk result (G.STOPS ≡ false →
+        WhereKnown (S.remaining schema) (map I.remaining sources.items) (A.remaining asks)
+        (λ declared texts asked. WritesAll (IsRun declared texts) asked
+        (W.contents writer.old) (W.contents writer.new))) }
+    ensures part { OnErr result (G.STOPS ≡ false →
+        WhereKnown (S.remaining schema) (map I.remaining sources.items) (A.remaining asks)
+        (λ declared texts asked. (W.contents writer.new ≡ W.contents writer.old)
+        ⊎ WritesPart (IsRun declared texts) asked
+        (W.contents writer.old) (W.contents writer.new))) }
 {
     if sources.len() > MAX_FEEDERS as usize {
         return Err(FilesFault::TooManyFiles);
     }
+    // The proof takes these laws of row files.
+    laws::rows_left::<I>();
+    laws::left_of_a_file::<I>();
     let alloc = rt.alloc();
     let (schema, limit) = read_table(alloc, schema)?;
     let sources = begin_all(alloc, &schema, sources)?;
@@ -86,7 +103,7 @@ fn run_in<
     A: Read + Drop,
     I: Read + Drop + Send,
     W: Write,
-    G: Gate + Sync,
+    G: Gate + Stopping + Sync,
 >(
     rt: &R,
     history: History,
@@ -99,9 +116,19 @@ fn run_in<
 ) -> Result<(), FilesFault>
     requires history { history ≡ record { book = B.book; list = [] } }
     requires about { B.about ≡ no_rows columns (length capacities.items) limit }
+    requires schema { run.schema ≡ columns }
+    requires many { length run.sources.items ≡ length capacities.items }
+    requires few { length run.sources.items ≤ 64 }
     ensures counted { IfErr result (λ fault. fault ≢ FilesFault.TooManyFiles) }
     ensures quiet { IfErr result (λ fault. is_late fault ≡ false →
         W.contents writer.new ≡ W.contents writer.old) }
+    ensures lines { OnOk result (IfSome (A.remaining run.asks) (λ asked.
+        WritesAll (HasRun I.remaining G.STOPS columns run.sources.items) asked
+        (W.contents writer.old) (W.contents writer.new))) }
+    ensures part { OnErr result (IfSome (A.remaining run.asks) (λ asked.
+        (W.contents writer.new ≡ W.contents writer.old)
+        ⊎ WritesPart (HasRun I.remaining G.STOPS columns run.sources.items) asked
+        (W.contents writer.old) (W.contents writer.new))) }
 {
     match open::<B>(rt.alloc(), history, columns, capacities, limit, 1) {
         Ok(
@@ -131,7 +158,7 @@ fn run_ends<
     A: Read + Drop,
     I: Read + Drop + Send,
     W: Write,
-    G: Gate + Sync,
+    G: Gate + Stopping + Sync,
 >(
     rt: &R,
     loader: &mut Loader<B>,
@@ -141,60 +168,75 @@ fn run_ends<
     writer: &mut W,
     gate: &G,
 ) -> Result<(), FilesFault>
-    requires { All (λ feeder. IsFeederOf feeder loader.old.system) feeders.items }
+    requires ready { AreReady loader.old.system feeders.items run.sources.items }
+    requires few { length run.sources.items ≤ 64 }
+    requires schema { run.schema ≡ B.about.schema }
     ensures counted { IfErr result (λ fault. fault ≢ FilesFault.TooManyFiles) }
     ensures quiet { IfErr result (λ fault. is_late fault ≡ false →
         W.contents writer.new ≡ W.contents writer.old) }
+    ensures lines { OnOk result (IfSome (A.remaining run.asks) (λ asked.
+        WritesAll (HasRun I.remaining G.STOPS B.about.schema run.sources.items) asked
+        (W.contents writer.old) (W.contents writer.new))) }
+    ensures part { OnErr result (IfSome (A.remaining run.asks) (λ asked.
+        (W.contents writer.new ≡ W.contents writer.old)
+        ⊎ WritesPart (HasRun I.remaining G.STOPS B.about.schema run.sources.items) asked
+        (W.contents writer.old) (W.contents writer.new))) }
 {
     let Run {
         schema,
         sources,
         asks,
     } = run;
-    let fed = feed_files(rt, loader, feeders, sources, gate)?;
+    let (fed, told) = feed_files(rt, loader, feeders, sources, gate)?;
     let Some(mut analyst) = analysts.pop() else {
         // The system was opened with one analyst.
         return Err(FilesFault::Readers);
     };
-    answer_all(rt.alloc(), &schema, &mut analyst, &fed, asks, writer)
+    answer_all(rt.alloc(), &schema, &mut analyst, &told, &fed, asks, writer)
 }
 
-/// Feeds the files, loads their rows, and returns what each feeder leaves. When it returns, all threads have ended.
+/// Feeds the files, loads their rows, and returns what each feeder leaves, and which rows are published then. When it
+/// returns, all threads have ended.
 fn feed_files<
     B: Naming,
     R: Threads + Wait + AllocGlobal + Sync,
     I: Read + Drop + Send,
-    G: Gate + Sync,
+    G: Gate + Stopping + Sync,
 >(
     rt: &R,
     loader: &mut Loader<B>,
     feeders: Vec<Feeder>,
     sources: Vec<RowSource<I>>,
     gate: &G,
-) -> Result<Vec<Fed>, FilesFault>
-    requires { All (λ feeder. IsFeederOf feeder loader.old.system) feeders.items }
-    ensures { IfErr result (λ fault. is_early fault ≡ true) }
+) -> Result<(Vec<Fed>, Told<B>), FilesFault>
+    requires { AreReady loader.old.system feeders.items sources.items }
+    ensures early { IfErr result (λ fault. is_early fault ≡ true) }
+    ensures fed { IfOk result (λ run.
+        IsAllFed I.remaining G.STOPS run.1 sources.items run.0.items) }
 {
     let watch = Watch::new(gate);
     let shared = &watch;
     thread::scope(
         thread::scope_env(),
         rt,
-        move |scope| -> Result<Vec<Fed>, FilesFault>
-            requires { All (λ feeder. IsFeederOf feeder loader.now.system) feeders.items }
-            ensures { IfErr result (λ fault. is_early fault ≡ true) }
+        move |scope| -> Result<(Vec<Fed>, Told<B>), FilesFault>
+            requires { AreReady loader.now.system feeders.items sources.items }
+            ensures early { IfErr result (λ fault. is_early fault ≡ true) }
+            ensures fed { IfOk result (λ run.
+                IsAllFed I.remaining G.STOPS run.1 sources.items run.0.items) }
         { feed_in(scope, rt, shared, loader, feeders, sources) },
     )
 }
 
-/// Feeds the files by threads of a scope, loads their rows, and returns what each feeder leaves.
+/// Feeds the files by threads of a scope, loads their rows, and returns what each feeder leaves, and which rows are
+/// published then.
 fn feed_in<
     's,
     E,
     B: Naming,
     R: Threads + Wait + AllocGlobal + Sync + 's,
     I: Read + Drop + Send + 's,
-    G: Gate + Sync + 's,
+    G: Gate + Stopping + Sync + 's,
 >(
     scope: &Scope<'s, E>,
     rt: &'s R,
@@ -202,22 +244,25 @@ fn feed_in<
     loader: &mut Loader<B>,
     feeders: Vec<Feeder>,
     sources: Vec<RowSource<I>>,
-) -> Result<Vec<Fed>, FilesFault>
-    requires { All (λ feeder. IsFeederOf feeder loader.old.system) feeders.items }
-    ensures { IfErr result (λ fault. is_early fault ≡ true) }
+) -> Result<(Vec<Fed>, Told<B>), FilesFault>
+    requires { AreReady loader.old.system feeders.items sources.items }
+    ensures early { IfErr result (λ fault. is_early fault ≡ true) }
+    ensures fed { IfOk result (λ run.
+        IsAllFed I.remaining G.STOPS run.1 sources.items run.0.items) }
 {
     let files = feeders.len();
     let mut threads = Vec::with_capacity(rt.alloc(), files)?;
     let mut ends = Vec::with_capacity(rt.alloc(), files)?;
     let mut fed = Vec::with_capacity(rt.alloc(), files)?;
-    let started = start_all(scope, rt, watch, loader, feeders, sources, &mut threads);
+    let started = start_all(scope, rt, watch, feeders, sources, &mut threads);
     let beside = load_where(rt, loader, file_number(files), watch, started);
-    let joined = join_all(rt, loader, threads, &mut ends);
+    let joined = join_all(rt, threads, &mut ends);
     beside?;
     joined?;
     load_all(rt, loader, ends, &mut fed)?;
-    loader.publish(rt)?;
-    Ok(fed)
+    check_all(&fed, G::STOPS)?;
+    let told = publish_rest(rt, loader)?;
+    Ok((fed, told))
 }
 
 /// Loads beside the feeders if all of them were started. Otherwise it tells those whose rings are full to stop.
@@ -230,6 +275,7 @@ fn load_where<B: Naming, R: Wait, G: Gate>(
 ) -> Result<(), FilesFault>
     ensures system { loader.new.system ≡ loader.old.system }
     ensures early { IfErr result (λ fault. is_early fault ≡ true) }
+    ensures started { OnOk result (started ≡ true) }
 {
     if !started {
         watch.refuse();

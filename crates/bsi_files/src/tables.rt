@@ -1,7 +1,12 @@
 //! The schema file: the columns and the row limit that it declares.
 
-ghost use Rattle.std.specs.Prelude.{◌≡◌, ◌<◌, IfErr, IfOk, length, true};
+ghost use Rattle.std.specs.Prelude.{◌≡◌, ◌<◌, None, IfErr, IfOk, IfSome, OnOk, length, true};
+ghost use Rattle.csv.specs.Reading.{reader_state, source_of};
+ghost use Rattle.csv.specs.declared.parser.State.TheVariants as st;
+ghost use Rattle.bsi_table.specs.Columns.{no_columns};
+ghost use Rattle.bsi_text.specs.Texts.{FromText};
 ghost use Rattle.bsi_files.specs.Faults.{is_early};
+ghost use Rattle.bsi_files.specs.SchemaFiles.{Declares, IsSchemaFile};
 
 use crate::{FilesFault, Which};
 use bsi_table::{MAX_ROWS, Schema};
@@ -17,23 +22,44 @@ pub(crate) fn read_table<S: Read + Drop>(
 ) -> Result<(Schema, u64), FilesFault>
     ensures some { IfOk result (λ read. 0 < length read.0.columns) }
     ensures early { IfErr result (λ fault. is_early fault ≡ true) }
+    ensures declared { IfOk result (λ read. IfSome (S.remaining reader)
+        (λ bytes. IsSchemaFile bytes read.0 read.1)) }
 {
     let mut records = RecordSource::new(alloc, reader);
-    let mut fields = ByteRecord::new(alloc);
     let mut schema = Schema::new(alloc);
     let mut limit = MAX_ROWS;
-    // No text has so many records. The bound lets the proof see that the loop ends.
-    'records: for before in 0..u64::MAX {
-        let read = records.next_record(&mut fields);
-        if !read.map_err(|fault| FilesFault::of_text(Which::SchemaFile, fault))? {
-            break;
-        }
-        if !read_setup(alloc, &mut schema, &mut limit, &fields)? {
-            return Err(FilesFault::BadSchema(before + 1));
-        }
-    }
+    declare_all(alloc, &mut records, &mut schema, &mut limit)?;
     if schema.columns() == 0 {
         return Err(FilesFault::NoColumns);
     }
     Ok((schema, limit))
+}
+
+/// Carries out the records of a text of which no record was read.
+fn declare_all<S: Read + Drop>(
+    alloc: Global,
+    records: &mut RecordSource<S>,
+    schema: &mut Schema,
+    limit: &mut u64,
+) -> Result<(), FilesFault>
+    requires fresh { records.old.end ≡ None }
+    requires start { reader_state records.old.input ≡ st.StartRecord }
+    ensures early { IfErr result (λ fault. is_early fault ≡ true) }
+    ensures declared { OnOk result (FromText (source_of S.remaining records.old.input) (λ bytes.
+        Declares bytes (schema.old, limit.old) (schema.new, limit.new))) }
+{
+    let mut fields = ByteRecord::new(alloc);
+    // No text has so many records. The bound lets the proof see that the loop ends.
+    'records: for before in 0..u64::MAX {
+        match records.next_record(&mut fields) {
+            Ok(true) => {}
+            Ok(false) => return Ok(()),
+            Err(fault) => return Err(FilesFault::of_text(Which::SchemaFile, fault)),
+        }
+        if !read_setup(alloc, schema, limit, &fields)? {
+            return Err(FilesFault::BadSchema(before + 1));
+        }
+    }
+    // No text has so many records, so the loop has returned.
+    Err(FilesFault::TooLong(Which::SchemaFile))
 }

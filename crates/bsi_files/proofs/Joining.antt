@@ -1,0 +1,76 @@
+-- Threads that are started for feeders and sources, and lists that are made element by element.
+use Rattle.std.proofs.Common.{◌≡◌, ℕ, List, [], ◌∷◌, ◌++◌, Option, map, refl, ap, sym, ◌∙◌, subst}
+use Rattle.std.proofs.lemmas.List.{append-nil}
+use Rattle.bsi_rings.specs.Rings.{Sending}
+use Rattle.bsi_text.specs.Sources.{Source}
+use Rattle.bsi_files.specs.Ends.{tasks, AreEndsOf, IsEndOf, Task}
+use Rattle.bsi_files.specs.Matching.{AreMatched}
+use Rattle.bsi_files.specs.declared.feeding.FeedEnd.{FeedEnd}
+use Rattle.bsi_files.proofs.Asking.{matched_push}
+
+push_assoc : {X : Type 0} (xs : List X) (x : X) (ys : List X) → (xs ++ x ∷ []) ++ ys ≡ xs ++ x ∷ ys
+push_assoc [] x ys = refl
+push_assoc (z ∷ xs) x ys = ap (λ zs. z ∷ zs) (push_assoc xs x ys)
+
+map_push : {X Y : Type 0} (f : X → Y) (xs : List X) (x : X) → map f (xs ++ x ∷ []) ≡ map f xs ++ f x ∷ []
+map_push f [] x = refl
+map_push f (z ∷ xs) x = ap (λ ys. f z ∷ ys) (map_push f xs x)
+
+-- ---- a list that matches another one, so far
+
+-- the first elements were done, and these are left
+pub record HasMatched {A B : Type 0} (Is : A → B → Type 0) (all left : List A) (ys : List B) : Type 0 where
+  pub done : List A
+  pub parts : all ≡ done ++ left
+  pub matched : AreMatched Is done ys
+
+module _ {A B : Type 0} {Is : A → B → Type 0} {all left : List A} {ys : List B} where
+  pub matched_none : left ≡ all → ys ≡ [] → HasMatched Is all left ys
+  matched_none same none = record { done = []; parts = sym same; matched = subst (λ zs. AreMatched Is [] zs) (sym none) tt }
+
+  pub matched_more : (x : A) (rest : List A) (y : B) (more : List B) → HasMatched Is all left ys → left ≡ x ∷ rest → more ≡ ys ++ y ∷ [] → Is x y
+      → HasMatched Is all rest more
+  matched_more x rest y more has is pushed one = record {
+    done = has.done ++ x ∷ [];
+    parts = has.parts ∙ (ap (λ xs. has.done ++ xs) is ∙ sym (push_assoc has.done x rest));
+    matched = subst (λ zs. AreMatched Is (has.done ++ x ∷ []) zs) (sym pushed) (matched_push Is has.done ys x y has.matched one);
+  }
+
+  pub matched_all : HasMatched Is all left ys → left ≡ [] → AreMatched Is all ys
+  matched_all has none = subst (λ xs. AreMatched Is xs ys) (sym (has.parts ∙ (ap (λ xs. has.done ++ xs) none ∙ append-nil has.done))) has.matched
+
+-- ---- threads
+
+-- of threads and their ends, to the feeders, the sources and the ends
+pub ends_of : {R X : Type 0} (rem : R → Option (List ℕ)) (threads : List X) (ends : List FeedEnd) (f : X → Task R)
+    → AreMatched (λ thread end. IsEndOf rem (f thread).0 (f thread).1 end) threads ends → AreEndsOf rem (map f threads) ends
+ends_of rem [] [] f are = tt
+ends_of rem [] (end ∷ ends) f are = absurd are
+ends_of rem (thread ∷ threads) [] f are = absurd are
+ends_of rem (thread ∷ threads) (end ∷ ends) f are = (are.0, ends_of rem threads ends f are.1)
+
+module _ {R X : Type 0} (f : X → Task R) where
+  pub started_none : (threads : List X) (feeders left : List Sending) (sources given : List (Source R)) → threads ≡ [] → left ≡ feeders → given ≡ sources
+      → map f threads ++ tasks left given ≡ tasks feeders sources
+  started_none threads feeders left sources given none one two =
+      ap (λ (ts : List X). map f ts ++ tasks left given) none ∙ (ap (λ fs. tasks fs given) one ∙ ap (λ ss. tasks feeders ss) two)
+
+  pub started_more : (threads more : List X) (thread : X) (left rest : List Sending) (given others : List (Source R)) (feeder : Sending) (source : Source R)
+      (whole : List (Task R)) → map f threads ++ tasks left given ≡ whole → left ≡ feeder ∷ rest → given ≡ source ∷ others → more ≡ threads ++ thread ∷ []
+      → (f thread).0 ≡ feeder → (f thread).1 ≡ source → map f more ++ tasks rest others ≡ whole
+  started_more threads more thread left rest given others feeder source whole was l g pushed one two =
+      let whole_task : Task R = (feeder, source) in
+      let task : f thread ≡ whole_task = by (f thread).0 (f thread).1 one two in
+      ap (λ (ts : List X). map f ts ++ tasks rest others) pushed
+      ∙ (ap (λ ts. ts ++ tasks rest others) (map_push f threads thread)
+      ∙ (push_assoc (map f threads) (f thread) (tasks rest others)
+      ∙ (ap (λ t. map f threads ++ t ∷ tasks rest others) task
+      ∙ (ap (λ fs. map f threads ++ fs) (sym (ap (λ fs. tasks fs given) l ∙ ap (λ ss. tasks (feeder ∷ rest) ss) g)) ∙ was))))
+    where
+      by : (a : Sending) (b : Source R) → a ≡ feeder → b ≡ source → (let t : Task R = (a, b) in let u : Task R = (feeder, source) in t ≡ u)
+      by a b p q = cc
+
+  pub started_all : (threads : List X) (left : List Sending) (given : List (Source R)) (whole : List (Task R)) → map f threads ++ tasks left given ≡ whole
+      → left ≡ [] → map f threads ≡ whole
+  started_all threads left given whole was none =
+      sym (append-nil (map f threads)) ∙ (ap (λ fs. map f threads ++ tasks fs given) (sym none) ∙ was)

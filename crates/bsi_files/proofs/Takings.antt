@@ -1,0 +1,295 @@
+-- What was taken of each feeder, as closings are told and rows are taken.
+use Rattle.std.proofs.Common.{◌≡◌, ◌≢◌, ℕ, suc, zero, ◌+◌, ◌<◌, ◌≤◌, Bool, true, false, List, [], ◌∷◌, ◌++◌, length, Option, Some, None, IfSome, Result, Ok, Err, All, refl, ap, sym, ◌∙◌, subst, arith, slice_set, slice_index_or, add-zero, length-append}
+use Rattle.std.specs.Prelude.{IfErr, OnErr, OnOk, is_some, slice_get}
+use Rattle.std.proofs.lemmas.List.{append-nil}
+use Rattle.std.proofs.lemmas.List.Elements.{All-head, All-tail}
+use Rattle.bsi_load.specs.Runs.{rows_from}
+use Rattle.bsi_rings.specs.Rings.{new_feeders, new_sending, LaneName, Sending, Sent}
+use Rattle.bsi_system.specs.Running.{no_taking, settled_as, taking_at, with_taken, published_all, AlwaysHolds, IsClosingOf, IsFeederOf, Loading, LoadsOne, System, Taking}
+use Rattle.bsi_table.specs.Rows.{Entries, FedRow}
+use Rattle.bsi_text.specs.Sources.{Source}
+use Rattle.bsi_files.specs.Ends.{tasks, AreClosings, AreEndsOf, AreFeeders, IsEndOf}
+use Rattle.bsi_files.specs.Feds.{AreFedFrom, IsAllFed, IsFedFrom}
+use Rattle.bsi_files.specs.Takings.{all_taken, AreLoaded, IsDrained, IsFine, IsKept, IsLoaded, KeepsOthers, TakesOnlyOf}
+use Rattle.bsi_files.specs.Feeding.{HasFed, HasOnly}
+use Rattle.bsi_files.specs.declared.feeding.FeedEnd.{FeedEnd}
+use Rattle.bsi_files.specs.declared.loading.Fed.{Fed}
+
+-- ---- one taking of a list
+
+set_other : (ts : List Taking) (f k : ℕ) (t : Taking) → k ≢ f → taking_at (slice_set ts f t) k ≡ taking_at ts k
+set_other [] f k t other = refl
+set_other (x ∷ ts) zero zero t other = absurd (other refl)
+set_other (x ∷ ts) zero (suc k) t other = refl
+set_other (x ∷ ts) (suc f) zero t other = refl
+set_other (x ∷ ts) (suc f) (suc k) t other = set_other ts f k t (λ same. other (ap suc same))
+
+set_same : (ts : List Taking) (f : ℕ) (t : Taking) → f < length ts → taking_at (slice_set ts f t) f ≡ t
+set_same [] f t lt = absurd (omega arith)
+set_same (x ∷ ts) zero t lt = refl
+set_same (x ∷ ts) (suc f) t lt = set_same ts f t (omega arith)
+
+set_told : (ts : List Taking) (f : ℕ) (row : Entries) → (taking_at (slice_set ts f (with_taken (taking_at ts f) row)) f).told ≡ (taking_at ts f).told
+set_told [] f row = refl
+set_told (x ∷ ts) zero row = refl
+set_told (x ∷ ts) (suc f) row = set_told ts f row
+
+get_lt : {A : Type 0} (xs : List A) (f : ℕ) (x : A) → slice_get xs f ≡ Some x → f < length xs
+get_lt [] f x is = absurd (cc (is))
+get_lt (y ∷ xs) zero x is = omega arith
+get_lt (y ∷ xs) (suc f) x is = (let rest = get_lt xs f x is in omega arith)
+
+-- ---- at most one more row
+
+pub takes_none : (f : ℕ) (old new : List Taking) → new ≡ old → TakesOnlyOf f old new
+takes_none f old new same = record {
+  others = λ k other. ap (λ ts. taking_at ts k) same;
+  told = ap (λ ts. (taking_at ts f).told) same;
+}
+
+pub takes_one : (f : ℕ) (old new : Loading) → LoadsOne old f new → TakesOnlyOf f old.takings new.takings
+takes_one f old new loads =
+    let is : new.takings ≡ slice_set old.takings f (with_taken (taking_at old.takings f) loads.0) = ap (λ (s : Loading). s.takings) loads.2 in
+    record {
+      others = λ k other. ap (λ ts. taking_at ts k) is ∙ set_other old.takings f k (with_taken (taking_at old.takings f) loads.0) other;
+      told = ap (λ ts. (taking_at ts f).told) is ∙ set_told old.takings f loads.0;
+    }
+
+pub takes_more : (f : ℕ) (a b c : List Taking) → TakesOnlyOf f a b → TakesOnlyOf f b c → TakesOnlyOf f a c
+takes_more f a b c first next = record {
+  others = λ k other. next.others k other ∙ first.others k other;
+  told = next.told ∙ first.told;
+}
+
+-- ---- a closing is told, and all that it carried is taken
+
+pub must_be_ok : {T E P : Type 0} (r : Result T E) (Q : E → Type 0) → OnOk r P → IfErr r Q → ((e : E) → Q e → ⊥) → P
+must_be_ok (Ok x) Q ok err never = ok
+must_be_ok (Err e) Q ok err never = absurd (never e err)
+
+module _ (old told new : Loading) (closing : Sent) (is : told ≡ settled_as old closing.number closing.rows) (always : AlwaysHolds told)
+    (same : told.system ≡ old.system) (of : IsClosingOf closing old.system) (takes : TakesOnlyOf closing.number told.takings new.takings) where
+  settled_others : KeepsOthers closing.number old.takings told.takings
+  settled_others k other =
+      ap (λ (s : Loading). taking_at s.takings k) is
+      ∙ set_other old.takings closing.number k (record { taken = (taking_at old.takings closing.number).taken; told = Some closing.rows }) other
+
+  settled_told : (taking_at told.takings closing.number).told ≡ Some closing.rows
+  settled_told =
+      let t : Taking = record { taken = (taking_at old.takings closing.number).taken; told = Some closing.rows } in
+      let within : closing.number < length old.system.lanes = get_lt old.system.lanes closing.number closing.lane of in
+      let many : length told.takings ≡ length old.system.lanes = always.many ∙ ap (λ (s : System). length s.lanes) same in
+      let ts : told.takings ≡ slice_set old.takings closing.number t = ap (λ (s : Loading). s.takings) is in
+      let long : length (slice_set old.takings closing.number t) ≡ length old.takings = set_length old.takings closing.number t in
+      let l : length told.takings ≡ length old.takings = ap length ts ∙ long in
+      ap (λ xs. (taking_at xs closing.number).told) ts ∙ ap (λ (x : Taking). x.told) (set_same old.takings closing.number t (omega arith))
+    where
+      set_length : (ts : List Taking) (f : ℕ) (t : Taking) → length (slice_set ts f t) ≡ length ts
+      set_length [] f t = refl
+      set_length (x ∷ ts) zero t = refl
+      set_length (x ∷ ts) (suc f) t = ap suc (set_length ts f t)
+
+  pub others_kept : KeepsOthers closing.number old.takings new.takings
+  others_kept k other = takes.others k other ∙ settled_others k other
+
+  pub all_is_taken : IsDrained closing.number new.takings → taking_at new.takings closing.number ≡ all_taken closing.rows
+  all_is_taken drained =
+      let now : Taking = taking_at new.takings closing.number in
+      let told_is : now.told ≡ Some closing.rows = takes.told ∙ settled_told in
+      let taken_is : now.taken ≡ closing.rows = subst (λ o. IfSome o (λ sent. now.taken ≡ sent)) told_is drained in
+      by now.taken now.told taken_is told_is
+    where
+      by : (rows : List Entries) (told : Option (List Entries)) → rows ≡ closing.rows → told ≡ Some closing.rows
+          → record { taken = rows; told = told } ≡ all_taken closing.rows
+      by rows told r t = cc
+
+-- ---- all closings
+
+loaded_in : (ts us : List Taking) (n : ℕ) (ends : List FeedEnd) (feds : List Fed)
+    → ((k : ℕ) → k < n + length ends → taking_at us k ≡ taking_at ts k) → AreLoaded ts n ends feds → AreLoaded us n ends feds
+loaded_in ts us n [] [] same all = tt
+loaded_in ts us n [] (fed ∷ feds) same all = absurd all
+loaded_in ts us n (end ∷ ends) [] same all = absurd all
+loaded_in ts us n (end ∷ ends) (fed ∷ feds) same all = (
+  record {
+    kept = all.0.kept;
+    taken = by end.closing all.0.taken;
+  },
+  loaded_in ts us (suc n) ends feds (λ k lt. same k (omega arith)) all.1,
+)
+  where
+    by : (o : Option Sent) → IfSome o (λ closing. taking_at ts n ≡ all_taken closing.rows) → IfSome o (λ closing. taking_at us n ≡ all_taken closing.rows)
+    by None taken = tt
+    by (Some closing) taken = same n (omega arith) ∙ taken
+
+loaded_push : (ts : List Taking) (n : ℕ) (ends : List FeedEnd) (feds : List Fed) (end : FeedEnd) (fed : Fed)
+    → AreLoaded ts n ends feds → IsLoaded ts (n + length ends) end fed → AreLoaded ts n (ends ++ end ∷ []) (feds ++ fed ∷ [])
+loaded_push ts n [] [] end fed all one = (subst (λ k. IsLoaded ts k end fed) (add-zero n) one, tt)
+loaded_push ts n [] (y ∷ feds) end fed all one = absurd all
+loaded_push ts n (x ∷ ends) [] end fed all one = absurd all
+loaded_push ts n (x ∷ ends) (y ∷ feds) end fed all one =
+    let at : n + length (x ∷ ends) ≡ suc n + length ends = omega arith in
+    (all.0, loaded_push ts (suc n) ends feds end fed all.1 (subst (λ k. IsLoaded ts k end fed) at one))
+
+-- all rows of the first ends were taken, and these ends are left
+pub record HasLoaded (system : System) (all left : List FeedEnd) (takings : List Taking) (feds : List Fed) : Type 0 where
+  pub done : List FeedEnd
+  pub parts : all ≡ done ++ left
+  pub loaded : AreLoaded takings 0 done feds
+  pub closings : AreClosings system (length done) left
+
+pub loaded_none : (system : System) (all left : List FeedEnd) (takings : List Taking) (feds : List Fed) → left ≡ all → feds ≡ [] → AreClosings system 0 all
+    → HasLoaded system all left takings feds
+loaded_none system all left takings feds same none closings = record {
+  done = [];
+  parts = sym same;
+  loaded = subst (λ xs. AreLoaded takings 0 [] xs) (sym none) tt;
+  closings = subst (λ xs. AreClosings system 0 xs) (sym same) closings;
+}
+
+-- what is so of the first closing that is left
+pub closing_of : (system : System) (n : ℕ) (left : List FeedEnd) (end : FeedEnd) (rest : List FeedEnd) → left ≡ end ∷ rest → AreClosings system n left
+    → IfSome end.closing (λ closing. IsClosingOf closing system)
+closing_of system n left end rest is closings = by end.closing (subst (λ xs. AreClosings system n xs) is closings).0
+  where
+    by : (o : Option Sent) → IfSome o (λ closing. (closing.number ≡ n) × IsClosingOf closing system) → IfSome o (λ closing. IsClosingOf closing system)
+    by None of = tt
+    by (Some closing) of = of.1
+
+pub loaded_more : (system : System) (all left rest : List FeedEnd) (old new : List Taking) (feds more : List Fed) (end : FeedEnd) (fed : Fed)
+    → HasLoaded system all left old feds → left ≡ end ∷ rest → more ≡ feds ++ fed ∷ [] → IsKept end fed
+    → IfSome end.closing (λ closing. taking_at new closing.number ≡ all_taken closing.rows)
+    → IfSome end.closing (λ closing. KeepsOthers closing.number old new) → (end.closing ≡ None → new ≡ old)
+    → HasLoaded system all rest new more
+loaded_more system all left rest old new feds more end fed has is pushed kept taken others same =
+    let here = subst (λ xs. AreClosings system (length has.done) xs) is has.closings in
+    let n : ℕ = length has.done in
+    let still : (k : ℕ) → k < n → taking_at new k ≡ taking_at old k = λ k lt. stays end.closing refl here.0 others k lt in
+    record {
+      done = has.done ++ end ∷ [];
+      parts = has.parts ∙ (ap (λ xs. has.done ++ xs) is ∙ sym (push_assoc has.done end rest));
+      loaded = subst (λ xs. AreLoaded new 0 (has.done ++ end ∷ []) xs) (sym pushed)
+          (loaded_push new 0 has.done feds end fed
+          (loaded_in old new 0 has.done feds (λ k lt. still k (omega arith)) has.loaded)
+          (subst (λ k. IsLoaded new k end fed) (omega arith) (record { kept = kept; taken = at end.closing here.0 taken })));
+      closings = subst (λ k. AreClosings system k rest) (omega (arith, length-append has.done (end ∷ []))) here.1;
+    }
+  where
+    push_assoc : (xs : List FeedEnd) (x : FeedEnd) (ys : List FeedEnd) → (xs ++ x ∷ []) ++ ys ≡ xs ++ x ∷ ys
+    push_assoc [] x ys = refl
+    push_assoc (z ∷ xs) x ys = ap (λ zs. z ∷ zs) (push_assoc xs x ys)
+
+    stays : (o : Option Sent) → end.closing ≡ o → IfSome o (λ closing. (closing.number ≡ length has.done) × IsClosingOf closing system)
+        → IfSome o (λ closing. KeepsOthers closing.number old new) → (k : ℕ) → k < length has.done → taking_at new k ≡ taking_at old k
+    stays None e of keeps k lt = ap (λ ts. taking_at ts k) (same e)
+    stays (Some closing) e of keeps k lt = keeps k (λ eq. absurd (omega (arith, eq, of.0)))
+
+    at : (o : Option Sent) → IfSome o (λ closing. (closing.number ≡ length has.done) × IsClosingOf closing system)
+        → IfSome o (λ closing. taking_at new closing.number ≡ all_taken closing.rows) → IfSome o (λ closing. taking_at new (length has.done) ≡ all_taken closing.rows)
+    at None of is = tt
+    at (Some closing) of is = subst (λ k. taking_at new k ≡ all_taken closing.rows) of.0 is
+
+pub loaded_all : (system : System) (all left : List FeedEnd) (takings : List Taking) (feds : List Fed) → HasLoaded system all left takings feds → left ≡ []
+    → AreLoaded takings 0 all feds
+loaded_all system all left takings feds has none =
+    subst (λ xs. AreLoaded takings 0 xs feds) (sym (has.parts ∙ (ap (λ xs. has.done ++ xs) none ∙ nil has.done))) has.loaded
+  where
+    nil : (xs : List FeedEnd) → xs ++ [] ≡ xs
+    nil [] = refl
+    nil (x ∷ xs) = ap (λ ys. x ∷ ys) (nil xs)
+
+-- ---- from the ends of threads to what a run has
+
+-- feeders as they are opened
+pub feeders_are : (system : System) (n : ℕ) (lanes : List LaneName) (capacities : List ℕ) → All (λ feeder. IsFeederOf feeder system) (new_feeders n lanes capacities)
+    → AreFeeders system n (new_feeders n lanes capacities)
+feeders_are system n [] capacities own = tt
+feeders_are system n (lane ∷ lanes) [] own = tt
+feeders_are system n (lane ∷ lanes) (capacity ∷ capacities) own =
+    let first : Sending = new_sending n lane capacity in
+    let rest = new_feeders (suc n) lanes capacities in (
+      (refl, All-head (λ (feeder : Sending). IsFeederOf feeder system) first rest own, refl),
+      feeders_are system (suc n) lanes capacities (All-tail (λ (feeder : Sending). IsFeederOf feeder system) first rest own),
+    )
+
+pub feeders_long : (n : ℕ) (lanes : List LaneName) (capacities : List ℕ) → length lanes ≡ length capacities → length (new_feeders n lanes capacities) ≡ length lanes
+feeders_long n [] capacities same = refl
+feeders_long n (lane ∷ lanes) [] same = absurd (omega arith)
+feeders_long n (lane ∷ lanes) (capacity ∷ capacities) same = ap suc (feeders_long (suc n) lanes capacities (omega arith))
+
+module _ {R : Type 0} (rem : R → Option (List ℕ)) where
+  pub closings_of : (system : System) (n : ℕ) (feeders : List Sending) (sources : List (Source R)) (ends : List FeedEnd) → AreFeeders system n feeders
+      → AreEndsOf rem (tasks feeders sources) ends → AreClosings system n ends
+  closings_of system n feeders sources [] own are = tt
+  closings_of system n [] sources (end ∷ ends) own are = absurd are
+  closings_of system n (feeder ∷ feeders) [] (end ∷ ends) own are = absurd are
+  closings_of system n (feeder ∷ feeders) (source ∷ sources) (end ∷ ends) own are =
+      (by end.closing are.0.number are.0.lane, closings_of system (suc n) feeders sources ends own.1 are.1)
+    where
+      by : (o : Option Sent) → IfSome o (λ closing. closing.number ≡ feeder.number) → IfSome o (λ closing. closing.lane ≡ feeder.lane)
+          → IfSome o (λ closing. (closing.number ≡ n) × IsClosingOf closing system)
+      by None number lane = tt
+      by (Some closing) number lane = (
+        number ∙ own.0.0,
+        ap (λ k. slice_get system.lanes k) number ∙ (own.0.1 ∙ ap (λ (l : LaneName). Some l) (sym lane)),
+      )
+
+  fed_one : (stops : Bool) (rows : List FedRow) (takings : List Taking) (n : ℕ) (feeder : Sending) (source : Source R) (end : FeedEnd) (fed : Fed)
+      → rows_from n rows ≡ (taking_at takings n).taken → feeder.sent ≡ [] → IsEndOf rem feeder source end → IsLoaded takings n end fed → IsFine stops fed
+      → IsFedFrom rem stops rows n source fed
+  fed_one stops rows takings n feeder source end fed from fresh is loaded fine = by end.closing refl is.fed loaded.taken
+    where
+      by : (o : Option Sent) → end.closing ≡ o
+          → IfSome o (λ closing. HasFed rem source feeder.sent closing.rows end.accepted end.bad end.stopped end.fault)
+          → IfSome o (λ closing. taking_at takings n ≡ all_taken closing.rows) → IsFedFrom rem stops rows n source fed
+      by None e has taken =
+          let wrong : false ≡ true = sym (ap (λ o. is_some o) e) ∙ (sym loaded.kept.closed ∙ fine.closed) in absurd (cc (wrong))
+      by (Some closing) e has taken =
+          let same : has.rows ≡ rows_from n rows =
+          sym (from ∙ (ap (λ (t : Taking). t.taken) taken ∙ (has.sent ∙ ap (λ xs. xs ++ has.rows) fresh))) in
+          record {
+            many = sym (ap length same) ∙ (has.many ∙ sym loaded.kept.accepted);
+            all = λ never.
+                let only = has.all (sym loaded.kept.stopped ∙ fine.going never) (sym loaded.kept.fault ∙ fine.fault) in
+                subst (λ xs. HasOnly rem source xs fed.bad) same (subst (λ b. HasOnly rem source has.rows b) (sym loaded.kept.bad) only);
+          }
+
+  pub fed_all : (stops : Bool) (rows : List FedRow) (takings : List Taking) (system : System) (n : ℕ) (feeders : List Sending) (sources : List (Source R))
+      (ends : List FeedEnd) (feds : List Fed)
+      → ((f : ℕ) → rows_from f rows ≡ (taking_at takings f).taken) → length sources ≡ length feeders → AreFeeders system n feeders
+      → AreEndsOf rem (tasks feeders sources) ends → AreLoaded takings n ends feds → All (IsFine stops) feds → AreFedFrom rem stops rows n sources feds
+  fed_all stops rows takings system n [] [] [] [] from many own are loaded fine = tt
+  fed_all stops rows takings system n [] (source ∷ sources) ends feds from many own are loaded fine = absurd (omega arith)
+  fed_all stops rows takings system n (feeder ∷ feeders) [] ends feds from many own are loaded fine = absurd (omega arith)
+  fed_all stops rows takings system n [] [] (end ∷ ends) feds from many own are loaded fine = absurd are
+  fed_all stops rows takings system n [] [] [] (fed ∷ feds) from many own are loaded fine = absurd loaded
+  fed_all stops rows takings system n (feeder ∷ feeders) (source ∷ sources) [] feds from many own are loaded fine = absurd are
+  fed_all stops rows takings system n (feeder ∷ feeders) (source ∷ sources) (end ∷ ends) [] from many own are loaded fine = absurd loaded
+  fed_all stops rows takings system n (feeder ∷ feeders) (source ∷ sources) (end ∷ ends) (fed ∷ feds) from many own are loaded fine = (
+    fed_one stops rows takings n feeder source end fed (from n) own.0.2 are.0 loaded.0 (All-head (IsFine stops) fed feds fine),
+    fed_all stops rows takings system (suc n) feeders sources ends feds from (omega arith) own.1 are.1 loaded.1 (All-tail (IsFine stops) fed feds fine),
+  )
+
+  -- after the last publish
+  pub all_fed : (stops : Bool) (loaded now : Loading) (system : System) (feeders : List Sending) (sources : List (Source R)) (ends : List FeedEnd) (feds : List Fed)
+      → now ≡ published_all loaded → AlwaysHolds now → loaded.system ≡ system → length system.lanes ≡ length feeders → length sources ≡ length feeders
+      → AreFeeders system 0 feeders → AreEndsOf rem (tasks feeders sources) ends → AreLoaded loaded.takings 0 ends feds → All (IsFine stops) feds
+      → IsAllFed rem stops now.published sources feds
+  all_fed stops loaded now system feeders sources ends feds is always same lanes many own are taken fine =
+      let takings_is : now.takings ≡ loaded.takings = ap (λ (s : Loading). s.takings) is in
+      let held_is : now.held ≡ [] = ap (λ (s : Loading). s.held) is in
+      let system_is : now.system ≡ system = ap (λ (s : Loading). s.system) is ∙ same in
+      let from : (f : ℕ) → rows_from f now.published ≡ (taking_at loaded.takings f).taken =
+      λ f. ap (λ rows. rows_from f rows) (sym (ap (λ rows. now.published ++ rows) held_is ∙ append-nil now.published))
+      ∙ (always.balanced f ∙ ap (λ ts. (taking_at ts f).taken) takings_is) in
+      let long : length loaded.takings ≡ length sources =
+      sym (ap (λ (ts : List Taking). length ts) takings_is) ∙ (always.many ∙ (ap (λ (s : System). length s.lanes) system_is ∙ (lanes ∙ sym many))) in
+      record {
+        each = fed_all stops now.published loaded.takings system 0 feeders sources ends feds from many own are taken fine;
+        none = λ f le. from f ∙ past loaded.takings f (omega arith);
+      }
+    where
+      past : (ts : List Taking) (f : ℕ) → length ts ≤ f → (taking_at ts f).taken ≡ []
+      past [] f le = refl
+      past (t ∷ ts) zero le = absurd (omega arith)
+      past (t ∷ ts) (suc f) le = past ts f (omega arith)

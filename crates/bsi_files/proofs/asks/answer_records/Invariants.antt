@@ -1,0 +1,15 @@
+use Rattle.std.proofs.Common.{◌≡◌, None}
+use Rattle.csv.specs.Reading.{reader_state, source_of}
+use Rattle.bsi_text.specs.Texts.{FromText}
+use Rattle.bsi_files.specs.AskLines.{IsAskLine}
+use Rattle.bsi_files.proofs.Asking.{StandsAt}
+use Rattle.bsi_files.proofs.asks.answer_records.Given as goal
+
+-- the lines of the records so far were written
+abbrev pub invariant-records : goal.invariant-records
+invariant-records g l = record {
+  going : l.records.end ≡ None;
+  stands : FromText (source_of g.A.Read.remaining l.initial.records.input) (λ bytes.
+      StandsAt (IsAskLine g.B.Naming.about.schema l.told) bytes (reader_state l.records.input) (source_of g.A.Read.remaining l.records.input)
+      (g.W.Write.contents l.initial.writer) (g.W.Write.contents l.writer));
+}

@@ -1,0 +1,50 @@
+-- The line that answers a record of the asks text.
+use Rattle.std.specs.Prelude.{◌≡◌, ◌⊎◌, ℕ, List, None, Result, Ok, Err, length}
+use Rattle.std.specs.List.Sorted.{IsPermutation, IsSorted}
+use Rattle.std.specs.Ordering.{nat_cmp, ordering_then}
+use Rattle.std.specs.declared.cmp.Ordering.{Ordering}
+use Rattle.bsi_records.specs.Events.{IsQuery}
+use Rattle.bsi_records.specs.Lines.{ask_line, bad_line}
+use Rattle.bsi_records.specs.Numbers.{Field}
+use Rattle.bsi_origins.specs.Numbering.{numbered_at}
+use Rattle.bsi_table.specs.Answers.{missing_column, IsAnswer, IsReply}
+use Rattle.bsi_table.specs.Columns.{Declared}
+use Rattle.bsi_table.specs.Rows.{feeders_of, selected, FedRow}
+use Rattle.bsi_table.specs.declared.errors.AskError.{AskError}
+use Rattle.bsi_table.specs.declared.query.Answer.{Answer}
+use Rattle.bsi_table.specs.declared.query.Answer.TheVariants.{Rows as rows_answer}
+use Rattle.bsi_table.specs.declared.query.Query.{Query}
+use Rattle.bsi_table.specs.declared.query.Total.TheVariants as total
+
+-- rows by feeder, and those of one feeder by number
+abbrev pub by_place : ℕ × ℕ → ℕ × ℕ → Ordering
+by_place x y = ordering_then (nat_cmp x.0 y.0) (nat_cmp x.1 y.1)
+
+-- the answer to a query as its line shows it: rows stand by feeder and number
+abbrev pub IsShownAnswer : Query → List FedRow → Answer → Type 0
+IsShownAnswer query rows (rows_answer listed) =
+    (query.total ≡ total.Rows) × IsPermutation (numbered_at (feeders_of rows) (selected query.pred rows)) listed.items
+    × IsSorted by_place listed.items
+IsShownAnswer query rows answer = IsAnswer query rows answer
+
+-- the reply to a query as its line shows it
+abbrev pub IsShownReply : Declared → List FedRow → Query → Result Answer AskError → Type 0
+IsShownReply schema rows query (Ok answer) =
+    (missing_column (length schema.columns) query ≡ None) × IsShownAnswer query rows answer
+IsShownReply schema rows query (Err refused) = IsReply schema rows query (Err refused)
+
+-- a record that asks nothing has the line `bad`
+pub record AsksNothing (schema : Declared) (fields : List Field) (line : List ℕ) : Type 0 where
+  pub none : (query : Query) → IsQuery schema fields query → ⊥
+  pub line_is : line ≡ bad_line
+
+-- one that asks has the line of the reply that a table of these rows gives
+pub record Asks (schema : Declared) (rows : List FedRow) (fields : List Field) (line : List ℕ) : Type 0 where
+  pub query : Query
+  pub reply : Result Answer AskError
+  pub asked : IsQuery schema fields query
+  pub lawful : IsShownReply schema rows query reply
+  pub line_is : line ≡ ask_line reply
+
+abbrev pub IsAskLine : Declared → List FedRow → List Field → List ℕ → Type 0
+IsAskLine schema rows fields line = AsksNothing schema fields line ⊎ Asks schema rows fields line

@@ -1,0 +1,48 @@
+-- What the ends of the feeders' threads tell.
+use Rattle.std.specs.Prelude.{◌≡◌, ⊤, ℕ, suc, List, [], ◌∷◌, Option, length, IfSome}
+use Rattle.bsi_rings.specs.Rings.{Sending}
+use Rattle.bsi_system.specs.Running.{IsClosingOf, IsFeederOf, System}
+use Rattle.bsi_text.specs.Sources.{Source}
+use Rattle.bsi_files.specs.Feeding.{HasFailed, HasFed}
+use Rattle.bsi_files.specs.declared.feeding.FeedEnd.{FeedEnd}
+use Rattle.bsi_files.specs.Matching.{AreMatched}
+
+-- what the end of a feeder tells of the feeder and of its source: the rows that its closing carries, and the fault that
+-- the source answered
+pub record IsEndOf {R : Type 0} (rem : R → Option (List ℕ)) (feeder : Sending) (source : Source R) (end : FeedEnd) : Type 0 where
+  pub number : IfSome end.closing (λ closing. closing.number ≡ feeder.number)
+  pub lane : IfSome end.closing (λ closing. closing.lane ≡ feeder.lane)
+  pub fed : IfSome end.closing (λ closing. HasFed rem source feeder.sent closing.rows end.accepted end.bad end.stopped end.fault)
+  pub fault : IfSome end.fault (HasFailed rem source end.accepted)
+
+-- a feeder and the source that it reads
+abbrev pub Task : Type 0 → Type 0
+Task R = Sending × Source R
+
+-- each feeder with the source at its place
+abbrev pub tasks : {R : Type 0} → List Sending → List (Source R) → List (Task R)
+tasks [] sources = []
+tasks (feeder ∷ feeders) [] = []
+tasks (feeder ∷ feeders) (source ∷ sources) = (feeder, source) ∷ tasks feeders sources
+
+-- ends of tasks, one for each
+abbrev pub AreEndsOf : {R : Type 0} → (R → Option (List ℕ)) → List (Task R) → List FeedEnd → Type 0
+AreEndsOf rem given ends = AreMatched (λ task end. IsEndOf rem task.0 task.1 end) given ends
+
+-- the feeders of a system, numbered from n, of which nothing was sent
+abbrev pub AreFeeders : System → ℕ → List Sending → Type 0
+AreFeeders system n [] = ⊤
+AreFeeders system n (feeder ∷ feeders) =
+    ((feeder.number ≡ n) × IsFeederOf feeder system × (feeder.sent ≡ [])) × AreFeeders system (suc n) feeders
+
+-- the feeders of a system, as they are opened, and a source for each of its rings
+pub record AreReady {R : Type 0} (system : System) (feeders : List Sending) (sources : List (Source R)) : Type 0 where
+  pub own : AreFeeders system 0 feeders
+  pub lanes : length system.lanes ≡ length feeders
+  pub many : length sources ≡ length feeders
+
+-- ends whose closings are of a system, numbered from n
+abbrev pub AreClosings : System → ℕ → List FeedEnd → Type 0
+AreClosings system n [] = ⊤
+AreClosings system n (end ∷ ends) =
+    IfSome end.closing (λ closing. (closing.number ≡ n) × IsClosingOf closing system) × AreClosings system (suc n) ends

@@ -1,0 +1,34 @@
+-- What a row file gives, by its bytes.
+use Rattle.std.specs.Prelude.{◌≡◌, ℕ, true, List, [], ◌∷◌, length, slice_index_or}
+use Rattle.bsi_records.specs.Numbers.{Field}
+use Rattle.bsi_table.specs.Columns.{Declared}
+use Rattle.bsi_table.specs.Rows.{Entries}
+use Rattle.bsi_text.specs.RowFiles.{bad_count, good_rows, is_header}
+use Rattle.bsi_text.specs.Texts.{AreAllRecords}
+
+-- what a row file gives: the rows of its good records, in their order, and how many records are bad
+pub record RowFile : Type 0 where
+  pub rows : List Entries
+  pub bad : ℕ
+
+-- these bytes are a header and then records that give these rows
+pub record IsRowFile (schema : Declared) (bytes : List ℕ) (file : RowFile) : Type 0 where
+  pub header : List Field
+  pub records : List (List Field)
+  pub all : AreAllRecords bytes (header ∷ records)
+  pub header_is : is_header schema header ≡ true
+  pub rows_are : file.rows ≡ good_rows schema header records
+  pub bad_is : file.bad ≡ bad_count schema header records
+
+abbrev pub rows_of : RowFile → List Entries
+rows_of file = file.rows
+
+-- how many good rows and how many bad records a file has
+abbrev pub counts_of : RowFile → ℕ × ℕ
+counts_of file = (length file.rows, file.bad)
+
+abbrev pub no_file : RowFile
+no_file = record { rows = []; bad = 0 }
+
+abbrev pub file_at : List RowFile → ℕ → RowFile
+file_at files f = slice_index_or files f no_file

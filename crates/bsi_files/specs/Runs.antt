@@ -1,0 +1,33 @@
+-- The lines of a run over row files, by the bytes of its files.
+use Rattle.std.specs.Prelude.{◌≡◌, ℕ, suc, List, [], ◌∷◌, ◌++◌, map}
+use Rattle.bsi_records.specs.Lines.{fed_line}
+use Rattle.bsi_records.specs.Numbers.{Field}
+use Rattle.bsi_table.specs.Columns.{Declared}
+use Rattle.bsi_table.specs.Rows.{FedRow}
+use Rattle.bsi_files.specs.AskLines.{IsAskLine}
+use Rattle.bsi_files.specs.Matching.{AreMatched}
+use Rattle.bsi_files.specs.Mixes.{in_order}
+use Rattle.bsi_files.specs.RowFiles.{counts_of, rows_of, IsRowFile, RowFile}
+use Rattle.bsi_files.specs.SchemaFiles.{IsSchemaFile}
+
+-- the line of each file, of which the first has this number
+abbrev pub fed_lines : ℕ → List (ℕ × ℕ) → List (List ℕ)
+fed_lines n [] = []
+fed_lines n (counts ∷ more) = fed_line n counts.0 counts.1 ∷ fed_lines (suc n) more
+
+-- the lines of a run: one for each file, and then one for each record of the asks text
+pub record AreLines (schema : Declared) (rows : List FedRow) (counts : List (ℕ × ℕ)) (records : List (List Field))
+    (lines : List (List ℕ)) : Type 0 where
+  pub answers : List (List ℕ)
+  pub each : AreMatched (IsAskLine schema rows) records answers
+  pub lines_are : lines ≡ fed_lines 0 counts ++ answers
+
+-- the lines of a run over files of these bytes, for asks of these records
+pub record IsRun (declared : List ℕ) (texts : List (List ℕ)) (records : List (List Field)) (lines : List (List ℕ))
+    : Type 0 where
+  pub schema : Declared
+  pub limit : ℕ
+  pub files : List RowFile
+  pub schema_is : IsSchemaFile declared schema limit
+  pub files_are : AreMatched (IsRowFile schema) texts files
+  pub lines_are : AreLines schema (in_order 0 (map rows_of files)) (map counts_of files) records lines

@@ -1,0 +1,47 @@
+-- What the loader has taken when the feeders have ended.
+use Rattle.std.specs.Prelude.{◌≡◌, ⊤, ℕ, suc, true, List, [], ◌∷◌, None, Some, ◌≢◌, Bool, false, IfSome, is_some}
+use Rattle.bsi_table.specs.Rows.{Entries}
+use Rattle.bsi_system.specs.Running.{taking_at, Taking}
+use Rattle.bsi_files.specs.declared.feeding.FeedEnd.{FeedEnd}
+use Rattle.bsi_files.specs.declared.loading.Fed.{Fed}
+
+-- all that the closing carried
+abbrev pub all_taken : List Entries → Taking
+all_taken rows = record { taken = rows; told = Some rows }
+
+-- what was taken of the other feeders stays, and what was told of them
+abbrev pub KeepsOthers : ℕ → List Taking → List Taking → Type 0
+KeepsOthers f old new = (k : ℕ) → k ≢ f → taking_at new k ≡ taking_at old k
+
+-- rows of this feeder alone may have been taken, and no closing was told
+pub record TakesOnlyOf (f : ℕ) (old new : List Taking) : Type 0 where
+  pub others : KeepsOthers f old new
+  pub told : (taking_at new f).told ≡ (taking_at old f).told
+
+-- if the feeder's closing was told, all that it carried was taken
+abbrev pub IsDrained : ℕ → List Taking → Type 0
+IsDrained f takings = IfSome (taking_at takings f).told (λ sent. (taking_at takings f).taken ≡ sent)
+
+-- what is kept of an end
+pub record IsKept (end : FeedEnd) (fed : Fed) : Type 0 where
+  pub accepted : fed.accepted ≡ end.accepted
+  pub bad : fed.bad ≡ end.bad
+  pub stopped : fed.stopped ≡ end.stopped
+  pub fault : fed.fault ≡ end.fault
+  pub closed : fed.closed ≡ is_some end.closing
+
+-- all rows of the feeder with this number were taken
+pub record IsLoaded (takings : List Taking) (n : ℕ) (end : FeedEnd) (fed : Fed) : Type 0 where
+  pub kept : IsKept end fed
+  pub taken : IfSome end.closing (λ closing. taking_at takings n ≡ all_taken closing.rows)
+
+abbrev pub AreLoaded : List Taking → ℕ → List FeedEnd → List Fed → Type 0
+AreLoaded takings n [] [] = ⊤
+AreLoaded takings n (end ∷ ends) (fed ∷ feds) = IsLoaded takings n end fed × AreLoaded takings (suc n) ends feds
+AreLoaded takings n ends feds = ⊥
+
+-- a run goes on with what was kept of an end: no fault, a closing and, where no gate stops a feeder, none that was
+pub record IsFine (stops : Bool) (fed : Fed) : Type 0 where
+  pub fault : fed.fault ≡ None
+  pub closed : fed.closed ≡ true
+  pub going : stops ≡ false → fed.stopped ≡ false

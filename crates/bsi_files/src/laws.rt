@@ -1,0 +1,19 @@
+//! What follows for every run over row files, as contracts of functions that do nothing.
+
+ghost use Rattle.std.specs.Prelude.{ℕ, List, map};
+ghost use Rattle.bsi_records.specs.Numbers.{Field};
+ghost use Rattle.bsi_table.specs.Columns.{Declared};
+ghost use Rattle.bsi_table.specs.Rows.{FedRow};
+ghost use Rattle.bsi_files.specs.Mixes.{in_order, AreAlike, IsMixOf};
+ghost use Rattle.bsi_files.specs.RowFiles.{RowFile};
+ghost use Rattle.bsi_files.specs.Runs.{AreLines};
+
+/// States that the lines of a run do not depend on how the rows of the files mix: what is a run's line for one list is
+/// so for each list with the same rows of each feeder, and so for the rows of the files, one file after the other.
+pub fn any_mix()
+    ensures alike { (schema : Declared) → (a b : List FedRow) → (counts : List (ℕ × ℕ)) →
+        (records : List (List Field)) → (lines : List (List ℕ)) → AreAlike a b →
+        AreLines schema a counts records lines → AreLines schema b counts records lines }
+    ensures order { (files : List RowFile) → (rows : List FedRow) → IsMixOf files rows →
+        AreAlike rows (in_order 0 (map (λ file. file.rows) files)) }
+{}
