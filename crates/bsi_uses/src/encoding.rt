@@ -1,14 +1,15 @@
 //! A column of a caller's own encoding: each component in the encoding that suits its base.
 
 ghost use Rattle.std.specs.Prelude.{◌≡◌, true, IfOk, map, sum};
-ghost use Rattle.bsi_slices.specs.Rows.{selects};
-ghost use Rattle.bsi_slices.specs.Totals.{numbers_at};
+ghost use Rattle.bsi_library.specs.ColumnRows.{selects};
+ghost use Rattle.bsi_library.specs.Totals.{numbers_at};
 ghost use Rattle.bsi_uses.specs.Encodings.{kept_base, kept_digits, kept_room};
 
 use crate::refused::Refused;
-use bsi_bits::Bits;
-use bsi_columns::{Column, Decomposed, Encoding, EqualityComponent, NoMemory, Op, RangeComponent};
-use bsi_digits::Bases;
+use bsi_library::NoMemory;
+use bsi_library::bits::Bits;
+use bsi_library::columns::{Column, Decomposed, Encoding, EqualityComponent, Op, RangeComponent};
+use bsi_library::digits::Bases;
 use std::alloc::Global;
 
 /// Past this base a component is equality encoded, so that `=` reads one bitmap of it.

@@ -1,8 +1,7 @@
 //! An index over prices, and a question about them.
 
 use crate::refused::Refused;
-use bsi_columns::Op;
-use bsi_table::{Answer, AskError, ColumnSpec, Index, Pred, Query, Row, Schema, Total};
+use bsi_library::{Answer, AskError, ColumnSpec, Index, Op, Pred, Query, Row, Schema, Total};
 use std::alloc::Global;
 
 /// Indexes the prices that fit: nulls, and numbers below 1,000.

@@ -1,8 +1,8 @@
 //! The step machine with two feeders: a query does not see waiting rows, and none of them is lost.
 
 use crate::refused::Refused;
-use bsi_load::Core;
-use bsi_table::{Answer, ColumnSpec, Pred, Query, Row, Schema, Total};
+use bsi_library::machine::Core;
+use bsi_library::{Answer, ColumnSpec, Pred, Query, Row, Schema, Total};
 use std::alloc::Global;
 
 /// Makes a machine of two feeders, each of which may have four rows waiting.

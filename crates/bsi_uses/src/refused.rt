@@ -1,8 +1,8 @@
 //! Why a use has no result: the refusal of one of its calls.
 
-use bsi_digits::BasesError;
-use bsi_load::{LoadRefused, MakeError, SubmitRefused};
-use bsi_table::{AppendError, AskError, IndexError, SchemaError};
+use bsi_library::digits::BasesError;
+use bsi_library::machine::{LoadRefused, MakeError, SubmitRefused};
+use bsi_library::{AppendError, AskError, IndexError, SchemaError};
 use std::alloc::{AllocError, AllocFailed};
 
 /// The refusal of a call.

@@ -4,7 +4,7 @@ use crate::encoding::{make_column, sum_up_to};
 use crate::first::{find_median, index_prices};
 use crate::machine::load_one_of_each;
 use crate::threads::run;
-use bsi_table::Answer;
+use bsi_library::Answer;
 use std::test::Fail;
 
 const PRICES: [Option<i128>; 5] = [Some(250), None, Some(120), Some(1_000), Some(999)];

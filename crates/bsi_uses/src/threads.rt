@@ -1,13 +1,13 @@
 //! A running system: feeders on threads of their own, a loader, and an analyst who is told what was published.
 
 ghost use Rattle.std.specs.Prelude.{◌≡◌, [], All, IfSome, length};
-ghost use Rattle.bsi_table.specs.Table.{no_rows};
-ghost use Rattle.bsi_system.specs.Running.{IsFeederOf};
+ghost use Rattle.bsi_library.specs.Table.{no_rows};
+ghost use Rattle.bsi_library.specs.Running.{IsFeederOf};
 
-use bsi_system::{
+use bsi_library::running::{
     Analyst, Closing, Feeder, History, Loader, Naming, OpenRefused, System, Told, open,
 };
-use bsi_table::{Answer, ColumnSpec, Pred, Query, Row, Schema, Total};
+use bsi_library::{Answer, ColumnSpec, Pred, Query, Row, Schema, Total};
 use std::alloc::Global;
 use std::marker::Brand;
 use std::snapshot::Snapshot;

@@ -1,0 +1,14 @@
+//! The face of the library: one crate to list, with all that a caller names. The modules are the layers below an index
+//! and above it. CALLING.md shows a proved caller, and what each clause gives.
+#![tactic(auto)]
+
+pub use bsi_bits as bits;
+pub use bsi_columns as columns;
+pub use bsi_digits as digits;
+pub use bsi_load as machine;
+pub use bsi_system as running;
+pub use bsi_table::{
+    Answer, AppendError, AskError, ColumnSpec, Form, Index, IndexError, MAX_BLOCK_ROWS,
+    MAX_FEEDERS, MAX_ROWS, MAX_SLICES, NoMemory, Op, Pred, Query, Row, Schema, SchemaError, Total,
+};
+pub use bsi_text as texts;
