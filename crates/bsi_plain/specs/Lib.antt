@@ -1,3 +1,2 @@
 pub mod Columns
-pub mod Plain
 pub mod Tables

@@ -1,5 +1,5 @@
 -- What schemas, rows and predicates of tests are.
-use Rattle.std.specs.Prelude.{◌≡◌, Bool, ◌&&◌, ◌||◌, not, reverse, pos}
+use Rattle.std.specs.Prelude.{◌≡◌, Bool, ◌&&◌, not, reverse, pos}
 use Rattle.std.specs.Ordering.{int_eq}
 use Rattle.bsi_schema.specs.declared.form.Form.{Form as StoredForm}
 use Rattle.bsi_schema.specs.declared.form.Form.TheVariants.{Slices as stored_slices, Equality as stored_equality, Range as stored_range}
@@ -32,7 +32,3 @@ IsNegation pred made = (row : Entries) → holds made row ≡ not (holds pred ro
 -- a predicate holds where both others do
 abbrev pub IsConjunction : Pred → Pred → Pred → Type 0
 IsConjunction first second made = (row : Entries) → holds made row ≡ (holds first row && holds second row)
-
--- a predicate holds where one of the others does
-abbrev pub IsDisjunction : Pred → Pred → Pred → Type 0
-IsDisjunction first second made = (row : Entries) → holds made row ≡ (holds first row || holds second row)

@@ -1,10 +1,9 @@
 //! Columns of every form as the tests make them, and what the tests ask of them. A refused allocation is tried again.
 
-ghost use Rattle.std.specs.Prelude.{◌≡◌, ◌↔◌, ◌<◌, ◌++◌, ◌∷◌, [], reverse, length, map, false, slice_index_or, IsTrue, All, IfOk, OnOk, OnErr, IsOkUnless, ◌^◌, ◌+◌, ◌≤◌};
-ghost use Rattle.std.specs.List.{range_with_len};
+ghost use Rattle.std.specs.Prelude.{◌≡◌, ◌↔◌, ◌<◌, ◌++◌, ◌∷◌, [], reverse, length, map, IsTrue, All, IfOk, OnOk, OnErr, IsOkUnless, ◌^◌, ◌+◌, ◌≤◌};
 ghost use Rattle.bsi_columns.specs.AnyRows.{any_entries, any_form};
 ghost use Rattle.bsi_columns.specs.Rows.{number_or_zero, selects};
-ghost use Rattle.bsi_plain.specs.Columns.{column_form, mixed_entry, AreBases, IsWidth, IsWide};
+ghost use Rattle.bsi_plain.specs.Columns.{column_form, AreBases, IsWidth, IsWide};
 
 use crate::NoMemory;
 use bsi_bits::Bits;
@@ -66,7 +65,7 @@ fn bases_once(alloc: Global, list: &[u32]) -> Result<Bases, MakingError>
 }
 
 /// Makes bases of a list as it is written, most significant first.
-pub fn bases(alloc: Global, list: &[u32]) -> Result<Bases, MakingError>
+fn bases(alloc: Global, list: &[u32]) -> Result<Bases, MakingError>
     ensures bases { IfOk result (λ bases. bases ≡ reverse list.now) }
     ensures err { AreBases list.now → IsOkUnless result MakingError.NoMemory }
 {
@@ -150,36 +149,6 @@ pub fn append<C: Column>(column: &mut C, entries: &[Option<u64>]) -> Result<(), 
     Ok(())
 }
 
-/// Returns the entry of a row in a column of a size: a null now and then, the least and the greatest number, and
-/// numbers far apart.
-pub fn entry(row: u64, size: u64) -> Option<u64>
-    requires { 0 < size }
-    ensures entry { result ≡ mixed_entry size row }
-    ensures below { number_or_zero result < size }
-{
-    match row % 7 {
-        0 => None,
-        1 => Some(0),
-        2 => Some(size - 1),
-        _ => Some(row.wrapping_mul(0x9E37_79B9_7F4A_7C15) % size),
-    }
-}
-
-/// Returns a column with so many rows more, each with its `entry` counted from the first of them.
-pub fn filled<C: Column>(mut column: C, rows: u64) -> Result<C, MakingError>
-    ensures entries { IfOk result (λ filled. C.entries filled ≡ C.entries column
-        ++ map (mixed_entry (C.size_of (C.form_of column))) (range_with_len 0 rows)) }
-    ensures form { IfOk result (λ filled. C.form_of filled ≡ C.form_of column) }
-    ensures err { length (C.entries column) + rows ≤ 2 ^ 32
-        → IsOkUnless result MakingError.NoMemory }
-{
-    let size = column.size();
-    for row in 0..rows {
-        push(&mut column, entry(row, size))?;
-    }
-    Ok(column)
-}
-
 /// Returns for each row whether it is a number that satisfies the comparison `op` with `constant`.
 pub fn compared<C: Column>(column: &C, op: Op, constant: u64) -> Result<Bits, NoMemory>
     ensures { IfOk result (λ found. found.bits
@@ -189,13 +158,6 @@ pub fn compared<C: Column>(column: &C, op: Op, constant: u64) -> Result<Bits, No
         Err(_) => column.compare(op, constant),
         found => found,
     }
-}
-
-/// Returns whether there is a bit at a place, and it is set.
-pub fn is_set(bits: &Bits, place: u64) -> bool
-    ensures { result ≡ slice_index_or bits.now.bits place false }
-{
-    place < bits.len() && bits.get(place)
 }
 
 /// Returns whether a vector has these bits and no others.

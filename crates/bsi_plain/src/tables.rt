@@ -3,7 +3,7 @@
 ghost use Rattle.std.specs.Prelude.{◌≡◌, map, IfOk, OnOk, OnErr};
 ghost use Rattle.std.specs.List.{list_any};
 ghost use Rattle.bsi_schema.specs.Columns.{form_of, with_column};
-ghost use Rattle.bsi_plain.specs.Tables.{as_column, has_offset, stored_form, IsConjunction, IsDisjunction, IsNegation};
+ghost use Rattle.bsi_plain.specs.Tables.{as_column, has_offset, stored_form, IsConjunction, IsNegation};
 
 use crate::NoMemory;
 use crate::columns::{Form, Wide};
@@ -116,11 +116,4 @@ pub fn both(alloc: Global, first: Pred, second: Pred) -> Result<Pred, NoMemory>
     ensures { IfOk result (IsConjunction first second) }
 {
     Ok(Pred::Both(boxed(alloc, first)?, boxed(alloc, second)?))
-}
-
-/// Returns the disjunction of two predicates.
-pub fn either(alloc: Global, first: Pred, second: Pred) -> Result<Pred, NoMemory>
-    ensures { IfOk result (IsDisjunction first second) }
-{
-    Ok(Pred::Either(boxed(alloc, first)?, boxed(alloc, second)?))
 }

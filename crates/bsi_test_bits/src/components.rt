@@ -111,7 +111,7 @@ fn le_is<E: Encoding>(component: &E, d: u32, out: &mut Bits, expected: &[bool]) 
 }
 
 fn shows_three_digits<E: Encoding>(rt: &impl Abort, alloc: Global) -> Result<(), Fail> {
-    let component = component_of::<E>(alloc, 3, &[0, 2, 1])?;
+    let component = component_of::<E>(alloc, 5, &[0, 2, 1])?;
     let mut out = filled(alloc, 3, false)?;
     assert!(rt; eq_is(&component, 2, &mut out, &[false, true, false]));
     assert!(rt; le_is(&component, 1, &mut out, &[true, false, true]));

@@ -2,7 +2,7 @@
 
 use crate::comparisons::{FIFTEEN, selects_shown};
 use bsi_columns::{AnyColumn, Column, NoMemory};
-use bsi_plain::{FORMS, MakingError, append, entry, no_rows};
+use bsi_plain::{FORMS, MakingError, append, no_rows};
 use std::process::Abort;
 use std::test::Fail;
 
@@ -27,7 +27,7 @@ fn push(rt: &impl Abort, column: &mut AnyColumn, entry: Option<u64>) -> Result<(
 
 fn grows_by_rows(rt: &impl Abort, mut column: AnyColumn) -> Result<(), MakingError> {
     for row in 0..257 {
-        push(rt, &mut column, entry(row, 15))?;
+        push(rt, &mut column, Some(row % 15))?;
     }
     assert_eq!(rt; column.len(), 257);
     Ok(())

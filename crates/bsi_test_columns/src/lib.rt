@@ -1,13 +1,10 @@
-//! Tests of columns of every form: what they answer, on worked rows and beside a plain column, what they store, and how
-//! they grow. No crate uses it.
+//! Tests of columns of every form: what they answer on worked rows, what they store, and how they grow. No crate uses it.
 #![tactic(auto)]
 
 #[cfg(test)]
 mod comparisons;
 #[cfg(test)]
 mod growth;
-#[cfg(test)]
-mod narrowing;
 #[cfg(test)]
 mod stored;
 #[cfg(test)]

@@ -1,10 +1,10 @@
-//! Sums, and the least, the greatest and the median numbers, on worked rows and beside a plain column.
+//! Sums, and the least, the greatest and the median numbers, on worked rows.
 
 ghost use Rattle.std.specs.Prelude.{◌≡◌, ◌≤◌, ◌^◌, length};
 
 use bsi_bits::Bits;
 use bsi_columns::{AnyColumn, Column, NoMemory};
-use bsi_plain::{FORMS, Form, MakingError, PlainColumn, Wide, append, filled, no_rows};
+use bsi_plain::{FORMS, Form, MakingError, Wide, append, no_rows};
 use std::alloc::Global;
 use std::process::Abort;
 use std::test::Fail;
@@ -100,60 +100,6 @@ fn totals_table(rt: HostRuntime) -> Result<(), Fail> {
         works(&rt, rt.alloc(), form, &pair, &of_pair)?;
         works(&rt, rt.alloc(), form, &six, &of_six)?;
         works(&rt, rt.alloc(), form, &three, &of_three)?;
-    }
-    Ok(())
-}
-
-/// The rows that are found of each 64: none, all, every second, the first and the last.
-const FOUND: [u64; 5] = [0, u64::MAX, 0x5555_5555_5555_5555, 1, 1 << 63];
-
-fn found_alike(
-    rt: &impl Abort,
-    alloc: Global,
-    column: &AnyColumn,
-    plain: &PlainColumn,
-    word: u64,
-) -> Result<(), NoMemory> {
-    let found = found_rows(alloc, word, column.len())?;
-    let wanted = totals_of(rt, plain, &found)?;
-    assert_eq!(rt; totals_of(rt, column, &found)?, wanted, "{word}");
-    Ok(())
-}
-
-// The column beside a plain one of the same entries.
-fn alike(rt: &impl Abort, alloc: Global, column: &AnyColumn, rows: u64) -> Result<(), MakingError> {
-    let plain = filled(PlainColumn::new(alloc, column.size()), rows)?;
-    for word in FOUND {
-        found_alike(rt, alloc, column, &plain, word)?;
-    }
-    Ok(())
-}
-
-fn form_alike(
-    rt: &impl Abort,
-    alloc: Global,
-    form: Form,
-    wide: Wide,
-    rows: u64,
-) -> Result<(), MakingError> {
-    let column = filled(no_rows(alloc, form, wide)?, rows)?;
-    alike(rt, alloc, &column, rows)
-}
-
-// Of one word, of some words, and of two blocks of 16 words and two words and a bit behind them.
-#[test]
-fn columns_total_as_a_plain_column(rt: HostRuntime) -> Result<(), Fail> {
-    let lists: [(u32, &[u32], u64); 5] = [
-        (3, &[2, 4], 64),
-        (10, &[1024], 65),
-        (63, &[2; 63], 257),
-        (3, &[2, 4], 2177),
-        (12, &[16, 2, 128], 2177),
-    ];
-    for (width, bases, rows) in lists {
-        for form in FORMS {
-            form_alike(&rt, rt.alloc(), form, Wide { width, bases }, rows)?;
-        }
     }
     Ok(())
 }

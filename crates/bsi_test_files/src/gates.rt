@@ -1,6 +1,6 @@
 //! Gates of the tests.
 
-use bsi_files::Gate;
+use bsi_files::{Gate, Stopping};
 use std::sync::Wait;
 use std::sync::atomic::{AtomicBool, AtomicU64, Ordering};
 use std::thread;
@@ -59,6 +59,14 @@ impl Gate for Meeting {
     }
 }
 
+impl Stopping for Meeting {
+    ghost use Rattle.std.specs.Prelude.{false};
+
+    const STOPS: bool = false;
+
+    ghost STOPS = { false };
+}
+
 // Counts the calls, and says so often that a feeder is to try again.
 #[derive(Drop)]
 pub(crate) struct Patience {
@@ -93,4 +101,12 @@ impl Gate for Patience {
     fn again<R: Wait>(&self, _rt: &R, _who: u32, _point: u64) -> bool {
         self.tries.fetch_add(1, Ordering::SeqCst) < self.most
     }
+}
+
+impl Stopping for Patience {
+    ghost use Rattle.std.specs.Prelude.{true};
+
+    const STOPS: bool = true;
+
+    ghost STOPS = { true };
 }

@@ -10,4 +10,6 @@ mod gates;
 #[cfg(test)]
 mod inputs;
 #[cfg(test)]
+mod order;
+#[cfg(test)]
 mod runs;

@@ -2,7 +2,7 @@
 
 use crate::gates::{MAX_TURNS, Meeting, Patience};
 use crate::inputs::{Input, QUANTITIES, long, text};
-use bsi_files::{FilesFault, Gate, Go, run_files};
+use bsi_files::{FilesFault, Gate, Go, Stopping, run_files};
 use bsi_text::SourceFault;
 use std::alloc::{AllocError, Global};
 use std::sync::Wait;
@@ -32,7 +32,7 @@ pub(crate) struct Ended {
     pub(crate) output: Vec<u8>,
 }
 
-fn end_once<R: Threads + Wait + AllocGlobal + Sync, G: Gate + Sync>(
+pub(crate) fn end_once<R: Threads + Wait + AllocGlobal + Sync, G: Gate + Stopping + Sync>(
     rt: &R,
     files: Files<'_>,
     gate: &G,
@@ -52,7 +52,7 @@ fn is_in(part: &[u8], text: &[u8]) -> bool {
 }
 
 // Whether a run wanted memory.
-fn wants_memory(ended: &Result<Ended, AllocError>) -> bool {
+pub(crate) fn wants_memory(ended: &Result<Ended, AllocError>) -> bool {
     match ended {
         Err(_) => true,
         Ok(ended) => match ended.run {
@@ -76,7 +76,7 @@ pub(crate) fn end_of<R: Threads + Wait + AllocGlobal + Sync>(
 }
 
 // How a run through a gate ends; where memory was refused, how one through another ends, and whether it was this one.
-fn end_with<R: Threads + Wait + AllocGlobal + Sync, G: Gate + Sync>(
+fn end_with<R: Threads + Wait + AllocGlobal + Sync, G: Gate + Stopping + Sync>(
     rt: &R,
     files: Files<'_>,
     once: &G,

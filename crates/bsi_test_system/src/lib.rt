@@ -2,8 +2,6 @@
 #![tactic(auto)]
 
 #[cfg(test)]
-mod blocks;
-#[cfg(test)]
 mod calls;
 #[cfg(test)]
 mod crowd;

@@ -1,12 +1,8 @@
-//! Tests of tables, on worked rows and beside a plain one. No crate uses it.
+//! Tests of tables and of the step machine, on worked rows and runs. No crate uses it.
 #![tactic(auto)]
 
 #[cfg(test)]
-mod answers;
-#[cfg(test)]
-mod blocks;
-#[cfg(test)]
-mod selections;
+mod machine;
 #[cfg(test)]
 mod tables;
 #[cfg(test)]

@@ -3,7 +3,9 @@
 use bsi_plain::{EMPTY, NarrowWriter, TextReader};
 use bsi_shell::run_words;
 use std::alloc::{AllocError, Global};
-use std::io::Read;
+use std::io;
+use std::io::{PipeReader, Read, Write};
+use std::os::fd::AsRawFd;
 use std::rt::Files;
 use std::sync::Wait;
 use std::test::Fail;
@@ -112,5 +114,58 @@ fn each_fault_has_its_text_and_status_one(rt: HostRuntime) -> Result<(), Fail> {
         assert_eq!(rt; end.output.as_slice(), wrote.as_bytes(), "at {want}");
         assert_eq!(rt; end.flushes, 1, "at {want}");
     }
+    Ok(())
+}
+
+// A pipe that gives the text and then ends, and its path.
+fn pipe_of<R: AllocGlobal + Files>(rt: &R, text: &str) -> io::Result<(PipeReader, String)> {
+    let (reader, mut writer) = io::pipe(rt)?;
+    writer.write_all(text.as_bytes())?;
+    let path = format!(in rt.alloc(); "/dev/fd/{}", reader.as_raw_fd())?;
+    Ok((reader, path))
+}
+
+// How a run over files ends that goes well, and whose flush fails.
+fn unflushed<R: AllocGlobal + Files<File = S> + Threads + Wait + Sync, S: Read + Drop + Send>(
+    rt: &R,
+) -> io::Result<Ended> {
+    let (_schema, schema) = pipe_of(rt, "column,qty,slices,3\n")?;
+    let (_rows, rows) = pipe_of(rt, "qty\n5\n")?;
+    let words = format!(in rt.alloc(); "files --schema {schema} --asks /dev/null {rows}")?;
+    let line = Line {
+        words: words.as_str(),
+        fails: true,
+        ..PLAIN
+    };
+    Ok(end_once(rt, line)?)
+}
+
+#[test]
+fn a_flush_of_files_that_fails(rt: HostRuntime) -> Result<(), Fail> {
+    let end = match unflushed(&rt) {
+        Ok(end) if end.output.as_slice() == b"fed 0 1 0\n".as_slice() => end,
+        _ => unflushed(&rt)?,
+    };
+    assert_eq!(rt; end.status, 1);
+    assert_eq!(rt; end.output.as_slice(), b"fed 0 1 0\n".as_slice());
+    assert_eq!(rt; end.faults.as_slice(), b"bsi: write failed\n".as_slice());
+    assert_eq!(rt; end.flushes, 1);
+    Ok(())
+}
+
+#[test]
+fn a_fault_of_files_before_a_flush_that_fails(rt: HostRuntime) -> Result<(), Fail> {
+    let line = Line {
+        words: "files --schema /dev/null --asks /dev/null /dev/null",
+        fails: true,
+        ..PLAIN
+    };
+    let end = end_of(&rt, line)?;
+    assert_eq!(rt; end.status, 1);
+    assert_eq!(rt;
+        end.faults.as_slice(),
+        b"bsi: schema: no columns\n".as_slice()
+    );
+    assert_eq!(rt; end.flushes, 1);
     Ok(())
 }

@@ -12,10 +12,10 @@ use std::test::Fail;
 
 /// What a machine is made of.
 #[derive(Clone, Copy)]
-pub(crate) struct Machine<'a> {
-    pub(crate) columns: &'a [DeclaredColumn<'a>],
-    pub(crate) capacities: &'a [u32],
-    pub(crate) limit: u64,
+struct Machine<'a> {
+    columns: &'a [DeclaredColumn<'a>],
+    capacities: &'a [u32],
+    limit: u64,
 }
 
 const PAIR: Machine<'static> = Machine {
@@ -35,32 +35,10 @@ fn core_of(alloc: Global, machine: Machine) -> Result<Core, MakeError> {
 }
 
 /// Makes a machine with no row. If memory is refused, it makes the same call again.
-pub(crate) fn made(alloc: Global, machine: Machine) -> Result<Core, MakeError> {
+fn made(alloc: Global, machine: Machine) -> Result<Core, MakeError> {
     match core_of(alloc, machine) {
         Err(MakeError::NoMemory) => core_of(alloc, machine),
         made => made,
-    }
-}
-
-// Whether both refuse for the same reason, and hand back the same row.
-fn same_refusal(a: &SubmitRefused, b: &SubmitRefused) -> bool {
-    match (a, b) {
-        (SubmitRefused::UnknownFeeder(a), SubmitRefused::UnknownFeeder(b))
-        | (SubmitRefused::Closed(a), SubmitRefused::Closed(b))
-        | (SubmitRefused::Misfit(a), SubmitRefused::Misfit(b))
-        | (SubmitRefused::Full(a), SubmitRefused::Full(b)) => a.values() == b.values(),
-        _ => false,
-    }
-}
-
-fn same_reply(a: &Reply, b: &Reply) -> bool {
-    match (a, b) {
-        (Reply::Submitted(Ok(())), Reply::Submitted(Ok(()))) => true,
-        (Reply::Submitted(Err(a)), Reply::Submitted(Err(b))) => same_refusal(a, b),
-        (Reply::Loaded(a), Reply::Loaded(b)) => a == b,
-        (Reply::Closed(a), Reply::Closed(b)) => a == b,
-        (Reply::Answered(a), Reply::Answered(b)) => a == b,
-        _ => false,
     }
 }
 
@@ -73,20 +51,16 @@ fn lacks_memory(reply: &Reply) -> bool {
 }
 
 /// Returns whether the replies are the wanted ones. A reply that memory was refused makes it refuse the whole run.
-pub(crate) fn are_replies(replies: &[Reply], wanted: &[Reply]) -> Result<bool, NoMemory> {
-    let mut alike = replies.len() == wanted.len();
-    for (reply, wanted) in replies.iter().zip(wanted) {
-        if lacks_memory(reply) {
-            return Err(NoMemory);
-        }
-        alike = alike && same_reply(reply, wanted);
+fn are_replies(replies: &[Reply], wanted: &[Reply]) -> Result<bool, NoMemory> {
+    if replies.iter().any(lacks_memory) {
+        return Err(NoMemory);
     }
-    Ok(alike)
+    Ok(replies == wanted)
 }
 
 /// Returns the replies to a run. If memory for their list is refused, nothing has taken place, and it runs the events
 /// that come back once more.
-pub(crate) fn replies(core: &mut Core, events: Vec<Event>) -> Result<Vec<Reply>, NoMemory> {
+fn replies(core: &mut Core, events: Vec<Event>) -> Result<Vec<Reply>, NoMemory> {
     match core.run(events) {
         Ok(replies) => Ok(replies),
         Err(RunRefused { events }) => core.run(events).map_err(|_| NoMemory),

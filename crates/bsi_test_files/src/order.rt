@@ -1,0 +1,121 @@
+//! Which fault of a run is told first, and which rows a run names to its gate.
+
+use crate::inputs::{QUANTITIES, broken, long, text};
+use crate::runs::{Files, end_of, end_once, wants_memory};
+use bsi_files::{FilesFault, Gate, Stopping};
+use std::sync::Wait;
+use std::sync::atomic::{AtomicU64, Ordering};
+use std::test::Fail;
+
+#[test]
+fn a_bad_schema_record_comes_before_the_reader_that_fails(rt: HostRuntime) -> Result<(), Fail> {
+    let files = Files {
+        schema: broken("column,qty,slices,3\nbegin\n"),
+        asks: text(""),
+        rows: &[text("qty\n1\n")],
+    };
+    let ended = end_of(&rt, files)?;
+    assert_eq!(&rt; ended.run, Err(FilesFault::BadSchema(2)));
+    Ok(())
+}
+
+// Follows the calls of feeder 1: one for each row that it tries, in order, and one at its end. Feeder 0 has no row.
+#[derive(Drop)]
+struct Follower {
+    passes: AtomicU64,
+    stops: AtomicU64,
+    tries: AtomicU64,
+    strange: AtomicU64,
+}
+
+impl Follower {
+    fn new() -> Follower {
+        Follower {
+            passes: AtomicU64::new(0),
+            stops: AtomicU64::new(0),
+            tries: AtomicU64::new(0),
+            strange: AtomicU64::new(0),
+        }
+    }
+}
+
+fn count(calls: &AtomicU64) {
+    calls.fetch_add(1, Ordering::SeqCst);
+}
+
+fn calls(counted: &AtomicU64) -> u64 {
+    counted.load(Ordering::SeqCst)
+}
+
+impl Gate for Follower {
+    fn pass<R: Wait>(&self, _rt: &R, who: u32, point: u64) {
+        let before = if who == 1 { calls(&self.passes) } else { 0 };
+        if who == 1 {
+            count(&self.passes);
+        }
+        // A row that was not accepted is passed once more at the end.
+        if point.saturating_add(1) == before {
+            count(&self.stops);
+        } else if point != before {
+            count(&self.strange);
+        }
+    }
+
+    fn again<R: Wait>(&self, _rt: &R, who: u32, point: u64) -> bool {
+        count(&self.tries);
+        if who != 1 || point.saturating_add(1) != calls(&self.passes) {
+            count(&self.strange);
+        }
+        true
+    }
+}
+
+impl Stopping for Follower {
+    ghost use Rattle.std.specs.Prelude.{false};
+
+    const STOPS: bool = false;
+
+    ghost STOPS = { false };
+}
+
+// Of 1,100 rows the table takes 10 and the ring 1,024 more.
+#[test]
+fn a_feeder_that_stops_names_its_row(rt: HostRuntime) -> Result<(), Fail> {
+    let files = Files {
+        schema: text("column,qty,slices,3\nlimit,10\n"),
+        asks: text(""),
+        rows: &[text("qty\n"), long("qty\n", "1\n", 1_100)],
+    };
+    let mut gate = Follower::new();
+    let mut ended = end_once(&rt, files, &gate);
+    if wants_memory(&ended) || calls(&gate.passes) != 1_036 {
+        gate = Follower::new();
+        ended = end_once(&rt, files, &gate);
+    }
+    assert_eq!(&rt; ended?.run, Err(FilesFault::IndexFull));
+    assert!(&rt; calls(&gate.tries) > 0);
+    assert_eq!(&rt; calls(&gate.passes), 1_036);
+    assert_eq!(&rt; calls(&gate.stops), 1);
+    assert_eq!(&rt; calls(&gate.strange), 0);
+    Ok(())
+}
+
+#[test]
+fn a_feeder_at_its_end_names_how_many_it_sent(rt: HostRuntime) -> Result<(), Fail> {
+    let files = Files {
+        schema: text(QUANTITIES),
+        asks: text(""),
+        rows: &[text("qty\n"), text("qty\n1\n2\n3\n")],
+    };
+    let mut gate = Follower::new();
+    let mut ended = end_once(&rt, files, &gate);
+    if wants_memory(&ended) {
+        gate = Follower::new();
+        ended = end_once(&rt, files, &gate);
+    }
+    assert_eq!(&rt; ended?.run, Ok(()));
+    assert_eq!(&rt; calls(&gate.passes), 4);
+    assert_eq!(&rt; calls(&gate.stops), 0);
+    assert_eq!(&rt; calls(&gate.strange), 0);
+    Ok(())
+}
