@@ -1,21 +1,20 @@
 #!/usr/bin/env python3
-"""Checks the documents against the repository: links, the version, quoted code, the examples, and what runs print.
+"""Checks the documents against the repository: sizes, links, the version, quoted code, the examples, and what runs print.
 
-- A link to a file of the repository leads to one, and behind a # to a heading; so does each name docs/X.md.
+- No page is too long. A link to a file of the repository leads to one, and behind a # to a heading; so does each name docs/X.md.
 - The version in VERSION is that of the manual page, whose date is that of the newest heading of CHANGELOG.md, of that
   heading, and of README.md.
 - The lines of a block ```rust stand so, one below the other, in a file of crates/bsi_uses/src.
 - examples/README.md names each file and folder of examples/, and docs/ARCHITECTURE.md lists the crates of crates.txt, in its order.
-- A line `$ COMMAND` of a block ```console, run in examples/ with the program on the path, prints the lines below it.
+- A line `$ COMMAND` of a block ```console, run in examples/ with the program of the tarball of `make dist` on the path and no kit, prints
+  the lines below it.
 """
-
-import sys
-
-sys.dont_write_bytecode = True
 
 import glob
 import os
 import re
+import sys
+import tempfile
 import textwrap
 
 import workspace
@@ -25,6 +24,11 @@ NAMED = re.compile(r"\bdocs/[A-Z_-]+\.md\b")
 BLOCK = re.compile(r"^```(\w*)\n(.*?)^```$", re.MULTILINE | re.DOTALL)
 HEADING = re.compile(r"^#+ (.*)$", re.MULTILINE)
 VERSION = re.compile(r"\d+\.\d+\.\d+")
+# How many bytes a page may have, and how many those may have that are named.
+MAX_SIZE = 12_288
+MAX_SIZES = {"docs/PROMISES.md": 25_600, "docs/ARCHITECTURE.md": 17_000, "README.md": 13_000, "docs/TOOLS.md": 7_000}
+# What the program of the tarball finds on a machine without the kit.
+PATH = "/usr/local/bin:/usr/bin:/bin"
 
 
 def text_of(path):
@@ -34,7 +38,7 @@ def text_of(path):
 
 def documents(top):
     """Returns the path of each document below the folder, from there."""
-    found = [path for pattern in ("*.md", "docs/*.md", "examples/*.md", "cases/*.md") for path in glob.glob(os.path.join(top, pattern))]
+    found = [path for pattern in ("*.md", "docs/*.md", "examples/*.md", "cases/*.md", "crates/*/*.md") for path in glob.glob(os.path.join(top, pattern))]
     return sorted(os.path.relpath(path, top) for path in found)
 
 
@@ -46,7 +50,16 @@ def blocks(top, language):
                 yield document, text
 
 
-# ---- Links ----
+# ---- Sizes and links ----
+
+
+def fault_in_sizes(top):
+    """Returns which page is too long, or None."""
+    for document in documents(top):
+        size, most = os.path.getsize(os.path.join(top, document)), MAX_SIZES.get(document, MAX_SIZE)
+        if size > most:
+            return f"{document} has {size} bytes, more than {most}"
+    return None
 
 
 def anchors(path):
@@ -152,9 +165,9 @@ def runs_of(text):
     return [(command, "".join(lines)) for command, lines in commands]
 
 
-def fault_in_runs(top, program):
+def fault_in_runs(top, program="bin/bsi"):
     """Returns which command of a document prints something else, or None."""
-    path = os.pathsep.join([os.path.dirname(program), os.environ.get("PATH", "")])
+    path = os.pathsep.join([os.path.dirname(program), PATH])
     found = [(document, run) for document, text in blocks(top, "console") for run in runs_of(text)]
     if not os.path.isfile(program):
         return f"the program is not built: {program}"
@@ -170,13 +183,24 @@ def fault_in_runs(top, program):
     return None
 
 
+def fault_in_tarball(top):
+    """Returns what is wrong with the tarball of `make dist`, or which command of a document prints something else by its program, or None."""
+    with tempfile.TemporaryDirectory(prefix="bsi-dist-") as room:
+        line = f"make -s -o build dist && cd out/dist && sha256sum --check --quiet SHA256SUMS && tar -xzf *.tar.gz -C {room}"
+        ran = workspace.run(["sh", "-c", line], folder=top)
+        if ran.status:
+            return f"make dist: {workspace.ending(ran.status)}: {ran.err.decode(errors='replace').strip()}"
+        return fault_in_runs(top, *glob.glob(os.path.join(room, "*", "bin", "bsi")))
+
+
 CHECKS = (
+    ("sizes", fault_in_sizes),
     ("links within the repository", fault_in_links),
     ("the version", fault_in_version),
     ("lines of Rattle", fault_in_rattle),
     ("names of examples", fault_in_names),
     ("the list of crates", fault_in_crates),
-    ("runs of examples", lambda top: fault_in_runs(top, workspace.PROGRAM)),
+    ("runs of examples by the tarball's program", fault_in_tarball),
 )
 
 
