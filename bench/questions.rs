@@ -1,5 +1,5 @@
-//! The peer of questions.rattle in Rust: scans of plain lists without a branch, the ends of a column by hand-written descents over blocks
-//! of bitmaps, and a pass that only reads the bitmaps of three comparisons.
+//! The peer of questions.rattle in Rust: scans of plain lists, without a branch where they count or add, the ends of a column by
+//! hand-written descents over blocks of bitmaps, and a pass that only reads the bitmaps of three comparisons.
 //!
 //! Built by `rustc -C opt-level=3 -C target-cpu=x86-64-v2`. A descent takes the found rows of 32 words, goes down the slices or the
 //! components from the most significant one, and leaves the block once it can't beat the best number so far.
@@ -9,6 +9,9 @@ use std::time::Instant;
 
 /// A multiplier that spreads a row's number over the values.
 const SPREAD: u64 = 0x9E37_79B9_7F4A_7C15;
+
+/// How many feeders the rows come from.
+const FEEDERS: u64 = 8;
 
 /// How many blocks of 64 rows differ, and which of so many holds the rare row.
 const KINDS: u64 = 16;
@@ -38,14 +41,16 @@ fn value_of(row: u64, column: u64) -> u32 {
     (row.wrapping_add(column.wrapping_mul(1000)).wrapping_mul(SPREAD) >> 44) as u32
 }
 
-/// The three columns as plain lists.
+/// The three columns as plain lists, and the feeder of each row with the row's number among those of that feeder.
 struct Lists {
     columns: [Vec<u32>; 3],
+    origins: Vec<(u32, u64)>,
 }
 
 impl Lists {
     fn new(rows: u64) -> Lists {
         let mut columns = [const { Vec::new() }; 3];
+        let (mut origins, mut fed) = (Vec::new(), [0; FEEDERS as usize]);
         for row in 0..rows / 64 * 64 {
             let (block, at) = (row / 64, row % 64);
             let is_rare = block % RARE == RARE / 2;
@@ -53,8 +58,11 @@ impl Lists {
             for (column, list) in (0..).zip(&mut columns) {
                 list.push(if is_rare && at == 0 { GREATEST } else { value_of(kind, column) });
             }
+            let feeder = (kind.wrapping_mul(SPREAD) >> 40) % FEEDERS;
+            fed[feeder as usize] += 1;
+            origins.push((feeder as u32, fed[feeder as usize]));
         }
-        Lists { columns }
+        Lists { columns, origins }
     }
 
     fn len(&self) -> usize {
@@ -85,6 +93,25 @@ impl Lists {
     fn greatest(&self) -> u64 {
         let rows = self.columns[0].iter().zip(&self.columns[1]);
         u64::from(rows.map(|(a, b)| if *b <= BELOW { *a } else { 0 }).max().unwrap_or(0))
+    }
+
+    fn sum(&self) -> u64 {
+        let rows = self.columns[0].iter().zip(&self.columns[1]);
+        rows.map(|(a, b)| if *b <= BELOW { u64::from(*a) } else { 0 }).sum()
+    }
+
+    fn median(&self) -> u64 {
+        let rows = self.columns[0].iter().zip(&self.columns[1]);
+        let mut found: Vec<u32> = rows.filter(|(_, b)| **b <= BELOW).map(|(a, _)| *a).collect();
+        let middle = (found.len() - 1) / 2;
+        u64::from(*found.select_nth_unstable(middle).1)
+    }
+
+    /// Where the rows come from whose number in a column holds.
+    fn list(&self, column: usize, holds: impl Fn(u32) -> bool) -> u64 {
+        let rows = self.columns[column].iter().zip(&self.origins);
+        let listed: Vec<(u32, u64)> = rows.filter(|(number, _)| holds(**number)).map(|(_, origin)| *origin).collect();
+        black_box(&listed).len() as u64
     }
 }
 
@@ -244,6 +271,12 @@ fn time_scans(lists: &Lists, samples: u32) {
     time("scan.not", n, samples, || lists.count_first(|a| !(a <= BELOW)));
     time("scan.two", n, samples, || lists.count_two());
     time("scan.three", n, samples, || lists.count(|a, b, c| (a > ABOVE) & (b < BELOW) & (c <= HALF)));
+    time("scan.eq", n, samples, || lists.count_first(|a| a == ABOVE));
+    time("scan.sum", n, samples, || lists.sum());
+    time("scan.median", n, samples.div_ceil(4), || lists.median());
+    time("scan.found", n, samples, || lists.count_first(|a| a == GREATEST));
+    time("scan.few", n, samples, || lists.list(0, |a| a == GREATEST));
+    time("scan.many", n, samples.div_ceil(4), || lists.list(1, |b| b <= BELOW));
     time("scan.least", n, samples, || lists.least());
     time("scan.greatest", n, samples, || lists.greatest());
 }

@@ -103,9 +103,11 @@ impl Machine {
                 Part::Compare(column, sign, constant) => {
                     stack[top] = row[*column].is_some_and(|value| match *sign {
                         b"=" => value == *constant,
+                        b"!=" => value != *constant,
                         b"<" => value < *constant,
                         b"<=" => value <= *constant,
-                        _ => value > *constant,
+                        b">" => value > *constant,
+                        _ => value >= *constant,
                     });
                     top += 1;
                 }
