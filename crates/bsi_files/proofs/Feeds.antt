@@ -27,7 +27,7 @@ pub record HasGone {R : Type 0} (rem : R → Option (List ℕ)) (old new : Sourc
 pub record HasSent {R : Type 0} (rem : R → Option (List ℕ)) (feeder : Sending) (source : Source R) (n : ℕ) (now : Sending) (after : Source R) : Type 0 where
   pub rows : List Entries
   pub number : now.number ≡ feeder.number
-  pub lane : now.lane ≡ feeder.lane
+  pub channel : now.channel ≡ feeder.channel
   pub sent : now.sent ≡ feeder.sent ++ rows
   pub many : length rows ≡ n
   pub gives : (all : List Entries) → (others : ℕ) → StillHas rem source all others → HasRest rem source after rows all others
@@ -48,7 +48,7 @@ module _ {R : Type 0} (rem : R → Option (List ℕ)) (feeder : Sending) (source
   sent_none none = record {
     rows = [];
     number = refl;
-    lane = refl;
+    channel = refl;
     sent = sym (append-nil feeder.sent);
     many = refl;
     gives = λ all others still. record { rest = all; left = others; parts = refl; still = still; count = refl };
@@ -69,7 +69,7 @@ module _ {R : Type 0} (rem : R → Option (List ℕ)) (feeder : Sending) (source
   sent_more join n now next after then_ row has is first gives = record {
     rows = has.rows ++ row ∷ [];
     number = ap (λ (s : Sending). s.number) is ∙ has.number;
-    lane = ap (λ (s : Sending). s.lane) is ∙ has.lane;
+    channel = ap (λ (s : Sending). s.channel) is ∙ has.channel;
     sent = ap (λ (s : Sending). s.sent) is ∙ (ap (λ xs. xs ++ row ∷ []) has.sent ∙ append_assoc feeder.sent has.rows (row ∷ []));
     many = omega (arith, length-append has.rows (row ∷ []), has.many);
     gives = λ all others still.

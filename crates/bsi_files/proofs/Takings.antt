@@ -4,7 +4,7 @@ use Rattle.std.specs.Prelude.{IfErr, OnErr, OnOk, is_some, slice_get}
 use Rattle.std.proofs.lemmas.List.{append-nil}
 use Rattle.std.proofs.lemmas.List.Elements.{All-head, All-tail}
 use Rattle.bsi_load.specs.Runs.{rows_from}
-use Rattle.bsi_rings.specs.Rings.{new_feeders, new_sending, LaneName, Sending, Sent}
+use Rattle.bsi_rings.specs.Rings.{new_feeders, new_sending, ChannelName, Sending, Sent}
 use Rattle.bsi_system.specs.Running.{no_taking, settled_as, taking_at, with_taken, published_all, AlwaysHolds, IsClosingOf, IsFeederOf, Loading, LoadsOne, System, Taking}
 use Rattle.bsi_table.specs.Rows.{Entries, FedRow}
 use Rattle.bsi_text.specs.Sources.{Source}
@@ -77,8 +77,8 @@ module _ (old told new : Loading) (closing : Sent) (is : told ≡ settled_as old
   settled_told : (taking_at told.takings closing.number).told ≡ Some closing.rows
   settled_told =
       let t : Taking = record { taken = (taking_at old.takings closing.number).taken; told = Some closing.rows } in
-      let within : closing.number < length old.system.lanes = get_lt old.system.lanes closing.number closing.lane of in
-      let many : length told.takings ≡ length old.system.lanes = always.many ∙ ap (λ (s : System). length s.lanes) same in
+      let within : closing.number < length old.system.channels = get_lt old.system.channels closing.number closing.channel of in
+      let many : length told.takings ≡ length old.system.channels = always.many ∙ ap (λ (s : System). length s.channels) same in
       let ts : told.takings ≡ slice_set old.takings closing.number t = ap (λ (s : Loading). s.takings) is in
       let long : length (slice_set old.takings closing.number t) ≡ length old.takings = set_length old.takings closing.number t in
       let l : length told.takings ≡ length old.takings = ap length ts ∙ long in
@@ -201,21 +201,21 @@ loaded_all system all left takings feds has none =
 -- ---- from the ends of threads to what a run has
 
 -- feeders as they are opened
-pub feeders_are : (system : System) (n : ℕ) (lanes : List LaneName) (capacities : List ℕ) → All (λ feeder. IsFeederOf feeder system) (new_feeders n lanes capacities)
-    → AreFeeders system n (new_feeders n lanes capacities)
+pub feeders_are : (system : System) (n : ℕ) (channels : List ChannelName) (capacities : List ℕ) → All (λ feeder. IsFeederOf feeder system) (new_feeders n channels capacities)
+    → AreFeeders system n (new_feeders n channels capacities)
 feeders_are system n [] capacities own = tt
-feeders_are system n (lane ∷ lanes) [] own = tt
-feeders_are system n (lane ∷ lanes) (capacity ∷ capacities) own =
-    let first : Sending = new_sending n lane capacity in
-    let rest = new_feeders (suc n) lanes capacities in (
+feeders_are system n (channel ∷ channels) [] own = tt
+feeders_are system n (channel ∷ channels) (capacity ∷ capacities) own =
+    let first : Sending = new_sending n channel capacity in
+    let rest = new_feeders (suc n) channels capacities in (
       (refl, All-head (λ (feeder : Sending). IsFeederOf feeder system) first rest own, refl),
-      feeders_are system (suc n) lanes capacities (All-tail (λ (feeder : Sending). IsFeederOf feeder system) first rest own),
+      feeders_are system (suc n) channels capacities (All-tail (λ (feeder : Sending). IsFeederOf feeder system) first rest own),
     )
 
-pub feeders_long : (n : ℕ) (lanes : List LaneName) (capacities : List ℕ) → length lanes ≡ length capacities → length (new_feeders n lanes capacities) ≡ length lanes
+pub feeders_long : (n : ℕ) (channels : List ChannelName) (capacities : List ℕ) → length channels ≡ length capacities → length (new_feeders n channels capacities) ≡ length channels
 feeders_long n [] capacities same = refl
-feeders_long n (lane ∷ lanes) [] same = absurd (omega arith)
-feeders_long n (lane ∷ lanes) (capacity ∷ capacities) same = ap suc (feeders_long (suc n) lanes capacities (omega arith))
+feeders_long n (channel ∷ channels) [] same = absurd (omega arith)
+feeders_long n (channel ∷ channels) (capacity ∷ capacities) same = ap suc (feeders_long (suc n) channels capacities (omega arith))
 
 module _ {R : Type 0} (rem : R → Option (List ℕ)) where
   pub closings_of : (system : System) (n : ℕ) (feeders : List Sending) (sources : List (Source R)) (ends : List FeedEnd) → AreFeeders system n feeders
@@ -224,14 +224,14 @@ module _ {R : Type 0} (rem : R → Option (List ℕ)) where
   closings_of system n [] sources (end ∷ ends) own are = absurd are
   closings_of system n (feeder ∷ feeders) [] (end ∷ ends) own are = absurd are
   closings_of system n (feeder ∷ feeders) (source ∷ sources) (end ∷ ends) own are =
-      (by end.closing are.0.number are.0.lane, closings_of system (suc n) feeders sources ends own.1 are.1)
+      (by end.closing are.0.number are.0.channel, closings_of system (suc n) feeders sources ends own.1 are.1)
     where
-      by : (o : Option Sent) → IfSome o (λ closing. closing.number ≡ feeder.number) → IfSome o (λ closing. closing.lane ≡ feeder.lane)
+      by : (o : Option Sent) → IfSome o (λ closing. closing.number ≡ feeder.number) → IfSome o (λ closing. closing.channel ≡ feeder.channel)
           → IfSome o (λ closing. (closing.number ≡ n) × IsClosingOf closing system)
-      by None number lane = tt
-      by (Some closing) number lane = (
+      by None number channel = tt
+      by (Some closing) number channel = (
         number ∙ own.0.0,
-        ap (λ k. slice_get system.lanes k) number ∙ (own.0.1 ∙ ap (λ (l : LaneName). Some l) (sym lane)),
+        ap (λ k. slice_get system.channels k) number ∙ (own.0.1 ∙ ap (λ (l : ChannelName). Some l) (sym channel)),
       )
 
   fed_one : (stops : Bool) (rows : List FedRow) (takings : List Taking) (n : ℕ) (feeder : Sending) (source : Source R) (end : FeedEnd) (fed : Fed)
@@ -272,10 +272,10 @@ module _ {R : Type 0} (rem : R → Option (List ℕ)) where
 
   -- after the last publish
   pub all_fed : (stops : Bool) (loaded now : Loading) (system : System) (feeders : List Sending) (sources : List (Source R)) (ends : List FeedEnd) (feds : List Fed)
-      → now ≡ published_all loaded → AlwaysHolds now → loaded.system ≡ system → length system.lanes ≡ length feeders → length sources ≡ length feeders
+      → now ≡ published_all loaded → AlwaysHolds now → loaded.system ≡ system → length system.channels ≡ length feeders → length sources ≡ length feeders
       → AreFeeders system 0 feeders → AreEndsOf rem (tasks feeders sources) ends → AreLoaded loaded.takings 0 ends feds → All (IsFine stops) feds
       → IsAllFed rem stops now.published sources feds
-  all_fed stops loaded now system feeders sources ends feds is always same lanes many own are taken fine =
+  all_fed stops loaded now system feeders sources ends feds is always same channels many own are taken fine =
       let takings_is : now.takings ≡ loaded.takings = ap (λ (s : Loading). s.takings) is in
       let held_is : now.held ≡ [] = ap (λ (s : Loading). s.held) is in
       let system_is : now.system ≡ system = ap (λ (s : Loading). s.system) is ∙ same in
@@ -283,7 +283,7 @@ module _ {R : Type 0} (rem : R → Option (List ℕ)) where
       λ f. ap (λ rows. rows_from f rows) (sym (ap (λ rows. now.published ++ rows) held_is ∙ append-nil now.published))
       ∙ (always.balanced f ∙ ap (λ ts. (taking_at ts f).taken) takings_is) in
       let long : length loaded.takings ≡ length sources =
-      sym (ap (λ (ts : List Taking). length ts) takings_is) ∙ (always.many ∙ (ap (λ (s : System). length s.lanes) system_is ∙ (lanes ∙ sym many))) in
+      sym (ap (λ (ts : List Taking). length ts) takings_is) ∙ (always.many ∙ (ap (λ (s : System). length s.channels) system_is ∙ (channels ∙ sym many))) in
       record {
         each = fed_all stops now.published loaded.takings system 0 feeders sources ends feds from many own are taken fine;
         none = λ f le. from f ∙ past loaded.takings f (omega arith);

@@ -11,7 +11,7 @@ use Rattle.bsi_files.specs.Matching.{AreMatched}
 -- the source answered
 pub record IsEndOf {R : Type 0} (rem : R → Option (List ℕ)) (feeder : Sending) (source : Source R) (end : FeedEnd) : Type 0 where
   pub number : IfSome end.closing (λ closing. closing.number ≡ feeder.number)
-  pub lane : IfSome end.closing (λ closing. closing.lane ≡ feeder.lane)
+  pub channel : IfSome end.closing (λ closing. closing.channel ≡ feeder.channel)
   pub fed : IfSome end.closing (λ closing. HasFed rem source feeder.sent closing.rows end.accepted end.bad end.stopped end.fault)
   pub fault : IfSome end.fault (HasFailed rem source end.accepted)
 
@@ -38,7 +38,7 @@ AreFeeders system n (feeder ∷ feeders) =
 -- the feeders of a system, as they are opened, and a source for each of its rings
 pub record AreReady {R : Type 0} (system : System) (feeders : List Sending) (sources : List (Source R)) : Type 0 where
   pub own : AreFeeders system 0 feeders
-  pub lanes : length system.lanes ≡ length feeders
+  pub channels : length system.channels ≡ length feeders
   pub many : length sources ≡ length feeders
 
 -- ends whose closings are of a system, numbered from n

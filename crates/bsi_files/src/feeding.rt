@@ -51,7 +51,7 @@ pub fn feed<R: Wait, I: Read + Drop, G: Gate>(
     gate: &G,
 ) -> FeedEnd
     ensures number { IfSome result.closing (λ closing. closing.number ≡ feeder.number) }
-    ensures lane { IfSome result.closing (λ closing. closing.lane ≡ feeder.lane) }
+    ensures channel { IfSome result.closing (λ closing. closing.channel ≡ feeder.channel) }
 
     // The closing carries what was sent before, and then the rows that were accepted: the first good ones that the
     // source still had. Where nothing stopped the feeder and there is no fault, they are all of them, and the bad

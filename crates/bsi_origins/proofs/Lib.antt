@@ -1,2 +1,2 @@
-pub mod Marking
+pub mod Tallying
 pub mod Numbers

@@ -1,4 +1,4 @@
--- The feeder of each row, and marks: counts by feeder before every 512th row.
+-- The feeder of each row, and tallies: counts by feeder before every 512th row.
 use Rattle.std.specs.Prelude.{◌≡◌, ℕ, ◌+◌, ◌*◌, ◌/◌, ◌^◌, ◌<◌, ◌≤◌, List, All, length, take, count_by, nat_eq, nat_le, slice_index, if◌then◌else◌}
 
 -- what a contract sees of an 'Origins': the feeder of each row, how many feeders there are, and how many more rows can
@@ -16,32 +16,32 @@ count_before rows r feeder = count_by (λ row_feeder. nat_eq row_feeder feeder) 
 abbrev pub AreCounts : ℕ → List ℕ → ℕ → List ℕ → Type 0
 AreCounts feeders rows r counts = (f : ℕ) → f < feeders → slice_index counts f ≡ count_before rows r f
 
--- how many counts a mark has: one for each feeder, and none where there is one feeder alone
-abbrev pub mark_len : ℕ → ℕ
-mark_len feeders = if nat_le feeders 1 then 0 else feeders
+-- how many counts a tally has: one for each feeder, and none where there is one feeder alone
+abbrev pub tally_len : ℕ → ℕ
+tally_len feeders = if nat_le feeders 1 then 0 else feeders
 
--- how many marks so many rows have: one before each stretch of 512, the last of which may be cut short
-abbrev pub mark_count : ℕ → ℕ
-mark_count rows = (rows + 511) / 512
+-- how many tallies so many rows have: one before each stretch of 512, the last of which may be cut short
+abbrev pub tally_count : ℕ → ℕ
+tally_count rows = (rows + 511) / 512
 
--- mark k has the counts of the first 512 k rows; the marks stand one after the other
-abbrev pub AreMarks : ℕ → List ℕ → List ℕ → Type 0
-AreMarks len rows marks =
+-- tally k has the counts of the first 512 k rows; the tallies stand one after the other
+abbrev pub AreTallies : ℕ → List ℕ → List ℕ → Type 0
+AreTallies len rows tallies =
     (k f : ℕ) → 512 * k < length rows → f < len
-    → slice_index marks (len * k + f) ≡ count_before rows (512 * k) f
+    → slice_index tallies (len * k + f) ≡ count_before rows (512 * k) f
 
--- the feeders of rows are kept so: with the counts of all rows, and the marks
-pub record IsMarked (feeders : ℕ) (rows counts marks : List ℕ) : Type 0 where
+-- the feeders of rows are kept so: with the counts of all rows, and the tallies
+pub record IsTallied (feeders : ℕ) (rows counts tallies : List ℕ) : Type 0 where
   pub some : 1 ≤ feeders
   pub few : feeders ≤ 64
   pub from : All (λ feeder. feeder < feeders) rows
   pub long : length counts ≡ 64
   pub counted : AreCounts feeders rows (length rows) counts
-  pub many : length marks ≡ mark_len feeders * mark_count (length rows)
-  pub each : AreMarks (mark_len feeders) rows marks
+  pub many : length tallies ≡ tally_len feeders * tally_count (length rows)
+  pub each : AreTallies (tally_len feeders) rows tallies
 
--- there is room for so many more rows, where lists of these capacities keep the feeders and the marks
-pub record HasRoomFor (room rows feeders kept marks : ℕ) : Type 0 where
+-- there is room for so many more rows, where lists of these capacities keep the feeders and the tallies
+pub record HasRoomFor (room rows feeders kept tallies : ℕ) : Type 0 where
   pub within : rows + room ≤ 2 ^ 32
   pub rows_fit : rows + room ≤ kept
-  pub marks_fit : mark_len feeders * mark_count (rows + room) ≤ marks
+  pub tallies_fit : tally_len feeders * tally_count (rows + room) ≤ tallies

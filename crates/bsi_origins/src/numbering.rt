@@ -76,7 +76,7 @@ fn number_many(alloc: Global, found: &Bits, origins: &Origins) -> Result<Vec<(u3
 }
 
 /// Moves the counts of the rows before `from` forward to those before `to`. Within the same stretch it counts on from
-/// there; for a later stretch it begins at its mark.
+/// there; for a later stretch it begins at its tally.
 fn count_forward(origins: &Origins, counts: &mut Counts, from: u64, to: u64)
     requires forward { from ≤ to }
     requires within { to < length origins.now.rows }
@@ -86,7 +86,7 @@ fn count_forward(origins: &Origins, counts: &mut Counts, from: u64, to: u64)
     if origins.feeders() == 1 {
         counts[0] = to;
     } else if from / STRETCH_ROWS < to / STRETCH_ROWS {
-        origins.read_mark(to / STRETCH_ROWS, counts);
+        origins.read_tally(to / STRETCH_ROWS, counts);
         count_rows(origins, counts, to / STRETCH_ROWS * STRETCH_ROWS, to);
     } else {
         count_rows(origins, counts, from, to);

@@ -1,11 +1,11 @@
 //! The feeder of each row, and the counts by which a row's number among its feeder's rows is found.
 //!
-//! A feeder is a byte. Where there are several, a mark stands before each 512th row: for each feeder, how many of the
-//! rows before came from it, in 4 bytes. A mark costs 0.008 bytes a row and feeder, and a row that stands alone is
-//! numbered by one mark and up to 511 bytes.
+//! A feeder is a byte. Where there are several, a tally stands before each 512th row: for each feeder, how many of the
+//! rows before came from it, in 4 bytes. A tally costs 0.008 bytes a row and feeder, and a row that stands alone is
+//! numbered by one tally and up to 511 bytes.
 
 ghost use Rattle.std.specs.Prelude.{◌≡◌, ◌+◌, ◌-◌, ◌*◌, ◌<◌, ◌≤◌, ◌^◌, ◌++◌, ◌∷◌, [], All, IfOk, IsOk, OnErr, OnOk, length, min, slice_index, vec_len, vec_capacity};
-ghost use Rattle.bsi_origins.specs.Origins.{mark_len, AreCounts};
+ghost use Rattle.bsi_origins.specs.Origins.{tally_len, AreCounts};
 
 use crate::NoMemory;
 use bsi_bits::room_to_make;
@@ -15,35 +15,35 @@ use std::marker::Model;
 /// The most feeders of a table.
 pub const MAX_FEEDERS: u32 = 64;
 
-/// The number of rows from one mark to the next.
+/// The number of rows from one tally to the next.
 pub(crate) const STRETCH_ROWS: u64 = 512;
 
 /// A count for each feeder.
 pub(crate) type Counts = [u64; MAX_FEEDERS as usize];
 
-/// The feeder of each of at most 2^32 rows, one byte per row. If there are several feeders, a mark stands before each
+/// The feeder of each of at most 2^32 rows, one byte per row. If there are several feeders, a tally stands before each
 /// stretch of 512 rows. It tells how many of the rows before came from each feeder, in 4 bytes per feeder.
 #[derive(Drop)]
 pub struct Origins {
     feeders: u32,
     row_feeders: Vec<u8>,
     counts: Counts,
-    marks: Vec<u32>,
+    tallies: Vec<u32>,
     room: u64,
 }
 
 // Clauses see the feeder of each row, the number of feeders, and for how many more rows there is room.
 impl Model for Origins {
     ghost use Rattle.std.specs.Prelude.{length, vec_capacity};
-    ghost use Rattle.bsi_origins.specs.Origins.{HasRoomFor, IsMarked, OriginList};
+    ghost use Rattle.bsi_origins.specs.Origins.{HasRoomFor, IsTallied, OriginList};
 
     ghost Value = { OriginList };
 
     ghost view = { λ o. record { rows = o.row_feeders.items; feeders = o.feeders; room = o.room } };
 
-    ghost invariant = { λ o. IsMarked o.feeders o.row_feeders.items o.counts o.marks.items
+    ghost invariant = { λ o. IsTallied o.feeders o.row_feeders.items o.counts o.tallies.items
         × HasRoomFor o.room (length o.row_feeders.items) o.feeders (vec_capacity o.row_feeders)
-        (vec_capacity o.marks) };
+        (vec_capacity o.tallies) };
 }
 
 impl Origins {
@@ -58,7 +58,7 @@ impl Origins {
             feeders,
             row_feeders: Vec::new(alloc),
             counts,
-            marks: Vec::new(alloc),
+            tallies: Vec::new(alloc),
             room: 0,
         }
     }
@@ -109,9 +109,9 @@ impl Origins {
         }
         let wanted = room_to_make(self.len(), more);
         let rows = self.len() + wanted;
-        let marks = mark_len(self.feeders) * rows.div_ceil(STRETCH_ROWS) as usize;
+        let tallies = tally_len(self.feeders) * rows.div_ceil(STRETCH_ROWS) as usize;
         self.row_feeders.reserve(wanted as usize)?;
-        self.marks.reserve(marks - self.marks.len())?;
+        self.tallies.reserve(tallies - self.tallies.len())?;
         self.room = wanted;
         Ok(())
     }
@@ -125,7 +125,7 @@ impl Origins {
         ensures room { self.new.room + 1 ≡ self.old.room }
     {
         if self.row_feeders.len() as u64 % STRETCH_ROWS == 0 {
-            push_mark(&mut self.marks, &self.counts[..mark_len(self.feeders)]);
+            push_tally(&mut self.tallies, &self.counts[..tally_len(self.feeders)]);
         }
         self.row_feeders.push_reserved(feeder);
         self.counts[feeder as usize] += 1;
@@ -133,7 +133,7 @@ impl Origins {
     }
 
     /// Writes how many of the rows before stretch `k` came from each feeder. It requires several feeders.
-    pub(crate) fn read_mark(&self, k: u64, counts: &mut Counts)
+    pub(crate) fn read_tally(&self, k: u64, counts: &mut Counts)
         requires several { 1 < self.now.feeders }
         requires there { 512 * k < length self.now.rows }
         ensures { AreCounts self.now.feeders self.now.rows (512 * k) counts.new }
@@ -141,7 +141,7 @@ impl Origins {
         let len = self.feeders as usize;
         let start = len * k as usize;
         'feeders: for f in 0..len {
-            counts[f] = u64::from(self.marks[start + f]);
+            counts[f] = u64::from(self.tallies[start + f]);
         }
     }
 
@@ -151,32 +151,32 @@ impl Origins {
         ensures feeders { IfOk result (λ origins. origins.feeders ≡ self.now.feeders) }
     {
         let row_feeders = self.row_feeders.clone()?;
-        let marks = self.marks.clone()?;
+        let tallies = self.tallies.clone()?;
         Ok(Origins {
             feeders: self.feeders,
             row_feeders,
             counts: self.counts,
-            marks,
+            tallies,
             room: 0,
         })
     }
 }
 
-/// Returns how many counts a mark has.
-fn mark_len(feeders: u32) -> usize
-    ensures { result ≡ mark_len feeders }
+/// Returns how many counts a tally has.
+fn tally_len(feeders: u32) -> usize
+    ensures { result ≡ tally_len feeders }
 {
     if feeders > 1 { feeders as usize } else { 0 }
 }
 
-/// Appends counts below 2^32 to the marks, into room that is already there.
-fn push_mark(marks: &mut Vec<u32>, counts: &[u64])
-    requires room { vec_len marks.old + length counts.now ≤ vec_capacity marks.old }
+/// Appends counts below 2^32 to the tallies, into room that is already there.
+fn push_tally(tallies: &mut Vec<u32>, counts: &[u64])
+    requires room { vec_len tallies.old + length counts.now ≤ vec_capacity tallies.old }
     requires small { All (λ count. count < 2 ^ 32) counts.now }
-    ensures items { marks.new.items ≡ marks.old.items ++ counts.now }
-    ensures capacity { vec_capacity marks.new ≡ vec_capacity marks.old }
+    ensures items { tallies.new.items ≡ tallies.old.items ++ counts.now }
+    ensures capacity { vec_capacity tallies.new ≡ vec_capacity tallies.old }
 {
     'counts: for f in 0..counts.len() {
-        marks.push_reserved(counts[f] as u32);
+        tallies.push_reserved(counts[f] as u32);
     }
 }

@@ -8,8 +8,8 @@ use Rattle.bsi_table.specs.Columns.{fits, Declared}
 use Rattle.bsi_table.specs.Rows.{Entries}
 use Rattle.bsi_rings.specs.declared.feeder.SubmitRefused.{SubmitRefused}
 use Rattle.bsi_rings.specs.declared.feeder.SubmitRefused.TheVariants.{Misfit, Full}
-use Rattle.bsi_rings.specs.declared.lane.Front.{Front}
-use Rattle.bsi_rings.specs.declared.lane.Front.TheVariants as front
+use Rattle.bsi_rings.specs.declared.channel.Front.{Front}
+use Rattle.bsi_rings.specs.declared.channel.Front.TheVariants as front
 
 -- which ring it is: where it lies in memory, and by which names its two ends are known
 abbrev pub Ring : Type 0
@@ -20,7 +20,7 @@ abbrev pub ring_of : {T P : Type 0} → End T Global P → Ring
 ring_of e = ((e.words, e.slots), (e.names, e.heap))
 
 -- a ring, and the schema that its rows are to fit
-pub record LaneName : Type 0 where
+pub record ChannelName : Type 0 where
   pub ring : Ring
   pub schema : Declared
 
@@ -28,13 +28,13 @@ pub record LaneName : Type 0 where
 
 pub record Sending : Type 0 where
   pub number : ℕ
-  pub lane : LaneName
+  pub channel : ChannelName
   pub capacity : ℕ
   pub sent : List Entries  -- the rows that were sent, the first one first
 
 -- nothing was sent
-abbrev pub new_sending : ℕ → LaneName → ℕ → Sending
-new_sending number lane capacity = record { number = number; lane = lane; capacity = capacity; sent = [] }
+abbrev pub new_sending : ℕ → ChannelName → ℕ → Sending
+new_sending number channel capacity = record { number = number; channel = channel; capacity = capacity; sent = [] }
 
 -- one more row was sent
 abbrev pub with_sent : Sending → Entries → Sending
@@ -46,45 +46,45 @@ AllFit schema rows = All (λ row. IsTrue (fits schema.columns row)) rows
 
 -- the reply to a submission. A row that fits may be refused only once as many were sent as the ring has places
 abbrev pub IsSubmitReply : Sending → Entries → Result (Unit {0}) SubmitRefused → Type 0
-IsSubmitReply s row (Ok done) = IsTrue (fits s.lane.schema.columns row)
-IsSubmitReply s row (Err (Misfit back)) = (back ≡ row) × (fits s.lane.schema.columns row ≡ false)
+IsSubmitReply s row (Ok done) = IsTrue (fits s.channel.schema.columns row)
+IsSubmitReply s row (Err (Misfit back)) = (back ≡ row) × (fits s.channel.schema.columns row ≡ false)
 IsSubmitReply s row (Err (Full back)) =
-    (back ≡ row) × IsTrue (fits s.lane.schema.columns row) × (s.capacity ≤ length s.sent)
+    (back ≡ row) × IsTrue (fits s.channel.schema.columns row) × (s.capacity ≤ length s.sent)
 
 -- ---- a closing
 
 pub record Sent : Type 0 where
   pub number : ℕ
-  pub lane : LaneName
+  pub channel : ChannelName
   pub rows : List Entries  -- all rows that were sent, the first one first
 
 -- the closing of a feeder: it carries what was sent, of which each row fits
 pub record Closes (s : Sending) (c : Sent) : Type 0 where
   pub number : c.number ≡ s.number
-  pub lane : c.lane ≡ s.lane
+  pub channel : c.channel ≡ s.channel
   pub rows : c.rows ≡ s.sent
-  pub fitting : AllFit s.lane.schema s.sent
+  pub fitting : AllFit s.channel.schema s.sent
 
 -- ---- the loader's end
 
 pub record Intake : Type 0 where
-  pub lane : LaneName
+  pub channel : ChannelName
   pub taken : List Entries  -- the rows that were taken out of the ring, the first one first
   pub seen : List Entries  -- the rows that were seen in the ring and not taken
   pub told : Option (List Entries)  -- what the closing carried, once it was told
 
 -- nothing was taken, seen or told
-abbrev pub new_intake : LaneName → Intake
-new_intake lane = record { lane = lane; taken = []; seen = []; told = None }
+abbrev pub new_intake : ChannelName → Intake
+new_intake channel = record { channel = channel; taken = []; seen = []; told = None }
 
 -- what was told is what was taken, and then what is seen in the ring
 abbrev pub IsWhole : Intake → Type 0
 IsWhole i = IfSome i.told (λ sent. i.taken ++ i.seen ≡ sent)
 
--- what a lane keeps: once its closing was told, that is whole, and each row that was sent fits
-pub record IsLane (lane : LaneName) (taken seen : List Entries) (told : Option (List Entries)) : Type 0 where
-  pub whole : IsWhole (record { lane = lane; taken = taken; seen = seen; told = told })
-  pub fitting : IfSome told (AllFit lane.schema)
+-- what a channel keeps: once its closing was told, that is whole, and each row that was sent fits
+pub record IsChannel (channel : ChannelName) (taken seen : List Entries) (told : Option (List Entries)) : Type 0 where
+  pub whole : IsWhole (record { channel = channel; taken = taken; seen = seen; told = told })
+  pub fitting : IfSome told (AllFit channel.schema)
 
 -- so many rows are seen in the ring, and nothing else changed
 abbrev pub with_seen : Intake → List Entries → Intake
@@ -102,27 +102,27 @@ Settles old closing new = new ≡ record old { told = Some closing.rows; seen = 
 -- what stands at the front of a ring: a row that fits, nothing, or nothing for good
 abbrev pub IsFront : Intake → Front → Type 0
 IsFront i front.Row =
-    (row : Entries) × (rest : List Entries) × (i.seen ≡ row ∷ rest) × IsTrue (fits i.lane.schema.columns row)
+    (row : Entries) × (rest : List Entries) × (i.seen ≡ row ∷ rest) × IsTrue (fits i.channel.schema.columns row)
 IsFront i front.Empty = i.told ≡ None
 IsFront i front.Ended = i.told ≡ Some i.taken
 
 -- ---- all rings of a system
 
 -- the feeders as they are opened, numbered from n
-abbrev pub new_feeders : ℕ → List LaneName → List ℕ → List Sending
+abbrev pub new_feeders : ℕ → List ChannelName → List ℕ → List Sending
 new_feeders n [] capacities = []
-new_feeders n (lane ∷ lanes) [] = []
-new_feeders n (lane ∷ lanes) (capacity ∷ capacities) =
-    new_sending n lane capacity ∷ new_feeders (suc n) lanes capacities
+new_feeders n (channel ∷ channels) [] = []
+new_feeders n (channel ∷ channels) (capacity ∷ capacities) =
+    new_sending n channel capacity ∷ new_feeders (suc n) channels capacities
 
--- the lanes of a list of intakes
-abbrev pub lanes_of : List Intake → List LaneName
-lanes_of intakes = map (λ i. i.lane) intakes
+-- the channels of a list of intakes
+abbrev pub channels_of : List Intake → List ChannelName
+channels_of intakes = map (λ i. i.channel) intakes
 
 -- a ring was made for each capacity, empty, under this schema: the feeders' ends, and the loader's
 pub record AreOpened (schema : Declared) (capacities : List ℕ) (feeders : List Sending) (intakes : List Intake)
     : Type 0 where
   pub many : length intakes ≡ length capacities
-  pub alike : All (λ i. i.lane.schema ≡ schema) intakes
-  pub intakes_are : intakes ≡ map new_intake (lanes_of intakes)
-  pub feeders_are : feeders ≡ new_feeders 0 (lanes_of intakes) capacities
+  pub alike : All (λ i. i.channel.schema ≡ schema) intakes
+  pub intakes_are : intakes ≡ map new_intake (channels_of intakes)
+  pub feeders_are : feeders ≡ new_feeders 0 (channels_of intakes) capacities

@@ -26,7 +26,7 @@ impl Model for Closing {
 
     ghost view = { λ c. record {
       number = c.number;
-      lane = record { ring = ring_of c.finished.end; schema = c.schema.value };
+      channel = record { ring = ring_of c.finished.end; schema = c.schema.value };
       rows = all_sent c.finished;
     } };
 
@@ -42,7 +42,7 @@ impl Closing {
         requires { AllFit schema.value (all_sent finished) }
         ensures { result ≡ record {
           number = number;
-          lane = record { ring = ring_of finished.end; schema = schema.value };
+          channel = record { ring = ring_of finished.end; schema = schema.value };
           rows = all_sent finished;
         } }
     {
@@ -62,9 +62,9 @@ impl Closing {
 
     /// Consumes the closing and returns what is left of the feeder's end.
     pub(crate) fn into_finished(self) -> Finished<Row>
-        ensures ring { ring_of result.end ≡ self.lane.ring }
+        ensures ring { ring_of result.end ≡ self.channel.ring }
         ensures rows { all_sent result ≡ self.rows }
-        ensures fitting { AllFit self.lane.schema self.rows }
+        ensures fitting { AllFit self.channel.schema self.rows }
     {
         let Closing {
             number: _,

@@ -36,7 +36,7 @@ impl Model for Feeder {
 
     ghost view = { λ f. record {
       number = f.number;
-      lane = record { ring = ring_of f.ring.end; schema = f.schema.value };
+      channel = record { ring = ring_of f.ring.end; schema = f.schema.value };
       capacity = f.ring.capacity;
       sent = sent f.ring;
     } };

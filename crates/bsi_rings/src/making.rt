@@ -3,7 +3,7 @@
 ghost use Rattle.std.specs.Prelude.{◌≡◌, ◌<◌, ◌^◌, IfOk, length};
 ghost use Rattle.bsi_rings.specs.Rings.{new_intake, new_sending, AreOpened};
 
-use crate::{Feeder, Lane, NoMemory};
+use crate::{Channel, Feeder, NoMemory};
 use bsi_table::{Row, Schema};
 use rtrb::RingBuffer;
 use std::alloc::Global;
@@ -14,19 +14,19 @@ pub fn open_rings(
     alloc: Global,
     schema: &Arc<Schema, Global>,
     capacities: &[u32],
-) -> Result<(Vec<Feeder>, Vec<Lane>), NoMemory>
+) -> Result<(Vec<Feeder>, Vec<Channel>), NoMemory>
     requires { length capacities.now < 2 ^ 32 }
     ensures { IfOk result (λ ends. AreOpened schema.now.value capacities.now ends.0.items
         ends.1.items) }
 {
     let mut feeders = Vec::with_capacity(alloc, capacities.len())?;
-    let mut lanes = Vec::with_capacity(alloc, capacities.len())?;
+    let mut channels = Vec::with_capacity(alloc, capacities.len())?;
     'capacities: for (number, capacity) in capacities.iter().enumerate() {
-        let (feeder, lane) = open_ring(alloc, schema, number as u32, *capacity)?;
+        let (feeder, channel) = open_ring(alloc, schema, number as u32, *capacity)?;
         feeders.push(feeder)?;
-        lanes.push(lane)?;
+        channels.push(channel)?;
     }
-    Ok((feeders, lanes))
+    Ok((feeders, channels))
 }
 
 /// Makes one empty ring.
@@ -35,13 +35,13 @@ fn open_ring(
     schema: &Arc<Schema, Global>,
     number: u32,
     capacity: u32,
-) -> Result<(Feeder, Lane), NoMemory>
-    ensures lane { IfOk result (λ ends. ends.1 ≡ new_intake ends.1.lane) }
-    ensures schema { IfOk result (λ ends. ends.1.lane.schema ≡ schema.now.value) }
-    ensures feeder { IfOk result (λ ends. ends.0 ≡ new_sending number ends.1.lane capacity) }
+) -> Result<(Feeder, Channel), NoMemory>
+    ensures channel { IfOk result (λ ends. ends.1 ≡ new_intake ends.1.channel) }
+    ensures schema { IfOk result (λ ends. ends.1.channel.schema ≡ schema.now.value) }
+    ensures feeder { IfOk result (λ ends. ends.0 ≡ new_sending number ends.1.channel capacity) }
 {
     let (producer, consumer) = RingBuffer::<Row>::new(alloc, capacity as usize)?;
     let feeder = Feeder::new(number, Arc::try_clone(schema)?, producer);
-    let lane = Lane::new(Arc::try_clone(schema)?, consumer);
-    Ok((feeder, lane))
+    let channel = Channel::new(Arc::try_clone(schema)?, consumer);
+    Ok((feeder, channel))
 }

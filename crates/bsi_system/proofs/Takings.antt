@@ -11,12 +11,12 @@ use Rattle.bsi_table.specs.Columns.{fits, Declared}
 use Rattle.bsi_table.specs.Rows.{Entries, FedRow}
 use Rattle.bsi_load.specs.declared.event.LoadRefused.TheVariants as load
 use Rattle.bsi_load.specs.Runs.{rows_from}
-use Rattle.bsi_rings.specs.declared.lane.Front.{Front}
-use Rattle.bsi_rings.specs.declared.lane.Front.TheVariants as front
-use Rattle.bsi_rings.specs.Rings.{lanes_of, with_seen, Intake, IsWhole, LaneName, Sent}
+use Rattle.bsi_rings.specs.declared.channel.Front.{Front}
+use Rattle.bsi_rings.specs.declared.channel.Front.TheVariants as front
+use Rattle.bsi_rings.specs.Rings.{channels_of, with_seen, Intake, IsWhole, ChannelName, Sent}
 use Rattle.bsi_versions.specs.Editions.{Written}
 use Rattle.bsi_versions.specs.Editions as editions
-use Rattle.bsi_system.specs.Lanes.{AreUntaken, IsFirstAt, IsFirstReply, LooksAt, SettlesAt, TakesAt}
+use Rattle.bsi_system.specs.Channels.{AreUntaken, IsFirstAt, IsFirstReply, LooksAt, SettlesAt, TakesAt}
 use Rattle.bsi_system.specs.Running.{loading, no_taking, seen, seen_at, seen_of, settled_as, taken, taking, taking_at, takings_of, told, with_taken, Balanced, IsLoader, Loading, Loads, Looks, MayLoad, Taking, WithinTold}
 
 -- ---- one place of a list
@@ -39,7 +39,7 @@ taking_at-past (i ∷ intakes) (suc f) past = taking_at-past intakes f (omega ar
 pub there : (intakes : List Intake) (f : ℕ) (i : Intake) → slice_get intakes f ≡ Some i → f < length (takings_of intakes)
 there intakes f i at = omega (arith, slice_get_within intakes f i at, length-map intakes taking)
 
--- what is seen of a list in which one lane was written
+-- what is seen of a list in which one channel was written
 pub seen_set : (intakes new : List Intake) (f : ℕ) (i : Intake) → f < length intakes → new ≡ set intakes f i → seen_of new ≡ set (seen_of intakes) f i.seen
 seen_set intakes new f i within now = ap seen_of now ∙ map-set (λ (j : Intake). j.seen) intakes f i
 
@@ -57,23 +57,23 @@ seen_first intakes f first =
     let read : seen_at (seen_of intakes) f ≡ at.intake.seen = get_or_from_slice_get (seen_of intakes) f at.intake.seen [] (slice_get-map (λ (j : Intake). j.seen) intakes f ∙ ap (option_map (λ (j : Intake). j.seen)) at.at) in
     omega (arith, ap length (read ∙ at.first))
 
--- ---- looking at a lane
+-- ---- looking at a channel
 
 pub looks_same : (old : List Intake) (f : ℕ) (found : Front) (new : List Intake) → LooksAt old f found new → AreUntaken old f new
 looks_same old f found new looks = record {
   takings = ap takings_of looks.now ∙ map-set_same taking old f looks.before (with_seen looks.before looks.seen) looks.at refl;
-  lanes = ap lanes_of looks.now ∙ map-set_same (λ (i : Intake). i.lane) old f looks.before (with_seen looks.before looks.seen) looks.at refl;
+  channels = ap channels_of looks.now ∙ map-set_same (λ (i : Intake). i.channel) old f looks.before (with_seen looks.before looks.seen) looks.at refl;
   seen = seen_same old new f (with_seen looks.before looks.seen) (slice_get_within old f looks.before looks.at) looks.now;
   whole = λ all. subst (All IsWhole) (sym looks.now) (All-set IsWhole old f (with_seen looks.before looks.seen) looks.whole all);
 }
 
 pub same_self : (intakes : List Intake) (f : ℕ) → AreUntaken intakes f intakes
-same_self intakes f = record { takings = refl; lanes = refl; seen = sym (set-get_or (seen_of intakes) f []); whole = λ all. all }
+same_self intakes f = record { takings = refl; channels = refl; seen = sym (set-get_or (seen_of intakes) f []); whole = λ all. all }
 
 not_longer : (xs rest : List Entries) (row : Entries) → xs ++ (row ∷ rest) ≢ xs
 not_longer xs rest row e = omega (arith, ap length e, length-append xs (row ∷ rest))
 
--- a lane of which a row is seen is not settled
+-- a channel of which a row is seen is not settled
 unsettled : (i : Intake) (row : Entries) (rest : List Entries) → IsWhole i → i.seen ≡ row ∷ rest → (o : Option (List Entries)) → i.told ≡ o → o ≢ Some i.taken
 unsettled i row rest whole seen None is e = cc e
 unsettled i row rest whole seen (Some sent) is e =
@@ -128,30 +128,30 @@ module _ (intakes : List Intake) (w : Written) (is : IsLoader intakes w) where
   module _ (f : ℕ) (new : List Intake) (same : AreUntaken intakes f new) where
     pub looks_loading : Looks (loading intakes w) f (loading new w)
     looks_loading =
-        ap (λ (ts : List Taking). record { system = record { lanes = lanes_of new; schema = w.table.schema; limit = w.table.limit }; takings = ts; seen = seen_of new; published = w.table.rows; held = w.held }) same.takings
-        ∙ (ap (λ (ls : List LaneName). record { system = record { lanes = ls; schema = w.table.schema; limit = w.table.limit }; takings = takings_of intakes; seen = seen_of new; published = w.table.rows; held = w.held }) same.lanes
-        ∙ ap (λ (xs : List (List Entries)). record { system = record { lanes = lanes_of intakes; schema = w.table.schema; limit = w.table.limit }; takings = takings_of intakes; seen = xs; published = w.table.rows; held = w.held }) same.seen)
+        ap (λ (ts : List Taking). record { system = record { channels = channels_of new; schema = w.table.schema; limit = w.table.limit }; takings = ts; seen = seen_of new; published = w.table.rows; held = w.held }) same.takings
+        ∙ (ap (λ (ls : List ChannelName). record { system = record { channels = ls; schema = w.table.schema; limit = w.table.limit }; takings = takings_of intakes; seen = seen_of new; published = w.table.rows; held = w.held }) same.channels
+        ∙ ap (λ (xs : List (List Entries)). record { system = record { channels = channels_of intakes; schema = w.table.schema; limit = w.table.limit }; takings = takings_of intakes; seen = xs; published = w.table.rows; held = w.held }) same.seen)
 
     pub same_loader : IsLoader new w
     same_loader = record {
       balanced = subst Balanced (sym looks_loading) is.balanced;
       whole = same.whole is.whole;
-      alike = subst (All (λ (lane : LaneName). lane.schema ≡ w.table.schema)) (sym same.lanes) is.alike;
-      many = ap length same.lanes ∙ is.many;
+      alike = subst (All (λ (channel : ChannelName). channel.schema ≡ w.table.schema)) (sym same.channels) is.alike;
+      many = ap length same.channels ∙ is.many;
     }
 
   -- the row that stands first fits the table, and its feeder is one of the table's
   module _ (f : ℕ) (row : Entries) (first : IsFirstAt intakes f row) where
     pub first_fits : IsTrue (fits w.table.schema.columns row)
     first_fits =
-        let lane = first.intake.lane in
-        let at : slice_get (lanes_of intakes) f ≡ Some lane = slice_get-map (λ (i : Intake). i.lane) intakes f ∙ ap (option_map (λ (i : Intake). i.lane)) first.at in
-        let read = get_or_from_slice_get (lanes_of intakes) f lane lane at in
-        let alike = All-get_or (λ (l : LaneName). l.schema ≡ w.table.schema) (lanes_of intakes) f lane (slice_get_within (lanes_of intakes) f lane at) is.alike in
-        subst (λ (s : Declared). IsTrue (fits s.columns row)) (ap (λ (l : LaneName). l.schema) (sym read) ∙ alike) first.fitting
+        let channel = first.intake.channel in
+        let at : slice_get (channels_of intakes) f ≡ Some channel = slice_get-map (λ (i : Intake). i.channel) intakes f ∙ ap (option_map (λ (i : Intake). i.channel)) first.at in
+        let read = get_or_from_slice_get (channels_of intakes) f channel channel at in
+        let alike = All-get_or (λ (l : ChannelName). l.schema ≡ w.table.schema) (channels_of intakes) f channel (slice_get_within (channels_of intakes) f channel at) is.alike in
+        subst (λ (s : Declared). IsTrue (fits s.columns row)) (ap (λ (l : ChannelName). l.schema) (sym read) ∙ alike) first.fitting
 
     pub first_there : f < w.table.feeders
-    first_there = omega (arith, slice_get_within intakes f first.intake first.at, length-map intakes (λ (i : Intake). i.lane), is.many)
+    first_there = omega (arith, slice_get_within intakes f first.intake first.at, length-map intakes (λ (i : Intake). i.channel), is.many)
 
 -- ---- one row more is taken
 
@@ -185,8 +185,8 @@ first_at old f new looks i row read first =
       rest = first.0;
       at = at;
       first = sym first.1;
-      fitting = subst (λ (r : Entries). IsTrue (fits i.lane.schema.columns r)) (sym row_is)
-          (subst (λ (j : Intake). IsTrue (fits j.lane.schema.columns front'.0)) (sym same) front'.1.fitting);
+      fitting = subst (λ (r : Entries). IsTrue (fits i.channel.schema.columns r)) (sym row_is)
+          (subst (λ (j : Intake). IsTrue (fits j.channel.schema.columns front'.0)) (sym same) front'.1.fitting);
     }
 
 -- it is the row that is taken
@@ -219,9 +219,9 @@ loaded_balanced s f row within balanced g =
         all false is ∙ (append-nil (taken s g) ∙ ap (λ (t : Taking). t.taken) (sym (get_or-set_other s.takings f g (with_taken (taking_at s.takings f) row) no_taking other)))
 
 module _ (intakes : List Intake) (w : Written) (f : ℕ) (row : Entries) (new : List Intake) (next : Written) (takes : TakesAt intakes f row new) (held : next ≡ editions.with_held w f row) where
-  takes_lanes : lanes_of new ≡ lanes_of intakes
-  takes_lanes =
-      ap lanes_of takes.now ∙ map-set_same (λ (i : Intake). i.lane) intakes f takes.before takes.after takes.at (ap (λ (i : Intake). i.lane) takes.takes.1)
+  takes_channels : channels_of new ≡ channels_of intakes
+  takes_channels =
+      ap channels_of takes.now ∙ map-set_same (λ (i : Intake). i.channel) intakes f takes.before takes.after takes.at (ap (λ (i : Intake). i.channel) takes.takes.1)
 
   takes_seen : seen_of new ≡ set (seen_of intakes) f (seen_at (seen_of new) f)
   takes_seen = seen_same intakes new f takes.after (slice_get_within intakes f takes.before takes.at) takes.now
@@ -233,17 +233,17 @@ module _ (intakes : List Intake) (w : Written) (f : ℕ) (row : Entries) (new : 
       let takings : takings_of new ≡ set (takings_of intakes) f (with_taken (taking_at (takings_of intakes) f) row) =
       ap takings_of takes.now ∙ (map-set taking intakes f takes.after ∙ ap (set (takings_of intakes) f) after_is) in
       ap (loading new) held
-      ∙ (ap (λ (ts : List Taking). record { system = record { lanes = lanes_of new; schema = w.table.schema; limit = w.table.limit }; takings = ts; seen = seen_of new; published = w.table.rows; held = w.held ++ (f, row) ∷ [] }) takings
-      ∙ (ap (λ (ls : List LaneName). record { system = record { lanes = ls; schema = w.table.schema; limit = w.table.limit }; takings = set (takings_of intakes) f (with_taken (taking_at (takings_of intakes) f) row); seen = seen_of new; published = w.table.rows; held = w.held ++ (f, row) ∷ [] }) takes_lanes
-      ∙ ap (λ (xs : List (List Entries)). record { system = record { lanes = lanes_of intakes; schema = w.table.schema; limit = w.table.limit }; takings = set (takings_of intakes) f (with_taken (taking_at (takings_of intakes) f) row); seen = xs; published = w.table.rows; held = w.held ++ (f, row) ∷ [] }) takes_seen))
+      ∙ (ap (λ (ts : List Taking). record { system = record { channels = channels_of new; schema = w.table.schema; limit = w.table.limit }; takings = ts; seen = seen_of new; published = w.table.rows; held = w.held ++ (f, row) ∷ [] }) takings
+      ∙ (ap (λ (ls : List ChannelName). record { system = record { channels = ls; schema = w.table.schema; limit = w.table.limit }; takings = set (takings_of intakes) f (with_taken (taking_at (takings_of intakes) f) row); seen = seen_of new; published = w.table.rows; held = w.held ++ (f, row) ∷ [] }) takes_channels
+      ∙ ap (λ (xs : List (List Entries)). record { system = record { channels = channels_of intakes; schema = w.table.schema; limit = w.table.limit }; takings = set (takings_of intakes) f (with_taken (taking_at (takings_of intakes) f) row); seen = xs; published = w.table.rows; held = w.held ++ (f, row) ∷ [] }) takes_seen))
 
   pub takes_loader : IsLoader intakes w → IsLoader new next
   takes_loader is = record {
     balanced = subst Balanced (sym takes_loads) (loaded_balanced (loading intakes w) f row (there intakes f takes.before takes.at) is.balanced);
     whole = subst (All IsWhole) (sym takes.now) (All-set IsWhole intakes f takes.after takes.whole is.whole);
-    alike = subst (λ (v : Written). All (λ (lane : LaneName). lane.schema ≡ v.table.schema) (lanes_of new)) (sym held)
-        (subst (All (λ (lane : LaneName). lane.schema ≡ w.table.schema)) (sym takes_lanes) is.alike);
-    many = ap length takes_lanes ∙ (is.many ∙ ap (λ (v : Written). v.table.feeders) (sym held));
+    alike = subst (λ (v : Written). All (λ (channel : ChannelName). channel.schema ≡ v.table.schema) (channels_of new)) (sym held)
+        (subst (All (λ (channel : ChannelName). channel.schema ≡ w.table.schema)) (sym takes_channels) is.alike);
+    many = ap length takes_channels ∙ (is.many ∙ ap (λ (v : Written). v.table.feeders) (sym held));
   }
 
 -- a row is loaded from what was looked at
@@ -268,9 +268,9 @@ settled_balanced s f sent within balanced g = balanced g ∙ by (nat_eq f g) ref
         ap (λ (t : Taking). t.taken) (sym (get_or-set_other s.takings f g (record { taken = taken s f; told = Some sent }) no_taking other))
 
 module _ (intakes : List Intake) (w : Written) (f : ℕ) (closing : Sent) (new : List Intake) (settles : SettlesAt intakes f closing new) where
-  settles_lanes : lanes_of new ≡ lanes_of intakes
-  settles_lanes =
-      ap lanes_of settles.now ∙ map-set_same (λ (i : Intake). i.lane) intakes f settles.before settles.after settles.at (ap (λ (i : Intake). i.lane) settles.settles)
+  settles_channels : channels_of new ≡ channels_of intakes
+  settles_channels =
+      ap channels_of settles.now ∙ map-set_same (λ (i : Intake). i.channel) intakes f settles.before settles.after settles.at (ap (λ (i : Intake). i.channel) settles.settles)
 
   -- what is seen then is what was not taken
   settles_rest : settles.after.seen ≡ drop (length (taken (loading intakes w) f)) closing.rows
@@ -291,9 +291,9 @@ module _ (intakes : List Intake) (w : Written) (f : ℕ) (closing : Sent) (new :
       ap taking settles.settles ∙ ap (λ (t : Taking). record { taken = t.taken; told = Some closing.rows }) (sym (taking_at-of intakes f settles.before settles.at)) in
       let takings : takings_of new ≡ set (takings_of intakes) f (record { taken = taken (loading intakes w) f; told = Some closing.rows }) =
       ap takings_of settles.now ∙ (map-set taking intakes f settles.after ∙ ap (set (takings_of intakes) f) after_is) in
-      ap (λ (ts : List Taking). record { system = record { lanes = lanes_of new; schema = w.table.schema; limit = w.table.limit }; takings = ts; seen = seen_of new; published = w.table.rows; held = w.held }) takings
-      ∙ (ap (λ (ls : List LaneName). record { system = record { lanes = ls; schema = w.table.schema; limit = w.table.limit }; takings = set (takings_of intakes) f (record { taken = taken (loading intakes w) f; told = Some closing.rows }); seen = seen_of new; published = w.table.rows; held = w.held }) settles_lanes
-      ∙ ap (λ (xs : List (List Entries)). record { system = record { lanes = lanes_of intakes; schema = w.table.schema; limit = w.table.limit }; takings = set (takings_of intakes) f (record { taken = taken (loading intakes w) f; told = Some closing.rows }); seen = xs; published = w.table.rows; held = w.held }) settles_seen)
+      ap (λ (ts : List Taking). record { system = record { channels = channels_of new; schema = w.table.schema; limit = w.table.limit }; takings = ts; seen = seen_of new; published = w.table.rows; held = w.held }) takings
+      ∙ (ap (λ (ls : List ChannelName). record { system = record { channels = ls; schema = w.table.schema; limit = w.table.limit }; takings = set (takings_of intakes) f (record { taken = taken (loading intakes w) f; told = Some closing.rows }); seen = seen_of new; published = w.table.rows; held = w.held }) settles_channels
+      ∙ ap (λ (xs : List (List Entries)). record { system = record { channels = channels_of intakes; schema = w.table.schema; limit = w.table.limit }; takings = set (takings_of intakes) f (record { taken = taken (loading intakes w) f; told = Some closing.rows }); seen = xs; published = w.table.rows; held = w.held }) settles_seen)
 
   -- a second closing tells the same rows
   pub settles_once : IfSome (told (loading intakes w) f) (λ sent. closing.rows ≡ sent)
@@ -303,6 +303,6 @@ module _ (intakes : List Intake) (w : Written) (f : ℕ) (closing : Sent) (new :
   settles_loader is = record {
     balanced = subst Balanced (sym settles_loading) (settled_balanced (loading intakes w) f closing.rows (there intakes f settles.before settles.at) is.balanced);
     whole = subst (All IsWhole) (sym settles.now) (All-set IsWhole intakes f settles.after settles.whole is.whole);
-    alike = subst (All (λ (lane : LaneName). lane.schema ≡ w.table.schema)) (sym settles_lanes) is.alike;
-    many = ap length settles_lanes ∙ is.many;
+    alike = subst (All (λ (channel : ChannelName). channel.schema ≡ w.table.schema)) (sym settles_channels) is.alike;
+    many = ap length settles_channels ∙ is.many;
   }

@@ -1,3 +1,3 @@
-pub mod Lanes
+pub mod Channels
 pub mod Opening
 pub mod Running

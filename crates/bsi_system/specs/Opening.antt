@@ -13,4 +13,4 @@ use Rattle.bsi_system.specs.declared.system.OpenRefused.TheVariants.{Make, Reade
 abbrev pub IsOpenRefusal : {B : Type 0} → Option MakeError → Declared → ℕ → OpenRefused B → Type 0
 IsOpenRefusal sizes schema limit (Make refused) = IsFirstOr made.NoMemory sizes refused
 IsOpenRefusal sizes schema limit (Readers loader) =
-    (sizes ≡ None) × (loader ≡ new_loading loader.system.lanes schema limit)
+    (sizes ≡ None) × (loader ≡ new_loading loader.system.channels schema limit)

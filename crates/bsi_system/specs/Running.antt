@@ -6,12 +6,12 @@ use Rattle.bsi_table.specs.Rows.{Entries, FedRow}
 use Rattle.bsi_load.specs.declared.event.LoadRefused.{LoadRefused}
 use Rattle.bsi_load.specs.declared.event.LoadRefused.TheVariants as load
 use Rattle.bsi_load.specs.Runs.{rows_from}
-use Rattle.bsi_rings.specs.Rings.{lanes_of, Intake, IsWhole, LaneName, Sending, Sent}
+use Rattle.bsi_rings.specs.Rings.{channels_of, Intake, IsWhole, ChannelName, Sending, Sent}
 use Rattle.bsi_versions.specs.Editions.{Written}
 
 -- which rings a system has, the schema of its rows, and the most rows of its table
 pub record System : Type 0 where
-  pub lanes : List LaneName
+  pub channels : List ChannelName
   pub schema : Declared
   pub limit : ℕ
 
@@ -56,7 +56,7 @@ Balanced s = (f : ℕ) → rows_from f (s.published ++ s.held) ≡ taken s f
 
 -- something is seen of each feeder of the system
 abbrev pub AreAsMany : Loading → Type 0
-AreAsMany s = length s.takings ≡ length s.system.lanes
+AreAsMany s = length s.takings ≡ length s.system.channels
 
 -- what was taken of a feeder that was told of begins what its closing carried
 abbrev pub WithinTold : Loading → Type 0
@@ -71,11 +71,11 @@ pub record AlwaysHolds (s : Loading) : Type 0 where
 -- ---- the beginning
 
 -- nothing was taken, told, seen, published or held
-abbrev pub new_loading : List LaneName → Declared → ℕ → Loading
-new_loading lanes schema limit = record {
-  system = record { lanes = lanes; schema = schema; limit = limit };
-  takings = map (λ lane. no_taking) lanes;
-  seen = map (λ lane. []) lanes;
+abbrev pub new_loading : List ChannelName → Declared → ℕ → Loading
+new_loading channels schema limit = record {
+  system = record { channels = channels; schema = schema; limit = limit };
+  takings = map (λ channel. no_taking) channels;
+  seen = map (λ channel. []) channels;
   published = [];
   held = [];
 }
@@ -129,17 +129,17 @@ LoadsOne s f t = (row : Entries) × IsTrue (fits s.system.schema.columns row) ×
 
 -- ---- settling and publishing
 
--- the lane stands at this number in the system
-abbrev pub IsLaneOf : ℕ → LaneName → System → Type 0
-IsLaneOf number lane system = slice_get system.lanes number ≡ Some lane
+-- the channel stands at this number in the system
+abbrev pub IsChannelOf : ℕ → ChannelName → System → Type 0
+IsChannelOf number channel system = slice_get system.channels number ≡ Some channel
 
 -- a closing of a feeder of this system
 abbrev pub IsClosingOf : Sent → System → Type 0
-IsClosingOf closing system = IsLaneOf closing.number closing.lane system
+IsClosingOf closing system = IsChannelOf closing.number closing.channel system
 
 -- a feeder of this system
 abbrev pub IsFeederOf : Sending → System → Type 0
-IsFeederOf feeder system = IsLaneOf feeder.number feeder.lane system
+IsFeederOf feeder system = IsChannelOf feeder.number feeder.channel system
 
 -- the closing of the feeder was told, which carried these rows: those that were not taken are seen
 abbrev pub settled_as : Loading → ℕ → List Entries → Loading
@@ -165,7 +165,7 @@ seen_of intakes = map (λ i. i.seen) intakes
 
 abbrev pub loading : List Intake → Written → Loading
 loading intakes w = record {
-  system = record { lanes = lanes_of intakes; schema = w.table.schema; limit = w.table.limit };
+  system = record { channels = channels_of intakes; schema = w.table.schema; limit = w.table.limit };
   takings = takings_of intakes;
   seen = seen_of intakes;
   published = w.table.rows;
@@ -176,5 +176,5 @@ loading intakes w = record {
 pub record IsLoader (intakes : List Intake) (w : Written) : Type 0 where
   pub balanced : Balanced (loading intakes w)
   pub whole : All IsWhole intakes
-  pub alike : All (λ lane. lane.schema ≡ w.table.schema) (lanes_of intakes)
-  pub many : length (lanes_of intakes) ≡ w.table.feeders
+  pub alike : All (λ channel. channel.schema ≡ w.table.schema) (channels_of intakes)
+  pub many : length (channels_of intakes) ≡ w.table.feeders

@@ -1,7 +1,7 @@
 //! A running system: feeders and analysts on threads of their own, and one loader that loses nothing.
 #![tactic(auto)]
 
-mod lanes;
+mod channels;
 mod loader;
 mod opening;
 mod system;

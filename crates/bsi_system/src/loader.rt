@@ -8,9 +8,9 @@ ghost use Rattle.std.specs.Prelude.{◌≡◌, ◌≢◌, ◌+◌, ◌≤◌, If
 ghost use Rattle.bsi_system.specs.Running.{published_all, seen, settled_as, told, AlwaysHolds, IsClosingOf, IsLoaderReply, IsSeenWhere, LoadsOne, Looks};
 
 use crate::NoMemory;
-use crate::lanes::{first_of, settle_of, take_of};
+use crate::channels::{first_of, settle_of, take_of};
 use bsi_load::LoadRefused;
-use bsi_rings::{Closing, Lane};
+use bsi_rings::{Channel, Closing};
 use bsi_versions::{Analyst, Naming, Publisher, Told};
 use std::marker::Model;
 use std::sync::Wait;
@@ -24,7 +24,7 @@ pub enum SettleRefused {
 
 /// Loads the rows of all feeders into the table that analysts read. It is not `Drop`: end it by `end`.
 pub struct Loader<B: Naming> {
-    pub(crate) lanes: Vec<Lane>,
+    pub(crate) channels: Vec<Channel>,
     pub(crate) publisher: Publisher<B>,
 }
 
@@ -35,9 +35,9 @@ impl<B: Naming> Model for Loader<B> {
 
     ghost Value = { Loading };
 
-    ghost view = { λ l. loading l.lanes.items l.publisher };
+    ghost view = { λ l. loading l.channels.items l.publisher };
 
-    ghost invariant = { λ l. IsLoader l.lanes.items l.publisher };
+    ghost invariant = { λ l. IsLoader l.channels.items l.publisher };
 }
 
 impl<B: Naming> Loader<B> {
@@ -65,11 +65,11 @@ impl<B: Naming> Loader<B> {
         ensures kept { OnErr result (Looks self.old feeder self.new) }
     {
         let full = self.publisher.is_full();
-        let row = first_of(&mut self.lanes, feeder, full)?;
+        let row = first_of(&mut self.channels, feeder, full)?;
         self.publisher
             .hold(feeder, row)
             .map_err(|_| LoadRefused::NoMemory)?;
-        take_of(&mut self.lanes, feeder);
+        take_of(&mut self.channels, feeder);
         Ok(())
     }
 
@@ -90,20 +90,20 @@ impl<B: Naming> Loader<B> {
             self.show();
             return Err(SettleRefused::WrongClosing(closing));
         }
-        self.settle_lane(feeder, closing);
+        self.settle_channel(feeder, closing);
         self.show();
         Ok(())
     }
 
     /// Learns of a closing that is this feeder's. It is a call of its own, so that `settle` can then show what always
     /// holds.
-    fn settle_lane(&mut self, feeder: u32, closing: Closing)
+    fn settle_channel(&mut self, feeder: u32, closing: Closing)
         requires closing { IsClosingOf closing self.old.system }
         requires feeder { closing.number ≡ feeder }
         ensures settled { self.new ≡ settled_as self.old feeder closing.rows }
         ensures once { IfSome (told self.old feeder) (λ sent. closing.rows ≡ sent) }
     {
-        settle_of(&mut self.lanes, feeder, closing);
+        settle_of(&mut self.channels, feeder, closing);
     }
 
     /// Makes all held rows visible to analysts at one step, and returns how many rows are then published. If it is
@@ -160,8 +160,11 @@ impl<B: Naming> Loader<B> {
     /// Ends the loader. It drops the rows that are held or still in a ring. It has no `ensures`, because nothing is
     /// left of which a clause could speak.
     pub fn end<R: Wait>(self, rt: &R) {
-        let Loader { lanes, publisher } = self;
-        drop(lanes);
+        let Loader {
+            channels,
+            publisher,
+        } = self;
+        drop(channels);
         publisher.end(rt);
     }
 
@@ -170,6 +173,6 @@ impl<B: Naming> Loader<B> {
         ensures { AlwaysHolds self.now }
     {
         // Reading a field makes the loader's invariant known to the proof.
-        let _ = &self.lanes;
+        let _ = &self.channels;
     }
 }

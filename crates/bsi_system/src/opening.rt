@@ -26,11 +26,11 @@ pub fn open<B: Naming>(
     requires few { analysts ≤ 8 }
     requires history { history ≡ record { book = B.book; list = [] } }
     requires about { B.about ≡ no_rows schema (length capacities.items) limit }
-    ensures loader { IfOk result (λ s. s.loader ≡ new_loading s.loader.system.lanes schema limit) }
-    ensures lanes { IfOk result (λ s. length s.loader.system.lanes ≡ length capacities.items) }
-    ensures alike { IfOk result (λ s. All (λ lane. lane.schema ≡ schema) s.loader.system.lanes) }
+    ensures loader { IfOk result (λ s. s.loader ≡ new_loading s.loader.system.channels schema limit) }
+    ensures channels { IfOk result (λ s. length s.loader.system.channels ≡ length capacities.items) }
+    ensures alike { IfOk result (λ s. All (λ channel. channel.schema ≡ schema) s.loader.system.channels) }
     ensures feeders { IfOk result (λ s. s.feeders.items
-        ≡ new_feeders 0 s.loader.system.lanes capacities.items) }
+        ≡ new_feeders 0 s.loader.system.channels capacities.items) }
     ensures own { IfOk result (λ s. All (λ f. IsFeederOf f s.loader.system) s.feeders.items) }
     ensures analysts { IfOk result (λ s. s.analysts.items ≡ replicate analysts []) }
     ensures taken { OnOk result (sizes_refusal schema capacities.items limit ≡ None) }

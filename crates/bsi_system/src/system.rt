@@ -47,12 +47,12 @@ impl<B: Naming> System<B> {
         requires history { history ≡ record { book = B.book; list = [] } }
         requires about { B.about ≡ no_rows schema (length capacities.now) limit }
         ensures loader { IfOk result
-            (λ s. s.loader ≡ new_loading s.loader.system.lanes schema limit) }
-        ensures lanes { IfOk result (λ s. length s.loader.system.lanes ≡ length capacities.now) }
+            (λ s. s.loader ≡ new_loading s.loader.system.channels schema limit) }
+        ensures channels { IfOk result (λ s. length s.loader.system.channels ≡ length capacities.now) }
         ensures alike { IfOk result
-            (λ s. All (λ lane. lane.schema ≡ schema) s.loader.system.lanes) }
+            (λ s. All (λ channel. channel.schema ≡ schema) s.loader.system.channels) }
         ensures feeders { IfOk result (λ s. s.feeders.items
-            ≡ new_feeders 0 s.loader.system.lanes capacities.now) }
+            ≡ new_feeders 0 s.loader.system.channels capacities.now) }
         ensures analysts { IfOk result (λ s. s.analysts.items ≡ []) }
         ensures taken { OnOk result (sizes_refusal schema capacities.now limit ≡ None) }
         ensures refused { IfErr result
@@ -60,13 +60,16 @@ impl<B: Naming> System<B> {
     {
         check_sizes(&schema, capacities, limit)?;
         let shared = Arc::new(alloc, schema.copy()?).map_err(|_| MakeError::NoMemory)?;
-        let (feeders, lanes) = open_rings(alloc, &shared, capacities)?;
+        let (feeders, channels) = open_rings(alloc, &shared, capacities)?;
         let places = Vec::with_capacity(alloc, analysts as usize)?;
         let index = Index::new(alloc, schema, capacities.len() as u32, limit)?;
         let publisher = Publisher::new(alloc, history, index, analysts)?;
         Ok(System {
             feeders,
-            loader: Loader { lanes, publisher },
+            loader: Loader {
+                channels,
+                publisher,
+            },
             analysts: places,
         })
     }

@@ -73,7 +73,7 @@ struct OfFeeder(Snapshot<Feeder>);
 
 impl Promise<Option<Closing>> for OfFeeder {
     ghost kept_by = { λ promise ended.
-        IfSome ended (λ c. (c.number ≡ promise.0.value.number) × (c.lane ≡ promise.0.value.lane)) };
+        IfSome ended (λ c. (c.number ≡ promise.0.value.number) × (c.channel ≡ promise.0.value.channel)) };
 }
 
 /// A feeder's thread.
@@ -91,7 +91,7 @@ fn make_row(alloc: Global, feeder: u32, place: u32) -> Result<Row, NoMemory> {
 /// stop.
 fn send(feeder: &mut Feeder, row: Row, over: &AtomicBool) -> bool
     ensures number { feeder.new.number ≡ feeder.old.number }
-    ensures lane { feeder.new.lane ≡ feeder.old.lane }
+    ensures channel { feeder.new.channel ≡ feeder.old.channel }
 {
     let mut row = row;
     'tries: for _ in 0..u64::MAX {
@@ -111,7 +111,7 @@ fn send(feeder: &mut Feeder, row: Row, over: &AtomicBool) -> bool
 /// Makes a row and sends it. If memory is refused for the row, it makes the row again.
 fn make_and_send(alloc: Global, feeder: &mut Feeder, place: u32, over: &AtomicBool) -> bool
     ensures number { feeder.new.number ≡ feeder.old.number }
-    ensures lane { feeder.new.lane ≡ feeder.old.lane }
+    ensures channel { feeder.new.channel ≡ feeder.old.channel }
 {
     let number = feeder.number();
     let row = match make_row(alloc, number, place) {
@@ -126,7 +126,7 @@ fn make_and_send(alloc: Global, feeder: &mut Feeder, place: u32, over: &AtomicBo
 
 /// Sends all rows of a feeder, and closes it.
 fn feed<B: Naming>(alloc: Global, feeder: Feeder, rows: u32, board: &Board<B>) -> Option<Closing>
-    ensures { IfSome result (λ c. (c.number ≡ feeder.number) × (c.lane ≡ feeder.lane)) }
+    ensures { IfSome result (λ c. (c.number ≡ feeder.number) × (c.channel ≡ feeder.channel)) }
 {
     let mut feeder = feeder;
     'rows: for place in 0..rows {

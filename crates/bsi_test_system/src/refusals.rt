@@ -32,7 +32,7 @@ fn fill<R: Abort>(
     second: &mut Feeder,
 ) -> Result<(), NoMemory>
     ensures number { second.new.number ≡ second.old.number }
-    ensures lane { second.new.lane ≡ second.old.lane }
+    ensures channel { second.new.channel ≡ second.old.channel }
 {
     let five = first.submit(row(alloc, 5)?);
     let full = match first.submit(row(alloc, 6)?) {
@@ -122,7 +122,7 @@ fn publish_one<B: Naming, R: Wait + Abort>(
     loader: &mut Loader<B>,
 ) -> Result<(), NoMemory>
     ensures number { feeder.new.number ≡ feeder.old.number }
-    ensures lane { feeder.new.lane ≡ feeder.old.lane }
+    ensures channel { feeder.new.channel ≡ feeder.old.channel }
     ensures system { loader.new.system ≡ loader.old.system }
 {
     let sent = feeder.submit(row(alloc, 5)?);
@@ -137,7 +137,7 @@ fn publish_one<B: Naming, R: Wait + Abort>(
 /// Sends three rows to a ring of two places. Asserts that it hands the third one back.
 fn send_three<R: Abort>(rt: &R, feeder: &mut Feeder, rows: ThreeRows)
     ensures number { feeder.new.number ≡ feeder.old.number }
-    ensures lane { feeder.new.lane ≡ feeder.old.lane }
+    ensures channel { feeder.new.channel ≡ feeder.old.channel }
 {
     let first = feeder.submit(rows.first);
     let second = feeder.submit(rows.second);

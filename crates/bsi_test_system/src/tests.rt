@@ -27,7 +27,7 @@ enum Worked {
 /// Sends two rows, and one that does not fit.
 fn send<R: Abort>(rt: &R, alloc: Global, feeder: &mut Feeder) -> Result<(), Fail>
     ensures number { feeder.new.number ≡ feeder.old.number }
-    ensures lane { feeder.new.lane ≡ feeder.old.lane }
+    ensures channel { feeder.new.channel ≡ feeder.old.channel }
 {
     let five = feeder.submit(row(alloc, 5)?);
     let six = feeder.submit(row(alloc, 6)?);
@@ -155,7 +155,7 @@ fn told<B: Naming, R: Wait + Abort>(
 /// Sends three rows.
 fn send_three<R: Abort>(rt: &R, alloc: Global, feeder: &mut Feeder) -> Result<(), Fail>
     ensures number { feeder.new.number ≡ feeder.old.number }
-    ensures lane { feeder.new.lane ≡ feeder.old.lane }
+    ensures channel { feeder.new.channel ≡ feeder.old.channel }
 {
     let one = feeder.submit(row(alloc, 1)?);
     let two = feeder.submit(row(alloc, 2)?);

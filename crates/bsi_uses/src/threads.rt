@@ -21,7 +21,7 @@ struct OfFeeder(Snapshot<Feeder>);
 
 impl Promise<Option<Closing>> for OfFeeder {
     ghost kept_by = { λ promise ended.
-        IfSome ended (λ c. (c.number ≡ promise.0.value.number) × (c.lane ≡ promise.0.value.lane)) };
+        IfSome ended (λ c. (c.number ≡ promise.0.value.number) × (c.channel ≡ promise.0.value.channel)) };
 }
 
 /// A feeder's thread.
@@ -29,7 +29,7 @@ type Sender = PromisedHandle<Option<Closing>, OfFeeder>;
 
 /// Sends four rows, and closes the feeder.
 fn feed(alloc: Global, feeder: Feeder) -> Option<Closing>
-    ensures { IfSome result (λ c. (c.number ≡ feeder.number) × (c.lane ≡ feeder.lane)) }
+    ensures { IfSome result (λ c. (c.number ≡ feeder.number) × (c.channel ≡ feeder.channel)) }
 {
     let mut feeder = feeder;
     'rows: for quantity in 1..5u32 {

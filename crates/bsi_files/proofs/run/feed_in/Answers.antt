@@ -28,5 +28,5 @@ returns-clause-fed g c =
     let fine : All (IsFine stops) feds = subst (λ b. All (IsFine b) feds) c.STOPS.ensures here in
     let fed = all_fed rem g.G.Stopping.STOPS c.load_all.new.loader c.publish_rest.new.loader c.args.loader.now.system c.args.feeders.items c.args.sources.items ends
     c.load_all.new.fed.items c.in_ok-told.ensures.shown c.publish_rest.ensures.always (c.load_all.ensures.system ∙ c.load_where-beside.ensures.system)
-    c.requires.lanes c.requires.many c.requires.own are c.in_ok-load_all.ensures.loaded fine in
+    c.requires.channels c.requires.many c.requires.own are c.in_ok-load_all.ensures.loaded fine in
     subst (λ rows. IsAllFed rem stops rows c.args.sources.items feds) (sym c.in_ok-told.ensures.told) fed

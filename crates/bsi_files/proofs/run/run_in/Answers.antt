@@ -17,13 +17,13 @@ run_ends-ran-requires-clause-ready g c =
     let feeders = c.in-Ok.field-0.feeders.items in
     let capacities = c.args.capacities.items in
     let is = c.in-Ok.ensures.feeders in
-    let lanes : length system.lanes ≡ length feeders = sym (ap (λ (fs : List Sending). length fs) is ∙ feeders_long 0 system.lanes capacities c.in-Ok.ensures.lanes) in
+    let channels : length system.channels ≡ length feeders = sym (ap (λ (fs : List Sending). length fs) is ∙ feeders_long 0 system.channels capacities c.in-Ok.ensures.channels) in
     let sources = c.args.run.sources.items in
     let ready : AreReady system feeders sources = record {
       own = subst (λ (fs : List Sending). AreFeeders system 0 fs) (sym is)
-          (feeders_are system 0 system.lanes capacities (subst (λ (fs : List Sending). All (λ feeder. IsFeederOf feeder system) fs) is c.in-Ok.ensures.own));
-      lanes = lanes;
-      many = c.requires.many ∙ (sym c.in-Ok.ensures.lanes ∙ lanes);
+          (feeders_are system 0 system.channels capacities (subst (λ (fs : List Sending). All (λ feeder. IsFeederOf feeder system) fs) is c.in-Ok.ensures.own));
+      channels = channels;
+      many = c.requires.many ∙ (sym c.in-Ok.ensures.channels ∙ channels);
     } in λ κs outlive. ready
 
 pub returns-in-Ok-clause-lines : goal.returns-in-Ok-clause-lines

@@ -13,10 +13,10 @@ capacities-preserved c =
     let within : n < length all = omega (arith, c.capacities-test.true) in
     let before = length-take-le n all (omega arith) in
     let feeder = c.in_ok-feeder.feeder in
-    let lane = c.in_ok-feeder.lane in
-    let is = c.in_ok-feeder.ensures.feeder ∙ ap (λ m. new_sending m lane.lane (get_or all n 0)) (sym before) in
-    let more = opened_more schema (take n all) c.capacities.feeders.items c.capacities.lanes.items (get_or all n 0) feeder lane
-    c.capacities.invariant c.in_ok-feeder.ensures.lane c.in_ok-feeder.ensures.schema is in
+    let channel = c.in_ok-feeder.channel in
+    let is = c.in_ok-feeder.ensures.feeder ∙ ap (λ m. new_sending m channel.channel (get_or all n 0)) (sym before) in
+    let more = opened_more schema (take n all) c.capacities.feeders.items c.capacities.channels.items (get_or all n 0) feeder channel
+    c.capacities.invariant c.in_ok-feeder.ensures.channel c.in_ok-feeder.ensures.schema is in
     subst (λ cs. AreOpened schema cs c.push.new.self.items c.push-in-capacities.new.self.items) (sym (take_more all n 0 within))
     (subst (λ fs. AreOpened schema (take n all ++ get_or all n 0 ∷ []) fs c.push-in-capacities.new.self.items) (sym c.in_ok-push.ensures.items)
     (subst (λ is. AreOpened schema (take n all ++ get_or all n 0 ∷ []) (c.capacities.feeders.items ++ feeder ∷ []) is) (sym c.in_ok-push-2.ensures.items) more))

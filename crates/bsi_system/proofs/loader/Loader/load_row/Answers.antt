@@ -10,42 +10,42 @@ use Rattle.bsi_system.proofs.loader.Loader.load_row.Goals as goal
 pub invariant_of-self-2 : goal.invariant_of-self-2
 invariant_of-self-2 g c =
     let l = c.self.inside in
-    let intakes = c.first_of.new.lanes.items in
+    let intakes = c.first_of.new.channels.items in
     let row = c.take_of.result in
-    let same = same_row intakes c.args.feeder c.in_ok-row.row row c.take_of.new.lanes.items c.in_ok-row.ensures.first c.take_of.ensures in
+    let same = same_row intakes c.args.feeder c.in_ok-row.row row c.take_of.new.channels.items c.in_ok-row.ensures.first c.take_of.ensures in
     let ok = mapped_ok _ _ c.hold.result c.map_err.result tt c.map_err.ensures.cases c.hold.ensures.ok c.in_ok-map_err.was in
     let held = ok ∙ ap (with_held l.publisher c.args.feeder) same in
-    takes_loader intakes l.publisher c.args.feeder row c.take_of.new.lanes.items c.hold.new.self c.take_of.ensures held
-    (same_loader l.lanes.items l.publisher c.self.invariant c.args.feeder intakes c.in_ok-row.ensures.same)
+    takes_loader intakes l.publisher c.args.feeder row c.take_of.new.channels.items c.hold.new.self c.take_of.ensures held
+    (same_loader l.channels.items l.publisher c.self.invariant c.args.feeder intakes c.in_ok-row.ensures.same)
 
 pub returns-clause-loaded : goal.returns-clause-loaded
 returns-clause-loaded g c =
     let l = c.self.inside in
-    let intakes = c.first_of.new.lanes.items in
+    let intakes = c.first_of.new.channels.items in
     let row = c.take_of.result in
-    let same = same_row intakes c.args.feeder c.in_ok-row.row row c.take_of.new.lanes.items c.in_ok-row.ensures.first c.take_of.ensures in
+    let same = same_row intakes c.args.feeder c.in_ok-row.row row c.take_of.new.channels.items c.in_ok-row.ensures.first c.take_of.ensures in
     let ok = mapped_ok _ _ c.hold.result c.map_err.result tt c.map_err.ensures.cases c.hold.ensures.ok c.in_ok-map_err.was in
     let held = ok ∙ ap (with_held l.publisher c.args.feeder) same in
-    let loader = same_loader l.lanes.items l.publisher c.self.invariant c.args.feeder intakes c.in_ok-row.ensures.same in
-    let looks = looks_loading l.lanes.items l.publisher c.self.invariant c.args.feeder intakes c.in_ok-row.ensures.same in
-    let new = loading c.take_of.new.lanes.items c.hold.new.self in
-    let loads = takes_loads intakes l.publisher c.args.feeder row c.take_of.new.lanes.items c.hold.new.self c.take_of.ensures held in
+    let loader = same_loader l.channels.items l.publisher c.self.invariant c.args.feeder intakes c.in_ok-row.ensures.same in
+    let looks = looks_loading l.channels.items l.publisher c.self.invariant c.args.feeder intakes c.in_ok-row.ensures.same in
+    let new = loading c.take_of.new.channels.items c.hold.new.self in
+    let loads = takes_loads intakes l.publisher c.args.feeder row c.take_of.new.channels.items c.hold.new.self c.take_of.ensures held in
     let first = first_fits intakes l.publisher loader c.args.feeder c.in_ok-row.row c.in_ok-row.ensures.first in
     let fitting = subst (λ r. IsTrue (fits l.publisher.table.schema.columns r)) same first in (
       row,
       subst (λ s. IsTrue (fits s.system.schema.columns row)) c.self.view_is fitting,
       subst (λ s. Loads s c.args.feeder row new) c.self.view_is
-          (looked_loads (loading l.lanes.items l.publisher) (loading intakes l.publisher) new c.args.feeder row looks loads),
+          (looked_loads (loading l.channels.items l.publisher) (loading intakes l.publisher) new c.args.feeder row looks loads),
     )
 
 pub hold-requires-clause-fits : goal.hold-requires-clause-fits
 hold-requires-clause-fits g c =
     let l = c.self.inside in
-    let intakes = c.first_of.new.lanes.items in
-    first_fits intakes l.publisher (same_loader l.lanes.items l.publisher c.self.invariant c.args.feeder intakes c.in_ok-row.ensures.same) c.args.feeder c.in_ok-row.row c.in_ok-row.ensures.first
+    let intakes = c.first_of.new.channels.items in
+    first_fits intakes l.publisher (same_loader l.channels.items l.publisher c.self.invariant c.args.feeder intakes c.in_ok-row.ensures.same) c.args.feeder c.in_ok-row.row c.in_ok-row.ensures.first
 
 pub hold-requires-clause-feeder : goal.hold-requires-clause-feeder
 hold-requires-clause-feeder g c =
     let l = c.self.inside in
-    let intakes = c.first_of.new.lanes.items in
-    first_there intakes l.publisher (same_loader l.lanes.items l.publisher c.self.invariant c.args.feeder intakes c.in_ok-row.ensures.same) c.args.feeder c.in_ok-row.row c.in_ok-row.ensures.first
+    let intakes = c.first_of.new.channels.items in
+    first_there intakes l.publisher (same_loader l.channels.items l.publisher c.self.invariant c.args.feeder intakes c.in_ok-row.ensures.same) c.args.feeder c.in_ok-row.row c.in_ok-row.ensures.first

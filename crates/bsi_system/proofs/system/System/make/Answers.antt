@@ -8,7 +8,7 @@ pub invariant_of-result : goal.invariant_of-result
 invariant_of-result g c =
     let schema = c.args.schema in
     let feeders = c.in_ok-feeders.feeders.items in
-    let intakes = c.in_ok-feeders.lanes.items in
+    let intakes = c.in_ok-feeders.channels.items in
     let capacities = c.args.capacities.now in
     let shared = mapped_ok _ _ c.new.result c.map_err.result c.in_ok-shared.shared c.map_err.ensures.cases c.new.ensures.ok c.in_ok-shared.was in
     let opened = subst (λ s. AreOpened s capacities feeders intakes) (shared ∙ c.in_ok-copy.ensures) c.in_ok-feeders.ensures in
@@ -20,7 +20,7 @@ pub returns-clause-loader : goal.returns-clause-loader
 returns-clause-loader g c =
     let schema = c.args.schema in
     let feeders = c.in_ok-feeders.feeders.items in
-    let intakes = c.in_ok-feeders.lanes.items in
+    let intakes = c.in_ok-feeders.channels.items in
     let capacities = c.args.capacities.now in
     let shared = mapped_ok _ _ c.new.result c.map_err.result c.in_ok-shared.shared c.map_err.ensures.cases c.new.ensures.ok c.in_ok-shared.was in
     let opened = subst (λ s. AreOpened s capacities feeders intakes) (shared ∙ c.in_ok-copy.ensures) c.in_ok-feeders.ensures in
@@ -32,7 +32,7 @@ pub returns-clause-alike : goal.returns-clause-alike
 returns-clause-alike g c =
     let schema = c.args.schema in
     let feeders = c.in_ok-feeders.feeders.items in
-    let intakes = c.in_ok-feeders.lanes.items in
+    let intakes = c.in_ok-feeders.channels.items in
     let capacities = c.args.capacities.now in
     let shared = mapped_ok _ _ c.new.result c.map_err.result c.in_ok-shared.shared c.map_err.ensures.cases c.new.ensures.ok c.in_ok-shared.was in
     let opened = subst (λ s. AreOpened s capacities feeders intakes) (shared ∙ c.in_ok-copy.ensures) c.in_ok-feeders.ensures in

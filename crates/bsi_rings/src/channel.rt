@@ -1,4 +1,4 @@
-//! A lane: the loader's end of one ring, and what the feeder's closing told about it.
+//! A channel: the loader's end of one ring, and what the feeder's closing told about it.
 
 ghost use Rattle.std.specs.Prelude.{◌≡◌, ◌<◌, ◌↔◌, [], ◌∷◌, IfOk, IfSome, IsTrue, length};
 ghost use mathlib.Core.List.{IsPrefix};
@@ -23,42 +23,42 @@ pub enum Front {
 
 /// The consumer end of a ring, and the closing of its feeder once it was told.
 #[derive(Drop)]
-pub struct Lane {
+pub struct Channel {
     schema: Arc<Schema, Global>,
     ring: Consumer<Row>,
     finished: Option<Finished<Row>>,
 }
 
 // Clauses see which ring it is, the rows that were taken, those that are seen in the ring, and what was told.
-impl Model for Lane {
+impl Model for Channel {
     ghost use Rattle.std.specs.Prelude.{◌≡◌, IfSome, option_map};
     ghost use Rattle.rtrb.specs.Ring.{all_sent, received, known_items};
-    ghost use Rattle.bsi_rings.specs.Rings.{ring_of, Intake, IsLane};
+    ghost use Rattle.bsi_rings.specs.Rings.{ring_of, Intake, IsChannel};
 
     ghost Value = { Intake };
 
     ghost view = { λ l. record {
-      lane = record { ring = ring_of l.ring.end; schema = l.schema.value };
+      channel = record { ring = ring_of l.ring.end; schema = l.schema.value };
       taken = received l.ring;
       seen = known_items l.ring;
       told = option_map all_sent l.finished;
     } };
 
-    ghost invariant = { λ l. IsLane (record { ring = ring_of l.ring.end; schema = l.schema.value })
+    ghost invariant = { λ l. IsChannel (record { ring = ring_of l.ring.end; schema = l.schema.value })
         (received l.ring) (known_items l.ring) (option_map all_sent l.finished)
         × IfSome l.finished (λ finished. ring_of finished.end ≡ ring_of l.ring.end) };
 }
 
-impl Lane {
+impl Channel {
     ghost use Rattle.rtrb.specs.Ring.{received, known_items};
     ghost use Rattle.bsi_rings.specs.Rings.{new_intake, ring_of, with_seen, IsFront, IsWhole, Settles, TakesFirst};
 
-    /// Makes the lane of a ring from which nothing has been taken.
-    pub(crate) fn new(schema: Arc<Schema, Global>, ring: Consumer<Row>) -> Lane
+    /// Makes the channel of a ring from which nothing has been taken.
+    pub(crate) fn new(schema: Arc<Schema, Global>, ring: Consumer<Row>) -> Channel
         requires { (received ring ≡ []) × (known_items ring ≡ []) }
         ensures { result ≡ new_intake (record { ring = ring_of ring.end; schema = schema.value }) }
     {
-        Lane {
+        Channel {
             schema,
             ring,
             finished: None,
@@ -116,7 +116,7 @@ impl Lane {
     /// Learns from the closing of the ring's feeder what was sent. It takes no row and allocates no memory. A second
     /// closing of one ring would tell the same rows.
     pub fn settle(&mut self, closing: Closing)
-        requires { closing.lane ≡ self.old.lane }
+        requires { closing.channel ≡ self.old.channel }
         ensures settled { Settles self.old closing self.new }
         ensures whole { IsWhole self.new }
         ensures once { IfSome self.old.told (λ sent. closing.rows ≡ sent) }

@@ -1,14 +1,14 @@
--- What is done with one lane of a list of them.
+-- What is done with one channel of a list of them.
 use Rattle.std.specs.Prelude.{◌≡◌, ℕ, ◌<◌, ◌≤◌, Bool, true, false, All, IfSome, IsTrue, List, ◌∷◌, None, Some, Result, Ok, Err, length, slice_get, slice_set}
 use Rattle.bsi_table.specs.Columns.{fits}
 use Rattle.bsi_table.specs.Rows.{Entries}
 use Rattle.bsi_load.specs.declared.event.LoadRefused.{LoadRefused}
 use Rattle.bsi_load.specs.declared.event.LoadRefused.TheVariants as load
-use Rattle.bsi_rings.specs.declared.lane.Front.{Front}
-use Rattle.bsi_rings.specs.Rings.{lanes_of, with_seen, Intake, IsFront, IsWhole, Sent, Settles, TakesFirst}
+use Rattle.bsi_rings.specs.declared.channel.Front.{Front}
+use Rattle.bsi_rings.specs.Rings.{channels_of, with_seen, Intake, IsFront, IsWhole, Sent, Settles, TakesFirst}
 use Rattle.bsi_system.specs.Running.{seen_at, seen_of, taking_at, takings_of, IsSettled, MayLoad, Taking}
 
--- one lane was looked at
+-- one channel was looked at
 pub record LooksAt (old : List Intake) (f : ℕ) (found : Front) (new : List Intake) : Type 0 where
   pub before : Intake
   pub seen : List Entries
@@ -17,7 +17,7 @@ pub record LooksAt (old : List Intake) (f : ℕ) (found : Front) (new : List Int
   pub found_is : IsFront (with_seen before seen) found
   pub whole : IsWhole (with_seen before seen)
 
--- the first row that is seen of one lane was taken
+-- the first row that is seen of one channel was taken
 pub record TakesAt (old : List Intake) (f : ℕ) (row : Entries) (new : List Intake) : Type 0 where
   pub before : Intake
   pub after : Intake
@@ -26,7 +26,7 @@ pub record TakesAt (old : List Intake) (f : ℕ) (row : Entries) (new : List Int
   pub takes : TakesFirst before row after
   pub whole : IsWhole after
 
--- the closing of one lane was told
+-- the closing of one channel was told
 pub record SettlesAt (old : List Intake) (f : ℕ) (closing : Sent) (new : List Intake) : Type 0 where
   pub before : Intake
   pub after : Intake
@@ -36,20 +36,20 @@ pub record SettlesAt (old : List Intake) (f : ℕ) (closing : Sent) (new : List 
   pub once : IfSome before.told (λ sent. closing.rows ≡ sent)
   pub whole : IsWhole after
 
--- nothing was taken or told; what is seen of one lane may be different
+-- nothing was taken or told; what is seen of one channel may be different
 pub record AreUntaken (old : List Intake) (f : ℕ) (new : List Intake) : Type 0 where
   pub takings : takings_of new ≡ takings_of old
-  pub lanes : lanes_of new ≡ lanes_of old
+  pub channels : channels_of new ≡ channels_of old
   pub seen : seen_of new ≡ slice_set (seen_of old) f (seen_at (seen_of new) f)
   pub whole : All IsWhole old → All IsWhole new
 
--- the row is the first that is seen of a lane, and fits
+-- the row is the first that is seen of a channel, and fits
 pub record IsFirstAt (intakes : List Intake) (f : ℕ) (row : Entries) : Type 0 where
   pub intake : Intake
   pub rest : List Entries
   pub at : slice_get intakes f ≡ Some intake
   pub first : intake.seen ≡ row ∷ rest
-  pub fitting : IsTrue (fits intake.lane.schema.columns row)
+  pub fitting : IsTrue (fits intake.channel.schema.columns row)
 
 -- the reply to the question for a copy of the first row, where the table is full or not
 abbrev pub IsFirstReply : List Taking → ℕ → Bool → Result Entries LoadRefused → Type 0

@@ -3,7 +3,7 @@ use Rattle.std.specs.Prelude.{option_map, IfSome}
 use Rattle.rtrb.specs.Ring.{all_sent, received, known_items}
 use Rattle.bsi_rings.specs.Rings.{ring_of}
 use Rattle.bsi_rings.proofs.Fronts.{told_once, told_view}
-use Rattle.bsi_rings.proofs.lane.Lane.settle.Goals as goal
+use Rattle.bsi_rings.proofs.channel.Channel.settle.Goals as goal
 
 -- what was told before is what this closing tells
 pub returns-in-Some-clause-settled : goal.returns-in-Some-clause-settled
@@ -20,7 +20,7 @@ returns-in-Some-clause-settled c =
     let told = c.slots_after-in-Some.ensures.finished.1 ∙ sym same ∙ c.into_finished-finished.ensures.rows in
     let ring : ring_of end ≡ ring_of l.ring.end = cc (one.0.0.0, one.0.0.1, one.0.0.2, one.0.0.3, two.0.0.0, two.0.0.1, two.0.0.2, two.0.0.3) in
     told_view c.args.self.now (ring_of end) (ring_of l.ring.end) l.schema.value end.past end.ahead (Some c.slots_after-in-Some.new.finished.end.past) c.args.closing.rows
-    ring (ap (λ i. i.lane) c.self.view_is) (two.1 ∙ one.1 ∙ ap (λ i. i.taken) c.self.view_is) (ap Some told)
+    ring (ap (λ i. i.channel) c.self.view_is) (two.1 ∙ one.1 ∙ ap (λ i. i.taken) c.self.view_is) (ap Some told)
 
 pub returns-in-Some-clause-once : goal.returns-in-Some-clause-once
 returns-in-Some-clause-once c =

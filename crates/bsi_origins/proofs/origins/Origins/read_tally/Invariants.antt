@@ -1,7 +1,7 @@
 use Rattle.std.proofs.Common.{◌≡◌, ◌*◌, ◌<◌, ℕ, length}
 use Rattle.std.specs.Prelude.{slice_index}
 use Rattle.bsi_origins.specs.Origins.{count_before}
-use Rattle.bsi_origins.proofs.origins.Origins.read_mark.Given as goal
+use Rattle.bsi_origins.proofs.origins.Origins.read_tally.Given as goal
 
 abbrev pub invariant-feeders : goal.invariant-feeders
 invariant-feeders l = record {

@@ -4,7 +4,7 @@ use Rattle.rtrb.specs.Ring.{all_sent, received, known_items}
 use Rattle.bsi_table.specs.Columns.{fits}
 use Rattle.bsi_rings.specs.Rings.{ring_of}
 use Rattle.bsi_rings.proofs.Fronts.{untold}
-use Rattle.bsi_rings.proofs.lane.Lane.front.Goals as goal
+use Rattle.bsi_rings.proofs.channel.Channel.front.Goals as goal
 
 -- a row that does not fit is never told of
 pub returns-then-look-clause-front : goal.returns-then-look-clause-front
