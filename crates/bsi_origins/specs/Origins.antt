@@ -1,6 +1,10 @@
 -- The feeder of each row, and tallies: counts by feeder before every 512th row.
 use Rattle.std.specs.Prelude.{◌≡◌, ℕ, ◌+◌, ◌*◌, ◌/◌, ◌^◌, ◌<◌, ◌≤◌, List, All, length, take, count_by, nat_eq, nat_le, slice_index, if◌then◌else◌}
 
+-- at most so many feeders have rows in one table
+abbrev pub max_feeders : ℕ
+max_feeders = 64
+
 -- what a contract sees of an 'Origins': the feeder of each row, how many feeders there are, and how many more rows can
 -- be appended with no memory
 pub record OriginList : Type 0 where
@@ -33,7 +37,7 @@ AreTallies len rows tallies =
 -- the feeders of rows are kept so: with the counts of all rows, and the tallies
 pub record IsTallied (feeders : ℕ) (rows counts tallies : List ℕ) : Type 0 where
   pub some : 1 ≤ feeders
-  pub few : feeders ≤ 64
+  pub few : feeders ≤ max_feeders
   pub from : All (λ feeder. feeder < feeders) rows
   pub long : length counts ≡ 64
   pub counted : AreCounts feeders rows (length rows) counts

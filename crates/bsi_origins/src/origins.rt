@@ -5,7 +5,7 @@
 //! numbered by one tally and up to 511 bytes.
 
 ghost use Rattle.std.specs.Prelude.{◌≡◌, ◌+◌, ◌-◌, ◌*◌, ◌<◌, ◌≤◌, ◌^◌, ◌++◌, ◌∷◌, [], All, IfOk, IsOk, OnErr, OnOk, length, min, slice_index, vec_len, vec_capacity};
-ghost use Rattle.bsi_origins.specs.Origins.{tally_len, AreCounts};
+ghost use Rattle.bsi_origins.specs.Origins.{max_feeders, tally_len, AreCounts};
 
 use crate::NoMemory;
 use bsi_bits::room_to_make;
@@ -49,7 +49,7 @@ impl Model for Origins {
 impl Origins {
     /// Makes the list of no rows. It allocates no memory until it grows.
     pub fn new(alloc: Global, feeders: u32) -> Origins
-        requires { (1 ≤ feeders) × (feeders ≤ 64) }
+        requires { (1 ≤ feeders) × (feeders ≤ max_feeders) }
         ensures rows { result.rows ≡ [] }
         ensures feeders { result.feeders ≡ feeders }
     {
@@ -74,7 +74,7 @@ impl Origins {
     /// Returns the number of feeders, from 1 to 64. Each row came from one of them.
     pub fn feeders(&self) -> u32
         ensures feeders { result ≡ self.now.feeders }
-        ensures within { (1 ≤ result) × (result ≤ 64) }
+        ensures within { (1 ≤ result) × (result ≤ max_feeders) }
         ensures from { All (λ feeder. feeder < self.now.feeders) self.now.rows }
     {
         self.feeders
@@ -85,7 +85,7 @@ impl Origins {
         requires { r < length self.now.rows }
         ensures feeder { result ≡ slice_index self.now.rows r }
         ensures within { result < self.now.feeders }
-        ensures few { self.now.feeders ≤ 64 }
+        ensures few { self.now.feeders ≤ max_feeders }
     {
         self.row_feeders[r as usize]
     }
