@@ -121,7 +121,7 @@ impl Bases {
     pub fn base(&self, i: u32) -> u32
         requires { i < length self.now }
         ensures base { result ≡ slice_index self.now i }
-        ensures within { (2 ≤ result) × (result ≤ 1024) }
+        ensures within { IsBase result }
     {
         self.bases[i as usize]
     }

@@ -2,7 +2,7 @@
 use Rattle.std.specs.Prelude.{◌≡◌, ◌≢◌, ℕ, ◌+◌, List, [], ◌∷◌, Option, Some, Err, Bool, true, false}
 use Rattle.csv.specs.declared.reader.Reader.{Reader}
 use Rattle.bsi_records.specs.Numbers.{Field}
-use Rattle.bsi_text.specs.Sources.{End, end_after, HasNext, HasRead, IsOver}
+use Rattle.bsi_text.specs.Sources.{End, end_after, max_records, HasNext, HasRead, IsOver}
 use Rattle.bsi_text.specs.declared.rows.SourceFault.{SourceFault}
 use Rattle.bsi_text.specs.declared.rows.SourceFault.TheVariants.{BadHeader, TooLong}
 
@@ -20,7 +20,7 @@ TakesRecord rem old new before after fields false = IsOver rem old × (after ≡
 -- a fault, none of a header, was met; a text is too long where 1,000,000 records were taken and there is one more
 abbrev pub Stops : {R : Type 0} → (R → Option (List ℕ)) → Reader R → ℕ → ℕ → SourceFault → Type 0
 Stops rem old before after fault =
-    (fault ≢ BadHeader) × (fault ≡ TooLong → (before ≡ 1000000) × HasNext rem old) × (after ≡ before)
+    (fault ≢ BadHeader) × (fault ≡ TooLong → (before ≡ max_records) × HasNext rem old) × (after ≡ before)
 
 abbrev pub TakesNext : {R : Type 0} → (R → Option (List ℕ)) → RecordText R → RecordText R → List Field → Bool → Type 0
 TakesNext rem old new fields found =

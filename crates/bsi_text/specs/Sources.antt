@@ -14,6 +14,10 @@ use Rattle.bsi_text.specs.RowFiles.{bad_count, good_rows, is_header}
 use Rattle.bsi_text.specs.declared.rows.SourceFault.{SourceFault}
 use Rattle.bsi_text.specs.declared.rows.SourceFault.TheVariants.{BadHeader, TooLong}
 
+-- a text has at most so many records
+abbrev pub max_records : ℕ
+max_records = 1000000
+
 -- the columns of a row file, and its header
 pub record Layout : Type 0 where
   pub schema : Declared
@@ -97,7 +101,7 @@ pub record HasStopped {R : Type 0} (rem : R → Option (List ℕ)) (layout : Lay
   pub at : Reader R
   pub taken : HasTaken rem layout old at before after []
   pub later : fault ≢ BadHeader
-  pub too_long : fault ≡ TooLong → (after.taken ≡ 1000000) × HasNext rem at
+  pub too_long : fault ≡ TooLong → (after.taken ≡ max_records) × HasNext rem at
 
 -- what a call leaves that gives a row, or finds that none is left
 abbrev pub HasGiven : {R : Type 0} → (R → Option (List ℕ)) → Layout → Reader R → Reader R → Tally → Tally
@@ -108,7 +112,7 @@ HasGiven rem layout old new before after found =
 
 -- the counts of a source
 pub record IsTally (tally : Tally) : Type 0 where
-  pub few : tally.taken ≤ 1000000
+  pub few : tally.taken ≤ max_records
   pub bad : tally.bad ≤ tally.taken
 
 -- ---- what is left of a text

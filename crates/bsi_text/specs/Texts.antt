@@ -8,6 +8,7 @@ use Rattle.csv.specs.declared.parser.State.{State}
 use Rattle.csv.specs.declared.parser.State.TheVariants as st
 use Rattle.bsi_records.specs.Numbers.{Field}
 use Rattle.bsi_text.specs.Scripts.{IsScriptRun}
+use Rattle.bsi_text.specs.Sources.{max_records}
 use Rattle.bsi_text.specs.Waiting.{OnceWritten}
 
 -- these are all the records of a text, of which a byte order mark at its start is no part
@@ -32,7 +33,7 @@ WritesPart before after records =
 pub record IsAnswered (bytes : List ℕ) (before after : Option (List ℕ)) : Type 0 where
   pub records : List (List Field)
   pub all : AreAllRecords bytes records
-  pub few : length records ≤ 1000000
+  pub few : length records ≤ max_records
   pub written : WritesLines before after records
 
 -- the text has more than 1,000,000 records, and a script run of the first 1,000,000 was written
@@ -41,7 +42,7 @@ pub record IsTooLong (bytes : List ℕ) (before after : Option (List ℕ)) : Typ
   pub state : State
   pub rest : List ℕ
   pub first : AreFirstRecords bytes records state rest
-  pub many : length records ≡ 1000000
+  pub many : length records ≡ max_records
   pub more : IsSome (next_record default_config state [] [] rest)
   pub written : WritesLines before after records
 

@@ -8,7 +8,7 @@ ghost use Rattle.csv.specs.Reading.{reader_state, source_of, strip_bom};
 ghost use Rattle.csv.specs.declared.parser.State.TheVariants as st;
 ghost use Rattle.bsi_table.specs.Columns.{fits};
 ghost use Rattle.bsi_text.specs.RowFiles.{given, is_header};
-ghost use Rattle.bsi_text.specs.Sources.{end_after, tally_of, GivesFirst, HasGiven, HasNoHeader, HasStopped, IsPlain, IsTally, StandsAfter};
+ghost use Rattle.bsi_text.specs.Sources.{end_after, max_records, tally_of, GivesFirst, HasGiven, HasNoHeader, HasStopped, IsPlain, IsTally, StandsAfter};
 
 use crate::layout::Layout;
 use crate::reading::{MAX_RECORDS, end_after, plain_reader, read_next};
@@ -141,7 +141,7 @@ impl<R: Read + Drop> RowSource<R> {
         ensures first { IfOk result (GivesFirst R.remaining self.old self.new) }
         ensures fits { IfOk result
             (λ found. IfSome found (λ row. IsTrue (fits self.old.layout.schema.columns row))) }
-        ensures few { self.new.tally.taken ≤ 1000000 }
+        ensures few { self.new.tally.taken ≤ max_records }
     {
         let mut row = Row::new(Vec::new(self.alloc));
         if !self.next_into(&mut row)? {
@@ -172,7 +172,7 @@ impl<R: Read + Drop> RowSource<R> {
             (λ found. GivesFirst R.remaining self.old self.new (given found row.new)) }
         ensures fits { IfOk result (λ found. found ≡ true →
             IsTrue (fits self.old.layout.schema.columns row.new)) }
-        ensures few { self.new.tally.taken ≤ 1000000 }
+        ensures few { self.new.tally.taken ≤ max_records }
     {
         if let Some(end) = self.end {
             return end.map(|()| false);
@@ -193,7 +193,7 @@ impl<R: Read + Drop> RowSource<R> {
     /// Returns how many bad records were passed over so far, at most 1,000,000.
     pub fn bad(&self) -> u64
         ensures bad { result ≡ self.now.tally.bad }
-        ensures within { result ≤ 1000000 }
+        ensures within { result ≤ max_records }
     {
         self.bad
     }

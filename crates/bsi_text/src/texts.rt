@@ -5,7 +5,7 @@ ghost use Rattle.csv.specs.Reading.{reader_state, source_of, strip_bom};
 ghost use Rattle.csv.specs.Records.{fields_of};
 ghost use Rattle.csv.specs.declared.parser.State.TheVariants as st;
 ghost use Rattle.bsi_text.specs.RecordTexts.{Stops, StopsAt, TakesNext, TakesRecord};
-ghost use Rattle.bsi_text.specs.Sources.{IsPlain};
+ghost use Rattle.bsi_text.specs.Sources.{max_records, IsPlain};
 
 use crate::reading::{MAX_RECORDS, end_after, plain_reader, read_next};
 use crate::rows::SourceFault;
@@ -27,13 +27,13 @@ pub struct RecordSource<R: Read + Drop> {
 impl<R: Read + Drop> Model for RecordSource<R> {
     ghost use Rattle.std.specs.Prelude.{◌≡◌, ◌≤◌, None};
     ghost use Rattle.bsi_text.specs.RecordTexts.{RecordText};
-    ghost use Rattle.bsi_text.specs.Sources.{IsPlain};
+    ghost use Rattle.bsi_text.specs.Sources.{max_records, IsPlain};
 
     ghost Value = { RecordText R };
 
     ghost view = { λ s. record { input = s.input; taken = s.taken; end = s.end } };
 
-    ghost invariant = { λ s. (s.taken ≤ 1000000) × (s.end ≡ None → IsPlain s.input) };
+    ghost invariant = { λ s. (s.taken ≤ max_records) × (s.end ≡ None → IsPlain s.input) };
 }
 
 impl<R: Read + Drop> RecordSource<R> {
@@ -62,7 +62,7 @@ impl<R: Read + Drop> RecordSource<R> {
             IfOk result (TakesNext R.remaining self.old self.new (fields_of fields.new)) }
         ensures stopped { self.old.end ≡ None →
             IfErr result (StopsAt R.remaining self.old self.new) }
-        ensures few { self.new.taken ≤ 1000000 }
+        ensures few { self.new.taken ≤ max_records }
     {
         if let Some(end) = self.end {
             return end.map(|()| false);
@@ -80,11 +80,11 @@ fn take_record<R: Read + Drop>(
     taken: &mut u64,
 ) -> Result<bool, SourceFault>
     requires plain { IsPlain input.old }
-    requires few { taken.old ≤ 1000000 }
+    requires few { taken.old ≤ max_records }
     ensures taken { IfOk result
         (TakesRecord R.remaining input.old input.new taken.old taken.new (fields_of fields.new)) }
     ensures stopped { IfErr result (Stops R.remaining input.old taken.old taken.new) }
-    ensures few { taken.new ≤ 1000000 }
+    ensures few { taken.new ≤ max_records }
     ensures plain { OnOk result (IsPlain input.new) }
 {
     if !read_next(input, fields)? {
