@@ -1,4 +1,4 @@
-"""What the tools share: where things lie, a run with bytes, the kit's command, and the count of checks."""
+"""What the tools share: where things lie, the crates, a run with bytes, how a process ended, and the count of checks."""
 
 import contextlib
 import os

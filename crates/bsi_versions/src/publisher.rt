@@ -1,9 +1,8 @@
 //! The writing end: it holds rows back, and makes them visible at one step.
 //!
 //! A pending operation is a block of rows or a mark, which says which list of the history the rows then are. A publish
-//! that is tried again, or has nothing to show, adds no mark. A held row
-//! goes into a stage with room for 64; a full stage becomes one operation before the next row is held. A stage in each
-//! copy would be part of what is shown.
+//! that is tried again, or has nothing to show, adds no mark. A held row goes into a stage with room for 64; a full stage
+//! becomes one operation before the next row is held. A stage in each copy would be part of what is shown.
 
 ghost use Rattle.std.specs.Prelude.{◌≡◌, ◌+◌, ◌<◌, ◌≤◌, [], IfOk, IsTrue, OnErr, OnOk, length, ◌↔◌};
 ghost use Rattle.bsi_table.specs.Columns.{fits};
