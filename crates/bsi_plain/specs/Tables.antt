@@ -30,5 +30,5 @@ abbrev pub IsNegation : Pred → Pred → Type 0
 IsNegation pred made = (row : Entries) → holds made row ≡ not (holds pred row)
 
 -- a predicate holds where both others do
-abbrev pub IsConjunction : Pred → Pred → Pred → Type 0
-IsConjunction first second made = (row : Entries) → holds made row ≡ (holds first row && holds second row)
+abbrev pub IsBoth : Pred → Pred → Pred → Type 0
+IsBoth first second made = (row : Entries) → holds made row ≡ (holds first row && holds second row)

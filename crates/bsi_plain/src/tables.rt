@@ -3,7 +3,7 @@
 ghost use Rattle.std.specs.Prelude.{◌≡◌, map, IfOk, OnOk, OnErr};
 ghost use Rattle.std.specs.List.{list_any};
 ghost use Rattle.bsi_schema.specs.Columns.{form_of, with_column};
-ghost use Rattle.bsi_plain.specs.Tables.{as_column, has_offset, stored_form, IsConjunction, IsNegation};
+ghost use Rattle.bsi_plain.specs.Tables.{as_column, has_offset, stored_form, IsBoth, IsNegation};
 
 use crate::NoMemory;
 use crate::columns::{Form, Wide};
@@ -113,7 +113,7 @@ pub fn not(alloc: Global, pred: Pred) -> Result<Pred, NoMemory>
 
 /// Returns the conjunction of two predicates.
 pub fn both(alloc: Global, first: Pred, second: Pred) -> Result<Pred, NoMemory>
-    ensures { IfOk result (IsConjunction first second) }
+    ensures { IfOk result (IsBoth first second) }
 {
     Ok(Pred::Both(boxed(alloc, first)?, boxed(alloc, second)?))
 }
