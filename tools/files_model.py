@@ -130,15 +130,22 @@ def fault_in_run(given, ran, refused):
         return f"{told} times no memory, and {refused} growths refused"
     if not lacks and (ran.status, ran.err, len(lines)) != (usual.status, usual.err, len(wanted)):
         return f"{len(lines)} lines in place of {len(wanted)}, then status {ran.status} and {ran.err!r}"
-    return fault_in_lines(lines, wanted)
+    _, asks, files = given
+    return fault_in_lines(lines, wanted, [None] * len(files) + records(asks))
 
 
-def fault_in_lines(lines, wanted):
-    """Returns what is wrong with these first lines of a run, or None. A line `no memory` may stand for a query's answer."""
+def takes_memory(record):
+    """Returns whether the answer to a query takes memory."""
+    return record[0] != b"count" or script_model.count_takes_memory(record[1:])
+
+
+def fault_in_lines(lines, wanted, asked):
+    """Returns what is wrong with these first lines of a run, or None. Beside each stands the record that it answers, or
+    None beside a line `fed`. A line `no memory` may stand for the answer to a query that takes memory."""
     if len(lines) > len(wanted):
         return f"{len(lines)} lines in place of {len(wanted)}"
-    for number, (line, usual) in enumerate(zip(lines, wanted), 1):
-        may_lack = line == script_model.NO_MEMORY and usual != BAD and not usual.startswith(b"fed ")
+    for number, (line, usual, record) in enumerate(zip(lines, wanted, asked), 1):
+        may_lack = line == script_model.NO_MEMORY and usual != BAD and record is not None and takes_memory(record)
         if line != usual and not may_lack:
             return f"line {number} is {line!r} and not {usual!r}"
     return None

@@ -301,9 +301,14 @@ def selected(machine, fields):
     return selects and [at for at, (_, row) in enumerate(machine.indexed) if selects(row)]
 
 
+def count_takes_memory(fields):
+    """Returns whether a count by the predicate that the fields spell takes memory: one without `or` and `not` takes none."""
+    return b"or" in fields or b"not" in fields
+
+
 def run_count(machine, fields):
     places = selected(machine, fields)
-    return None if places is None else Step(b"count %d" % len(places), True, nothing)
+    return None if places is None else Step(b"count %d" % len(places), count_takes_memory(fields), nothing)
 
 
 def run_list(machine, fields):
