@@ -61,13 +61,16 @@ moved_equal base first j v low = elim (cases_lt j (base - first)) [
 pub count_same : (base own n m : ℕ) → m ≡ n → IsCount base own n → IsCount base own m
 count_same base own n m same count = subst (λ (k : ℕ). IsCount base own k) (sym same) count
 
-pub count_made : (base own places n : ℕ) → n ≡ own + places → places ≤ 10 → (1 ≤ places → base ≤ 2 ^ places) → IsCount base own n
-count_made base own places n is few enough = record {
+pub count_made : (base own places n : ℕ) → n ≡ own + places → places ≤ 10 → (1 ≤ places → base ≤ 2 ^ places) → (4 ≤ base → 1 ≤ places) → IsCount base own n
+count_made base own places n is few enough from = record {
   owned = omega arith;
   few = omega arith;
   enough = λ some.
       let back : places ≡ n - own = omega arith in
       subst (λ (k : ℕ). base ≤ 2 ^ k) back (enough (omega arith));
+  some = λ four.
+      let one : 1 ≤ places = from four in
+      omega arith;
 }
 
 -- with the first digits that have no bitmap
@@ -78,4 +81,7 @@ count_moved base first own n m is all count = record {
   enough = λ some.
       let same : n - own ≡ m - base = omega arith in
       subst (λ (k : ℕ). base ≤ 2 ^ k) same (count.enough (omega arith));
+  some = λ four.
+      let more : own < n = count.some four in
+      omega arith;
 }

@@ -30,9 +30,10 @@ has_place k digit = bit_at digit k == 1
 abbrev pub then_places : ℕ → (ℕ → ℕ → Bool) → ℕ → ℕ → Bool
 then_places own holds j digit = if nat_lt j own then holds j digit else has_place (j - own) digit
 
--- of so many bitmaps `own` are those of an encoding, and the others, if there are any, are enough for the binary places
--- of the digits below the base
+-- of so many bitmaps `own` are those of an encoding, and the others are enough for the binary places of the digits below
+-- the base; from base 4 on there are others
 pub record IsCount (base own count : ℕ) : Type 0 where
   pub owned : own ≤ count
   pub few : count ≤ own + 10
   pub enough : own < count → base ≤ 2 ^ (count - own)
+  pub some : 4 ≤ base → own < count

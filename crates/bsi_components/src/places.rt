@@ -18,6 +18,7 @@ pub(crate) fn place_count(base: u32) -> usize
     requires { (2 ≤ base) × (base ≤ 1024) }
     ensures few { result ≤ 10 }
     ensures enough { 0 < result → base ≤ 2 ^ result }
+    ensures some { 4 ≤ base → 0 < result }
 {
     if base < LEAST_BASE_WITH_PLACES {
         0
