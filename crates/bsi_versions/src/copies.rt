@@ -113,6 +113,7 @@ pub(crate) fn mark_all<B: Naming>(
         ++ rows_of (pending copies.old))) }
     ensures rows { rows_of (pending copies.new) ≡ rows_of (pending copies.old) }
     ensures marked { IsMarked B.book copies.old.desk.shown.value (pending copies.new) marked.new }
+    ensures once { marked.old ≡ len → pending copies.new ≡ pending copies.old }
     ensures ok { OnOk result (marked.new ≡ len) }
 {
     if *marked == len {
