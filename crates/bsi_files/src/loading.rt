@@ -4,7 +4,7 @@
 //! long, and publishes from 4,096 held rows on, so that few stand beside the two copies of the table. Such a publish
 //! may be refused memory: the rows stay held. Nobody asks before the last one.
 
-ghost use Rattle.std.specs.Prelude.{◌≡◌, [], Bool, All, IfErr, IfOk, IfSome, None, OnOk, Ok, false, true};
+ghost use Rattle.std.specs.Prelude.{◌≡◌, ◌≢◌, ℕ, [], Bool, All, Err, IfErr, IfOk, IfSome, None, OnOk, Ok, false, true};
 ghost use Rattle.bsi_system.specs.Running.{published_all, taking_at, AlwaysHolds, IsClosingOf};
 ghost use Rattle.bsi_files.specs.Ends.{AreClosings};
 ghost use Rattle.bsi_files.specs.Takings.{all_taken, AreLoaded, IsDrained, IsFine, IsKept, IsLoaded, KeepsOthers, TakesOnlyOf};
@@ -231,24 +231,25 @@ fn drain<B: Naming, R: Wait>(rt: &R, loader: &mut Loader<B>, feeder: u32) -> Res
     unreachable!()
 }
 
-/// Looks for a fault of a source, then for a feeder that left no closing and, where no gate stops a feeder, for one
-/// that was stopped.
+/// Looks for a fault of a source, and then for a feeder that left no closing or that was stopped though no gate stops
+/// one.
 pub(crate) fn check_all(fed: &[Fed], stops: bool) -> Result<(), FilesFault>
     ensures early { IfErr result (λ fault. is_early fault ≡ true) }
     ensures fine { OnOk result (All (IsFine stops) fed.now) }
+
+    // A fault of a source comes before a feeder that was not closed.
+    ensures order { (file : ℕ) → result ≡ Err (FilesFault.NotClosed file) →
+        All (λ end. end.fault ≡ None) fed.now }
 {
     check_sources(fed)?;
-    check_closings(fed)?;
-    if !stops {
-        check_going(fed)?;
-    }
-    Ok(())
+    check_ends(fed, stops)
 }
 
 /// Looks for the first file whose source answered a fault, and answers this fault.
 fn check_sources(fed: &[Fed]) -> Result<(), FilesFault>
     ensures early { IfErr result (λ fault. is_early fault ≡ true) }
     ensures fine { OnOk result (All (λ end. end.fault ≡ None) fed.now) }
+    ensures kind { (file : ℕ) → result ≢ Err (FilesFault.NotClosed file) }
 {
     'files: for (file, end) in fed.iter().enumerate() {
         if let Some(fault) = end.fault {
@@ -258,26 +259,15 @@ fn check_sources(fed: &[Fed]) -> Result<(), FilesFault>
     Ok(())
 }
 
-/// Looks for the first feeder that left no closing, and answers this fault.
-fn check_closings(fed: &[Fed]) -> Result<(), FilesFault>
+/// Looks for the first feeder that left no closing or that was stopped though no gate stops one, and answers this
+/// fault.
+fn check_ends(fed: &[Fed], stops: bool) -> Result<(), FilesFault>
     ensures early { IfErr result (λ fault. is_early fault ≡ true) }
-    ensures fine { OnOk result (All (λ end. end.closed ≡ true) fed.now) }
+    ensures closed { OnOk result (All (λ end. end.closed ≡ true) fed.now) }
+    ensures going { OnOk result (All (λ end. stops ≡ false → end.stopped ≡ false) fed.now) }
 {
     'files: for (file, end) in fed.iter().enumerate() {
-        if !end.closed {
-            return Err(FilesFault::NotClosed(file_number(file)));
-        }
-    }
-    Ok(())
-}
-
-/// Looks for the first feeder that was stopped, though no gate stops one, and answers this fault.
-fn check_going(fed: &[Fed]) -> Result<(), FilesFault>
-    ensures early { IfErr result (λ fault. is_early fault ≡ true) }
-    ensures fine { OnOk result (All (λ end. end.stopped ≡ false) fed.now) }
-{
-    'files: for (file, end) in fed.iter().enumerate() {
-        if end.stopped {
+        if !end.closed || end.stopped && !stops {
             return Err(FilesFault::NotClosed(file_number(file)));
         }
     }
