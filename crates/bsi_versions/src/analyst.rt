@@ -1,8 +1,8 @@
 //! An analyst: a reader of the published table, who never goes back.
 
-ghost use Rattle.std.specs.Prelude.{◌≡◌, ◌⊎◌, IfSome, IsTrue, OnErr};
+ghost use Rattle.std.specs.Prelude.{◌≡◌, ◌≢◌, ◌⊎◌, IfErr, IfSome, IsTrue, OnErr, OnOk};
 ghost use mathlib.Core.List.{IsPrefix};
-ghost use Rattle.bsi_table.specs.Answers.{IsReply};
+ghost use Rattle.bsi_table.specs.Answers.{CountsConjunction, IsReply};
 
 use crate::history::Reached;
 use crate::naming::Covers;
@@ -57,6 +57,8 @@ impl<B: Naming> Analyst<B> {
     /// that list. It never waits.
     pub fn ask(&mut self, query: &Query) -> Result<Answer, AnalystRefused>
         ensures reply { IsAnalystReply B.about.schema self.new query.now result }
+        ensures succeeds { CountsConjunction query.now →
+            IfErr result (λ refused. refused ≢ AnalystRefused.Ask AskError.NoMemory) }
         ensures known { IsPrefix self.old self.new }
         ensures kept { OnErr result (self.new ≡ self.old) }
     {
@@ -77,6 +79,9 @@ impl<B: Naming> Analyst<B> {
     /// it does once more rows were published. It never waits.
     pub fn ask_told(&mut self, told: &Told<B>, query: &Query) -> Result<Answer, AnalystRefused>
         ensures reply { IsAnalystReply B.about.schema told.now query.now result }
+        ensures succeeds { CountsConjunction query.now →
+            IfErr result (λ refused. refused ≢ AnalystRefused.Ask AskError.NoMemory) }
+        ensures told { OnOk result (self.new ≡ told.now) }
         ensures known { IsPrefix self.old self.new }
     {
         let answer = self.ask(query)?;
@@ -122,6 +127,8 @@ fn read<B: Naming>(
 )
     ensures book { IfSome result.1 (λ r. r.1.book ≡ B.book) }
     ensures reply { IfSome result.1 (λ r. IsReply B.about.schema r.1.list query.now r.0) }
+    ensures succeeds { CountsConjunction query.now →
+        IfSome result.1 (λ r. IfErr r.0 (λ refused. refused ≢ AskError.NoMemory)) }
 {
     match reader.enter_as::<Covers<B>>() {
         Ok(reading) => {
