@@ -1,28 +1,34 @@
 -- Where the answers to the records of a text stand: the records that were read, and the lines that were written.
-use Rattle.std.proofs.Common.{◌≡◌, ℕ, ◌+◌, List, [], ◌∷◌, ◌++◌, length, min, take, Option, Some, None, IfSome, MatchOption, Result, Ok, Err, option_map, refl, ap, sym, ◌∙◌, subst, arith}
-use Rattle.std.specs.Prelude.{OnErr, OnOk}
+use Rattle.std.proofs.Common.{◌≡◌, ℕ, ◌+◌, List, [], ◌∷◌, ◌++◌, length, min, take, Option, Some, None, IfSome, MatchOption, refl, ap, sym, ◌∙◌, subst, arith, ◌≤◌, true, inl, inr}
+use Rattle.std.specs.Prelude.{◌≢◌, IsSome}
 use Rattle.std.specs.Io.KnownBytes.{Appends}
 use Rattle.std.specs.List.{concat}
-use Rattle.std.proofs.lemmas.List.{append-nil, append_assoc, length-append, take-append-le, take_all, take_min}
+use Rattle.std.proofs.lemmas.List.{append-nil, length-append, take-append-le, take_all, take_min}
 use Rattle.std.proofs.Math.Seq.{take-append-add}
 use Rattle.std.proofs.lemmas.List.Folds.{concat-append}
 use Rattle.csv.proofs.WriteFacts.{appends-more, appends-none}
-use Rattle.csv.specs.Machine.{Read, next_record}
+use Rattle.csv.specs.Machine.{next_record}
 use Rattle.csv.specs.Reading.{Reached, default_config, reader_state, source_of, strip_bom}
 use Rattle.csv.specs.declared.parser.Config.{Config}
 use Rattle.csv.specs.declared.parser.State.{State}
 use Rattle.csv.specs.declared.parser.State.TheVariants as st
 use Rattle.csv.specs.declared.reader.Reader.{Reader}
 use Rattle.bsi_records.specs.Numbers.{Field}
-use Rattle.bsi_text.specs.Sources.{HasRead, IsOver}
-use Rattle.bsi_text.specs.Texts.{AreAllRecords, AreFirstRecords, FromText}
+use Rattle.bsi_text.specs.Sources.{HasNext, HasRead, IsOver}
+use Rattle.bsi_text.specs.declared.rows.SourceFault.{SourceFault}
+use Rattle.bsi_text.specs.declared.rows.SourceFault.TheVariants as source
+use Rattle.bsi_text.specs.Texts.{AreAllRecords, AreFirstRecords}
 use Rattle.bsi_text.specs.Waiting.{IsCut}
 use Rattle.bsi_table.specs.Columns.{Declared}
 use Rattle.bsi_table.specs.Rows.{FedRow}
 use Rattle.bsi_files.specs.AskLines.{IsAskLine}
+use Rattle.bsi_files.specs.Faults.{is_late, text_fault}
+use Rattle.bsi_files.specs.declared.faults.FilesFault.{FilesFault}
+use Rattle.bsi_files.specs.declared.faults.FilesFault.TheVariants.{Read, TooLong, Readers, NoMemory, Write}
+use Rattle.bsi_files.specs.declared.faults.Which.TheVariants.{AsksFile}
 use Rattle.bsi_files.specs.Matching.{AreMatched}
 use Rattle.bsi_files.specs.Runs.{fed_lines, AreLines}
-use Rattle.bsi_files.specs.Writing.{WritesAll, WritesPart}
+use Rattle.bsi_files.specs.Writing.{AreOut, Leaves, WritesAll, WritesPart}
 
 -- ---- lists that match
 
@@ -42,6 +48,25 @@ cut_whole before middle after first last written cut =
 
 pub cut_all : (before after : Option (List ℕ)) (text : List ℕ) → Appends before after text → IsCut before after text
 cut_all before after text written = (length text, subst (Appends before after) (sym (take_all (length text) text (omega arith))) written)
+
+-- all of these lines went out, also with others before them
+pub out_all : (fault : FilesFault) (lines : List (List ℕ)) (before after : Option (List ℕ)) → Appends before after (concat lines) → AreOut fault lines before after
+out_all Write lines before after written = cut_all before after (concat lines) written
+out_all (TooLong AsksFile) lines before after written = written
+out_all fault lines before after written =
+    (length lines, subst (λ ls. Appends before after (concat ls)) (sym (take_all (length lines) lines (omega arith))) written)
+
+pub out_after : (fault : FilesFault) (head lines : List (List ℕ)) (before middle after : Option (List ℕ)) → Appends before middle (concat head)
+    → AreOut fault lines middle after → AreOut fault (head ++ lines) before after
+out_after Write head lines before middle after written out =
+    subst (IsCut before after) (sym (concat-append head lines)) (cut_whole before middle after (concat head) (concat lines) written out)
+out_after (TooLong AsksFile) head lines before middle after written out =
+    subst (Appends before after) (sym (concat-append head lines)) (appends-more before middle after (concat head) (concat lines) written out)
+out_after fault head lines before middle after written out = (
+  length head + out.0,
+  subst (λ ls. Appends before after (concat ls)) (sym (take-append-add head lines out.0))
+      (subst (Appends before after) (sym (concat-append head (take out.0 lines))) (appends-more before middle after (concat head) (concat (take out.0 lines)) written out.1)),
+)
 
 pub cut_front : (before after : Option (List ℕ)) (first more : List ℕ) → IsCut before after first → IsCut before after (first ++ more)
 cut_front before after first more cut =
@@ -72,19 +97,23 @@ unfolding Reached
 begun_none bytes state source start left = record { rest = strip_bom bytes; left = left; first = (sym start, refl) }
 
 module _ {R : Type 0} (rem : R → Option (List ℕ)) (bytes : List ℕ) (a b : Reader R) (records : List (List Field)) where
-  pub begun_more : (fields : List Field) → HasBegun bytes (reader_state a) (source_of rem a) records → HasRead rem a b (fields ∷ [])
-      → HasBegun bytes (reader_state b) (source_of rem b) (records ++ fields ∷ [])
-  begun_more fields has read =
-      by (source_of rem b) refl (subst (λ o. IfSome o (λ xs. MatchOption (source_of rem b) ⊥ (λ ys. Reached default_config (reader_state a) xs (fields ∷ []) (reader_state b) ys))) has.left read)
+  pub begun_join : (more : List (List Field)) → HasBegun bytes (reader_state a) (source_of rem a) records → HasRead rem a b more
+      → HasBegun bytes (reader_state b) (source_of rem b) (records ++ more)
+  begun_join more has read =
+      by (source_of rem b) refl (subst (λ o. IfSome o (λ xs. MatchOption (source_of rem b) ⊥ (λ ys. Reached default_config (reader_state a) xs more (reader_state b) ys))) has.left read)
     where
-      by : (o : Option (List ℕ)) → source_of rem b ≡ o → MatchOption o ⊥ (λ ys. Reached default_config (reader_state a) has.rest (fields ∷ []) (reader_state b) ys)
-          → HasBegun bytes (reader_state b) (source_of rem b) (records ++ fields ∷ [])
+      by : (o : Option (List ℕ)) → source_of rem b ≡ o → MatchOption o ⊥ (λ ys. Reached default_config (reader_state a) has.rest more (reader_state b) ys)
+          → HasBegun bytes (reader_state b) (source_of rem b) (records ++ more)
       by None is reached = absurd reached
       by (Some ys) is reached = record {
         rest = ys;
         left = is;
-        first = reach_on default_config st.StartRecord (reader_state a) (reader_state b) (strip_bom bytes) has.rest ys records (fields ∷ []) has.first reached;
+        first = reach_on default_config st.StartRecord (reader_state a) (reader_state b) (strip_bom bytes) has.rest ys records more has.first reached;
       }
+
+  pub begun_more : (fields : List Field) → HasBegun bytes (reader_state a) (source_of rem a) records → HasRead rem a b (fields ∷ [])
+      → HasBegun bytes (reader_state b) (source_of rem b) (records ++ fields ∷ [])
+  begun_more fields has read = begun_join (fields ∷ []) has read
 
   pub begun_all : HasBegun bytes (reader_state a) (source_of rem a) records → IsOver rem a → AreAllRecords bytes records
   begun_all has over = (
@@ -97,31 +126,35 @@ module _ {R : Type 0} (rem : R → Option (List ℕ)) (bytes : List ℕ) (a b : 
 -- ---- records and their lines
 
 -- so many records were read, and the lines of all of them were written
-pub record StandsAt (Is : List Field → List ℕ → Type 0) (bytes : List ℕ) (state : State) (source before now : Option (List ℕ)) : Type 0 where
+pub record StandsAt (Is : List Field → List ℕ → Type 0) (bytes : List ℕ) (state : State) (source : Option (List ℕ)) (taken : ℕ)
+    (before now : Option (List ℕ)) : Type 0 where
   pub records : List (List Field)
   pub lines : List (List ℕ)
   pub begun : HasBegun bytes state source records
+  pub many : length records ≡ taken
   pub each : AreMatched Is records lines
   pub written : Appends before now (concat lines)
 
-pub stands_none : (Is : List Field → List ℕ → Type 0) (bytes : List ℕ) (state : State) (source now : Option (List ℕ)) → state ≡ st.StartRecord
-    → source ≡ Some (strip_bom bytes) → StandsAt Is bytes state source now now
-stands_none Is bytes state source now start left = record {
+pub stands_none : (Is : List Field → List ℕ → Type 0) (bytes : List ℕ) (state : State) (source : Option (List ℕ)) (taken : ℕ) (now : Option (List ℕ))
+    → state ≡ st.StartRecord → taken ≡ 0 → source ≡ Some (strip_bom bytes) → StandsAt Is bytes state source taken now now
+stands_none Is bytes state source taken now start none left = record {
   records = [];
   lines = [];
   begun = begun_none bytes state source start left;
+  many = sym none;
   each = tt;
   written = appends-none now;
 }
 
-module _ (Is : List Field → List ℕ → Type 0) {R : Type 0} (rem : R → Option (List ℕ)) (bytes : List ℕ) (a b : Reader R) (before now : Option (List ℕ))
-    (stands : StandsAt Is bytes (reader_state a) (source_of rem a) before now) where
-  pub stands_more : (fields : List Field) (line : List ℕ) (after : Option (List ℕ)) → HasRead rem a b (fields ∷ []) → Is fields line → Appends now after line
-      → StandsAt Is bytes (reader_state b) (source_of rem b) before after
-  stands_more fields line after read is written = record {
+module _ (Is : List Field → List ℕ → Type 0) {R : Type 0} (rem : R → Option (List ℕ)) (bytes : List ℕ) (a b : Reader R) (taken : ℕ) (few : taken ≤ 1000000)
+    (before now : Option (List ℕ)) (stands : StandsAt Is bytes (reader_state a) (source_of rem a) taken before now) where
+  pub stands_more : (fields : List Field) (line : List ℕ) (next : ℕ) (after : Option (List ℕ)) → HasRead rem a b (fields ∷ []) → next ≡ taken + 1
+      → Is fields line → Appends now after line → StandsAt Is bytes (reader_state b) (source_of rem b) next before after
+  stands_more fields line next after read one is written = record {
     records = stands.records ++ fields ∷ [];
     lines = stands.lines ++ line ∷ [];
     begun = begun_more rem bytes a b stands.records fields stands.begun read;
+    many = omega (arith, length-append stands.records (fields ∷ []), stands.many, one);
     each = matched_push Is stands.records stands.lines fields line stands.each is;
     written = subst (Appends before after) (sym (concat_more stands.lines line)) (appends-more before now after (concat stands.lines) line stands.written written);
   }
@@ -131,41 +164,45 @@ module _ (Is : List Field → List ℕ → Type 0) {R : Type 0} (rem : R → Opt
     records = stands.records;
     lines = stands.lines;
     all = begun_all rem bytes a a stands.records stands.begun over;
+    few = omega (arith, few, stands.many);
     are = stands.each;
     written = stands.written;
   }
 
-  -- what was written so far is a first part
-  pub stands_part : WritesPart (AreMatched Is) bytes before now
-  stands_part =
-      let cut = cut_all before now (concat stands.lines) stands.written in
-      record {
-        records = stands.records;
-        lines = stands.lines;
-        state = reader_state a;
-        rest = stands.begun.rest;
-        n = cut.0;
-        first = stands.begun.first;
-        are = stands.each;
-        written = cut.1;
-      }
+  -- all lines so far stand before a fault; too many records were taken where one more is left
+  pub stands_part : (fault : FilesFault) → (fault ≡ TooLong AsksFile → (taken ≡ 1000000) × HasNext rem a) → WritesPart (AreMatched Is) bytes fault before now
+  stands_part fault long = record {
+    records = stands.records;
+    lines = stands.lines;
+    state = reader_state a;
+    rest = stands.begun.rest;
+    first = stands.begun.first;
+    few = omega (arith, few, stands.many);
+    too_long = λ is. (
+      stands.many ∙ (long is).0,
+      subst (λ o. IfSome o (λ rest. IsSome (next_record default_config (reader_state a) [] [] rest))) stands.begun.left (long is).1,
+    );
+    are = stands.each;
+    out = out_all fault stands.lines before now stands.written;
+  }
 
-  -- so it is with a first part of one more line
-  pub stands_cut : (fields : List Field) (line : List ℕ) (after : Option (List ℕ)) → HasRead rem a b (fields ∷ []) → Is fields line → IsCut now after line
-      → WritesPart (AreMatched Is) bytes before after
-  stands_cut fields line after read is cut =
+  -- where the writer fails, a first part of one more line went out
+  pub stands_cut : (fields : List Field) (line : List ℕ) (next : ℕ) (after : Option (List ℕ)) (fault : FilesFault) → HasRead rem a b (fields ∷ [])
+      → next ≡ taken + 1 → next ≤ 1000000 → Is fields line → IsCut now after line → fault ≡ Write → WritesPart (AreMatched Is) bytes fault before after
+  stands_cut fields line next after fault read one most is cut failed =
       let begun = begun_more rem bytes a b stands.records fields stands.begun read in
       let whole = cut_whole before now after (concat stands.lines) line stands.written cut in
-      record {
+      subst (λ f. WritesPart (AreMatched Is) bytes f before after) (sym failed) (record {
         records = stands.records ++ fields ∷ [];
         lines = stands.lines ++ line ∷ [];
         state = reader_state b;
         rest = begun.rest;
-        n = whole.0;
         first = begun.first;
+        few = omega (arith, length-append stands.records (fields ∷ []), stands.many, one, most);
+        too_long = λ is. absurd (cc (is));
         are = matched_push Is stands.records stands.lines fields line stands.each is;
-        written = subst (λ text. Appends before after (take whole.0 text)) (sym (concat_more stands.lines line)) whole.1;
-      }
+        out = subst (IsCut before after) (sym (concat_more stands.lines line)) whole;
+      })
 
 -- ---- the lines of the feeders stand before them
 
@@ -176,37 +213,93 @@ module _ (schema : Declared) (rows : List FedRow) (counts : List (ℕ × ℕ)) (
     records = all.records;
     lines = fed_lines 0 counts ++ all.lines;
     all = all.all;
+    few = all.few;
     are = record { answers = all.lines; each = all.are; lines_are = refl };
     written = subst (Appends before after) (sym (concat-append (fed_lines 0 counts) all.lines))
         (appends-more before middle after (concat (fed_lines 0 counts)) (concat all.lines) written all.written);
   }
 
-  pub headed_part : Appends before middle (concat (fed_lines 0 counts)) → WritesPart (AreMatched (IsAskLine schema rows)) bytes middle after
-      → WritesPart (AreLines schema rows counts) bytes before after
-  headed_part written part =
-      let cut = cut_whole before middle after (concat (fed_lines 0 counts)) (concat part.lines) written (part.n, part.written) in
-      record {
-        records = part.records;
-        lines = fed_lines 0 counts ++ part.lines;
-        state = part.state;
-        rest = part.rest;
-        n = cut.0;
-        first = part.first;
-        are = record { answers = part.lines; each = part.are; lines_are = refl };
-        written = subst (λ text. Appends before after (take cut.0 text)) (sym (concat-append (fed_lines 0 counts) part.lines)) cut.1;
-      }
+  pub headed_part : (fault : FilesFault) → Appends before middle (concat (fed_lines 0 counts))
+      → WritesPart (AreMatched (IsAskLine schema rows)) bytes fault middle after → WritesPart (AreLines schema rows counts) bytes fault before after
+  headed_part fault written part = record {
+    records = part.records;
+    lines = fed_lines 0 counts ++ part.lines;
+    state = part.state;
+    rest = part.rest;
+    first = part.first;
+    few = part.few;
+    too_long = part.too_long;
+    are = record { answers = part.lines; each = part.are; lines_are = refl };
+    out = out_after fault (fed_lines 0 counts) part.lines before middle after written part.out;
+  }
 
--- a first part of the lines of the feeders alone
-pub head_cut : (schema : Declared) (rows : List FedRow) (counts : List (ℕ × ℕ)) (bytes : List ℕ) (before after : Option (List ℕ))
-    → IsCut before after (concat (fed_lines 0 counts)) → WritesPart (AreLines schema rows counts) bytes before after
+-- some lines of the feeders alone
+pub head_part : (schema : Declared) (rows : List FedRow) (counts : List (ℕ × ℕ)) (bytes : List ℕ) (before after : Option (List ℕ)) (fault : FilesFault)
+    → fault ≢ TooLong AsksFile → AreOut fault (fed_lines 0 counts) before after → WritesPart (AreLines schema rows counts) bytes fault before after
 unfolding Reached
-head_cut schema rows counts bytes before after cut = record {
+head_part schema rows counts bytes before after fault short out = record {
   records = [];
   lines = fed_lines 0 counts;
   state = st.StartRecord;
   rest = strip_bom bytes;
-  n = cut.0;
   first = (refl, refl);
+  few = omega arith;
+  too_long = λ is. absurd (short is);
   are = record { answers = []; each = tt; lines_are = sym (append-nil (fed_lines 0 counts)) };
-  written = cut.1;
+  out = out;
 }
+
+-- only a text that is too long has this fault
+pub only_long : (fault : SourceFault) → text_fault AsksFile fault ≡ TooLong AsksFile → fault ≡ source.TooLong
+only_long source.TooLong is = refl
+only_long source.NoMemory is = absurd (cc (is))
+only_long source.Read is = absurd (cc (is))
+only_long source.BadHeader is = absurd (cc (is))
+
+-- ---- what follows of lines follows of all that was written, and of a part
+
+pub all_follows : {Is Too : List (List Field) → List (List ℕ) → Type 0} → ((records : List (List Field)) → (lines : List (List ℕ)) → Is records lines → Too records lines)
+    → (asked : List ℕ) (before after : Option (List ℕ)) → WritesAll Is asked before after → WritesAll Too asked before after
+all_follows follows asked before after all = record {
+  records = all.records;
+  lines = all.lines;
+  all = all.all;
+  few = all.few;
+  are = follows all.records all.lines all.are;
+  written = all.written;
+}
+
+pub part_follows : {Is Too : List (List Field) → List (List ℕ) → Type 0} → ((records : List (List Field)) → (lines : List (List ℕ)) → Is records lines → Too records lines)
+    → (asked : List ℕ) (fault : FilesFault) (before after : Option (List ℕ)) → WritesPart Is asked fault before after → WritesPart Too asked fault before after
+part_follows follows asked fault before after part = record {
+  records = part.records;
+  lines = part.lines;
+  state = part.state;
+  rest = part.rest;
+  first = part.first;
+  few = part.few;
+  too_long = part.too_long;
+  are = follows part.records part.lines part.are;
+  out = part.out;
+}
+
+pub leaves_follows : {Is Too : List (List Field) → List (List ℕ) → Type 0} → ((records : List (List Field)) → (lines : List (List ℕ)) → Is records lines → Too records lines)
+    → (asked : List ℕ) (fault : FilesFault) (before after : Option (List ℕ)) → Leaves Is asked fault before after → Leaves Too asked fault before after
+leaves_follows follows asked (Read AsksFile) before after part = part_follows follows asked (Read AsksFile) before after part
+leaves_follows follows asked (TooLong AsksFile) before after part = part_follows follows asked (TooLong AsksFile) before after part
+leaves_follows follows asked Write before after part = part_follows follows asked Write before after part
+leaves_follows follows asked Readers before after (inl same) = inl same
+leaves_follows follows asked Readers before after (inr part) = inr (part_follows follows asked Readers before after part)
+leaves_follows follows asked NoMemory before after (inl same) = inl same
+leaves_follows follows asked NoMemory before after (inr part) = inr (part_follows follows asked NoMemory before after part)
+leaves_follows follows asked fault before after same = same
+
+-- while lines are written
+pub leaves_late : (Is : List (List Field) → List (List ℕ) → Type 0) (asked : List ℕ) (fault : FilesFault) (before after : Option (List ℕ)) → is_late fault ≡ true
+    → WritesPart Is asked fault before after → Leaves Is asked fault before after
+leaves_late Is asked (Read AsksFile) before after late part = part
+leaves_late Is asked (TooLong AsksFile) before after late part = part
+leaves_late Is asked Write before after late part = part
+leaves_late Is asked Readers before after late part = inr part
+leaves_late Is asked NoMemory before after late part = inr part
+leaves_late Is asked fault before after late part = absurd (cc (late))

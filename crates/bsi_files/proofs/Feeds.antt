@@ -7,7 +7,7 @@ use Rattle.bsi_table.specs.Rows.{Entries}
 use Rattle.csv.specs.declared.reader.Reader.{Reader}
 use Rattle.bsi_text.specs.Sources.{End, GivesFirst, HasStopped, HasTaken, Layout, Source, StillHas, Tally}
 use Rattle.bsi_text.specs.declared.rows.SourceFault.{SourceFault}
-use Rattle.bsi_files.specs.Feeding.{FailsNow, GivesNext, HasFailed, HasFed, StopsAfter}
+use Rattle.bsi_files.specs.Feeding.{FailsNow, GivesNext, GivesNone, HasFailed, HasFed, IsReadOut, StopsAfter}
 
 -- of all good rows and all other records that a source still had, it has the rest
 pub record HasRest {R : Type 0} (rem : R → Option (List ℕ)) (old new : Source R) (rows all : List Entries) (others : ℕ) : Type 0 where
@@ -100,12 +100,30 @@ module _ {R : Type 0} (rem : R → Option (List ℕ)) (feeder : Sending) (source
         stopped = subst (λ (l : Layout). HasStopped rem l after.input after.tally stops.0 fault) has.gone.layout stops.1;
       }))
 
+  -- a source that gives no row more was read out
+  pub read_out : JoinsTaken → (n : ℕ) (now : Sending) (after rest : Source R) (bad : ℕ) (has : HasSent rem feeder source n now after) → GivesNone rem after rest
+      → bad ≡ rest.tally.bad → source.end ≡ None → IsReadOut rem source has.rows bad
+  read_out join n now after rest bad has none is going =
+      let ended = none.ended (has.gone.end ∙ going) in
+      let taken : HasTaken rem source.layout after.input ended.at after.tally rest.tally [] =
+      subst (λ (l : Layout). HasTaken rem l after.input ended.at after.tally rest.tally []) has.gone.layout ended.taken in
+      record {
+        at = ended.at;
+        end = rest.tally;
+        taken = subst (λ rows. HasTaken rem source.layout source.input ended.at source.tally rest.tally rows) (append-nil has.rows)
+            (join source.layout source.input after.input ended.at source.tally after.tally rest.tally has.rows [] has.gone.taken taken);
+        over = ended.over;
+        few = none.few;
+        bad_is = is;
+      }
+
   -- a feeder that sends no more has sent the first rows, and all of them where the source has none left
   pub fed_first : (n : ℕ) (now : Sending) (after : Source R) (sent : List Entries) (accepted bad : ℕ) (stopped : Bool) (fault : Option SourceFault)
-      → HasSent rem feeder source n now after → sent ≡ now.sent → accepted ≡ n
+      → (has : HasSent rem feeder source n now after) → sent ≡ now.sent → accepted ≡ n
       → (stopped ≡ false → fault ≡ None → (rest : List Entries) → (left : ℕ) → StillHas rem after rest left → (rest ≡ []) × (bad ≡ after.tally.bad + left))
+      → (stopped ≡ false → fault ≡ None → source.end ≡ None → IsReadOut rem source has.rows bad)
       → HasFed rem source feeder.sent sent accepted bad stopped fault
-  fed_first n now after sent accepted bad stopped fault has is many none = record {
+  fed_first n now after sent accepted bad stopped fault has is many none out = record {
     rows = has.rows;
     sent = is ∙ has.sent;
     many = has.many ∙ sym many;
@@ -114,6 +132,7 @@ module _ {R : Type 0} (rem : R → Option (List ℕ)) (feeder : Sending) (source
         let was = has.gives all others still in
         let end = none going fine was.rest was.left was.still in
         (sym (was.parts ∙ ap (λ xs. has.rows ++ xs) end.0 ∙ append-nil has.rows), end.1 ∙ was.count);
+    out = out;
   }
 
 -- what follows for each value follows for one that is there

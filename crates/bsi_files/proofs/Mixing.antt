@@ -1,13 +1,12 @@
 -- Two lists that have the same rows of each feeder: their rows, each with its feeder and its number, are the same in another order.
-use Rattle.std.proofs.Common.{◌≡◌, ◌≢◌, ℕ, suc, zero, ◌+◌, Bool, true, false, cond, List, [], ◌∷◌, ◌++◌, length, map, filter, filter_map, Option, Some, None, refl, ap, ap₂, sym, ◌∙◌, subst, arith}
+use Rattle.std.proofs.Common.{◌≡◌, ◌≢◌, ℕ, suc, Bool, true, false, cond, List, [], ◌∷◌, length, Some, None, refl, ap, ap₂, sym, ◌∙◌, subst, arith}
 use Rattle.std.specs.Prelude.{nat_eq, if◌then◌else◌}
 use Rattle.std.specs.List.{cons_option}
-use Rattle.std.proofs.lemmas.Bool.{cases_Bool}
 use Rattle.std.proofs.lemmas.Bool.Decides.{nat_tests}
 use Rattle.bsi_load.specs.Runs.{rows_from}
 use Rattle.bsi_table.specs.Rows.{Entries, FedRow}
 use Rattle.bsi_files.specs.Mixes.{AreAlike}
-use Rattle.bsi_files.proofs.Perms.{flipped, join, keep, stay, swap, Perm}
+use Rattle.bsi_files.proofs.Perms.{as_long, flipped, join, keep, stay, swap, Perm}
 
 -- how many rows of each feeder stood before
 abbrev pub Counts : Type 0
@@ -137,3 +136,13 @@ same_tags c [] b alike = subst (λ rows. Perm [] (tags c rows)) (sym (no_rows_le
 same_tags c (row ∷ a) b alike =
     let one = pulled c b row.0 row.1 (rows_from row.0 a) (sym (alike row.0) ∙ rows_here row.0 row a (eq_self row.0)) in
     joined row a b alike c one (same_tags (bump c row.0) a one.others (alike_behind row a b alike c one))
+
+-- they are equally long
+tags_long : (c : Counts) (rows : List FedRow) → length (tags c rows) ≡ length rows
+tags_long c [] = refl
+tags_long c (row ∷ rows) = ap suc (tags_long (bump c row.0) rows)
+
+pub same_length : (a b : List FedRow) → AreAlike a b → length a ≡ length b
+same_length a b alike =
+    let none : Counts = λ f. 0 in
+    sym (tags_long none a) ∙ (as_long (tags none a) (tags none b) (same_tags none a b alike) ∙ tags_long none b)

@@ -1,14 +1,11 @@
 -- What a query finds in rows, by the rows with their feeders and numbers.
-use Rattle.std.proofs.Common.{◌≡◌, ℕ, suc, ◌+◌, ◌*◌, ◌<◌, ◌≤◌, Bool, true, false, cond, List, [], ◌∷◌, ◌++◌, length, map, filter, filter_map, take, Option, Some, None, ℤ, refl, ap, ap₂, sym, ◌∙◌, subst, arith, slice_index_or, length-append}
-use Rattle.std.specs.Prelude.{Contains, All, IsTrue, count_by, int_le, int_lt, nat_eq, slice_index, sum_by}
+use Rattle.std.proofs.Common.{◌≡◌, ℕ, suc, ◌+◌, Bool, true, false, cond, List, [], ◌∷◌, ◌++◌, length, map, filter, filter_map, take, Option, Some, None, ℤ, refl, ap, ap₂, sym, ◌∙◌, subst, arith, slice_index_or, length-append}
+use Rattle.std.specs.Prelude.{IsTrue, count_by, int_le, int_lt, nat_eq, slice_index}
 use Rattle.std.specs.List.{cons_option, range_with_len}
-use Rattle.std.specs.List.Sorted.{IsPermutation}
 use Rattle.std.proofs.lemmas.List.Sorted.{All-permutation, Contains-permutation, IsPermutation-trans, sum_by-IsPermutation}
 use Rattle.std.proofs.lemmas.List.Sums.{sum_by-append}
-use Rattle.bsi_load.specs.Runs.{rows_from}
 use Rattle.bsi_origins.specs.Numbering.{number_within, numbered_at}
-use Rattle.bsi_shift.specs.WholeNumbers.{signed_sum, whole_order, IsSignedGreatestOf, IsSignedLeastOf, IsSignedMedianOf}
-use Rattle.bsi_slices.specs.Orders.{IsGreatestBy, IsLeastBy, IsLowerMedianBy, IsNoneOr}
+use Rattle.bsi_shift.specs.WholeNumbers.{IsSignedGreatestOf, IsSignedLeastOf, IsSignedMedianOf}
 use Rattle.bsi_table.specs.Answers.{IsTotal}
 use Rattle.bsi_table.specs.Rows.{entry_at, feeders_of, holds, row_at, selected, values, Entries, FedRow}
 use Rattle.bsi_table.specs.declared.query.Answer.{Answer}

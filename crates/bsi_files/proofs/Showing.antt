@@ -1,21 +1,14 @@
 -- Answers as their lines show them.
-use Rattle.std.proofs.Common.{◌≡◌, ℕ, zero, suc, ◌+◌, List, [], ◌∷◌, Some, None, Result, Ok, Err, refl, ap, sym, ◌∙◌, subst, inl, inr, map, length, arith, slice_index_or}
-use Rattle.std.specs.List.Sorted.{IsPermutation, IsSorted}
+use Rattle.std.proofs.Common.{◌≡◌, ℕ, zero, suc, ◌+◌, List, [], ◌∷◌, Result, Ok, Err, refl, ap, sym, ◌∙◌, inl, inr, map, arith, slice_index_or}
 use Rattle.bsi_load.specs.Runs.{rows_from}
-use Rattle.bsi_origins.specs.Numbering.{numbered_at}
 use Rattle.bsi_records.specs.Numbers.{Field}
-use Rattle.bsi_table.specs.Answers.{IsAnswer, IsTotal}
 use Rattle.bsi_table.specs.Columns.{Declared}
-use Rattle.bsi_table.specs.Rows.{feeders_of, selected, Entries, FedRow}
+use Rattle.bsi_table.specs.Rows.{FedRow}
 use Rattle.bsi_table.specs.declared.errors.AskError.{AskError}
 use Rattle.bsi_table.specs.declared.errors.AskError.TheVariants as ask
 use Rattle.bsi_table.specs.declared.query.Answer.{Answer}
-use Rattle.bsi_table.specs.declared.query.Answer.TheVariants.{Count as count_answer, Sum as sum_answer, Value as value_answer, Rows as rows_answer}
-use Rattle.bsi_table.specs.declared.query.Pred.{Pred}
 use Rattle.bsi_table.specs.declared.query.Query.{Query}
-use Rattle.bsi_table.specs.declared.query.Total.{Total}
-use Rattle.bsi_table.specs.declared.query.Total.TheVariants.{Count, Sum, Least, Greatest, Median, Rows}
-use Rattle.bsi_files.specs.AskLines.{by_place, Asks, IsAskLine, IsShownAnswer, IsShownReply}
+use Rattle.bsi_files.specs.AskLines.{IsAskLine, IsShownReply}
 use Rattle.bsi_files.specs.Matching.{AreMatched}
 use Rattle.bsi_files.specs.Mixes.{in_order, AreAlike, IsMixOf}
 use Rattle.bsi_files.specs.RowFiles.{file_at, RowFile}

@@ -1,17 +1,17 @@
 -- What was taken of each feeder, as closings are told and rows are taken.
-use Rattle.std.proofs.Common.{◌≡◌, ◌≢◌, ℕ, suc, zero, ◌+◌, ◌<◌, ◌≤◌, Bool, true, false, List, [], ◌∷◌, ◌++◌, length, Option, Some, None, IfSome, Result, Ok, Err, All, refl, ap, sym, ◌∙◌, subst, arith, slice_set, slice_index_or, add-zero, length-append}
-use Rattle.std.specs.Prelude.{IfErr, OnErr, OnOk, is_some, slice_get}
+use Rattle.std.proofs.Common.{◌≡◌, ◌≢◌, ℕ, suc, zero, ◌+◌, ◌<◌, ◌≤◌, Bool, true, false, List, [], ◌∷◌, ◌++◌, length, Option, Some, None, IfSome, Result, Ok, Err, All, refl, ap, sym, ◌∙◌, subst, arith, slice_set, add-zero, length-append}
+use Rattle.std.specs.Prelude.{IfErr, OnOk, is_some, slice_get}
 use Rattle.std.proofs.lemmas.List.{append-nil}
 use Rattle.std.proofs.lemmas.List.Elements.{All-head, All-tail}
 use Rattle.bsi_load.specs.Runs.{rows_from}
 use Rattle.bsi_rings.specs.Rings.{new_feeders, new_sending, ChannelName, Sending, Sent}
-use Rattle.bsi_system.specs.Running.{no_taking, settled_as, taking_at, with_taken, published_all, AlwaysHolds, IsClosingOf, IsFeederOf, Loading, LoadsOne, System, Taking}
+use Rattle.bsi_system.specs.Running.{settled_as, taking_at, with_taken, published_all, AlwaysHolds, IsClosingOf, IsFeederOf, Loading, LoadsOne, System, Taking}
 use Rattle.bsi_table.specs.Rows.{Entries, FedRow}
 use Rattle.bsi_text.specs.Sources.{Source}
 use Rattle.bsi_files.specs.Ends.{tasks, AreClosings, AreEndsOf, AreFeeders, IsEndOf}
 use Rattle.bsi_files.specs.Feds.{AreFedFrom, IsAllFed, IsFedFrom}
 use Rattle.bsi_files.specs.Takings.{all_taken, AreLoaded, IsDrained, IsFine, IsKept, IsLoaded, KeepsOthers, TakesOnlyOf}
-use Rattle.bsi_files.specs.Feeding.{HasFed, HasOnly}
+use Rattle.bsi_files.specs.Feeding.{HasFed, IsReadOut}
 use Rattle.bsi_files.specs.declared.feeding.FeedEnd.{FeedEnd}
 use Rattle.bsi_files.specs.declared.loading.Fed.{Fed}
 
@@ -249,9 +249,9 @@ module _ {R : Type 0} (rem : R → Option (List ℕ)) where
           sym (from ∙ (ap (λ (t : Taking). t.taken) taken ∙ (has.sent ∙ ap (λ xs. xs ++ has.rows) fresh))) in
           record {
             many = sym (ap length same) ∙ (has.many ∙ sym loaded.kept.accepted);
-            all = λ never.
-                let only = has.all (sym loaded.kept.stopped ∙ fine.going never) (sym loaded.kept.fault ∙ fine.fault) in
-                subst (λ xs. HasOnly rem source xs fed.bad) same (subst (λ b. HasOnly rem source has.rows b) (sym loaded.kept.bad) only);
+            out = λ never going.
+                let out = has.out (sym loaded.kept.stopped ∙ fine.going never) (sym loaded.kept.fault ∙ fine.fault) going in
+                subst (λ xs. IsReadOut rem source xs fed.bad) same (subst (λ b. IsReadOut rem source has.rows b) (sym loaded.kept.bad) out);
           }
 
   pub fed_all : (stops : Bool) (rows : List FedRow) (takings : List Taking) (system : System) (n : ℕ) (feeders : List Sending) (sources : List (Source R))
@@ -271,11 +271,11 @@ module _ {R : Type 0} (rem : R → Option (List ℕ)) where
   )
 
   -- after the last publish
-  pub all_fed : (stops : Bool) (loaded now : Loading) (system : System) (feeders : List Sending) (sources : List (Source R)) (ends : List FeedEnd) (feds : List Fed)
+  pub all_fed : (stops : Bool) (limit : ℕ) (loaded now : Loading) (system : System) (feeders : List Sending) (sources : List (Source R)) (ends : List FeedEnd) (feds : List Fed)
       → now ≡ published_all loaded → AlwaysHolds now → loaded.system ≡ system → length system.channels ≡ length feeders → length sources ≡ length feeders
       → AreFeeders system 0 feeders → AreEndsOf rem (tasks feeders sources) ends → AreLoaded loaded.takings 0 ends feds → All (IsFine stops) feds
-      → IsAllFed rem stops now.published sources feds
-  all_fed stops loaded now system feeders sources ends feds is always same channels many own are taken fine =
+      → length now.published ≤ now.system.limit → system.limit ≡ limit → IsAllFed rem stops limit now.published sources feds
+  all_fed stops limit loaded now system feeders sources ends feds is always same channels many own are taken fine few most =
       let takings_is : now.takings ≡ loaded.takings = ap (λ (s : Loading). s.takings) is in
       let held_is : now.held ≡ [] = ap (λ (s : Loading). s.held) is in
       let system_is : now.system ≡ system = ap (λ (s : Loading). s.system) is ∙ same in
@@ -287,6 +287,7 @@ module _ {R : Type 0} (rem : R → Option (List ℕ)) where
       record {
         each = fed_all stops now.published loaded.takings system 0 feeders sources ends feds from many own are taken fine;
         none = λ f le. from f ∙ past loaded.takings f (omega arith);
+        within = subst (λ k. length now.published ≤ k) (ap (λ (s : System). s.limit) system_is ∙ most) few;
       }
     where
       past : (ts : List Taking) (f : ℕ) → length ts ≤ f → (taking_at ts f).taken ≡ []

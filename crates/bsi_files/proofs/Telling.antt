@@ -1,8 +1,8 @@
 -- The lines of the first feeders.
-use Rattle.std.proofs.Common.{◌≡◌, ℕ, suc, zero, ◌+◌, ◌<◌, ◌≤◌, false, None, List, [], ◌∷◌, ◌++◌, length, map, take, drop, Option, refl, ap, sym, ◌∙◌, subst, arith, slice_index_or, add-zero, add-one, length-append}
+use Rattle.std.proofs.Common.{◌≡◌, ℕ, suc, zero, ◌+◌, ◌<◌, ◌≤◌, false, None, List, [], ◌∷◌, ◌++◌, length, map, take, drop, Option, refl, ap, sym, ◌∙◌, subst, arith, slice_index_or, add-zero, add-one}
 use Rattle.std.specs.Io.KnownBytes.{Appends}
 use Rattle.std.specs.List.{concat}
-use Rattle.std.proofs.lemmas.List.{append-nil, append_assoc, take_all, take-append-le}
+use Rattle.std.proofs.lemmas.List.{append-nil, take_all}
 use Rattle.std.proofs.lemmas.List.Folds.{concat-append}
 use Rattle.csv.proofs.WriteFacts.{appends-more, appends-none}
 use Rattle.bsi_records.specs.Lines.{fed_line}
@@ -10,7 +10,10 @@ use Rattle.bsi_text.specs.Waiting.{IsCut}
 use Rattle.bsi_files.specs.Feds.{fed_counts}
 use Rattle.bsi_files.specs.Runs.{fed_lines}
 use Rattle.bsi_files.specs.declared.loading.Fed.{Fed}
-use Rattle.bsi_files.proofs.Asking.{cut_all, cut_front, cut_whole}
+use Rattle.bsi_files.specs.Writing.{AreOut}
+use Rattle.bsi_files.specs.declared.faults.FilesFault.{FilesFault}
+use Rattle.bsi_files.specs.declared.faults.FilesFault.TheVariants.{NoMemory, Write}
+use Rattle.bsi_files.proofs.Asking.{cut_front, cut_whole}
 
 fed_append : (n : ℕ) (first bs : List (ℕ × ℕ)) → fed_lines n (first ++ bs) ≡ fed_lines n first ++ fed_lines (n + length first) bs
 fed_append n [] bs = ap (λ m. fed_lines m bs) (sym (add-zero n))
@@ -21,6 +24,18 @@ fed_append n (a ∷ first) bs =
 map_append : {X Y : Type 0} (f : X → Y) (xs ys : List X) → map f (xs ++ ys) ≡ map f xs ++ map f ys
 map_append f [] ys = refl
 map_append f (x ∷ xs) ys = ap (λ zs. f x ∷ zs) (map_append f xs ys)
+
+take_map : {X Y : Type 0} (f : X → Y) (k : ℕ) (xs : List X) → take k (map f xs) ≡ map f (take k xs)
+take_map f zero [] = refl
+take_map f zero (x ∷ xs) = refl
+take_map f (suc k) [] = refl
+take_map f (suc k) (x ∷ xs) = ap (λ ys. f x ∷ ys) (take_map f k xs)
+
+take_fed : (k n : ℕ) (counts : List (ℕ × ℕ)) → take k (fed_lines n counts) ≡ fed_lines n (take k counts)
+take_fed zero n [] = refl
+take_fed zero n (c ∷ counts) = refl
+take_fed (suc k) n [] = refl
+take_fed (suc k) n (c ∷ counts) = ap (λ lines. fed_line n c.0 c.1 ∷ lines) (take_fed k (suc n) counts)
 
 map_long : {X Y : Type 0} (f : X → Y) (xs : List X) → length (map f xs) ≡ length xs
 map_long f [] = refl
@@ -99,20 +114,22 @@ module _ (feds : List Fed) (k : ℕ) (before now after : Option (List ℕ)) (tol
         }
 
     -- a first part of the next line was written
-    pub told_cut : IsCut now after line → IsCut before after (told_text feds)
-    told_cut cut =
+    pub told_cut : IsCut now after line → (fault : FilesFault) → fault ≡ Write → AreOut fault (fed_lines 0 (map fed_counts feds)) before after
+    told_cut cut fault failed =
         let whole : IsCut before after (told_text (take (suc k) feds)) =
         subst (IsCut before after) (sym next_text) (cut_whole before now after (told_text (take k feds)) line told.written cut) in
         let parts = told_parts (take (suc k) feds) (drop (suc k) feds) in
-        subst (λ xs. IsCut before after (told_text xs)) (split feds (suc k))
-        (subst (IsCut before after) (sym parts.1) (cut_front before after (told_text (take (suc k) feds)) parts.0 whole))
+        let out : IsCut before after (told_text feds) = subst (λ xs. IsCut before after (told_text xs)) (split feds (suc k))
+        (subst (IsCut before after) (sym parts.1) (cut_front before after (told_text (take (suc k) feds)) parts.0 whole)) in
+        subst (λ f. AreOut f (fed_lines 0 (map fed_counts feds)) before after) (sym failed) out
 
-  -- what was written is a first part of all lines, and all of them in the end
-  pub told_part : IsCut before now (told_text feds)
-  told_part =
-      let parts = told_parts (take k feds) (drop k feds) in
-      subst (λ xs. IsCut before now (told_text xs)) (split feds k)
-      (subst (IsCut before now) (sym parts.1) (cut_front before now (told_text (take k feds)) parts.0 (cut_all before now (told_text (take k feds)) told.written)))
+  -- the lines of the first feeders are the first lines, and all of them in the end
+  first_lines : concat (take k (fed_lines 0 (map fed_counts feds))) ≡ told_text (take k feds)
+  first_lines = ap concat (take_fed k 0 (map fed_counts feds)) ∙ ap (λ cs. concat (fed_lines 0 cs)) (take_map fed_counts k feds)
+
+  pub told_part : (fault : FilesFault) → fault ≡ NoMemory → AreOut fault (fed_lines 0 (map fed_counts feds)) before now
+  told_part fault is =
+      subst (λ f. AreOut f (fed_lines 0 (map fed_counts feds)) before now) (sym is) (k, subst (Appends before now) (sym first_lines) told.written)
 
   pub told_all : length feds ≤ k → Appends before now (told_text feds)
   told_all le = subst (λ xs. Appends before now (told_text xs)) (take_all k feds le) told.written

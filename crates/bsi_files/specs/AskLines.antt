@@ -1,5 +1,5 @@
 -- The line that answers a record of the asks text.
-use Rattle.std.specs.Prelude.{◌≡◌, ◌⊎◌, ℕ, List, None, Result, Ok, Err, length}
+use Rattle.std.specs.Prelude.{◌≡◌, ◌≢◌, ◌⊎◌, ℕ, List, None, Result, Ok, Err, length}
 use Rattle.std.specs.List.Sorted.{IsPermutation, IsSorted}
 use Rattle.std.specs.Ordering.{nat_cmp, ordering_then}
 use Rattle.std.specs.declared.cmp.Ordering.{Ordering}
@@ -7,10 +7,11 @@ use Rattle.bsi_records.specs.Events.{IsQuery}
 use Rattle.bsi_records.specs.Lines.{ask_line, bad_line}
 use Rattle.bsi_records.specs.Numbers.{Field}
 use Rattle.bsi_origins.specs.Numbering.{numbered_at}
-use Rattle.bsi_table.specs.Answers.{missing_column, IsAnswer, IsReply}
+use Rattle.bsi_table.specs.Answers.{missing_column, CountsConjunction, IsAnswer, IsReply}
 use Rattle.bsi_table.specs.Columns.{Declared}
 use Rattle.bsi_table.specs.Rows.{feeders_of, selected, FedRow}
 use Rattle.bsi_table.specs.declared.errors.AskError.{AskError}
+use Rattle.bsi_table.specs.declared.errors.AskError.TheVariants.{NoMemory}
 use Rattle.bsi_table.specs.declared.query.Answer.{Answer}
 use Rattle.bsi_table.specs.declared.query.Answer.TheVariants.{Rows as rows_answer}
 use Rattle.bsi_table.specs.declared.query.Query.{Query}
@@ -27,11 +28,12 @@ IsShownAnswer query rows (rows_answer listed) =
     × IsSorted by_place listed.items
 IsShownAnswer query rows answer = IsAnswer query rows answer
 
--- the reply to a query as its line shows it
+-- the reply to a query as its line shows it; a count without `or` and `not` finds memory
 abbrev pub IsShownReply : Declared → List FedRow → Query → Result Answer AskError → Type 0
 IsShownReply schema rows query (Ok answer) =
     (missing_column (length schema.columns) query ≡ None) × IsShownAnswer query rows answer
-IsShownReply schema rows query (Err refused) = IsReply schema rows query (Err refused)
+IsShownReply schema rows query (Err refused) =
+    IsReply schema rows query (Err refused) × (CountsConjunction query → refused ≢ NoMemory)
 
 -- a record that asks nothing has the line `bad`
 pub record AsksNothing (schema : Declared) (fields : List Field) (line : List ℕ) : Type 0 where

@@ -1,5 +1,5 @@
 -- What the ends of the feeders' threads tell.
-use Rattle.std.specs.Prelude.{◌≡◌, ⊤, ℕ, suc, List, [], ◌∷◌, Option, length, IfSome}
+use Rattle.std.specs.Prelude.{◌≡◌, ◌≤◌, ⊤, ℕ, suc, List, [], ◌∷◌, Option, length, IfSome}
 use Rattle.bsi_rings.specs.Rings.{Sending}
 use Rattle.bsi_system.specs.Running.{IsClosingOf, IsFeederOf, System}
 use Rattle.bsi_text.specs.Sources.{Source}
@@ -35,11 +35,13 @@ AreFeeders system n [] = ⊤
 AreFeeders system n (feeder ∷ feeders) =
     ((feeder.number ≡ n) × IsFeederOf feeder system × (feeder.sent ≡ [])) × AreFeeders system (suc n) feeders
 
--- the feeders of a system, as they are opened, and a source for each of its rings
-pub record AreReady {R : Type 0} (system : System) (feeders : List Sending) (sources : List (Source R)) : Type 0 where
+-- the feeders of a system of this limit, as they are opened, and a source for each of its rings, at most 64
+pub record AreReady {R : Type 0} (system : System) (limit : ℕ) (feeders : List Sending) (sources : List (Source R)) : Type 0 where
   pub own : AreFeeders system 0 feeders
   pub channels : length system.channels ≡ length feeders
   pub many : length sources ≡ length feeders
+  pub few : length sources ≤ 64
+  pub most : system.limit ≡ limit
 
 -- ends whose closings are of a system, numbered from n
 abbrev pub AreClosings : System → ℕ → List FeedEnd → Type 0

@@ -1,16 +1,33 @@
--- Which faults of a run are met before anything is written.
+-- The faults of a run: when they are met, and those of its texts.
 use Rattle.std.specs.Prelude.{Bool, true, false}
 use Rattle.bsi_files.specs.declared.faults.FilesFault.{FilesFault}
-use Rattle.bsi_files.specs.declared.faults.FilesFault.TheVariants.{TooManyFiles, Read, TooLong, Readers, NoMemory, Write}
-use Rattle.bsi_files.specs.declared.faults.Which.TheVariants.{AsksFile}
+use Rattle.bsi_files.specs.declared.faults.FilesFault.TheVariants.{BadSchema, IndexFull, NoColumns, NotClosed, Read, Source, TooLong, Readers, NoMemory, Write}
+use Rattle.bsi_files.specs.declared.faults.Which.{Which}
+use Rattle.bsi_files.specs.declared.faults.Which.TheVariants.{AsksFile, SchemaFile}
+use Rattle.bsi_text.specs.declared.rows.SourceFault.{SourceFault}
+use Rattle.bsi_text.specs.declared.rows.SourceFault.TheVariants as source
 
--- a fault that may be met when the files were counted and nothing is written yet
+-- a fault that may be met while rows are loaded, and that no source answered
 abbrev pub is_early : FilesFault → Bool
-is_early TooManyFiles = false
-is_early (Read AsksFile) = false
-is_early (TooLong AsksFile) = false
-is_early Write = false
-is_early fault = true
+is_early IndexFull = true
+is_early (NotClosed number) = true
+is_early Readers = true
+is_early NoMemory = true
+is_early fault = false
+
+-- a fault that may be met at the schema file, and one at the headers of the row files
+abbrev pub is_of_schema : FilesFault → Bool
+is_of_schema (Read SchemaFile) = true
+is_of_schema (TooLong SchemaFile) = true
+is_of_schema (BadSchema number) = true
+is_of_schema NoColumns = true
+is_of_schema NoMemory = true
+is_of_schema fault = false
+
+abbrev pub is_of_headers : FilesFault → Bool
+is_of_headers (Source number fault) = true
+is_of_headers NoMemory = true
+is_of_headers fault = false
 
 -- a fault that may be met while lines are written
 abbrev pub is_late : FilesFault → Bool
@@ -20,3 +37,9 @@ is_late Readers = true
 is_late NoMemory = true
 is_late Write = true
 is_late fault = false
+
+-- the fault of a run for a text whose records were not all read
+abbrev pub text_fault : Which → SourceFault → FilesFault
+text_fault which source.TooLong = TooLong which
+text_fault which source.NoMemory = NoMemory
+text_fault which fault = Read which

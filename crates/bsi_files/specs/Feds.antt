@@ -1,22 +1,23 @@
 -- What a whole run has of its sources.
-use Rattle.std.specs.Prelude.{◌≡◌, ⊤, ℕ, suc, List, [], ◌∷◌, Option, length, map, Bool, false, ◌≤◌}
+use Rattle.std.specs.Prelude.{◌≡◌, ⊤, ℕ, suc, List, [], ◌∷◌, Option, None, length, map, Bool, false, ◌≤◌}
 use Rattle.bsi_load.specs.Runs.{rows_from}
 use Rattle.bsi_records.specs.Numbers.{Field}
 use Rattle.bsi_table.specs.Columns.{Declared}
 use Rattle.bsi_table.specs.Rows.{FedRow}
 use Rattle.bsi_text.specs.Sources.{Source}
-use Rattle.bsi_files.specs.Feeding.{HasOnly}
+use Rattle.bsi_files.specs.Feeding.{IsReadOut}
 use Rattle.bsi_files.specs.declared.loading.Fed.{Fed}
 use Rattle.bsi_files.specs.Runs.{AreLines}
 
 abbrev pub fed_counts : Fed → ℕ × ℕ
 fed_counts fed = (fed.accepted, fed.bad)
 
--- the rows of a feeder in a list are as many as were accepted and, where no gate stops it, all good rows of its source
+-- the rows of a feeder in a list are as many as were accepted and, where no gate stops it, those of its source, which
+-- was read out
 pub record IsFedFrom {R : Type 0} (rem : R → Option (List ℕ)) (stops : Bool) (rows : List FedRow) (n : ℕ) (source : Source R) (fed : Fed)
     : Type 0 where
   pub many : length (rows_from n rows) ≡ fed.accepted
-  pub all : stops ≡ false → HasOnly rem source (rows_from n rows) fed.bad
+  pub out : stops ≡ false → source.end ≡ None → IsReadOut rem source (rows_from n rows) fed.bad
 
 abbrev pub AreFedFrom : {R : Type 0} → (R → Option (List ℕ)) → Bool → List FedRow → ℕ → List (Source R) → List Fed → Type 0
 AreFedFrom rem stops rows n [] [] = ⊤
@@ -24,16 +25,17 @@ AreFedFrom rem stops rows n (source ∷ sources) (fed ∷ feds) =
     IsFedFrom rem stops rows n source fed × AreFedFrom rem stops rows (suc n) sources feds
 AreFedFrom rem stops rows n sources feds = ⊥
 
--- a list has the rows of all sources, and no others
-pub record IsAllFed {R : Type 0} (rem : R → Option (List ℕ)) (stops : Bool) (rows : List FedRow) (sources : List (Source R)) (feds : List Fed)
-    : Type 0 where
+-- a list has the rows of all sources, and no others, and is within the limit
+pub record IsAllFed {R : Type 0} (rem : R → Option (List ℕ)) (stops : Bool) (limit : ℕ) (rows : List FedRow)
+    (sources : List (Source R)) (feds : List Fed) : Type 0 where
   pub each : AreFedFrom rem stops rows 0 sources feds
   pub none : (f : ℕ) → length sources ≤ f → rows_from f rows ≡ []
+  pub within : length rows ≤ limit
 
 -- the lines of a run over sources, for asks of these records
-pub record HasRun {R : Type 0} (rem : R → Option (List ℕ)) (stops : Bool) (schema : Declared) (sources : List (Source R))
-    (records : List (List Field)) (lines : List (List ℕ)) : Type 0 where
+pub record HasRun {R : Type 0} (rem : R → Option (List ℕ)) (stops : Bool) (schema : Declared) (limit : ℕ)
+    (sources : List (Source R)) (records : List (List Field)) (lines : List (List ℕ)) : Type 0 where
   pub rows : List FedRow
   pub feds : List Fed
-  pub fed : IsAllFed rem stops rows sources feds
+  pub fed : IsAllFed rem stops limit rows sources feds
   pub are : AreLines schema rows (map fed_counts feds) records lines

@@ -1,10 +1,10 @@
 -- What a feeder that reads a row file sends.
-use Rattle.std.specs.Prelude.{◌≡◌, ℕ, ◌+◌, Bool, false, List, [], ◌∷◌, ◌++◌, Option, Some, None, Err, length, MatchOption}
+use Rattle.std.specs.Prelude.{◌≡◌, ◌≤◌, ℕ, ◌+◌, Bool, false, List, [], ◌∷◌, ◌++◌, Option, Some, None, Err, length, MatchOption}
 use Rattle.csv.specs.declared.reader.Reader.{Reader}
 use mathlib.Core.List.{IsPrefix}
 use Rattle.bsi_rings.specs.Rings.{with_sent, Sending}
 use Rattle.bsi_table.specs.Rows.{Entries}
-use Rattle.bsi_text.specs.Sources.{GivesFirst, HasStopped, HasTaken, Source, StillHas, Tally}
+use Rattle.bsi_text.specs.Sources.{GivesFirst, HasEnded, HasStopped, HasTaken, IsOver, Source, StillHas, Tally}
 use Rattle.bsi_text.specs.declared.rows.SourceFault.{SourceFault}
 use Rattle.bsi_files.specs.declared.feeding.Turn.{Turn}
 use Rattle.bsi_files.specs.declared.feeding.Turn.TheVariants as turn
@@ -19,6 +19,16 @@ HasOnly rem source rows bad =
     (all : List Entries) → (others : ℕ) → StillHas rem source all others
     → (rows ≡ all) × (bad ≡ source.tally.bad + others)
 
+-- a source was read from where it stood to its end: these are the rows, so many records are bad, and no more than
+-- 1,000,000 were taken
+pub record IsReadOut {R : Type 0} (rem : R → Option (List ℕ)) (source : Source R) (rows : List Entries) (bad : ℕ) : Type 0 where
+  pub at : Reader R
+  pub end : Tally
+  pub taken : HasTaken rem source.layout source.input at source.tally end rows
+  pub over : IsOver rem at
+  pub few : end.taken ≤ 1000000
+  pub bad_is : bad ≡ end.bad
+
 -- what a feeder had sent before and after it read a source, and how it says that it ended
 pub record HasFed {R : Type 0} (rem : R → Option (List ℕ)) (source : Source R) (before after : List Entries)
     (accepted bad : ℕ) (stopped : Bool) (fault : Option SourceFault) : Type 0 where
@@ -27,6 +37,7 @@ pub record HasFed {R : Type 0} (rem : R → Option (List ℕ)) (source : Source 
   pub many : length rows ≡ accepted
   pub first : BeginsWith rem source rows
   pub all : stopped ≡ false → fault ≡ None → HasOnly rem source rows bad
+  pub out : stopped ≡ false → fault ≡ None → source.end ≡ None → IsReadOut rem source rows bad
 
 -- a source of which more was to be read gave so many rows, and then stopped at the fault
 pub record StopsAfter {R : Type 0} (rem : R → Option (List ℕ)) (source : Source R) (many : ℕ) (fault : SourceFault)
@@ -56,6 +67,11 @@ FailsNow rem source fault =
     MatchOption source.end ((end : Tally) × HasStopped rem source.layout source.input source.tally end fault)
     (λ end. end ≡ Err fault)
 
+-- a source of which more was to be read gave no row more: all records that were left are bad
+pub record GivesNone {R : Type 0} (rem : R → Option (List ℕ)) (old new : Source R) : Type 0 where
+  pub ended : old.end ≡ None → HasEnded rem old.layout old.input old.tally new.tally
+  pub few : new.tally.taken ≤ 1000000
+
 -- what came of one turn: the first row that the source still had was sent, or nothing was, and there is then none left
 -- where the turn says so
 abbrev pub IsFeederTurn : {R : Type 0} → (R → Option (List ℕ)) → Sending → Source R → Turn → Sending → Source R → Type 0
@@ -63,5 +79,6 @@ IsFeederTurn rem feeder source turn.Sent after rest =
     (row : Entries) × (after ≡ with_sent feeder row) × GivesFirst rem source rest (Some row)
     × GivesNext rem source rest row
 IsFeederTurn rem feeder source turn.Over after rest = (after ≡ feeder) × GivesFirst rem source rest None
+    × GivesNone rem source rest
 IsFeederTurn rem feeder source turn.Stopped after rest = after ≡ feeder
 IsFeederTurn rem feeder source (turn.Failed fault) after rest = (after ≡ feeder) × FailsNow rem source fault

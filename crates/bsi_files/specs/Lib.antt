@@ -4,9 +4,11 @@ pub mod Ends
 pub mod Faults
 pub mod Feds
 pub mod Feeding
+pub mod Headers
 pub mod Matching
 pub mod Mixes
 pub mod RowFiles
+pub mod RunFaults
 pub mod Runs
 pub mod SchemaFiles
 pub mod Takings

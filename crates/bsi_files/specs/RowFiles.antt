@@ -1,5 +1,5 @@
 -- What a row file gives, by its bytes.
-use Rattle.std.specs.Prelude.{◌≡◌, ℕ, true, List, [], ◌∷◌, length, slice_index_or}
+use Rattle.std.specs.Prelude.{◌≡◌, ◌≤◌, ℕ, true, List, [], ◌∷◌, length, slice_index_or}
 use Rattle.bsi_records.specs.Numbers.{Field}
 use Rattle.bsi_table.specs.Columns.{Declared}
 use Rattle.bsi_table.specs.Rows.{Entries}
@@ -11,11 +11,12 @@ pub record RowFile : Type 0 where
   pub rows : List Entries
   pub bad : ℕ
 
--- these bytes are a header and then records that give these rows
+-- these bytes are a header and then at most 1,000,000 records, which give these rows
 pub record IsRowFile (schema : Declared) (bytes : List ℕ) (file : RowFile) : Type 0 where
   pub header : List Field
   pub records : List (List Field)
   pub all : AreAllRecords bytes (header ∷ records)
+  pub few : length records ≤ 1000000
   pub header_is : is_header schema header ≡ true
   pub rows_are : file.rows ≡ good_rows schema header records
   pub bad_is : file.bad ≡ bad_count schema header records

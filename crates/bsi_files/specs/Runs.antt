@@ -1,5 +1,5 @@
 -- The lines of a run over row files, by the bytes of its files.
-use Rattle.std.specs.Prelude.{◌≡◌, ℕ, suc, List, [], ◌∷◌, ◌++◌, map}
+use Rattle.std.specs.Prelude.{◌≡◌, ◌≤◌, ℕ, suc, List, [], ◌∷◌, ◌++◌, length, map}
 use Rattle.bsi_records.specs.Lines.{fed_line}
 use Rattle.bsi_records.specs.Numbers.{Field}
 use Rattle.bsi_table.specs.Columns.{Declared}
@@ -22,7 +22,7 @@ pub record AreLines (schema : Declared) (rows : List FedRow) (counts : List (ℕ
   pub each : AreMatched (IsAskLine schema rows) records answers
   pub lines_are : lines ≡ fed_lines 0 counts ++ answers
 
--- the lines of a run over files of these bytes, for asks of these records
+-- the lines of a run over files of these bytes, whose good rows are within the limit, for asks of these records
 pub record IsRun (declared : List ℕ) (texts : List (List ℕ)) (records : List (List Field)) (lines : List (List ℕ))
     : Type 0 where
   pub schema : Declared
@@ -30,4 +30,5 @@ pub record IsRun (declared : List ℕ) (texts : List (List ℕ)) (records : List
   pub files : List RowFile
   pub schema_is : IsSchemaFile declared schema limit
   pub files_are : AreMatched (IsRowFile schema) texts files
+  pub within : length (in_order 0 (map rows_of files)) ≤ limit
   pub lines_are : AreLines schema (in_order 0 (map rows_of files)) (map counts_of files) records lines

@@ -1,31 +1,58 @@
 -- What a run puts after what a writer held.
-use Rattle.std.specs.Prelude.{◌≡◌, ℕ, List, Option, Some, map, take}
+use Rattle.std.specs.Prelude.{◌≡◌, ◌≤◌, ◌⊎◌, ℕ, List, [], Option, Some, IsSome, length, map, take}
 use Rattle.std.specs.List.{concat}
 use Rattle.std.specs.Io.KnownBytes.{Appends}
+use Rattle.csv.specs.Machine.{next_record}
+use Rattle.csv.specs.Reading.{default_config}
 use Rattle.csv.specs.declared.parser.State.{State}
 use Rattle.bsi_records.specs.Numbers.{Field}
 use Rattle.bsi_text.specs.Texts.{AreAllRecords, AreFirstRecords}
+use Rattle.bsi_text.specs.Waiting.{IsCut}
+use Rattle.bsi_files.specs.declared.faults.FilesFault.{FilesFault}
+use Rattle.bsi_files.specs.declared.faults.FilesFault.TheVariants.{Read, TooLong, Readers, NoMemory, Write}
+use Rattle.bsi_files.specs.declared.faults.Which.TheVariants.{AsksFile}
 
--- the lines for all records of the asks text were put after what a writer held
+-- the lines for all records of the asks text, at most 1,000,000, were put after what a writer held
 pub record WritesAll (IsOf : List (List Field) → List (List ℕ) → Type 0) (asked : List ℕ) (before after : Option (List ℕ))
     : Type 0 where
   pub records : List (List Field)
   pub lines : List (List ℕ)
   pub all : AreAllRecords asked records
+  pub few : length records ≤ 1000000
   pub are : IsOf records lines
   pub written : Appends before after (concat lines)
 
--- a first part of the lines for some first records of the asks text was
-pub record WritesPart (IsOf : List (List Field) → List (List ℕ) → Type 0) (asked : List ℕ) (before after : Option (List ℕ))
-    : Type 0 where
+-- which of these lines went out before a fault: only the writer's cuts a line, and all stand before that of too many asks
+abbrev pub AreOut : FilesFault → List (List ℕ) → Option (List ℕ) → Option (List ℕ) → Type 0
+AreOut Write lines before after = IsCut before after (concat lines)
+AreOut (TooLong AsksFile) lines before after = Appends before after (concat lines)
+AreOut fault lines before after = (n : ℕ) × Appends before after (concat (take n lines))
+
+-- these are 1,000,000 records, and the text has one more
+abbrev pub AreTooMany : List (List Field) → State → List ℕ → Type 0
+AreTooMany records state rest = (length records ≡ 1000000) × IsSome (next_record default_config state [] [] rest)
+
+-- lines for some first records of the asks text went out before a fault
+pub record WritesPart (IsOf : List (List Field) → List (List ℕ) → Type 0) (asked : List ℕ) (fault : FilesFault)
+    (before after : Option (List ℕ)) : Type 0 where
   pub records : List (List Field)
   pub lines : List (List ℕ)
   pub state : State
   pub rest : List ℕ
-  pub n : ℕ
   pub first : AreFirstRecords asked records state rest
+  pub few : length records ≤ 1000000
+  pub too_long : fault ≡ TooLong AsksFile → AreTooMany records state rest
   pub are : IsOf records lines
-  pub written : Appends before after (take n (concat lines))
+  pub out : AreOut fault lines before after
+
+-- what a run leaves that ends by a fault: nothing is written before the questions are answered
+abbrev pub Leaves : (List (List Field) → List (List ℕ) → Type 0) → List ℕ → FilesFault → Option (List ℕ) → Option (List ℕ) → Type 0
+Leaves IsOf asked (Read AsksFile) before after = WritesPart IsOf asked (Read AsksFile) before after
+Leaves IsOf asked (TooLong AsksFile) before after = WritesPart IsOf asked (TooLong AsksFile) before after
+Leaves IsOf asked Write before after = WritesPart IsOf asked Write before after
+Leaves IsOf asked Readers before after = (after ≡ before) ⊎ WritesPart IsOf asked Readers before after
+Leaves IsOf asked NoMemory before after = (after ≡ before) ⊎ WritesPart IsOf asked NoMemory before after
+Leaves IsOf asked fault before after = after ≡ before
 
 -- what is so of the bytes of the schema file, of the row files and of the asks text, where all of them are known
 abbrev pub WhereKnown : Option (List ℕ) → List (Option (List ℕ)) → Option (List ℕ) → (List ℕ → List (List ℕ) → List ℕ → Type 0) → Type 0

@@ -1,6 +1,6 @@
 //! The lines of a run: what each feeder read, and the answers to the questions.
 
-ghost use Rattle.std.specs.Prelude.{◌≡◌, ◌≤◌, [], List, None, IfErr, IfOk, IfSome, OnErr, OnOk, length, map, true};
+ghost use Rattle.std.specs.Prelude.{◌≡◌, ◌≢◌, ◌≤◌, [], List, None, IfErr, IfOk, IfSome, OnOk, length, map, true};
 ghost use Rattle.std.specs.Io.KnownBytes.{Appends};
 ghost use Rattle.std.specs.List.{concat};
 ghost use Rattle.csv.specs.Reading.{reader_state, source_of};
@@ -8,7 +8,6 @@ ghost use Rattle.csv.specs.Records.{fields_of};
 ghost use Rattle.csv.specs.declared.parser.State.TheVariants as st;
 ghost use Rattle.bsi_records.specs.Lines.{fed_line};
 ghost use Rattle.bsi_text.specs.Texts.{FromText};
-ghost use Rattle.bsi_text.specs.Waiting.{IsCut};
 ghost use Rattle.bsi_files.specs.Feds.{fed_counts};
 ghost use Rattle.bsi_files.specs.Faults.{is_late};
 ghost use Rattle.bsi_table.specs.Answers.{IsAnswer};
@@ -17,7 +16,7 @@ ghost use Rattle.bsi_table.specs.declared.query.Query.{Query};
 ghost use Rattle.bsi_files.specs.AskLines.{IsAskLine, IsShownAnswer, IsShownReply};
 ghost use Rattle.bsi_files.specs.Matching.{AreMatched};
 ghost use Rattle.bsi_files.specs.Runs.{fed_lines, AreLines};
-ghost use Rattle.bsi_files.specs.Writing.{WritesAll, WritesPart};
+ghost use Rattle.bsi_files.specs.Writing.{AreOut, WritesAll, WritesPart};
 
 use crate::headers::file_number;
 use crate::loading::Fed;
@@ -48,8 +47,8 @@ pub(crate) fn answer_all<B: Naming, A: Read + Drop, W: Write>(
     ensures ok { OnOk result (IfSome (A.remaining asks) (λ bytes.
         WritesAll (AreLines B.about.schema told.now (map fed_counts fed.now)) bytes
         (W.contents writer.old) (W.contents writer.new))) }
-    ensures part { OnErr result (IfSome (A.remaining asks) (λ bytes.
-        WritesPart (AreLines B.about.schema told.now (map fed_counts fed.now)) bytes
+    ensures part { IfErr result (λ fault. IfSome (A.remaining asks) (λ bytes.
+        WritesPart (AreLines B.about.schema told.now (map fed_counts fed.now)) bytes fault
         (W.contents writer.old) (W.contents writer.new))) }
 {
     let mut line = Vec::new(alloc);
@@ -72,8 +71,9 @@ fn tell_all<W: Write>(fed: &[Fed], line: &mut Vec<u8>, writer: &mut W) -> Result
     ensures late { IfErr result (λ fault. is_late fault ≡ true) }
     ensures ok { OnOk result (Appends (W.contents writer.old) (W.contents writer.new)
         (concat (fed_lines 0 (map fed_counts fed.now)))) }
-    ensures part { OnErr result (IsCut (W.contents writer.old) (W.contents writer.new)
-        (concat (fed_lines 0 (map fed_counts fed.now)))) }
+    ensures short { IfErr result (λ fault. fault ≢ FilesFault.TooLong Which.AsksFile) }
+    ensures part { IfErr result (λ fault. AreOut fault (fed_lines 0 (map fed_counts fed.now))
+        (W.contents writer.old) (W.contents writer.new)) }
 {
     'feeders: for feeder in 0..fed.len() {
         tell(file_number(feeder), &fed[feeder], line)?;
@@ -101,14 +101,14 @@ fn answer_records<B: Naming, A: Read + Drop, W: Write>(
     writer: &mut W,
 ) -> Result<(), FilesFault>
     requires schema { schema.now ≡ B.about.schema }
-    requires fresh { records.old.end ≡ None }
+    requires fresh { (records.old.taken ≡ 0) × (records.old.end ≡ None) }
     requires start { reader_state records.old.input ≡ st.StartRecord }
     ensures late { IfErr result (λ fault. is_late fault ≡ true) }
     ensures ok { OnOk result (FromText (source_of A.remaining records.old.input) (λ bytes.
         WritesAll (AreMatched (IsAskLine B.about.schema told.now)) bytes
         (W.contents writer.old) (W.contents writer.new))) }
-    ensures part { OnErr result (FromText (source_of A.remaining records.old.input) (λ bytes.
-        WritesPart (AreMatched (IsAskLine B.about.schema told.now)) bytes
+    ensures part { IfErr result (λ fault. FromText (source_of A.remaining records.old.input)
+        (λ bytes. WritesPart (AreMatched (IsAskLine B.about.schema told.now)) bytes fault
         (W.contents writer.old) (W.contents writer.new))) }
 {
     let mut fields = ByteRecord::new(alloc);
@@ -137,6 +137,7 @@ fn answer<B: Naming>(
 ) -> Result<(), FilesFault>
     requires { schema.now ≡ B.about.schema }
     ensures late { IfErr result (λ fault. is_late fault ≡ true) }
+    ensures short { IfErr result (λ fault. fault ≢ FilesFault.TooLong Which.AsksFile) }
     ensures line { OnOk result
         (IsAskLine B.about.schema told.now (fields_of fields.now) line.new.items) }
 {
@@ -156,7 +157,7 @@ fn ask<B: Naming>(
     told: &Told<B>,
     query: &Query,
 ) -> Result<Result<Answer, AskError>, FilesFault>
-    ensures late { IfErr result (λ fault. is_late fault ≡ true) }
+    ensures late { IfErr result (λ fault. fault ≡ FilesFault.Readers) }
     ensures reply { IfOk result (IsShownReply B.about.schema told.now query.now) }
 {
     match analyst.ask_told(told, query) {

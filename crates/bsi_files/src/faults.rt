@@ -1,7 +1,7 @@
 //! Why a run over row files ends early.
 
 ghost use Rattle.std.specs.Prelude.{◌≡◌, true};
-ghost use Rattle.bsi_files.specs.Faults.{is_early, is_late};
+ghost use Rattle.bsi_files.specs.Faults.{is_late, is_of_schema, text_fault};
 
 use bsi_text::SourceFault;
 use std::alloc::AllocError;
@@ -72,8 +72,9 @@ impl From<AllocError> for FilesFault {
 impl FilesFault {
     /// Returns the fault of a run for a text whose records were not all read.
     pub(crate) fn of_text(which: Which, fault: SourceFault) -> FilesFault
-        ensures schema { which ≡ Which.SchemaFile → is_early result ≡ true }
+        ensures schema { which ≡ Which.SchemaFile → is_of_schema result ≡ true }
         ensures asks { which ≡ Which.AsksFile → is_late result ≡ true }
+        ensures text { result ≡ text_fault which fault }
     {
         match fault {
             SourceFault::TooLong => FilesFault::TooLong(which),

@@ -1,9 +1,10 @@
 //! The headers of the row files, which are read before any row is.
 
-ghost use Rattle.std.specs.Prelude.{◌≡◌, ◌<◌, IfErr, IfOk, length, true};
+ghost use Rattle.std.specs.Prelude.{◌≡◌, ◌<◌, ◌≤◌, IfErr, IfOk, length, map, true};
 ghost use Rattle.bsi_files.specs.Begun.{Begins};
 ghost use Rattle.bsi_files.specs.Matching.{AreMatched};
-ghost use Rattle.bsi_files.specs.Faults.{is_early};
+ghost use Rattle.bsi_files.specs.Faults.{is_of_headers};
+ghost use Rattle.bsi_files.specs.Headers.{IsHeaderFault, IsHeadersFault};
 
 use crate::{FilesFault, NoMemory};
 use bsi_table::Schema;
@@ -27,14 +28,16 @@ pub(crate) fn begin_all<I: Read + Drop>(
     schema: &Schema,
     readers: Vec<I>,
 ) -> Result<Vec<RowSource<I>>, FilesFault>
-    ensures early { IfErr result (λ fault. is_early fault ≡ true) }
+    requires few { length readers.items ≤ 64 }
+    ensures first { IfErr result (λ fault. is_of_headers fault ≡ true) }
+    ensures fault { IfErr result (IsHeadersFault schema.now (map I.remaining readers.items)) }
     ensures begun { IfOk result (λ sources.
         AreMatched (Begins I.remaining schema.now) readers.items sources.items) }
 {
     let mut sources = Vec::with_capacity(alloc, readers.len())?;
     'files: for reader in readers {
-        let number = file_number(sources.len());
-        let source = begin(alloc, schema, reader, number)?;
+        let place = sources.len();
+        let source = begin(alloc, schema, reader, file_number(place))?;
         if sources.push(source).is_err() {
             return Err(FilesFault::NoMemory);
         }
@@ -49,7 +52,8 @@ fn begin<I: Read + Drop>(
     reader: I,
     number: u32,
 ) -> Result<RowSource<I>, FilesFault>
-    ensures early { IfErr result (λ fault. is_early fault ≡ true) }
+    ensures first { IfErr result (λ fault. is_of_headers fault ≡ true) }
+    ensures fault { IfErr result (IsHeaderFault schema.now (I.remaining reader) number) }
     ensures begun { IfOk result (Begins I.remaining schema.now reader) }
 {
     match RowSource::begin(alloc, schema, reader) {

@@ -4,11 +4,12 @@
 //! long, and publishes from 4,096 held rows on, so that few stand beside the two copies of the table. Such a publish
 //! may be refused memory: the rows stay held. Nobody asks before the last one.
 
-ghost use Rattle.std.specs.Prelude.{◌≡◌, ◌≢◌, ℕ, [], Bool, All, Err, IfErr, IfOk, IfSome, None, OnOk, Ok, false, true};
+ghost use Rattle.std.specs.Prelude.{◌≡◌, ◌≢◌, ◌≤◌, ℕ, [], Bool, All, Err, IfErr, IfOk, IfSome, None, OnOk, Ok, false, length, true};
 ghost use Rattle.bsi_system.specs.Running.{published_all, taking_at, AlwaysHolds, IsClosingOf};
 ghost use Rattle.bsi_files.specs.Ends.{AreClosings};
 ghost use Rattle.bsi_files.specs.Takings.{all_taken, AreLoaded, IsDrained, IsFine, IsKept, IsLoaded, KeepsOthers, TakesOnlyOf};
 ghost use Rattle.bsi_files.specs.Faults.{is_early};
+ghost use Rattle.bsi_files.specs.RunFaults.{IsKeptFault};
 
 use crate::headers::file_number;
 use crate::pause::Pause;
@@ -130,9 +131,13 @@ pub(crate) fn publish_rest<B: Naming, R: Wait>(
     ensures early { IfErr result (λ fault. is_early fault ≡ true) }
     ensures shown { OnOk result (loader.new ≡ published_all loader.old) }
     ensures told { IfOk result (λ told. told ≡ loader.new.published) }
+    ensures within { OnOk result (length loader.new.published ≤ loader.new.system.limit) }
+    ensures system { loader.new.system ≡ loader.old.system }
     ensures always { AlwaysHolds loader.new }
 {
     loader.publish(rt)?;
+    // The proof takes from the counts that the rows are within the limit.
+    let _ = loader.counts();
     Ok(loader.tell())
 }
 
@@ -234,7 +239,8 @@ fn drain<B: Naming, R: Wait>(rt: &R, loader: &mut Loader<B>, feeder: u32) -> Res
 /// Looks for a fault of a source, and then for a feeder that left no closing or that was stopped though no gate stops
 /// one.
 pub(crate) fn check_all(fed: &[Fed], stops: bool) -> Result<(), FilesFault>
-    ensures early { IfErr result (λ fault. is_early fault ≡ true) }
+    requires { length fed.now ≤ 64 }
+    ensures fault { IfErr result (IsKeptFault fed.now) }
     ensures fine { OnOk result (All (IsFine stops) fed.now) }
 
     // A fault of a source comes before a feeder that was not closed.
@@ -247,7 +253,8 @@ pub(crate) fn check_all(fed: &[Fed], stops: bool) -> Result<(), FilesFault>
 
 /// Looks for the first file whose source answered a fault, and answers this fault.
 fn check_sources(fed: &[Fed]) -> Result<(), FilesFault>
-    ensures early { IfErr result (λ fault. is_early fault ≡ true) }
+    requires { length fed.now ≤ 64 }
+    ensures fault { IfErr result (IsKeptFault fed.now) }
     ensures fine { OnOk result (All (λ end. end.fault ≡ None) fed.now) }
     ensures kind { (file : ℕ) → result ≢ Err (FilesFault.NotClosed file) }
 {
@@ -262,7 +269,7 @@ fn check_sources(fed: &[Fed]) -> Result<(), FilesFault>
 /// Looks for the first feeder that left no closing or that was stopped though no gate stops one, and answers this
 /// fault.
 fn check_ends(fed: &[Fed], stops: bool) -> Result<(), FilesFault>
-    ensures early { IfErr result (λ fault. is_early fault ≡ true) }
+    ensures fault { IfErr result (IsKeptFault fed.now) }
     ensures closed { OnOk result (All (λ end. end.closed ≡ true) fed.now) }
     ensures going { OnOk result (All (λ end. stops ≡ false → end.stopped ≡ false) fed.now) }
 {

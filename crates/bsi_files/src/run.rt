@@ -1,12 +1,13 @@
 //! A run over row files, from their headers to the answers.
 
-ghost use Rattle.std.specs.Prelude.{◌≡◌, ◌≢◌, ◌<◌, ◌≤◌, ◌⊎◌, ◌↔◌, [], Err, IfErr, IfOk, IfSome, OnErr, OnOk, false, length, map, true};
+ghost use Rattle.std.specs.Prelude.{◌≡◌, ◌≢◌, ◌<◌, ◌≤◌, ◌↔◌, [], Err, IfErr, IfOk, IfSome, OnOk, false, length, map, true};
 ghost use Rattle.bsi_table.specs.Table.{no_rows};
 ghost use Rattle.bsi_files.specs.Ends.{AreReady};
 ghost use Rattle.bsi_files.specs.Feds.{HasRun, IsAllFed};
 ghost use Rattle.bsi_files.specs.Faults.{is_early, is_late};
+ghost use Rattle.bsi_files.specs.RunFaults.{IsFaultOf, IsLoadFault, IsRunFault};
 ghost use Rattle.bsi_files.specs.Runs.{IsRun};
-ghost use Rattle.bsi_files.specs.Writing.{WhereKnown, WritesAll, WritesPart};
+ghost use Rattle.bsi_files.specs.Writing.{Leaves, WhereKnown, WritesAll};
 
 use crate::asks::answer_all;
 use crate::headers::{begin_all, capacities, file_number};
@@ -34,8 +35,9 @@ use std::thread::{Scope, Threads};
 /// It looks for faults in this order: the number of files; the schema file; the header of each row file; a reader of
 /// the table and a thread for each feeder; once the threads have ended the row limit, then the first row file that
 /// gives no more rows, then the first feeder without a closing, or that was stopped though its gate stops none; and,
-/// while it writes answers, the questions, a reader and the writer. Refused memory is answered where it is met. It keeps
-/// two copies of the table, and beside them some thousand rows.
+/// while it writes answers, the questions, a reader and the writer. Refused memory is answered where it is met. Lines
+/// that stand before a fault are whole, unless the writer fails. It keeps two copies of the table, and beside them some
+/// thousand rows.
 pub fn run_files<
     R: Threads + Wait + AllocGlobal + Sync,
     S: Read + Drop,
@@ -49,23 +51,26 @@ pub fn run_files<
     ensures quiet { IfErr result (λ fault. is_late fault ≡ false →
         W.contents writer.new ≡ W.contents writer.old) }
 
+    // What a fault tells of the bytes of the schema file and of the row files.
+    ensures fault { IfErr result (λ fault.
+        WhereKnown (S.remaining schema) (map I.remaining sources.items) (A.remaining asks)
+        (λ declared texts asked. IsFaultOf declared texts fault)) }
+
     // From bytes to bytes, where no gate stops a feeder.
     ensures lines { OnOk result (G.STOPS ≡ false →
         WhereKnown (S.remaining schema) (map I.remaining sources.items) (A.remaining asks)
         (λ declared texts asked. WritesAll (IsRun declared texts) asked
         (W.contents writer.old) (W.contents writer.new))) }
-    ensures part { OnErr result (G.STOPS ≡ false →
+    ensures part { IfErr result (λ fault. G.STOPS ≡ false →
         WhereKnown (S.remaining schema) (map I.remaining sources.items) (A.remaining asks)
-        (λ declared texts asked. (W.contents writer.new ≡ W.contents writer.old)
-        ⊎ WritesPart (IsRun declared texts) asked
+        (λ declared texts asked. Leaves (IsRun declared texts) asked fault
         (W.contents writer.old) (W.contents writer.new))) }
 {
     if sources.len() > MAX_FEEDERS as usize {
         return Err(FilesFault::TooManyFiles);
     }
-    // The proof takes these laws of row files.
-    laws::rows_left::<I>();
-    laws::left_of_a_file::<I>();
+    // The proof takes this law of row files.
+    laws::rows_of_a_file::<I>();
     let alloc = rt.alloc();
     let (schema, limit) = read_table(alloc, schema)?;
     let sources = begin_all(alloc, &schema, sources)?;
@@ -120,14 +125,14 @@ fn run_in<
     requires many { length run.sources.items ≡ length capacities.items }
     requires few { length run.sources.items ≤ 64 }
     ensures counted { IfErr result (λ fault. fault ≢ FilesFault.TooManyFiles) }
+    ensures fault { IfErr result (IsRunFault I.remaining run.sources.items) }
     ensures quiet { IfErr result (λ fault. is_late fault ≡ false →
         W.contents writer.new ≡ W.contents writer.old) }
     ensures lines { OnOk result (IfSome (A.remaining run.asks) (λ asked.
-        WritesAll (HasRun I.remaining G.STOPS columns run.sources.items) asked
+        WritesAll (HasRun I.remaining G.STOPS columns limit run.sources.items) asked
         (W.contents writer.old) (W.contents writer.new))) }
-    ensures part { OnErr result (IfSome (A.remaining run.asks) (λ asked.
-        (W.contents writer.new ≡ W.contents writer.old)
-        ⊎ WritesPart (HasRun I.remaining G.STOPS columns run.sources.items) asked
+    ensures part { IfErr result (λ fault. IfSome (A.remaining run.asks) (λ asked.
+        Leaves (HasRun I.remaining G.STOPS columns limit run.sources.items) asked fault
         (W.contents writer.old) (W.contents writer.new))) }
 {
     match open::<B>(rt.alloc(), history, columns, capacities, limit, 1) {
@@ -168,18 +173,17 @@ fn run_ends<
     writer: &mut W,
     gate: &G,
 ) -> Result<(), FilesFault>
-    requires ready { AreReady loader.old.system feeders.items run.sources.items }
-    requires few { length run.sources.items ≤ 64 }
+    requires ready { AreReady loader.old.system B.about.limit feeders.items run.sources.items }
     requires schema { run.schema ≡ B.about.schema }
     ensures counted { IfErr result (λ fault. fault ≢ FilesFault.TooManyFiles) }
+    ensures fault { IfErr result (IsRunFault I.remaining run.sources.items) }
     ensures quiet { IfErr result (λ fault. is_late fault ≡ false →
         W.contents writer.new ≡ W.contents writer.old) }
     ensures lines { OnOk result (IfSome (A.remaining run.asks) (λ asked.
-        WritesAll (HasRun I.remaining G.STOPS B.about.schema run.sources.items) asked
+        WritesAll (HasRun I.remaining G.STOPS B.about.schema B.about.limit run.sources.items) asked
         (W.contents writer.old) (W.contents writer.new))) }
-    ensures part { OnErr result (IfSome (A.remaining run.asks) (λ asked.
-        (W.contents writer.new ≡ W.contents writer.old)
-        ⊎ WritesPart (HasRun I.remaining G.STOPS B.about.schema run.sources.items) asked
+    ensures part { IfErr result (λ fault. IfSome (A.remaining run.asks) (λ asked.
+        Leaves (HasRun I.remaining G.STOPS B.about.schema B.about.limit run.sources.items) asked fault
         (W.contents writer.old) (W.contents writer.new))) }
 {
     let Run {
@@ -209,10 +213,10 @@ fn feed_files<
     sources: Vec<RowSource<I>>,
     gate: &G,
 ) -> Result<(Vec<Fed>, Told<B>), FilesFault>
-    requires { AreReady loader.old.system feeders.items sources.items }
-    ensures early { IfErr result (λ fault. is_early fault ≡ true) }
+    requires { AreReady loader.old.system B.about.limit feeders.items sources.items }
+    ensures fault { IfErr result (IsLoadFault I.remaining sources.items) }
     ensures fed { IfOk result (λ run.
-        IsAllFed I.remaining G.STOPS run.1 sources.items run.0.items) }
+        IsAllFed I.remaining G.STOPS B.about.limit run.1 sources.items run.0.items) }
 {
     let watch = Watch::new(gate);
     let shared = &watch;
@@ -220,10 +224,10 @@ fn feed_files<
         thread::scope_env(),
         rt,
         move |scope| -> Result<(Vec<Fed>, Told<B>), FilesFault>
-            requires { AreReady loader.now.system feeders.items sources.items }
-            ensures early { IfErr result (λ fault. is_early fault ≡ true) }
+            requires { AreReady loader.now.system B.about.limit feeders.items sources.items }
+            ensures fault { IfErr result (IsLoadFault I.remaining sources.items) }
             ensures fed { IfOk result (λ run.
-                IsAllFed I.remaining G.STOPS run.1 sources.items run.0.items) }
+                IsAllFed I.remaining G.STOPS B.about.limit run.1 sources.items run.0.items) }
         { feed_in(scope, rt, shared, loader, feeders, sources) },
     )
 }
@@ -245,10 +249,10 @@ fn feed_in<
     feeders: Vec<Feeder>,
     sources: Vec<RowSource<I>>,
 ) -> Result<(Vec<Fed>, Told<B>), FilesFault>
-    requires { AreReady loader.old.system feeders.items sources.items }
-    ensures early { IfErr result (λ fault. is_early fault ≡ true) }
+    requires { AreReady loader.old.system B.about.limit feeders.items sources.items }
+    ensures fault { IfErr result (IsLoadFault I.remaining sources.items) }
     ensures fed { IfOk result (λ run.
-        IsAllFed I.remaining G.STOPS run.1 sources.items run.0.items) }
+        IsAllFed I.remaining G.STOPS B.about.limit run.1 sources.items run.0.items) }
 {
     let files = feeders.len();
     let mut threads = Vec::with_capacity(rt.alloc(), files)?;

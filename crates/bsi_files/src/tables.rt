@@ -5,8 +5,8 @@ ghost use Rattle.csv.specs.Reading.{reader_state, source_of};
 ghost use Rattle.csv.specs.declared.parser.State.TheVariants as st;
 ghost use Rattle.bsi_table.specs.Columns.{no_columns};
 ghost use Rattle.bsi_text.specs.Texts.{FromText};
-ghost use Rattle.bsi_files.specs.Faults.{is_early};
-ghost use Rattle.bsi_files.specs.SchemaFiles.{Declares, IsSchemaFile};
+ghost use Rattle.bsi_files.specs.Faults.{is_of_schema};
+ghost use Rattle.bsi_files.specs.SchemaFiles.{none_declared, Declares, IsSchemaFault, IsSchemaFile};
 
 use crate::{FilesFault, Which};
 use bsi_table::{MAX_ROWS, Schema};
@@ -21,9 +21,11 @@ pub(crate) fn read_table<S: Read + Drop>(
     reader: S,
 ) -> Result<(Schema, u64), FilesFault>
     ensures some { IfOk result (λ read. 0 < length read.0.columns) }
-    ensures early { IfErr result (λ fault. is_early fault ≡ true) }
+    ensures first { IfErr result (λ fault. is_of_schema fault ≡ true) }
     ensures declared { IfOk result (λ read. IfSome (S.remaining reader)
         (λ bytes. IsSchemaFile bytes read.0 read.1)) }
+    ensures fault { IfErr result (λ fault. IfSome (S.remaining reader)
+        (λ bytes. IsSchemaFault bytes none_declared fault)) }
 {
     let mut records = RecordSource::new(alloc, reader);
     let mut schema = Schema::new(alloc);
@@ -42,11 +44,13 @@ fn declare_all<S: Read + Drop>(
     schema: &mut Schema,
     limit: &mut u64,
 ) -> Result<(), FilesFault>
-    requires fresh { records.old.end ≡ None }
+    requires fresh { (records.old.taken ≡ 0) × (records.old.end ≡ None) }
     requires start { reader_state records.old.input ≡ st.StartRecord }
-    ensures early { IfErr result (λ fault. is_early fault ≡ true) }
+    ensures first { IfErr result (λ fault. is_of_schema fault ≡ true) }
     ensures declared { OnOk result (FromText (source_of S.remaining records.old.input) (λ bytes.
         Declares bytes (schema.old, limit.old) (schema.new, limit.new))) }
+    ensures fault { IfErr result (λ fault. FromText (source_of S.remaining records.old.input)
+        (λ bytes. IsSchemaFault bytes (schema.old, limit.old) fault)) }
 {
     let mut fields = ByteRecord::new(alloc);
     // No text has so many records. The bound lets the proof see that the loop ends.

@@ -1,22 +1,27 @@
-use Rattle.std.proofs.Common.{map}
+use Rattle.std.proofs.Common.{map, rules}
+use Rattle.std.specs.Prelude.{◌≢◌, IfErr}
 use Rattle.csv.specs.Reading.{source_of}
 use Rattle.bsi_files.specs.Feds.{fed_counts}
-use Rattle.bsi_files.specs.Runs.{AreLines}
-use Rattle.bsi_files.specs.Writing.{WritesAll, WritesPart}
-use Rattle.bsi_files.proofs.Asking.{head_cut, headed_all, headed_part}
-use Rattle.bsi_files.proofs.Passing.{from_known, if_some, on_err, on_fault, on_ok}
+use Rattle.bsi_files.specs.Runs.{fed_lines, AreLines}
+use Rattle.bsi_files.specs.Writing.{AreOut, WritesAll, WritesPart}
+use Rattle.bsi_files.specs.declared.faults.FilesFault.TheVariants.{TooLong}
+use Rattle.bsi_files.specs.declared.faults.Which.TheVariants.{AsksFile}
+use Rattle.bsi_files.proofs.Asking.{head_part, headed_all, headed_part}
+use Rattle.bsi_files.proofs.Passing.{from_known, if_err, if_err_both, if_some, on_ok}
 use Rattle.bsi_files.proofs.asks.answer_all.Goals as goal
 
--- a first part of the feeders' lines was written
+-- lines of the feeders alone were written
 pub returns-in_err-tell_all-clause-part : goal.returns-in_err-tell_all-clause-part
 returns-in_err-tell_all-clause-part g c =
     let schema = g.B.Naming.about.schema in
     let counts = map fed_counts c.args.fed.now in
     let before = g.W.Write.contents c.args.writer.now in
     let after = g.W.Write.contents c.tell_all.new.writer in
-    on_err c.from_residual.result
-    (if_some (λ bytes. WritesPart (AreLines schema c.args.told.now counts) bytes before after) (g.A.Read.remaining c.args.asks)
-    (λ bytes. head_cut schema c.args.told.now counts bytes before after c.in_err-tell_all.ensures.part))
+    let short : IfErr c.from_residual.result (λ fault. fault ≢ TooLong AsksFile) = search rules in
+    let out : IfErr c.from_residual.result (λ fault. AreOut fault (fed_lines 0 counts) before after) = search rules in
+    if_err_both c.from_residual.result
+    (λ fault never went. if_some (λ bytes. WritesPart (AreLines schema c.args.told.now counts) bytes fault before after) (g.A.Read.remaining c.args.asks)
+    (λ bytes. head_part schema c.args.told.now counts bytes before after fault never went)) short out
 
 -- all of them were, and then the answers
 pub returns-clause-ok : goal.returns-clause-ok
@@ -39,8 +44,8 @@ returns-clause-part g c =
     let before = g.W.Write.contents c.args.writer.now in
     let middle = g.W.Write.contents c.tell_all.new.writer in
     let after = g.W.Write.contents c.answer_records.new.writer in
-    on_fault c.answer_records.result
-    (λ from. from_known (g.A.Read.remaining c.args.asks) (source_of g.A.Read.remaining c.new-records.result.input)
-    (λ bytes. WritesPart (AreLines schema c.args.told.now counts) bytes before after) c.new-records.ensures.source
-    (λ bytes left. headed_part schema c.args.told.now counts bytes before middle after c.in_ok-tell_all.ensures.ok (from bytes left)))
+    if_err c.answer_records.result
+    (λ fault from. from_known (g.A.Read.remaining c.args.asks) (source_of g.A.Read.remaining c.new-records.result.input)
+    (λ bytes. WritesPart (AreLines schema c.args.told.now counts) bytes fault before after) c.new-records.ensures.source
+    (λ bytes left. headed_part schema c.args.told.now counts bytes before middle after fault c.in_ok-tell_all.ensures.ok (from bytes left)))
     c.answer_records.ensures.part

@@ -1,4 +1,4 @@
-use Rattle.std.proofs.Common.{◌≡◌, None}
+use Rattle.std.proofs.Common.{◌≡◌, ◌≤◌, None}
 use Rattle.csv.specs.Reading.{reader_state, source_of}
 use Rattle.bsi_text.specs.Texts.{FromText}
 use Rattle.bsi_files.specs.AskLines.{IsAskLine}
@@ -9,7 +9,9 @@ use Rattle.bsi_files.proofs.asks.answer_records.Given as goal
 abbrev pub invariant-records : goal.invariant-records
 invariant-records g l = record {
   going : l.records.end ≡ None;
+  counted : l.records.taken ≡ l.counter;
+  few : l.records.taken ≤ 1000000;
   stands : FromText (source_of g.A.Read.remaining l.initial.records.input) (λ bytes.
-      StandsAt (IsAskLine g.B.Naming.about.schema l.told) bytes (reader_state l.records.input) (source_of g.A.Read.remaining l.records.input)
+      StandsAt (IsAskLine g.B.Naming.about.schema l.told) bytes (reader_state l.records.input) (source_of g.A.Read.remaining l.records.input) l.records.taken
       (g.W.Write.contents l.initial.writer) (g.W.Write.contents l.writer));
 }

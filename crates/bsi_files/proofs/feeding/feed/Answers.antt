@@ -2,7 +2,7 @@ use Rattle.std.proofs.Common.{◌≡◌, Bool, true, Option, Some, IfSome, ap, s
 use Rattle.bsi_rings.specs.Rings.{Sending}
 use Rattle.bsi_text.specs.declared.rows.SourceFault.{SourceFault}
 use Rattle.bsi_files.specs.Feeding.{HasFailed}
-use Rattle.bsi_files.proofs.Feeds.{failed_after, fed_first, of_some, sent_more, sent_none}
+use Rattle.bsi_files.proofs.Feeds.{failed_after, fed_first, of_some, read_out, sent_more, sent_none}
 use Rattle.bsi_files.proofs.feeding.feed.Goals.{in-Stopped, in-Over, in-Failed}
 use Rattle.bsi_files.proofs.feeding.feed.Goals as goal
 
@@ -25,20 +25,22 @@ returns-in-rows-clause-fed g c = elim c.match-feed_one.branch [
       fed_first g.I.Read.remaining c.args.feeder c.args.source c.rows.point c.rows.feeder c.rows.source closing.rows c.finish.result.accepted
       c.finish.result.bad c.finish.result.stopped c.finish.result.fault c.rows.invariant
       (closes.rows ∙ ap (λ (s : Sending). s.sent) w.in-Stopped.ensures) c.finish.ensures.accepted
-      (λ going fine rest left still. cc (told, c.finish.ensures.stopped, going)))
+      (λ going fine rest left still. cc (told, c.finish.ensures.stopped, going)) (λ going fine more. absurd (cc (told, c.finish.ensures.stopped, going))))
   | in-Over w ↦
       of_some c.finish.result.closing c.finish.ensures.closing (λ closing closes.
       fed_first g.I.Read.remaining c.args.feeder c.args.source c.rows.point c.rows.feeder c.rows.source closing.rows c.finish.result.accepted
       c.finish.result.bad c.finish.result.stopped c.finish.result.fault c.rows.invariant
       (closes.rows ∙ ap (λ (s : Sending). s.sent) w.in-Over.ensures.0) c.finish.ensures.accepted
-      (λ going fine rest left still. (let none = w.in-Over.ensures.1 rest left still in (none.0, c.finish.ensures.bad ∙ none.1))))
+      (λ going fine rest left still. (let none = w.in-Over.ensures.1 rest left still in (none.0, c.finish.ensures.bad ∙ none.1)))
+      (λ going fine more. read_out g.I.Read.remaining c.args.feeder c.args.source c.taken_in_turn.ensures c.rows.point c.rows.feeder c.rows.source
+      c.feed_one.new.source c.finish.result.bad c.rows.invariant w.in-Over.ensures.2 c.finish.ensures.bad more))
   | in-Failed w ↦
       let told : c.match-feed_one.stopped.1 ≡ Some w.in-Failed.fault = ap (λ (p : Bool × Option SourceFault). p.1) w.stopped-is in
       of_some c.finish.result.closing c.finish.ensures.closing (λ closing closes.
       fed_first g.I.Read.remaining c.args.feeder c.args.source c.rows.point c.rows.feeder c.rows.source closing.rows c.finish.result.accepted
       c.finish.result.bad c.finish.result.stopped c.finish.result.fault c.rows.invariant
       (closes.rows ∙ ap (λ (s : Sending). s.sent) w.in-Failed.ensures.0) c.finish.ensures.accepted
-      (λ going fine rest left still. cc (told, c.finish.ensures.fault, fine)))
+      (λ going fine rest left still. cc (told, c.finish.ensures.fault, fine)) (λ going fine more. absurd (cc (told, c.finish.ensures.fault, fine))))
 ]
 
 -- a fault is the one that the source answered

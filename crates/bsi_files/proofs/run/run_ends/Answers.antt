@@ -1,14 +1,40 @@
-use Rattle.std.proofs.Common.{◌≡◌, ◌≤◌, List, length, inr, refl, subst, sym}
-use Rattle.bsi_files.specs.Feds.{fed_counts, HasRun, IsAllFed}
+use Rattle.std.proofs.Common.{◌≡◌, ◌≤◌, List, length, refl, rules, subst, sym}
+use Rattle.bsi_files.specs.Feds.{IsAllFed}
 use Rattle.bsi_files.specs.declared.loading.Fed.{Fed}
-use Rattle.bsi_files.proofs.Files.{few_fed, late_counted, late_quiet, run_all, run_part}
-use Rattle.bsi_files.proofs.Passing.{if_some_follows, on_fault, on_ok}
+use Rattle.bsi_files.proofs.Asking.{all_follows, leaves_late, part_follows}
+use Rattle.bsi_files.proofs.Files.{few_fed, late_counted, late_quiet, run_lines}
+use Rattle.bsi_files.proofs.Passing.{if_err, if_err_both, if_some, if_some_follows, on_ok}
+use Rattle.std.specs.Prelude.{IfErr}
+use Rattle.bsi_files.specs.RunFaults.{IsLoadFault}
+use Rattle.bsi_files.proofs.Failing.{late_run, leaves_loaded, load_counted, load_run}
 use Rattle.bsi_files.proofs.run.run_ends.Goals as goal
 
 pub answer_all-requires-clause-few : goal.answer_all-requires-clause-few
 answer_all-requires-clause-few g c =
     subst (λ (feds : List Fed). length feds ≤ 64) (sym c.deref.ensures.value)
-    (few_fed g.I.Read.remaining g.G.Stopping.STOPS c.in_ok-fed.told c.args.run.sources.items c.in_ok-fed.fed.items c.in_ok-fed.ensures.fed c.requires.few)
+    (few_fed g.I.Read.remaining g.G.Stopping.STOPS g.B.Naming.about.limit c.in_ok-fed.told c.args.run.sources.items c.in_ok-fed.fed.items c.in_ok-fed.ensures.fed c.requires.ready.few)
+
+-- rows were not all loaded
+pub returns-in_err-fed-clause-counted : goal.returns-in_err-fed-clause-counted
+returns-in_err-fed-clause-counted g c =
+    let met : IfErr c.from_residual.result (IsLoadFault g.I.Read.remaining c.args.run.sources.items) = search rules in
+    if_err c.from_residual.result (load_counted g.I.Read.remaining c.args.run.sources.items) met
+
+pub returns-in_err-fed-clause-fault : goal.returns-in_err-fed-clause-fault
+returns-in_err-fed-clause-fault g c =
+    let met : IfErr c.from_residual.result (IsLoadFault g.I.Read.remaining c.args.run.sources.items) = search rules in
+    if_err c.from_residual.result (load_run g.I.Read.remaining c.args.run.sources.items) met
+
+pub returns-in_err-fed-clause-part : goal.returns-in_err-fed-clause-part
+returns-in_err-fed-clause-part g c =
+    let before = g.W.Write.contents c.args.writer.now in
+    let met : IfErr c.from_residual.result (IsLoadFault g.I.Read.remaining c.args.run.sources.items) = search rules in
+    if_err c.from_residual.result (λ fault is. if_some _ (g.A.Read.remaining c.args.run.asks)
+    (λ asked. leaves_loaded _ g.I.Read.remaining c.args.run.sources.items asked fault before before is refl)) met
+
+-- or a fault was met while lines were written
+pub returns-clause-fault : goal.returns-clause-fault
+returns-clause-fault g c = if_err c.answer_all.result (late_run g.I.Read.remaining c.args.run.sources.items) c.answer_all.ensures.late
 
 pub returns-clause-counted : goal.returns-clause-counted
 returns-clause-counted g c = late_counted c.answer_all.result c.answer_all.ensures.late
@@ -20,24 +46,32 @@ pub returns-clause-lines : goal.returns-clause-lines
 returns-clause-lines g c =
     let rem = g.I.Read.remaining in
     let stops = g.G.Stopping.STOPS in
+    let schema = g.B.Naming.about.schema in
+    let limit = g.B.Naming.about.limit in
     let told = c.in_ok-fed.told in
     let sources = c.args.run.sources.items in
     let feds = c.deref.result.now in
-    let fed : IsAllFed rem stops told sources feds = subst (λ (xs : List Fed). IsAllFed rem stops told sources xs) (sym c.deref.ensures.value) c.in_ok-fed.ensures.fed in
+    let fed : IsAllFed rem stops limit told sources feds = subst (λ (xs : List Fed). IsAllFed rem stops limit told sources xs) (sym c.deref.ensures.value) c.in_ok-fed.ensures.fed in
+    let before = g.W.Write.contents c.args.writer.now in
+    let after = g.W.Write.contents c.answer_all.new.writer in
     on_ok c.answer_all.result
     (λ some. if_some_follows (g.A.Read.remaining c.args.run.asks) some
-    (λ asked all. run_all rem stops g.B.Naming.about.schema sources told told feds asked (g.W.Write.contents c.args.writer.now) (g.W.Write.contents c.answer_all.new.writer) fed refl all))
+    (λ asked all. all_follows (run_lines rem stops schema limit sources told feds fed) asked before after all))
     c.answer_all.ensures.ok
 
 pub returns-clause-part : goal.returns-clause-part
 returns-clause-part g c =
     let rem = g.I.Read.remaining in
     let stops = g.G.Stopping.STOPS in
+    let schema = g.B.Naming.about.schema in
+    let limit = g.B.Naming.about.limit in
     let told = c.in_ok-fed.told in
     let sources = c.args.run.sources.items in
     let feds = c.deref.result.now in
-    let fed : IsAllFed rem stops told sources feds = subst (λ (xs : List Fed). IsAllFed rem stops told sources xs) (sym c.deref.ensures.value) c.in_ok-fed.ensures.fed in
-    on_fault c.answer_all.result
-    (λ some. if_some_follows (g.A.Read.remaining c.args.run.asks) some
-    (λ asked part. inr (run_part rem stops g.B.Naming.about.schema sources told told feds asked (g.W.Write.contents c.args.writer.now) (g.W.Write.contents c.answer_all.new.writer) fed refl part)))
-    c.answer_all.ensures.part
+    let fed : IsAllFed rem stops limit told sources feds = subst (λ (xs : List Fed). IsAllFed rem stops limit told sources xs) (sym c.deref.ensures.value) c.in_ok-fed.ensures.fed in
+    let before = g.W.Write.contents c.args.writer.now in
+    let after = g.W.Write.contents c.answer_all.new.writer in
+    if_err_both c.answer_all.result
+    (λ fault late some. if_some_follows (g.A.Read.remaining c.args.run.asks) some
+    (λ asked part. leaves_late _ asked fault before after late (part_follows (run_lines rem stops schema limit sources told feds fed) asked fault before after part)))
+    c.answer_all.ensures.late c.answer_all.ensures.part

@@ -1,12 +1,19 @@
-use Rattle.std.proofs.Common.{◌≡◌, ◌⊎◌, ℕ, List, Option, IfSome, arith, subst, sym}
+use Rattle.std.proofs.Common.{◌≡◌, ℕ, List, Option, IfSome, arith, map, rules, true, subst, sym}
+use Rattle.std.specs.Prelude.{IfErr}
 use Rattle.bsi_table.specs.Columns.{Declared}
+use Rattle.bsi_files.specs.Faults.{is_of_schema}
+use Rattle.bsi_files.specs.Headers.{IsHeadersFault}
+use Rattle.bsi_files.specs.RunFaults.{IsFaultOf}
+use Rattle.bsi_files.specs.declared.faults.FilesFault.TheVariants.{NoMemory}
+use Rattle.bsi_files.proofs.Failing.{headers_fault_of, run_fault_of, schema_fault_of}
 use Rattle.bsi_files.specs.Begun.{Begins}
 use Rattle.bsi_files.specs.Feds.{HasRun}
 use Rattle.bsi_files.specs.Matching.{AreMatched}
-use Rattle.bsi_files.specs.SchemaFiles.{IsSchemaFile}
-use Rattle.bsi_files.specs.Writing.{WritesAll, WritesPart}
-use Rattle.bsi_files.proofs.Files.{bytes_all, bytes_either, matched_long, HasLaws}
-use Rattle.bsi_files.proofs.Passing.{on_fault, on_ok}
+use Rattle.bsi_files.specs.SchemaFiles.{none_declared, IsSchemaFault, IsSchemaFile}
+use Rattle.bsi_files.specs.Writing.{Leaves, WritesAll}
+use Rattle.bsi_files.proofs.Asking.{all_follows, leaves_follows}
+use Rattle.bsi_files.proofs.Files.{matched_long, run_of_bytes}
+use Rattle.bsi_files.proofs.Passing.{if_err, if_err_both, on_ok}
 use Rattle.bsi_files.proofs.run.run_files.Goals as goal
 
 pub run_in-requires-clause-few : goal.run_in-requires-clause-few
@@ -17,6 +24,7 @@ run_in-requires-clause-few g c =
 pub returns-clause-lines : goal.returns-clause-lines
 returns-clause-lines g c =
     let rem = g.I.Read.remaining in
+    let stops = g.G.Stopping.STOPS in
     let schema = c.in_ok-schema.schema in
     let columns = c.in_ok-columns.columns in
     let limit = c.in_ok-schema.limit in
@@ -24,20 +32,20 @@ returns-clause-lines g c =
     let sources = c.in_ok-sources.sources.items in
     let before = g.W.Write.contents c.args.writer.now in
     let after = g.W.Write.contents c.run_in.new.writer in
-    let laws : HasLaws rem = record { some = c.rows_left.ensures.some; whole = c.left_of_a_file.ensures } in
     let begin : AreMatched (Begins rem columns) readers sources =
     subst (λ (s : Declared). AreMatched (Begins rem s) readers sources) (sym c.in_ok-columns.ensures) c.in_ok-sources.ensures.begun in
     on_ok c.run_in.result
     (λ lines never declared texts asked s i a.
     (let declares : IsSchemaFile declared schema limit = subst (λ (o : Option (List ℕ)). IfSome o (λ bytes. IsSchemaFile bytes schema limit)) s c.in_ok-schema.ensures.declared in
     let schema_is : IsSchemaFile declared columns limit = subst (λ (d : Declared). IsSchemaFile declared d limit) (sym c.in_ok-columns.ensures) declares in
-    bytes_all rem laws g.G.Stopping.STOPS never columns limit readers sources declared texts schema_is begin i asked before after
-    (subst (λ (o : Option (List ℕ)). IfSome o (λ bytes. WritesAll (HasRun rem g.G.Stopping.STOPS columns sources) bytes before after)) a lines)))
+    all_follows (run_of_bytes rem c.rows_of_a_file.ensures stops never columns limit readers sources declared texts schema_is begin i) asked before after
+    (subst (λ (o : Option (List ℕ)). IfSome o (λ bytes. WritesAll (HasRun rem stops columns limit sources) bytes before after)) a lines)))
     c.run_in.ensures.lines
 
 pub returns-clause-part : goal.returns-clause-part
 returns-clause-part g c =
     let rem = g.I.Read.remaining in
+    let stops = g.G.Stopping.STOPS in
     let schema = c.in_ok-schema.schema in
     let columns = c.in_ok-columns.columns in
     let limit = c.in_ok-schema.limit in
@@ -45,13 +53,53 @@ returns-clause-part g c =
     let sources = c.in_ok-sources.sources.items in
     let before = g.W.Write.contents c.args.writer.now in
     let after = g.W.Write.contents c.run_in.new.writer in
-    let laws : HasLaws rem = record { some = c.rows_left.ensures.some; whole = c.left_of_a_file.ensures } in
     let begin : AreMatched (Begins rem columns) readers sources =
     subst (λ (s : Declared). AreMatched (Begins rem s) readers sources) (sym c.in_ok-columns.ensures) c.in_ok-sources.ensures.begun in
-    on_fault c.run_in.result
-    (λ part never declared texts asked s i a.
+    if_err c.run_in.result
+    (λ fault leaves never declared texts asked s i a.
     (let declares : IsSchemaFile declared schema limit = subst (λ (o : Option (List ℕ)). IfSome o (λ bytes. IsSchemaFile bytes schema limit)) s c.in_ok-schema.ensures.declared in
     let schema_is : IsSchemaFile declared columns limit = subst (λ (d : Declared). IsSchemaFile declared d limit) (sym c.in_ok-columns.ensures) declares in
-    bytes_either rem laws g.G.Stopping.STOPS never columns limit readers sources declared texts schema_is begin i asked before after
-    (subst (λ (o : Option (List ℕ)). IfSome o (λ bytes. (after ≡ before) ⊎ WritesPart (HasRun rem g.G.Stopping.STOPS columns sources) bytes before after)) a part)))
+    leaves_follows (run_of_bytes rem c.rows_of_a_file.ensures stops never columns limit readers sources declared texts schema_is begin i) asked fault before after
+    (subst (λ (o : Option (List ℕ)). IfSome o (λ bytes. Leaves (HasRun rem stops columns limit sources) bytes fault before after)) a leaves)))
     c.run_in.ensures.part
+
+-- ---- faults
+
+pub returns-in_err-schema-clause-fault : goal.returns-in_err-schema-clause-fault
+returns-in_err-schema-clause-fault g c =
+    let first : IfErr c.from_residual.result (λ fault. is_of_schema fault ≡ true) = search rules in
+    let met : IfErr c.from_residual.result (λ fault. IfSome (g.S.Read.remaining c.args.schema) (λ bytes. IsSchemaFault bytes none_declared fault)) = search rules in
+    if_err_both c.from_residual.result
+    (λ fault one two declared texts asked s i a. schema_fault_of declared texts fault one
+    (subst (λ (o : Option (List ℕ)). IfSome o (λ bytes. IsSchemaFault bytes none_declared fault)) s two)) first met
+
+pub returns-in_err-sources-clause-fault : goal.returns-in_err-sources-clause-fault
+returns-in_err-sources-clause-fault g c =
+    let schema = c.in_ok-schema.schema in
+    let limit = c.in_ok-schema.limit in
+    let met : IfErr c.from_residual-in_err-sources.result (IsHeadersFault schema (map g.I.Read.remaining c.args.sources.items)) = search rules in
+    if_err c.from_residual-in_err-sources.result
+    (λ fault is declared texts asked s i a.
+    (let declares : IsSchemaFile declared schema limit = subst (λ (o : Option (List ℕ)). IfSome o (λ bytes. IsSchemaFile bytes schema limit)) s c.in_ok-schema.ensures.declared in
+    headers_fault_of declared texts schema limit declares fault (subst (λ files. IsHeadersFault schema files fault) i is))) met
+
+pub returns-in_err-capacities-clause-fault : goal.returns-in_err-capacities-clause-fault
+returns-in_err-capacities-clause-fault g c =
+    let refused : IfErr c.from_residual-in_err-capacities.result (λ fault. fault ≡ NoMemory) = search rules in
+    if_err c.from_residual-in_err-capacities.result (λ fault is declared texts asked s i a. subst (λ f. IsFaultOf declared texts f) (sym is) tt) refused
+
+pub returns-in_err-columns-clause-fault : goal.returns-in_err-columns-clause-fault
+returns-in_err-columns-clause-fault g c =
+    let refused : IfErr c.from_residual-in_err-columns.result (λ fault. fault ≡ NoMemory) = search rules in
+    if_err c.from_residual-in_err-columns.result (λ fault is declared texts asked s i a. subst (λ f. IsFaultOf declared texts f) (sym is) tt) refused
+
+pub returns-clause-fault : goal.returns-clause-fault
+returns-clause-fault g c =
+    let rem = g.I.Read.remaining in
+    let schema = c.in_ok-schema.schema in
+    let columns = c.in_ok-columns.columns in
+    let readers = c.args.sources.items in
+    let sources = c.in_ok-sources.sources.items in
+    let begin : AreMatched (Begins rem columns) readers sources =
+    subst (λ (s : Declared). AreMatched (Begins rem s) readers sources) (sym c.in_ok-columns.ensures) c.in_ok-sources.ensures.begun in
+    if_err c.run_in.result (λ fault met declared texts asked s i a. run_fault_of rem declared columns readers sources texts begin i fault met) c.run_in.ensures.fault

@@ -1,12 +1,11 @@
-use Rattle.std.proofs.Common.{◌≡◌, ◌⊎◌, All, List, IfSome, length, ap, subst, sym, ◌∙◌}
-use Rattle.std.specs.Prelude.{OnErr, OnOk}
+use Rattle.std.proofs.Common.{◌≡◌, All, List, IfSome, length, ap, subst, sym, ◌∙◌}
+use Rattle.std.specs.Prelude.{IfErr, OnOk}
 use Rattle.bsi_rings.specs.Rings.{Sending}
-use Rattle.bsi_system.specs.Running.{IsFeederOf}
-use Rattle.bsi_table.specs.Columns.{Declared}
+use Rattle.bsi_system.specs.Running.{IsFeederOf, Loading}
 use Rattle.bsi_table.specs.Table.{Table}
 use Rattle.bsi_files.specs.Ends.{AreFeeders, AreReady}
 use Rattle.bsi_files.specs.Feds.{HasRun}
-use Rattle.bsi_files.specs.Writing.{WritesAll, WritesPart}
+use Rattle.bsi_files.specs.Writing.{Leaves, WritesAll}
 use Rattle.bsi_files.proofs.Takings.{feeders_are, feeders_long}
 use Rattle.bsi_files.proofs.run.run_in.Goals as goal
 
@@ -19,22 +18,23 @@ run_ends-ran-requires-clause-ready g c =
     let is = c.in-Ok.ensures.feeders in
     let channels : length system.channels ≡ length feeders = sym (ap (λ (fs : List Sending). length fs) is ∙ feeders_long 0 system.channels capacities c.in-Ok.ensures.channels) in
     let sources = c.args.run.sources.items in
-    let ready : AreReady system feeders sources = record {
+    let ready : AreReady system g.B.Naming.about.limit feeders sources = record {
       own = subst (λ (fs : List Sending). AreFeeders system 0 fs) (sym is)
           (feeders_are system 0 system.channels capacities (subst (λ (fs : List Sending). All (λ feeder. IsFeederOf feeder system) fs) is c.in-Ok.ensures.own));
       channels = channels;
       many = c.requires.many ∙ (sym c.in-Ok.ensures.channels ∙ channels);
+      few = c.requires.few;
+      most = ap (λ (s : Loading). s.system.limit) c.in-Ok.ensures.loader ∙ sym (ap (λ (t : Table). t.limit) c.requires.about);
     } in λ κs outlive. ready
 
 pub returns-in-Ok-clause-lines : goal.returns-in-Ok-clause-lines
 returns-in-Ok-clause-lines g c =
-    subst (λ (schema : Declared). OnOk c.run_ends-ran.result (IfSome (g.A.Read.remaining c.args.run.asks) (λ asked.
-    WritesAll (HasRun g.I.Read.remaining g.G.Stopping.STOPS schema c.args.run.sources.items) asked (g.W.Write.contents c.args.writer.now) (g.W.Write.contents c.run_ends-ran.new.writer))))
-    (ap (λ (t : Table). t.schema) c.requires.about) c.run_ends-ran.ensures.lines
+    subst (λ (t : Table). OnOk c.run_ends-ran.result (IfSome (g.A.Read.remaining c.args.run.asks) (λ asked.
+    WritesAll (HasRun g.I.Read.remaining g.G.Stopping.STOPS t.schema t.limit c.args.run.sources.items) asked (g.W.Write.contents c.args.writer.now) (g.W.Write.contents c.run_ends-ran.new.writer))))
+    c.requires.about c.run_ends-ran.ensures.lines
 
 pub returns-in-Ok-clause-part : goal.returns-in-Ok-clause-part
 returns-in-Ok-clause-part g c =
-    subst (λ (schema : Declared). OnErr c.run_ends-ran.result (IfSome (g.A.Read.remaining c.args.run.asks) (λ asked.
-    (g.W.Write.contents c.run_ends-ran.new.writer ≡ g.W.Write.contents c.args.writer.now)
-    ⊎ WritesPart (HasRun g.I.Read.remaining g.G.Stopping.STOPS schema c.args.run.sources.items) asked (g.W.Write.contents c.args.writer.now) (g.W.Write.contents c.run_ends-ran.new.writer))))
-    (ap (λ (t : Table). t.schema) c.requires.about) c.run_ends-ran.ensures.part
+    subst (λ (t : Table). IfErr c.run_ends-ran.result (λ fault. IfSome (g.A.Read.remaining c.args.run.asks) (λ asked.
+    Leaves (HasRun g.I.Read.remaining g.G.Stopping.STOPS t.schema t.limit c.args.run.sources.items) asked fault (g.W.Write.contents c.args.writer.now) (g.W.Write.contents c.run_ends-ran.new.writer))))
+    c.requires.about c.run_ends-ran.ensures.part

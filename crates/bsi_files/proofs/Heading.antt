@@ -1,0 +1,85 @@
+-- Headers that were read, and the first file that has none.
+use Rattle.std.proofs.Common.{◌≡◌, ◌≢◌, ◌<◌, ◌≤◌, ◌+◌, arith, length-append, ℕ, suc, true, List, [], ◌∷◌, ◌++◌, length, map, All, Option, Some, None, IfSome, MatchOption, refl, ap, sym, ◌∙◌, subst}
+use Rattle.std.proofs.lemmas.List.Elements.{All-cons, All-nil}
+use Rattle.csv.specs.Machine.{Read, next_record}
+use Rattle.csv.specs.Reading.{default_config, reader_state, source_of, strip_bom}
+use Rattle.csv.specs.declared.parser.State.TheVariants as st
+use Rattle.bsi_records.specs.Numbers.{Field}
+use Rattle.bsi_table.specs.Columns.{Declared}
+use Rattle.bsi_text.specs.RowFiles.{is_header}
+use Rattle.bsi_text.specs.Sources.{Source, StandsAfter}
+use Rattle.bsi_text.specs.declared.rows.SourceFault.{SourceFault}
+use Rattle.bsi_text.specs.declared.rows.SourceFault.TheVariants as source
+use Rattle.bsi_files.specs.Begun.{Begins}
+use Rattle.bsi_files.specs.Headers.{HasHeader, IsFirstWithout, IsHeaderFault, IsHeadersFault, LacksHeader}
+use Rattle.bsi_files.specs.Matching.{AreMatched}
+use Rattle.bsi_files.specs.declared.faults.FilesFault.{FilesFault}
+use Rattle.bsi_files.specs.declared.faults.FilesFault.TheVariants as files
+use Rattle.bsi_files.proofs.Files.{matched_long}
+use Rattle.bsi_files.proofs.Joining.{HasMatched}
+
+-- what the header of one file was refused for
+pub header_fault : (schema : Declared) (file : Option (List ℕ)) (number : ℕ) (fault : SourceFault)
+    → (fault ≡ source.BadHeader → IfSome file (LacksHeader schema)) → fault ≢ source.TooLong → IsHeaderFault schema file number (files.Source number fault)
+header_fault schema file number source.BadHeader bad short = (refl, bad refl)
+header_fault schema file number source.Read bad short = refl
+header_fault schema file number source.NoMemory bad short = refl
+header_fault schema file number source.TooLong bad short = absurd (short refl)
+
+map_append : {X Y : Type 0} (f : X → Y) (xs ys : List X) → map f (xs ++ ys) ≡ map f xs ++ map f ys
+map_append f [] ys = refl
+map_append f (x ∷ xs) ys = ap (λ zs. f x ∷ zs) (map_append f xs ys)
+
+map_long : {X Y : Type 0} (f : X → Y) (xs : List X) → length (map f xs) ≡ length xs
+map_long f [] = refl
+map_long f (x ∷ xs) = ap (λ n. suc n) (map_long f xs)
+
+module _ {R : Type 0} (rem : R → Option (List ℕ)) (schema : Declared) where
+  -- a source that stands after a header
+  header_of : (reader : R) (source : Source R) → Begins rem schema reader source → IfSome (rem reader) (HasHeader schema)
+  header_of reader source begins = by (rem reader) begins.behind
+    where
+      at : (o : Option Read) → MatchOption o ⊥ (λ read. (source.layout.header ≡ read.0) × (reader_state source.input ≡ read.1) × (source_of rem source.input ≡ Some read.2))
+          → MatchOption o ⊥ (λ read. is_header schema read.0 ≡ true)
+      at None stands = stands
+      at (Some read) stands = subst (λ (h : List Field). is_header schema h ≡ true) stands.0 begins.header_is
+
+      by : (o : Option (List ℕ)) → IfSome o (λ bytes. StandsAfter rem source.layout source.input (strip_bom bytes)) → IfSome o (HasHeader schema)
+      by None behind = tt
+      by (Some bytes) behind = at (next_record default_config st.StartRecord [] [] (strip_bom bytes)) behind
+
+  headers_of : (readers : List R) (sources : List (Source R)) → AreMatched (Begins rem schema) readers sources
+      → All (λ other. IfSome other (HasHeader schema)) (map rem readers)
+  headers_of [] sources begun = All-nil (λ other. IfSome other (HasHeader schema))
+  headers_of (reader ∷ readers) [] begun = absurd begun
+  headers_of (reader ∷ readers) (source ∷ sources) begun =
+      All-cons (λ other. IfSome other (HasHeader schema)) (rem reader) (map rem readers) (header_of reader source begun.0) (headers_of readers sources begun.1)
+
+  -- the file whose header is read next
+  first_without : (all left rest : List R) (reader : R) (sources : List (Source R)) (number : ℕ) → HasMatched (Begins rem schema) all left sources
+      → left ≡ reader ∷ rest → number ≡ length sources → IfSome (rem reader) (LacksHeader schema) → IsFirstWithout schema (map rem all) number
+  first_without all left rest reader sources number has is at lacks = record {
+    before = map rem has.done;
+    file = rem reader;
+    after = map rem rest;
+    files_are = ap (λ rs. map rem rs) (has.parts ∙ ap (λ rs. has.done ++ rs) is) ∙ map_append rem has.done (reader ∷ rest);
+    number_is = at ∙ sym (map_long rem has.done ∙ matched_long (Begins rem schema) has.done sources has.matched);
+    others = headers_of has.done sources has.matched;
+    none = lacks;
+  }
+
+  pub headers_fault : (all left rest : List R) (reader : R) (sources : List (Source R)) (place number : ℕ) (fault : FilesFault) → HasMatched (Begins rem schema) all left sources
+      → left ≡ reader ∷ rest → place ≡ length sources → (place < 64 → number ≡ place) → length all ≤ 64 → IsHeaderFault schema (rem reader) number fault
+      → IsHeadersFault schema (map rem all) fault
+  headers_fault all left rest reader sources place number (files.Source f source.BadHeader) has is at named few met =
+      let done : length has.done ≡ length sources = matched_long (Begins rem schema) has.done sources has.matched in
+      let parts : length all ≡ length has.done + length left = ap (λ (rs : List R). length rs) has.parts ∙ length-append has.done left in
+      let one : length left ≡ suc (length rest) = ap (λ (rs : List R). length rs) is in
+      first_without all left rest reader sources f has is (met.0 ∙ (named (omega arith) ∙ at)) met.1
+  headers_fault all left rest reader sources place number (files.Source f source.Read) has is at named few met = tt
+  headers_fault all left rest reader sources place number (files.Source f source.NoMemory) has is at named few met = tt
+  headers_fault all left rest reader sources place number fault has is at named few met = absurd met
+
+-- memory alone was refused
+pub no_memory : (schema : Declared) (all : List (Option (List ℕ))) (fault : FilesFault) → fault ≡ files.NoMemory → IsHeadersFault schema all fault
+no_memory schema all fault is = subst (λ f. IsHeadersFault schema all f) (sym is) tt

@@ -1,0 +1,76 @@
+-- What a fault of a run tells of the bytes of its files.
+use Rattle.std.specs.Prelude.{◌≡◌, ⊤, ℕ, List, ◌∷◌, Option, Some, MatchOption, map, slice_get}
+use Rattle.csv.specs.declared.parser.State.{State}
+use Rattle.bsi_records.specs.Numbers.{Field}
+use Rattle.bsi_table.specs.Columns.{Declared}
+use Rattle.bsi_text.specs.Sources.{Source}
+use Rattle.bsi_text.specs.Texts.{AreFirstRecords}
+use Rattle.bsi_text.specs.declared.rows.SourceFault.{SourceFault}
+use Rattle.bsi_text.specs.declared.rows.SourceFault.TheVariants as source
+use Rattle.bsi_files.specs.Feeding.{HasFailed}
+use Rattle.bsi_files.specs.Headers.{IsFirstWithout}
+use Rattle.bsi_files.specs.SchemaFiles.{none_declared, DeclaresNoColumn, DeclaresTooLong, IsBadRecord, IsSchemaFile}
+use Rattle.bsi_files.specs.Writing.{AreTooMany}
+use Rattle.bsi_files.specs.declared.faults.FilesFault.{FilesFault}
+use Rattle.bsi_files.specs.declared.faults.FilesFault.TheVariants as run
+use Rattle.bsi_files.specs.declared.faults.Which.TheVariants as which
+use Rattle.bsi_files.specs.declared.loading.Fed.{Fed}
+
+-- ---- by the bytes
+
+-- a schema is declared for which the first file that has no header has this number
+pub record HasBadHeader (declared : List ℕ) (texts : List (List ℕ)) (number : ℕ) : Type 0 where
+  pub schema : Declared
+  pub limit : ℕ
+  pub schema_is : IsSchemaFile declared schema limit
+  pub first : IsFirstWithout schema (map (λ text. Some text) texts) number
+
+-- these bytes are a first record, 1,000,000 records after it, and one more
+pub record IsTooLong (bytes : List ℕ) : Type 0 where
+  pub header : List Field
+  pub records : List (List Field)
+  pub state : State
+  pub rest : List ℕ
+  pub first : AreFirstRecords bytes (header ∷ records) state rest
+  pub too_long : AreTooMany records state rest
+
+-- what a fault tells of the bytes of the schema file and of the row files; of the others they tell nothing
+abbrev pub IsFaultOf : List ℕ → List (List ℕ) → FilesFault → Type 0
+IsFaultOf declared texts (run.BadSchema number) = IsBadRecord declared none_declared number
+IsFaultOf declared texts (run.TooLong which.SchemaFile) = DeclaresTooLong declared none_declared
+IsFaultOf declared texts run.NoColumns = DeclaresNoColumn declared none_declared
+IsFaultOf declared texts (run.Source number source.BadHeader) = HasBadHeader declared texts number
+IsFaultOf declared texts (run.Source number source.TooLong) = MatchOption (slice_get texts number) ⊥ IsTooLong
+IsFaultOf declared texts fault = ⊤
+
+-- ---- by the sources
+
+-- the source of this number had failed by the fault, or stopped at it after so many rows
+pub record FailsAt {R : Type 0} (rem : R → Option (List ℕ)) (sources : List (Source R)) (number : ℕ) (fault : SourceFault)
+    : Type 0 where
+  pub source : Source R
+  pub many : ℕ
+  pub at : slice_get sources number ≡ Some source
+  pub failed : HasFailed rem source many fault
+
+-- the fault is that of a source, or that a feeder was not closed
+abbrev pub IsKeptFault : List Fed → FilesFault → Type 0
+IsKeptFault feds (run.Source number fault) = MatchOption (slice_get feds number) ⊥ (λ fed. fed.fault ≡ Some fault)
+IsKeptFault feds (run.NotClosed number) = ⊤
+IsKeptFault feds fault = ⊥
+
+-- a fault that is met while rows are loaded
+abbrev pub IsLoadFault : {R : Type 0} → (R → Option (List ℕ)) → List (Source R) → FilesFault → Type 0
+IsLoadFault rem sources (run.Source number fault) = FailsAt rem sources number fault
+IsLoadFault rem sources (run.NotClosed number) = ⊤
+IsLoadFault rem sources run.IndexFull = ⊤
+IsLoadFault rem sources run.Readers = ⊤
+IsLoadFault rem sources run.NoMemory = ⊤
+IsLoadFault rem sources fault = ⊥
+
+-- or from then on
+abbrev pub IsRunFault : {R : Type 0} → (R → Option (List ℕ)) → List (Source R) → FilesFault → Type 0
+IsRunFault rem sources (run.Read which.AsksFile) = ⊤
+IsRunFault rem sources (run.TooLong which.AsksFile) = ⊤
+IsRunFault rem sources run.Write = ⊤
+IsRunFault rem sources fault = IsLoadFault rem sources fault
