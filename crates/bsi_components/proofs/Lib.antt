@@ -1,15 +1,8 @@
 pub mod BitmapDigits
-pub mod BitmapGrowth
 pub mod BlockBits
 pub mod BlockRows
-pub mod DigitBlocks
 pub mod DigitCounts
-pub mod DigitMaps
 pub mod EqualityDigits
 pub mod EqualityReads
-pub mod MarkBits
-pub mod MarkPlaces
-pub mod PlaceSums
-pub mod PlaceBitmaps
 pub mod RangeDigits
 pub mod RangeReads

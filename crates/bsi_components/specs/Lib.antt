@@ -2,5 +2,4 @@ pub mod Bitmaps
 pub mod Component
 pub mod EndDigits
 pub mod Equality
-pub mod Marks
 pub mod Range

@@ -10,10 +10,6 @@ ghost use Rattle.bsi_bits.specs.Marked.{HasMarked};
 
 use bsi_bits::{Bits, know_fits, lanes};
 
-/// The number of words of a found set in a block of rows whose digits are summed at a time. These words stay in the
-/// first cache while they are counted with one bitmap after the other.
-pub(crate) const SUM_BLOCK_WORDS: usize = 1024;
-
 /// Keeps in the block the rows that the bitmap has.
 pub fn keep_in(bitmap: &Bits, at: usize, block: &mut [u64])
     requires { at + length block.old ≤ word_count (length bitmap.now.bits) }

@@ -6,7 +6,6 @@ mod answers;
 pub mod blocks;
 mod encoding;
 mod equality;
-mod marks;
 mod places;
 mod range;
 

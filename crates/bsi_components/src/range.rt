@@ -5,16 +5,15 @@
 
 ghost use Rattle.std.specs.Prelude.{◌≡◌, ℕ, ◌+◌, ◌-◌, ◌*◌, ◌^◌, ◌<◌, ◌≤◌, ◌&&◌, ◌++◌, length, map, nat_le, nat_lt, true, slice_index, sum, IsTrue, IsFalse};
 ghost use Rattle.std.specs.List.{items_where_true};
-ghost use Rattle.bsi_bits.specs.BitList.{in_words, word_count};
+ghost use Rattle.bsi_bits.specs.BitList.{word_count};
 ghost use Rattle.bsi_bits.specs.BitLists.{bits_at};
 ghost use Rattle.bsi_bits.specs.Packed.{bit_of};
 ghost use Rattle.bsi_bits.specs.Marked.{HasMarked};
-ghost use Rattle.bsi_components.specs.Bitmaps.{has_place, then_places, IsCount, IsEncoded};
+ghost use Rattle.bsi_places.specs.Places.{has_place, then_places, IsCount, IsEncoded};
 
 use crate::blocks::{exceeds, meets};
-use crate::marks::{MAX_SMALL_WORDS, MAX_WORDS, join, mark_digits};
-use crate::places::sum_by_places;
 use bsi_bits::{Bitmaps, Bits};
+use bsi_places::marks::{MAX_SMALL_WORDS, MAX_WORDS, join, mark_digits};
 use std::marker::Model;
 
 mod encoding;
@@ -143,36 +142,14 @@ impl RangeComponent {
         &self.bitmaps.as_slice()[self.base as usize - 1..]
     }
 
-    /// Returns the sum of the digits of the found rows in the words from `start` on and before `end`.
-    fn digit_sum_in(&self, found: &Bits, start: usize, end: usize) -> u128
-        requires same { length self.now.digits ≡ length found.now.bits }
-        requires forward { start ≤ end }
-        requires within { end ≤ word_count (length found.now.bits) }
-        ensures sum { result ≡ sum (items_where_true
-            (in_words start end found.now.bits) (in_words start end self.now.digits)) }
-        ensures few { result ≤ 2 ^ 84 }
-    {
-        let places = self.places();
-        if places.is_empty() {
-            self.sum_by_bitmaps(found, start, end)
-        } else {
-            sum_by_places(places, found, start, end)
-        }
-    }
-
-    /// Returns the sum of the digits of the found rows in the words from `start` on and before `end`: for each bitmap,
-    /// the number of these rows that it does not have.
-    fn sum_by_bitmaps(&self, found: &Bits, start: usize, end: usize) -> u128
-        requires same { length self.now.digits ≡ length found.now.bits }
-        requires forward { start ≤ end }
-        requires within { end ≤ word_count (length found.now.bits) }
-        ensures sum { result ≡ sum (items_where_true
-            (in_words start end found.now.bits) (in_words start end self.now.digits)) }
-        ensures few { result ≤ 2 ^ 84 }
+    /// Returns the sum of the digits of the found rows: for each bitmap, the number of these rows that it does not have.
+    fn sum_by_bitmaps(&self, found: &Bits) -> u128
+        requires { length self.now.digits ≡ length found.now.bits }
+        ensures { result ≡ sum (items_where_true found.now.bits self.now.digits) }
     {
         let mut sum = 0u128;
         'bitmaps: for j in 0..self.top() {
-            sum += found.count_and_not_in(self.bitmap(j), start, end) as u128;
+            sum += found.count_and_not(self.bitmap(j)) as u128;
         }
         sum
     }

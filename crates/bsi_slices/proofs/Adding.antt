@@ -1,15 +1,16 @@
--- The sum of the numbers of a found set, by the sums of their digits.
-use Rattle.std.proofs.Common.{◌≡◌, ℕ, ◌+◌, ◌-◌, ◌*◌, ◌%◌, ◌^◌, ◌<◌, ◌≤◌, suc, Bool, true, false, cond, List, [], ◌∷◌, Option, Some, None, All, length, map, ap, ap₂, sym, ◌∙◌, refl, arith, mod-eq_of_lt}
-use Rattle.std.specs.Prelude.{count_by, sum, sum_by, ◌&&◌, ◌==◌}
-use Rattle.std.specs.Int.{bit_at}
+-- The sum of the numbers of a found set, by their binary places.
+use Rattle.std.proofs.Common.{◌≡◌, ℕ, ◌+◌, ◌-◌, ◌*◌, ◌%◌, ◌^◌, ◌<◌, ◌≤◌, zero, suc, Bool, true, false, List, [], ◌∷◌, Option, Some, None, All, length, map, get_or, ap, ap₂, sym, ◌∙◌, refl, arith, mod-eq_of_lt}
+use Rattle.std.specs.Prelude.{sum, sum_by}
 use Rattle.std.specs.List.{items_where_true}
-use Rattle.std.specs.Simd.Lanes.{zip2}
-use Rattle.std.proofs.lemmas.Nat.{mod_below, mul-le}
-use Rattle.std.proofs.lemmas.Nat.Bits.{bit_at-zero}
+use Rattle.std.proofs.Math.Nat.{pow-le-pow_right}
+use Rattle.std.proofs.lemmas.Nat.{mod_below, mul-le, pow_pos}
 use Rattle.std.proofs.lemmas.List.Sums.{sum_by-cons}
+use Rattle.bsi_bits.specs.BitList.{BitList}
+use Rattle.bsi_places.specs.Places.{has_place, IsEncoded}
 use Rattle.bsi_slices.specs.Rows.{number_or_zero}
+use Rattle.bsi_slices.specs.Slices.{entries_in, IsSliced}
 use Rattle.bsi_slices.specs.Totals.{numbers_at}
-use Rattle.bsi_slices.proofs.SliceNumbers.{places_more}
+use Rattle.bsi_slices.proofs.SliceEntries.{slice_of}
 
 -- the digits at the found rows, those of nulls being 0, add up as the digits of the numbers do
 pub sum_found : (g : ℕ → ℕ) → g 0 ≡ 0 → (found : List Bool) (entries : List (Option ℕ))
@@ -23,21 +24,6 @@ sum_found g zero_is (true ∷ found) (Some n ∷ entries) =
     sum_by-cons (λ x. x) (g n) (items_where_true found (map (λ e. g (number_or_zero e)) entries))
     ∙ ap (λ t. g n + t) (sum_found g zero_is found entries) ∙ sym (sum_by-cons g n (numbers_at found entries))
 
--- the rows whose bit is set, of the found ones: the bits of nulls are off
-pub count_found : (p : ℕ → Bool) → p 0 ≡ false → (found : List Bool) (entries : List (Option ℕ))
-    → count_by (λ b. b) (zip2 ◌&&◌ found (map (λ e. p (number_or_zero e)) entries)) ≡ sum_by (λ n. cond (p n) 1 0) (numbers_at found entries)
-count_found p off [] entries = refl
-count_found p off (f ∷ found) [] = refl
-count_found p off (false ∷ found) (e ∷ entries) =
-    sum_by-cons (λ b. cond b 1 0) false (zip2 ◌&&◌ found (map (λ e. p (number_or_zero e)) entries)) ∙ omega (arith, count_found p off found entries)
-count_found p off (true ∷ found) (None ∷ entries) =
-    sum_by-cons (λ b. cond b 1 0) (p 0) (zip2 ◌&&◌ found (map (λ e. p (number_or_zero e)) entries))
-    ∙ ap {B = ℕ} (λ b. cond b 1 0 + count_by (λ b. b) (zip2 ◌&&◌ found (map (λ e. p (number_or_zero e)) entries))) off
-    ∙ omega (arith, count_found p off found entries)
-count_found p off (true ∷ found) (Some n ∷ entries) =
-    sum_by-cons (λ b. cond b 1 0) (p n) (zip2 ◌&&◌ found (map (λ e. p (number_or_zero e)) entries))
-    ∙ omega (arith, count_found p off found entries, sum_by-cons (λ n. cond (p n) 1 0) n (numbers_at found entries))
-
 -- a sum of two-part numbers
 pub sum_parts : (f g h : ℕ → ℕ) (w : ℕ) → ((n : ℕ) → f n ≡ g n * w + h n) → (xs : List ℕ) → sum_by f xs ≡ sum_by g xs * w + sum_by h xs
 sum_parts f g h w parts [] = sym (omega arith)
@@ -46,9 +32,18 @@ sum_parts f g h w parts (x ∷ xs) =
     let heads = ap (λ t. t * w) (sum_by-cons g x xs) in
     omega (arith, rest, parts x, heads, sum_by-cons f x xs, sum_by-cons h x xs)
 
-pub sum_same : (f g : ℕ → ℕ) → ((n : ℕ) → f n ≡ g n) → (xs : List ℕ) → sum_by f xs ≡ sum_by g xs
-sum_same f g same [] = refl
-sum_same f g same (x ∷ xs) = sum_by-cons f x xs ∙ ap₂ ◌+◌ (same x) (sum_same f g same xs) ∙ sym (sum_by-cons g x xs)
+-- nothing is left of a number under 1
+pub none_below_one : (numbers : List ℕ) → 0 ≡ sum_by (λ n. n % 1) numbers
+none_below_one [] = refl
+none_below_one (x ∷ xs) =
+    let none : x % 1 ≡ 0 = omega arith in
+    omega (arith, none_below_one xs, sum_by-cons (λ n. n % 1) x xs, none)
+
+-- a bound of the entries is one of the numbers
+pub number_below : (size : ℕ) (entries : List (Option ℕ)) → 0 < size → All (λ e. number_or_zero e < size) entries → (k : ℕ) → get_or (map number_or_zero entries) k 0 < size
+number_below size [] some below k = some
+number_below size (e ∷ entries) some below zero = below 0 e (omega arith)
+number_below size (e ∷ entries) some below (suc k) = number_below size entries some (λ i d within. below (suc i) d (omega arith)) k
 
 -- no more numbers than rows are found
 pub length-numbers_at : (found : List Bool) (entries : List (Option ℕ)) → length (numbers_at found entries) ≤ length entries
@@ -86,22 +81,19 @@ sum_small w found entries some small few =
     let product = mul-le (length numbers) (2 ^ 63 - 1) (2 ^ 32) (2 ^ 63 - 1) (omega arith) (omega arith) in
     omega (arith, sum_bound (λ n. n % w) (2 ^ 63 - 1) each numbers, product)
 
--- nothing is left of a number under 1
-pub none_below_one : (numbers : List ℕ) → 0 ≡ sum_by (λ n. n % 1) numbers
-none_below_one [] = refl
-none_below_one (x ∷ xs) =
-    let none : x % 1 ≡ 0 = omega arith in
-    omega (arith, none_below_one xs, sum_by-cons (λ n. n % 1) x xs, none)
+-- the numbers of at most 2^32 rows, each below two to the power of at most 63, add up to less than 2^95
+pub sum_below : (w : ℕ) (found : List Bool) (entries : List (Option ℕ)) → w ≤ 63 → length entries ≤ 2 ^ 32 → All (λ e. number_or_zero e < 2 ^ w) entries
+    → sum (numbers_at found entries) < 2 ^ 95
+sum_below w found entries narrow few below =
+    let small : 2 ^ w ≤ 2 ^ 63 = pow-le-pow_right (omega arith) narrow in
+    omega (arith, sum_whole (2 ^ w) found entries below, sum_small (2 ^ w) found entries (pow_pos w) small few)
 
--- one slice more
-pub sum_slice : (i : ℕ) (found : List Bool) (entries : List (Option ℕ)) (bits : List Bool) (total count w : ℕ)
-    → total ≡ sum_by (λ n. n % 2 ^ i) (numbers_at found entries)
-    → bits ≡ map (λ e. bit_at (number_or_zero e) i == 1) entries → count ≡ count_by (λ b. b) (zip2 ◌&&◌ found bits) → w ≡ 2 ^ i
-    → total + count * w ≡ sum_by (λ n. n % 2 ^ (i + 1)) (numbers_at found entries)
-sum_slice i found entries bits total count w total_is bits_is count_is w_is =
-    let numbers = numbers_at found entries in
-    let off : (bit_at 0 i == 1) ≡ false = ap (λ b. b == 1) (bit_at-zero i) in
-    let counted = count_is ∙ ap (λ bs. count_by (λ b. b) (zip2 ◌&&◌ found bs)) bits_is ∙ count_found (λ n. bit_at n i == 1) off found entries in
-    let parts = sum_parts (λ n. n % 2 ^ (i + 1)) (λ n. cond (bit_at n i == 1) 1 0) (λ n. n % 2 ^ i) (2 ^ i) (λ n. places_more n i ∙ omega arith) numbers in
-    let product = ap₂ ◌*◌ counted w_is in
-    omega (arith, total_is, product, parts)
+-- slices hold the binary places of the numbers, where a null counts as 0
+pub places_of : (present : List Bool) (slices : List BitList) → IsSliced present slices → IsEncoded has_place slices (map number_or_zero (entries_in present slices))
+places_of present slices sliced = record {
+  each = λ k within. slice_of present slices sliced k within ∙ mapped (has_place k) (entries_in present slices);
+}
+  where
+    mapped : (f : ℕ → Bool) (entries : List (Option ℕ)) → map (λ e. f (number_or_zero e)) entries ≡ map f (map number_or_zero entries)
+    mapped f [] = refl
+    mapped f (e ∷ entries) = ap (λ bits. f (number_or_zero e) ∷ bits) (mapped f entries)

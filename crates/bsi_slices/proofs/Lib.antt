@@ -1,5 +1,4 @@
 pub mod Adding
-pub mod BlockSums
 pub mod CallerLemmas
 pub mod EndBlocks
 pub mod EndRows

@@ -1,16 +1,16 @@
-//! Counts of found rows by digit in an equality encoded component, and the digit of a rank and the sum by them.
+//! Counts of found rows by digit in an equality encoded component, and what follows from them: the digit of a rank, and
+//! the sum where no binary places are kept.
 
-ghost use Rattle.std.specs.Prelude.{◌≡◌, ◌^◌, ◌<◌, ◌≤◌, ◌==◌, length, count_by, sum};
+ghost use Rattle.std.specs.Prelude.{◌≡◌, ◌<◌, ◌≤◌, ◌==◌, length, count_by, sum};
 ghost use Rattle.std.specs.List.{items_where_true};
-ghost use Rattle.bsi_bits.specs.BitList.{in_words, word_count};
 ghost use Rattle.bsi_components.specs.Component.{count_where, IsRankedDigit};
 ghost use Rattle.bsi_components.specs.Equality.{is_among};
 
 use crate::answers::RankedDigit;
 use crate::encoding::Encoding;
 use crate::equality::EqualityComponent;
-use crate::places::sum_by_places;
 use bsi_bits::Bits;
+use bsi_places::count_in_both;
 
 impl EqualityComponent {
     /// Returns how many rows of a found set have a digit of `d`.
@@ -22,7 +22,7 @@ impl EqualityComponent {
         if d == 0 && self.base() == 2 {
             found.count_and_not(self.bitmap(1))
         } else {
-            found.count_and(self.bitmap(d))
+            count_in_both(found, self.bitmap(d))
         }
     }
 
@@ -89,36 +89,15 @@ impl EqualityComponent {
         RankedDigit { digit: 0, rank }
     }
 
-    /// Returns the sum of the digits of the found rows in the words from `start` on and before `end`.
-    pub(crate) fn digit_sum_in(&self, found: &Bits, start: usize, end: usize) -> u128
-        requires same { length self.now.digits ≡ length found.now.bits }
-        requires forward { start ≤ end }
-        requires within { end ≤ word_count (length found.now.bits) }
-        ensures sum { result ≡ sum (items_where_true
-            (in_words start end found.now.bits) (in_words start end self.now.digits)) }
-        ensures few { result ≤ 2 ^ 84 }
-    {
-        let places = self.places();
-        if places.is_empty() {
-            self.sum_by_bitmaps(found, start, end)
-        } else {
-            sum_by_places(places, found, start, end)
-        }
-    }
-
-    /// Returns the sum of the digits of the found rows in the words from `start` on and before `end`: for each digit
-    /// but 0, the digit times the number of these rows that have it.
-    fn sum_by_bitmaps(&self, found: &Bits, start: usize, end: usize) -> u128
-        requires same { length self.now.digits ≡ length found.now.bits }
-        requires forward { start ≤ end }
-        requires within { end ≤ word_count (length found.now.bits) }
-        ensures sum { result ≡ sum (items_where_true
-            (in_words start end found.now.bits) (in_words start end self.now.digits)) }
-        ensures few { result ≤ 2 ^ 84 }
+    /// Returns the sum of the digits of the found rows: for each digit but 0, the digit times the number of these rows
+    /// that have it.
+    pub(crate) fn sum_by_bitmaps(&self, found: &Bits) -> u128
+        requires { length self.now.digits ≡ length found.now.bits }
+        ensures { result ≡ sum (items_where_true found.now.bits self.now.digits) }
     {
         let mut sum = 0u128;
         'digits: for j in 1..self.base() {
-            sum += j as u128 * found.count_and_in(self.bitmap(j), start, end) as u128;
+            sum += j as u128 * found.count_and(self.bitmap(j)) as u128;
         }
         sum
     }

@@ -4,18 +4,19 @@ ghost use Rattle.std.specs.Prelude.{◌≡◌, ◌≢◌, ℕ, ◌+◌, ◌*◌,
 ghost use Rattle.std.specs.Bool.{OnTrue, OnFalse};
 ghost use Rattle.bsi_bits.specs.BitList.{word_count};
 ghost use Rattle.bsi_bits.specs.Packed.{bit_of};
-ghost use Rattle.bsi_components.specs.Bitmaps.{then_places};
+ghost use Rattle.bsi_places.specs.Places.{then_places};
 ghost use Rattle.bsi_components.specs.Component.{at_most_from};
 ghost use Rattle.bsi_bits.specs.Marked.{HasMarked};
 ghost use Rattle.bsi_components.specs.EndDigits.{AnswersGreatest, AnswersLeast};
 
 use crate::NoMemory;
 use crate::answers::{EndDigit, RankedDigit};
-use crate::blocks::{SUM_BLOCK_WORDS, add_missing, copy_in, drop_in, keep_in};
+use crate::blocks::{add_missing, copy_in, drop_in, keep_in};
 use crate::encoding::Encoding;
 use crate::equality::{EqualityComponent, first_stored, push_block};
 use crate::places::{is_place_set, place_count};
 use bsi_bits::{Bitmaps, Bits};
+use bsi_places::sum_by_places;
 use std::alloc::Global;
 
 impl Encoding for EqualityComponent {
@@ -98,17 +99,13 @@ impl Encoding for EqualityComponent {
         }
     }
 
-    // It goes over the rows block by block. So the found rows of a block are read from memory once for all bitmaps.
     fn digit_sum(&self, found: &Bits) -> u128 {
-        // The proof takes from this that there are at most 2^32 rows.
-        prove!(found.len() <= 1 << 32);
-        let words = found.words().len();
-        let mut sum = 0u128;
-        'blocks: for k in 0..words.div_ceil(SUM_BLOCK_WORDS) {
-            let start = SUM_BLOCK_WORDS * k;
-            sum += self.digit_sum_in(found, start, words.min(start + SUM_BLOCK_WORDS));
+        let places = self.places();
+        if places.is_empty() {
+            self.sum_by_bitmaps(found)
+        } else {
+            sum_by_places(places, found)
         }
-        sum
     }
 
     // It counts by the bitmaps up to the digit, or by those past it, whichever are fewer, and writes no vector.

@@ -1,14 +1,12 @@
-//! The totals of a found set: the sum, with one count per slice and block, and the number of a rank, by narrowing the
-//! found set from the most significant slice down.
+//! The totals of a found set: the sum, by its counts in the slices, and the number of a rank, by narrowing the found set
+//! from the most significant slice down.
 //!
-//! A sum goes by blocks of 1,024 words: every slice is counted within one, so the block's found rows come from memory
-//! once. A null's slices are 0, so no pass cuts the found set with the not-null bitmap. A rank narrows and counts in
-//! one pass a slice: the step of a slice first cuts the chosen rows by the slice before, and at once counts those that
-//! are clear in its own. It skips blocks of 32 words that have no chosen row any more.
+//! A rank narrows and counts in one pass a slice: the step of a slice first cuts the chosen rows by the slice before, and
+//! at once counts those that are clear in its own. It skips blocks of 32 words that have no chosen row any more.
 
-ghost use Rattle.std.specs.Prelude.{◌≡◌, ℕ, ◌+◌, ◌*◌, ◌^◌, ◌≤◌, ◌<◌, ◌&&◌, false, if◌then◌else◌, length, not, slice_index, sum, sum_by, count_by, count_ones, IfOk, IsTrue, ◌↔◌};
+ghost use Rattle.std.specs.Prelude.{◌≡◌, ◌+◌, ◌*◌, ◌^◌, ◌≤◌, ◌<◌, ◌&&◌, false, if◌then◌else◌, length, not, sum, sum_by, count_by, count_ones, IfOk};
 ghost use Rattle.std.specs.Simd.Lanes.{zip2};
-ghost use Rattle.bsi_bits.specs.BitList.{in_words, without, word_count};
+ghost use Rattle.bsi_bits.specs.BitList.{without};
 ghost use Rattle.bsi_bits.specs.Packed.{bits_of, IsPacked};
 ghost use Rattle.bsi_slices.specs.Blocks.{word_kept};
 ghost use Rattle.bsi_slices.specs.Totals.{numbers_at, IsRanked};
@@ -16,18 +14,14 @@ ghost use Rattle.bsi_slices.specs.Totals.{numbers_at, IsRanked};
 use crate::slices::Slices;
 use crate::{Column, NoMemory};
 use bsi_bits::{Bits, know_fits, lanes};
+use bsi_places::{is_empty, sum_by_places};
 
 /// The number of words in a block that is narrowed. It is small, since narrowing leaves more and more blocks with no
 /// row.
 const BLOCK_WORDS: usize = 32;
 
-/// The number of words of a found set in which all slices are counted before the next words are read. They take 8 KiB,
-/// so they stay in the first cache meanwhile.
-const SUM_BLOCK_WORDS: usize = 1024;
-
 impl Slices {
-    /// Returns the sum of the numbers at the rows of a found set. It reads the rows block by block, so that the
-    /// found rows of a block are read from memory once for all slices.
+    /// Returns the sum of the numbers at the rows of a found set. A null's slices are clear, so it adds nothing.
     pub(crate) fn sum_found(&self, found: &Bits) -> u128
         requires { length self.now.entries ≡ length found.now.bits }
         ensures sum { result ≡ sum (numbers_at found.now.bits self.now.entries) }
@@ -36,30 +30,7 @@ impl Slices {
         // The proof takes from these that at most 2^32 numbers, each below 2^63, add up to less than 2^95.
         prove!(found.len() <= 1 << 32);
         prove!(self.width() <= 63);
-        let words = found.words().len();
-        let mut total = 0;
-        'blocks: for k in 0..words.div_ceil(SUM_BLOCK_WORDS) {
-            let start = SUM_BLOCK_WORDS * k;
-            total += self.sum_in(found, start, words.min(start + SUM_BLOCK_WORDS));
-        }
-        total
-    }
-
-    /// Returns the sum of the numbers at the found rows in the words from `start` on and before `end`: for each binary
-    /// place, the number of these rows that have it set, times two to the power of the place (O'Neil and Quass, 1997).
-    fn sum_in(&self, found: &Bits, start: usize, end: usize) -> u128
-        requires same { length self.now.entries ≡ length found.now.bits }
-        requires forward { start ≤ end }
-        requires within { end ≤ word_count (length found.now.bits) }
-        requires few { length found.now.bits ≤ 2 ^ 32 }
-        ensures { result ≡ sum (numbers_at
-            (in_words start end found.now.bits) (in_words start end self.now.entries)) }
-    {
-        let mut total = 0;
-        'slices: for i in 0..self.width() {
-            total += u128::from(found.count_and_in(self.slice(i), start, end)) << i;
-        }
-        total
+        sum_by_places(self.slices.as_slice(), found)
     }
 
     /// Returns the number of rank `k` at the rows of a found set. Each step narrows the rows that are left by the slice
@@ -175,15 +146,4 @@ fn narrow_block(chosen: &mut [u64], words: &[u64], is_set: bool, next: &[u64]) -
         lanes::and_not(chosen, words);
     }
     lanes::count_and_not(chosen, next) as u64
-}
-
-/// Returns whether no bit of the words is set.
-pub(super) fn is_empty(words: &[u64]) -> bool
-    ensures { IsTrue result ↔ ((k : ℕ) → slice_index words.now k ≡ 0) }
-{
-    let mut seen = 0;
-    'words: for i in 0..words.len() {
-        seen |= words[i];
-    }
-    seen == 0
 }

@@ -12,15 +12,15 @@ few_places a m small long = elim (cases_lt m 11) [
   | inr past ↦ let more : 2 ^ 11 ≤ 2 ^ m = pow-le-pow_right (omega arith) past in absurd (omega (arith, more, small, long))
 ]
 
-pub returns-else-base-lt-LEAST_BASE_WITH_PLACES-clause-few : goal.returns-else-base-lt-LEAST_BASE_WITH_PLACES-clause-few
-returns-else-base-lt-LEAST_BASE_WITH_PLACES-clause-few c =
+pub returns-else-base-lt-MIN_BASE_WITH_PLACES-clause-few : goal.returns-else-base-lt-MIN_BASE_WITH_PLACES-clause-few
+returns-else-base-lt-MIN_BASE_WITH_PLACES-clause-few c =
     let top = c.args.base - 1 in
     let length_is = leading_length 32 top (omega (arith, c.requires.1)) in
     let few = few_places top length_is.0 (omega (arith, c.requires.1)) length_is.3 in
     omega (arith, length_is.1, few)
 
-pub returns-else-base-lt-LEAST_BASE_WITH_PLACES-clause-enough : goal.returns-else-base-lt-LEAST_BASE_WITH_PLACES-clause-enough
-returns-else-base-lt-LEAST_BASE_WITH_PLACES-clause-enough c = λ some.
+pub returns-else-base-lt-MIN_BASE_WITH_PLACES-clause-enough : goal.returns-else-base-lt-MIN_BASE_WITH_PLACES-clause-enough
+returns-else-base-lt-MIN_BASE_WITH_PLACES-clause-enough c = λ some.
     let top = c.args.base - 1 in
     let length_is = leading_length 32 top (omega (arith, c.requires.1)) in
     let same : length_is.0 ≡ 32 - count_leading_zeros 32 top = omega (arith, length_is.1) in

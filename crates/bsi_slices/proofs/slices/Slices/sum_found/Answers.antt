@@ -1,50 +1,51 @@
-use Rattle.std.proofs.Common.{◌≡◌, ◌+◌, ◌*◌, ◌<◌, length, ap, ◌∙◌, arith}
-use Rattle.std.specs.Prelude.{min}
-use Rattle.bsi_slices.proofs.BlockSums.{sum_all, sum_before, sum_below, sum_more, sum_none, sum_part}
+use Rattle.std.proofs.Common.{◌≡◌, ◌<◌, ◌^◌, ℕ, List, Option, length, map, get_or, ap, sym, ◌∙◌, refl, arith, subst}
+use Rattle.std.specs.Prelude.{sum}
+use Rattle.std.proofs.lemmas.List.{length-map}
+use Rattle.std.proofs.lemmas.Nat.{pow_pos}
+use Rattle.bsi_bits.specs.BitList.{BitList}
+use Rattle.bsi_bits.specs.BitLists.{bits_at}
+use Rattle.bsi_places.specs.Places.{has_place, IsEncoded}
+use Rattle.bsi_slices.specs.Rows.{number_or_zero}
+use Rattle.bsi_slices.specs.Slices.{entries_in}
+use Rattle.bsi_slices.specs.Totals.{numbers_at}
+use Rattle.bsi_slices.proofs.Adding.{number_below, places_of, sum_below, sum_found}
+use Rattle.bsi_slices.proofs.SliceEntries.{length-entries_in}
 use Rattle.bsi_slices.proofs.slices.Slices.sum_found.Goals as goal
 
-pub blocks-2-init : goal.blocks-2-init
-blocks-2-init c = sum_none c.args.found.now.bits c.args.self.now.entries c.requires ∙ ap (sum_before c.args.found.now.bits c.args.self.now.entries) (omega arith)
+-- a slice has a bit for each row
+pub sum_by_places-requires-clause-same : goal.sum_by_places-requires-clause-same
+sum_by_places-requires-clause-same c = λ k within.
+    let rows = c.self.inside.present.bits in
+    let slices = c.self.inside.slices.vectors in
+    let same = ap (λ e. length e.entries) c.self.view_is in
+    ap (λ vs. length (bits_at vs k)) c.as_slice.ensures.vectors
+    ∙ c.self.invariant.even k (omega (arith, within, ap length c.as_slice.ensures.vectors))
+    ∙ sym (length-entries_in rows slices) ∙ same ∙ c.requires
 
--- the total with one block more
-more : (c : goal.After-sum_in-total) → c.blocks-2.total + c.sum_in-total.result
-    ≡ sum_before c.args.found.now.bits c.args.self.now.entries (min (1024 * (c.blocks-2.k + 1)) (length c.words-words.result.now))
-more c =
-    let found = c.args.found.now.bits in
+-- the sum of the numbers, where a null counts as 0
+summed : (c : goal.After-sum_by_places) → c.sum_by_places.result ≡ sum (numbers_at c.args.found.now.bits c.args.self.now.entries)
+summed c =
+    let rows = c.self.inside.present.bits in
+    let slices = c.self.inside.slices.vectors in
     let entries = c.args.self.now.entries in
-    let words = length c.words-words.result.now in
-    let start = 1024 * c.blocks-2.k in
-    let inside : c.blocks-2.k < c.div_ceil-k-end.result = omega (arith, c.blocks-2-test.true, c.blocks-2.auto.k-end) in
-    let from : min start words ≡ start = omega (arith, inside, c.div_ceil-k-end.ensures) in
-    let to : c.min.result ≡ min (1024 * (c.blocks-2.k + 1)) words = omega (arith, c.min.ensures) in
-    sum_more found entries c.requires start c.min.result c.blocks-2.total c.sum_in-total.result (omega (arith, c.min.ensures, from))
-    (c.blocks-2.invariant ∙ ap (sum_before found entries) from) c.sum_in-total.ensures
-    ∙ ap (sum_before found entries) to
+    let numbers = map number_or_zero entries in
+    let entries_are : entries_in rows slices ≡ entries = ap (λ e. e.entries) c.self.view_is in
+    let width_is : c.args.self.now.width ≡ length c.as_slice.result.now = sym (ap (λ e. e.width) c.self.view_is) ∙ sym (ap length c.as_slice.ensures.vectors) in
+    let stored : IsEncoded has_place slices numbers =
+    subst (λ (es : List (Option ℕ)). IsEncoded has_place slices (map number_or_zero es)) entries_are (places_of rows slices c.self.invariant) in
+    let encoded : IsEncoded has_place c.as_slice.result.now numbers = subst (λ (vs : List BitList). IsEncoded has_place vs numbers) (sym c.as_slice.ensures.vectors) stored in
+    let small : (k : ℕ) → get_or numbers k 0 < 2 ^ length c.as_slice.result.now =
+    subst (λ (n : ℕ). (k : ℕ) → get_or numbers k 0 < 2 ^ n) width_is (number_below (2 ^ c.args.self.now.width) entries (pow_pos c.args.self.now.width) c.width.ensures.below) in
+    c.sum_by_places.ensures numbers encoded small (length-map entries number_or_zero ∙ c.requires)
+    ∙ sum_found (λ n. n) refl c.args.found.now.bits entries
 
-pub overflow_add-total : goal.overflow_add-total
-overflow_add-total c =
-    let found = c.args.found.now.bits in
-    let entries = c.args.self.now.entries in
-    let part = sum_part found entries c.requires (min (1024 * (c.blocks-2.k + 1)) (length c.words-words.result.now)) in
-    let whole = sum_below c.args.self.now.width found entries (omega (arith, c.width.ensures.width, c.width.ensures.within))
-    (omega (arith, c.requires, c.len.ensures.len, c.len.ensures.within)) c.width.ensures.below in
-    omega (arith, more c, part, whole)
-
-pub blocks-2-preserved : goal.blocks-2-preserved
-blocks-2-preserved c = more c
-
--- no block is left
 pub returns-clause-sum : goal.returns-clause-sum
-returns-clause-sum c =
-    let words = length c.words-words.result.now in
-    sum_all c.args.found.now.bits c.args.self.now.entries c.requires (min (1024 * c.blocks-2.k) words) c.blocks-2.total
-    (omega (arith, c.blocks-2-test.false, c.blocks-2.auto.k-end, c.div_ceil-k-end.ensures, c.words-words.ensures.few)) c.blocks-2.invariant
+returns-clause-sum c = summed c
 
 pub returns-clause-within : goal.returns-clause-within
 returns-clause-within c =
-    let found = c.args.found.now.bits in
-    let entries = c.args.self.now.entries in
-    let part = sum_part found entries c.requires (min (1024 * c.blocks-2.k) (length c.words-words.result.now)) in
-    let whole = sum_below c.args.self.now.width found entries (omega (arith, c.width.ensures.width, c.width.ensures.within))
-    (omega (arith, c.requires, c.len.ensures.len, c.len.ensures.within)) c.width.ensures.below in
-    omega (arith, c.blocks-2.invariant, part, whole)
+    omega (
+      arith,
+      summed c,
+      sum_below c.args.self.now.width c.args.found.now.bits c.args.self.now.entries (omega (arith, c.width.ensures.width, c.width.ensures.within)) (omega (arith, c.requires, c.len.ensures.len, c.len.ensures.within)) c.width.ensures.below,
+    )

@@ -1,35 +1,15 @@
-use Rattle.std.proofs.Common.{◌≡◌, ◌+◌, ◌*◌, ◌<◌, length, ap, ◌∙◌, arith}
-use Rattle.std.specs.Prelude.{min}
-use Rattle.bsi_components.proofs.DigitBlocks.{sum_all, sum_before, sum_more, sum_none}
+use Rattle.std.proofs.Common.{length, ap, ◌∙◌, arith}
+use Rattle.std.proofs.lemmas.List.{length-map}
+use Rattle.std.proofs.lemmas.Bool.Decides.{nat_tests}
+use Rattle.bsi_places.specs.Places.{has_place}
 use Rattle.bsi_components.proofs.equality.encoding.EqualityComponentEncoding.digit_sum.Goals as goal
 
-pub blocks-2-init : goal.blocks-2-init
-blocks-2-init c = record {
-  summed = sum_none c.args.found.now.bits c.args.self.now.digits c.requires ∙ ap (sum_before c.args.found.now.bits c.args.self.now.digits) (omega arith);
-  few = omega arith;
-}
+-- a place has a bit for each digit
+pub sum_by_places-requires-clause-same : goal.sum_by_places-requires-clause-same
+sum_by_places-requires-clause-same c = λ k within.
+    ap length (c.places-places.ensures.places.each k within) ∙ length-map c.args.self.now.digits (has_place k) ∙ c.requires
 
--- one block more
-pub blocks-2-preserved : goal.blocks-2-preserved
-blocks-2-preserved c =
-    let found = c.args.found.now.bits in
-    let ds = c.args.self.now.digits in
-    let words = length c.words-words.result.now in
-    let start = 1024 * c.blocks-2.k in
-    let inside : c.blocks-2.k < c.div_ceil-k-end.result = omega (arith, c.blocks-2-test.true, c.blocks-2.auto.k-end) in
-    let from : min start words ≡ start = omega (arith, inside, c.div_ceil-k-end.ensures) in
-    let to : c.min.result ≡ min (1024 * (c.blocks-2.k + 1)) words = omega (arith, c.min.ensures) in
-    record {
-      summed =
-          sum_more found ds c.requires start c.min.result c.blocks-2.sum c.digit_sum_in-sum.result (omega (arith, c.min.ensures, from))
-          (c.blocks-2.invariant.summed ∙ ap (sum_before found ds) from) c.digit_sum_in-sum.ensures.sum
-          ∙ ap (sum_before found ds) to;
-      few = omega (arith, c.blocks-2.invariant.few, c.digit_sum_in-sum.ensures.few);
-    }
-
--- no block is left
-pub returns : goal.returns
-returns c =
-    let words = length c.words-words.result.now in
-    sum_all c.args.found.now.bits c.args.self.now.digits c.requires (min (1024 * c.blocks-2.k) words) c.blocks-2.sum
-    (omega (arith, c.blocks-2-test.false, c.blocks-2.auto.k-end, c.div_ceil-k-end.ensures, c.words-words.ensures.few)) c.blocks-2.invariant.summed
+-- and each digit is below two to the power of the number of places
+pub returns-else-is_empty : goal.returns-else-is_empty
+returns-else-is_empty c =
+    c.sum_by_places.ensures c.args.self.now.digits c.places-places.ensures.places (c.places-places.ensures.below (grind (arith, nat_tests, c.is_empty.ensures, c.if-is_empty.false))) c.requires

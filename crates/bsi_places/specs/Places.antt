@@ -1,0 +1,25 @@
+-- Numbers in binary: a bitmap for each place, alone or behind the bitmaps of an encoding.
+use Rattle.std.specs.Prelude.{◌≡◌, ℕ, ◌+◌, ◌-◌, ◌^◌, ◌<◌, ◌≤◌, ◌==◌, Bool, List, length, map, nat_lt, if◌then◌else◌}
+use Rattle.std.specs.Int.{bit_at}
+use Rattle.bsi_bits.specs.BitList.{BitList}
+use Rattle.bsi_bits.specs.BitLists.{bits_at}
+
+-- bitmap j says of each number whether it holds there
+pub record IsEncoded (holds : ℕ → ℕ → Bool) (bitmaps : List BitList) (numbers : List ℕ) : Type 0 where
+  pub each : (j : ℕ) → j < length bitmaps → bits_at bitmaps j ≡ map (holds j) numbers
+
+-- binary place k of the number is 1
+abbrev pub has_place : ℕ → ℕ → Bool
+has_place k number = bit_at number k == 1
+
+-- the first bitmaps, of which there are `own`, say what those of an encoding say, and the others say the binary places
+abbrev pub then_places : ℕ → (ℕ → ℕ → Bool) → ℕ → ℕ → Bool
+then_places own holds j number = if nat_lt j own then holds j number else has_place (j - own) number
+
+-- of so many bitmaps `own` are those of an encoding, and the others are enough for the binary places of the digits below
+-- the base; from base 4 on there are others
+pub record IsCount (base own count : ℕ) : Type 0 where
+  pub owned : own ≤ count
+  pub few : count ≤ own + 10
+  pub enough : own < count → base ≤ 2 ^ (count - own)
+  pub some : 4 ≤ base → own < count
