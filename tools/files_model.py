@@ -134,18 +134,12 @@ def fault_in_run(given, ran, refused):
     return fault_in_lines(lines, wanted, [None] * len(files) + records(asks))
 
 
-def takes_memory(record):
-    """Returns whether the answer to a query takes memory."""
-    return record[0] != b"count" or script_model.count_takes_memory(record[1:])
-
-
 def fault_in_lines(lines, wanted, asked):
-    """Returns what is wrong with these first lines of a run, or None. Beside each stands the record that it answers, or
-    None beside a line `fed`. A line `no memory` may stand for the answer to a query that takes memory."""
+    """Returns what is wrong with these first lines of a run, or None. `asked` has the record of each, or None for a line `fed`."""
     if len(lines) > len(wanted):
         return f"{len(lines)} lines in place of {len(wanted)}"
     for number, (line, usual, record) in enumerate(zip(lines, wanted, asked), 1):
-        may_lack = line == script_model.NO_MEMORY and usual != BAD and record is not None and takes_memory(record)
+        may_lack = line == script_model.NO_MEMORY and usual != BAD and record is not None and script_model.takes_memory(record)
         if line != usual and not may_lack:
             return f"line {number} is {line!r} and not {usual!r}"
     return None

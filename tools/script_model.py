@@ -301,14 +301,14 @@ def selected(machine, fields):
     return selects and [at for at, (_, row) in enumerate(machine.indexed) if selects(row)]
 
 
-def count_takes_memory(fields):
-    """Returns whether a count by the predicate that the fields spell takes memory: one without `or` and `not` takes none."""
-    return b"or" in fields or b"not" in fields
+def takes_memory(query):
+    """Returns whether the answer to a query takes memory: a count by a predicate without `or` and `not` takes none."""
+    return query[0] != b"count" or b"or" in query or b"not" in query
 
 
 def run_count(machine, fields):
     places = selected(machine, fields)
-    return None if places is None else Step(b"count %d" % len(places), count_takes_memory(fields), nothing)
+    return None if places is None else Step(b"count %d" % len(places), takes_memory([b"count", *fields]), nothing)
 
 
 def run_list(machine, fields):
@@ -376,8 +376,7 @@ def answers(script):
 
 
 def fault_in_lines(script, lines):
-    """Returns what is wrong with these first lines of a run of the script, or None. A line `no memory` may stand
-    where memory is taken, and then nothing has changed."""
+    """Returns what is wrong with these first lines of a run, or None. Where a line `no memory` may stand, nothing has changed."""
     machine = Machine()
     for number, (record, line) in enumerate(zip(records(script), lines), 1):
         step = machine.step(record)
@@ -390,8 +389,7 @@ def fault_in_lines(script, lines):
 
 
 def fault_in_run(script, ran, refused):
-    """Returns what is wrong with a run of the script in which so many growths were refused, or None. Each want of
-    memory that is told stands for a growth that was refused."""
+    """Returns what is wrong with a run in which so many growths were refused, or None. Each want of memory stands for one of them."""
     found = records(script)
     lines = ran.out.split(b"\n")
     if lines.pop():

@@ -72,8 +72,7 @@ class Tally:
     """Counts checks, with a line for each."""
 
     def __init__(self):
-        self.passed = 0
-        self.failed = 0
+        self.passed = self.failed = 0
 
     def fails(self, text):
         self.failed += 1
@@ -82,10 +81,9 @@ class Tally:
     def check(self, text, fault):
         """Counts one check, which fails where there is a fault to name."""
         if fault:
-            self.fails(f"{text}: {fault}")
-        else:
-            self.passed += 1
-            print(f"ok      {text}", flush=True)
+            return self.fails(f"{text}: {fault}")
+        self.passed += 1
+        print(f"ok      {text}", flush=True)
 
     def add(self, passed, failed):
         self.passed += passed
