@@ -3,6 +3,7 @@
 use crate::inputs::{QUANTITIES, broken, long, text};
 use crate::runs::{Files, end_of, end_once, wants_memory};
 use bsi_files::{FilesFault, Gate, Stopping};
+use bsi_text::SourceFault;
 use std::sync::Wait;
 use std::sync::atomic::{AtomicU64, Ordering};
 use std::test::Fail;
@@ -16,6 +17,18 @@ fn a_bad_schema_record_comes_before_the_reader_that_fails(rt: HostRuntime) -> Re
     };
     let ended = end_of(&rt, files)?;
     assert_eq!(&rt; ended.run, Err(FilesFault::BadSchema(2)));
+    Ok(())
+}
+
+#[test]
+fn the_first_row_file_that_fails_is_told(rt: HostRuntime) -> Result<(), Fail> {
+    let files = Files {
+        schema: text(QUANTITIES),
+        asks: text(""),
+        rows: &[text("qty\n1\n"), broken("qty\n1\n"), broken("qty\n")],
+    };
+    let ended = end_of(&rt, files)?;
+    assert_eq!(&rt; ended.run, Err(FilesFault::Source(1, SourceFault::Read)));
     Ok(())
 }
 
