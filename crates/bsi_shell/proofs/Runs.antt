@@ -1,9 +1,12 @@
 -- What a run leaves in its output, whether it met a fault or not.
-use Rattle.std.proofs.Common.{◌≡◌, ℕ, List, Option, Some, None, Result, Ok, Err, sym, subst, ◌∙◌}
+use Rattle.std.proofs.Common.{◌≡◌, ℕ, List, Option, Some, None, map, Result, Ok, Err, sym, subst, ◌∙◌}
 use Rattle.std.specs.Io.KnownBytes.{Appends, Keeps}
 use Rattle.std.specs.Prelude.{IfSome, OnErr, OnOk}
 use Rattle.std.specs.Result.{result_and}
+use Rattle.bsi_files.specs.Runs.{IsRun}
+use Rattle.bsi_files.specs.Writing.{WhereKnown, WritesAll}
 use Rattle.bsi_text.specs.Texts.{IsAnswered, IsBegun}
+use Rattle.bsi_shell.specs.FileRuns.{HasRunOver}
 
 -- what holds anyway holds after a refusal
 pub on_err : {T E : Type 0} {P : Type 0} (r : Result T E) → P → OnErr r P
@@ -58,6 +61,25 @@ begun_kept before middle after kept bytes begun =
       all = begun.all;
       written = (w.0, w.1, w.2, appends_kept before middle after _ w.3 kept);
     }
+
+-- the lines of a run over files, and then no more
+pub run_kept : {S : Type 0} (rem : S → Option (List ℕ)) (schema asks : S) (rows : List S) (before middle after : Option (List ℕ)) → Keeps middle after
+    → WhereKnown (rem schema) (map rem rows) (rem asks) (λ declared texts asked. WritesAll (IsRun declared texts) asked before middle) → HasRunOver rem before after
+run_kept rem schema asks rows before middle after kept run = record {
+  schema = schema;
+  asks = asks;
+  rows = rows;
+  written = λ declared texts asked s r a.
+      let all = run declared texts asked s r a in
+      record {
+        records = all.records;
+        lines = all.lines;
+        all = all.all;
+        few = all.few;
+        are = all.are;
+        written = appends_kept before middle after _ all.written kept;
+      };
+}
 
 -- what is so of every input is so of one that is known
 pub of_any : {Q : List ℕ → Type 0} (known : Option (List ℕ)) → ((bytes : List ℕ) → Q bytes) → IfSome known Q

@@ -1,5 +1,6 @@
 //! A run over files: it opens all files in the order of the words, and then reads them.
-ghost use Rattle.std.specs.Prelude.{◌≡◌, ◌<◌, IfOk, length};
+ghost use Rattle.std.specs.Prelude.{◌≡◌, ◌<◌, IfOk, OnOk, length};
+ghost use Rattle.bsi_shell.specs.FileRuns.{HasRunOver};
 
 use crate::paths::Paths;
 use bsi_files::{FilesFault, Go, run_files};
@@ -35,19 +36,36 @@ struct Opened<S: Read + Drop> {
     rows: Vec<S>,
 }
 
-/// Opens the files, answers the questions over their rows, and flushes the output. A flush that fails counts only if
-/// the run met no fault. It has no clauses, because no contract can say what a file gives.
+/// Opens the files, and runs over them.
 pub(crate) fn run_over<
     'a,
     R: AllocGlobal + Files<File = S> + Threads + Wait + Sync,
     S: Read + Drop + Send,
     O: Write,
->(rt: &R, paths: &Paths<'a>, output: &mut O) -> Result<(), Failure<'a>> {
-    let Opened { schema, asks, rows } = open_all(rt, paths)?;
+>(rt: &R, paths: &Paths<'a>, output: &mut O) -> Result<(), Failure<'a>>
+    ensures { OnOk result
+        (HasRunOver S.remaining (O.contents output.old) (O.contents output.new)) }
+{
+    let opened = open_all(rt, paths)?;
+    run_opened(rt, opened, output)?;
+    Ok(())
+}
+
+/// Answers the questions over the rows of files, and flushes the output. A flush that fails counts only if the run met
+/// no fault.
+fn run_opened<R: AllocGlobal + Threads + Wait + Sync, S: Read + Drop + Send, O: Write>(
+    rt: &R,
+    opened: Opened<S>,
+    output: &mut O,
+) -> Result<(), FilesFault>
+    requires { 0 < length opened.rows.items }
+    ensures { OnOk result
+        (HasRunOver S.remaining (O.contents output.old) (O.contents output.new)) }
+{
+    let Opened { schema, asks, rows } = opened;
     let run = run_files(rt, schema, asks, rows, output, &Go);
     let flushed = output.flush().map_err(|_| FilesFault::Write);
-    run.and(flushed)?;
-    Ok(())
+    run.and(flushed)
 }
 
 /// Opens the schema, the asks and the row files, in this order.

@@ -1,7 +1,7 @@
 //! What the words after the program's name ask for.
-ghost use Rattle.std.specs.Prelude.{◌≡◌, ◌↔◌, Ok, true};
+ghost use Rattle.std.specs.Prelude.{◌≡◌, ◌≢◌, ◌↔◌, IfOk, Ok, true};
 ghost use Rattle.bsi_shell.specs.Commands.{BeginsWithFiles};
-ghost use Rattle.bsi_shell.specs.declared.request.Request.TheVariants.{Files};
+ghost use Rattle.bsi_shell.specs.declared.request.Request.TheVariants.{Files, Script};
 
 use crate::paths::Paths;
 use clap::error::ErrorKind;
@@ -24,6 +24,7 @@ pub(crate) enum Request<'a> {
 /// Reads the words. A request for help is not a command.
 pub(crate) fn read_request<'a>(alloc: Global, words: &'a [String]) -> Request<'a>
     ensures files { (paths : Paths) → result ≡ Files paths → BeginsWithFiles words.now }
+    ensures script { result ≡ Script → ¬ BeginsWithFiles words.now }
 {
     match parse_words(alloc, words) {
         Ok(request) => request,
@@ -35,11 +36,12 @@ pub(crate) fn read_request<'a>(alloc: Global, words: &'a [String]) -> Request<'a
 /// Parses the words by the commands of the program.
 fn parse_words<'a>(alloc: Global, words: &'a [String]) -> Result<Request<'a>, Error>
     ensures files { (paths : Paths) → result ≡ Ok (Files paths) → BeginsWithFiles words.now }
+    ensures script { result ≡ Ok Script → ¬ BeginsWithFiles words.now }
 {
     let matches = commands(alloc)?.try_get_matches_from(words)?;
     match matches.subcommand() {
-        Some(("script", _)) => Ok(Request::Script),
         // The first word names a command, since no option stands before it.
+        Some(("script", _)) if !begins_with_files(words) => Ok(Request::Script),
         Some(("files", files)) if begins_with_files(words) => Ok(read_paths(alloc, files)?),
         _ => Ok(Request::Wrong),
     }
@@ -72,7 +74,9 @@ fn begins_with_files(words: &[String]) -> bool
 }
 
 /// Takes the paths from the matches of the command `files`.
-fn read_paths<'a>(alloc: Global, files: &ArgMatches<'a>) -> Result<Request<'a>, AllocError> {
+fn read_paths<'a>(alloc: Global, files: &ArgMatches<'a>) -> Result<Request<'a>, AllocError>
+    ensures { IfOk result (λ request. request ≢ Script) }
+{
     let (Some(schema), Some(asks), Some(rows)) = (
         files.get_str("schema"),
         files.get_str("asks"),

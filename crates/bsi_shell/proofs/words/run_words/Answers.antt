@@ -1,9 +1,14 @@
-use Rattle.std.proofs.Common.{refl}
+use Rattle.std.proofs.Common.{refl, subst, sym}
+use Rattle.bsi_shell.specs.Commands.{BeginsWithFiles}
 use Rattle.bsi_shell.proofs.Runs.{of_any}
 use Rattle.bsi_shell.proofs.words.run_words.Goals as goal
 
 pub returns-in-Ok-clause-answered : goal.returns-in-Ok-clause-answered
 returns-in-Ok-clause-answered g c = λ zero other. c.in-Ok.ensures.ok
+
+pub returns-in-Ok-clause-ran : goal.returns-in-Ok-clause-ran
+returns-in-Ok-clause-ran g c = λ zero files.
+    absurd (c.in-Script.ensures.script refl (subst (λ words. BeginsWithFiles words) (sym c.deref.ensures.value) files))
 
 pub returns-in-Ok-clause-quiet : goal.returns-in-Ok-clause-quiet
 returns-in-Ok-clause-quiet g c = λ zero. refl
