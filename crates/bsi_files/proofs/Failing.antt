@@ -1,5 +1,5 @@
 -- Faults of sources, and of a run.
-use Rattle.std.proofs.Common.{◌≡◌, ◌≢◌, ℕ, suc, zero, ◌<◌, ◌≤◌, true, List, [], ◌∷◌, ◌++◌, length, map, Option, Some, None, Err, IfSome, MatchOption, inl, refl, ap, sym, ◌∙◌, subst, arith, length-append}
+use Rattle.std.proofs.Common.{◌≡◌, ◌≢◌, All, ℕ, suc, zero, ◌<◌, ◌≤◌, true, List, [], ◌∷◌, ◌++◌, length, map, Option, Some, None, Err, IfSome, MatchOption, inl, refl, ap, sym, ◌∙◌, subst, arith, length-append}
 use Rattle.std.specs.Prelude.{IsSome, slice_get, slice_index_or}
 use Rattle.csv.specs.Machine.{Read, next_record}
 use Rattle.csv.specs.Reading.{Reached, default_config, reader_state, source_of, strip_bom}
@@ -15,9 +15,9 @@ use Rattle.bsi_files.specs.Begun.{Begins}
 use Rattle.bsi_files.specs.Ends.{tasks, AreEndsOf}
 use Rattle.bsi_files.specs.Faults.{is_early, is_late, is_of_schema}
 use Rattle.bsi_files.specs.Feeding.{HasFailed, StopsAfter}
-use Rattle.bsi_files.specs.Headers.{IsHeadersFault}
+use Rattle.bsi_files.specs.Headers.{HasHeader, IsHeadersFault}
 use Rattle.bsi_files.specs.Matching.{AreMatched}
-use Rattle.bsi_files.specs.RunFaults.{FailsAt, IsFaultOf, IsKeptFault, IsLoadFault, IsRunFault, IsTooLong}
+use Rattle.bsi_files.specs.RunFaults.{AreGood, FailsAt, IsFaultOf, IsKeptFault, IsLoadFault, IsRunFault, IsTooLong}
 use Rattle.bsi_files.specs.SchemaFiles.{none_declared, IsSchemaFault, IsSchemaFile}
 use Rattle.bsi_files.specs.Takings.{AreLoaded}
 use Rattle.bsi_files.specs.Writing.{Leaves}
@@ -27,6 +27,7 @@ use Rattle.bsi_files.specs.declared.faults.Which.TheVariants as which
 use Rattle.bsi_files.specs.declared.feeding.FeedEnd.{FeedEnd}
 use Rattle.bsi_files.specs.declared.loading.Fed.{Fed}
 use Rattle.bsi_files.proofs.Asking.{begun_join, HasBegun}
+use Rattle.bsi_files.proofs.Heading.{all_known, headers_of}
 
 -- ---- which faults are met when
 
@@ -177,20 +178,38 @@ module _ {R : Type 0} (rem : R → Option (List ℕ)) where
         );
       }
 
-  pub run_fault_of : (declared : List ℕ) (schema : Declared) (readers : List R) (sources : List (Source R)) (texts : List (List ℕ))
-      → AreMatched (Begins rem schema) readers sources → map rem readers ≡ map (λ text. Some text) texts
-      → (fault : FilesFault) → IsRunFault rem sources fault → IsFaultOf declared texts fault
-  run_fault_of declared schema readers sources texts begun is (run.Source n source.BadHeader) met =
-      let of = of_text schema readers sources texts n met.source begun is met.at in
-      absurd ((stops_after schema of.reader met.source met.many source.BadHeader of.begins met.failed).stopped.later refl)
-  run_fault_of declared schema readers sources texts begun is (run.Source n source.TooLong) met =
-      let of = of_text schema readers sources texts n met.source begun is met.at in
-      subst (λ o. MatchOption o ⊥ IsTooLong) (sym of.at)
-      (too_long schema of.reader met.source of.text met.many of.begins of.known (stops_after schema of.reader met.source met.many source.TooLong of.begins met.failed))
-  run_fault_of declared schema readers sources texts begun is (run.BadSchema n) met = absurd met
-  run_fault_of declared schema readers sources texts begun is run.NoColumns met = absurd met
-  run_fault_of declared schema readers sources texts begun is (run.TooLong which.SchemaFile) met = absurd met
-  run_fault_of declared schema readers sources texts begun is fault met = tt
+  -- what was good before rows were loaded
+  good : (declared : List ℕ) (schema : Declared) (limit : ℕ) (readers : List R) (sources : List (Source R)) (texts : List (List ℕ)) → IsSchemaFile declared schema limit
+      → AreMatched (Begins rem schema) readers sources → map rem readers ≡ map (λ text. Some text) texts → AreGood declared texts
+  good declared schema limit readers sources texts schema_is begun is = record {
+    schema = schema;
+    limit = limit;
+    schema_is = schema_is;
+    headers = all_known (HasHeader schema) texts
+        (subst (λ os. All (λ other. IfSome other (HasHeader schema)) os) is (headers_of rem schema readers sources begun));
+  }
+
+  module _ (declared : List ℕ) (schema : Declared) (limit : ℕ) (readers : List R) (sources : List (Source R)) (texts : List (List ℕ))
+      (schema_is : IsSchemaFile declared schema limit) (begun : AreMatched (Begins rem schema) readers sources)
+      (is : map rem readers ≡ map (λ text. Some text) texts) where
+    pub run_fault_of : (fault : FilesFault) → IsRunFault rem sources fault → IsFaultOf declared texts fault
+    run_fault_of (run.Source n source.BadHeader) met =
+        let of = of_text schema readers sources texts n met.source begun is met.at in
+        absurd ((stops_after schema of.reader met.source met.many source.BadHeader of.begins met.failed).stopped.later refl)
+    run_fault_of (run.Source n source.TooLong) met =
+        let of = of_text schema readers sources texts n met.source begun is met.at in (
+          good declared schema limit readers sources texts schema_is begun is,
+          subst (λ o. MatchOption o ⊥ IsTooLong) (sym of.at)
+              (too_long schema of.reader met.source of.text met.many of.begins of.known (stops_after schema of.reader met.source met.many source.TooLong of.begins met.failed)),
+        )
+    run_fault_of (run.Source n fault) met = (schema, limit, schema_is)
+    run_fault_of (run.BadSchema n) met = absurd met
+    run_fault_of run.NoColumns met = absurd met
+    run_fault_of (run.TooLong which.SchemaFile) met = absurd met
+    run_fault_of (run.Read which.SchemaFile) met = absurd met
+    run_fault_of run.TooManyFiles met = absurd met
+    run_fault_of run.NoMemory met = tt
+    run_fault_of fault met = good declared schema limit readers sources texts schema_is begun is
 
 -- at the schema file, and at the headers
 pub schema_fault_of : (declared : List ℕ) (texts : List (List ℕ)) (fault : FilesFault) → is_of_schema fault ≡ true → IsSchemaFault declared none_declared fault
@@ -198,14 +217,14 @@ pub schema_fault_of : (declared : List ℕ) (texts : List (List ℕ)) (fault : F
 schema_fault_of declared texts (run.BadSchema n) first met = met
 schema_fault_of declared texts run.NoColumns first met = met
 schema_fault_of declared texts (run.TooLong which.SchemaFile) first met = met
-schema_fault_of declared texts (run.Source n e) first met = absurd (cc (first))
-schema_fault_of declared texts fault first met = tt
+schema_fault_of declared texts (run.Read which.SchemaFile) first met = tt
+schema_fault_of declared texts run.NoMemory first met = tt
+schema_fault_of declared texts fault first met = absurd (cc (first))
 
 pub headers_fault_of : (declared : List ℕ) (texts : List (List ℕ)) (schema : Declared) (limit : ℕ) → IsSchemaFile declared schema limit
     → (fault : FilesFault) → IsHeadersFault schema (map (λ text. Some text) texts) fault → IsFaultOf declared texts fault
 headers_fault_of declared texts schema limit is (run.Source n source.BadHeader) met = record { schema = schema; limit = limit; schema_is = is; first = met }
 headers_fault_of declared texts schema limit is (run.Source n source.TooLong) met = absurd met
-headers_fault_of declared texts schema limit is (run.BadSchema n) met = absurd met
-headers_fault_of declared texts schema limit is run.NoColumns met = absurd met
-headers_fault_of declared texts schema limit is (run.TooLong which.SchemaFile) met = absurd met
-headers_fault_of declared texts schema limit is fault met = tt
+headers_fault_of declared texts schema limit is (run.Source n fault) met = (schema, limit, is)
+headers_fault_of declared texts schema limit is run.NoMemory met = tt
+headers_fault_of declared texts schema limit is fault met = absurd met

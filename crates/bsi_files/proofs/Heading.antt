@@ -1,6 +1,6 @@
 -- Headers that were read, and the first file that has none.
 use Rattle.std.proofs.Common.{◌≡◌, ◌≢◌, ◌<◌, ◌≤◌, ◌+◌, arith, length-append, ℕ, suc, true, List, [], ◌∷◌, ◌++◌, length, map, All, Option, Some, None, IfSome, MatchOption, refl, ap, sym, ◌∙◌, subst}
-use Rattle.std.proofs.lemmas.List.Elements.{All-cons, All-nil}
+use Rattle.std.proofs.lemmas.List.Elements.{All-cons, All-head, All-nil, All-tail}
 use Rattle.csv.specs.Machine.{Read, next_record}
 use Rattle.csv.specs.Reading.{default_config, reader_state, source_of, strip_bom}
 use Rattle.csv.specs.declared.parser.State.TheVariants as st
@@ -48,7 +48,7 @@ module _ {R : Type 0} (rem : R → Option (List ℕ)) (schema : Declared) where
       by None behind = tt
       by (Some bytes) behind = at (next_record default_config st.StartRecord [] [] (strip_bom bytes)) behind
 
-  headers_of : (readers : List R) (sources : List (Source R)) → AreMatched (Begins rem schema) readers sources
+  pub headers_of : (readers : List R) (sources : List (Source R)) → AreMatched (Begins rem schema) readers sources
       → All (λ other. IfSome other (HasHeader schema)) (map rem readers)
   headers_of [] sources begun = All-nil (λ other. IfSome other (HasHeader schema))
   headers_of (reader ∷ readers) [] begun = absurd begun
@@ -80,6 +80,9 @@ module _ {R : Type 0} (rem : R → Option (List ℕ)) (schema : Declared) where
   headers_fault all left rest reader sources place number (files.Source f source.NoMemory) has is at named few met = tt
   headers_fault all left rest reader sources place number fault has is at named few met = absurd met
 
--- memory alone was refused
-pub no_memory : (schema : Declared) (all : List (Option (List ℕ))) (fault : FilesFault) → fault ≡ files.NoMemory → IsHeadersFault schema all fault
-no_memory schema all fault is = subst (λ f. IsHeadersFault schema all f) (sym is) tt
+-- of files whose bytes are known
+pub all_known : (P : List ℕ → Type 0) (texts : List (List ℕ)) → All (λ other. IfSome other P) (map (λ text. Some text) texts) → All P texts
+all_known P [] all = All-nil P
+all_known P (text ∷ texts) all =
+    All-cons P text texts (All-head (λ other. IfSome other P) (Some text) (map (λ t. Some t) texts) all)
+    (all_known P texts (All-tail (λ other. IfSome other P) (Some text) (map (λ t. Some t) texts) all))

@@ -1,5 +1,5 @@
 -- What a fault of a run tells of the bytes of its files.
-use Rattle.std.specs.Prelude.{◌≡◌, ⊤, ℕ, List, ◌∷◌, Option, Some, MatchOption, map, slice_get}
+use Rattle.std.specs.Prelude.{◌≡◌, ⊤, ℕ, List, ◌∷◌, All, Option, Some, MatchOption, map, slice_get}
 use Rattle.csv.specs.declared.parser.State.{State}
 use Rattle.bsi_records.specs.Numbers.{Field}
 use Rattle.bsi_table.specs.Columns.{Declared}
@@ -8,7 +8,7 @@ use Rattle.bsi_text.specs.Texts.{AreFirstRecords}
 use Rattle.bsi_text.specs.declared.rows.SourceFault.{SourceFault}
 use Rattle.bsi_text.specs.declared.rows.SourceFault.TheVariants as source
 use Rattle.bsi_files.specs.Feeding.{HasFailed}
-use Rattle.bsi_files.specs.Headers.{IsFirstWithout}
+use Rattle.bsi_files.specs.Headers.{HasHeader, IsFirstWithout}
 use Rattle.bsi_files.specs.SchemaFiles.{none_declared, DeclaresNoColumn, DeclaresTooLong, IsBadRecord, IsSchemaFile}
 use Rattle.bsi_files.specs.Writing.{AreTooMany}
 use Rattle.bsi_files.specs.declared.faults.FilesFault.{FilesFault}
@@ -34,14 +34,27 @@ pub record IsTooLong (bytes : List ℕ) : Type 0 where
   pub first : AreFirstRecords bytes (header ∷ records) state rest
   pub too_long : AreTooMany records state rest
 
--- what a fault tells of the bytes of the schema file and of the row files; of the others they tell nothing
+-- a schema is declared, and each file has a header of it
+pub record AreGood (declared : List ℕ) (texts : List (List ℕ)) : Type 0 where
+  pub schema : Declared
+  pub limit : ℕ
+  pub schema_is : IsSchemaFile declared schema limit
+  pub headers : All (HasHeader schema) texts
+
+-- what a fault tells of the bytes of the schema file and of the row files. One that is met once the headers are read
+-- tells that these are good.
 abbrev pub IsFaultOf : List ℕ → List (List ℕ) → FilesFault → Type 0
+IsFaultOf declared texts run.TooManyFiles = ⊤
+IsFaultOf declared texts (run.Read which.SchemaFile) = ⊤
 IsFaultOf declared texts (run.BadSchema number) = IsBadRecord declared none_declared number
 IsFaultOf declared texts (run.TooLong which.SchemaFile) = DeclaresTooLong declared none_declared
 IsFaultOf declared texts run.NoColumns = DeclaresNoColumn declared none_declared
 IsFaultOf declared texts (run.Source number source.BadHeader) = HasBadHeader declared texts number
-IsFaultOf declared texts (run.Source number source.TooLong) = MatchOption (slice_get texts number) ⊥ IsTooLong
-IsFaultOf declared texts fault = ⊤
+IsFaultOf declared texts (run.Source number source.TooLong) =
+    AreGood declared texts × MatchOption (slice_get texts number) ⊥ IsTooLong
+IsFaultOf declared texts (run.Source number fault) = (schema : Declared) × (limit : ℕ) × IsSchemaFile declared schema limit
+IsFaultOf declared texts run.NoMemory = ⊤
+IsFaultOf declared texts fault = AreGood declared texts
 
 -- ---- by the sources
 

@@ -45,7 +45,8 @@ pub enum FilesFault {
     /// There are more good rows than the row limit.
     #[error("bsi: index full")]
     IndexFull,
-    /// The feeder of this number, from 0, left no closing, or was stopped though its gate stops none.
+    /// The feeder of this number, from 0, is the first that left no closing. Where each left one, it is the first that
+    /// was stopped though its gate stops none.
     #[error("bsi: file {0}: not closed")]
     NotClosed(u32),
     /// No place was found for a reader of the table, or no copy of it was given.

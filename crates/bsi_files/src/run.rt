@@ -34,10 +34,10 @@ use std::thread::{Scope, Threads};
 ///
 /// It looks for faults in this order: the number of files; the schema file; the header of each row file; a reader of
 /// the table and a thread for each feeder; once the threads have ended the row limit, then the first row file that
-/// gives no more rows, then the first feeder without a closing, or that was stopped though its gate stops none; and,
-/// while it writes answers, the questions, a reader and the writer. Refused memory is answered where it is met. Lines
-/// that stand before a fault are whole, unless the writer fails. It keeps two copies of the table, and beside them some
-/// thousand rows.
+/// gives no more rows, then the first feeder without a closing, then the first that was stopped though its gate stops
+/// none; and, while it writes answers, the questions, a reader and the writer. Refused memory is answered where it is
+/// met. Lines that stand before a fault are whole, unless the writer fails. It keeps two copies of the table, and
+/// beside them some thousand rows.
 pub fn run_files<
     R: Threads + Wait + AllocGlobal + Sync,
     S: Read + Drop,

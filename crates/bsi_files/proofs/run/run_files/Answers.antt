@@ -98,8 +98,12 @@ returns-clause-fault g c =
     let rem = g.I.Read.remaining in
     let schema = c.in_ok-schema.schema in
     let columns = c.in_ok-columns.columns in
+    let limit = c.in_ok-schema.limit in
     let readers = c.args.sources.items in
     let sources = c.in_ok-sources.sources.items in
     let begin : AreMatched (Begins rem columns) readers sources =
     subst (λ (s : Declared). AreMatched (Begins rem s) readers sources) (sym c.in_ok-columns.ensures) c.in_ok-sources.ensures.begun in
-    if_err c.run_in.result (λ fault met declared texts asked s i a. run_fault_of rem declared columns readers sources texts begin i fault met) c.run_in.ensures.fault
+    if_err c.run_in.result (λ fault met declared texts asked s i a.
+    (let declares : IsSchemaFile declared schema limit = subst (λ (o : Option (List ℕ)). IfSome o (λ bytes. IsSchemaFile bytes schema limit)) s c.in_ok-schema.ensures.declared in
+    let schema_is : IsSchemaFile declared columns limit = subst (λ (d : Declared). IsSchemaFile declared d limit) (sym c.in_ok-columns.ensures) declares in
+    run_fault_of rem declared columns limit readers sources texts schema_is begin i fault met)) c.run_in.ensures.fault
