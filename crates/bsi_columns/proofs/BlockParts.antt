@@ -5,7 +5,7 @@ use Rattle.std.specs.Int.{bit_at}
 use Rattle.std.proofs.lemmas.Bool.{cases_lt}
 use Rattle.std.proofs.lemmas.List.{places}
 use Rattle.bsi_bits.specs.Packed.{bit_of}
-use Rattle.bsi_components.proofs.BlockBits.{bit_of-chunk}
+use Rattle.bsi_words.proofs.BlockBits.{bit_of-chunk}
 use borrow.Rule.Slice.PartMut.{put_mid}
 
 -- the words before `to` are stepped by the digits of their rows, and the others are as they were

@@ -8,7 +8,7 @@ ghost use Rattle.bsi_columns.specs.Rows.{selects};
 
 use crate::{Column, Decomposed, EqualityComponent, NoMemory, Op, RangeComponent, Slices};
 use bsi_bits::Bits;
-use bsi_components::blocks::drop_in;
+use bsi_words::blocks::drop_in;
 
 /// A column stored in one of the forms. Each call is that of the form.
 #[derive(Drop)]

@@ -4,7 +4,7 @@ use Rattle.std.proofs.lemmas.List.{length-map, get_or-map, map-append, get_or_pa
 use Rattle.std.proofs.lemmas.List.FromFn.{fill_by_all}
 use Rattle.std.proofs.lemmas.Bool.{cases_eq, cases_lt}
 use Rattle.bsi_bits.specs.BitList.{BitList}
-use Rattle.bsi_places.specs.Places.{IsEncoded}
+use Rattle.bsi_words.specs.Places.{IsEncoded}
 use Rattle.bsi_components.specs.Bitmaps.{row, first_set, digits_by}
 use Rattle.bsi_bits.specs.BitLists.{bits_at, no_bits}
 

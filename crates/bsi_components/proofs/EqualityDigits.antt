@@ -7,11 +7,11 @@ use Rattle.std.proofs.lemmas.Bool.Decides.{nat_tests}
 use Rattle.std.proofs.lemmas.Nat.Bits.{bit_at-zero}
 use Rattle.bsi_bits.specs.BitList.{BitList}
 use Rattle.bsi_bits.specs.BitLists.{bits_at}
-use Rattle.bsi_places.specs.Places.{has_place, then_places, IsCount}
+use Rattle.bsi_words.specs.Places.{has_place, then_places, IsCount}
 use Rattle.bsi_components.specs.Bitmaps.{row, first_set}
 use Rattle.bsi_components.specs.Equality.{equality_digits, first_digit, IsEquality}
 use Rattle.bsi_components.proofs.BitmapDigits.{first_set_is, none_set_is, length-bits_at, row_bits, digits_are, encoded_none, encoded_more, encoded_same, below_more, AreTests}
-use Rattle.bsi_places.proofs.PlaceBitmaps.{own_test, place_test, moved_equal, count_same}
+use Rattle.bsi_words.proofs.PlaceBitmaps.{own_test, place_test, moved_equal, count_same}
 
 other_digit : (v e : ℕ) → e < v → (v == e) ≡ false
 other_digit v e below = grind (arith, nat_tests)

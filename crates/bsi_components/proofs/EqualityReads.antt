@@ -10,7 +10,7 @@ use Rattle.bsi_bits.proofs.Pairs.{zip2-map_right}
 use Rattle.bsi_components.specs.Equality.{is_among}
 use Rattle.bsi_components.specs.Component.{count_where}
 use Rattle.bsi_components.proofs.DigitCounts.{where_none, where_split, where_same, where_parts}
-use Rattle.bsi_places.proofs.DigitMaps.{zip2_maps, map_map, same_tests, map_same, same_steps, sum_parts, same_sums, zero_sum}
+use Rattle.bsi_words.proofs.DigitMaps.{zip2_maps, map_map, same_tests, map_same, same_steps, sum_parts, same_sums, zero_sum}
 
 zero_test : (v : ℕ) → v ≤ 1 → not (v == 1) ≡ (v == 0)
 zero_test v most = grind (arith, nat_tests)

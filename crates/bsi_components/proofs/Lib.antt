@@ -1,8 +1,8 @@
 pub mod BitmapDigits
-pub mod BlockBits
-pub mod BlockRows
 pub mod DigitCounts
+pub mod DigitOrders
 pub mod EqualityDigits
 pub mod EqualityReads
 pub mod RangeDigits
 pub mod RangeReads
+pub mod RankSearch

@@ -6,11 +6,11 @@ use Rattle.std.proofs.lemmas.List.{length-map}
 use Rattle.std.proofs.lemmas.Bool.Decides.{nat_tests}
 use Rattle.bsi_bits.specs.BitList.{BitList}
 use Rattle.bsi_bits.specs.BitLists.{bits_at}
-use Rattle.bsi_places.specs.Places.{then_places, IsCount}
+use Rattle.bsi_words.specs.Places.{then_places, IsCount}
 use Rattle.bsi_components.specs.Bitmaps.{row, first_set}
 use Rattle.bsi_components.specs.Range.{range_digits, IsRange}
 use Rattle.bsi_components.proofs.BitmapDigits.{first_set_is, first_set_from, length-bits_at, row_bits, digits_are, encoded_none, encoded_more, encoded_same, below_more, AreTests}
-use Rattle.bsi_places.proofs.PlaceBitmaps.{own_test, count_same}
+use Rattle.bsi_words.proofs.PlaceBitmaps.{own_test, count_same}
 
 not_yet : (v e : ℕ) → e < v → nat_le v e ≡ false
 not_yet v e below = grind (arith, nat_tests)

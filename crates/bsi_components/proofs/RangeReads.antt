@@ -6,7 +6,7 @@ use Rattle.std.specs.Simd.Lanes.{zip2}
 use Rattle.std.proofs.lemmas.Bool.Decides.{nat_tests}
 use Rattle.bsi_bits.specs.BitList.{without}
 use Rattle.bsi_bits.proofs.Pairs.{zip2-map_right}
-use Rattle.bsi_places.proofs.DigitMaps.{zip2_maps, map_map, same_tests, map_same, zip2_twice, same_steps, sum_parts, same_sums, zero_sum}
+use Rattle.bsi_words.proofs.DigitMaps.{zip2_maps, map_map, same_tests, map_same, zip2_twice, same_steps, sum_parts, same_sums, zero_sum}
 
 top_test : (d v : ℕ) → 0 < d → v ≤ d → not (nat_le v (d - 1)) ≡ (v == d)
 top_test d v some most = grind (arith, nat_tests)

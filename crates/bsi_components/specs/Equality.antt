@@ -1,7 +1,7 @@
 -- Equality encoding: a bitmap for each digit says which rows have it.
 use Rattle.std.specs.Prelude.{ℕ, ◌+◌, ◌-◌, ◌<◌, ◌≤◌, ◌==◌, ◌&&◌, Bool, nat_le, nat_lt, List, length, slice_index, if◌then◌else◌}
 use Rattle.bsi_bits.specs.BitList.{BitList}
-use Rattle.bsi_places.specs.Places.{IsCount, IsEncoded, then_places}
+use Rattle.bsi_words.specs.Places.{IsCount, IsEncoded, then_places}
 use Rattle.bsi_components.specs.Bitmaps.{digits_by, first_set}
 
 -- the first digit that has a bitmap: base 2 stores that of digit 1 alone

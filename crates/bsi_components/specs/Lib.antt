@@ -3,3 +3,4 @@ pub mod Component
 pub mod EndDigits
 pub mod Equality
 pub mod Range
+pub mod Ranks

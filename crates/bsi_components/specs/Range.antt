@@ -1,7 +1,7 @@
 -- Range encoding: bitmap j says of each digit whether it is at most j.
 use Rattle.std.specs.Prelude.{ℕ, ◌-◌, ◌<◌, ◌≤◌, List, length, min, slice_index, nat_le}
 use Rattle.bsi_bits.specs.BitList.{BitList}
-use Rattle.bsi_places.specs.Places.{IsCount, IsEncoded, then_places}
+use Rattle.bsi_words.specs.Places.{IsCount, IsEncoded, then_places}
 use Rattle.bsi_components.specs.Bitmaps.{digits_by, first_set}
 
 -- the digits: the first bitmap before the binary places that has the row, and the greatest digit where none has

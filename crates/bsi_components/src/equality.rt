@@ -9,13 +9,13 @@ ghost use Rattle.bsi_bits.specs.BitList.{word_count};
 ghost use Rattle.bsi_bits.specs.BitLists.{bits_at};
 ghost use Rattle.bsi_bits.specs.Packed.{bit_of};
 ghost use Rattle.bsi_bits.specs.Marked.{HasMarked};
-ghost use Rattle.bsi_places.specs.Places.{has_place, then_places, IsCount, IsEncoded};
+ghost use Rattle.bsi_words.specs.Places.{has_place, then_places, IsCount, IsEncoded};
 ghost use Rattle.bsi_components.specs.Equality.{first_digit, is_among};
 
-use crate::blocks::{add_in, drop_in, exceeds, meets};
 use crate::encoding::Encoding;
 use bsi_bits::{Bitmaps, Bits};
-use bsi_places::marks::{MAX_SMALL_WORDS, MAX_WORDS, mark_digits};
+use bsi_words::blocks::{add_in, drop_in, exceeds, meets};
+use bsi_words::marks::{MAX_SMALL_WORDS, MAX_WORDS, mark_digits};
 use std::marker::Model;
 
 mod counts;

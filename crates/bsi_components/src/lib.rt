@@ -2,8 +2,6 @@
 #![tactic(auto)]
 
 mod answers;
-#[doc(hidden)]
-pub mod blocks;
 mod encoding;
 mod equality;
 mod places;

@@ -9,14 +9,15 @@ ghost use Rattle.bsi_bits.specs.BitList.{word_count};
 ghost use Rattle.bsi_bits.specs.BitLists.{bits_at};
 ghost use Rattle.bsi_bits.specs.Packed.{bit_of};
 ghost use Rattle.bsi_bits.specs.Marked.{HasMarked};
-ghost use Rattle.bsi_places.specs.Places.{has_place, then_places, IsCount, IsEncoded};
+ghost use Rattle.bsi_words.specs.Places.{has_place, then_places, IsCount, IsEncoded};
 
-use crate::blocks::{exceeds, meets};
 use bsi_bits::{Bitmaps, Bits};
-use bsi_places::marks::{MAX_SMALL_WORDS, MAX_WORDS, join, mark_digits};
+use bsi_words::blocks::{exceeds, meets};
+use bsi_words::marks::{MAX_SMALL_WORDS, MAX_WORDS, join, mark_digits};
 use std::marker::Model;
 
 mod encoding;
+mod ranks;
 
 /// A component of a base from 2 to 1,024. For each digit j but the greatest it stores the bitmap of the rows whose
 /// digit is at most j. That of the greatest digit would be all ones. From base 4 on it also stores the digits in

@@ -6,7 +6,7 @@ use Rattle.std.proofs.Math.Nat.{pow-le-pow_right}
 use Rattle.std.proofs.lemmas.Nat.{mod_below, mul-le, pow_pos}
 use Rattle.std.proofs.lemmas.List.Sums.{sum_by-cons}
 use Rattle.bsi_bits.specs.BitList.{BitList}
-use Rattle.bsi_places.specs.Places.{has_place, IsEncoded}
+use Rattle.bsi_words.specs.Places.{has_place, IsEncoded}
 use Rattle.bsi_slices.specs.Rows.{number_or_zero}
 use Rattle.bsi_slices.specs.Slices.{entries_in, IsSliced}
 use Rattle.bsi_slices.specs.Totals.{numbers_at}

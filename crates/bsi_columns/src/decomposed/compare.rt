@@ -22,8 +22,8 @@ use crate::decomposed::Decomposed;
 use crate::decomposed::narrowing::narrow_digit;
 use crate::{Encoding, NoMemory, Op};
 use bsi_bits::{Bits, know_fits, lanes};
-use bsi_components::blocks::{keep_in, turn};
 use bsi_slices::{Decision, Test, decide};
+use bsi_words::blocks::{keep_in, turn};
 
 /// The most words of a block, which stays in the first cache while each component narrows it.
 const BLOCK_WORDS: usize = 1024;

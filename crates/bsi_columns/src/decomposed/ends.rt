@@ -18,8 +18,8 @@ ghost use Rattle.bsi_columns.specs.Totals.{numbers_at};
 use crate::decomposed::Decomposed;
 use crate::{Column, Encoding, EndDigit};
 use bsi_bits::Bits;
-use bsi_components::blocks::{keep_in, meets};
 use bsi_slices::End;
+use bsi_words::blocks::{keep_in, meets};
 
 /// The number of words in a block.
 const BLOCK_WORDS: usize = 32;

@@ -10,7 +10,7 @@ use crate::answers::RankedDigit;
 use crate::encoding::Encoding;
 use crate::equality::EqualityComponent;
 use bsi_bits::Bits;
-use bsi_places::count_in_both;
+use bsi_words::count_in_both;
 
 impl EqualityComponent {
     /// Returns how many rows of a found set have a digit of `d`.

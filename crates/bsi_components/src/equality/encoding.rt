@@ -4,19 +4,19 @@ ghost use Rattle.std.specs.Prelude.{◌≡◌, ◌≢◌, ℕ, ◌+◌, ◌*◌,
 ghost use Rattle.std.specs.Bool.{OnTrue, OnFalse};
 ghost use Rattle.bsi_bits.specs.BitList.{word_count};
 ghost use Rattle.bsi_bits.specs.Packed.{bit_of};
-ghost use Rattle.bsi_places.specs.Places.{then_places};
+ghost use Rattle.bsi_words.specs.Places.{then_places};
 ghost use Rattle.bsi_components.specs.Component.{at_most_from};
 ghost use Rattle.bsi_bits.specs.Marked.{HasMarked};
 ghost use Rattle.bsi_components.specs.EndDigits.{AnswersGreatest, AnswersLeast};
 
 use crate::NoMemory;
 use crate::answers::{EndDigit, RankedDigit};
-use crate::blocks::{add_missing, copy_in, drop_in, keep_in};
 use crate::encoding::Encoding;
 use crate::equality::{EqualityComponent, first_stored, push_block};
 use crate::places::{is_place_set, place_count};
 use bsi_bits::{Bitmaps, Bits};
-use bsi_places::sum_by_places;
+use bsi_words::blocks::{add_missing, copy_in, drop_in, keep_in};
+use bsi_words::sum_by_places;
 use std::alloc::Global;
 
 impl Encoding for EqualityComponent {

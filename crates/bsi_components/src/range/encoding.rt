@@ -4,19 +4,19 @@ ghost use Rattle.std.specs.Prelude.{◌≡◌, ◌≢◌, ℕ, ◌+◌, ◌*◌,
 ghost use Rattle.std.specs.Bool.{OnTrue, OnFalse};
 ghost use Rattle.bsi_bits.specs.BitList.{word_count};
 ghost use Rattle.bsi_bits.specs.Packed.{bit_of};
-ghost use Rattle.bsi_places.specs.Places.{then_places};
+ghost use Rattle.bsi_words.specs.Places.{then_places};
 ghost use Rattle.bsi_components.specs.Component.{at_most_from};
 ghost use Rattle.bsi_bits.specs.Marked.{HasMarked};
 ghost use Rattle.bsi_components.specs.EndDigits.{AnswersGreatest, AnswersLeast};
 
 use crate::NoMemory;
-use crate::answers::EndDigit;
-use crate::blocks::{add_in, copy_in, drop_in, keep_and_add, keep_but_drop, keep_in};
+use crate::answers::{EndDigit, RankedDigit};
 use crate::encoding::Encoding;
 use crate::places::{is_place_set, place_count};
 use crate::range::{RangeComponent, push_block};
 use bsi_bits::{Bitmaps, Bits};
-use bsi_places::{count_in_both, sum_by_places};
+use bsi_words::blocks::{add_in, copy_in, drop_in, keep_and_add, keep_but_drop, keep_in};
+use bsi_words::{count_in_both, sum_by_places};
 use std::alloc::Global;
 
 impl Encoding for RangeComponent {
@@ -107,6 +107,10 @@ impl Encoding for RangeComponent {
         } else {
             found.count()
         }
+    }
+
+    fn digit_of_rank(&self, rank: u64, found: &Bits, _scratch: &mut Bits) -> RankedDigit {
+        self.find_rank(rank, found)
     }
 
     fn keep_digit(&self, d: u32, _scratch: &mut Bits, rows: &mut Bits) {

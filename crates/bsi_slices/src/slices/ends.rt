@@ -18,7 +18,7 @@ use crate::Column;
 use crate::slices::Slices;
 use crate::slices::compare::cut;
 use bsi_bits::{Bits, know_fits};
-use bsi_places::is_empty;
+use bsi_words::is_empty;
 use std::simd::Simd;
 
 /// The number of words in a block. A block of this length fills half of a processor's 16 registers of two words.

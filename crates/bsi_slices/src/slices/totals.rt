@@ -14,7 +14,7 @@ ghost use Rattle.bsi_slices.specs.Totals.{numbers_at, IsRanked};
 use crate::slices::Slices;
 use crate::{Column, NoMemory};
 use bsi_bits::{Bits, know_fits, lanes};
-use bsi_places::{is_empty, sum_by_places};
+use bsi_words::{is_empty, sum_by_places};
 
 /// The number of words in a block that is narrowed. It is small, since narrowing leaves more and more blocks with no
 /// row.

@@ -1,7 +1,7 @@
 use Rattle.std.proofs.Common.{◌≤◌, ◌-◌, ◌++◌, length, length-take, length-drop, drop, ap, ◌∙◌, arith}
 use Rattle.bsi_bits.specs.BitLists.{bits_at}
-use Rattle.bsi_places.proofs.MarkPlaces.{below_marks}
-use Rattle.bsi_places.proofs.PlaceBitmaps.{count_moved}
+use Rattle.bsi_words.proofs.MarkPlaces.{below_marks}
+use Rattle.bsi_words.proofs.PlaceBitmaps.{count_moved}
 use Rattle.bsi_components.proofs.range.push_marked.Goals as goal
 
 pub mark_digits-requires-clause-count : goal.mark_digits-requires-clause-count

@@ -2,7 +2,8 @@ use Rattle.std.proofs.Common.{◌≡◌, ◌+◌, ◌*◌, ◌-◌, ◌^◌, len
 use Rattle.std.proofs.lemmas.Bool.{OnTrue_at, OnTrue_from}
 use Rattle.bsi_bits.specs.Packed.{bit_of}
 use Rattle.bsi_components.specs.Component.{at_most_from}
-use Rattle.bsi_components.proofs.BlockBits.{ones_bit, at_most_first}
+use Rattle.bsi_words.proofs.BlockBits.{ones_bit}
+use Rattle.bsi_components.proofs.DigitOrders.{at_most_first}
 use Rattle.bsi_components.proofs.encoding.Encoding.le_block_into.Goals as goal
 
 -- a block of ones says that the digits below are at most those of any constant

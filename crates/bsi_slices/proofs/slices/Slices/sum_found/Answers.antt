@@ -4,7 +4,7 @@ use Rattle.std.proofs.lemmas.List.{length-map}
 use Rattle.std.proofs.lemmas.Nat.{pow_pos}
 use Rattle.bsi_bits.specs.BitList.{BitList}
 use Rattle.bsi_bits.specs.BitLists.{bits_at}
-use Rattle.bsi_places.specs.Places.{has_place, IsEncoded}
+use Rattle.bsi_words.specs.Places.{has_place, IsEncoded}
 use Rattle.bsi_slices.specs.Rows.{number_or_zero}
 use Rattle.bsi_slices.specs.Slices.{entries_in}
 use Rattle.bsi_slices.specs.Totals.{numbers_at}

@@ -1,7 +1,7 @@
 use Rattle.std.proofs.Common.{◌≡◌, ◌+◌, ◌*◌, ◌-◌, ◌^◌, ◌&&◌, length, get_or, replicate, nat_eq, ap, ◌∙◌, arith}
 use Rattle.std.proofs.lemmas.Bool.{OnTrue_at, OnTrue_from}
 use Rattle.bsi_bits.specs.Packed.{bit_of}
-use Rattle.bsi_components.proofs.BlockBits.{ones_bit}
+use Rattle.bsi_words.proofs.BlockBits.{ones_bit}
 use Rattle.bsi_components.proofs.equality.encoding.EqualityComponentEncoding.eq_block_into.Goals as goal
 
 -- where no bitmap is stored for the digit, of a block of ones the rows are kept that have it

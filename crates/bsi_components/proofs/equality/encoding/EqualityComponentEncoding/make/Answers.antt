@@ -1,6 +1,6 @@
 use Rattle.std.proofs.Common.{◌+◌, ◌-◌, [], length, ap, refl, sym, ◌∙◌}
 use Rattle.bsi_components.specs.Equality.{first_digit}
-use Rattle.bsi_places.proofs.PlaceBitmaps.{count_made}
+use Rattle.bsi_words.proofs.PlaceBitmaps.{count_made}
 use Rattle.bsi_components.proofs.EqualityDigits.{equality_made, equality_digits_are, itself_equality}
 use Rattle.bsi_components.proofs.equality.encoding.EqualityComponentEncoding.make.Goals as goal
 

@@ -1,6 +1,6 @@
 use Rattle.std.proofs.Common.{◌+◌, ◌-◌, ◌∷◌, [], ◌++◌, sym, arith, ap, ◌∙◌}
 use Rattle.std.specs.Prelude.{◌==◌}
-use Rattle.bsi_places.specs.Places.{then_places}
+use Rattle.bsi_words.specs.Places.{then_places}
 use Rattle.bsi_components.specs.Equality.{equality_digits, first_digit, IsEquality}
 use Rattle.bsi_components.proofs.EqualityDigits.{equality_more, equality_digits_are, itself_equality, one_below}
 use Rattle.bsi_components.proofs.equality.encoding.EqualityComponentEncoding.push_reserved.Goals as goal

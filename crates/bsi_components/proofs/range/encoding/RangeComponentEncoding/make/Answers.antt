@@ -1,5 +1,5 @@
 use Rattle.std.proofs.Common.{◌-◌, [], length, refl, sym}
-use Rattle.bsi_places.proofs.PlaceBitmaps.{count_made}
+use Rattle.bsi_words.proofs.PlaceBitmaps.{count_made}
 use Rattle.bsi_components.proofs.RangeDigits.{range_made, range_digits_are, itself_range}
 use Rattle.bsi_components.proofs.range.encoding.RangeComponentEncoding.make.Goals as goal
 

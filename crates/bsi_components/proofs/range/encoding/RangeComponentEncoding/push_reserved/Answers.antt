@@ -1,6 +1,6 @@
 use Rattle.std.proofs.Common.{◌-◌, ◌∷◌, [], ◌++◌, sym, arith}
 use Rattle.std.specs.Prelude.{nat_le}
-use Rattle.bsi_places.specs.Places.{then_places}
+use Rattle.bsi_words.specs.Places.{then_places}
 use Rattle.bsi_components.specs.Range.{range_digits, IsRange}
 use Rattle.bsi_components.proofs.RangeDigits.{range_more, range_digits_are, itself_range, one_below}
 use Rattle.bsi_components.proofs.range.encoding.RangeComponentEncoding.push_reserved.Goals as goal

@@ -1,0 +1,131 @@
+//! The digit of a rank in a range encoded component. A sample of the rows tells near which digit it is likely to be, and
+//! the search by halves is over after two counts where that is right.
+
+ghost use Rattle.std.specs.Prelude.{◌≡◌, ◌+◌, ◌-◌, ◌^◌, ◌≤◌, ◌<◌, length, count_by, IfSome};
+ghost use Rattle.bsi_bits.specs.BitList.{word_count};
+ghost use Rattle.bsi_components.specs.Component.{IsRankedDigit};
+ghost use Rattle.bsi_components.specs.Ranks.{IsBetween};
+
+use crate::answers::RankedDigit;
+use crate::range::RangeComponent;
+use bsi_bits::Bits;
+use bsi_words::count_in_both;
+
+/// The number of blocks of words in a sample, which lie evenly among all.
+const SAMPLE_BLOCKS: usize = 16;
+
+/// The number of words in such a block.
+const SAMPLE_BLOCK_WORDS: usize = 64;
+
+/// The least number of words that are sampled, since fewer are counted as soon.
+const MIN_SAMPLED_WORDS: usize = 1 << 13;
+
+/// The least rank in the sample that tells a digit: a few rows tell little.
+const MIN_SAMPLED_RANK: u64 = 128;
+
+/// The digits among which that of a rank is, and how many found rows have a digit below them.
+#[derive(Clone, Copy)]
+struct Between {
+    low: u32,
+    high: u32,
+    below: u64,
+}
+
+impl RangeComponent {
+    /// Returns the digit of the row of rank `rank` among the rows of a found set, and its rank among those of its digit.
+    pub(crate) fn find_rank(&self, rank: u64, found: &Bits) -> RankedDigit
+        requires same { length self.now.digits ≡ length found.now.bits }
+        requires there { rank < count_by (λ b. b) found.now.bits }
+        ensures digit { result.digit < self.now.base }
+        ensures ranked { IsRankedDigit rank found.now.bits self.now.digits result }
+    {
+        // The proof takes from this that a rank is below 2^32.
+        prove!(found.len() <= 1 << 32);
+        let mut between = Between {
+            low: 0,
+            high: self.top(),
+            below: 0,
+        };
+        if let Some(digit) = self.likely_digit(rank, found) {
+            between = self.narrowed(between, digit, rank, found);
+            between = self.narrowed(between, digit.max(1) - 1, rank, found);
+            between = self.narrowed(between, digit + 1, rank, found);
+        }
+        'digits: while between.low < between.high {
+            let middle = between.low + (between.high - between.low) / 2;
+            between = self.narrowed(between, middle, rank, found);
+        }
+        RankedDigit {
+            digit: between.low,
+            rank: rank - between.below,
+        }
+    }
+
+    /// Counts the found rows of a digit of at most `d`, and returns the digits that are left. It counts nothing if that
+    /// tells nothing new.
+    fn narrowed(&self, between: Between, d: u32, rank: u64, found: &Bits) -> Between
+        requires same { length self.now.digits ≡ length found.now.bits }
+        requires holds { IsBetween self.now.base rank found.now.bits self.now.digits
+            between.low between.high between.below }
+        ensures holds { IsBetween self.now.base rank found.now.bits self.now.digits
+            result.low result.high result.below }
+        ensures fewer { between.low ≤ d → d < between.high →
+            result.high - result.low < between.high - between.low }
+    {
+        if d < between.low || d >= between.high {
+            return between;
+        }
+        let upto = count_in_both(found, self.bitmap(d));
+        if rank < upto {
+            Between { high: d, ..between }
+        } else {
+            Between {
+                low: d + 1,
+                below: upto,
+                ..between
+            }
+        }
+    }
+
+    /// Returns the digit that the row of a rank would have if all rows were as those of a sample, or none if they are few.
+    fn likely_digit(&self, rank: u64, found: &Bits) -> Option<u32>
+        requires same { length self.now.digits ≡ length found.now.bits }
+        requires few { rank ≤ 2 ^ 32 }
+        ensures { IfSome result (λ d. d < self.now.base) }
+    {
+        let words = found.words().len();
+        if words < MIN_SAMPLED_WORDS {
+            return None;
+        }
+        let rank_there = rank * (SAMPLE_BLOCKS * SAMPLE_BLOCK_WORDS) as u64 / words as u64;
+        if rank_there < MIN_SAMPLED_RANK {
+            return None;
+        }
+        let (mut low, mut high) = (0, self.top());
+        'digits: while low < high {
+            let middle = low + (high - low) / 2;
+            if rank_there < self.count_sampled(middle, found) {
+                high = middle;
+            } else {
+                low = middle + 1;
+            }
+        }
+        Some(low)
+    }
+
+    /// Returns how many found rows of the sample have a digit of at most `d`.
+    fn count_sampled(&self, d: u32, found: &Bits) -> u64
+        requires below { d + 1 < self.now.base }
+        requires same { length self.now.digits ≡ length found.now.bits }
+        requires long { MIN_SAMPLED_WORDS ≤ word_count (length found.now.bits) }
+    {
+        let stride = found.words().len() / SAMPLE_BLOCKS;
+        let mut count = 0u64;
+        'blocks: for k in 0..SAMPLE_BLOCKS {
+            let start = stride * k;
+            let rows = found.count_and_in(self.bitmap(d), start, start + SAMPLE_BLOCK_WORDS);
+            count = count.saturating_add(rows);
+        }
+        count
+    }
+}

@@ -1,0 +1,10 @@
+pub mod BitmapReads
+pub mod BlockBits
+pub mod BlockRows
+pub mod DigitBlocks
+pub mod DigitMaps
+pub mod FoundRows
+pub mod MarkBits
+pub mod MarkPlaces
+pub mod PlaceBitmaps
+pub mod PlaceSums

@@ -1,0 +1,147 @@
+//! The sum of the numbers at the rows of a found set, by counts in the bit vectors of their binary places, and the count
+//! of the found rows that a bitmap has.
+//!
+//! Both go by stretches of the found set, so that its words come from memory once for all the vectors that are counted
+//! within it. A line of a cache without a found row is passed over in all of them. The first stretch is one line, and each
+//! is twice as long as the one before it, as long as no line is passed over.
+
+ghost use Rattle.std.specs.Prelude.{◌≡◌, ℕ, List, ◌+◌, ◌^◌, ◌<◌, ◌≤◌, ◌↔◌, ◌&&◌, IsTrue, count_by, length, slice_index, sum};
+ghost use Rattle.std.specs.List.{items_where_true};
+ghost use Rattle.std.specs.Simd.Lanes.{zip2};
+ghost use Rattle.bsi_bits.specs.BitList.{in_words, word_count};
+ghost use Rattle.bsi_bits.specs.BitLists.{bits_at};
+ghost use Rattle.bsi_words.specs.Places.{has_place, IsEncoded};
+
+use bsi_bits::Bits;
+
+/// The number of words in a line of a cache.
+const LINE_WORDS: usize = 8;
+
+/// The greatest number of words of a stretch. They take 8 KiB, so they stay in the first cache while they are counted
+/// with one place after the other.
+const MAX_STRETCH_WORDS: usize = 1024;
+
+/// Returns the sum of the numbers at the rows of a found set. `places` has a vector for each of their binary places, the
+/// least first.
+pub fn sum_by_places(places: &[Bits], found: &Bits) -> u128
+    requires few { length places.now ≤ 63 }
+    requires same { (k : ℕ) → k < length places.now →
+        length (bits_at places.now k) ≡ length found.now.bits }
+    ensures { (numbers : List ℕ) → IsEncoded has_place places.now numbers →
+        ((k : ℕ) → slice_index numbers k < 2 ^ length places.now) →
+        length numbers ≡ length found.now.bits →
+        result ≡ sum (items_where_true found.now.bits numbers) }
+{
+    // The proof takes from this that there are at most 2^32 rows.
+    prove!(found.len() <= 1 << 32);
+    let words = found.words();
+    let mut sum = 0;
+    let (mut at, mut most) = (0, LINE_WORDS);
+    'stretches: while at < words.len() {
+        let stretch = stretch_from(words, at, most);
+        sum += sum_in(places, found, stretch.start, stretch.end);
+        at = stretch.end;
+        most = next_most(stretch);
+    }
+    sum
+}
+
+/// Returns how many rows of a found set a bitmap has.
+pub fn count_in_both(found: &Bits, bitmap: &Bits) -> u64
+    requires { length found.now.bits ≡ length bitmap.now.bits }
+    ensures { result ≡ count_by (λ b. b) (zip2 ◌&&◌ found.now.bits bitmap.now.bits) }
+{
+    // The proof takes from this that there are at most 2^32 rows.
+    prove!(found.len() <= 1 << 32);
+    let words = found.words();
+    let mut count = 0;
+    let (mut at, mut most) = (0, LINE_WORDS);
+    'stretches: while at < words.len() {
+        let stretch = stretch_from(words, at, most);
+        count += found.count_and_in(bitmap, stretch.start, stretch.end);
+        at = stretch.end;
+        most = next_most(stretch);
+    }
+    count
+}
+
+/// Words of a found set: where they begin, and where they end.
+#[derive(Clone, Copy)]
+struct Stretch {
+    start: usize,
+    end: usize,
+}
+
+/// Returns the stretch that begins with the first line from word `at` on that has a row. It has up to `most` words if that
+/// is the line at `at`, or else a line. There is none if no line has a row.
+fn stretch_from(words: &[u64], at: usize, most: usize) -> Stretch
+    requires at { at ≤ length words.now }
+    requires most { (1 ≤ most) × (most ≤ MAX_STRETCH_WORDS) }
+    requires few { length words.now ≤ 2 ^ 26 }
+    ensures forward { (at ≤ result.start) × (result.start ≤ result.end) }
+    ensures within { result.end ≤ length words.now }
+    ensures more { at < length words.now → at < result.end }
+    ensures clear { (k : ℕ) → at ≤ k → k < result.start → slice_index words.now k ≡ 0 }
+{
+    let mut start = at;
+    'lines: while start < words.len() && is_line_empty(words, start) {
+        start = words.len().min(start + LINE_WORDS);
+    }
+    let long = if start == at { most } else { LINE_WORDS };
+    Stretch {
+        start,
+        end: words.len().min(start + long),
+    }
+}
+
+/// Returns the most words of the stretch after this one, if it begins at once.
+fn next_most(stretch: Stretch) -> usize
+    requires { (stretch.start ≤ stretch.end) × (stretch.end ≤ 2 ^ 26) }
+    ensures { (1 ≤ result) × (result ≤ MAX_STRETCH_WORDS) }
+{
+    let twice = 2 * (stretch.end - stretch.start);
+    twice.max(LINE_WORDS).min(MAX_STRETCH_WORDS)
+}
+
+/// Returns whether the line of words from `at` on has no row.
+fn is_line_empty(words: &[u64], at: usize) -> bool
+    requires within { at ≤ length words.now }
+    requires few { length words.now ≤ 2 ^ 26 }
+    ensures { IsTrue result →
+        (k : ℕ) → at ≤ k → k < at + LINE_WORDS → slice_index words.now k ≡ 0 }
+{
+    is_empty(&words[at..words.len().min(at + LINE_WORDS)])
+}
+
+/// Returns the sum of the numbers at the found rows in the words from `start` on and before `end`: for each binary
+/// place, the number of these rows that have it set, times two to the power of the place (O'Neil and Quass, 1997).
+fn sum_in(places: &[Bits], found: &Bits, start: usize, end: usize) -> u128
+    requires few { length places.now ≤ 63 }
+    requires few_rows { length found.now.bits ≤ 2 ^ 32 }
+    requires same { (k : ℕ) → k < length places.now →
+        length (bits_at places.now k) ≡ length found.now.bits }
+    requires forward { start ≤ end }
+    requires within { end ≤ word_count (length found.now.bits) }
+    ensures sum { (numbers : List ℕ) → IsEncoded has_place places.now numbers →
+        ((k : ℕ) → slice_index numbers k < 2 ^ length places.now) →
+        result ≡ sum (items_where_true
+        (in_words start end found.now.bits) (in_words start end numbers)) }
+    ensures few { result ≤ 2 ^ 95 }
+{
+    let mut sum = 0u128;
+    'places: for k in 0..places.len() {
+        sum += u128::from(found.count_and_in(&places[k], start, end)) << k;
+    }
+    sum
+}
+
+/// Returns whether no bit of the words is set.
+pub fn is_empty(words: &[u64]) -> bool
+    ensures { IsTrue result ↔ ((k : ℕ) → slice_index words.now k ≡ 0) }
+{
+    let mut seen = 0;
+    'words: for i in 0..words.len() {
+        seen |= words[i];
+    }
+    seen == 0
+}
