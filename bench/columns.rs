@@ -520,6 +520,11 @@ fn thirds(n: u64) -> Words {
     words
 }
 
+/// One of each 8,192 rows.
+fn few(n: u64) -> Words {
+    (0..n.div_ceil(64)).map(|at| u64::from(at % 128 == 0)).collect()
+}
+
 /// Times so many calls, and prints the line of the best, with a number that a wrong answer would hardly have.
 fn time<A>(form: &str, question: &str, n: u64, samples: u32, ask: impl Fn() -> A, checksum: impl Fn(&A) -> u128) {
     let mut best = u128::MAX;
@@ -563,6 +568,8 @@ fn measure<C: Column>(new: fn(u64) -> C, n: u64, samples: u32) {
     time(form, "eq", n, samples, || column.eq(black_box(c)), ones);
     time(form, "sum", n, samples, || column.sum(black_box(found)), |sum| *sum);
     time(form, "median", n, samples, || column.median(black_box(found)), |median| u128::from(*median));
+    let few = &few(n)[..];
+    time(form, "few", n, samples, || column.sum(black_box(few)), |sum| *sum);
 }
 
 fn main() {
