@@ -1,9 +1,8 @@
-//! What the forms of a column do with words: steps on blocks of them, the words of digits, and sums and counts over those of
-//! a found set.
+//! What the forms of a column do with words: steps on blocks of them, the words of digits, and sums over those of a found set.
 #![tactic(auto)]
 
 pub mod blocks;
 pub mod marks;
 mod sums;
 
-pub use sums::{count_in_both, is_empty, sum_by_places};
+pub use sums::{is_empty, sum_by_places};

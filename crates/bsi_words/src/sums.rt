@@ -1,13 +1,11 @@
-//! The sum of the numbers at the rows of a found set, by counts in the bit vectors of their binary places, and the count
-//! of the found rows that a bitmap has.
+//! The sum of the numbers at the rows of a found set, by counts in the bit vectors of their binary places.
 //!
-//! Both go by stretches of the found set, so that its words come from memory once for all the vectors that are counted
+//! It goes by stretches of the found set, so that its words come from memory once for all the vectors that are counted
 //! within it. A line of a cache without a found row is passed over in all of them. The first stretch is one line, and each
 //! is twice as long as the one before it, as long as no line is passed over.
 
-ghost use Rattle.std.specs.Prelude.{◌≡◌, ℕ, List, ◌+◌, ◌^◌, ◌<◌, ◌≤◌, ◌↔◌, ◌&&◌, IsTrue, count_by, length, slice_index, sum};
+ghost use Rattle.std.specs.Prelude.{◌≡◌, ℕ, List, ◌+◌, ◌^◌, ◌<◌, ◌≤◌, ◌↔◌, IsTrue, length, slice_index, sum};
 ghost use Rattle.std.specs.List.{items_where_true};
-ghost use Rattle.std.specs.Simd.Lanes.{zip2};
 ghost use Rattle.bsi_bits.specs.BitList.{in_words, word_count};
 ghost use Rattle.bsi_bits.specs.BitLists.{bits_at};
 ghost use Rattle.bsi_words.specs.Places.{has_place, IsEncoded};
@@ -44,25 +42,6 @@ pub fn sum_by_places(places: &[Bits], found: &Bits) -> u128
         most = next_most(stretch);
     }
     sum
-}
-
-/// Returns how many rows of a found set a bitmap has.
-pub fn count_in_both(found: &Bits, bitmap: &Bits) -> u64
-    requires { length found.now.bits ≡ length bitmap.now.bits }
-    ensures { result ≡ count_by (λ b. b) (zip2 ◌&&◌ found.now.bits bitmap.now.bits) }
-{
-    // The proof takes from this that there are at most 2^32 rows.
-    prove!(found.len() <= 1 << 32);
-    let words = found.words();
-    let mut count = 0;
-    let (mut at, mut most) = (0, LINE_WORDS);
-    'stretches: while at < words.len() {
-        let stretch = stretch_from(words, at, most);
-        count += found.count_and_in(bitmap, stretch.start, stretch.end);
-        at = stretch.end;
-        most = next_most(stretch);
-    }
-    count
 }
 
 /// Words of a found set: where they begin, and where they end.

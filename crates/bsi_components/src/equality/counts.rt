@@ -10,7 +10,6 @@ use crate::answers::RankedDigit;
 use crate::encoding::Encoding;
 use crate::equality::EqualityComponent;
 use bsi_bits::Bits;
-use bsi_words::count_in_both;
 
 impl EqualityComponent {
     /// Returns how many rows of a found set have a digit of `d`.
@@ -22,7 +21,7 @@ impl EqualityComponent {
         if d == 0 && self.base() == 2 {
             found.count_and_not(self.bitmap(1))
         } else {
-            count_in_both(found, self.bitmap(d))
+            found.count_and(self.bitmap(d))
         }
     }
 

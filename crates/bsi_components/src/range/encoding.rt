@@ -16,7 +16,7 @@ use crate::places::{is_place_set, place_count};
 use crate::range::{RangeComponent, push_block};
 use bsi_bits::{Bitmaps, Bits};
 use bsi_words::blocks::{add_in, copy_in, drop_in, keep_and_add, keep_but_drop, keep_in};
-use bsi_words::{count_in_both, sum_by_places};
+use bsi_words::sum_by_places;
 use std::alloc::Global;
 
 impl Encoding for RangeComponent {
@@ -103,7 +103,7 @@ impl Encoding for RangeComponent {
     // It writes no vector.
     fn count_le(&self, d: u32, found: &Bits, _scratch: &mut Bits) -> u64 {
         if d < self.top() {
-            count_in_both(found, self.bitmap(d))
+            found.count_and(self.bitmap(d))
         } else {
             found.count()
         }

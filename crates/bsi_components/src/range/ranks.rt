@@ -9,7 +9,6 @@ ghost use Rattle.bsi_components.specs.Ranks.{IsBetween};
 use crate::answers::RankedDigit;
 use crate::range::RangeComponent;
 use bsi_bits::Bits;
-use bsi_words::count_in_both;
 
 /// The number of blocks of words in a sample, which lie evenly among all.
 const SAMPLE_BLOCKS: usize = 16;
@@ -75,7 +74,7 @@ impl RangeComponent {
         if d < between.low || d >= between.high {
             return between;
         }
-        let upto = count_in_both(found, self.bitmap(d));
+        let upto = found.count_and(self.bitmap(d));
         if rank < upto {
             Between { high: d, ..between }
         } else {

@@ -19,5 +19,5 @@ returns-then-base-eq2 c =
 pub returns-else-d-eq0 : goal.returns-else-d-eq0
 returns-else-d-eq0 c =
     let found = c.args.found.now.bits in
-    c.count_in_both.ensures ∙ ap (λ bits. count_by (λ b. b) (zip2 ◌&&◌ found bits)) c.bitmap-else-d-eq0.ensures
+    c.count_and.ensures ∙ ap (λ bits. count_by (λ b. b) (zip2 ◌&&◌ found bits)) c.bitmap-else-d-eq0.ensures
     ∙ ap (count_by (λ b. b)) (zip2-map_right ◌&&◌ (λ v. v == c.args.d) found c.args.self.now.digits)

@@ -8,7 +8,7 @@ use Rattle.bsi_components.proofs.range.encoding.RangeComponentEncoding.count_le.
 pub returns-then-d-top-clause-count : goal.returns-then-d-top-clause-count
 returns-then-d-top-clause-count c =
     let found = c.args.found.now.bits in
-    c.count_in_both.ensures ∙ ap (λ bits. count_by (λ b. b) (zip2 ◌&&◌ found bits)) c.bitmap.ensures
+    c.count_and.ensures ∙ ap (λ bits. count_by (λ b. b) (zip2 ◌&&◌ found bits)) c.bitmap.ensures
     ∙ ap (count_by (λ b. b)) (zip2-map_right ◌&&◌ (λ v. nat_le v c.args.d) found c.args.self.now.digits)
 
 -- the greatest digit: every row
