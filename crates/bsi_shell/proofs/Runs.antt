@@ -17,13 +17,13 @@ on_err (Ok x) p = tt
 on_err (Err e) p = p
 
 -- a premise that is so
-pub on_ok_never : {T E P Q : Type 0} (r : Result T E) → OnOk r (Q → P) → Q → OnOk r P
-on_ok_never (Ok x) holds q = holds q
-on_ok_never (Err e) holds q = tt
+pub on_ok_so : {T E : Type 0} (P Q : Type 0) (r : Result T E) → OnOk r (Q → P) → Q → OnOk r P
+on_ok_so P Q (Ok x) holds q = holds q
+on_ok_so P Q (Err e) holds q = tt
 
-pub if_err_never : {T E Q : Type 0} {P : E → Type 0} (r : Result T E) → IfErr r (λ e. Q → P e) → Q → IfErr r P
-if_err_never (Ok x) holds q = tt
-if_err_never (Err e) holds q = holds q
+pub if_err_so : {T E : Type 0} (P : E → Type 0) (Q : Type 0) (r : Result T E) → IfErr r (λ e. Q → P e) → Q → IfErr r P
+if_err_so P Q (Ok x) holds q = tt
+if_err_so P Q (Err e) holds q = holds q
 
 -- what follows where a call met no fault follows where neither it nor another did
 pub on_both : {T U E P Q : Type 0} (first : Result T E) (other : Result U E) (both : Result U E) → both ≡ result_and first other → OnOk first P → (P → Q)
@@ -112,17 +112,20 @@ out_kept fault lines before middle after kept out = (out.0, appends_kept before 
 
 part_of : (declared : List ℕ) (texts : List (List ℕ)) (asked : List ℕ) (fault : FilesFault) (before middle after : Option (List ℕ)) → Keeps middle after
     → WritesPart (IsRun declared texts) asked fault before middle → IsPartOfRun declared texts asked before after
-part_of declared texts asked fault before middle after kept part = inr (inr (fault, record {
-  records = part.records;
-  lines = part.lines;
-  state = part.state;
-  rest = part.rest;
-  first = part.first;
-  few = part.few;
-  too_long = part.too_long;
-  are = part.are;
-  out = out_kept fault part.lines before middle after kept part.out;
-}))
+part_of declared texts asked fault before middle after kept part = inr (inr (
+  fault,
+  record {
+    records = part.records;
+    lines = part.lines;
+    state = part.state;
+    rest = part.rest;
+    first = part.first;
+    few = part.few;
+    too_long = part.too_long;
+    are = part.are;
+    out = out_kept fault part.lines before middle after kept part.out;
+  },
+))
 
 nothing_of : (declared : List ℕ) (texts : List (List ℕ)) (asked : List ℕ) (before middle after : Option (List ℕ)) → Keeps middle after → middle ≡ before
     → IsPartOfRun declared texts asked before after

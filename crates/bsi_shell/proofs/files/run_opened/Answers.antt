@@ -1,6 +1,5 @@
 use Rattle.std.proofs.Common.{refl}
-use Rattle.bsi_files.specs.Writing.{Leaves, WhereKnown, WritesAll}
-use Rattle.bsi_shell.proofs.Runs.{if_err_never, on_both, on_err, on_ok_never, part_over, run_kept}
+use Rattle.bsi_shell.proofs.Runs.{if_err_so, on_both, on_err, on_ok_so, part_over, run_kept}
 use Rattle.bsi_shell.proofs.files.run_opened.Goals as goal
 
 -- all lines were written, and the flush kept them
@@ -19,5 +18,5 @@ returns-clause-part g c =
     let after = g.O.Write.contents c.run_files-run.new.writer in
     on_err c.and.result
     (part_over g.S.Read.remaining c.args.opened.schema c.args.opened.asks c.args.opened.rows.items before after (g.O.Write.contents c.flush.new.self)
-    c.flush.ensures.bytes c.run_files-run.result (on_ok_never c.run_files-run.result c.run_files-run.ensures.lines refl)
-    (if_err_never c.run_files-run.result c.run_files-run.ensures.part refl))
+    c.flush.ensures.bytes c.run_files-run.result (on_ok_so _ _ c.run_files-run.result c.run_files-run.ensures.lines refl)
+    (if_err_so _ _ c.run_files-run.result c.run_files-run.ensures.part refl))
