@@ -8,6 +8,8 @@ use Rattle.bsi_rings.specs.Rings.{Sending}
 use Rattle.bsi_system.specs.Running.{Taking}
 use Rattle.bsi_records.specs.Numbers.{Field}
 use Rattle.bsi_table.specs.Columns.{Declared}
+use Rattle.bsi_table.specs.Rows.{Entries}
+use Rattle.bsi_text.specs.RowFiles.{good_rows}
 use Rattle.bsi_text.specs.Sources.{End, Source, StandsAfter, Tally}
 use Rattle.bsi_text.specs.declared.rows.SourceFault.{SourceFault}
 use Rattle.bsi_text.specs.declared.rows.SourceFault.TheVariants as source
@@ -17,9 +19,9 @@ use Rattle.bsi_files.specs.Faults.{is_early, is_late, is_of_schema}
 use Rattle.bsi_files.specs.Feeding.{HasFailed, StopsAfter}
 use Rattle.bsi_files.specs.Headers.{HasHeader, IsHeadersFault}
 use Rattle.bsi_files.specs.Matching.{AreMatched}
-use Rattle.bsi_files.specs.RunFaults.{AreGood, FailsAt, IsFaultOf, IsKeptFault, IsLoadFault, IsRunFault, IsTooLong}
+use Rattle.bsi_files.specs.RunFaults.{AreGood, AreOverLimit, FailsAt, HasFirstRows, HasGivenRows, IsFaultOf, IsKeptFault, IsLoadFault, IsRunFault, IsTooLong}
 use Rattle.bsi_files.specs.SchemaFiles.{none_declared, IsSchemaFault, IsSchemaFile}
-use Rattle.bsi_files.specs.Takings.{AreLoaded}
+use Rattle.bsi_files.specs.Takings.{AreTold}
 use Rattle.bsi_files.specs.Writing.{Leaves}
 use Rattle.bsi_files.specs.declared.faults.FilesFault.{FilesFault}
 use Rattle.bsi_files.specs.declared.faults.FilesFault.TheVariants as run
@@ -31,21 +33,21 @@ use Rattle.bsi_files.proofs.Heading.{all_known, headers_of}
 
 -- ---- which faults are met when
 
-module _ {R : Type 0} (rem : R → Option (List ℕ)) (sources : List (Source R)) where
-  pub load_early : (fault : FilesFault) → is_early fault ≡ true → IsLoadFault rem sources fault
-  load_early run.IndexFull early = tt
-  load_early (run.NotClosed number) early = tt
-  load_early run.Readers early = tt
-  load_early run.NoMemory early = tt
-  load_early fault early = absurd (cc (early))
+module _ {R : Type 0} (rem : R → Option (List ℕ)) (limit : ℕ) (sources : List (Source R)) where
+  pub load_early : (fault : FilesFault) → is_early fault ≡ true → (fault ≡ run.IndexFull → AreOverLimit rem limit sources) → IsLoadFault rem limit sources fault
+  load_early run.IndexFull early over = over refl
+  load_early (run.NotClosed number) early over = tt
+  load_early run.Readers early over = tt
+  load_early run.NoMemory early over = tt
+  load_early fault early over = absurd (cc (early))
 
-  pub load_run : (fault : FilesFault) → IsLoadFault rem sources fault → IsRunFault rem sources fault
+  pub load_run : (fault : FilesFault) → IsLoadFault rem limit sources fault → IsRunFault rem limit sources fault
   load_run (run.Read which.AsksFile) met = tt
   load_run (run.TooLong which.AsksFile) met = tt
   load_run run.Write met = tt
   load_run fault met = met
 
-  pub late_run : (fault : FilesFault) → is_late fault ≡ true → IsRunFault rem sources fault
+  pub late_run : (fault : FilesFault) → is_late fault ≡ true → IsRunFault rem limit sources fault
   late_run (run.Read which.AsksFile) late = tt
   late_run (run.TooLong which.AsksFile) late = tt
   late_run run.Write late = tt
@@ -53,17 +55,17 @@ module _ {R : Type 0} (rem : R → Option (List ℕ)) (sources : List (Source R)
   late_run run.NoMemory late = tt
   late_run fault late = absurd (cc (late))
 
-  pub load_counted : (fault : FilesFault) → IsLoadFault rem sources fault → fault ≢ run.TooManyFiles
-  load_counted fault met = λ is. subst (λ f. IsLoadFault rem sources f) is met
+  pub load_counted : (fault : FilesFault) → IsLoadFault rem limit sources fault → fault ≢ run.TooManyFiles
+  load_counted fault met = λ is. subst (λ f. IsLoadFault rem limit sources f) is met
 
-pub leaves_loaded : (Is : List (List Field) → List (List ℕ) → Type 0) {R : Type 0} (rem : R → Option (List ℕ)) (sources : List (Source R)) (asked : List ℕ)
-    (fault : FilesFault) (before after : Option (List ℕ)) → IsLoadFault rem sources fault → after ≡ before → Leaves Is asked fault before after
-leaves_loaded Is rem sources asked (run.Source number e) before after met same = same
-leaves_loaded Is rem sources asked (run.NotClosed number) before after met same = same
-leaves_loaded Is rem sources asked run.IndexFull before after met same = same
-leaves_loaded Is rem sources asked run.Readers before after met same = inl same
-leaves_loaded Is rem sources asked run.NoMemory before after met same = inl same
-leaves_loaded Is rem sources asked fault before after met same = absurd met
+pub leaves_loaded : (Is : List (List Field) → List (List ℕ) → Type 0) {R : Type 0} (rem : R → Option (List ℕ)) (limit : ℕ) (sources : List (Source R)) (asked : List ℕ)
+    (fault : FilesFault) (before after : Option (List ℕ)) → IsLoadFault rem limit sources fault → after ≡ before → Leaves Is asked fault before after
+leaves_loaded Is rem limit sources asked (run.Source number e) before after met same = same
+leaves_loaded Is rem limit sources asked (run.NotClosed number) before after met same = same
+leaves_loaded Is rem limit sources asked run.IndexFull before after met same = same
+leaves_loaded Is rem limit sources asked run.Readers before after met same = inl same
+leaves_loaded Is rem limit sources asked run.NoMemory before after met same = inl same
+leaves_loaded Is rem limit sources asked fault before after met same = absurd met
 
 -- ---- from what was kept of an end to its source
 
@@ -78,7 +80,7 @@ get_is feds k n d e lt same is = subst (λ m. MatchOption (slice_get feds m) ⊥
 
 module _ {R : Type 0} (rem : R → Option (List ℕ)) where
   kept_at : (takings : List Taking) (k : ℕ) (feeders : List Sending) (sources : List (Source R)) (ends : List FeedEnd) (feds : List Fed) (n : ℕ) (e : SourceFault)
-      → AreEndsOf rem (tasks feeders sources) ends → AreLoaded takings k ends feds → MatchOption (slice_get feds n) ⊥ (λ fed. fed.fault ≡ Some e)
+      → AreEndsOf rem (tasks feeders sources) ends → AreTold takings k ends feds → MatchOption (slice_get feds n) ⊥ (λ fed. fed.fault ≡ Some e)
       → FailsAt rem sources n e
   kept_at takings k feeders sources ends [] n e are loaded is = absurd is
   kept_at takings k feeders sources [] (fed ∷ feds) n e are loaded is = absurd loaded
@@ -94,17 +96,17 @@ module _ {R : Type 0} (rem : R → Option (List ℕ)) where
       let rest = kept_at takings (suc k) feeders sources ends feds n e are.1 loaded.1 is in
       record { source = rest.source; many = rest.many; at = rest.at; failed = rest.failed }
 
-  pub kept_load : (takings : List Taking) (feeders : List Sending) (sources : List (Source R)) (ends : List FeedEnd) (feds : List Fed)
-      → AreEndsOf rem (tasks feeders sources) ends → AreLoaded takings 0 ends feds → (fault : FilesFault) → IsKeptFault feds fault → IsLoadFault rem sources fault
-  kept_load takings feeders sources ends feds are loaded (run.Source number e) kept = kept_at takings 0 feeders sources ends feds number e are loaded kept
-  kept_load takings feeders sources ends feds are loaded (run.NotClosed number) kept = tt
-  kept_load takings feeders sources ends feds are loaded fault kept = absurd kept
+  pub kept_load : (limit : ℕ) (takings : List Taking) (feeders : List Sending) (sources : List (Source R)) (ends : List FeedEnd) (feds : List Fed)
+      → AreEndsOf rem (tasks feeders sources) ends → AreTold takings 0 ends feds → (fault : FilesFault) → IsKeptFault feds fault → IsLoadFault rem limit sources fault
+  kept_load limit takings feeders sources ends feds are loaded (run.Source number e) kept = kept_at takings 0 feeders sources ends feds number e are loaded kept
+  kept_load limit takings feeders sources ends feds are loaded (run.NotClosed number) kept = tt
+  kept_load limit takings feeders sources ends feds are loaded fault kept = absurd kept
 
   pub few_kept : (takings : List Taking) (feeders : List Sending) (sources : List (Source R)) (ends : List FeedEnd) (feds : List Fed)
-      → AreEndsOf rem (tasks feeders sources) ends → AreLoaded takings 0 ends feds → length sources ≤ 64 → length feds ≤ 64
+      → AreEndsOf rem (tasks feeders sources) ends → AreTold takings 0 ends feds → length sources ≤ 64 → length feds ≤ 64
   few_kept takings feeders sources ends feds are loaded few = (let le = at 0 feeders sources ends feds are loaded in omega arith)
     where
-      at : (k : ℕ) (fs : List Sending) (ss : List (Source R)) (es : List FeedEnd) (xs : List Fed) → AreEndsOf rem (tasks fs ss) es → AreLoaded takings k es xs
+      at : (k : ℕ) (fs : List Sending) (ss : List (Source R)) (es : List FeedEnd) (xs : List Fed) → AreEndsOf rem (tasks fs ss) es → AreTold takings k es xs
           → length xs ≤ length ss
       at k fs ss [] [] are loaded = omega arith
       at k fs ss [] (x ∷ xs) are loaded = absurd loaded
@@ -189,10 +191,44 @@ module _ {R : Type 0} (rem : R → Option (List ℕ)) where
         (subst (λ os. All (λ other. IfSome other (HasHeader schema)) os) is (headers_of rem schema readers sources begun));
   }
 
+  -- some first records behind the header
+  first_rows : (schema : Declared) (reader : R) (s : Source R) (text : List ℕ) (rows : List Entries) → Begins rem schema reader s → rem reader ≡ Some text
+      → HasGivenRows rem s rows → HasFirstRows schema text rows
+  first_rows schema reader s text rows begins known given =
+      let gives = given begins.end_is in
+      let stands : StandsAfter rem s.layout s.input (strip_bom text) =
+      subst (λ o. IfSome o (λ bytes. StandsAfter rem s.layout s.input (strip_bom bytes))) known begins.behind in
+      let all = begun_join rem text s.input gives.at (s.layout.header ∷ []) gives.taken.records (begun_header s text stands) gives.taken.read in
+      let none : s.tally.taken ≡ 0 = ap (λ (t : Tally). t.taken) begins.tally_is in
+      let few : gives.end.taken ≤ 1000000 = gives.few (omega (arith, none)) in
+      record {
+        header = s.layout.header;
+        records = gives.taken.records;
+        state = reader_state gives.at;
+        rest = all.rest;
+        first = all.first;
+        few = omega (arith, few, gives.taken.taken, none);
+        header_is = begins.header_is;
+        rows_are = sym gives.taken.good ∙ ap (λ d. good_rows d s.layout.header gives.taken.records) begins.schema_is;
+      }
+
+  all_first : (schema : Declared) (readers : List R) (sources : List (Source R)) (texts : List (List ℕ)) (lists : List (List Entries))
+      → AreMatched (Begins rem schema) readers sources → map rem readers ≡ map (λ text. Some text) texts → AreMatched (HasGivenRows rem) sources lists
+      → AreMatched (HasFirstRows schema) texts lists
+  all_first schema [] [] [] [] begun is given = tt
+  all_first schema [] [] [] (rows ∷ lists) begun is given = absurd given
+  all_first schema [] [] (text ∷ texts) lists begun is given = absurd (cc (is))
+  all_first schema [] (s ∷ sources) texts lists begun is given = absurd begun
+  all_first schema (reader ∷ readers) [] texts lists begun is given = absurd begun
+  all_first schema (reader ∷ readers) (s ∷ sources) [] lists begun is given = absurd (cc (is))
+  all_first schema (reader ∷ readers) (s ∷ sources) (text ∷ texts) [] begun is given = absurd given
+  all_first schema (reader ∷ readers) (s ∷ sources) (text ∷ texts) (rows ∷ lists) begun is given =
+      (first_rows schema reader s text rows begun.0 (cc (is)) given.0, all_first schema readers sources texts lists begun.1 (cc (is)) given.1)
+
   module _ (declared : List ℕ) (schema : Declared) (limit : ℕ) (readers : List R) (sources : List (Source R)) (texts : List (List ℕ))
       (schema_is : IsSchemaFile declared schema limit) (begun : AreMatched (Begins rem schema) readers sources)
       (is : map rem readers ≡ map (λ text. Some text) texts) where
-    pub run_fault_of : (fault : FilesFault) → IsRunFault rem sources fault → IsFaultOf declared texts fault
+    pub run_fault_of : (fault : FilesFault) → IsRunFault rem limit sources fault → IsFaultOf declared texts fault
     run_fault_of (run.Source n source.BadHeader) met =
         let of = of_text schema readers sources texts n met.source begun is met.at in
         absurd ((stops_after schema of.reader met.source met.many source.BadHeader of.begins met.failed).stopped.later refl)
@@ -208,6 +244,14 @@ module _ {R : Type 0} (rem : R → Option (List ℕ)) where
     run_fault_of (run.TooLong which.SchemaFile) met = absurd met
     run_fault_of (run.Read which.SchemaFile) met = absurd met
     run_fault_of run.TooManyFiles met = absurd met
+    run_fault_of run.IndexFull met = record {
+      schema = schema;
+      limit = limit;
+      schema_is = schema_is;
+      rows = met.rows;
+      first = all_first schema readers sources texts met.rows begun is met.given;
+      past = met.past;
+    }
     run_fault_of run.NoMemory met = tt
     run_fault_of fault met = good declared schema limit readers sources texts schema_is begun is
 

@@ -1,5 +1,5 @@
 -- What a feeder has sent so far of a source.
-use Rattle.std.proofs.Common.{◌≡◌, ℕ, ◌+◌, Bool, false, List, [], ◌∷◌, ◌++◌, Option, Some, None, IfSome, length, refl, sym, ap, ◌∙◌, subst, arith, length-append}
+use Rattle.std.proofs.Common.{◌≡◌, ℕ, ◌+◌, ◌≤◌, Bool, false, List, [], ◌∷◌, ◌++◌, Option, Some, None, IfSome, length, refl, sym, ap, ◌∙◌, subst, arith, length-append}
 use Rattle.std.specs.Prelude.{Result, Err, MatchOption}
 use Rattle.std.proofs.lemmas.List.{append_assoc, append-nil}
 use Rattle.bsi_rings.specs.Rings.{with_sent, Sending}
@@ -22,6 +22,7 @@ pub record HasGone {R : Type 0} (rem : R → Option (List ℕ)) (old new : Sourc
   pub layout : new.layout ≡ old.layout
   pub end : new.end ≡ old.end
   pub taken : HasTaken rem old.layout old.input new.input old.tally new.tally rows
+  pub few : old.tally.taken ≤ 1000000 → new.tally.taken ≤ 1000000
 
 -- so many rows were sent of a source, the first ones that it still had
 pub record HasSent {R : Type 0} (rem : R → Option (List ℕ)) (feeder : Sending) (source : Source R) (n : ℕ) (now : Sending) (after : Source R) : Type 0 where
@@ -52,7 +53,7 @@ module _ {R : Type 0} (rem : R → Option (List ℕ)) (feeder : Sending) (source
     sent = sym (append-nil feeder.sent);
     many = refl;
     gives = λ all others still. record { rest = all; left = others; parts = refl; still = still; count = refl };
-    gone = record { layout = refl; end = refl; taken = none };
+    gone = record { layout = refl; end = refl; taken = none; few = λ le. le };
   }
 
   -- a row more was taken
@@ -62,6 +63,7 @@ module _ {R : Type 0} (rem : R → Option (List ℕ)) (feeder : Sending) (source
     end = next.after ∙ sym next.before ∙ has.end;
     taken = join source.layout source.input after.input then_.input source.tally after.tally then_.tally rows (row ∷ []) has.taken
         (subst (λ (l : Layout). HasTaken rem l after.input then_.input after.tally then_.tally (row ∷ [])) has.layout next.taken);
+    few = λ le. next.few;
   }
 
   pub sent_more : JoinsTaken → (n : ℕ) (now next : Sending) (after then_ : Source R) (row : Entries) → HasSent rem feeder source n now after
@@ -128,6 +130,7 @@ module _ {R : Type 0} (rem : R → Option (List ℕ)) (feeder : Sending) (source
     sent = is ∙ has.sent;
     many = has.many ∙ sym many;
     first = λ all others still. (let was = has.gives all others still in (was.rest, sym was.parts));
+    given = λ going. record { at = after.input; end = after.tally; taken = has.gone.taken; few = has.gone.few };
     all = λ going fine. λ all others still.
         let was = has.gives all others still in
         let end = none going fine was.rest was.left was.still in

@@ -1,16 +1,18 @@
 -- What was taken of each feeder, as closings are told and rows are taken.
 use Rattle.std.proofs.Common.{◌≡◌, ◌≢◌, ℕ, suc, zero, ◌+◌, ◌<◌, ◌≤◌, Bool, true, false, List, [], ◌∷◌, ◌++◌, length, Option, Some, None, IfSome, Result, Ok, Err, All, refl, ap, sym, ◌∙◌, subst, arith, slice_set, add-zero, length-append}
-use Rattle.std.specs.Prelude.{IfErr, OnOk, is_some, slice_get}
+use Rattle.std.specs.Prelude.{IfErr, OnOk, is_some, nat_eq, slice_get}
+use Rattle.std.proofs.lemmas.Bool.Decides.{nat_tests}
+use Rattle.bsi_load.specs.declared.event.LoadRefused.TheVariants as load
 use Rattle.std.proofs.lemmas.List.{append-nil}
 use Rattle.std.proofs.lemmas.List.Elements.{All-head, All-tail}
 use Rattle.bsi_load.specs.Runs.{rows_from}
 use Rattle.bsi_rings.specs.Rings.{new_feeders, new_sending, ChannelName, Sending, Sent}
-use Rattle.bsi_system.specs.Running.{settled_as, taking_at, with_taken, published_all, AlwaysHolds, IsClosingOf, IsFeederOf, Loading, LoadsOne, System, Taking}
+use Rattle.bsi_system.specs.Running.{settled_as, taking_at, with_taken, published_all, AlwaysHolds, IsClosingOf, IsFeederOf, IsLoaderReply, Loading, LoadsOne, Looks, MayLoad, System, Taking}
 use Rattle.bsi_table.specs.Rows.{Entries, FedRow}
 use Rattle.bsi_text.specs.Sources.{Source}
 use Rattle.bsi_files.specs.Ends.{tasks, AreClosings, AreEndsOf, AreFeeders, IsEndOf}
 use Rattle.bsi_files.specs.Feds.{AreFedFrom, IsAllFed, IsFedFrom}
-use Rattle.bsi_files.specs.Takings.{all_taken, AreLoaded, IsDrained, IsFine, IsKept, IsLoaded, KeepsOthers, TakesOnlyOf}
+use Rattle.bsi_files.specs.Takings.{all_taken, AreLoaded, AreTold, IsDrained, IsFine, IsFullAt, IsKept, IsLoaded, IsTold, KeepsOthers, KeepsTold, TakesOnlyOf}
 use Rattle.bsi_files.specs.Feeding.{HasFed, IsReadOut}
 use Rattle.bsi_files.specs.declared.feeding.FeedEnd.{FeedEnd}
 use Rattle.bsi_files.specs.declared.loading.Fed.{Fed}
@@ -105,45 +107,45 @@ module _ (old told new : Loading) (closing : Sent) (is : told ≡ settled_as old
 
 -- ---- all closings
 
-loaded_in : (ts us : List Taking) (n : ℕ) (ends : List FeedEnd) (feds : List Fed)
-    → ((k : ℕ) → k < n + length ends → taking_at us k ≡ taking_at ts k) → AreLoaded ts n ends feds → AreLoaded us n ends feds
-loaded_in ts us n [] [] same all = tt
-loaded_in ts us n [] (fed ∷ feds) same all = absurd all
-loaded_in ts us n (end ∷ ends) [] same all = absurd all
-loaded_in ts us n (end ∷ ends) (fed ∷ feds) same all = (
+told_in : (ts us : List Taking) (n : ℕ) (ends : List FeedEnd) (feds : List Fed)
+    → ((k : ℕ) → k < n + length ends → taking_at us k ≡ taking_at ts k) → AreTold ts n ends feds → AreTold us n ends feds
+told_in ts us n [] [] same all = tt
+told_in ts us n [] (fed ∷ feds) same all = absurd all
+told_in ts us n (end ∷ ends) [] same all = absurd all
+told_in ts us n (end ∷ ends) (fed ∷ feds) same all = (
   record {
     kept = all.0.kept;
-    taken = by end.closing all.0.taken;
+    told = by end.closing all.0.told;
   },
-  loaded_in ts us (suc n) ends feds (λ k lt. same k (omega arith)) all.1,
+  told_in ts us (suc n) ends feds (λ k lt. same k (omega arith)) all.1,
 )
   where
-    by : (o : Option Sent) → IfSome o (λ closing. taking_at ts n ≡ all_taken closing.rows) → IfSome o (λ closing. taking_at us n ≡ all_taken closing.rows)
-    by None taken = tt
-    by (Some closing) taken = same n (omega arith) ∙ taken
+    by : (o : Option Sent) → IfSome o (λ closing. (taking_at ts n).told ≡ Some closing.rows) → IfSome o (λ closing. (taking_at us n).told ≡ Some closing.rows)
+    by None told = tt
+    by (Some closing) told = ap (λ (t : Taking). t.told) (same n (omega arith)) ∙ told
 
-loaded_push : (ts : List Taking) (n : ℕ) (ends : List FeedEnd) (feds : List Fed) (end : FeedEnd) (fed : Fed)
-    → AreLoaded ts n ends feds → IsLoaded ts (n + length ends) end fed → AreLoaded ts n (ends ++ end ∷ []) (feds ++ fed ∷ [])
-loaded_push ts n [] [] end fed all one = (subst (λ k. IsLoaded ts k end fed) (add-zero n) one, tt)
-loaded_push ts n [] (y ∷ feds) end fed all one = absurd all
-loaded_push ts n (x ∷ ends) [] end fed all one = absurd all
-loaded_push ts n (x ∷ ends) (y ∷ feds) end fed all one =
+told_push : (ts : List Taking) (n : ℕ) (ends : List FeedEnd) (feds : List Fed) (end : FeedEnd) (fed : Fed)
+    → AreTold ts n ends feds → IsTold ts (n + length ends) end fed → AreTold ts n (ends ++ end ∷ []) (feds ++ fed ∷ [])
+told_push ts n [] [] end fed all one = (subst (λ k. IsTold ts k end fed) (add-zero n) one, tt)
+told_push ts n [] (y ∷ feds) end fed all one = absurd all
+told_push ts n (x ∷ ends) [] end fed all one = absurd all
+told_push ts n (x ∷ ends) (y ∷ feds) end fed all one =
     let at : n + length (x ∷ ends) ≡ suc n + length ends = omega arith in
-    (all.0, loaded_push ts (suc n) ends feds end fed all.1 (subst (λ k. IsLoaded ts k end fed) at one))
+    (all.0, told_push ts (suc n) ends feds end fed all.1 (subst (λ k. IsTold ts k end fed) at one))
 
--- all rows of the first ends were taken, and these ends are left
-pub record HasLoaded (system : System) (all left : List FeedEnd) (takings : List Taking) (feds : List Fed) : Type 0 where
+-- the first closings were told, and these ends are left
+pub record HasTold (system : System) (all left : List FeedEnd) (takings : List Taking) (feds : List Fed) : Type 0 where
   pub done : List FeedEnd
   pub parts : all ≡ done ++ left
-  pub loaded : AreLoaded takings 0 done feds
+  pub told : AreTold takings 0 done feds
   pub closings : AreClosings system (length done) left
 
-pub loaded_none : (system : System) (all left : List FeedEnd) (takings : List Taking) (feds : List Fed) → left ≡ all → feds ≡ [] → AreClosings system 0 all
-    → HasLoaded system all left takings feds
-loaded_none system all left takings feds same none closings = record {
+pub told_none : (system : System) (all left : List FeedEnd) (takings : List Taking) (feds : List Fed) → left ≡ all → feds ≡ [] → AreClosings system 0 all
+    → HasTold system all left takings feds
+told_none system all left takings feds same none closings = record {
   done = [];
   parts = sym same;
-  loaded = subst (λ xs. AreLoaded takings 0 [] xs) (sym none) tt;
+  told = subst (λ xs. AreTold takings 0 [] xs) (sym none) tt;
   closings = subst (λ xs. AreClosings system 0 xs) (sym same) closings;
 }
 
@@ -156,22 +158,22 @@ closing_of system n left end rest is closings = by end.closing (subst (λ xs. Ar
     by None of = tt
     by (Some closing) of = of.1
 
-pub loaded_more : (system : System) (all left rest : List FeedEnd) (old new : List Taking) (feds more : List Fed) (end : FeedEnd) (fed : Fed)
-    → HasLoaded system all left old feds → left ≡ end ∷ rest → more ≡ feds ++ fed ∷ [] → IsKept end fed
-    → IfSome end.closing (λ closing. taking_at new closing.number ≡ all_taken closing.rows)
+pub told_more : (system : System) (all left rest : List FeedEnd) (old new : List Taking) (feds more : List Fed) (end : FeedEnd) (fed : Fed)
+    → HasTold system all left old feds → left ≡ end ∷ rest → more ≡ feds ++ fed ∷ [] → IsKept end fed
+    → IfSome end.closing (λ closing. (taking_at new closing.number).told ≡ Some closing.rows)
     → IfSome end.closing (λ closing. KeepsOthers closing.number old new) → (end.closing ≡ None → new ≡ old)
-    → HasLoaded system all rest new more
-loaded_more system all left rest old new feds more end fed has is pushed kept taken others same =
+    → HasTold system all rest new more
+told_more system all left rest old new feds more end fed has is pushed kept told others same =
     let here = subst (λ xs. AreClosings system (length has.done) xs) is has.closings in
     let n : ℕ = length has.done in
     let still : (k : ℕ) → k < n → taking_at new k ≡ taking_at old k = λ k lt. stays end.closing refl here.0 others k lt in
     record {
       done = has.done ++ end ∷ [];
       parts = has.parts ∙ (ap (λ xs. has.done ++ xs) is ∙ sym (push_assoc has.done end rest));
-      loaded = subst (λ xs. AreLoaded new 0 (has.done ++ end ∷ []) xs) (sym pushed)
-          (loaded_push new 0 has.done feds end fed
-          (loaded_in old new 0 has.done feds (λ k lt. still k (omega arith)) has.loaded)
-          (subst (λ k. IsLoaded new k end fed) (omega arith) (record { kept = kept; taken = at end.closing here.0 taken })));
+      told = subst (λ xs. AreTold new 0 (has.done ++ end ∷ []) xs) (sym pushed)
+          (told_push new 0 has.done feds end fed
+          (told_in old new 0 has.done feds (λ k lt. still k (omega arith)) has.told)
+          (subst (λ k. IsTold new k end fed) (omega arith) (record { kept = kept; told = at end.closing here.0 told })));
       closings = subst (λ k. AreClosings system k rest) (omega (arith, length-append has.done (end ∷ []))) here.1;
     }
   where
@@ -185,18 +187,64 @@ loaded_more system all left rest old new feds more end fed has is pushed kept ta
     stays (Some closing) e of keeps k lt = keeps k (λ eq. absurd (omega (arith, eq, of.0)))
 
     at : (o : Option Sent) → IfSome o (λ closing. (closing.number ≡ length has.done) × IsClosingOf closing system)
-        → IfSome o (λ closing. taking_at new closing.number ≡ all_taken closing.rows) → IfSome o (λ closing. taking_at new (length has.done) ≡ all_taken closing.rows)
+        → IfSome o (λ closing. (taking_at new closing.number).told ≡ Some closing.rows) → IfSome o (λ closing. (taking_at new (length has.done)).told ≡ Some closing.rows)
     at None of is = tt
-    at (Some closing) of is = subst (λ k. taking_at new k ≡ all_taken closing.rows) of.0 is
+    at (Some closing) of is = subst (λ k. (taking_at new k).told ≡ Some closing.rows) of.0 is
 
-pub loaded_all : (system : System) (all left : List FeedEnd) (takings : List Taking) (feds : List Fed) → HasLoaded system all left takings feds → left ≡ []
-    → AreLoaded takings 0 all feds
-loaded_all system all left takings feds has none =
-    subst (λ xs. AreLoaded takings 0 xs feds) (sym (has.parts ∙ (ap (λ xs. has.done ++ xs) none ∙ nil has.done))) has.loaded
+pub told_all : (system : System) (all left : List FeedEnd) (takings : List Taking) (feds : List Fed) → HasTold system all left takings feds → left ≡ []
+    → AreTold takings 0 all feds
+told_all system all left takings feds has none =
+    subst (λ xs. AreTold takings 0 xs feds) (sym (has.parts ∙ (ap (λ xs. has.done ++ xs) none ∙ append-nil has.done))) has.told
+
+-- ---- what is left of each feeder is taken
+
+pub keeps_none : (ts : List Taking) → KeepsTold ts ts
+keeps_none ts k = refl
+
+pub keeps_more : (f : ℕ) (a b c : List Taking) → KeepsTold a b → TakesOnlyOf f b c → KeepsTold a c
+keeps_more f a b c keeps takes k = by (nat_eq k f) refl
   where
-    nil : (xs : List FeedEnd) → xs ++ [] ≡ xs
-    nil [] = refl
-    nil (x ∷ xs) = ap (λ ys. x ∷ ys) (nil xs)
+    by : (t : Bool) → nat_eq k f ≡ t → (taking_at c k).told ≡ (taking_at a k).told
+    by true e = (let same : k ≡ f = grind (arith, nat_tests) in ap (λ m. (taking_at c m).told) same ∙ (takes.told ∙ (ap (λ m. (taking_at b m).told) (sym same) ∙ keeps k)))
+    by false e = (let other : k ≢ f = λ same. absurd (grind (arith, nat_tests)) in ap (λ (t : Taking). t.told) (takes.others k other) ∙ keeps k)
+
+pub drained_more : (n : ℕ) (a b : List Taking) → ((f : ℕ) → f < n → IsDrained f a) → TakesOnlyOf n a b → IsDrained n b → (f : ℕ) → f < n + 1 → IsDrained f b
+drained_more n a b before takes here f lt = by (nat_eq f n) refl
+  where
+    by : (t : Bool) → nat_eq f n ≡ t → IsDrained f b
+    by true e = (let same : n ≡ f = grind (arith, nat_tests) in subst (λ m. IsDrained m b) same here)
+    by false e =
+        let other : f ≢ n = λ same. absurd (grind (arith, nat_tests)) in
+        subst (λ (t : Taking). IfSome t.told (λ sent. t.taken ≡ sent)) (sym (takes.others f other)) (before f (omega (arith, lt, other)))
+
+-- a row of this feeder was refused, since the table is full
+pub full_at : (f : ℕ) (old new : Loading) → IsLoaderReply old f (Err load.IndexFull) → Looks old f new → AlwaysHolds new → IsFullAt f new
+full_at f old new reply looks always = record {
+  may = subst (λ ts. MayLoad ts f) (sym (ap (λ (s : Loading). s.takings) looks)) reply.0;
+  many = ap (λ (s : Loading). length s.published + length s.held) looks ∙ (reply.1 ∙ sym (ap (λ (s : Loading). s.system.limit) looks));
+  always = always;
+}
+
+-- each closing was told, and all that it carried was taken
+pub loaded_all : (ts us : List Taking) (n : ℕ) (ends : List FeedEnd) (feds : List Fed) → AreTold ts n ends feds → KeepsTold ts us
+    → ((f : ℕ) → f < n + length feds → IsDrained f us) → AreLoaded us n ends feds
+loaded_all ts us n [] [] told keeps drained = tt
+loaded_all ts us n [] (fed ∷ feds) told keeps drained = absurd told
+loaded_all ts us n (end ∷ ends) [] told keeps drained = absurd told
+loaded_all ts us n (end ∷ ends) (fed ∷ feds) told keeps drained = (
+  record { kept = told.0.kept; taken = by end.closing told.0.told },
+  loaded_all ts us (suc n) ends feds told.1 keeps (λ f lt. drained f (omega arith)),
+)
+  where
+    whole : (t : Taking) (rows : List Entries) → t.told ≡ Some rows → IfSome t.told (λ sent. t.taken ≡ sent) → t ≡ all_taken rows
+    whole t rows is taken = made t.taken t.told (subst (λ o. IfSome o (λ sent. t.taken ≡ sent)) is taken) is
+      where
+        made : (xs : List Entries) (o : Option (List Entries)) → xs ≡ rows → o ≡ Some rows → record { taken = xs; told = o } ≡ all_taken rows
+        made xs o one two = cc
+
+    by : (o : Option Sent) → IfSome o (λ closing. (taking_at ts n).told ≡ Some closing.rows) → IfSome o (λ closing. taking_at us n ≡ all_taken closing.rows)
+    by None is = tt
+    by (Some closing) is = whole (taking_at us n) closing.rows (keeps n ∙ is) (drained n (omega arith))
 
 -- ---- from the ends of threads to what a run has
 

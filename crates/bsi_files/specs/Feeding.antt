@@ -29,6 +29,13 @@ pub record IsReadOut {R : Type 0} (rem : R → Option (List ℕ)) (source : Sour
   pub few : end.taken ≤ 1000000
   pub bad_is : bad ≡ end.bad
 
+-- a source gave these rows, the good ones of the records that were taken of it, at most 1,000,000 with those before
+pub record GivesRows {R : Type 0} (rem : R → Option (List ℕ)) (source : Source R) (rows : List Entries) : Type 0 where
+  pub at : Reader R
+  pub end : Tally
+  pub taken : HasTaken rem source.layout source.input at source.tally end rows
+  pub few : source.tally.taken ≤ 1000000 → end.taken ≤ 1000000
+
 -- what a feeder had sent before and after it read a source, and how it says that it ended
 pub record HasFed {R : Type 0} (rem : R → Option (List ℕ)) (source : Source R) (before after : List Entries)
     (accepted bad : ℕ) (stopped : Bool) (fault : Option SourceFault) : Type 0 where
@@ -36,6 +43,7 @@ pub record HasFed {R : Type 0} (rem : R → Option (List ℕ)) (source : Source 
   pub sent : after ≡ before ++ rows
   pub many : length rows ≡ accepted
   pub first : BeginsWith rem source rows
+  pub given : source.end ≡ None → GivesRows rem source rows
   pub all : stopped ≡ false → fault ≡ None → HasOnly rem source rows bad
   pub out : stopped ≡ false → fault ≡ None → source.end ≡ None → IsReadOut rem source rows bad
 
@@ -60,6 +68,7 @@ pub record GivesNext {R : Type 0} (rem : R → Option (List ℕ)) (old new : Sou
   pub after : new.end ≡ None
   pub layout : new.layout ≡ old.layout
   pub taken : HasTaken rem old.layout old.input new.input old.tally new.tally (row ∷ [])
+  pub few : new.tally.taken ≤ 1000000
 
 -- the fault is that by which a source had ended, or at which it stopped without giving a row
 abbrev pub FailsNow : {R : Type 0} → (R → Option (List ℕ)) → Source R → SourceFault → Type 0

@@ -1,7 +1,8 @@
 -- What the loader has taken when the feeders have ended.
-use Rattle.std.specs.Prelude.{◌≡◌, ⊤, ℕ, suc, true, List, [], ◌∷◌, None, Some, ◌≢◌, Bool, false, IfSome, is_some}
+use Rattle.std.specs.Prelude.{◌≡◌, ⊤, ℕ, suc, ◌+◌, ◌<◌, true, List, [], ◌∷◌, None, Some, ◌≢◌, Bool, false, IfSome, is_some, length}
+use Rattle.std.specs.List.{list_all}
 use Rattle.bsi_table.specs.Rows.{Entries}
-use Rattle.bsi_system.specs.Running.{taking_at, Taking}
+use Rattle.bsi_system.specs.Running.{taking_at, AlwaysHolds, Loading, MayLoad, Taking}
 use Rattle.bsi_files.specs.declared.feeding.FeedEnd.{FeedEnd}
 use Rattle.bsi_files.specs.declared.loading.Fed.{Fed}
 
@@ -29,6 +30,36 @@ pub record IsKept (end : FeedEnd) (fed : Fed) : Type 0 where
   pub stopped : fed.stopped ≡ end.stopped
   pub fault : fed.fault ≡ end.fault
   pub closed : fed.closed ≡ is_some end.closing
+
+-- the closing of the feeder with this number was told
+pub record IsTold (takings : List Taking) (n : ℕ) (end : FeedEnd) (fed : Fed) : Type 0 where
+  pub kept : IsKept end fed
+  pub told : IfSome end.closing (λ closing. (taking_at takings n).told ≡ Some closing.rows)
+
+abbrev pub AreTold : List Taking → ℕ → List FeedEnd → List Fed → Type 0
+AreTold takings n [] [] = ⊤
+AreTold takings n (end ∷ ends) (fed ∷ feds) = IsTold takings n end fed × AreTold takings (suc n) ends feds
+AreTold takings n ends feds = ⊥
+
+-- no closing was told
+abbrev pub KeepsTold : List Taking → List Taking → Type 0
+KeepsTold old new = (k : ℕ) → (taking_at new k).told ≡ (taking_at old k).told
+
+-- each feeder left a closing
+abbrev pub all_closed : List Fed → Bool
+all_closed feds = list_all (λ fed. fed.closed) feds
+
+-- a loader has as many rows as the limit, and not all of this feeder
+pub record IsFullAt (f : ℕ) (s : Loading) : Type 0 where
+  pub may : MayLoad s.takings f
+  pub many : length s.published + length s.held ≡ s.system.limit
+  pub always : AlwaysHolds s
+
+-- it has so beside one of these feeders
+pub record IsFullBefore (n : ℕ) (s : Loading) : Type 0 where
+  pub feeder : ℕ
+  pub within : feeder < n
+  pub full : IsFullAt feeder s
 
 -- all rows of the feeder with this number were taken
 pub record IsLoaded (takings : List Taking) (n : ℕ) (end : FeedEnd) (fed : Fed) : Type 0 where

@@ -1,12 +1,13 @@
 //! What follows for every run over row files, as contracts of functions that do nothing.
 
-ghost use Rattle.std.specs.Prelude.{ℕ, List, map};
+ghost use Rattle.std.specs.Prelude.{◌≡◌, ℕ, List, map};
 ghost use Rattle.bsi_records.specs.Numbers.{Field};
 ghost use Rattle.bsi_table.specs.Columns.{Declared};
 ghost use Rattle.bsi_table.specs.Rows.{FedRow};
+ghost use Rattle.bsi_text.specs.Pasts.{FindMemory};
 ghost use Rattle.bsi_files.specs.Mixes.{in_order, AreAlike, IsMixOf};
 ghost use Rattle.bsi_files.specs.RowFiles.{RowFile};
-ghost use Rattle.bsi_files.specs.Runs.{AreLines};
+ghost use Rattle.bsi_files.specs.Runs.{AreLines, IsRun};
 
 /// States that the lines of a run do not depend on how the rows of the files mix: what is a run's line for one list is
 /// so for each list with the same rows of each feeder, and so for the rows of the files, one file after the other.
@@ -17,3 +18,14 @@ pub fn any_mix()
     ensures order { (files : List RowFile) → (rows : List FedRow) → IsMixOf files rows →
         AreAlike rows (in_order 0 (map (λ file. file.rows) files)) }
 {}
+
+/// States that the bytes of a run's files and the records of its questions have one list of lines, if no line says that
+/// memory was refused.
+pub fn determined()
+    ensures { (declared : List ℕ) → (texts : List (List ℕ)) → (records : List (List Field)) →
+        (a b : List (List ℕ)) → IsRun declared texts records a → IsRun declared texts records b →
+        FindMemory a → FindMemory b → a ≡ b }
+{
+    // The proof takes this law of texts.
+    bsi_text::laws::one_reading();
+}

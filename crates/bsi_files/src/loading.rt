@@ -4,17 +4,17 @@
 //! long, and publishes from 4,096 held rows on, so that few stand beside the two copies of the table. Such a publish
 //! may be refused memory: the rows stay held. Nobody asks before the last one.
 
-ghost use Rattle.std.specs.Prelude.{◌≡◌, ◌≢◌, ◌≤◌, ℕ, [], Bool, All, Err, IfErr, IfOk, IfSome, None, OnOk, Ok, false, length, true};
+ghost use Rattle.std.specs.Prelude.{◌≡◌, ◌≢◌, ◌<◌, ◌≤◌, ℕ, [], All, Err, IfErr, IfOk, IfSome, None, OnOk, Ok, Some, false, length, true};
 ghost use Rattle.bsi_system.specs.Running.{published_all, taking_at, AlwaysHolds, IsClosingOf};
 ghost use Rattle.bsi_files.specs.Ends.{AreClosings};
-ghost use Rattle.bsi_files.specs.Takings.{all_taken, AreLoaded, IsDrained, IsFine, IsKept, IsLoaded, KeepsOthers, TakesOnlyOf};
+ghost use Rattle.bsi_files.specs.Takings.{all_closed, AreTold, IsDrained, IsFine, IsFullAt, IsFullBefore, IsKept, KeepsOthers, KeepsTold, TakesOnlyOf};
 ghost use Rattle.bsi_files.specs.Faults.{is_early};
 ghost use Rattle.bsi_files.specs.RunFaults.{IsKeptFault};
 
 use crate::headers::file_number;
 use crate::pause::Pause;
 use crate::threads::Watch;
-use crate::{FeedEnd, FilesFault, Gate};
+use crate::{FeedEnd, FilesFault, Gate, NoMemory};
 use bsi_system::{Closing, LoadRefused, Loader, Naming, Told};
 use bsi_text::SourceFault;
 use std::sync::Wait;
@@ -36,7 +36,8 @@ pub(crate) struct Fed {
 }
 
 /// Goes from feeder to feeder, round after round, and takes rows until each feeder has ended. It stops at a row that is
-/// refused, unless the cause is that no row is seen. From then on, feeders whose rings are full stop.
+/// refused, unless the cause is that no row is seen. From then on, feeders whose rings are full stop. A full table is no
+/// fault yet: once the feeders have ended, their closings tell whether they sent more rows than the limit.
 pub(crate) fn load_beside<B: Naming, R: Wait, G: Gate>(
     rt: &R,
     loader: &mut Loader<B>,
@@ -45,6 +46,7 @@ pub(crate) fn load_beside<B: Naming, R: Wait, G: Gate>(
 ) -> Result<(), FilesFault>
     ensures system { loader.new.system ≡ loader.old.system }
     ensures early { IfErr result (λ fault. is_early fault ≡ true) }
+    ensures room { IfErr result (λ fault. fault ≢ FilesFault.IndexFull) }
 {
     let mut pause = Pause::new();
     'rounds: for _ in rt.forever() {
@@ -56,12 +58,24 @@ pub(crate) fn load_beside<B: Naming, R: Wait, G: Gate>(
             Ok(false) => pause.wait(rt),
             Err(fault) => {
                 watch.refuse();
-                return Err(fault);
+                return after_table(fault);
             }
         }
     }
     // 'forever' does not end.
     unreachable!()
+}
+
+/// Returns the fault that a row was refused for, unless the table is full.
+fn after_table(fault: FilesFault) -> Result<(), FilesFault>
+    requires { is_early fault ≡ true }
+    ensures early { IfErr result (λ fault. is_early fault ≡ true) }
+    ensures room { IfErr result (λ fault. fault ≢ FilesFault.IndexFull) }
+{
+    match fault {
+        FilesFault::IndexFull => Ok(()),
+        fault => Err(fault),
+    }
 }
 
 /// Takes some rows of each feeder, and returns whether there was one.
@@ -102,6 +116,7 @@ fn load_one<B: Naming>(loader: &mut Loader<B>, feeder: u32) -> Result<bool, File
     ensures takes { TakesOnlyOf feeder loader.old.takings loader.new.takings }
     ensures drained { result ≡ Ok false → IsDrained feeder loader.new.takings }
     ensures early { IfErr result (λ fault. is_early fault ≡ true) }
+    ensures full { result ≡ Err FilesFault.IndexFull → IsFullAt feeder loader.new }
 {
     match loader.load(feeder) {
         Ok(()) => Ok(true),
@@ -129,6 +144,7 @@ pub(crate) fn publish_rest<B: Naming, R: Wait>(
     loader: &mut Loader<B>,
 ) -> Result<Told<B>, FilesFault>
     ensures early { IfErr result (λ fault. is_early fault ≡ true) }
+    ensures room { IfErr result (λ fault. fault ≢ FilesFault.IndexFull) }
     ensures shown { OnOk result (loader.new ≡ published_all loader.old) }
     ensures told { IfOk result (λ told. told ≡ loader.new.published) }
     ensures within { OnOk result (length loader.new.published ≤ loader.new.system.limit) }
@@ -141,43 +157,34 @@ pub(crate) fn publish_rest<B: Naming, R: Wait>(
     Ok(loader.tell())
 }
 
-/// Tells the loader of each closing, in the order of the feeders, and takes all rows that are left.
-pub(crate) fn load_all<B: Naming, R: Wait>(
-    rt: &R,
+/// Tells the loader of each closing, in the order of the feeders.
+pub(crate) fn settle_all<B: Naming>(
     loader: &mut Loader<B>,
     ends: Vec<FeedEnd>,
     fed: &mut Vec<Fed>,
-) -> Result<(), FilesFault>
+) -> Result<(), NoMemory>
     requires closings { AreClosings loader.old.system 0 ends.items }
     requires none { fed.old.items ≡ [] }
     ensures system { loader.new.system ≡ loader.old.system }
-    ensures early { IfErr result (λ fault. is_early fault ≡ true) }
-    ensures loaded { OnOk result (AreLoaded loader.new.takings 0 ends.items fed.new.items) }
+    ensures told { OnOk result (AreTold loader.new.takings 0 ends.items fed.new.items) }
 {
     'ends: for end in ends {
-        let left = load_end(rt, loader, end)?;
-        if fed.push(left).is_err() {
-            return Err(FilesFault::NoMemory);
-        }
+        let left = settle_end(loader, end);
+        fed.push(left)?;
     }
     Ok(())
 }
 
-/// Takes all rows that a feeder left.
-fn load_end<B: Naming, R: Wait>(
-    rt: &R,
-    loader: &mut Loader<B>,
-    end: FeedEnd,
-) -> Result<Fed, FilesFault>
+/// Tells the loader of the closing that a feeder left, and returns what else it left.
+fn settle_end<B: Naming>(loader: &mut Loader<B>, end: FeedEnd) -> Fed
     requires { IfSome end.closing (λ closing. IsClosingOf closing loader.old.system) }
     ensures system { loader.new.system ≡ loader.old.system }
-    ensures early { IfErr result (λ fault. is_early fault ≡ true) }
-    ensures kept { IfOk result (IsKept end) }
-    ensures taken { OnOk result (IfSome end.closing
-        (λ closing. taking_at loader.new.takings closing.number ≡ all_taken closing.rows)) }
-    ensures others { OnOk result (IfSome end.closing
-        (λ closing. KeepsOthers closing.number loader.old.takings loader.new.takings)) }
-    ensures same { OnOk result (end.closing ≡ None → loader.new.takings ≡ loader.old.takings) }
+    ensures kept { IsKept end result }
+    ensures told { IfSome end.closing
+        (λ closing. (taking_at loader.new.takings closing.number).told ≡ Some closing.rows) }
+    ensures others { IfSome end.closing
+        (λ closing. KeepsOthers closing.number loader.old.takings loader.new.takings) }
+    ensures same { end.closing ≡ None → loader.new.takings ≡ loader.old.takings }
 {
     let FeedEnd {
         accepted,
@@ -188,35 +195,73 @@ fn load_end<B: Naming, R: Wait>(
     } = end;
     let closed = closing.is_some();
     if let Some(closing) = closing {
-        settle(rt, loader, closing)?;
+        settle(loader, closing);
     }
-    Ok(Fed {
+    Fed {
         accepted,
         bad,
         stopped,
         fault,
         closed,
-    })
+    }
 }
 
-/// Tells the loader of a closing, and takes the rows that are left of its feeder.
-fn settle<B: Naming, R: Wait>(
-    rt: &R,
-    loader: &mut Loader<B>,
-    closing: Closing,
-) -> Result<(), FilesFault>
+/// Tells the loader of a closing.
+fn settle<B: Naming>(loader: &mut Loader<B>, closing: Closing)
     requires { IsClosingOf closing loader.old.system }
     ensures system { loader.new.system ≡ loader.old.system }
-    ensures early { IfErr result (λ fault. is_early fault ≡ true) }
-    ensures taken { OnOk result
-        (taking_at loader.new.takings closing.number ≡ all_taken closing.rows) }
-    ensures others { OnOk result
-        (KeepsOthers closing.number loader.old.takings loader.new.takings) }
+    ensures told { (taking_at loader.new.takings closing.number).told ≡ Some closing.rows }
+    ensures others { KeepsOthers closing.number loader.old.takings loader.new.takings }
 {
     let feeder = closing.feeder();
     // A closing is refused only for another feeder's number, and this number is its own.
     let _ = loader.settle(feeder, closing);
-    drain(rt, loader, feeder)
+}
+
+/// Returns whether each feeder left a closing.
+fn are_closed(fed: &[Fed]) -> bool
+    ensures { result ≡ all_closed fed.now }
+{
+    fed.iter().all(|end| end.closed)
+}
+
+/// Takes all rows that are left, feeder after feeder, if each of them left a closing.
+pub(crate) fn load_rest<B: Naming, R: Wait>(
+    rt: &R,
+    loader: &mut Loader<B>,
+    fed: &[Fed],
+) -> Result<(), FilesFault>
+    requires { length fed.now ≤ 64 }
+    ensures system { loader.new.system ≡ loader.old.system }
+    ensures told { KeepsTold loader.old.takings loader.new.takings }
+    ensures early { IfErr result (λ fault. is_early fault ≡ true) }
+    ensures drained { OnOk result (all_closed fed.now ≡ true →
+        (f : ℕ) → f < length fed.now → IsDrained f loader.new.takings) }
+    ensures full { IfErr result (λ fault. fault ≡ FilesFault.IndexFull →
+        (all_closed fed.now ≡ true) × IsFullBefore (length fed.now) loader.new) }
+{
+    if !are_closed(fed) {
+        return Ok(());
+    }
+    drain_all(rt, loader, fed.len() as u32)
+}
+
+/// Takes the rows that are left of the first feeders, whose closings were told.
+fn drain_all<B: Naming, R: Wait>(
+    rt: &R,
+    loader: &mut Loader<B>,
+    feeders: u32,
+) -> Result<(), FilesFault>
+    ensures system { loader.new.system ≡ loader.old.system }
+    ensures told { KeepsTold loader.old.takings loader.new.takings }
+    ensures early { IfErr result (λ fault. is_early fault ≡ true) }
+    ensures drained { OnOk result ((f : ℕ) → f < feeders → IsDrained f loader.new.takings) }
+    ensures full { result ≡ Err FilesFault.IndexFull → IsFullBefore feeders loader.new }
+{
+    'feeders: for feeder in 0..feeders {
+        drain(rt, loader, feeder)?;
+    }
+    Ok(())
 }
 
 /// Takes the rows that are left of a feeder whose closing was told.
@@ -225,6 +270,7 @@ fn drain<B: Naming, R: Wait>(rt: &R, loader: &mut Loader<B>, feeder: u32) -> Res
     ensures early { IfErr result (λ fault. is_early fault ≡ true) }
     ensures takes { TakesOnlyOf feeder loader.old.takings loader.new.takings }
     ensures drained { OnOk result (IsDrained feeder loader.new.takings) }
+    ensures full { result ≡ Err FilesFault.IndexFull → IsFullAt feeder loader.new }
 {
     'rows: for _ in rt.forever() {
         if !load_one(loader, feeder)? {

@@ -11,7 +11,7 @@ ghost use Rattle.bsi_files.specs.Writing.{Leaves, WhereKnown, WritesAll};
 
 use crate::asks::answer_all;
 use crate::headers::{begin_all, capacities, file_number};
-use crate::loading::{Fed, check_all, load_all, load_beside, publish_rest};
+use crate::loading::{Fed, check_all, load_beside, load_rest, publish_rest, settle_all};
 use crate::tables::read_table;
 use crate::threads::{Watch, join_all, start_all};
 use crate::{FilesFault, Gate, Stopping};
@@ -125,7 +125,7 @@ fn run_in<
     requires many { length run.sources.items ≡ length capacities.items }
     requires few { length run.sources.items ≤ 64 }
     ensures counted { IfErr result (λ fault. fault ≢ FilesFault.TooManyFiles) }
-    ensures fault { IfErr result (IsRunFault I.remaining run.sources.items) }
+    ensures fault { IfErr result (IsRunFault I.remaining limit run.sources.items) }
     ensures quiet { IfErr result (λ fault. is_late fault ≡ false →
         W.contents writer.new ≡ W.contents writer.old) }
     ensures lines { OnOk result (IfSome (A.remaining run.asks) (λ asked.
@@ -176,7 +176,7 @@ fn run_ends<
     requires ready { AreReady loader.old.system B.about.limit feeders.items run.sources.items }
     requires schema { run.schema ≡ B.about.schema }
     ensures counted { IfErr result (λ fault. fault ≢ FilesFault.TooManyFiles) }
-    ensures fault { IfErr result (IsRunFault I.remaining run.sources.items) }
+    ensures fault { IfErr result (IsRunFault I.remaining B.about.limit run.sources.items) }
     ensures quiet { IfErr result (λ fault. is_late fault ≡ false →
         W.contents writer.new ≡ W.contents writer.old) }
     ensures lines { OnOk result (IfSome (A.remaining run.asks) (λ asked.
@@ -214,7 +214,7 @@ fn feed_files<
     gate: &G,
 ) -> Result<(Vec<Fed>, Told<B>), FilesFault>
     requires { AreReady loader.old.system B.about.limit feeders.items sources.items }
-    ensures fault { IfErr result (IsLoadFault I.remaining sources.items) }
+    ensures fault { IfErr result (IsLoadFault I.remaining B.about.limit sources.items) }
     ensures fed { IfOk result (λ run.
         IsAllFed I.remaining G.STOPS B.about.limit run.1 sources.items run.0.items) }
 {
@@ -225,7 +225,7 @@ fn feed_files<
         rt,
         move |scope| -> Result<(Vec<Fed>, Told<B>), FilesFault>
             requires { AreReady loader.now.system B.about.limit feeders.items sources.items }
-            ensures fault { IfErr result (IsLoadFault I.remaining sources.items) }
+            ensures fault { IfErr result (IsLoadFault I.remaining B.about.limit sources.items) }
             ensures fed { IfOk result (λ run.
                 IsAllFed I.remaining G.STOPS B.about.limit run.1 sources.items run.0.items) }
         { feed_in(scope, rt, shared, loader, feeders, sources) },
@@ -250,7 +250,7 @@ fn feed_in<
     sources: Vec<RowSource<I>>,
 ) -> Result<(Vec<Fed>, Told<B>), FilesFault>
     requires { AreReady loader.old.system B.about.limit feeders.items sources.items }
-    ensures fault { IfErr result (IsLoadFault I.remaining sources.items) }
+    ensures fault { IfErr result (IsLoadFault I.remaining B.about.limit sources.items) }
     ensures fed { IfOk result (λ run.
         IsAllFed I.remaining G.STOPS B.about.limit run.1 sources.items run.0.items) }
 {
@@ -263,7 +263,8 @@ fn feed_in<
     let joined = join_all(rt, threads, &mut ends);
     beside?;
     joined?;
-    load_all(rt, loader, ends, &mut fed)?;
+    settle_all(loader, ends, &mut fed)?;
+    load_rest(rt, loader, &fed)?;
     check_all(&fed, G::STOPS)?;
     let told = publish_rest(rt, loader)?;
     Ok((fed, told))
@@ -279,6 +280,7 @@ fn load_where<B: Naming, R: Wait, G: Gate>(
 ) -> Result<(), FilesFault>
     ensures system { loader.new.system ≡ loader.old.system }
     ensures early { IfErr result (λ fault. is_early fault ≡ true) }
+    ensures room { IfErr result (λ fault. fault ≢ FilesFault.IndexFull) }
     ensures started { OnOk result (started ≡ true) }
 {
     if !started {

@@ -1,6 +1,6 @@
 //! A run over files: it opens all files in the order of the words, and then reads them.
-ghost use Rattle.std.specs.Prelude.{◌≡◌, ◌<◌, IfOk, OnOk, length};
-ghost use Rattle.bsi_shell.specs.FileRuns.{HasRunOver};
+ghost use Rattle.std.specs.Prelude.{◌≡◌, ◌<◌, IfOk, OnErr, OnOk, length};
+ghost use Rattle.bsi_shell.specs.FileRuns.{HasBegunOver, HasRunOver};
 
 use crate::paths::Paths;
 use bsi_files::{FilesFault, Go, run_files};
@@ -43,8 +43,10 @@ pub(crate) fn run_over<
     S: Read + Drop + Send,
     O: Write,
 >(rt: &R, paths: &Paths<'a>, output: &mut O) -> Result<(), Failure<'a>>
-    ensures { OnOk result
+    ensures ran { OnOk result
         (HasRunOver S.remaining (O.contents output.old) (O.contents output.new)) }
+    ensures part { OnErr result
+        (HasBegunOver S.remaining (O.contents output.old) (O.contents output.new)) }
 {
     let opened = open_all(rt, paths)?;
     run_opened(rt, opened, output)?;
@@ -59,8 +61,10 @@ fn run_opened<R: AllocGlobal + Threads + Wait + Sync, S: Read + Drop + Send, O: 
     output: &mut O,
 ) -> Result<(), FilesFault>
     requires { 0 < length opened.rows.items }
-    ensures { OnOk result
+    ensures ran { OnOk result
         (HasRunOver S.remaining (O.contents output.old) (O.contents output.new)) }
+    ensures part { OnErr result
+        (HasBegunOver S.remaining (O.contents output.old) (O.contents output.new)) }
 {
     let Opened { schema, asks, rows } = opened;
     let run = run_files(rt, schema, asks, rows, output, &Go);

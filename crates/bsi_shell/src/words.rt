@@ -1,7 +1,7 @@
 //! The command line: the words after the program's name, and the status that they end with.
 ghost use Rattle.std.specs.Prelude.{◌≡◌, ◌≤◌, OnErr, OnOk};
 ghost use Rattle.bsi_shell.specs.Commands.{BeginsWithFiles};
-ghost use Rattle.bsi_shell.specs.FileRuns.{HasRunOver};
+ghost use Rattle.bsi_shell.specs.FileRuns.{HasBegunOver, HasRunOver};
 ghost use Rattle.bsi_text.specs.Texts.{IfKnown, IsAnswered, IsBegun};
 
 use crate::files::run_over;
@@ -36,9 +36,12 @@ pub fn run_words<
     ensures begun { result ≡ 1 → ¬ BeginsWithFiles words.items →
         IfKnown (I.remaining input) IsBegun (O.contents output.old) (O.contents output.new) }
 
-    // Where it is `files`, a run with no fault over the files that were opened has answered all their asks.
+    // Where it is `files`, a run with no fault over the files that were opened has answered all their asks. After status
+    // 1 a part of these lines was written, or nothing.
     ensures ran { result ≡ 0 → BeginsWithFiles words.items →
         HasRunOver S.remaining (O.contents output.old) (O.contents output.new) }
+    ensures part { result ≡ 1 → BeginsWithFiles words.items →
+        HasBegunOver S.remaining (O.contents output.old) (O.contents output.new) }
 
     // In each case: a run with no fault says nothing, and after status 2 nothing was written.
     ensures quiet { result ≡ 0 → F.contents faults.new ≡ F.contents faults.old }

@@ -44,7 +44,7 @@ use Rattle.bsi_text.proofs.Unique.{one_greatest, one_least, one_median}
 -- ---- answers to queries of the same meaning
 
 module _ (p q : Pred) (same : (row : Entries) → holds p row ≡ holds q row) (rows : List FedRow) where
-  same_selected : selected p rows ≡ selected q rows
+  pub same_selected : selected p rows ≡ selected q rows
   same_selected i = filter (λ r. same (row_at rows r).1 i) (range_with_len 0 (length rows))
 
   same_values : (c : ℕ) → values c p rows ≡ values c q rows
@@ -54,7 +54,7 @@ module _ (p q : Pred) (same : (row : Entries) → holds p row ≡ holds q row) (
       → Is (values c p rows) x → Is (values c q rows) y → answer_line (value_answer x) ≡ answer_line (value_answer y)
   same_value Is one c x y is_x is_y = ap (λ n. answer_line (value_answer n)) (one (values c q rows) x y (subst (λ numbers. Is numbers x) (same_values c) is_x) is_y)
 
-  same_total : (total : Total) (a b : Answer) → IsTotal total p rows a → IsTotal total q rows b → answer_line a ≡ answer_line b
+  pub same_total : (total : Total) (a b : Answer) → IsTotal total p rows a → IsTotal total q rows b → answer_line a ≡ answer_line b
   same_total Count a b is_a is_b = ap answer_line (is_a ∙ ap (λ chosen. count_answer (length chosen)) same_selected ∙ sym is_b)
   same_total (Sum c) a b is_a is_b = ap answer_line (is_a ∙ ap (λ numbers. sum_answer (signed_sum numbers)) (same_values c) ∙ sym is_b)
   same_total (Least c) (value_answer x) (value_answer y) is_a is_b = same_value IsSignedLeastOf one_least c x y is_a is_b

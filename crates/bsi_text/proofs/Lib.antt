@@ -1,9 +1,9 @@
 mod AllRecords
-mod Determined
+pub mod Determined
 mod Joining
 mod Layouts
 mod Left
-mod Named
+pub mod Named
 mod Pasts
 mod Standing
 mod Taking

@@ -36,7 +36,7 @@ IfSome-all P (Some x) is = is x
 
 -- ---- one more column
 
-abbrev HasNamed : Declared → Type 0
+abbrev pub HasNamed : Declared → Type 0
 HasNamed schema = AreNamed schema.columns
 
 named_refusal : {E : Type 0} (named : Bool) (bad : E) (others : Option E) → is_none (if not named then Some bad else others) ≡ true → IsTrue named
@@ -66,10 +66,10 @@ column_named schema (name ∷ form ∷ sizes ∷ offset ∷ more ∷ fields) nam
 
 -- ---- a record of the setup
 
-abbrev HasNamedFirst : Declared × ℕ → Type 0
+abbrev pub HasNamedFirst : Declared × ℕ → Type 0
 HasNamedFirst after = HasNamed after.0
 
-table_named : (schema : Declared) (limit : ℕ) (fields : List Field) → HasNamed schema → IfSome (table_after schema limit fields) HasNamedFirst
+pub table_named : (schema : Declared) (limit : ℕ) (fields : List Field) → HasNamed schema → IfSome (table_after schema limit fields) HasNamedFirst
 table_named schema limit [] named = tt
 table_named schema limit (word ∷ fields) named =
     IfSome-choice HasNamedFirst (bytes_eq word (codes "column")) _ _

@@ -1,4 +1,4 @@
-use Rattle.std.proofs.Common.{◌≡◌, Bool, true, Option, Some, IfSome, ap, sym, subst, ◌∙◌}
+use Rattle.std.proofs.Common.{◌≡◌, Bool, true, Option, Some, IfSome, ap, arith, sym, subst, ◌∙◌}
 use Rattle.bsi_rings.specs.Rings.{Sending}
 use Rattle.bsi_text.specs.declared.rows.SourceFault.{SourceFault}
 use Rattle.bsi_files.specs.Feeding.{HasFailed}
@@ -55,3 +55,12 @@ returns-in-rows-clause-fault g c =
           (failed_after g.I.Read.remaining c.args.feeder c.args.source c.rows.point c.rows.feeder c.rows.source c.finish.result.accepted w.in-Failed.fault
           c.rows.invariant c.finish.ensures.accepted w.in-Failed.ensures.1)
     ]
+
+-- a text of so many records is never met
+pub returns-clause-fed : goal.returns-clause-fed
+returns-clause-fed g c =
+    of_some c.finish-2.result.closing c.finish-2.ensures.closing (λ closing closes.
+    fed_first g.I.Read.remaining c.args.feeder c.args.source c.rows.point c.rows.feeder c.rows.source closing.rows c.finish-2.result.accepted
+    c.finish-2.result.bad c.finish-2.result.stopped c.finish-2.result.fault c.rows.invariant closes.rows
+    (omega (arith, c.finish-2.ensures.accepted, c.rows-test.false, c.rows.auto.point-end))
+    (λ going fine rest left still. absurd (cc (c.finish-2.ensures.stopped, going))) (λ going fine more. absurd (cc (c.finish-2.ensures.stopped, going))))

@@ -5,6 +5,7 @@ use Rattle.bsi_system.specs.Running.{IsFeederOf, Loading}
 use Rattle.bsi_table.specs.Table.{Table}
 use Rattle.bsi_files.specs.Ends.{AreFeeders, AreReady}
 use Rattle.bsi_files.specs.Feds.{HasRun}
+use Rattle.bsi_files.specs.RunFaults.{IsRunFault}
 use Rattle.bsi_files.specs.Writing.{Leaves, WritesAll}
 use Rattle.bsi_files.proofs.Takings.{feeders_are, feeders_long}
 use Rattle.bsi_files.proofs.run.run_in.Goals as goal
@@ -38,3 +39,7 @@ returns-in-Ok-clause-part g c =
     subst (λ (t : Table). IfErr c.run_ends-ran.result (λ fault. IfSome (g.A.Read.remaining c.args.run.asks) (λ asked.
     Leaves (HasRun g.I.Read.remaining g.G.Stopping.STOPS t.schema t.limit c.args.run.sources.items) asked fault (g.W.Write.contents c.args.writer.now) (g.W.Write.contents c.run_ends-ran.new.writer))))
     c.requires.about c.run_ends-ran.ensures.part
+
+pub returns-in-Ok-clause-fault : goal.returns-in-Ok-clause-fault
+returns-in-Ok-clause-fault g c =
+    subst (λ (t : Table). IfErr c.run_ends-ran.result (IsRunFault g.I.Read.remaining t.limit c.args.run.sources.items)) c.requires.about c.run_ends-ran.ensures.fault
