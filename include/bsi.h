@@ -3,8 +3,8 @@
  * An index holds rows; a row has one entry for each column: a number, or a null. Rows come from 1 to 64 feeders, and
  * questions are asked of all rows. docs/C.md shows a program.
  *
- * Each call but bsi_status_text takes a handle and returns a status. Where the status is not BSI_OK, the call has
- * changed no row; bsi_append says what BSI_NO_MEMORY leaves.
+ * Each call takes a handle and returns a status. Where the status is not BSI_OK, the call has changed no row;
+ * bsi_append says what BSI_NO_MEMORY leaves.
  *
  * Pointers. No pointer is null, not even one to nothing: where a length is 0, pass any aligned address. What a call
  * reads is the caller's, and is not kept after the call. What a call writes lies apart from all else that it is given.
@@ -117,6 +117,25 @@ uint32_t bsi_share(bsi_index *index, bsi_index *other);
 
 /* Closes a handle. The index is freed with its last handle. */
 uint32_t bsi_close(bsi_index *index);
+
+/* Returns in words how a call ended. */
+static inline const char *bsi_status_text(uint32_t status) {
+    static const char *const texts[] = {"done",
+                                        "the handle is closed",
+                                        "the handle is open",
+                                        "no memory",
+                                        "bad record in the schema",
+                                        "no column in the schema",
+                                        "no such feeder",
+                                        "columns of another number or length",
+                                        "a row does not fit",
+                                        "the index is full",
+                                        "a shared index takes no rows",
+                                        "no query",
+                                        "no room",
+                                        "too many records in the schema"};
+    return status < sizeof texts / sizeof *texts ? texts[status] : "no status of bsi";
+}
 
 #ifdef __cplusplus
 }

@@ -90,7 +90,7 @@ static void of_questions(void) {
     static bsi_text many[1002];
     bsi_answer answer = {0};
     many[0] = (bsi_text){(const uint8_t *)"count", 5};
-    for (size_t k = 1; k < 1002; k++) many[k] = (bsi_text){(const uint8_t *)(k % 2 || k < 3 ? "all" : "and"), 3};
+    for (size_t k = 1; k < 1002; k++) many[k] = (bsi_text){(const uint8_t *)(k < 3 || k % 2 == 0 ? "all" : "and"), 3};
     check(bsi_ask(&open_one, many, 1000, &answer, places, 0) == BSI_OK && answer.count == 3, "ask: 999 fields after the word");
     check(bsi_ask(&open_one, many, 1002, &answer, places, 0) == BSI_BAD_QUERY, "ask: 1,001 fields after the word");
     check(bsi_ask(&open_one, many, 0, &answer, places, 0) == BSI_BAD_QUERY, "ask: no field");
@@ -137,7 +137,13 @@ static void of_null_pointers(void) {
     bsi_close(&index);
 }
 
+static void of_texts(void) {
+    check(!strcmp(bsi_status_text(BSI_OK), "done") && !strcmp(bsi_status_text(BSI_NO_ROOM), "no room"), "a status in words");
+    check(strcmp(bsi_status_text(BSI_BAD_TEXT), bsi_status_text(14)) && bsi_status_text(UINT32_MAX), "a number past the statuses");
+}
+
 int main(void) {
+    of_texts();
     of_a_closed_handle();
     of_schemas();
     of_columns();

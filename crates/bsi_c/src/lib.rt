@@ -6,8 +6,10 @@ ghost use Rattle.bsi_handles.specs.Calls.{IsAppending, IsAsking, IsClosing, IsCo
 ghost use Rattle.bsi_handles.specs.States.{opened_in};
 ghost use Rattle.bsi_handles.specs.Statuses.{Tells};
 
-use bsi_handles::{Column, FlatAnswer, Handle, Place, status_of};
-use bsi_handles::{append, ask, close, count, describe, open, select, share};
+use bsi_handles::{
+    Column, FlatAnswer, Handle, Place, append, ask, close, count, describe, open, select, share,
+    status_of,
+};
 use std::alloc::Global;
 
 /// Opens a closed handle, with an index of no rows that a schema text declares. If a record is bad, it writes the

@@ -1,7 +1,6 @@
 -- Rows of columns, block by block.
 use Rattle.std.proofs.Common.{◌≡◌, ◌<◌, ℕ, ◌+◌, List, [], ◌∷◌, ◌++◌, true, refl, ap, sym, subst, ◌∙◌, zero, suc, arith, append_assoc}
-use Rattle.std.specs.Prelude.{map, length, IsTrue}
-use Rattle.std.specs.List.{range_with_len}
+use Rattle.std.specs.Prelude.{length, IsTrue}
 use Rattle.std.proofs.lemmas.List.{append-nil}
 use Rattle.std.proofs.lemmas.List.FromFn.{length-map-range_with_len, map-range_with_len_more}
 use Rattle.std.proofs.lemmas.List.Elements.{All-nil, All-push}

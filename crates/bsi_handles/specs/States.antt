@@ -1,6 +1,5 @@
 -- What a handle holds.
-use Rattle.std.specs.Prelude.{◌≡◌, ℕ, List, Bool, true, false, Option, Some, None}
-use Rattle.bsi_table.specs.Table.{Table}
+use Rattle.std.specs.Prelude.{Bool, true, false, Option, Some, None}
 use Rattle.bsi_handles.specs.declared.state.State.{State}
 use Rattle.bsi_handles.specs.declared.state.State.TheVariants.{Alone, Shared, Moved}
 use Rattle.bsi_handles.specs.Opened.{Opened}

@@ -99,12 +99,7 @@ fn append_blocks(
 
 /// Tests whether all rows of the columns can be appended. It writes the first row that does not fit, if that is why
 /// not.
-fn check_rows(
-    index: &Index,
-    feeder: u32,
-    columns: &[Column],
-    row: &mut u64,
-) -> Result<(), Refusal>
+fn check_rows(index: &Index, feeder: u32, columns: &[Column], row: &mut u64) -> Result<(), Refusal>
     ensures taken { OnOk result (AreAppendable index.now feeder columns.now) }
     ensures refused { IfErr result (IsRowsRefusal index.now feeder columns.now row.new) }
 {

@@ -166,11 +166,7 @@ pub fn describe(
 
 /// Opens a closed handle of the same index, which then takes no more rows. If memory is refused, the index stays, but
 /// may take no more rows.
-pub fn share(
-    alloc: Global,
-    index: &mut Handle,
-    other: &mut Handle,
-) -> Result<(), Refusal>
+pub fn share(alloc: Global, index: &mut Handle, other: &mut Handle) -> Result<(), Refusal>
     ensures ending { IsSharing index.old.held.value other.old.held.value index.new.held.value
         other.new.held.value result }
     ensures kept { OnErr result

@@ -35,11 +35,7 @@ pub(crate) fn open_text(
 }
 
 /// Reads the columns and the row limit, which is the greatest there is where no record gives another.
-fn read_table(
-    alloc: Global,
-    text: &[u8],
-    bad_record: &mut u64,
-) -> Result<(Schema, u64), Refusal>
+fn read_table(alloc: Global, text: &[u8], bad_record: &mut u64) -> Result<(Schema, u64), Refusal>
     ensures declared { IfOk result (λ read. IsSchemaText text.now read.0 read.1) }
     ensures refused { IfErr result (IsTextRefusal text.now bad_record.new) }
 {

@@ -1,4 +1,4 @@
-use Rattle.std.proofs.Common.{◌≡◌, ◌<◌, ℕ, ◌+◌, Bool, true, false, List, length, None, ℤ, sym, ap, ap₂, refl, ◌∙◌, arith, rules, get_or, below_more, subst, inl, inr, w64}
+use Rattle.std.proofs.Common.{◌≡◌, ◌<◌, ℕ, Bool, true, false, List, length, None, ℤ, sym, ap, ap₂, ◌∙◌, arith, rules, get_or, below_more, subst, inl, inr, w64}
 use Rattle.std.proofs.Math.Nat.{eq-or-lt_of_le}
 use Rattle.std.proofs.lemmas.Int.{to_z-of_z}
 use Rattle.std.proofs.lemmas.List.{get_or-map, length-map}
@@ -31,9 +31,9 @@ columns-preserved c =
           (λ r at. taken_at declared columns c.columns.c r _ _ c.size.result true within least c.size.ensures.size (next.ensures.taken r at));
       misfit = λ is_row.
           elim (eq-or-lt_of_le next.ensures.within) [
-          inl same ↦ subst (λ (r : ℕ). fits declared (row_of columns r) ≡ false) (sym same) (c.columns.invariant.misfit (omega (arith, is_row, same)))
-          | inr before ↦ sym (misfit-at declared (row_of columns next.result) c.columns.c here
-          (taken_at declared columns c.columns.c next.result _ _ c.size.result false within least c.size.ensures.size (next.ensures.refused before)))
+            | inl same ↦ subst (λ (r : ℕ). fits declared (row_of columns r) ≡ false) (sym same) (c.columns.invariant.misfit (omega (arith, is_row, same)))
+            | inr before ↦ sym (misfit-at declared (row_of columns next.result) c.columns.c here
+                (taken_at declared columns c.columns.c next.result _ _ c.size.result false within least c.size.ensures.size (next.ensures.refused before)))
           ];
     }
 

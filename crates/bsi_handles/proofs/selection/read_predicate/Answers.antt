@@ -1,4 +1,4 @@
-use Rattle.std.proofs.Common.{◌∷◌, List, ℕ, Option, codes, length, map, refl, subst, sym}
+use Rattle.std.proofs.Common.{List, ℕ, Option, refl, subst, sym}
 use Rattle.bsi_records.specs.Events.{IsQuery}
 use Rattle.bsi_records.specs.Reading.{IsReadAs}
 use Rattle.bsi_table.specs.declared.query.Query.{Query}
@@ -13,5 +13,5 @@ returns-in_default c = λ pred spells.
     let fields = fields_of c.in_ok-counted.counted in
     let query : Query = record { total = Count; pred = pred } in
     let none : (query : Query) → IsQuery schema fields query → ⊥ =
-        subst (λ (o : Option Query). IsReadAs (IsQuery schema fields) o) c.in_default.is c.in_ok-query.ensures in
+    subst (λ (o : Option Query). IsReadAs (IsQuery schema fields) o) c.in_default.is c.in_ok-query.ensures in
     none query (subst (λ (fs : List (List ℕ)). IsQuery schema fs query) (sym c.in_ok-counted.ensures) (refl, spells))

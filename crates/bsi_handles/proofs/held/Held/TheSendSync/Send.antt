@@ -1,6 +1,5 @@
 -- A handle may go to another thread where what it holds may.
 use mir.Raw.{raw}
-use base.Fml.{Fml}
 use denote.Memory.{lone}
 use base.Fraction.{full_share}
 use denote.Exit.{Exit, unchanged, leaves, hidden, under}
