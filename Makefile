@@ -7,11 +7,17 @@ BIN = $(DESTDIR)$(PREFIX)/bin
 MAN = $(DESTDIR)$(PREFIX)/share/man/man1
 BASH = $(DESTDIR)$(PREFIX)/share/bash-completion/completions
 ZSH = $(DESTDIR)$(PREFIX)/share/zsh/site-functions
+INCLUDE = $(DESTDIR)$(PREFIX)/include
+LIB = $(DESTDIR)$(PREFIX)/lib
 
-.PHONY: build check demo test install uninstall dist clean bench plot
+.PHONY: build lib check demo test install uninstall dist clean bench plot
 
 build:
 	@tools/build
+
+# The C library, into out/lib. docs/C.md shows a program that uses it.
+lib:
+	@tools/library
 
 demo: build
 	@tools/demo
@@ -24,20 +30,26 @@ check:
 test:
 	@tools/gate
 
-install: build
-	install -d "$(BIN)" "$(MAN)" "$(BASH)" "$(ZSH)"
+install: build lib
+	install -d "$(BIN)" "$(MAN)" "$(BASH)" "$(ZSH)" "$(INCLUDE)" "$(LIB)/pkgconfig"
 	install -m 755 $(PROGRAM) "$(BIN)/bsi"
 	install -m 644 man/bsi.1 "$(MAN)/bsi.1"
 	install -m 644 completions/bsi.bash "$(BASH)/bsi"
 	install -m 644 completions/_bsi "$(ZSH)/_bsi"
+	install -m 644 include/bsi.h "$(INCLUDE)/bsi.h"
+	install -m 644 out/lib/libbsi.a "$(LIB)/libbsi.a"
+	install -m 755 out/lib/libbsi.so.0 "$(LIB)/libbsi.so.0"
+	ln -sf libbsi.so.0 "$(LIB)/libbsi.so"
+	sed 's|@VERSION@|$(shell cat VERSION)|' include/bsi.pc.in >"$(LIB)/pkgconfig/bsi.pc"
 
 uninstall:
-	rm -f "$(BIN)/bsi" "$(MAN)/bsi.1" "$(BASH)/bsi" "$(ZSH)/_bsi"
+	rm -f "$(BIN)/bsi" "$(MAN)/bsi.1" "$(BASH)/bsi" "$(ZSH)/_bsi" "$(INCLUDE)/bsi.h" "$(LIB)/pkgconfig/bsi.pc"
+	rm -f "$(LIB)/libbsi.a" "$(LIB)/libbsi.so.0" "$(LIB)/libbsi.so"
 
 # For machines without the kit: unpacked anywhere, or copied over a prefix.
-dist: build
+dist: build lib
 	rm -rf out/dist
-	$(MAKE) -s -o build install DESTDIR=out/dist/ PREFIX=$(NAME)
+	$(MAKE) -s -o build -o lib install DESTDIR=out/dist/ PREFIX=$(NAME)
 	cp -r README.md CHANGELOG.md LICENSE-APACHE LICENSE-MIT docs examples out/dist/$(NAME)
 	cd out/dist && tar --sort=name --mtime=@0 --owner=0 --group=0 -c $(NAME) | gzip -9n >$(NAME).tar.gz && sha256sum $(NAME).tar.gz >SHA256SUMS
 

@@ -1,5 +1,6 @@
 -- What the answer to a query is.
-use Rattle.std.specs.Prelude.{◌≡◌, ℕ, List, [], ◌∷◌, ◌++◌, Option, Some, None, Result, Ok, Err, length, find, nat_le, ℤ}
+use Rattle.std.specs.Prelude.{◌≡◌, ℕ, List, [], ◌∷◌, ◌++◌, Option, Some, None, Result, Ok, Err, length, find, map, nat_le, ℤ}
+use Rattle.bsi_bits.specs.BitList.{BitList}
 use Rattle.bsi_origins.specs.Numbering.{numbered_at}
 use Rattle.bsi_shift.specs.WholeNumbers.{signed_sum, IsSignedLeastOf, IsSignedGreatestOf, IsSignedMedianOf}
 use Rattle.bsi_table.specs.declared.errors.AskError.{AskError}
@@ -11,7 +12,7 @@ use Rattle.bsi_table.specs.declared.query.Query.{Query}
 use Rattle.bsi_table.specs.declared.query.Total.{Total}
 use Rattle.bsi_table.specs.declared.query.Total.TheVariants.{Count, Sum, Least, Greatest, Median, Rows}
 use Rattle.bsi_schema.specs.Columns.{Declared}
-use Rattle.bsi_table.specs.Rows.{FedRow, feeders_of, selected, values}
+use Rattle.bsi_table.specs.Rows.{FedRow, feeders_of, holds, selected, values}
 
 -- the answer is a number or none, and this is so of it
 abbrev pub IsValue : (Option ℤ → Type 0) → Answer → Type 0
@@ -94,3 +95,11 @@ IsReply schema rows query (Ok answer) =
     (missing_column (length schema.columns) query ≡ None) × IsAnswer query rows answer
 IsReply schema rows query (Err (BadColumn c)) = missing_column (length schema.columns) query ≡ Some c
 IsReply schema rows query (Err NoMemory) = missing_column (length schema.columns) query ≡ None
+
+-- the reply to a predicate: for each row whether it holds of it, else the first column that is not there, or that memory
+-- was refused
+abbrev pub IsSelection : Declared → List FedRow → Pred → Result BitList AskError → Type 0
+IsSelection schema rows pred (Ok found) =
+    (missing_of (length schema.columns) (columns_of_pred pred) ≡ None) × (found.bits ≡ map (λ row. holds pred row.1) rows)
+IsSelection schema rows pred (Err (BadColumn c)) = missing_of (length schema.columns) (columns_of_pred pred) ≡ Some c
+IsSelection schema rows pred (Err NoMemory) = missing_of (length schema.columns) (columns_of_pred pred) ≡ None

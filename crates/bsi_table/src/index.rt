@@ -1,19 +1,20 @@
 //! The index: rows from feeders, stored column by column, and the answers to queries over them.
 
-ghost use Rattle.std.specs.Prelude.{◌≡◌, ◌≢◌, ◌<◌, ◌≤◌, ◌^◌, None, length, IfErr, IfOk, IsOk, IsTrue, OnErr, OnOk};
+ghost use Rattle.std.specs.Prelude.{◌≡◌, ◌≢◌, ◌<◌, ◌≤◌, ◌^◌, None, length, map, IfErr, IfOk, IsOk, IsTrue, OnErr, OnOk};
 ghost use Rattle.std.specs.Result.{result_err};
 ghost use Rattle.bsi_shift.specs.Shifted.{shifted_entries};
-ghost use Rattle.bsi_table.specs.Answers.{missing_column, CountsConjunction, IsAnswer, IsReply};
+ghost use Rattle.bsi_table.specs.Answers.{missing_column, CountsConjunction, IsAnswer, IsReply, IsSelection, ReadsAmong};
 ghost use Rattle.bsi_schema.specs.Columns.{column_at, fits};
 ghost use Rattle.bsi_table.specs.Refusals.{index_refusal, row_refusal, rows_refusal, IsFirstOr};
-ghost use Rattle.bsi_table.specs.Rows.{column_of};
+ghost use Rattle.bsi_table.specs.Rows.{column_of, holds};
 ghost use Rattle.bsi_table.specs.Table.{no_rows, with_row, with_rows, AreFitting, AreFrom, IsInForm};
 
 use crate::columns::{copy_each, make_each};
 use crate::found::{count_selected, find_rows};
 use crate::growth::{push_row, push_rows, reserve_rows};
 use crate::totals::answer_total;
-use crate::{Answer, AppendError, AskError, IndexError, NoMemory, Query, Row, Schema, Total};
+use crate::{Answer, AppendError, AskError, IndexError, NoMemory, Pred, Query, Row, Schema, Total};
+use bsi_bits::Bits;
 use bsi_origins::Origins;
 use bsi_shift::Shifted;
 use std::alloc::Global;
@@ -148,6 +149,27 @@ impl Index {
             return Err(AskError::BadColumn(missing));
         }
         Ok(self.answer(query)?)
+    }
+
+    /// Returns for each row whether the predicate holds of it.
+    pub fn select(&self, pred: &Pred) -> Result<Bits, AskError>
+        ensures { IsSelection self.now.schema self.now.rows pred.now result }
+    {
+        if let Some(missing) = pred.missing_column(self.schema.columns()) {
+            return Err(AskError::BadColumn(missing));
+        }
+        Ok(self.find(pred)?)
+    }
+
+    /// Returns for each row whether a predicate holds of it of which no column is missing.
+    fn find(&self, pred: &Pred) -> Result<Bits, NoMemory>
+        requires { ReadsAmong (length self.now.schema.columns) pred.now }
+        ensures { IfOk result (λ found. found.bits ≡ map (λ row. holds pred.now row.1) self.now.rows) }
+    {
+        let columns: &[Shifted] = &self.columns;
+        let rows = self.len();
+        let found = find_rows(*self.columns.allocator(), columns, rows, pred)?;
+        Ok(found)
     }
 
     /// Answers a query of which no column is missing. A count keeps no bit for each row.

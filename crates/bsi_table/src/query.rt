@@ -92,7 +92,7 @@ impl Total {
 impl Pred {
     /// Returns the first column that the predicate reads, from left to right, and that is not among the first
     /// `columns`.
-    fn missing_column(&self, columns: u32) -> Option<u32>
+    pub(crate) fn missing_column(&self, columns: u32) -> Option<u32>
         ensures { result ≡ missing_of columns (columns_of_pred self.now) }
     {
         match self {

@@ -1,0 +1,11 @@
+use Rattle.bsi_handles.proofs.Telling.{where_refused}
+use Rattle.bsi_c.proofs.bsi_share.Goals as goal
+
+pub returns-clause-told : goal.returns-clause-told
+returns-clause-told c = (c.share.result, c.status_of.ensures, c.share.ensures.ending)
+
+pub returns-clause-kept : goal.returns-clause-kept
+returns-clause-kept c = where_refused _ c.share.result _ c.status_of.ensures c.share.ensures.kept
+
+pub returns-clause-left : goal.returns-clause-left
+returns-clause-left c = where_refused _ c.share.result _ c.status_of.ensures c.share.ensures.left

@@ -1,0 +1,124 @@
+//! The index for callers in C: the exports alone. Each call takes a handle, and returns 0 or the number of a refusal.
+#![tactic(auto)]
+
+ghost use Rattle.std.specs.Prelude.{◌≡◌, ◌≢◌, None, map};
+ghost use Rattle.bsi_handles.specs.Calls.{IsAppending, IsAsking, IsClosing, IsCounting, IsDescribing, IsOpening, IsSelecting, IsSharing};
+ghost use Rattle.bsi_handles.specs.States.{opened_in};
+ghost use Rattle.bsi_handles.specs.Statuses.{Tells};
+
+use bsi_handles::{
+    Column, FlatAnswer, Handle, Place, append, ask, close, count, describe, open, select, share,
+    status_of,
+};
+use std::alloc::Global;
+
+/// Opens a closed handle, with an index of no rows that a schema text declares. If a record is bad, it writes the
+/// record's number, from 1.
+#[unsafe(no_mangle)]
+pub extern "C" fn bsi_open(
+    alloc: Global,
+    index: &mut Handle,
+    schema: &[u8],
+    feeders: u32,
+    bad_record: &mut u64,
+) -> u32
+    ensures told { Tells result (IsOpening (opened_in index.old.held.value) schema.now feeders
+        bad_record.new (opened_in index.new.held.value)) }
+    ensures kept { result ≢ 0 → index.new.held.value ≡ index.old.held.value }
+{
+    status_of(open(alloc, index, schema, feeders, bad_record))
+}
+
+/// Appends all rows of the columns, and writes how many. If one does not fit, it writes the number of the first such
+/// row, and appends none. If memory is refused, it writes how many were appended.
+#[unsafe(no_mangle)]
+pub extern "C" fn bsi_append(
+    alloc: Global,
+    index: &mut Handle,
+    feeder: u32,
+    columns: &[Column],
+    row: &mut u64,
+) -> u32
+    ensures told { Tells result (IsAppending index.old.held.value feeder columns.now row.new
+        index.new.held.value) }
+    ensures kept { result ≢ 0 → result ≢ 3 → index.new.held.value ≡ index.old.held.value }
+{
+    status_of(append(alloc, index, feeder, columns, row))
+}
+
+/// Answers the query that the fields ask, as in a script: `count`, `price`, `<`, `100`.
+#[unsafe(no_mangle)]
+pub extern "C" fn bsi_ask(
+    alloc: Global,
+    index: &mut Handle,
+    fields: &[&[u8]],
+    answer: &mut FlatAnswer,
+    places: &mut [Place],
+) -> u32
+    ensures told { Tells result (IsAsking (opened_in index.old.held.value)
+        (map (λ f. f.now) fields.now) answer.new places.new) }
+    ensures kept { index.new.held.value ≡ index.old.held.value }
+{
+    status_of(ask(alloc, index, fields, answer, places))
+}
+
+/// Writes for each row whether the predicate selects it that the fields spell, the lowest bit of a word first, and 0
+/// past the last row.
+#[unsafe(no_mangle)]
+pub extern "C" fn bsi_select(
+    alloc: Global,
+    index: &mut Handle,
+    fields: &[&[u8]],
+    words: &mut [u64],
+) -> u32
+    ensures told { Tells result (IsSelecting (opened_in index.old.held.value)
+        (map (λ f. f.now) fields.now) words.new) }
+    ensures kept { index.new.held.value ≡ index.old.held.value }
+{
+    status_of(select(alloc, index, fields, words))
+}
+
+/// Writes the number of rows.
+#[unsafe(no_mangle)]
+pub extern "C" fn bsi_rows(alloc: Global, index: &mut Handle, rows: &mut u64) -> u32
+    ensures told { Tells result (IsCounting (opened_in index.old.held.value) rows.new) }
+    ensures kept { index.new.held.value ≡ index.old.held.value }
+{
+    status_of(count(alloc, index, rows))
+}
+
+/// Writes the schema text, if there is room, and its length.
+#[unsafe(no_mangle)]
+pub extern "C" fn bsi_schema(
+    alloc: Global,
+    index: &mut Handle,
+    text: &mut [u8],
+    size: &mut usize,
+) -> u32
+    ensures told { Tells result
+        (IsDescribing (opened_in index.old.held.value) text.new size.new) }
+    ensures kept { index.new.held.value ≡ index.old.held.value }
+{
+    status_of(describe(alloc, index, text, size))
+}
+
+/// Opens a closed handle of the same index, for another thread. The index takes no more rows.
+#[unsafe(no_mangle)]
+pub extern "C" fn bsi_share(alloc: Global, index: &mut Handle, other: &mut Handle) -> u32
+    ensures told { Tells result (IsSharing index.old.held.value other.old.held.value
+        index.new.held.value other.new.held.value) }
+    ensures kept { result ≢ 0 →
+        opened_in index.new.held.value ≡ opened_in index.old.held.value }
+    ensures left { result ≢ 0 → other.new.held.value ≡ other.old.held.value }
+{
+    status_of(share(alloc, index, other))
+}
+
+/// Closes a handle. If no other handle holds the index, it frees the index.
+#[unsafe(no_mangle)]
+pub extern "C" fn bsi_close(alloc: Global, index: &mut Handle) -> u32
+    ensures told { Tells result (IsClosing (opened_in index.old.held.value)) }
+    ensures closed { index.new.held.value ≡ None }
+{
+    status_of(close(alloc, index))
+}

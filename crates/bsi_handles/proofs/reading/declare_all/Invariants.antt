@@ -1,0 +1,15 @@
+use Rattle.std.proofs.Common.{◌≡◌, ◌≤◌, None}
+use Rattle.csv.specs.Reading.{reader_state, source_of}
+use Rattle.bsi_text.specs.Texts.{FromText}
+use Rattle.bsi_handles.proofs.Declaring.{HasDeclared}
+use Rattle.bsi_handles.proofs.reading.declare_all.Given as goal
+
+-- the records so far were carried out
+abbrev pub invariant-records : goal.invariant-records
+invariant-records g l = record {
+  going : l.records.end ≡ None;
+  counted : l.records.taken ≡ l.before;
+  few : l.records.taken ≤ 1000000;
+  declared : FromText (source_of g.S.Read.remaining l.initial.records.input) (λ bytes.
+      HasDeclared bytes (reader_state l.records.input) (source_of g.S.Read.remaining l.records.input) l.records.taken (l.schema, l.limit));
+}

@@ -1,0 +1,10 @@
+pub mod Calls
+pub mod Columns
+pub mod Opened
+pub mod Owned
+pub mod SchemaTexts
+pub mod States
+pub mod Statuses
+pub use Rattle.bsi_table.specs.Answers
+pub use Rattle.bsi_table.specs.Rows
+pub use Rattle.bsi_table.specs.Table

@@ -1,0 +1,115 @@
+//! Answers as C has them.
+
+ghost use Rattle.std.specs.Prelude.{◌≡◌, ◌<◌, map, take, length, Err, IfErr, IfOk, OnOk};
+ghost use Rattle.bsi_handles.specs.Calls.{as_pairs, IsReplied, IsShort, IsWritten};
+
+use crate::opened::Opened;
+use crate::refusal::Refusal;
+use bsi_records::read_query;
+use bsi_table::Answer;
+use csv::ByteRecord;
+use std::alloc::Global;
+
+/// 2^64.
+const TWO_64: u128 = 1 << 64;
+
+/// An answer without its rows.
+#[repr(C)]
+#[derive(Clone, Copy, Debug, PartialEq, Eq)]
+pub struct FlatAnswer {
+    /// 1 for a count, 2 for a sum, 3 for a number or none, 4 for rows.
+    pub kind: u32,
+    /// Whether there is a number.
+    pub present: bool,
+    /// The number.
+    pub value: i64,
+    /// The count, or how many rows there are.
+    pub count: u64,
+    /// The low half of the sum, a number of 128 bits in two's complement.
+    pub low: u64,
+    /// The high half of the sum.
+    pub high: u64,
+}
+
+/// A row of an answer: its feeder, and its number among the feeder's rows.
+#[repr(C)]
+#[derive(Clone, Copy, Debug, PartialEq, Eq)]
+pub struct Place {
+    /// The feeder.
+    pub feeder: u32,
+    /// The number, from 0.
+    pub row: u64,
+}
+
+/// Answers the query that the fields ask.
+pub(crate) fn reply(
+    alloc: Global,
+    opened: &Opened,
+    fields: &[&[u8]],
+    answer: &mut FlatAnswer,
+    places: &mut [Place],
+) -> Result<(), Refusal>
+    ensures { IsReplied opened.now (map (λ f. f.now) fields.now) answer.new places.new result }
+{
+    let index = opened.index();
+    let fields = ByteRecord::from_fields(alloc, fields)?;
+    let Some(query) = read_query(alloc, index.schema(), &fields)? else {
+        return Err(Refusal::BadQuery);
+    };
+    let Ok(reply) = index.ask(&query) else {
+        // The columns of a query that was read are there, so only memory can be refused.
+        return Err(Refusal::NoMemory);
+    };
+    write(&reply, answer, places)
+}
+
+/// Writes an answer.
+fn write(reply: &Answer, answer: &mut FlatAnswer, places: &mut [Place]) -> Result<(), Refusal>
+    ensures written { OnOk result (IsWritten reply.now answer.new places.new) }
+    ensures short { IfErr result (λ why. (why ≡ Refusal.NoRoom)
+        × IsShort reply.now answer.new places.new) }
+{
+    match reply {
+        Answer::Count(count) => {
+            answer.kind = 1;
+            answer.count = *count;
+        }
+        Answer::Sum(sum) => {
+            let bits = sum.cast_unsigned();
+            answer.kind = 2;
+            answer.low = (bits % TWO_64) as u64;
+            answer.high = (bits / TWO_64) as u64;
+        }
+        Answer::Value(None) => {
+            answer.kind = 3;
+            answer.present = false;
+        }
+        Answer::Value(Some(value)) => {
+            answer.kind = 3;
+            answer.present = true;
+            answer.value = *value;
+        }
+        Answer::Rows(rows) => {
+            answer.kind = 4;
+            answer.count = rows.len() as u64;
+            return list(rows, places);
+        }
+    }
+    Ok(())
+}
+
+/// Writes rows, if there are places for all.
+fn list(rows: &[(u32, u64)], places: &mut [Place]) -> Result<(), Refusal>
+    ensures listed { OnOk result (as_pairs (take (length rows.now) places.new) ≡ rows.now) }
+    ensures short { IfErr result (λ why. (why ≡ Refusal.NoRoom)
+        × (length places.new < length rows.now)) }
+{
+    if rows.len() > places.len() {
+        return Err(Refusal::NoRoom);
+    }
+    'rows: for r in 0..rows.len() {
+        let (feeder, row) = rows[r];
+        places[r] = Place { feeder, row };
+    }
+    Ok(())
+}

@@ -1,0 +1,60 @@
+//! Rows that C gives as columns.
+
+ghost use Rattle.std.specs.Prelude.{◌≡◌, ◌<◌, true};
+ghost use Rattle.std.specs.List.{list_all};
+ghost use Rattle.bsi_handles.specs.Columns.{are_columns, entry_of, has_rows, row_count};
+
+/// The entries of a column: numbers, and a bitmap of which of them are there, the lowest bit of a byte first. A bitmap
+/// of no bytes says that all are.
+#[repr(C)]
+#[derive(Drop)]
+pub struct Column<'a> {
+    /// The numbers, from the column's least number up.
+    pub values: &'a [i64],
+    /// The bitmap.
+    pub valid: &'a [u8],
+}
+
+/// Returns whether the column has so many numbers, and a bit for each.
+fn has_rows(column: &Column, rows: usize) -> bool
+    ensures { result ≡ has_rows rows column.now }
+{
+    column.values.len() == rows
+        && (column.valid.len() == 0 || rows.div_ceil(8) <= column.valid.len())
+}
+
+/// Returns whether each column has so many numbers, and a bit for each.
+fn have_rows(columns: &[Column], rows: usize) -> bool
+    ensures { result ≡ list_all (has_rows rows) columns.now }
+{
+    columns.iter().all(|column| has_rows(column, rows))
+}
+
+/// Returns how many rows the columns have.
+pub(crate) fn count_rows(columns: &[Column]) -> usize
+    ensures { result ≡ row_count columns.now }
+{
+    match columns {
+        [] => 0,
+        [first, ..] => first.values.len(),
+    }
+}
+
+/// Returns whether there are so many columns, all of one length, with a bit for each number.
+pub(crate) fn are_columns(columns: &[Column], count: u32) -> bool
+    ensures { result ≡ are_columns count columns.now }
+{
+    columns.len() == count as usize && have_rows(columns, count_rows(columns))
+}
+
+/// Returns the entry of row `r`.
+pub(crate) fn entry(column: &Column, rows: usize, r: usize) -> Option<i128>
+    requires whole { has_rows rows column.now ≡ true }
+    requires within { r < rows }
+    ensures { result ≡ entry_of r column.now }
+{
+    if column.valid.len() > 0 && column.valid[r / 8] >> (r % 8) & 1 == 0 {
+        return None;
+    }
+    Some(i128::from(column.values[r]))
+}

@@ -1,0 +1,22 @@
+//! The index behind a handle that C keeps: what each call of the C library does. The crate `bsi_c` exports the calls.
+#![tactic(auto)]
+
+mod answers;
+mod blocks;
+mod calls;
+mod columns;
+mod fitting;
+mod held;
+mod opened;
+mod reading;
+mod refusal;
+mod selection;
+mod state;
+
+pub use answers::{FlatAnswer, Place};
+pub use calls::{append, ask, close, count, describe, open, select, share};
+pub use columns::Column;
+pub use held::{Handle, Held, Opaque};
+pub use opened::Opened;
+pub use refusal::{Refusal, status_of};
+pub use state::State;

@@ -1,0 +1,84 @@
+//! An index that was opened, and the text of its schema.
+
+ghost use Rattle.std.specs.Prelude.{◌≡◌};
+ghost use Rattle.bsi_handles.specs.Calls.{with_table, IsAppended, IsDescribed};
+ghost use Rattle.bsi_handles.specs.SchemaTexts.{IsSchemaText};
+
+use crate::blocks::append_columns;
+use crate::columns::Column;
+use crate::refusal::Refusal;
+use bsi_table::Index;
+use std::alloc::Global;
+use std::marker::Model;
+
+/// An index, and the text that declared its columns and its row limit.
+#[derive(Drop)]
+pub struct Opened {
+    text: Vec<u8>,
+    index: Index,
+}
+
+// Clauses see the bytes of the text, and what the index shows.
+impl Model for Opened {
+    ghost use Rattle.bsi_handles.specs.Opened.{Opened};
+    ghost use Rattle.bsi_handles.specs.SchemaTexts.{IsSchemaText};
+
+    ghost Value = { Opened };
+
+    ghost view = { λ o. record { text = o.text.items; table = o.index } };
+
+    ghost invariant = { λ o. IsSchemaText o.text.items o.index.schema o.index.limit };
+}
+
+impl Opened {
+    /// Puts an index beside the text that declared its columns.
+    pub(crate) fn new(text: Vec<u8>, index: Index) -> Opened
+        requires { IsSchemaText text.items index.schema index.limit }
+        ensures text { result.text ≡ text.items }
+        ensures table { result.table ≡ index }
+    {
+        Opened { text, index }
+    }
+
+    /// Lends the index.
+    pub(crate) fn index(&self) -> &Index
+        ensures { result.now ≡ self.now.table }
+    {
+        &self.index
+    }
+
+    /// Lends the text.
+    pub(crate) fn text(&self) -> &[u8]
+        ensures text { result.now ≡ self.now.text }
+        ensures declares { IsSchemaText result.now self.now.table.schema self.now.table.limit }
+    {
+        &self.text
+    }
+
+    /// Writes the text, if there is room, and its length.
+    pub(crate) fn describe(&self, text: &mut [u8], size: &mut usize) -> Result<(), Refusal>
+        ensures { IsDescribed self.now text.new size.new result }
+    {
+        let from = self.text();
+        *size = from.len();
+        if text.len() < from.len() {
+            return Err(Refusal::NoRoom);
+        }
+        text[..from.len()].copy_from_slice(from);
+        Ok(())
+    }
+
+    /// Appends the rows of the columns, as `append_columns` does.
+    pub(crate) fn append(
+        &mut self,
+        alloc: Global,
+        feeder: u32,
+        columns: &[Column],
+        row: &mut u64,
+    ) -> Result<(), Refusal>
+        ensures text { self.new ≡ with_table self.old self.new.table }
+        ensures rows { IsAppended self.old.table feeder columns.now row.new self.new.table result }
+    {
+        append_columns(alloc, &mut self.index, feeder, columns, row)
+    }
+}

@@ -1,0 +1,25 @@
+use Rattle.std.proofs.Common.{◌≡◌, ◌<◌, ℕ, length, map, ap, ap₂, sym, subst, arith, ◌∙◌}
+use Rattle.bsi_shift.specs.Shifted.{shifted_entries}
+use Rattle.bsi_table.specs.Rows.{holds, FedRow}
+use Rattle.bsi_table.specs.Table.{fed_rows, kept_at, rows_in}
+use Rattle.bsi_table.proofs.TableRows.{length-fed_rows, map-fed_rows}
+use Rattle.bsi_table.proofs.index.Index.find.Goals as goal
+
+pub find_rows-requires-clause-even : goal.find_rows-requires-clause-even
+find_rows-requires-clause-even c =
+    let kept = c.self.inside.columns.items in
+    let invariant = c.self.invariant.columns_are in
+    let rows = sym (length-fed_rows c.self.inside.origins.rows kept) ∙ ap (λ t. length t.rows) c.self.view_is ∙ sym c.len-rows.ensures.len in
+    subst (λ columns. (k : ℕ) → k < length columns → length (shifted_entries (kept_at columns k)) ≡ c.len-rows.result) (sym c.deref-columns.ensures.value)
+    (λ k within. (invariant.each k (omega (arith, within, invariant.long))).rows ∙ rows)
+
+pub returns : goal.returns
+returns c =
+    let pred = c.args.pred.now in
+    let sources = c.self.inside.origins.rows in
+    let kept = c.self.inside.columns.items in
+    let long = c.len-rows.ensures.len ∙ ap (λ t. length t.rows) (sym c.self.view_is) ∙ length-fed_rows sources kept in
+    c.in_ok-found.ensures
+    ∙ ap₂ (λ columns n. map (holds pred) (rows_in columns n)) c.deref-columns.ensures.value long
+    ∙ sym (map-fed_rows sources kept (holds pred))
+    ∙ ap (λ t. map (λ (row : FedRow). holds pred row.1) t.rows) c.self.view_is

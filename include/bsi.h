@@ -1,0 +1,144 @@
+/* bsi: a bitmap index of whole numbers, for callers in C.
+ *
+ * An index holds rows; a row has one entry for each column: a number, or a null. Rows come from 1 to 64 feeders, and
+ * questions are asked of all rows. docs/C.md shows a program.
+ *
+ * Each call takes a handle and returns a status. Where the status is not BSI_OK, the call has changed no row;
+ * bsi_append says what BSI_NO_MEMORY leaves.
+ *
+ * Pointers. No pointer is null, not even one to nothing: where a length is 0, pass any aligned address. What a call
+ * reads is the caller's, and is not kept after the call. What a call writes lies apart from all else that it is given.
+ *
+ * Threads. A call has its handle alone while it runs, also to ask. Two handles of one index, made by bsi_share, may be
+ * used by two threads at once. A handle may be used by one thread after another.
+ */
+#ifndef BSI_H
+#define BSI_H
+
+#include <stdbool.h>
+#include <stddef.h>
+#include <stdint.h>
+
+#ifdef __cplusplus
+extern "C" {
+#endif
+
+/* A handle. One whose bytes are all zero is closed. Only bsi's calls write it, and it is not copied while it is open.
+ * bsi_close frees what it holds. */
+typedef struct {
+    void *at;
+    bool full;
+} bsi_index;
+
+/* The bytes of a field of a query, without an end mark. */
+typedef struct {
+    const uint8_t *at;
+    size_t len;
+} bsi_text;
+
+/* A column of rows that are appended. Entry r is the number values[r], or a null where bit r of the bitmap is 0: bit
+ * r % 8 of byte r / 8, from the lowest. A bitmap of 0 bytes says that no entry is null; any other has at least
+ * values_len / 8 bytes, rounded up. */
+typedef struct {
+    const int64_t *values;
+    size_t values_len; /* in numbers */
+    const uint8_t *valid;
+    size_t valid_len; /* in bytes */
+} bsi_column;
+
+/* An answer. Other fields than those of its kind keep what they held. */
+typedef struct {
+    uint32_t kind;      /* which of BSI_COUNT, BSI_SUM, BSI_VALUE and BSI_ROWS */
+    bool present;       /* BSI_VALUE: whether there is a number */
+    int64_t value;      /* BSI_VALUE: the number, where there is one */
+    uint64_t count;     /* BSI_COUNT: the count; BSI_ROWS: how many rows there are */
+    uint64_t low, high; /* BSI_SUM: the sum, high * 2^64 + low, of 128 bits in two's complement */
+} bsi_answer;
+
+enum { BSI_COUNT = 1, BSI_SUM = 2, BSI_VALUE = 3, BSI_ROWS = 4 };
+
+/* A row of an answer. */
+typedef struct {
+    uint32_t feeder; /* from 0 */
+    uint64_t row;    /* its number among that feeder's rows, from 0 */
+} bsi_place;
+
+/* How a call ended. */
+enum {
+    BSI_OK = 0,          /* it was done */
+    BSI_CLOSED = 1,      /* the handle is closed */
+    BSI_OPEN = 2,        /* the handle that is to be opened is open */
+    BSI_NO_MEMORY = 3,   /* memory was refused */
+    BSI_BAD_SCHEMA = 4,  /* a record of the schema is neither a column nor a limit, or can't be carried out */
+    BSI_NO_COLUMNS = 5,  /* the schema has no column */
+    BSI_BAD_FEEDER = 6,  /* a number of feeders that is not from 1 to 64; in bsi_append no such feeder */
+    BSI_BAD_COLUMNS = 7, /* another number of columns than the schema has, lengths that differ, or a short bitmap */
+    BSI_BAD_ROW = 8,     /* a row has a number that its column does not take */
+    BSI_INDEX_FULL = 9,  /* there would be more rows than the limit */
+    BSI_SHARED = 10,     /* a shared index takes no rows */
+    BSI_BAD_QUERY = 11,  /* the fields ask no query, or spell no predicate, or are more than 1,000 for the predicate */
+    BSI_NO_ROOM = 12,    /* there is too little room, or for bsi_select another number of words than the rows fill */
+    BSI_BAD_TEXT = 13    /* the schema has more than 1,000,000 records */
+};
+
+/* Opens a closed handle, with no rows. The schema is the text of a schema file, as docs/FORMATS.md says: the records
+ * "column,NAME,FORM,SIZES" or "column,NAME,FORM,SIZES,OFFSET", and at most the last of "limit,ROWS" counts (2^32 rows
+ * where there is none). A copy of it is kept. At BSI_BAD_SCHEMA *bad_record is the number of the first bad record, from
+ * 1; else it is 0. */
+uint32_t bsi_open(bsi_index *index, const uint8_t *schema, size_t schema_len, uint32_t feeders, uint64_t *bad_record);
+
+/* Appends rows of a feeder, numbered from 0, that are given as one bsi_column for each column of the schema, in its
+ * order. All rows are tested before the first is appended. *row is, at
+ *     BSI_OK         how many rows were appended: all
+ *     BSI_BAD_ROW    the first row that does not fit; none was appended
+ *     BSI_NO_MEMORY  how many rows were appended: the first so many, in whole blocks of 64
+ * and else 0; then none was appended. */
+uint32_t bsi_append(bsi_index *index, uint32_t feeder, const bsi_column *columns, size_t columns_len, uint64_t *row);
+
+/* Answers a query, given as the fields of a query record: {"count", "price", "<", "100"}. Rows go to places, as many as
+ * the answer has; at BSI_NO_ROOM the answer is BSI_ROWS, and its count says how many places are needed. */
+uint32_t bsi_ask(bsi_index *index, const bsi_text *fields, size_t fields_len, bsi_answer *answer, bsi_place *places,
+                 size_t places_len);
+
+/* Writes which rows a predicate selects, given as its fields: {"price", "<", "100"}. Row i is bit i % 64 of word i / 64,
+ * from the lowest; bits past the last row are 0. Rows are numbered as they were appended, by all feeders together. There
+ * are as many words as the rows fill: rows / 64, rounded up. */
+uint32_t bsi_select(bsi_index *index, const bsi_text *fields, size_t fields_len, uint64_t *words, size_t words_len);
+
+/* Writes the number of rows, at most 2^32. */
+uint32_t bsi_rows(bsi_index *index, uint64_t *rows);
+
+/* Writes the schema as the text that opened the index. *size is its number of bytes, at BSI_NO_ROOM too. */
+uint32_t bsi_schema(bsi_index *index, uint8_t *text, size_t room, size_t *size);
+
+/* Opens another, closed handle of the same index, whose rows stand from then on: neither handle takes more. If memory is
+ * refused, the other stays closed. */
+uint32_t bsi_share(bsi_index *index, bsi_index *other);
+
+/* Closes a handle. The index is freed with its last handle. */
+uint32_t bsi_close(bsi_index *index);
+
+/* Returns in words how a call ended. */
+static inline const char *bsi_status_text(uint32_t status) {
+    static const char *const texts[] = {"done",
+                                        "the handle is closed",
+                                        "the handle is open",
+                                        "no memory",
+                                        "bad record in the schema",
+                                        "no column in the schema",
+                                        "no such feeder",
+                                        "columns of another number or length",
+                                        "a row does not fit",
+                                        "the index is full",
+                                        "a shared index takes no rows",
+                                        "no query",
+                                        "no room",
+                                        "too many records in the schema"};
+    return status < sizeof texts / sizeof *texts ? texts[status] : "no status of bsi";
+}
+
+#ifdef __cplusplus
+}
+#endif
+
+#endif

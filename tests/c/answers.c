@@ -1,0 +1,104 @@
+/* Answers and masks over many rows of three columns, each compared with a plain loop over the arrays. */
+#include "check.h"
+
+enum { ROWS = 100003, WORDS = (ROWS + 63) / 64 };
+
+static int64_t plain[3][ROWS];
+static uint8_t valid[(ROWS + 7) / 8];
+static uint64_t words[WORDS];
+static bsi_place places[ROWS];
+static const char *names[3] = {"a", "b", "c"};
+static const int64_t constants[3] = {345678, 12, 2500};
+static const char *signs[6] = {"=", "!=", "<", "<=", ">", ">="};
+
+static bool is_there(int column, size_t row) { return column != 1 || (valid[row / 8] >> (row % 8) & 1); }
+
+static bool holds(int sign, int64_t x, int64_t y) {
+    bool each[6] = {x == y, x != y, x < y, x <= y, x > y, x >= y};
+    return each[sign];
+}
+
+static int by_number(const void *a, const void *b) {
+    int64_t x = *(const int64_t *)a, y = *(const int64_t *)b;
+    return (x > y) - (x < y);
+}
+
+static void fill(void) {
+    for (size_t row = 0; row < ROWS; row++) {
+        plain[0][row] = next() % (1 << 20);
+        plain[1][row] = (int64_t)(next() % 1000) - 400;
+        plain[2][row] = next() % 5000;
+        if (next() % 10) valid[row / 8] |= 1 << (row % 8);
+    }
+}
+
+/* Compares one comparison's count, mask and rows. */
+static void compare(bsi_index *index, int column, int sign) {
+    char predicate[64], query[80], text[128];
+    snprintf(predicate, sizeof predicate, "%s %s %lld", names[column], signs[sign], (long long)constants[column]);
+    snprintf(query, sizeof query, "count %s", predicate);
+    bsi_answer answer = {0}, listed = {0};
+    uint32_t status = ask(index, query, &answer, places, 0) | selects(index, predicate, words, WORDS);
+    snprintf(query, sizeof query, "list %s", predicate);
+    status |= ask(index, query, &listed, places, ROWS);
+    size_t found = 0, wrong = 0;
+    for (size_t row = 0; row < WORDS * 64; row++) {
+        bool want = row < ROWS && is_there(column, row) && holds(sign, plain[column][row], constants[column]);
+        wrong += want != (words[row / 64] >> (row % 64) & 1);
+        if (want) wrong += found >= listed.count || places[found].row != row || places[found].feeder != 0;
+        found += want;
+    }
+    snprintf(text, sizeof text, "%s: count, list and each bit of the mask are those of a loop", predicate);
+    check(!status && answer.kind == BSI_COUNT && answer.count == found && listed.count == found && !wrong, text);
+}
+
+/* Compares the totals of a column over the rows where b is below 12. */
+static void total(bsi_index *index, int column) {
+    static int64_t found[ROWS];
+    size_t count = 0;
+    int64_t sum = 0;
+    for (size_t row = 0; row < ROWS; row++)
+        if (is_there(1, row) && plain[1][row] < 12 && is_there(column, row)) sum += found[count++] = plain[column][row];
+    qsort(found, count, sizeof *found, by_number);
+    struct {
+        const char *word;
+        int64_t want;
+    } each[] = {{"least", found[0]}, {"greatest", found[count - 1]}, {"median", found[(count - 1) / 2]}};
+    char query[80], text[128];
+    bsi_answer answer = {0};
+    snprintf(query, sizeof query, "sum %s b < 12", names[column]);
+    bool right = !ask(index, query, &answer, places, 0) && answer.kind == BSI_SUM && answer.low == (uint64_t)sum
+        && answer.high == (sum < 0 ? UINT64_MAX : 0);
+    for (size_t k = 0; k < 3; k++) {
+        snprintf(query, sizeof query, "%s %s b < 12", each[k].word, names[column]);
+        right &= !ask(index, query, &answer, places, 0) && answer.kind == BSI_VALUE && answer.present;
+        right &= answer.value == each[k].want;
+    }
+    snprintf(text, sizeof text, "%s: sum, least, greatest and median are those of a loop", names[column]);
+    check(right, text);
+}
+
+int main(void) {
+    fill();
+    bsi_index index = {0};
+    bsi_answer answer = {0};
+    uint64_t bad, row, rows;
+    const char *schema = "column,a,slices,20\ncolumn,b,range,10 10 10,-400\ncolumn,c,equality,70 72\nlimit,200000\n";
+    check(!opens(&index, schema, 1, &bad) && bad == 0, "an index is opened");
+    bsi_column columns[3] = {{plain[0], ROWS, valid, 0}, {plain[1], ROWS, valid, sizeof valid}, {plain[2], ROWS, valid, 0}};
+    check(!bsi_append(&index, 0, columns, 3, &row) && row == ROWS, "rows are appended");
+    check(!bsi_rows(&index, &rows) && rows == ROWS, "the rows are counted");
+    for (int column = 0; column < 3; column++)
+        for (int sign = 0; sign < 6; sign++) compare(&index, column, sign);
+    for (int column = 0; column < 3; column++) total(&index, column);
+    check(!ask(&index, "least a a < 0", &answer, places, 0) && answer.kind == BSI_VALUE && !answer.present, "there may be no least");
+    size_t nulls = 0;
+    for (size_t r = 0; r < ROWS; r++) nulls += !is_there(1, r);
+    check(!ask(&index, "count b null", &answer, places, 0) && answer.count == nulls, "nulls are counted");
+    uint8_t text[200];
+    size_t size = 0;
+    check(!bsi_schema(&index, text, sizeof text, &size) && size == strlen(schema) && !memcmp(text, schema, size),
+          "the schema comes back as the text that opened the index");
+    check(!bsi_close(&index) && !index.full, "the index is closed");
+    return failed != 0;
+}

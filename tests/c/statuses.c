@@ -1,0 +1,154 @@
+/* Each status of each call, and that a refused call changes nothing. */
+#include "check.h"
+
+static int64_t numbers[100] = {3, 1, 2};
+static uint8_t bits[16] = {255, 255};
+static bsi_place places[8];
+static uint64_t words[4];
+static bsi_index closed, open_one;
+
+static uint64_t rows_of(bsi_index *index) {
+    uint64_t rows = UINT64_MAX;
+    bsi_rows(index, &rows);
+    return rows;
+}
+
+static uint32_t append(bsi_index *index, uint32_t feeder, const bsi_column *columns, size_t len, uint64_t want_row) {
+    uint64_t row = 77;
+    uint32_t status = bsi_append(index, feeder, columns, len, &row);
+    return row == want_row ? status : 1000 + (uint32_t)row;
+}
+
+static void of_a_closed_handle(void) {
+    bsi_column column = {numbers, 1, bits, 0};
+    bsi_answer answer = {0};
+    bsi_index other = {0};
+    uint64_t number;
+    size_t size;
+    check(append(&closed, 0, &column, 1, 0) == BSI_CLOSED, "append: a closed handle");
+    check(ask(&closed, "count all", &answer, places, 0) == BSI_CLOSED, "ask: a closed handle");
+    check(selects(&closed, "all", words, 0) == BSI_CLOSED, "select: a closed handle");
+    check(bsi_rows(&closed, &number) == BSI_CLOSED, "rows: a closed handle");
+    check(bsi_schema(&closed, bits, 0, &size) == BSI_CLOSED, "schema: a closed handle");
+    check(bsi_share(&closed, &other) == BSI_CLOSED, "share: a closed handle");
+    check(bsi_close(&closed) == BSI_CLOSED, "close: a closed handle");
+    check(!closed.at && !closed.full && !other.at && !other.full, "a handle of zero bytes stays so");
+}
+
+static void of_schemas(void) {
+    uint64_t bad = 0;
+    check(opens(&closed, "column,x,slices,8\ncolumn,x,slices,8\n", 1, &bad) == BSI_BAD_SCHEMA && bad == 2, "open: a name twice");
+    check(opens(&closed, "nothing\n", 1, &bad) == BSI_BAD_SCHEMA && bad == 1, "open: a record that declares nothing");
+    check(opens(&closed, "limit,0\n", 1, &bad) == BSI_BAD_SCHEMA && bad == 1, "open: a limit of 0");
+    check(opens(&closed, "column,\xff,slices,8\n", 1, &bad) == BSI_BAD_SCHEMA && bad == 1, "open: a name that is no text");
+    check(opens(&closed, "", 1, &bad) == BSI_NO_COLUMNS && bad == 0, "open: no text");
+    check(opens(&closed, "limit,5\n", 1, &bad) == BSI_NO_COLUMNS && bad == 0, "open: a limit alone");
+    check(opens(&closed, "column,x,slices,8\n", 0, &bad) == BSI_BAD_FEEDER, "open: no feeder");
+    check(opens(&closed, "column,x,slices,8\n", 65, &bad) == BSI_BAD_FEEDER, "open: 65 feeders");
+    check(!closed.at && !closed.full, "a handle that was not opened is closed");
+    size_t many = 1000001;
+    uint8_t *text = malloc(many * 8);
+    for (size_t k = 0; k < many; k++) memcpy(text + 8 * k, "limit,9\n", 8);
+    memcpy(text, "limit,9\n", 8);
+    check(bsi_open(&closed, text, many * 8, 1, &bad) == BSI_BAD_TEXT && bad == 0, "open: 1,000,001 records");
+    free(text);
+    check(opens(&open_one, "column,x,slices,8\ncolumn,y,range,10 10,-50\nlimit,70\n", 2, &bad) == BSI_OK && bad == 0, "open");
+    check(opens(&open_one, "column,x,slices,8\n", 1, &bad) == BSI_OPEN && bad == 0, "open: an open handle");
+    check(rows_of(&open_one) == 0, "an index begins with no rows");
+}
+
+static void of_columns(void) {
+    int64_t big[3] = {1, 256, 2}, low[3] = {-50, 49, -51};
+    bsi_column two[2] = {{numbers, 3, bits, 0}, {numbers, 3, bits, 0}};
+    bsi_column three[3] = {two[0], two[1], two[1]};
+    bsi_column long_one[2] = {{numbers, 71, bits, 0}, {numbers, 71, bits, 0}};
+    bsi_column no_rows[2] = {{numbers, 0, bits, 0}, {numbers, 0, bits, 0}};
+    check(append(&open_one, 2, two, 2, 0) == BSI_BAD_FEEDER, "append: no such feeder");
+    check(append(&open_one, 0, two, 1, 0) == BSI_BAD_COLUMNS, "append: one column of two");
+    check(append(&open_one, 0, two, 0, 0) == BSI_BAD_COLUMNS, "append: no column");
+    check(append(&open_one, 0, three, 3, 0) == BSI_BAD_COLUMNS, "append: three columns of two");
+    two[1].values_len = 2;
+    check(append(&open_one, 0, two, 2, 0) == BSI_BAD_COLUMNS, "append: lengths that differ");
+    long_one[1].valid_len = 8;
+    check(append(&open_one, 0, long_one, 2, 0) == BSI_BAD_COLUMNS, "append: a bitmap that is short by a byte");
+    long_one[1].valid_len = 0;
+    check(append(&open_one, 0, long_one, 2, 0) == BSI_INDEX_FULL, "append: a row more than the limit");
+    two[1] = (bsi_column){low, 3, bits, 0};
+    check(append(&open_one, 0, two, 2, 2) == BSI_BAD_ROW, "append: a number below the least");
+    two[0].values = big;
+    check(append(&open_one, 0, two, 2, 1) == BSI_BAD_ROW, "append: the first of two rows that do not fit");
+    check(append(&open_one, 0, no_rows, 2, 0) == BSI_OK, "append: no rows");
+    check(rows_of(&open_one) == 0, "refused rows are not there");
+    bits[15] = 5;
+    two[0] = (bsi_column){big, 3, bits + 15, 1};
+    two[1] = (bsi_column){low, 3, bits + 15, 1};
+    low[2] = 0;
+    check(append(&open_one, 1, two, 2, 3) == BSI_OK && rows_of(&open_one) == 3, "append: a null need not fit");
+}
+
+static void of_questions(void) {
+    static bsi_text many[1002];
+    bsi_answer answer = {0};
+    many[0] = (bsi_text){(const uint8_t *)"count", 5};
+    for (size_t k = 1; k < 1002; k++) many[k] = (bsi_text){(const uint8_t *)(k < 3 || k % 2 == 0 ? "all" : "and"), 3};
+    check(bsi_ask(&open_one, many, 1000, &answer, places, 0) == BSI_OK && answer.count == 3, "ask: 999 fields after the word");
+    check(bsi_ask(&open_one, many, 1002, &answer, places, 0) == BSI_BAD_QUERY, "ask: 1,001 fields after the word");
+    check(bsi_ask(&open_one, many, 0, &answer, places, 0) == BSI_BAD_QUERY, "ask: no field");
+    check(ask(&open_one, "count z = 1", &answer, places, 0) == BSI_BAD_QUERY, "ask: no such column");
+    check(ask(&open_one, "sum all", &answer, places, 0) == BSI_BAD_QUERY, "ask: a total without its column");
+    check(ask(&open_one, "list all", &answer, places, 2) == BSI_NO_ROOM && answer.kind == BSI_ROWS && answer.count == 3,
+          "ask: too few places, and how many are needed");
+    check(ask(&open_one, "list y null", &answer, places, 1) == BSI_OK && answer.count == 1 && places[0].feeder == 1 && places[0].row == 1,
+          "ask: the row with a null");
+    check(selects(&open_one, "count all", words, 1) == BSI_BAD_QUERY, "select: a query");
+    check(selects(&open_one, "", words, 1) == BSI_BAD_QUERY, "select: no field");
+    check(selects(&open_one, "all", words, 0) == BSI_NO_ROOM, "select: no word for three rows");
+    check(selects(&open_one, "all", words, 2) == BSI_NO_ROOM, "select: two words for three rows");
+    check(selects(&open_one, "x >= 2 y = 0 or", words, 1) == BSI_OK && words[0] == 4, "select: the rows of a predicate");
+}
+
+static void of_sharing(void) {
+    bsi_index other = {0}, third = {0};
+    bsi_column two[2] = {{numbers, 1, bits, 0}, {numbers, 1, bits, 0}};
+    uint8_t text[64];
+    size_t size = 0;
+    check(bsi_schema(&open_one, text, 10, &size) == BSI_NO_ROOM && size == 52, "schema: too little room, and how much is needed");
+    check(bsi_share(&open_one, &other) == BSI_OK && rows_of(&other) == 3, "share");
+    check(bsi_share(&open_one, &other) == BSI_OPEN, "share: into an open handle");
+    check(append(&open_one, 0, two, 2, 0) == BSI_SHARED && append(&other, 0, two, 2, 0) == BSI_SHARED, "append: a shared index");
+    check(bsi_close(&open_one) == BSI_OK && rows_of(&other) == 3, "a handle stays open when the other is closed");
+    check(append(&other, 0, two, 2, 0) == BSI_SHARED, "append: an index that was shared");
+    check(bsi_share(&other, &third) == BSI_OK && bsi_close(&other) == BSI_OK && rows_of(&third) == 3, "share: once more");
+    check(bsi_close(&third) == BSI_OK && bsi_close(&third) == BSI_CLOSED, "close: twice");
+}
+
+/* A length of 0 beside a null pointer is outside the contract, and does no harm. */
+static void of_null_pointers(void) {
+    bsi_index index = {0};
+    bsi_answer answer = {0};
+    uint64_t bad;
+    check(bsi_open(&index, NULL, 0, 1, &bad) == BSI_NO_COLUMNS, "open: null and 0 bytes");
+    opens(&index, "column,x,slices,8\n", 1, &bad);
+    bsi_column column = {NULL, 0, NULL, 0};
+    check(append(&index, 0, &column, 1, 0) == BSI_OK, "append: null and no rows");
+    check(bsi_ask(&index, NULL, 0, &answer, NULL, 0) == BSI_BAD_QUERY, "ask: null and no field");
+    check(ask(&index, "list all", &answer, NULL, 0) == BSI_OK && answer.count == 0, "ask: null and no place");
+    check(selects(&index, "all", NULL, 0) == BSI_OK, "select: null and no word");
+    bsi_close(&index);
+}
+
+static void of_texts(void) {
+    check(!strcmp(bsi_status_text(BSI_OK), "done") && !strcmp(bsi_status_text(BSI_NO_ROOM), "no room"), "a status in words");
+    check(strcmp(bsi_status_text(BSI_BAD_TEXT), bsi_status_text(14)) && bsi_status_text(UINT32_MAX), "a number past the statuses");
+}
+
+int main(void) {
+    of_texts();
+    of_a_closed_handle();
+    of_schemas();
+    of_columns();
+    of_questions();
+    of_sharing();
+    of_null_pointers();
+    return failed != 0;
+}
