@@ -1,8 +1,10 @@
 //! The numbers that a column takes.
 
-ghost use Rattle.std.specs.Prelude.{◌≡◌, ◌≤◌, ◌^◌};
-ghost use Rattle.bsi_schema.specs.Columns.{is_between, size_in, IsForm};
+ghost use Rattle.std.specs.Prelude.{◌≡◌, ◌^◌, ◌+ℤ◌, ◌≤ℤ◌, List, map, pos, true};
+ghost use Rattle.bsi_schema.specs.Columns.{fits, is_between, size_in, IsForm, NamedColumn};
+ghost use Rattle.bsi_schema.specs.Limits.{limits_of};
 
+use crate::Row;
 use crate::form::Kind;
 
 /// This many numbers, from the least one up.
@@ -34,4 +36,31 @@ impl Limits {
         let least = i128::from(self.least);
         least <= number && number < least + i128::from(self.size)
     }
+
+    /// Returns the same entry, as a number of 64 bits.
+    pub fn narrow(self, entry: Option<i128>) -> Option<i64>
+        requires taken { is_between self.least self.size entry ≡ true }
+        requires below { (self.least +ℤ pos self.size) ≤ℤ pos (2 ^ 63) }
+        ensures { result ≡ entry }
+    {
+        let number = entry?;
+        Some(number as i64)
+    }
+}
+
+/// Returns whether a row has one entry for each of these columns, each a null or a number that its column takes.
+pub fn take_each(limits: &[Limits], row: &Row) -> bool
+    ensures { (columns : List NamedColumn) → limits.now ≡ map limits_of columns →
+        result ≡ fits columns row.now }
+{
+    let values = row.values();
+    if values.len() != limits.len() {
+        return false;
+    }
+    'columns: for c in 0..values.len() {
+        if !limits[c].takes(values[c]) {
+            return false;
+        }
+    }
+    true
 }

@@ -1,14 +1,14 @@
 //! The columns of a table: their names in order of declaration, their forms and offsets.
 
-ghost use Rattle.std.specs.Prelude.{◌≡◌, ◌<◌, ◌≤◌, ◌^◌, None, true, false, length, map, pos, ◌+ℤ◌, ◌≤ℤ◌, IfOk, IfErr, OnOk, OnErr, IsTrue};
+ghost use Rattle.std.specs.Prelude.{◌≡◌, ◌<◌, ◌≤◌, ◌^◌, None, All, length, map, pos, ◌+ℤ◌, ◌≤ℤ◌, IfOk, IfErr, OnOk, OnErr, IsTrue};
 ghost use Rattle.std.specs.Result.{result_err};
-ghost use Rattle.bsi_schema.specs.Columns.{column_at, fits, form_of, named_column, no_columns, position_of, size_in, with_column, AreNamed, IsForm};
+ghost use Rattle.bsi_schema.specs.Columns.{column_at, fits, form_of, named_column, no_columns, position_of, size_in, with_column, AreNamed, IsColumn, IsForm};
 ghost use Rattle.bsi_schema.specs.Limits.{limits_of};
 ghost use Rattle.bsi_schema.specs.Names.{is_name};
 ghost use Rattle.bsi_schema.specs.Refusals.{column_refusal, name_refusal, signed_refusal, IsFirstOr};
 
 use crate::form::{ColumnSpec, Form, Kind};
-use crate::limits::Limits;
+use crate::limits::{Limits, take_each};
 use crate::name::is_valid_name;
 use crate::{NoMemory, Row, SchemaError};
 use indexmap::IndexMap;
@@ -135,21 +135,13 @@ impl Schema {
     pub fn fits(&self, row: &Row) -> bool
         ensures { result ≡ fits self.now.columns row.now }
     {
-        let values = row.values();
-        if values.len() != self.limits.len() {
-            return false;
-        }
-        'columns: for c in 0..values.len() {
-            if !self.limits[c].takes(values[c]) {
-                return false;
-            }
-        }
-        true
+        take_each(&self.limits, row)
     }
 
     /// Lends the numbers that each column takes, in order of declaration.
     pub fn limits(&self) -> &[Limits]
-        ensures { result.now ≡ map limits_of self.now.columns }
+        ensures limits { result.now ≡ map limits_of self.now.columns }
+        ensures columns { All IsColumn self.now.columns }
     {
         &self.limits
     }
