@@ -64,3 +64,18 @@ pub fn take_each(limits: &[Limits], row: &Row) -> bool
     }
     true
 }
+
+/// Returns whether two lists of columns take the same numbers.
+pub fn are_same(first: &[Limits], second: &[Limits]) -> bool
+    ensures { result ≡ true → first.now ≡ second.now }
+{
+    if first.len() != second.len() {
+        return false;
+    }
+    'columns: for c in 0..first.len() {
+        if first[c].least != second[c].least || first[c].size != second[c].size {
+            return false;
+        }
+    }
+    true
+}

@@ -1,6 +1,6 @@
 //! The columns of a table: their names in order of declaration, their forms and offsets.
 
-ghost use Rattle.std.specs.Prelude.{◌≡◌, ◌<◌, ◌≤◌, ◌^◌, None, All, length, map, pos, ◌+ℤ◌, ◌≤ℤ◌, IfOk, IfErr, OnOk, OnErr, IsTrue};
+ghost use Rattle.std.specs.Prelude.{◌≡◌, ◌<◌, ◌≤◌, ◌^◌, None, true, false, All, length, map, pos, ◌+ℤ◌, ◌≤ℤ◌, IfOk, IfErr, OnOk, OnErr, IsTrue};
 ghost use Rattle.std.specs.Result.{result_err};
 ghost use Rattle.bsi_schema.specs.Columns.{column_at, fits, form_of, named_column, no_columns, position_of, size_in, with_column, AreNamed, IsColumn, IsForm};
 ghost use Rattle.bsi_schema.specs.Limits.{limits_of};

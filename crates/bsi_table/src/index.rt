@@ -22,9 +22,6 @@ use std::marker::Model;
 /// The most rows of an index.
 pub const MAX_ROWS: u64 = 1 << 32;
 
-/// The most rows of a block that can be appended at once.
-pub const MAX_BLOCK_ROWS: usize = 64;
-
 /// The rows of a schema that came from 1 to 64 feeders, at most as many as a limit. A row is stored as its entry in
 /// each column and the number of its feeder, one byte; no row is stored as it came. If there are several feeders, each
 /// stretch of 512 rows has a count of 4 bytes for each feeder.
@@ -114,28 +111,36 @@ impl Index {
         Ok(position)
     }
 
-    /// Appends a block of at most 64 rows, each from its feeder, and returns the row position of the first: the length
-    /// before. Either all rows are appended, as if one after the other, or none is. It makes room for all rows first,
-    /// so a refused growth leaves the index as it was.
-    pub fn append_rows(&mut self, rows: &[(u32, Row)]) -> Result<u64, AppendError>
-        requires few { length rows.now ≤ 64 }
-        requires fits { AreFitting self.old.schema.columns rows.now }
-        requires feeders { AreFrom self.old.feeders rows.now }
-        ensures appended { OnOk result (self.new ≡ with_rows self.old rows.now) }
+    /// Appends a block of rows, each from its feeder, and returns the row position of the first: the length before.
+    /// Either all rows are appended, as if one after the other, or none is. It makes room for all rows first, so a
+    /// refused growth leaves the index as it was.
+    pub fn append_block(&mut self, block: &Block) -> Result<u64, AppendError>
+        requires fits { AreFitting self.old.schema.columns block.now.rows }
+        requires feeders { AreFrom self.old.feeders block.now.rows }
+        ensures appended { OnOk result (self.new ≡ with_rows self.old block.now.rows) }
         ensures position { IfOk result (λ position. position ≡ length self.old.rows) }
-        ensures taken { OnOk result (rows_refusal self.old (length rows.now) ≡ None) }
+        ensures taken { OnOk result (rows_refusal self.old (length block.now.rows) ≡ None) }
         ensures refused { IfErr result
-            (IsFirstOr AppendError.NoMemory (rows_refusal self.old (length rows.now))) }
+            (IsFirstOr AppendError.NoMemory (rows_refusal self.old (length block.now.rows))) }
         ensures kept { OnErr result (self.new ≡ self.old) }
     {
         let first = self.len();
-        let more = rows.len() as u64;
+        let more = block.len() as u64;
         if more > self.limit() - first {
             return Err(AppendError::IndexFull);
         }
         reserve_rows(&mut self.columns, &mut self.origins, more)?;
-        push_rows(&mut self.columns, &mut self.origins, rows);
+        push_rows(&mut self.columns, &mut self.origins, block);
         Ok(first)
+    }
+
+    /// Returns whether a block is of rows that this index takes: its columns take the same numbers as those of the
+    /// index, which has as many feeders as the block or more.
+    pub fn takes(&self, block: &Block) -> bool
+        ensures fits { result ≡ true → AreFitting self.now.schema.columns block.now.rows }
+        ensures feeders { result ≡ true → AreFrom self.now.feeders block.now.rows }
+    {
+        block.feeders() <= self.feeders() && are_same(block.limits(), self.schema.limits())
     }
 
     /// Answers a query over all rows. A count by a predicate without `or` and `not` takes no memory.

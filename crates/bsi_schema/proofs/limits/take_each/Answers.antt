@@ -1,5 +1,5 @@
-use Rattle.std.proofs.Common.{◌≡◌, ◌<◌, length, ap, sym, ◌∙◌, arith, below_more, get_or, None}
-use Rattle.bsi_schema.specs.Columns.{column_at, entry_at, is_between, is_taken_by}
+use Rattle.std.proofs.Common.{◌<◌, length, ap, sym, ◌∙◌, arith, below_more, get_or, None}
+use Rattle.bsi_schema.specs.Columns.{column_at, entry_at, is_taken_by}
 use Rattle.bsi_schema.proofs.Fitting.{fits-each, limits_at, limits_long, misfit-at, misfit-length}
 use Rattle.bsi_schema.proofs.limits.take_each.Goals as goal
 

@@ -1,5 +1,5 @@
-use Rattle.std.proofs.Common.{◌≡◌, map, ap, sym, subst, ◌∙◌}
-use Rattle.bsi_schema.specs.Columns.{named, IsSchema}
+use Rattle.std.proofs.Common.{map, ap, sym, subst, ◌∙◌}
+use Rattle.bsi_schema.specs.Columns.{IsSchema}
 use Rattle.bsi_schema.specs.Limits.{limits_of}
 use Rattle.bsi_schema.proofs.Naming.{named-cloned}
 use Rattle.bsi_schema.proofs.schema.Schema.copy.Goals as goal
