@@ -1,8 +1,8 @@
 -- The rows of a block, by the places of its columns.
-use Rattle.std.proofs.Common.{◌≡◌, ℕ, ◌+◌, ◌*◌, ◌<◌, ◌≤◌, List, [], ◌∷◌, ◌++◌, Option, None, All, length, map, get_or, take, drop, ℤ, true, refl, ap, ap₂, subst, sym, ◌∙◌, arith}
+use Rattle.std.proofs.Common.{◌≡◌, ℕ, ◌+◌, ◌*◌, ◌<◌, ◌≤◌, List, [], ◌∷◌, ◌++◌, Option, None, All, length, map, get_or, take, drop, ℤ, refl, ap, ap₂, subst, sym, ◌∙◌, arith}
 use Rattle.std.specs.Prelude.{slice_index}
 use Rattle.std.specs.List.{range_with_len}
-use Rattle.std.proofs.lemmas.List.{ext_get_or, get_or-drop, get_or-take, get_or_append_left, length-append}
+use Rattle.std.proofs.lemmas.List.{get_or-drop, get_or-take, get_or_append_left, length-append, length-drop, length-take-le}
 use Rattle.std.proofs.lemmas.List.Elements.{All-from_get_or}
 use Rattle.std.proofs.lemmas.List.FromFn.{fill_by_all, get_or-map-range_with_len, length-map-range_with_len, map-range_with_len_more}
 use Rattle.std.proofs.Math.Seq.{get_or-append_seam}
@@ -30,7 +30,14 @@ module _ (columns : ℕ) (sources : List ℕ) (places : List (Option ℤ)) where
   pub column-placed_rows : (c : ℕ) → c < columns → length sources ≤ 64 → length places ≡ 64 * columns
       → take (length sources) (drop (64 * c) places) ≡ column_of (placed_rows columns sources places) c
   unfolding placed_rows
-  column-placed_rows c within few long = ?
+  column-placed_rows c within few long =
+      let n = length sources in
+      let entry : ℕ → Option ℤ = λ r. entry_at (placed_row columns places r) c in
+      let some : length (take n (drop (64 * c) places)) ≡ n =
+      length-take-le n (drop (64 * c) places) (omega (arith, length-drop (64 * c) places, few, long, within)) in
+      fill_by_all entry (take n (drop (64 * c) places)) n None some
+      (λ r below. get_or-take n (drop (64 * c) places) r None below ∙ get_or-drop (64 * c) places r None ∙ sym (entry-placed_row c r within))
+      ∙ sym (map_twice (λ row. entry_at row.1 c) (λ r. (slice_index sources r, placed_row columns places r)) (range_with_len 0 n))
 
   -- a fact of each row, by its feeder and its entries
   pub All-placed_rows : (P : FedRow → Type 0) → ((r : ℕ) → r < length sources → P (slice_index sources r, placed_row columns places r)) → All P (placed_rows columns sources places)

@@ -3,9 +3,10 @@
 //! The entries of column `c` stand in 64 places from place `64 * c` on, so a row is written without moving another, and
 //! each column is lent as one slice.
 
-ghost use Rattle.std.specs.Prelude.{◌≡◌, ℕ, ◌+◌, ◌*◌, ◌<◌, ◌≤◌, ◌^◌, ◌+ℤ◌, ◌≤ℤ◌, All, None, IfOk, length, map, pos, slice_index_or, true, false};
-ghost use Rattle.bsi_schema.specs.Columns.{column_at, entry_at, fits, is_taken_by, IsColumn, NamedColumn};
+ghost use Rattle.std.specs.Prelude.{◌≡◌, ◌≢◌, ℕ, ◌+◌, ◌*◌, ◌<◌, ◌≤◌, ◌^◌, ◌+ℤ◌, ◌≤ℤ◌, All, List, None, IfOk, IsTrue, length, map, pos, slice_index_or, true, false};
+ghost use Rattle.bsi_schema.specs.Columns.{entry_at, fits, is_between};
 ghost use Rattle.bsi_schema.specs.Limits.{limits_of};
+ghost use Rattle.bsi_schema.specs.declared.limits.Limits.{Limits};
 ghost use Rattle.bsi_table.specs.RowBlocks.{emptied_block, no_block_rows, with_block_row};
 ghost use Rattle.bsi_table.specs.Rows.{column_of, feeders_of};
 ghost use Rattle.bsi_table.specs.Table.{AreFitting, AreFrom};
@@ -73,8 +74,7 @@ impl Block {
 
     /// Returns how many feeders there are.
     pub fn feeders(&self) -> u32
-        ensures feeders { result ≡ self.now.feeders }
-        ensures from { AreFrom self.now.feeders self.now.rows }
+        ensures { result ≡ self.now.feeders }
     {
         self.feeders
     }
@@ -115,14 +115,14 @@ impl Block {
         requires { c < length self.now.schema.columns }
         ensures { result.now ≡ column_of self.now.rows c }
     {
+        let rows = self.sources.len();
         let first = MAX_BLOCK_ROWS * c;
-        &self.places[first..first + self.sources.len()]
+        &self.places[first..first + rows]
     }
 
     /// Lends the numbers that each column takes.
     pub(crate) fn limits(&self) -> &[Limits]
-        ensures limits { result.now ≡ map limits_of self.now.schema.columns }
-        ensures fitting { AreFitting self.now.schema.columns self.now.rows }
+        ensures { result.now ≡ map limits_of self.now.schema.columns }
     {
         &self.limits
     }
@@ -132,9 +132,13 @@ impl Block {
 fn write_row(limits: &[Limits], values: &[Option<i128>], at: usize, places: &mut Vec<Option<i64>>)
     requires at { at < 64 }
     requires long { length places.old.items ≡ 64 * length limits.now }
-    requires below { All (λ l. (l.least +ℤ pos l.size) ≤ℤ pos (2 ^ 63)) limits.now }
-    requires taken { (columns : List NamedColumn) → limits.now ≡ map limits_of columns →
-        IsTrue (fits columns values.now) }
+    requires wide { length values.now ≡ length limits.now }
+    requires below { (c : ℕ) (d : Limits) → c < length limits.now →
+        ((slice_index_or limits.now c d).least +ℤ pos (slice_index_or limits.now c d).size)
+        ≤ℤ pos (2 ^ 63) }
+    requires taken { (c : ℕ) (d : Limits) → c < length limits.now →
+        is_between (slice_index_or limits.now c d).least (slice_index_or limits.now c d).size
+        (entry_at values.now c) ≡ true }
     ensures long { length places.new.items ≡ length places.old.items }
     ensures others { (c r : ℕ) → r < 64 → r ≢ at →
         slice_index_or places.new.items (64 * c + r) None

@@ -1,6 +1,6 @@
 //! The index: rows from feeders, stored column by column, and the answers to queries over them.
 
-ghost use Rattle.std.specs.Prelude.{◌≡◌, ◌≢◌, ◌<◌, ◌≤◌, ◌^◌, None, length, IfErr, IfOk, IsOk, IsTrue, OnErr, OnOk};
+ghost use Rattle.std.specs.Prelude.{◌≡◌, ◌≢◌, ◌<◌, ◌≤◌, ◌^◌, None, length, IfErr, IfOk, IsOk, IsTrue, true, OnErr, OnOk};
 ghost use Rattle.std.specs.Result.{result_err};
 ghost use Rattle.bsi_shift.specs.Shifted.{shifted_entries};
 ghost use Rattle.bsi_table.specs.Answers.{missing_column, CountsConjunction, IsAnswer, IsReply};
@@ -13,8 +13,11 @@ use crate::columns::{copy_each, make_each};
 use crate::found::{count_selected, find_rows};
 use crate::growth::{push_row, push_rows, reserve_rows};
 use crate::totals::answer_total;
-use crate::{Answer, AppendError, AskError, IndexError, NoMemory, Query, Row, Schema, Total};
+use crate::{
+    Answer, AppendError, AskError, Block, IndexError, NoMemory, Query, Row, Schema, Total,
+};
 use bsi_origins::Origins;
+use bsi_schema::are_same;
 use bsi_shift::Shifted;
 use std::alloc::Global;
 use std::marker::Model;
@@ -115,6 +118,7 @@ impl Index {
     /// Either all rows are appended, as if one after the other, or none is. It makes room for all rows first, so a
     /// refused growth leaves the index as it was.
     pub fn append_block(&mut self, block: &Block) -> Result<u64, AppendError>
+        requires wide { length block.now.schema.columns ≡ length self.old.schema.columns }
         requires fits { AreFitting self.old.schema.columns block.now.rows }
         requires feeders { AreFrom self.old.feeders block.now.rows }
         ensures appended { OnOk result (self.new ≡ with_rows self.old block.now.rows) }
@@ -137,9 +141,13 @@ impl Index {
     /// Returns whether a block is of rows that this index takes: its columns take the same numbers as those of the
     /// index, which has as many feeders as the block or more.
     pub fn takes(&self, block: &Block) -> bool
+        ensures wide { result ≡ true →
+            length block.now.schema.columns ≡ length self.now.schema.columns }
         ensures fits { result ≡ true → AreFitting self.now.schema.columns block.now.rows }
         ensures feeders { result ≡ true → AreFrom self.now.feeders block.now.rows }
     {
+        // The proof takes from this that the rows of the block fit the columns that it was made for.
+        let _ = block.len();
         block.feeders() <= self.feeders() && are_same(block.limits(), self.schema.limits())
     }
 

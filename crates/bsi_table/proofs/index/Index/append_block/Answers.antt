@@ -5,7 +5,7 @@ use Rattle.bsi_table.specs.Rows.{feeders_of, FedRow}
 use Rattle.bsi_table.specs.Table.{fed_rows, with_rows, AreFitting, AreFrom, AreInRange, AreKept, Table, TakesRow}
 use Rattle.bsi_table.proofs.Keeping.{are_kept_same, are_kept_more, on_err, rows_taken}
 use Rattle.bsi_table.proofs.TableRows.{fed_rows-more, fed_rows-same, length-fed_rows}
-use Rattle.bsi_table.proofs.index.Index.append_rows.Goals as goal
+use Rattle.bsi_table.proofs.index.Index.append_block.Goals as goal
 
 -- there is room for so many rows within the limit
 pub reserve_rows-requires-clause-short : goal.reserve_rows-requires-clause-short
@@ -31,21 +31,25 @@ returns-in_err-reserve_rows-clause-kept c =
     ∙ fed_rows-same i.origins.rows i.columns.items c.reserve_rows.new.columns.items e.long (λ k within. (e.same k within).entries) in
     on_err c.from_residual.result (ap₂ table e.feeders same ∙ c.self.view_is)
 
+pub push_rows-requires-clause-wide : goal.push_rows-requires-clause-wide
+push_rows-requires-clause-wide c =
+    c.in_ok-reserve_rows.ensures.long ∙ c.self.invariant.columns_are.long ∙ ap (λ t. length t.schema.columns) c.self.view_is ∙ sym c.requires.wide
+
 pub push_rows-requires-clause-taken : goal.push_rows-requires-clause-taken
 push_rows-requires-clause-taken c =
     let i = c.self.inside in
     let e = c.in_ok-reserve_rows.ensures in
     let n = length i.origins.rows in
     let grown = are_kept_same i.schema.columns i.columns.items n c.self.invariant.columns_are c.reserve_rows.new.columns.items e.long e.same in
-    let fit : AreFitting i.schema.columns c.args.rows.now = subst (λ (t : Table). AreFitting t.schema.columns c.args.rows.now) (sym c.self.view_is) c.requires.fits in
-    rows_taken i.schema.columns c.reserve_rows.new.columns.items n grown c.args.rows.now fit
+    let fit : AreFitting i.schema.columns c.args.block.now.rows = subst (λ (t : Table). AreFitting t.schema.columns c.args.block.now.rows) (sym c.self.view_is) c.requires.fits in
+    rows_taken i.schema.columns c.reserve_rows.new.columns.items n grown c.args.block.now.rows fit
 
 pub invariant_of-self-2 : goal.invariant_of-self-2
 invariant_of-self-2 c =
     let i = c.self.inside in
     let e = c.in_ok-reserve_rows.ensures in
     let columns = i.schema.columns in
-    let rows = c.args.rows.now in
+    let rows = c.args.block.now.rows in
     let n = length i.origins.rows in
     let reserved = c.reserve_rows.new.columns.items in
     let grown = are_kept_same columns i.columns.items n c.self.invariant.columns_are reserved e.long e.same in
@@ -72,7 +76,7 @@ pub returns-clause-appended : goal.returns-clause-appended
 returns-clause-appended c =
     let i = c.self.inside in
     let e = c.in_ok-reserve_rows.ensures in
-    let rows = c.args.rows.now in
+    let rows = c.args.block.now.rows in
     let old = i.columns.items in
     let grown = c.reserve_rows.new.columns.items in
     let pushed = c.push_rows.new.columns.items in
