@@ -6,6 +6,7 @@ ghost use Rattle.bsi_shift.specs.Shifted.{shifted_entries};
 ghost use Rattle.bsi_table.specs.Answers.{missing_column, CountsConjunction, IsAnswer, IsReply};
 ghost use Rattle.bsi_schema.specs.Columns.{column_at, fits};
 ghost use Rattle.bsi_table.specs.Refusals.{index_refusal, row_refusal, rows_refusal, IsFirstOr};
+ghost use Rattle.bsi_table.specs.RowBlocks.{no_block_rows};
 ghost use Rattle.bsi_table.specs.Rows.{column_of};
 ghost use Rattle.bsi_table.specs.Table.{no_rows, with_row, with_rows, AreFitting, AreFrom, IsInForm};
 
@@ -136,6 +137,13 @@ impl Index {
         reserve_rows(&mut self.columns, &mut self.origins, more)?;
         push_rows(&mut self.columns, &mut self.origins, block);
         Ok(first)
+    }
+
+    /// Makes a block of no rows yet, for rows that this index takes.
+    pub fn new_block(&self) -> Result<Block, NoMemory>
+        ensures { IfOk result (λ block. block ≡ no_block_rows self.now.schema self.now.feeders) }
+    {
+        Block::new(*self.columns.allocator(), &self.schema, self.feeders())
     }
 
     /// Returns whether a block is of rows that this index takes: its columns take the same numbers as those of the
