@@ -8,7 +8,7 @@ pub use bsi_digits as digits;
 pub use bsi_load as machine;
 pub use bsi_system as running;
 pub use bsi_table::{
-    Answer, AppendError, AskError, ColumnSpec, Form, Index, IndexError, MAX_BLOCK_ROWS,
+    Answer, AppendError, AskError, Block, ColumnSpec, Form, Index, IndexError, MAX_BLOCK_ROWS,
     MAX_FEEDERS, MAX_ROWS, MAX_SLICES, NoMemory, Op, Pred, Query, Row, Schema, SchemaError, Total,
 };
 pub use bsi_text as texts;

@@ -1,9 +1,9 @@
 //! A channel: the loader's end of one ring, and what the feeder's closing told about it.
 
-ghost use Rattle.std.specs.Prelude.{◌≡◌, ◌<◌, ◌↔◌, [], ◌∷◌, IfOk, IfSome, IsTrue, length};
+ghost use Rattle.std.specs.Prelude.{◌≡◌, ◌<◌, ◌↔◌, [], ◌∷◌, IfSome, IsTrue, length};
 ghost use mathlib.Core.List.{IsPrefix};
 
-use crate::{Closing, NoMemory};
+use crate::Closing;
 use bsi_table::{Row, Schema};
 use rtrb::{Consumer, Finished};
 use std::alloc::Global;
@@ -96,12 +96,12 @@ impl Channel {
         }
     }
 
-    /// Makes a copy of the row that stands first.
-    pub fn copy_first(&self) -> Result<Row, NoMemory>
+    /// Lends the row that stands first.
+    pub fn first(&self) -> &Row
         requires { 0 < length self.now.seen }
-        ensures { IfOk result (λ row. IsPrefix (row ∷ []) self.now.seen) }
+        ensures { IsPrefix (result.now ∷ []) self.now.seen }
     {
-        self.ring.peek_known().copy()
+        self.ring.peek_known()
     }
 
     /// Takes the row that stands first out of the ring.

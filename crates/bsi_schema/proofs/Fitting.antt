@@ -1,7 +1,9 @@
 -- A row fits where it has as many entries as there are columns, and each column takes its entry.
-use Rattle.std.proofs.Common.{◌≡◌, ℕ, ◌<◌, zero, suc, Bool, true, false, ◌&&◌, List, [], ◌∷◌, length, Option, ℤ, refl, sym, ap, ap₂, ◌∙◌, true≢false, arith}
-use Rattle.bsi_schema.specs.Columns.{column_at, fits, is_taken_by, NamedColumn}
-use Rattle.bsi_schema.specs.Columns.{entry_at}
+use Rattle.std.proofs.Common.{◌≡◌, ℕ, ◌<◌, zero, suc, Bool, true, false, ◌&&◌, List, [], ◌∷◌, length, drop, map, get_or, Option, ℤ, refl, sym, ap, ap₂, ◌∙◌, true≢false, arith}
+use Rattle.std.proofs.lemmas.List.{get_or-map, length-map}
+use Rattle.bsi_schema.specs.Columns.{column_at, entry_at, fits, is_between, is_taken_by, no_column, NamedColumn}
+use Rattle.bsi_schema.specs.Limits.{limits_of}
+use Rattle.bsi_schema.specs.declared.limits.Limits.{Limits}
 
 -- both are true
 both : (a b : Bool) → a && b ≡ true → (a ≡ true) × (b ≡ true)
@@ -48,3 +50,24 @@ misfit-at columns row c within refused = by (fits columns row) (λ e. fits-at co
     by : (b : Bool) → (b ≡ true → is_taken_by (column_at columns c) (entry_at row c) ≡ true) → false ≡ b
     by true taken = absurd (true≢false (sym (taken refl) ∙ refused))
     by false taken = refl
+
+-- the limits of column c, where they stand in a list
+module _ (columns : List NamedColumn) (limits : List Limits) (are : limits ≡ map limits_of columns) where
+  pub limits_long : length limits ≡ length columns
+  limits_long = ap length are ∙ length-map columns limits_of
+
+  pub limits_at : (c : ℕ) (d : Limits) (entry : Option ℤ) → c < length columns
+      → is_between (get_or limits c d).least (get_or limits c d).size entry ≡ is_taken_by (column_at columns c) entry
+  limits_at c d entry within =
+      ap (λ l. is_between (get_or l c d).least (get_or l c d).size entry) are
+      ∙ ap (λ l. is_between l.least l.size entry) (get_or-map limits_of columns c no_column d within)
+
+-- columns that take the same numbers take the same rows
+pub fits-alike : (first second : List NamedColumn) → map limits_of first ≡ map limits_of second → (row : List (Option ℤ)) → fits first row ≡ fits second row
+fits-alike [] [] same row = refl
+fits-alike [] (column ∷ second) same row = absurd (omega (arith, ap length same))
+fits-alike (column ∷ first) [] same row = absurd (omega (arith, ap length same))
+fits-alike (column ∷ first) (other ∷ second) same [] = refl
+fits-alike (column ∷ first) (other ∷ second) same (entry ∷ row) =
+    let head = ap (λ ls. get_or ls 0 (limits_of column)) same in
+    ap₂ (λ (l : Limits) rest. is_between l.least l.size entry && rest) head (fits-alike first second (ap (drop 1) same) row)

@@ -1,3 +1,4 @@
 pub mod Columns
+pub mod Limits
 pub mod Names
 pub mod Refusals

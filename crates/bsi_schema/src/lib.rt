@@ -2,12 +2,14 @@
 #![tactic(auto)]
 
 mod form;
+mod limits;
 mod name;
 mod row;
 mod schema;
 mod schema_error;
 
 pub use form::{ColumnSpec, Form, MAX_SLICES};
+pub use limits::{Limits, are_same, take_each};
 pub use row::Row;
 pub use schema::Schema;
 pub use schema_error::SchemaError;

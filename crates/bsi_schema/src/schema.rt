@@ -1,12 +1,14 @@
 //! The columns of a table: their names in order of declaration, their forms and offsets.
 
-ghost use Rattle.std.specs.Prelude.{◌≡◌, ◌<◌, ◌≤◌, ◌^◌, None, true, false, length, pos, ◌+ℤ◌, ◌≤ℤ◌, IfOk, IfErr, OnOk, OnErr, IsTrue};
+ghost use Rattle.std.specs.Prelude.{◌≡◌, ◌<◌, ◌≤◌, ◌^◌, None, true, false, All, length, map, pos, ◌+ℤ◌, ◌≤ℤ◌, IfOk, IfErr, OnOk, OnErr, IsTrue};
 ghost use Rattle.std.specs.Result.{result_err};
-ghost use Rattle.bsi_schema.specs.Columns.{column_at, fits, form_of, is_taken_by, named_column, no_columns, position_of, size_in, with_column, AreNamed, IsForm};
+ghost use Rattle.bsi_schema.specs.Columns.{column_at, fits, form_of, named_column, no_columns, position_of, size_in, with_column, AreNamed, IsColumn, IsForm};
+ghost use Rattle.bsi_schema.specs.Limits.{limits_of};
 ghost use Rattle.bsi_schema.specs.Names.{is_name};
 ghost use Rattle.bsi_schema.specs.Refusals.{column_refusal, name_refusal, signed_refusal, IsFirstOr};
 
 use crate::form::{ColumnSpec, Form, Kind};
+use crate::limits::{Limits, take_each};
 use crate::name::is_valid_name;
 use crate::{NoMemory, Row, SchemaError};
 use indexmap::IndexMap;
@@ -24,19 +26,23 @@ const MAX_END: i128 = 1 << 63;
 #[derive(Drop)]
 pub struct Schema {
     columns: IndexMap<String, Kind>,
+    // What each column takes, beside the map, so that a row is tested without it.
+    limits: Vec<Limits>,
     signed: bool,
 }
 
 // Clauses see the list of columns, and whether one was declared with an offset.
 impl Model for Schema {
-    ghost use Rattle.std.specs.Prelude.{map};
+    ghost use Rattle.std.specs.Prelude.{◌≡◌, map};
     ghost use Rattle.bsi_schema.specs.Columns.{named, Declared, IsSchema};
+    ghost use Rattle.bsi_schema.specs.Limits.{limits_of};
 
     ghost Value = { Declared };
 
     ghost view = { λ s. record { columns = map named s.columns.entries; signed = s.signed } };
 
-    ghost invariant = { λ s. IsSchema (map named s.columns.entries) };
+    ghost invariant = { λ s. IsSchema (map named s.columns.entries)
+        × (s.limits.items ≡ map limits_of (map named s.columns.entries)) };
 }
 
 impl Schema {
@@ -46,6 +52,7 @@ impl Schema {
     {
         Schema {
             columns: IndexMap::new(alloc),
+            limits: Vec::new(alloc),
             signed: false,
         }
     }
@@ -128,28 +135,15 @@ impl Schema {
     pub fn fits(&self, row: &Row) -> bool
         ensures { result ≡ fits self.now.columns row.now }
     {
-        let values = row.values();
-        if values.len() != self.columns.len() {
-            return false;
-        }
-        'columns: for c in 0..self.columns() {
-            if !self.takes(c, values[c as usize]) {
-                return false;
-            }
-        }
-        true
+        take_each(&self.limits, row)
     }
 
-    /// Returns whether column `c` takes an entry.
-    fn takes(&self, c: u32, entry: Option<i128>) -> bool
-        requires { c < length self.now.columns }
-        ensures { result ≡ is_taken_by (column_at self.now.columns c) entry }
+    /// Lends the numbers that each column takes, in order of declaration.
+    pub fn limits(&self) -> &[Limits]
+        ensures limits { result.now ≡ map limits_of self.now.columns }
+        ensures columns { All IsColumn self.now.columns }
     {
-        let Some(number) = entry else {
-            return true;
-        };
-        let least = i128::from(self.offset(c));
-        least <= number && number < least + i128::from(self.size(c))
+        &self.limits
     }
 
     /// Adds a column of numbers from 0 up, after the others. If it is refused, the column is dropped and the schema
@@ -229,7 +223,10 @@ impl Schema {
         ensures err { OnErr result (self.new ≡ self.old) }
     {
         let key = String::from_str(*self.columns.allocator(), name)?;
+        let limits = Limits::of(&kind);
+        self.limits.reserve(1)?;
         self.columns.insert(key, kind)?;
+        self.limits.push_reserved(limits);
         self.signed |= signed;
         Ok(())
     }
@@ -240,6 +237,7 @@ impl Schema {
     {
         Ok(Schema {
             columns: self.columns.clone()?,
+            limits: Vec::from_slice(*self.limits.allocator(), &self.limits)?,
             signed: self.signed,
         })
     }

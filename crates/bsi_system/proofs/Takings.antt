@@ -171,22 +171,22 @@ front_at old f new looks =
       },
     )
 
--- a copy was made of it
-pub first_at : (old : List Intake) (f : ℕ) (new : List Intake) → LooksAt old f front.Row new → (i : Intake) (row : Entries) → i ≡ get_or new f i → IsPrefix (row ∷ []) i.seen → IsFirstAt new f row
-first_at old f new looks i row read first =
-    let front' = front_at old f new looks in
-    let at : slice_get new f ≡ Some i =
-    slice_get_read new (length new) f i refl (omega (arith, slice_get_within old f looks.before looks.at, ap length looks.now, length-set old f (with_seen looks.before looks.seen))) read in
-    let same : i ≡ front'.1.intake = cc (at, front'.1.at) in
-    let heads : row ∷ first.0 ≡ front'.0 ∷ front'.1.rest = first.1 ∙ (ap (λ (j : Intake). j.seen) same ∙ front'.1.first) in
-    let row_is : row ≡ front'.0 = cc heads in
+-- it is read
+pub first_read : (intakes : List Intake) (f : ℕ) → (row : Entries) × IsFirstAt intakes f row → (i : Intake) (row : Entries) → i ≡ get_or intakes f i → IsPrefix (row ∷ []) i.seen
+    → IsFirstAt intakes f row
+first_read intakes f front i row read first =
+    let at : slice_get intakes f ≡ Some i =
+    slice_get_read intakes (length intakes) f i refl (slice_get_within intakes f front.1.intake front.1.at) read in
+    let same : i ≡ front.1.intake = cc (at, front.1.at) in
+    let heads : row ∷ first.0 ≡ front.0 ∷ front.1.rest = first.1 ∙ (ap (λ (j : Intake). j.seen) same ∙ front.1.first) in
+    let row_is : row ≡ front.0 = cc heads in
     record {
       intake = i;
       rest = first.0;
       at = at;
       first = sym first.1;
       fitting = subst (λ (r : Entries). IsTrue (fits i.channel.schema.columns r)) (sym row_is)
-          (subst (λ (j : Intake). IsTrue (fits j.channel.schema.columns front'.0)) (sym same) front'.1.fitting);
+          (subst (λ (j : Intake). IsTrue (fits j.channel.schema.columns front.0)) (sym same) front.1.fitting);
     }
 
 -- it is the row that is taken

@@ -51,9 +51,9 @@ pub record IsFirstAt (intakes : List Intake) (f : ℕ) (row : Entries) : Type 0 
   pub first : intake.seen ≡ row ∷ rest
   pub fitting : IsTrue (fits intake.channel.schema.columns row)
 
--- the reply to the question for a copy of the first row, where the table is full or not
-abbrev pub IsFirstReply : List Taking → ℕ → Bool → Result Entries LoadRefused → Type 0
-IsFirstReply takings f full (Ok row) = MayLoad takings f × (full ≡ false)
+-- the reply to the question whether a first row can be taken, where the table is full or not
+abbrev pub IsFirstReply : List Taking → ℕ → Bool → Result (Unit {0}) LoadRefused → Type 0
+IsFirstReply takings f full (Ok found) = MayLoad takings f × (full ≡ false)
 IsFirstReply takings f full (Err load.UnknownFeeder) = length takings ≤ f
 IsFirstReply takings f full (Err load.Ended) = (f < length takings) × IsSettled takings f
 IsFirstReply takings f full (Err load.Empty) = (f < length takings) × ((taking_at takings f).told ≡ None)

@@ -1,6 +1,6 @@
 //! The loader's ends of all rings.
 
-ghost use Rattle.std.specs.Prelude.{◌≡◌, ◌<◌, Some, IfErr, IfOk, length, slice_get};
+ghost use Rattle.std.specs.Prelude.{◌≡◌, ◌<◌, Some, IfErr, OnOk, length, slice_get};
 ghost use Rattle.bsi_table.specs.Rows.{Entries};
 ghost use Rattle.bsi_rings.specs.Rings.{channels_of};
 ghost use Rattle.bsi_system.specs.Running.{seen_at, seen_of, takings_of, IsSeenWhere};
@@ -10,15 +10,15 @@ use bsi_load::LoadRefused;
 use bsi_rings::{Channel, Closing, Front};
 use bsi_table::Row;
 
-/// Makes a copy of the row of a feeder that is to be taken next. The row stays in the ring.
-pub(crate) fn first_of(
+/// Looks for the row of a feeder that is to be taken next. The row stays in the ring.
+pub(crate) fn find_first(
     channels: &mut Vec<Channel>,
     feeder: u32,
     full: bool,
-) -> Result<Row, LoadRefused>
+) -> Result<(), LoadRefused>
     ensures reply { IsFirstReply (takings_of channels.old.items) feeder full result }
     ensures same { AreUntaken channels.old.items feeder channels.new.items }
-    ensures first { IfOk result (IsFirstAt channels.new.items feeder) }
+    ensures first { OnOk result ((row : Entries) × IsFirstAt channels.new.items feeder row) }
     ensures seen { IfErr result (IsSeenWhere (seen_at (seen_of channels.new.items) feeder)) }
 {
     let place = feeder as usize;
@@ -33,9 +33,15 @@ pub(crate) fn first_of(
     if full {
         return Err(LoadRefused::IndexFull);
     }
-    channels[place]
-        .copy_first()
-        .map_err(|_| LoadRefused::NoMemory)
+    Ok(())
+}
+
+/// Lends the row of a feeder that was found.
+pub(crate) fn first_of(channels: &Vec<Channel>, feeder: u32) -> &Row
+    requires { (row : Entries) × IsFirstAt channels.now.items feeder row }
+    ensures { IsFirstAt channels.now.items feeder result.now }
+{
+    channels[feeder as usize].first()
 }
 
 /// Looks at what stands first in a ring.

@@ -1,14 +1,13 @@
 //! The loader: it takes rows out of the feeders' rings, holds them, and publishes them.
 //!
-//! The row that stands first is copied, and taken out of the ring only once the copy is held: `left_right` makes no
-//! room for an operation before it is handed over, and a row that comes back could not go to the front of the ring
-//! again.
+//! The row that stands first is held while it is in the ring, and taken out only then: holding it may be refused memory,
+//! and a row that comes back could not go to the front of the ring again.
 
 ghost use Rattle.std.specs.Prelude.{◌≡◌, ◌≢◌, ◌+◌, ◌≤◌, IfErr, IfOk, IfSome, OnErr, OnOk, length};
 ghost use Rattle.bsi_system.specs.Running.{published_all, seen, settled_as, told, AlwaysHolds, IsClosingOf, IsLoaderReply, IsSeenWhere, LoadsOne, Looks};
 
 use crate::NoMemory;
-use crate::channels::{first_of, settle_of, take_of};
+use crate::channels::{find_first, first_of, settle_of, take_of};
 use bsi_load::LoadRefused;
 use bsi_rings::{Channel, Closing};
 use bsi_versions::{Analyst, Naming, Publisher, Told};
@@ -65,9 +64,9 @@ impl<B: Naming> Loader<B> {
         ensures kept { OnErr result (Looks self.old feeder self.new) }
     {
         let full = self.publisher.is_full();
-        let row = first_of(&mut self.channels, feeder, full)?;
+        find_first(&mut self.channels, feeder, full)?;
         self.publisher
-            .hold(feeder, row)
+            .hold(feeder, first_of(&self.channels, feeder))
             .map_err(|_| LoadRefused::NoMemory)?;
         take_of(&mut self.channels, feeder);
         Ok(())

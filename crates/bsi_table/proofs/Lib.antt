@@ -1,3 +1,4 @@
+pub mod BlockRows
 pub mod CallerLemmas
 pub mod Counting
 pub mod Keeping

@@ -19,7 +19,7 @@ map_twice f g [] = refl
 map_twice f g (x ∷ xs) = ap (λ ys. f (g x) ∷ ys) (map_twice f g xs)
 
 -- two functions that agree below n
-same_below : {X : Type 0} (default : X) (f g : ℕ → X) (n : ℕ) → ((r : ℕ) → r < n → f r ≡ g r) → map f (range_with_len 0 n) ≡ map g (range_with_len 0 n)
+pub same_below : {X : Type 0} (default : X) (f g : ℕ → X) (n : ℕ) → ((r : ℕ) → r < n → f r ≡ g r) → map f (range_with_len 0 n) ≡ map g (range_with_len 0 n)
 same_below default f g n each =
     fill_by_all g (map f (range_with_len 0 n)) n default (length-map-range_with_len f 0 n)
     (λ i within. get_or-map-range_with_len f 0 n i i default within (omega arith) ∙ each i within)

@@ -1,8 +1,10 @@
 pub mod Answers
 pub mod Blocks
 pub mod Refusals
+pub mod RowBlocks
 pub mod Rows
 pub mod Table
 pub use Rattle.bsi_origins.specs.Numbering
 pub use Rattle.bsi_schema.specs.Columns
 pub use Rattle.bsi_schema.specs.Names
+pub use Rattle.bsi_schema.specs.Limits

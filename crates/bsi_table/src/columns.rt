@@ -1,7 +1,6 @@
 //! The columns of a table, side by side: each call is made on each of them.
 //!
-//! A block of rows goes in column by column, gathered into an array of 64 that stays in the cache. All columns and the
-//! list of feeders grow before the first is changed.
+//! A block of rows goes in column by column. All columns and the list of feeders grow before the first is changed.
 
 ghost use Rattle.std.specs.Prelude.{◌≡◌, ℕ, ◌+◌, ◌<◌, ◌≤◌, ◌^◌, [], All, length, IfOk, OnOk};
 ghost use Rattle.bsi_columns.specs.AnyRows.{any_entries};
@@ -10,8 +9,7 @@ ghost use Rattle.bsi_schema.specs.Columns.{column_at, IsForm};
 ghost use Rattle.bsi_table.specs.Rows.{column_of, entry_at};
 ghost use Rattle.bsi_table.specs.Table.{kept_at, AreInRange, AreKept, AreI64, AreSameColumns, HaveMore, HaveOneMore, HaveRoom, IsInForm, IsI64, Keeps, TakesRow};
 
-use crate::index::MAX_BLOCK_ROWS;
-use crate::{Form, NoMemory, Row, Schema};
+use crate::{Block, Form, NoMemory, Schema};
 use bsi_columns::{AnyColumn, Decomposed, Slices};
 use bsi_shift::Shifted;
 use std::alloc::Global;
@@ -75,29 +73,17 @@ pub(crate) fn push_each(columns: &mut [Shifted], values: &[Option<i128>])
     }
 }
 
-/// Appends to each column its entries of a block of at most 64 rows, into room that is already there.
-pub(crate) fn push_block_each(columns: &mut [Shifted], rows: &[(u32, Row)])
-    requires few { length rows.now ≤ 64 }
-    requires room { HaveRoom columns.old (length columns.old) (length rows.now) }
-    requires taken { All (λ row. TakesRow columns.old row.1) rows.now }
-    ensures { HaveMore columns.old columns.new rows.now }
+/// Appends to each column its entries of a block of rows, into room that is already there.
+pub(crate) fn push_block_each(columns: &mut [Shifted], block: &Block)
+    requires wide { length columns.old ≡ length block.now.schema.columns }
+    requires room { HaveRoom columns.old (length columns.old) (length block.now.rows) }
+    requires taken { All (λ row. TakesRow columns.old row.1) block.now.rows }
+    ensures { HaveMore columns.old columns.new block.now.rows }
 {
+    // The proof takes from this that a column of the block has at most 64 entries.
+    let _ = block.len();
     'columns: for c in 0..columns.len() {
-        let mut block = [None; MAX_BLOCK_ROWS];
-        gather(rows, c, &mut block[..rows.len()]);
-        columns[c].push_block_reserved(&block[..rows.len()]);
-    }
-}
-
-/// Writes for each row its entry of column `c`.
-fn gather(rows: &[(u32, Row)], c: usize, entries: &mut [Option<i64>])
-    requires same { length entries.old ≡ length rows.now }
-    requires wide { All (λ row. c < length row.1) rows.now }
-    requires small { All (λ row. IsI64 (entry_at row.1 c)) rows.now }
-    ensures { entries.new ≡ column_of rows.now c }
-{
-    'rows: for r in 0..rows.len() {
-        entries[r] = to_i64(rows[r].1.values()[c]);
+        columns[c].push_block_reserved(block.column(c));
     }
 }
 

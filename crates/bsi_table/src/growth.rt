@@ -6,7 +6,7 @@ ghost use Rattle.bsi_table.specs.Rows.{feeders_of};
 ghost use Rattle.bsi_table.specs.Table.{kept_at, AreFrom, AreI64, AreInRange, AreSameColumns, HaveMore, HaveOneMore, HaveRoom, TakesRow};
 
 use crate::columns::{push_block_each, push_each, reserve_each};
-use crate::{NoMemory, Row};
+use crate::{Block, NoMemory};
 use bsi_origins::Origins;
 use bsi_shift::Shifted;
 
@@ -53,31 +53,32 @@ pub(crate) fn push_row(
 }
 
 /// Appends a block of rows, into room that is already there.
-pub(crate) fn push_rows(columns: &mut Vec<Shifted>, origins: &mut Origins, rows: &[(u32, Row)])
-    requires few { length rows.now ≤ 64 }
-    requires room { HaveRoom columns.old.items (length columns.old.items) (length rows.now) }
-    requires reserved { length rows.now ≤ origins.old.room }
-    requires taken { All (λ row. TakesRow columns.old.items row.1) rows.now }
-    requires from { AreFrom origins.old.feeders rows.now }
+pub(crate) fn push_rows(columns: &mut Vec<Shifted>, origins: &mut Origins, block: &Block)
+    requires wide { length columns.old.items ≡ length block.now.schema.columns }
+    requires room { HaveRoom columns.old.items (length columns.old.items)
+        (length block.now.rows) }
+    requires reserved { length block.now.rows ≤ origins.old.room }
+    requires taken { All (λ row. TakesRow columns.old.items row.1) block.now.rows }
+    requires from { AreFrom origins.old.feeders block.now.rows }
     requires bytes { origins.old.feeders ≤ 64 }
     ensures long { length columns.new.items ≡ length columns.old.items }
-    ensures more { HaveMore columns.old.items columns.new.items rows.now }
-    ensures rows { origins.new.rows ≡ origins.old.rows ++ feeders_of rows.now }
+    ensures more { HaveMore columns.old.items columns.new.items block.now.rows }
+    ensures rows { origins.new.rows ≡ origins.old.rows ++ feeders_of block.now.rows }
     ensures feeders { origins.new.feeders ≡ origins.old.feeders }
 {
-    push_block_each(columns, rows);
-    push_feeders(origins, rows);
+    push_block_each(columns, block);
+    push_feeders(origins, block.sources());
 }
 
 /// Appends the feeder of each row, into room that is already there.
-fn push_feeders(origins: &mut Origins, rows: &[(u32, Row)])
-    requires reserved { length rows.now ≤ origins.old.room }
-    requires from { AreFrom origins.old.feeders rows.now }
+fn push_feeders(origins: &mut Origins, sources: &[u32])
+    requires reserved { length sources.now ≤ origins.old.room }
+    requires from { All (λ source. source < origins.old.feeders) sources.now }
     requires bytes { origins.old.feeders ≤ 64 }
-    ensures rows { origins.new.rows ≡ origins.old.rows ++ feeders_of rows.now }
+    ensures rows { origins.new.rows ≡ origins.old.rows ++ sources.now }
     ensures feeders { origins.new.feeders ≡ origins.old.feeders }
 {
-    'rows: for r in 0..rows.len() {
-        origins.push_reserved(rows[r].0 as u8);
+    'rows: for r in 0..sources.len() {
+        origins.push_reserved(sources[r] as u8);
     }
 }

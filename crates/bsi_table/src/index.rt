@@ -1,11 +1,12 @@
 //! The index: rows from feeders, stored column by column, and the answers to queries over them.
 
-ghost use Rattle.std.specs.Prelude.{◌≡◌, ◌≢◌, ◌<◌, ◌≤◌, ◌^◌, None, length, map, IfErr, IfOk, IsOk, IsTrue, OnErr, OnOk};
+ghost use Rattle.std.specs.Prelude.{◌≡◌, ◌≢◌, ◌<◌, ◌≤◌, ◌^◌, None, length, map, IfErr, IfOk, IsOk, IsTrue, true, OnErr, OnOk};
 ghost use Rattle.std.specs.Result.{result_err};
 ghost use Rattle.bsi_shift.specs.Shifted.{shifted_entries};
 ghost use Rattle.bsi_table.specs.Answers.{missing_column, CountsConjunction, IsAnswer, IsReply, IsSelection, ReadsAmong};
 ghost use Rattle.bsi_schema.specs.Columns.{column_at, fits};
 ghost use Rattle.bsi_table.specs.Refusals.{index_refusal, row_refusal, rows_refusal, IsFirstOr};
+ghost use Rattle.bsi_table.specs.RowBlocks.{no_block_rows};
 ghost use Rattle.bsi_table.specs.Rows.{column_of, holds};
 ghost use Rattle.bsi_table.specs.Table.{no_rows, with_row, with_rows, AreFitting, AreFrom, IsInForm};
 
@@ -13,18 +14,18 @@ use crate::columns::{copy_each, make_each};
 use crate::found::{count_selected, find_rows};
 use crate::growth::{push_row, push_rows, reserve_rows};
 use crate::totals::answer_total;
-use crate::{Answer, AppendError, AskError, IndexError, NoMemory, Pred, Query, Row, Schema, Total};
+use crate::{
+    Answer, AppendError, AskError, Block, IndexError, NoMemory, Pred, Query, Row, Schema, Total,
+};
 use bsi_bits::Bits;
 use bsi_origins::Origins;
+use bsi_schema::are_same;
 use bsi_shift::Shifted;
 use std::alloc::Global;
 use std::marker::Model;
 
 /// The most rows of an index.
 pub const MAX_ROWS: u64 = 1 << 32;
-
-/// The most rows of a block that can be appended at once.
-pub const MAX_BLOCK_ROWS: usize = 64;
 
 /// The rows of a schema that came from 1 to 64 feeders, at most as many as a limit. A row is stored as its entry in
 /// each column and the number of its feeder, one byte; no row is stored as it came. If there are several feeders, each
@@ -115,28 +116,48 @@ impl Index {
         Ok(position)
     }
 
-    /// Appends a block of at most 64 rows, each from its feeder, and returns the row position of the first: the length
-    /// before. Either all rows are appended, as if one after the other, or none is. It makes room for all rows first,
-    /// so a refused growth leaves the index as it was.
-    pub fn append_rows(&mut self, rows: &[(u32, Row)]) -> Result<u64, AppendError>
-        requires few { length rows.now ≤ 64 }
-        requires fits { AreFitting self.old.schema.columns rows.now }
-        requires feeders { AreFrom self.old.feeders rows.now }
-        ensures appended { OnOk result (self.new ≡ with_rows self.old rows.now) }
+    /// Appends a block of rows, each from its feeder, and returns the row position of the first: the length before.
+    /// Either all rows are appended, as if one after the other, or none is. It makes room for all rows first, so a
+    /// refused growth leaves the index as it was.
+    pub fn append_block(&mut self, block: &Block) -> Result<u64, AppendError>
+        requires wide { length block.now.schema.columns ≡ length self.old.schema.columns }
+        requires fits { AreFitting self.old.schema.columns block.now.rows }
+        requires feeders { AreFrom self.old.feeders block.now.rows }
+        ensures appended { OnOk result (self.new ≡ with_rows self.old block.now.rows) }
         ensures position { IfOk result (λ position. position ≡ length self.old.rows) }
-        ensures taken { OnOk result (rows_refusal self.old (length rows.now) ≡ None) }
+        ensures taken { OnOk result (rows_refusal self.old (length block.now.rows) ≡ None) }
         ensures refused { IfErr result
-            (IsFirstOr AppendError.NoMemory (rows_refusal self.old (length rows.now))) }
+            (IsFirstOr AppendError.NoMemory (rows_refusal self.old (length block.now.rows))) }
         ensures kept { OnErr result (self.new ≡ self.old) }
     {
         let first = self.len();
-        let more = rows.len() as u64;
+        let more = block.len() as u64;
         if more > self.limit() - first {
             return Err(AppendError::IndexFull);
         }
         reserve_rows(&mut self.columns, &mut self.origins, more)?;
-        push_rows(&mut self.columns, &mut self.origins, rows);
+        push_rows(&mut self.columns, &mut self.origins, block);
         Ok(first)
+    }
+
+    /// Makes a block of no rows yet, for rows that this index takes.
+    pub fn new_block(&self) -> Result<Block, NoMemory>
+        ensures { IfOk result (λ block. block ≡ no_block_rows self.now.schema self.now.feeders) }
+    {
+        Block::new(*self.columns.allocator(), &self.schema, self.feeders())
+    }
+
+    /// Returns whether a block is of rows that this index takes: its columns take the same numbers as those of the
+    /// index, which has as many feeders as the block or more.
+    pub fn takes(&self, block: &Block) -> bool
+        ensures wide { result ≡ true →
+            length block.now.schema.columns ≡ length self.now.schema.columns }
+        ensures fits { result ≡ true → AreFitting self.now.schema.columns block.now.rows }
+        ensures feeders { result ≡ true → AreFrom self.now.feeders block.now.rows }
+    {
+        // The proof takes from this that the rows of the block fit the columns that it was made for.
+        let _ = block.len();
+        block.feeders() <= self.feeders() && are_same(block.limits(), self.schema.limits())
     }
 
     /// Answers a query over all rows. A count by a predicate without `or` and `not` takes no memory.

@@ -1,6 +1,7 @@
 //! A table of rows from feeders: its schema, its rows, and the queries that it answers.
 #![tactic(auto)]
 
+mod block;
 mod columns;
 mod errors;
 mod found;
@@ -9,10 +10,11 @@ mod index;
 mod query;
 mod totals;
 
+pub use block::{Block, MAX_BLOCK_ROWS};
 pub use bsi_columns::Op;
 pub use bsi_origins::MAX_FEEDERS;
 pub use bsi_schema::{ColumnSpec, Form, MAX_SLICES, Row, Schema, SchemaError};
 pub use errors::{AppendError, AskError, IndexError};
-pub use index::{Index, MAX_BLOCK_ROWS, MAX_ROWS};
+pub use index::{Index, MAX_ROWS};
 pub use query::{Answer, Pred, Query, Total};
 pub use std::alloc::AllocError as NoMemory;

@@ -10,8 +10,6 @@ use Rattle.std.proofs.lemmas.List.Sums.{prefix_len-drop_all}
 use Rattle.bsi_table.specs.Columns.{Declared, NamedColumn, column_at, is_between, is_taken_by, no_column}
 use Rattle.bsi_table.specs.Rows.{Entries}
 use Rattle.bsi_records.specs.Numbers.{Field, value_in, values_in}
-use Rattle.bsi_text.specs.Limits.{limits_of}
-use Rattle.bsi_text.specs.declared.limits.Limits.{Limits}
 use Rattle.bsi_text.specs.RowFiles.{in_order, place_of}
 use Rattle.bsi_records.proofs.Values.{behind, values_done, values_next, values_stop}
 
@@ -97,16 +95,3 @@ module _ (signed : Bool) (fields : List Field) (places : List ℕ) (i : ℕ) (va
   pub value_done : length places ≤ i → Some values ≡ whole
   value_done all =
       values_done signed whole (fields_at fields places) i values read.so_far (omega (arith, length-map places (λ place. get_or fields place [])))
-
--- ---- the numbers that a column takes
-
--- the limits of column c, where they stand in a list
-module _ (columns : List NamedColumn) (limits : List Limits) (are : limits ≡ map limits_of columns) where
-  pub limits_long : length limits ≡ length columns
-  limits_long = ap length are ∙ length-map columns limits_of
-
-  pub limits_at : (c : ℕ) (d : Limits) (entry : Option ℤ) → c < length columns
-      → is_between (get_or limits c d).least (get_or limits c d).size entry ≡ is_taken_by (column_at columns c) entry
-  limits_at c d entry within =
-      ap (λ l. is_between (get_or l c d).least (get_or l c d).size entry) are
-      ∙ ap (λ l. is_between l.least l.size entry) (get_or-map limits_of columns c no_column d within)

@@ -1,4 +1,3 @@
-pub mod Limits
 pub mod Pasts
 pub mod RecordTexts
 pub mod RowFiles

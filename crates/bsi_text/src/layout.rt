@@ -8,11 +8,9 @@ ghost use Rattle.std.specs.Str.{bytes_eq};
 ghost use Rattle.csv.specs.Records.{fields_of};
 ghost use Rattle.bsi_table.specs.Columns.{fits};
 ghost use Rattle.bsi_records.specs.Numbers.{values_in};
-ghost use Rattle.bsi_text.specs.Limits.{limits_of};
 ghost use Rattle.bsi_text.specs.RowFiles.{given, good_row, in_order, is_header, is_known, is_named_once, place_of};
 
 use crate::NoMemory;
-use crate::limits::Limits;
 use bsi_records::{field, read_value};
 use bsi_table::{Row, Schema};
 use csv::ByteRecord;
@@ -20,20 +18,18 @@ use std::alloc::Global;
 use std::marker::Model;
 use std::mem;
 
-/// The columns of a row file, with, for each column, the place of its field in a record and the numbers that it takes.
+/// The columns of a row file, with, for each column, the place of its field in a record.
 #[derive(Drop)]
 pub(crate) struct Layout {
     schema: Schema,
     header: ByteRecord,
     places: Vec<usize>,
-    limits: Vec<Limits>,
 }
 
 // Clauses see the schema and the header.
 impl Model for Layout {
     ghost use Rattle.std.specs.Prelude.{◌≡◌, map};
     ghost use Rattle.csv.specs.Records.{fields_of};
-    ghost use Rattle.bsi_text.specs.Limits.{limits_of};
     ghost use Rattle.bsi_text.specs.RowFiles.{place_of};
     ghost use Rattle.bsi_text.specs.Sources.{Layout};
 
@@ -41,9 +37,8 @@ impl Model for Layout {
 
     ghost view = { λ l. record { schema = l.schema; header = fields_of l.header } };
 
-    ghost invariant = { λ l. (l.places.items
-        ≡ map (λ column. place_of (fields_of l.header) column.name) l.schema.columns)
-        × (l.limits.items ≡ map limits_of l.schema.columns) };
+    ghost invariant = { λ l. l.places.items
+        ≡ map (λ column. place_of (fields_of l.header) column.name) l.schema.columns };
 }
 
 impl Layout {
@@ -61,13 +56,11 @@ impl Layout {
             return Ok(None);
         }
         let places = places_of(alloc, schema, &header)?;
-        let limits = limits_in(alloc, schema)?;
         let schema = schema.copy()?;
         Ok(Some(Layout {
             schema,
             header,
             places,
-            limits,
         }))
     }
 
@@ -100,23 +93,7 @@ impl Layout {
         if !self.read_values(alloc, fields, row)? {
             return Ok(false);
         }
-        Ok(self.takes(row))
-    }
-
-    /// Returns whether a row has one entry for each column, each a null or a number that its column takes.
-    fn takes(&self, row: &Row) -> bool
-        ensures { result ≡ fits self.now.schema.columns row.now }
-    {
-        let values = row.values();
-        if values.len() != self.limits.len() {
-            return false;
-        }
-        'columns: for c in 0..values.len() {
-            if !self.limits[c].takes(values[c]) {
-                return false;
-            }
-        }
-        true
+        Ok(self.schema.fits(row))
     }
 
     /// Reads the fields of a record in the order of the columns, and returns whether each is a value.
@@ -199,17 +176,6 @@ fn places_of(alloc: Global, schema: &Schema, header: &ByteRecord) -> Result<Vec<
         places.push_reserved(place_of(header, schema.name(c).as_bytes()));
     }
     Ok(places)
-}
-
-/// Returns for each column the numbers that it takes.
-fn limits_in(alloc: Global, schema: &Schema) -> Result<Vec<Limits>, NoMemory>
-    ensures { IfOk result (λ limits. limits.items ≡ map limits_of schema.now.columns) }
-{
-    let mut limits = Vec::with_capacity(alloc, schema.columns() as usize)?;
-    'columns: for c in 0..schema.columns() {
-        limits.push_reserved(Limits::of(schema, c));
-    }
-    Ok(limits)
 }
 
 /// Returns how many fields stand before the first one that equals this name.

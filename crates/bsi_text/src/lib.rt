@@ -3,7 +3,6 @@
 
 pub mod laws;
 mod layout;
-mod limits;
 mod reading;
 mod rows;
 mod script;

@@ -16,8 +16,8 @@ use Rattle.bsi_versions.proofs.Growing.{prefix_self, prefix_trans, prefix_whole}
 
 pub rows_of-append : (xs ys : List Operation) → rows_of (xs ++ ys) ≡ rows_of xs ++ rows_of ys
 rows_of-append [] ys = refl
-rows_of-append (rows_operation rows ∷ xs) ys =
-    ap (λ (all : Rows). rows.items ++ all) (rows_of-append xs ys) ∙ sym (append_assoc rows.items (rows_of xs) (rows_of ys))
+rows_of-append (rows_operation block ∷ xs) ys =
+    ap (λ (all : Rows). block.rows ++ all) (rows_of-append xs ys) ∙ sym (append_assoc block.rows (rows_of xs) (rows_of ys))
 rows_of-append (Mark known ∷ xs) ys = rows_of-append xs ys
 
 -- a mark is no row
@@ -27,9 +27,9 @@ rows_of-mark xs known = rows_of-append xs (Mark known ∷ []) ∙ append-nil (ro
 -- the rows of the operations stand last, in their order
 pub table_after : (e : Edition) (pending : List Operation) → (fold after e pending).table ≡ with_rows e.table (rows_of pending)
 table_after e [] = ap (λ (rows : Rows). record e.table { rows = rows }) (sym (append-nil e.table.rows))
-table_after e (rows_operation rows ∷ pending) =
-    table_after (after e (rows_operation rows)) pending
-    ∙ ap (λ (all : Rows). record e.table { rows = all }) (append_assoc e.table.rows rows.items (rows_of pending))
+table_after e (rows_operation block ∷ pending) =
+    table_after (after e (rows_operation block)) pending
+    ∙ ap (λ (all : Rows). record e.table { rows = all }) (append_assoc e.table.rows block.rows (rows_of pending))
 table_after e (Mark known ∷ pending) = table_after (after e (Mark known)) pending
 
 fold-push : (e : Edition) (pending : List Operation) (x : Operation) → fold after e (pending ++ x ∷ []) ≡ after (fold after e pending) x
@@ -91,6 +91,13 @@ module _ (book : Book) (about : Table) where
     same_book = ap (λ k. k.book) is;
     begins = subst (λ (rows : Rows). IsPrefix rows (t.rows ++ [])) (sym (ap (λ k. k.list) is)) (t.rows ++ [], refl);
     places = omega (arith, ap length empty, ap length none, all);
+  }
+
+  pub first_marked : (t : Table) (known : Known) → known ≡ record { book = book; list = [] } → IsMarked book (record { table = t; known = known }) [] 0
+  first_marked t known is = record {
+    same_book = ap (λ k. k.book) is;
+    begins = subst (λ (rows : Rows). IsPrefix rows (t.rows ++ [])) (sym (ap (λ k. k.list) is)) (t.rows ++ [], refl);
+    many = ap (λ k. length k.list) is;
   }
 
   module _ (shown : Edition) (pending : List Operation) (stage : Rows) (history : Known) (free : ℕ) (is : IsWriting book about shown pending stage history free) where

@@ -4,6 +4,7 @@ use mathlib.Core.List.{IsPrefix}
 use Rattle.left_right.specs.declared.Absorb.{Ghosts}
 use Rattle.left_right.specs.declared.writer.Writer.{Writer}
 use Rattle.logbook.specs.Pages.{Book}
+use Rattle.bsi_table.specs.RowBlocks.{RowBlock}
 use Rattle.bsi_table.specs.Rows.{Entries}
 use Rattle.bsi_table.specs.Table.{no_rows, with_rows, Table}
 use Rattle.bsi_versions.specs.Pages.{Edition, Known, Rows}
@@ -12,7 +13,7 @@ use Rattle.bsi_versions.specs.declared.operation.Operation.TheVariants.{Rows as 
 
 -- the edition after a pending operation
 abbrev pub after : Edition → Operation → Edition
-after e (rows_operation rows) = record e { table = with_rows e.table rows.items }
+after e (rows_operation block) = record e { table = with_rows e.table block.rows }
 after e (Mark known) = record e { known = known }
 
 -- the same table with no row
@@ -32,8 +33,13 @@ pending w = drop w.behind w.log.items
 -- the rows of pending operations, in their order
 abbrev pub rows_of : List Operation → Rows
 rows_of [] = []
-rows_of (rows_operation rows ∷ pending) = rows.items ++ rows_of pending
+rows_of (rows_operation block ∷ pending) = block.rows ++ rows_of pending
 rows_of (Mark known ∷ pending) = rows_of pending
+
+-- a block of rows that this table takes
+pub record IsFor (table : Table) (block : RowBlock) : Type 0 where
+  pub schema : block.schema ≡ table.schema
+  pub feeders : block.feeders ≡ table.feeders
 
 -- what contracts see of the writing end: the table that is published, and the rows that are held, in the order taken
 pub record Written : Type 0 where

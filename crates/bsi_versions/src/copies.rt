@@ -1,9 +1,9 @@
 //! The two copies of the table: the operations that wait for them, and the step that shows them.
 
-ghost use Rattle.std.specs.Prelude.{◌≡◌, ◌<◌, ◌≤◌, ◌++◌, ◌∷◌, [], ◌⊎◌, OnErr, OnOk, fold, length, vec_capacity, vec_len};
+ghost use Rattle.std.specs.Prelude.{◌≡◌, ◌<◌, ◌≤◌, ◌++◌, ◌∷◌, [], ◌⊎◌, OnErr, OnOk, fold, length};
 ghost use mathlib.Core.List.{IsPrefix};
 ghost use Rattle.bsi_versions.specs.Pages.{with_list};
-ghost use Rattle.bsi_versions.specs.Editions.{after, pending, rows_of, HasStaged, IsMarked, Stands};
+ghost use Rattle.bsi_versions.specs.Editions.{after, pending, rows_of, HasStaged, IsFor, IsMarked, Stands};
 ghost use Rattle.bsi_versions.specs.declared.operation.Operation.TheVariants.{Mark};
 
 use crate::history::{History, Page};
@@ -11,7 +11,7 @@ use crate::naming::Covers;
 use crate::operation::Operation;
 use crate::version::Version;
 use crate::{Naming, NoMemory};
-use bsi_table::{MAX_BLOCK_ROWS, Row};
+use bsi_table::{Block, MAX_BLOCK_ROWS};
 use core::mem::{replace, replace_with};
 use left_right::writer::Writer;
 use logbook::Plain;
@@ -35,14 +35,14 @@ impl<B: Naming> Plain<Copies<B>, Page, u64> for Next {
 /// Makes a place for one more row in the stage. If the block is full, it goes to the pending operations.
 pub(crate) fn make_place<B: Naming>(
     copies: &mut Copies<B>,
-    stage: &mut Vec<(u32, Row)>,
+    stage: &mut Block,
 ) -> Result<(), NoMemory>
-    requires room { 64 ≤ vec_capacity stage.old }
+    requires kind { IsFor copies.old.desk.shown.value.table stage.old }
     ensures desk { copies.new.desk ≡ copies.old.desk }
-    ensures staged { HasStaged (pending copies.old) stage.old.items
-        (pending copies.new) stage.new.items }
-    ensures room { 64 ≤ vec_capacity stage.new }
-    ensures ok { OnOk result (vec_len stage.new < 64) }
+    ensures staged { HasStaged (pending copies.old) stage.old.rows
+        (pending copies.new) stage.new.rows }
+    ensures kind { IsFor copies.new.desk.shown.value.table stage.new }
+    ensures ok { OnOk result (length stage.new.rows < 64) }
 {
     if stage.len() < MAX_BLOCK_ROWS {
         return Ok(());
@@ -53,40 +53,36 @@ pub(crate) fn make_place<B: Naming>(
 /// Empties the stage: its rows go to the pending operations, as one block.
 pub(crate) fn empty_stage<B: Naming>(
     copies: &mut Copies<B>,
-    stage: &mut Vec<(u32, Row)>,
+    stage: &mut Block,
 ) -> Result<(), NoMemory>
-    requires room { 64 ≤ vec_capacity stage.old }
+    requires kind { IsFor copies.old.desk.shown.value.table stage.old }
     ensures desk { copies.new.desk ≡ copies.old.desk }
-    ensures staged { HasStaged (pending copies.old) stage.old.items
-        (pending copies.new) stage.new.items }
-    ensures room { 64 ≤ vec_capacity stage.new }
-    ensures ok { OnOk result (stage.new.items ≡ []) }
+    ensures staged { HasStaged (pending copies.old) stage.old.rows
+        (pending copies.new) stage.new.rows }
+    ensures kind { IsFor copies.new.desk.shown.value.table stage.new }
+    ensures ok { OnOk result (stage.new.rows ≡ []) }
 {
-    if stage.is_empty() {
+    if stage.len() == 0 {
         return Ok(());
     }
     append_stage(copies, stage)
 }
 
-/// Appends the rows of the stage to the pending operations. It replaces the stage by another one with room for as many
-/// rows, so it asks for memory before it changes anything.
-fn append_stage<B: Naming>(
-    copies: &mut Copies<B>,
-    stage: &mut Vec<(u32, Row)>,
-) -> Result<(), NoMemory>
-    requires room { 64 ≤ vec_capacity stage.old }
+/// Appends the rows of the stage to the pending operations. It replaces the stage by another block, so it asks for
+/// memory before it changes anything.
+fn append_stage<B: Naming>(copies: &mut Copies<B>, stage: &mut Block) -> Result<(), NoMemory>
+    requires kind { IsFor copies.old.desk.shown.value.table stage.old }
     ensures desk { copies.new.desk ≡ copies.old.desk }
-    ensures staged { HasStaged (pending copies.old) stage.old.items
-        (pending copies.new) stage.new.items }
-    ensures room { 64 ≤ vec_capacity stage.new }
-    ensures ok { OnOk result (stage.new.items ≡ []) }
-    ensures len { OnOk result (vec_len stage.new ≡ 0) }
+    ensures staged { HasStaged (pending copies.old) stage.old.rows
+        (pending copies.new) stage.new.rows }
+    ensures kind { IsFor copies.new.desk.shown.value.table stage.new }
+    ensures ok { OnOk result (stage.new.rows ≡ []) }
 {
-    let next = Vec::with_capacity(*stage.allocator(), MAX_BLOCK_ROWS)?;
+    let next = copies.published().index().new_block()?;
     match copies.append(Operation::Rows(replace(stage, next))) {
         Ok(()) => Ok(()),
-        Err(Operation::Rows(rows)) => {
-            *stage = rows;
+        Err(Operation::Rows(block)) => {
+            *stage = block;
             Err(NoMemory)
         }
         // A refused operation comes back as it was given, so this is none.

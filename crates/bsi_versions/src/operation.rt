@@ -3,14 +3,14 @@
 use crate::NoMemory;
 use crate::history::Reached;
 use crate::version::Version;
-use bsi_table::Row;
+use bsi_table::Block;
 use left_right::Absorb;
 
 /// A pending operation of the writing end.
 #[derive(Drop)]
 pub enum Operation {
-    /// A block of at most 64 rows, each with its feeder.
-    Rows(Vec<(u32, Row)>),
+    /// A block of rows, each with its feeder.
+    Rows(Block),
     /// The list in the history that the rows make at this point.
     Mark(Reached),
 }
@@ -26,7 +26,7 @@ impl Absorb<Operation> for Version {
 
     fn absorb_first(&mut self, operation: &Operation, _other: &Version) -> Result<(), NoMemory> {
         match operation {
-            Operation::Rows(rows) => self.append(rows),
+            Operation::Rows(block) => self.append(block),
             Operation::Mark(known) => {
                 self.mark(known);
                 Ok(())

@@ -1,8 +1,8 @@
 //! The writing end: it holds rows back, and makes them visible at one step.
 //!
 //! A pending operation is a block of rows or a mark, which says which list of the history the rows then are. A publish
-//! that is tried again, or has nothing to show, adds no mark. A held row goes into a stage with room for 64; a full stage
-//! becomes one operation before the next row is held. A stage in each copy would be part of what is shown.
+//! that is tried again, or has nothing to show, adds no mark. The entries of a held row go into the stage, a block of 64;
+//! a full stage becomes one operation before the next row is held. A stage in each copy would be part of what is shown.
 
 ghost use Rattle.std.specs.Prelude.{◌≡◌, ◌+◌, ◌<◌, ◌≤◌, [], IfOk, IsTrue, OnErr, OnOk, length, ◌↔◌};
 ghost use Rattle.bsi_table.specs.Columns.{fits};
@@ -12,7 +12,7 @@ use crate::copies::{Copies, empty_stage, make_place, mark_all, show};
 use crate::history::History;
 use crate::version::Version;
 use crate::{Analyst, Naming, NoMemory, Told};
-use bsi_table::{Index, MAX_BLOCK_ROWS, Row};
+use bsi_table::{Block, Index, Row};
 use left_right::writer::Writer;
 use std::alloc::Global;
 use std::marker::Model;
@@ -23,7 +23,7 @@ pub struct Publisher<B: Naming> {
     copies: Copies<B>,
     history: History,
     /// Held rows that are not yet a pending operation: a block that is being filled.
-    stage: Vec<(u32, Row)>,
+    stage: Block,
     /// This many more rows may be held.
     free: u64,
     /// The last list that is marked, or shown where none is pending, has so many rows.
@@ -32,16 +32,15 @@ pub struct Publisher<B: Naming> {
 
 // Clauses see the table that is published, and the rows that are held.
 impl<B: Naming> Model for Publisher<B> {
-    ghost use Rattle.std.specs.Prelude.{◌≤◌, vec_capacity};
-    ghost use Rattle.bsi_versions.specs.Editions.{pending, written, IsMarked, IsWriting, Written};
+    ghost use Rattle.bsi_versions.specs.Editions.{pending, written, IsFor, IsMarked, IsWriting, Written};
 
     ghost Value = { Written };
 
-    ghost view = { λ p. written p.copies.desk.shown.value (pending p.copies) p.stage.items };
+    ghost view = { λ p. written p.copies.desk.shown.value (pending p.copies) p.stage.rows };
 
     ghost invariant = { λ p. IsWriting B.book B.about p.copies.desk.shown.value (pending p.copies)
-        p.stage.items p.history p.free
-        × (64 ≤ vec_capacity p.stage)
+        p.stage.rows p.history p.free
+        × IsFor p.copies.desk.shown.value.table p.stage
         × IsMarked B.book p.copies.desk.shown.value (pending p.copies) p.marked };
 }
 
@@ -60,9 +59,9 @@ impl<B: Naming> Publisher<B> {
         ensures { IfOk result (λ publisher. publisher ≡ record { table = index; held = [] }) }
     {
         let free = index.limit();
+        let stage = index.new_block()?;
         let first = Version::new(index, history.known());
         let second = first.copy()?;
-        let stage = Vec::with_capacity(alloc, MAX_BLOCK_ROWS)?;
         let copies = Writer::new(alloc, first, second, (analysts as usize).max(1))?;
         Ok(Publisher {
             copies,
@@ -101,15 +100,16 @@ impl<B: Naming> Publisher<B> {
     }
 
     /// Holds a row. The row is visible once it is published.
-    pub fn hold(&mut self, feeder: u32, row: Row) -> Result<(), NoMemory>
+    pub fn hold(&mut self, feeder: u32, row: &Row) -> Result<(), NoMemory>
         requires room { length self.old.table.rows + length self.old.held < self.old.table.limit }
-        requires fits { IsTrue (fits self.old.table.schema.columns row) }
+        requires fits { IsTrue (fits self.old.table.schema.columns row.now) }
         requires feeder { feeder < self.old.table.feeders }
-        ensures ok { OnOk result (self.new ≡ with_held self.old feeder row) }
+        ensures ok { OnOk result (self.new ≡ with_held self.old feeder row.now) }
         ensures err { OnErr result (self.new ≡ self.old) }
     {
         make_place(&mut self.copies, &mut self.stage)?;
-        self.stage.push_reserved((feeder, row));
+        // The row fits the table, and the stage is for its rows, so it is added.
+        let _ = self.stage.push(feeder, row);
         self.free -= 1;
         Ok(())
     }

@@ -1,11 +1,10 @@
 //! A version of the index, with the list of the history that its rows make.
 
-ghost use Rattle.std.specs.Prelude.{◌≡◌, ◌≤◌, IfOk, IsTrue, OnErr, OnOk, length};
-ghost use Rattle.bsi_table.specs.Table.{AreFitting, AreFrom};
+ghost use Rattle.std.specs.Prelude.{◌≡◌, IfOk, OnErr, OnOk};
 
 use crate::NoMemory;
 use crate::history::Reached;
-use bsi_table::{Index, MAX_BLOCK_ROWS, Row};
+use bsi_table::{Block, Index};
 use std::marker::Model;
 
 /// An index, and the list that its rows make once it is published.
@@ -64,31 +63,17 @@ impl Version {
         self.known = known.again();
     }
 
-    /// Appends a block of rows. It refuses more than 64 rows as if memory were refused, and likewise a row that does
-    /// not fit the schema or that is of no feeder. No pending operation has such rows.
-    pub(crate) fn append(&mut self, rows: &[(u32, Row)]) -> Result<(), NoMemory>
+    /// Appends a block of rows. It refuses a block that is not for this index as if memory were refused. No pending
+    /// operation is such a block.
+    pub(crate) fn append(&mut self, block: &Block) -> Result<(), NoMemory>
         ensures ok { OnOk result (self.new
-            ≡ record self.old { table = with_rows self.old.table rows.now }) }
+            ≡ record self.old { table = with_rows self.old.table block.now.rows }) }
         ensures err { OnErr result (self.new ≡ self.old) }
-        ensures few { OnOk result (length rows.now ≤ 64) }
     {
-        if rows.len() > MAX_BLOCK_ROWS || !are_fitting(&self.index, rows) {
+        if !self.index.takes(block) {
             return Err(NoMemory);
         }
-        self.index.append_rows(rows).map_err(|_| NoMemory)?;
+        self.index.append_block(block).map_err(|_| NoMemory)?;
         Ok(())
     }
-}
-
-/// Returns true only if each row fits the schema and is of one of the feeders.
-fn are_fitting(index: &Index, rows: &[(u32, Row)]) -> bool
-    ensures fits { IsTrue result → AreFitting index.now.schema.columns rows.now }
-    ensures feeders { IsTrue result → AreFrom index.now.feeders rows.now }
-{
-    'rows: for r in 0..rows.len() {
-        if rows[r].0 >= index.feeders() || !index.schema().fits(&rows[r].1) {
-            return false;
-        }
-    }
-    true
 }

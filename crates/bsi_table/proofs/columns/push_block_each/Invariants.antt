@@ -6,6 +6,6 @@ use Rattle.bsi_table.proofs.columns.push_block_each.Given as goal
 -- the columns so far have their entries of the rows, and the others are those of the start
 abbrev pub invariant-columns : goal.invariant-columns
 invariant-columns l = record {
-  pushed : (k : ℕ) → k < l.c → HasMore (kept_at l.initial.columns k) (kept_at l.columns k) (column_of l.rows k);
+  pushed : (k : ℕ) → k < l.c → HasMore (kept_at l.initial.columns k) (kept_at l.columns k) (column_of l.block.rows k);
   others : (k : ℕ) → l.c ≤ k → kept_at l.columns k ≡ kept_at l.initial.columns k;
 }

@@ -1,10 +1,9 @@
 use Rattle.std.proofs.Common.{◌≡◌, ◌+◌, ◌++◌, take}
-use Rattle.bsi_table.specs.Rows.{feeders_of}
 use Rattle.bsi_table.proofs.growth.push_feeders.Given as goal
 
 abbrev pub invariant-rows : goal.invariant-rows
 invariant-rows l = record {
-  rows : l.origins.rows ≡ l.fn.origins.rows ++ take l.r (feeders_of l.rows);
+  rows : l.origins.rows ≡ l.fn.origins.rows ++ take l.r l.sources;
   feeders : l.origins.feeders ≡ l.fn.origins.feeders;
   room : l.origins.room + l.r ≡ l.fn.origins.room;
 }

@@ -10,8 +10,8 @@ pub returns-in-Ok-clause-staged : goal.returns-in-Ok-clause-staged
 returns-in-Ok-clause-staged g c =
     let pending = drop c.args.copies.now.behind c.args.copies.now.log.items in
     let more = drop c.append.new.self.behind c.append.new.self.log.items in
-    let stage = c.args.stage.now.items in
+    let stage = c.args.stage.now.rows in
     let rows = ap rows_of c.in-Ok.ensures.pending ∙ rows_of-append pending (rows_operation c.replace.result ∷ [])
-    ∙ ap (λ xs. rows_of pending ++ xs) (append-nil c.replace.result.items ∙ ap (λ v. v.items) c.replace.ensures.value) in
-    staged_all pending more stage c.replace.new.dest.items
-    (λ e. known_after e pending more (rows_operation c.replace.result) c.in-Ok.ensures.pending (λ d. refl)) rows (ap (λ v. v.items) c.replace.ensures.after ∙ c.in_ok-next.ensures.items)
+    ∙ ap (λ xs. rows_of pending ++ xs) (append-nil c.replace.result.rows ∙ ap (λ b. b.rows) c.replace.ensures.value) in
+    staged_all pending more stage c.replace.new.dest.rows
+    (λ e. known_after e pending more (rows_operation c.replace.result) c.in-Ok.ensures.pending (λ d. refl)) rows (ap (λ b. b.rows) c.replace.ensures.after ∙ ap (λ b. b.rows) c.in_ok-next.ensures)

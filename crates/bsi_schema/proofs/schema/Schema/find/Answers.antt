@@ -5,5 +5,5 @@ use Rattle.bsi_schema.proofs.schema.Schema.find.Goals as goal
 
 pub returns-in-Err : goal.returns-in-Err
 returns-in-Err c =
-    let named = subst AreNamed (ap (λ s. s.columns) c.self.view_is) c.self.invariant.named in
+    let named = subst AreNamed (ap (λ s. s.columns) c.self.view_is) c.self.invariant.0.named in
     stranger c.args.self.now.columns c.args.name.now named c.in-Err.ensures.cases.0

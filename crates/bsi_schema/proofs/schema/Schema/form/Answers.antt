@@ -12,4 +12,4 @@ returns-clause-valid c =
     let at = sym c.get_index.ensures.entry ∙ ap (option_map deref_pair) c.unwrap.ensures in
     let same = column_named c.self.inside.columns.entries c.args.c (c.unwrap.result.0.now, c.unwrap.result.1.now) at in
     let within : c.args.c < length columns = subst (λ s. c.args.c < length s.columns) (sym c.self.view_is) c.requires in
-    subst (λ column. IsForm column.form) same (All-get_or IsColumn columns c.args.c no_column within c.self.invariant.each).form
+    subst (λ column. IsForm column.form) same (All-get_or IsColumn columns c.args.c no_column within c.self.invariant.0.each).form

@@ -21,6 +21,6 @@ returns-clause-below c =
     let same = column_named c.self.inside.columns.entries c.args.c (c.unwrap.result.0.now, c.unwrap.result.1.now) at in
     let fits : SFits w64 c.unwrap.result.1.now.offset = search rules in
     let within : c.args.c < length columns = subst (λ s. c.args.c < length s.columns) (sym c.self.view_is) c.requires in
-    let below = (All-get_or IsColumn columns c.args.c no_column within c.self.invariant.each).below in
+    let below = (All-get_or IsColumn columns c.args.c no_column within c.self.invariant.0.each).below in
     let now = subst (λ s. ((column_at s.columns c.args.c).offset +ℤ pos (size_in (column_at s.columns c.args.c).form)) ≤ℤ pos (2 ^ 63)) c.self.view_is below in
     subst (λ o. (o +ℤ pos (size_in (column_at c.args.self.now.columns c.args.c).form)) ≤ℤ pos (2 ^ 63)) (sym (returns-clause-offset c)) now

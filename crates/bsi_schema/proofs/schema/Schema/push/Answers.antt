@@ -1,7 +1,8 @@
-use Rattle.std.proofs.Common.{◌||◌, length, map, IsTrue, subst, sym, ap, arith, ◌∙◌}
+use Rattle.std.proofs.Common.{◌≡◌, ◌||◌, ◌++◌, ◌∷◌, [], length, map, IsTrue, subst, sym, ap, arith, ◌∙◌}
 use Rattle.std.proofs.lemmas.List.Elements.{All-push}
-use Rattle.std.proofs.lemmas.List.{length-append}
+use Rattle.std.proofs.lemmas.List.{length-append, map-append}
 use Rattle.bsi_schema.specs.Columns.{named, position_of, with_column, IsColumn, IsSchema, NamedColumn}
+use Rattle.bsi_schema.specs.Limits.{limits_of}
 use Rattle.bsi_schema.specs.Names.{is_name}
 use Rattle.bsi_schema.proofs.Naming.{named-insert}
 use Rattle.bsi_schema.proofs.schema.Schema.push.Goals as goal
@@ -14,11 +15,16 @@ invariant_of-self-2 c =
     let columns = ap (λ es. map named es) c.in_ok-insert.ensures.entries ∙ named-insert before c.in_ok-key.key c.args.kind c.args.name.now c.in_ok-key.ensures.ok fresh in
     let column : NamedColumn = record { name = c.args.name.now; form = c.args.kind.form; offset = c.args.kind.offset } in
     let valid : IsColumn column = record { form = c.requires.form; below = c.requires.below } in
-    subst IsSchema (sym columns) (record {
+    let listed : IsSchema (map named before.entries ++ column ∷ []) = record {
       few = omega (arith, length-append {A = NamedColumn}, c.requires.few, ap (λ s. length s.columns) c.self.view_is);
-      named = All-push (λ c. IsTrue (is_name c.name)) (map named before.entries) column c.self.invariant.named c.requires.name;
-      each = All-push IsColumn (map named before.entries) column c.self.invariant.each valid;
-    })
+      named = All-push (λ c. IsTrue (is_name c.name)) (map named before.entries) column c.self.invariant.0.named c.requires.name;
+      each = All-push IsColumn (map named before.entries) column c.self.invariant.0.each valid;
+    } in
+    let limits : c.push_reserved.new.self.items ≡ map limits_of (map named before.entries ++ column ∷ []) =
+    c.push_reserved.ensures.items ∙ ap (λ ls. ls ++ c.of-limits.result ∷ []) (c.in_ok-reserve.ensures.items ∙ c.self.invariant.1)
+    ∙ ap (λ l. map limits_of (map named before.entries) ++ l ∷ []) c.of-limits.ensures
+    ∙ sym (map-append limits_of (map named before.entries) (column ∷ [])) in
+    (subst IsSchema (sym columns) listed, limits ∙ ap (map limits_of) (sym columns))
 
 pub returns-clause-ok : goal.returns-clause-ok
 returns-clause-ok c =

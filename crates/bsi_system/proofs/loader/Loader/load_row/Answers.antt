@@ -10,27 +10,27 @@ use Rattle.bsi_system.proofs.loader.Loader.load_row.Goals as goal
 pub invariant_of-self-2 : goal.invariant_of-self-2
 invariant_of-self-2 g c =
     let l = c.self.inside in
-    let intakes = c.first_of.new.channels.items in
+    let intakes = c.find_first.new.channels.items in
     let row = c.take_of.result in
-    let same = same_row intakes c.args.feeder c.in_ok-row.row row c.take_of.new.channels.items c.in_ok-row.ensures.first c.take_of.ensures in
+    let same = same_row intakes c.args.feeder c.first_of.result.now row c.take_of.new.channels.items c.first_of.ensures c.take_of.ensures in
     let ok = mapped_ok _ _ c.hold.result c.map_err.result tt c.map_err.ensures.cases c.hold.ensures.ok c.in_ok-map_err.was in
     let held = ok ∙ ap (with_held l.publisher c.args.feeder) same in
     takes_loader intakes l.publisher c.args.feeder row c.take_of.new.channels.items c.hold.new.self c.take_of.ensures held
-    (same_loader l.channels.items l.publisher c.self.invariant c.args.feeder intakes c.in_ok-row.ensures.same)
+    (same_loader l.channels.items l.publisher c.self.invariant c.args.feeder intakes c.in_ok-find_first.ensures.same)
 
 pub returns-clause-loaded : goal.returns-clause-loaded
 returns-clause-loaded g c =
     let l = c.self.inside in
-    let intakes = c.first_of.new.channels.items in
+    let intakes = c.find_first.new.channels.items in
     let row = c.take_of.result in
-    let same = same_row intakes c.args.feeder c.in_ok-row.row row c.take_of.new.channels.items c.in_ok-row.ensures.first c.take_of.ensures in
+    let same = same_row intakes c.args.feeder c.first_of.result.now row c.take_of.new.channels.items c.first_of.ensures c.take_of.ensures in
     let ok = mapped_ok _ _ c.hold.result c.map_err.result tt c.map_err.ensures.cases c.hold.ensures.ok c.in_ok-map_err.was in
     let held = ok ∙ ap (with_held l.publisher c.args.feeder) same in
-    let loader = same_loader l.channels.items l.publisher c.self.invariant c.args.feeder intakes c.in_ok-row.ensures.same in
-    let looks = looks_loading l.channels.items l.publisher c.self.invariant c.args.feeder intakes c.in_ok-row.ensures.same in
+    let loader = same_loader l.channels.items l.publisher c.self.invariant c.args.feeder intakes c.in_ok-find_first.ensures.same in
+    let looks = looks_loading l.channels.items l.publisher c.self.invariant c.args.feeder intakes c.in_ok-find_first.ensures.same in
     let new = loading c.take_of.new.channels.items c.hold.new.self in
     let loads = takes_loads intakes l.publisher c.args.feeder row c.take_of.new.channels.items c.hold.new.self c.take_of.ensures held in
-    let first = first_fits intakes l.publisher loader c.args.feeder c.in_ok-row.row c.in_ok-row.ensures.first in
+    let first = first_fits intakes l.publisher loader c.args.feeder c.first_of.result.now c.first_of.ensures in
     let fitting = subst (λ r. IsTrue (fits l.publisher.table.schema.columns r)) same first in (
       row,
       subst (λ s. IsTrue (fits s.system.schema.columns row)) c.self.view_is fitting,
@@ -41,11 +41,11 @@ returns-clause-loaded g c =
 pub hold-requires-clause-fits : goal.hold-requires-clause-fits
 hold-requires-clause-fits g c =
     let l = c.self.inside in
-    let intakes = c.first_of.new.channels.items in
-    first_fits intakes l.publisher (same_loader l.channels.items l.publisher c.self.invariant c.args.feeder intakes c.in_ok-row.ensures.same) c.args.feeder c.in_ok-row.row c.in_ok-row.ensures.first
+    let intakes = c.find_first.new.channels.items in
+    first_fits intakes l.publisher (same_loader l.channels.items l.publisher c.self.invariant c.args.feeder intakes c.in_ok-find_first.ensures.same) c.args.feeder c.first_of.result.now c.first_of.ensures
 
 pub hold-requires-clause-feeder : goal.hold-requires-clause-feeder
 hold-requires-clause-feeder g c =
     let l = c.self.inside in
-    let intakes = c.first_of.new.channels.items in
-    first_there intakes l.publisher (same_loader l.channels.items l.publisher c.self.invariant c.args.feeder intakes c.in_ok-row.ensures.same) c.args.feeder c.in_ok-row.row c.in_ok-row.ensures.first
+    let intakes = c.find_first.new.channels.items in
+    first_there intakes l.publisher (same_loader l.channels.items l.publisher c.self.invariant c.args.feeder intakes c.in_ok-find_first.ensures.same) c.args.feeder c.first_of.result.now c.first_of.ensures

@@ -9,7 +9,7 @@ pub returns-in_default : goal.returns-in_default
 returns-in_default c =
     let fields = fields_of c.args.fields.now in
     let inside = c.self.inside in
-    let places = c.deref-place-items.ensures.value ∙ c.self.invariant.0 in
+    let places = c.deref-place-items.ensures.value ∙ c.self.invariant in
     let order = ordered inside.schema (fields_of inside.header) fields c.deref-place-items.result.now places
     ∙ ap (λ l. in_order l.schema l.header fields) c.self.view_is in
     let signed = c.signed-signed.ensures ∙ ap (λ l. l.schema.signed) c.self.view_is in
@@ -28,7 +28,7 @@ pub returns : goal.returns
 returns c =
     let fields = fields_of c.args.fields.now in
     let inside = c.self.inside in
-    let places = c.deref-place-items.ensures.value ∙ c.self.invariant.0 in
+    let places = c.deref-place-items.ensures.value ∙ c.self.invariant in
     let order = ordered inside.schema (fields_of inside.header) fields c.deref-place-items.result.now places
     ∙ ap (λ l. in_order l.schema l.header fields) c.self.view_is in
     let signed = c.signed-signed.ensures ∙ ap (λ l. l.schema.signed) c.self.view_is in

@@ -2,7 +2,7 @@ use Rattle.std.proofs.Common.{◌≡◌, ◌++◌, List, drop, length, ap, sym, 
 use Rattle.std.specs.Prelude.{fold}
 use Rattle.bsi_table.specs.Table.{Table}
 use Rattle.bsi_versions.specs.Pages.{Edition, Rows}
-use Rattle.bsi_versions.specs.Editions.{after, published_all, rows_of, IsMarked, IsWriting, Stands}
+use Rattle.bsi_versions.specs.Editions.{after, published_all, rows_of, IsFor, IsMarked, IsWriting, Stands}
 use Rattle.bsi_versions.specs.declared.operation.Operation.{Operation}
 use Rattle.bsi_versions.proofs.Writing.{kept_writing, marked_stands, next_len, on_err, published_view, same_view, shown_marked, shown_writing, staged_marked, staged_shown, staged_view, table_after}
 use Rattle.bsi_versions.proofs.publisher.Publisher.publish.Goals as goal
@@ -15,19 +15,19 @@ invariant_of-self g c =
     let pending = drop p.copies.behind p.copies.log.items in
     let more = drop o.behind o.log.items in
     let same = ap (λ d. d.shown.value) c.empty_stage.ensures.desk in (
-      staged_shown g.B.Naming.book g.B.Naming.about p.copies.desk.shown.value pending p.stage.items p.history p.free c.self.invariant.0
-          o.desk.shown.value more c.empty_stage.new.stage.items same c.empty_stage.ensures.staged,
-      c.empty_stage.ensures.room,
+      staged_shown g.B.Naming.book g.B.Naming.about p.copies.desk.shown.value pending p.stage.rows p.history p.free c.self.invariant.0
+          o.desk.shown.value more c.empty_stage.new.stage.rows same c.empty_stage.ensures.staged,
+      c.empty_stage.ensures.kind,
       subst (λ (e : Edition). IsMarked g.B.Naming.book e more p.marked) (sym same)
-          (staged_marked g.B.Naming.book p.copies.desk.shown.value pending p.marked c.self.invariant.2 more p.stage.items c.empty_stage.new.stage.items c.empty_stage.ensures.staged),
+          (staged_marked g.B.Naming.book p.copies.desk.shown.value pending p.marked c.self.invariant.2 more p.stage.rows c.empty_stage.new.stage.rows c.empty_stage.ensures.staged),
     )
 
 pub mark_all-requires-clause-begins : goal.mark_all-requires-clause-begins
 mark_all-requires-clause-begins g c =
     let p = c.self.inside in
     let o = c.empty_stage.new.copies in
-    let is = staged_shown g.B.Naming.book g.B.Naming.about p.copies.desk.shown.value (drop p.copies.behind p.copies.log.items) p.stage.items p.history p.free c.self.invariant.0
-    o.desk.shown.value (drop o.behind o.log.items) c.empty_stage.new.stage.items (ap (λ d. d.shown.value) c.empty_stage.ensures.desk) c.empty_stage.ensures.staged in
+    let is = staged_shown g.B.Naming.book g.B.Naming.about p.copies.desk.shown.value (drop p.copies.behind p.copies.log.items) p.stage.rows p.history p.free c.self.invariant.0
+    o.desk.shown.value (drop o.behind o.log.items) c.empty_stage.new.stage.rows (ap (λ d. d.shown.value) c.empty_stage.ensures.desk) c.empty_stage.ensures.staged in
     is.begins
 
 pub mark_all-requires-clause-len : goal.mark_all-requires-clause-len
@@ -35,10 +35,10 @@ mark_all-requires-clause-len g c =
     let p = c.self.inside in
     let o = c.empty_stage.new.copies in
     let same = ap (λ d. d.shown.value) c.empty_stage.ensures.desk in
-    let is = staged_shown g.B.Naming.book g.B.Naming.about p.copies.desk.shown.value (drop p.copies.behind p.copies.log.items) p.stage.items p.history p.free c.self.invariant.0
-    o.desk.shown.value (drop o.behind o.log.items) c.empty_stage.new.stage.items same c.empty_stage.ensures.staged in
+    let is = staged_shown g.B.Naming.book g.B.Naming.about p.copies.desk.shown.value (drop p.copies.behind p.copies.log.items) p.stage.rows p.history p.free c.self.invariant.0
+    o.desk.shown.value (drop o.behind o.log.items) c.empty_stage.new.stage.rows same c.empty_stage.ensures.staged in
     let limit = c.limit.ensures.limit ∙ ap (λ t. t.limit) (c.index.ensures ∙ ap (λ e. e.table) (c.published.ensures ∙ sym same)) in
-    next_len g.B.Naming.book g.B.Naming.about o.desk.shown.value (drop o.behind o.log.items) c.empty_stage.new.stage.items p.history p.free is c.limit.result limit c.in_ok-empty_stage.ensures.ok
+    next_len g.B.Naming.book g.B.Naming.about o.desk.shown.value (drop o.behind o.log.items) c.empty_stage.new.stage.rows p.history p.free is c.limit.result limit c.in_ok-empty_stage.ensures.ok
 
 pub mark_all-requires-clause-marked : goal.mark_all-requires-clause-marked
 mark_all-requires-clause-marked g c =
@@ -46,20 +46,20 @@ mark_all-requires-clause-marked g c =
     let o = c.empty_stage.new.copies in
     let more = drop o.behind o.log.items in
     subst (λ (e : Edition). IsMarked g.B.Naming.book e more p.marked) (ap (λ d. d.shown.value) (sym c.empty_stage.ensures.desk))
-    (staged_marked g.B.Naming.book p.copies.desk.shown.value (drop p.copies.behind p.copies.log.items) p.marked c.self.invariant.2 more p.stage.items c.empty_stage.new.stage.items c.empty_stage.ensures.staged)
+    (staged_marked g.B.Naming.book p.copies.desk.shown.value (drop p.copies.behind p.copies.log.items) p.marked c.self.invariant.2 more p.stage.rows c.empty_stage.new.stage.rows c.empty_stage.ensures.staged)
 
 pub invariant_of-self-in_err-mark_all : goal.invariant_of-self-in_err-mark_all
 invariant_of-self-in_err-mark_all g c =
     let p = c.self.inside in
     let o = c.empty_stage.new.copies in
-    let is = staged_shown g.B.Naming.book g.B.Naming.about p.copies.desk.shown.value (drop p.copies.behind p.copies.log.items) p.stage.items p.history p.free c.self.invariant.0
-    o.desk.shown.value (drop o.behind o.log.items) c.empty_stage.new.stage.items (ap (λ d. d.shown.value) c.empty_stage.ensures.desk) c.empty_stage.ensures.staged in
+    let is = staged_shown g.B.Naming.book g.B.Naming.about p.copies.desk.shown.value (drop p.copies.behind p.copies.log.items) p.stage.rows p.history p.free c.self.invariant.0
+    o.desk.shown.value (drop o.behind o.log.items) c.empty_stage.new.stage.rows (ap (λ d. d.shown.value) c.empty_stage.ensures.desk) c.empty_stage.ensures.staged in
     let more = drop c.mark_all.new.copies.behind c.mark_all.new.copies.log.items in
     let same = ap (λ d. d.shown.value) (sym c.mark_all.ensures.desk) in (
-      subst (λ (e : Edition). IsWriting g.B.Naming.book g.B.Naming.about e more c.empty_stage.new.stage.items c.mark_all.new.history p.free) same
-          (kept_writing g.B.Naming.book g.B.Naming.about o.desk.shown.value (drop o.behind o.log.items) c.empty_stage.new.stage.items p.history p.free is
+      subst (λ (e : Edition). IsWriting g.B.Naming.book g.B.Naming.about e more c.empty_stage.new.stage.rows c.mark_all.new.history p.free) same
+          (kept_writing g.B.Naming.book g.B.Naming.about o.desk.shown.value (drop o.behind o.log.items) c.empty_stage.new.stage.rows p.history p.free is
           c.mark_all.new.history more c.mark_all.ensures.history c.mark_all.ensures.rows),
-      c.empty_stage.ensures.room,
+      subst (λ (e : Edition). IsFor e.table c.empty_stage.new.stage) same c.empty_stage.ensures.kind,
       subst (λ (e : Edition). IsMarked g.B.Naming.book e more c.mark_all.new.marked) same c.mark_all.ensures.marked,
     )
 
@@ -68,11 +68,11 @@ returns-in_err-mark_all-clause-err g c =
     let p = c.self.inside in
     let o = c.empty_stage.new.copies in
     let pending = drop o.behind o.log.items in
-    let left = c.empty_stage.new.stage.items in
+    let left = c.empty_stage.new.stage.rows in
     let more = drop c.mark_all.new.copies.behind c.mark_all.new.copies.log.items in
     on_err c.from_residual-in_err-mark_all.result
     (same_view o.desk.shown.value pending left c.mark_all.new.copies.desk.shown.value more (ap (λ d. d.shown.value) c.mark_all.ensures.desk) c.mark_all.ensures.rows
-    ∙ staged_view p.copies.desk.shown.value (drop p.copies.behind p.copies.log.items) p.stage.items o.desk.shown.value pending left (ap (λ d. d.shown.value) c.empty_stage.ensures.desk) c.empty_stage.ensures.staged
+    ∙ staged_view p.copies.desk.shown.value (drop p.copies.behind p.copies.log.items) p.stage.rows o.desk.shown.value pending left (ap (λ d. d.shown.value) c.empty_stage.ensures.desk) c.empty_stage.ensures.staged
     ∙ c.self.view_is)
 
 -- all rows that are to be shown are marked
@@ -81,15 +81,15 @@ show-requires g c =
     let p = c.self.inside in
     let o = c.empty_stage.new.copies in
     let same = ap (λ d. d.shown.value) c.empty_stage.ensures.desk in
-    let is = staged_shown g.B.Naming.book g.B.Naming.about p.copies.desk.shown.value (drop p.copies.behind p.copies.log.items) p.stage.items p.history p.free c.self.invariant.0
-    o.desk.shown.value (drop o.behind o.log.items) c.empty_stage.new.stage.items same c.empty_stage.ensures.staged in
+    let is = staged_shown g.B.Naming.book g.B.Naming.about p.copies.desk.shown.value (drop p.copies.behind p.copies.log.items) p.stage.rows p.history p.free c.self.invariant.0
+    o.desk.shown.value (drop o.behind o.log.items) c.empty_stage.new.stage.rows same c.empty_stage.ensures.staged in
     let limit = c.limit.ensures.limit ∙ ap (λ t. t.limit) (c.index.ensures ∙ ap (λ e. e.table) (c.published.ensures ∙ sym same)) in
     let shown = o.desk.shown.value in
     let pending = drop o.behind o.log.items in
-    let left = c.empty_stage.new.stage.items in
+    let left = c.empty_stage.new.stage.rows in
     let marks = drop c.mark_all.new.copies.behind c.mark_all.new.copies.log.items in
     let stands = marked_stands g.B.Naming.book shown marks c.mark_all.new.marked c.mark_all.ensures.marked g.B.Naming.about is.stands
-    (c.in_ok-mark_all.ensures.ok ∙ next_len g.B.Naming.book g.B.Naming.about o.desk.shown.value (drop o.behind o.log.items) c.empty_stage.new.stage.items p.history p.free is c.limit.result limit c.in_ok-empty_stage.ensures.ok ∙ ap (λ (xs : Rows). length (shown.table.rows ++ xs)) (sym c.mark_all.ensures.rows)) in
+    (c.in_ok-mark_all.ensures.ok ∙ next_len g.B.Naming.book g.B.Naming.about o.desk.shown.value (drop o.behind o.log.items) c.empty_stage.new.stage.rows p.history p.free is c.limit.result limit c.in_ok-empty_stage.ensures.ok ∙ ap (λ (xs : Rows). length (shown.table.rows ++ xs)) (sym c.mark_all.ensures.rows)) in
     subst (λ e. Stands g.B.Naming.book g.B.Naming.about (fold after e marks)) (ap (λ d. d.shown.value) (sym c.mark_all.ensures.desk)) stands
 
 -- the copy stays, and the mark that is pending is no row
@@ -98,18 +98,18 @@ invariant_of-self-in_err-show g c =
     let p = c.self.inside in
     let o = c.empty_stage.new.copies in
     let same = ap (λ d. d.shown.value) c.empty_stage.ensures.desk in
-    let is = staged_shown g.B.Naming.book g.B.Naming.about p.copies.desk.shown.value (drop p.copies.behind p.copies.log.items) p.stage.items p.history p.free c.self.invariant.0
-    o.desk.shown.value (drop o.behind o.log.items) c.empty_stage.new.stage.items same c.empty_stage.ensures.staged in
+    let is = staged_shown g.B.Naming.book g.B.Naming.about p.copies.desk.shown.value (drop p.copies.behind p.copies.log.items) p.stage.rows p.history p.free c.self.invariant.0
+    o.desk.shown.value (drop o.behind o.log.items) c.empty_stage.new.stage.rows same c.empty_stage.ensures.staged in
     let shown = o.desk.shown.value in
     let pending = drop o.behind o.log.items in
-    let left = c.empty_stage.new.stage.items in
+    let left = c.empty_stage.new.stage.rows in
     let marks = drop c.mark_all.new.copies.behind c.mark_all.new.copies.log.items in
     let more = drop c.show.new.copies.behind c.show.new.copies.log.items in
     let rows = ap rows_of c.in_err-show.ensures.pending ∙ c.mark_all.ensures.rows in
     let still = c.in_err-show.ensures.kept ∙ ap (λ d. d.shown.value) c.mark_all.ensures.desk in (
       subst (λ (e : Edition). IsWriting g.B.Naming.book g.B.Naming.about e more left c.mark_all.new.history p.free) (sym still)
           (kept_writing g.B.Naming.book g.B.Naming.about shown pending left p.history p.free is c.mark_all.new.history more c.mark_all.ensures.history rows),
-      c.empty_stage.ensures.room,
+      subst (λ (e : Edition). IsFor e.table c.empty_stage.new.stage) (sym still) c.empty_stage.ensures.kind,
       subst (λ (e : Edition). IsMarked g.B.Naming.book e more c.mark_all.new.marked) (sym still)
           (subst (λ (ops : List Operation). IsMarked g.B.Naming.book shown ops c.mark_all.new.marked) (sym c.in_err-show.ensures.pending) c.mark_all.ensures.marked),
     )
@@ -121,14 +121,14 @@ returns-in_err-show-clause-err g c =
     let same = ap (λ d. d.shown.value) c.empty_stage.ensures.desk in
     let shown = o.desk.shown.value in
     let pending = drop o.behind o.log.items in
-    let left = c.empty_stage.new.stage.items in
+    let left = c.empty_stage.new.stage.rows in
     let marks = drop c.mark_all.new.copies.behind c.mark_all.new.copies.log.items in
     let more = drop c.show.new.copies.behind c.show.new.copies.log.items in
     let rows = ap rows_of c.in_err-show.ensures.pending ∙ c.mark_all.ensures.rows in
     let still = c.in_err-show.ensures.kept ∙ ap (λ d. d.shown.value) c.mark_all.ensures.desk in
     on_err c.from_residual-in_err-show.result
     (same_view shown pending left c.show.new.copies.desk.shown.value more still rows
-    ∙ staged_view p.copies.desk.shown.value (drop p.copies.behind p.copies.log.items) p.stage.items shown pending left same c.empty_stage.ensures.staged
+    ∙ staged_view p.copies.desk.shown.value (drop p.copies.behind p.copies.log.items) p.stage.rows shown pending left same c.empty_stage.ensures.staged
     ∙ c.self.view_is)
 
 -- the copy that is shown has all rows
@@ -137,21 +137,24 @@ invariant_of-self-2 g c =
     let p = c.self.inside in
     let o = c.empty_stage.new.copies in
     let same = ap (λ d. d.shown.value) c.empty_stage.ensures.desk in
-    let is = staged_shown g.B.Naming.book g.B.Naming.about p.copies.desk.shown.value (drop p.copies.behind p.copies.log.items) p.stage.items p.history p.free c.self.invariant.0
-    o.desk.shown.value (drop o.behind o.log.items) c.empty_stage.new.stage.items same c.empty_stage.ensures.staged in
+    let is = staged_shown g.B.Naming.book g.B.Naming.about p.copies.desk.shown.value (drop p.copies.behind p.copies.log.items) p.stage.rows p.history p.free c.self.invariant.0
+    o.desk.shown.value (drop o.behind o.log.items) c.empty_stage.new.stage.rows same c.empty_stage.ensures.staged in
     let limit = c.limit.ensures.limit ∙ ap (λ t. t.limit) (c.index.ensures ∙ ap (λ e. e.table) (c.published.ensures ∙ sym same)) in
     let shown = o.desk.shown.value in
     let pending = drop o.behind o.log.items in
-    let left = c.empty_stage.new.stage.items in
+    let left = c.empty_stage.new.stage.rows in
     let marks = drop c.mark_all.new.copies.behind c.mark_all.new.copies.log.items in
     let stands = marked_stands g.B.Naming.book shown marks c.mark_all.new.marked c.mark_all.ensures.marked g.B.Naming.about is.stands
-    (c.in_ok-mark_all.ensures.ok ∙ next_len g.B.Naming.book g.B.Naming.about o.desk.shown.value (drop o.behind o.log.items) c.empty_stage.new.stage.items p.history p.free is c.limit.result limit c.in_ok-empty_stage.ensures.ok ∙ ap (λ (xs : Rows). length (shown.table.rows ++ xs)) (sym c.mark_all.ensures.rows)) in
+    (c.in_ok-mark_all.ensures.ok ∙ next_len g.B.Naming.book g.B.Naming.about o.desk.shown.value (drop o.behind o.log.items) c.empty_stage.new.stage.rows p.history p.free is c.limit.result limit c.in_ok-empty_stage.ensures.ok ∙ ap (λ (xs : Rows). length (shown.table.rows ++ xs)) (sym c.mark_all.ensures.rows)) in
     let next = c.show.new.copies.desk.shown.value in
     let none = drop c.show.new.copies.behind c.show.new.copies.log.items in
     let now : next ≡ fold after shown marks = c.in_ok-show.ensures.shown ∙ ap (λ d. fold after d.shown.value marks) c.mark_all.ensures.desk in (
       shown_writing g.B.Naming.book g.B.Naming.about shown pending left p.history p.free is c.mark_all.new.history marks next none c.mark_all.ensures.history c.mark_all.ensures.rows stands now
           c.in_ok-show.ensures.none,
-      c.empty_stage.ensures.room,
+      record {
+        schema = c.empty_stage.ensures.kind.schema ∙ sym (ap (λ e. e.table.schema) now ∙ ap (λ (t : Table). t.schema) (table_after shown marks));
+        feeders = c.empty_stage.ensures.kind.feeders ∙ sym (ap (λ e. e.table.feeders) now ∙ ap (λ (t : Table). t.feeders) (table_after shown marks));
+      },
       shown_marked g.B.Naming.book shown marks c.mark_all.new.marked c.mark_all.ensures.marked next none now c.in_ok-show.ensures.none,
     )
 
@@ -160,18 +163,18 @@ returns-clause-len g c =
     let p = c.self.inside in
     let o = c.empty_stage.new.copies in
     let same = ap (λ d. d.shown.value) c.empty_stage.ensures.desk in
-    let is = staged_shown g.B.Naming.book g.B.Naming.about p.copies.desk.shown.value (drop p.copies.behind p.copies.log.items) p.stage.items p.history p.free c.self.invariant.0
-    o.desk.shown.value (drop o.behind o.log.items) c.empty_stage.new.stage.items same c.empty_stage.ensures.staged in
+    let is = staged_shown g.B.Naming.book g.B.Naming.about p.copies.desk.shown.value (drop p.copies.behind p.copies.log.items) p.stage.rows p.history p.free c.self.invariant.0
+    o.desk.shown.value (drop o.behind o.log.items) c.empty_stage.new.stage.rows same c.empty_stage.ensures.staged in
     let limit = c.limit.ensures.limit ∙ ap (λ t. t.limit) (c.index.ensures ∙ ap (λ e. e.table) (c.published.ensures ∙ sym same)) in
     let shown = o.desk.shown.value in
     let pending = drop o.behind o.log.items in
-    let left = c.empty_stage.new.stage.items in
+    let left = c.empty_stage.new.stage.rows in
     let marks = drop c.mark_all.new.copies.behind c.mark_all.new.copies.log.items in
     let next = c.show.new.copies.desk.shown.value in
     let none = drop c.show.new.copies.behind c.show.new.copies.log.items in
     let now : next ≡ fold after shown marks = c.in_ok-show.ensures.shown ∙ ap (λ d. fold after d.shown.value marks) c.mark_all.ensures.desk in
     let rows = ap (λ e. length e.table.rows) now ∙ ap (λ (t : Table). length t.rows) (table_after shown marks) in
-    next_len g.B.Naming.book g.B.Naming.about o.desk.shown.value (drop o.behind o.log.items) c.empty_stage.new.stage.items p.history p.free is c.limit.result limit c.in_ok-empty_stage.ensures.ok
+    next_len g.B.Naming.book g.B.Naming.about o.desk.shown.value (drop o.behind o.log.items) c.empty_stage.new.stage.rows p.history p.free is c.limit.result limit c.in_ok-empty_stage.ensures.ok
     ∙ ap (λ (xs : Rows). length (shown.table.rows ++ xs)) (sym c.mark_all.ensures.rows) ∙ sym rows
 
 pub returns-clause-ok : goal.returns-clause-ok
@@ -181,11 +184,11 @@ returns-clause-ok g c =
     let same = ap (λ d. d.shown.value) c.empty_stage.ensures.desk in
     let shown = o.desk.shown.value in
     let pending = drop o.behind o.log.items in
-    let left = c.empty_stage.new.stage.items in
+    let left = c.empty_stage.new.stage.rows in
     let marks = drop c.mark_all.new.copies.behind c.mark_all.new.copies.log.items in
     let next = c.show.new.copies.desk.shown.value in
     let none = drop c.show.new.copies.behind c.show.new.copies.log.items in
     let now : next ≡ fold after shown marks = c.in_ok-show.ensures.shown ∙ ap (λ d. fold after d.shown.value marks) c.mark_all.ensures.desk in
     published_view shown pending marks left next none now c.mark_all.ensures.rows c.in_ok-show.ensures.none c.in_ok-empty_stage.ensures.ok
     ∙ ap published_all
-    (staged_view p.copies.desk.shown.value (drop p.copies.behind p.copies.log.items) p.stage.items shown pending left same c.empty_stage.ensures.staged ∙ c.self.view_is)
+    (staged_view p.copies.desk.shown.value (drop p.copies.behind p.copies.log.items) p.stage.rows shown pending left same c.empty_stage.ensures.staged ∙ c.self.view_is)

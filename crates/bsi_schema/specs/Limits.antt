@@ -1,0 +1,7 @@
+-- The numbers that a column takes.
+use Rattle.bsi_schema.specs.Columns.{NamedColumn, size_in}
+use Rattle.bsi_schema.specs.declared.limits.Limits.{Limits}
+
+-- the numbers that a column takes
+abbrev pub limits_of : NamedColumn → Limits
+limits_of column = record { least = column.offset; size = size_in column.form }

@@ -1,0 +1,81 @@
+//! The numbers that a column takes.
+
+ghost use Rattle.std.specs.Prelude.{◌≡◌, ◌^◌, ◌+ℤ◌, ◌≤ℤ◌, List, map, pos, true};
+ghost use Rattle.bsi_schema.specs.Columns.{fits, is_between, size_in, IsForm, NamedColumn};
+ghost use Rattle.bsi_schema.specs.Limits.{limits_of};
+
+use crate::Row;
+use crate::form::Kind;
+
+/// This many numbers, from the least one up.
+#[derive(Clone, Copy)]
+pub struct Limits {
+    least: i64,
+    size: u64,
+}
+
+impl Limits {
+    /// Returns the numbers that a column of this kind takes.
+    pub(crate) fn of(kind: &Kind) -> Limits
+        requires { IsForm kind.now.form }
+        ensures { result ≡ record { least = kind.now.offset; size = size_in kind.now.form } }
+    {
+        Limits {
+            least: kind.offset,
+            size: kind.form.size(),
+        }
+    }
+
+    /// Returns whether an entry is a null or one of these numbers.
+    pub fn takes(self, entry: Option<i128>) -> bool
+        ensures { result ≡ is_between self.least self.size entry }
+    {
+        let Some(number) = entry else {
+            return true;
+        };
+        let least = i128::from(self.least);
+        least <= number && number < least + i128::from(self.size)
+    }
+
+    /// Returns the same entry, as a number of 64 bits.
+    pub fn narrow(self, entry: Option<i128>) -> Option<i64>
+        requires taken { is_between self.least self.size entry ≡ true }
+        requires below { (self.least +ℤ pos self.size) ≤ℤ pos (2 ^ 63) }
+        ensures { result ≡ entry }
+    {
+        let number = entry?;
+        Some(number as i64)
+    }
+}
+
+/// Returns whether a row has one entry for each of these columns, each a null or a number that its column takes.
+pub fn take_each(limits: &[Limits], row: &Row) -> bool
+    ensures { (columns : List NamedColumn) → limits.now ≡ map limits_of columns →
+        result ≡ fits columns row.now }
+{
+    let values = row.values();
+    if values.len() != limits.len() {
+        return false;
+    }
+    'columns: for c in 0..values.len() {
+        if !limits[c].takes(values[c]) {
+            return false;
+        }
+    }
+    true
+}
+
+/// Returns whether two lists of columns take the same numbers.
+pub fn are_same(first: &[Limits], second: &[Limits]) -> bool
+    ensures { result ≡ true → first.now ≡ second.now }
+{
+    if first.len() != second.len() {
+        return false;
+    }
+    'columns: for c in 0..first.len() {
+        if first[c].least != second[c].least || first[c].size != second[c].size {
+            return false;
+        }
+    }
+    true
+}

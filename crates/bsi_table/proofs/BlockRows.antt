@@ -1,0 +1,80 @@
+-- The rows of a block, by the places of its columns.
+use Rattle.std.proofs.Common.{◌≡◌, ℕ, ◌+◌, ◌*◌, ◌<◌, ◌≤◌, List, [], ◌∷◌, ◌++◌, Option, None, All, length, map, get_or, take, drop, ℤ, refl, ap, ap₂, subst, sym, ◌∙◌, arith}
+use Rattle.std.specs.Prelude.{slice_index}
+use Rattle.std.specs.List.{range_with_len}
+use Rattle.std.proofs.lemmas.List.{get_or-drop, get_or-take, get_or_append_left, length-append, length-drop, length-take-le}
+use Rattle.std.proofs.lemmas.List.Elements.{All-from_get_or}
+use Rattle.std.proofs.lemmas.List.FromFn.{fill_by_all, get_or-map-range_with_len, length-map-range_with_len, map-range_with_len_more}
+use Rattle.std.proofs.Math.Seq.{get_or-append_seam}
+use Rattle.bsi_table.specs.RowBlocks.{placed_row, placed_rows}
+use Rattle.bsi_table.specs.Rows.{column_of, entry_at, feeders_of, Entries, FedRow}
+use Rattle.bsi_table.proofs.TableRows.{map_twice, same_below}
+
+module _ (columns : ℕ) (sources : List ℕ) (places : List (Option ℤ)) where
+  pub length-placed_rows : length (placed_rows columns sources places) ≡ length sources
+  unfolding placed_rows
+  length-placed_rows = length-map-range_with_len (λ r. (slice_index sources r, placed_row columns places r)) 0 (length sources)
+
+  pub feeders-placed_rows : feeders_of (placed_rows columns sources places) ≡ sources
+  unfolding placed_rows
+  feeders-placed_rows =
+      map_twice (λ row. row.0) (λ r. (slice_index sources r, placed_row columns places r)) (range_with_len 0 (length sources))
+      ∙ sym (fill_by_all (λ r. slice_index sources r) sources (length sources) 0 refl (λ r below. refl))
+
+  -- entry c of a row stands in the places of column c
+  pub entry-placed_row : (c r : ℕ) → c < columns → entry_at (placed_row columns places r) c ≡ get_or places (64 * c + r) None
+  unfolding placed_row
+  entry-placed_row c r within = get_or-map-range_with_len (λ c. get_or places (64 * c + r) None) 0 columns c c None within (omega arith)
+
+  -- the first of its places are column c
+  pub column-placed_rows : (c : ℕ) → c < columns → length sources ≤ 64 → length places ≡ 64 * columns
+      → take (length sources) (drop (64 * c) places) ≡ column_of (placed_rows columns sources places) c
+  unfolding placed_rows
+  column-placed_rows c within few long =
+      let n = length sources in
+      let entry : ℕ → Option ℤ = λ r. entry_at (placed_row columns places r) c in
+      let some : length (take n (drop (64 * c) places)) ≡ n =
+      length-take-le n (drop (64 * c) places) (omega (arith, length-drop (64 * c) places, few, long, within)) in
+      fill_by_all entry (take n (drop (64 * c) places)) n None some
+      (λ r below. get_or-take n (drop (64 * c) places) r None below ∙ get_or-drop (64 * c) places r None ∙ sym (entry-placed_row c r within))
+      ∙ sym (map_twice (λ row. entry_at row.1 c) (λ r. (slice_index sources r, placed_row columns places r)) (range_with_len 0 n))
+
+  -- a fact of each row, by its feeder and its entries
+  pub All-placed_rows : (P : FedRow → Type 0) → ((r : ℕ) → r < length sources → P (slice_index sources r, placed_row columns places r)) → All P (placed_rows columns sources places)
+  unfolding placed_rows
+  All-placed_rows P each =
+      let row : ℕ → FedRow = λ r. (slice_index sources r, placed_row columns places r) in
+      All-from_get_or P (map row (range_with_len 0 (length sources))) (0, [])
+      (λ r below.
+      let there : r < length sources = omega (arith, below, length-map-range_with_len row 0 (length sources)) in
+      subst P (sym (get_or-map-range_with_len row 0 (length sources) r r (0, []) there (omega arith))) (each r there))
+
+-- before the first there is none
+pub placed_rows-none : (columns : ℕ) (sources : List ℕ) (places : List (Option ℤ)) → sources ≡ [] → placed_rows columns sources places ≡ []
+unfolding placed_rows
+placed_rows-none columns sources places none = ap (λ xs. placed_rows columns xs places) none
+
+-- a row is written behind the others
+module _ (columns : ℕ) (sources : List ℕ) (old new : List (Option ℤ)) (source : ℕ) (row : Entries) (wide : length row ≡ columns)
+    (others : (c r : ℕ) → r < length sources → get_or new (64 * c + r) None ≡ get_or old (64 * c + r) None)
+    (written : (c : ℕ) → c < columns → get_or new (64 * c + length sources) None ≡ entry_at row c) where
+  pub placed_row-same : (r : ℕ) → r < length sources → placed_row columns new r ≡ placed_row columns old r
+  unfolding placed_row
+  placed_row-same r below = same_below None (λ c. get_or new (64 * c + r) None) (λ c. get_or old (64 * c + r) None) columns (λ c within. others c r below)
+
+  pub placed_row-written : placed_row columns new (length sources) ≡ row
+  unfolding placed_row
+  placed_row-written = sym (fill_by_all (λ c. get_or new (64 * c + length sources) None) row columns None wide (λ c within. sym (written c within)))
+
+  pub placed_rows-more : placed_rows columns (sources ++ source ∷ []) new ≡ placed_rows columns sources old ++ (source, row) ∷ []
+  unfolding placed_rows
+  placed_rows-more =
+      let now : ℕ → FedRow = λ r. (slice_index (sources ++ source ∷ []) r, placed_row columns new r) in
+      let then : ℕ → FedRow = λ r. (slice_index sources r, placed_row columns old r) in
+      let pair : ℕ → Entries → FedRow = λ s entries. (s, entries) in
+      let n = length sources in
+      let earlier : map now (range_with_len 0 n) ≡ map then (range_with_len 0 n) =
+      same_below (0, []) now then n (λ r below. ap₂ pair (get_or_append_left sources (source ∷ []) 0 r below) (placed_row-same r below)) in
+      let last : now n ≡ (source, row) = ap₂ pair (get_or-append_seam sources source [] 0) placed_row-written in
+      ap (λ m. map now (range_with_len 0 m)) (length-append sources (source ∷ []))
+      ∙ map-range_with_len_more now 0 n n (omega arith) ∙ ap₂ (λ xs x. xs ++ x ∷ []) earlier last

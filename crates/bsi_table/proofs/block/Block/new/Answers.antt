@@ -1,0 +1,10 @@
+use Rattle.std.proofs.Common.{length, ap, ◌∙◌}
+use Rattle.bsi_table.specs.RowBlocks.{no_block_rows}
+use Rattle.bsi_table.proofs.BlockRows.{placed_rows-none}
+use Rattle.bsi_table.proofs.block.Block.new.Goals as goal
+
+pub returns : goal.returns
+returns c =
+    let none = placed_rows-none (length c.of.result.value.columns) c.in_ok-sources.sources.items c.in_ok-places.places.items c.in_ok-sources.ensures.items in
+    ap (λ rows. record { schema = c.of.result.value; feeders = c.args.feeders; rows = rows }) none
+    ∙ ap (λ schema. no_block_rows schema c.args.feeders) c.of.ensures

@@ -1,0 +1,152 @@
+//! A block of rows of one schema, kept column by column.
+//!
+//! The entries of column `c` stand in 64 places from place `64 * c` on, so a row is written without moving another, and
+//! each column is lent as one slice.
+
+ghost use Rattle.std.specs.Prelude.{◌≡◌, ◌≢◌, ℕ, ◌+◌, ◌*◌, ◌<◌, ◌≤◌, ◌^◌, ◌+ℤ◌, ◌≤ℤ◌, All, List, None, IfOk, IsTrue, length, map, pos, slice_index_or, true, false};
+ghost use Rattle.bsi_schema.specs.Columns.{entry_at, fits, is_between};
+ghost use Rattle.bsi_schema.specs.Limits.{limits_of};
+ghost use Rattle.bsi_schema.specs.declared.limits.Limits.{Limits};
+ghost use Rattle.bsi_table.specs.RowBlocks.{emptied_block, no_block_rows, with_block_row};
+ghost use Rattle.bsi_table.specs.Rows.{column_of, feeders_of};
+ghost use Rattle.bsi_table.specs.Table.{AreFitting, AreFrom};
+
+use crate::{NoMemory, Row, Schema};
+use bsi_schema::{Limits, take_each};
+use std::alloc::Global;
+use std::marker::Model;
+use std::snapshot::Snapshot;
+
+/// The most rows of a block that can be appended at once.
+pub const MAX_BLOCK_ROWS: usize = 64;
+
+/// At most 64 rows that fit a schema, each from one of so many feeders. A row is tested once, as it is added. Filling
+/// the block again takes no memory. It takes 16 bytes for each of the 64 rows and each column.
+#[derive(Drop)]
+pub struct Block {
+    schema: Snapshot<Schema>,
+    limits: Vec<Limits>,
+    feeders: u32,
+    // The feeder of each row.
+    sources: Vec<u32>,
+    places: Vec<Option<i64>>,
+}
+
+// Clauses see the schema, the number of feeders, and the rows, each with its feeder.
+impl Model for Block {
+    ghost use Rattle.std.specs.Prelude.{◌≤◌, vec_capacity};
+    ghost use Rattle.bsi_table.specs.RowBlocks.{block_view, IsBlock, RowBlock};
+
+    ghost Value = { RowBlock };
+
+    ghost view = { λ b. block_view b.schema.value b.feeders b.sources.items b.places.items };
+
+    ghost invariant = { λ b. IsBlock b.schema.value.columns b.limits.items b.feeders b.sources.items
+        b.places.items × (64 ≤ vec_capacity b.sources) };
+}
+
+impl Block {
+    /// Makes a block of no rows, with room for 64 rows of a schema, each from one of so many feeders.
+    pub fn new(alloc: Global, schema: &Schema, feeders: u32) -> Result<Block, NoMemory>
+        ensures { IfOk result (λ block. block ≡ no_block_rows schema.now feeders) }
+    {
+        let limits = Vec::from_slice(alloc, schema.limits())?;
+        let sources = Vec::with_capacity(alloc, MAX_BLOCK_ROWS)?;
+        let places = vec![in alloc; None; MAX_BLOCK_ROWS * schema.columns() as usize]?;
+        Ok(Block {
+            schema: Snapshot::of(schema),
+            limits,
+            feeders,
+            sources,
+            places,
+        })
+    }
+
+    /// Returns the number of rows, at most 64.
+    pub fn len(&self) -> usize
+        ensures len { result ≡ length self.now.rows }
+        ensures within { result ≤ 64 }
+        ensures fitting { AreFitting self.now.schema.columns self.now.rows }
+        ensures from { AreFrom self.now.feeders self.now.rows }
+    {
+        self.sources.len()
+    }
+
+    /// Returns how many feeders there are.
+    pub fn feeders(&self) -> u32
+        ensures { result ≡ self.now.feeders }
+    {
+        self.feeders
+    }
+
+    /// Takes all rows out of the block. It keeps the room.
+    pub fn clear(&mut self)
+        ensures { self.new ≡ emptied_block self.old }
+    {
+        self.sources.clear();
+    }
+
+    /// Adds a row of a feeder after the others, and returns whether it fits. If it does not, the block stays.
+    pub fn push(&mut self, feeder: u32, row: &Row) -> bool
+        requires room { length self.old.rows < 64 }
+        requires feeder { feeder < self.old.feeders }
+        ensures fits { result ≡ fits self.old.schema.columns row.now }
+        ensures added { result ≡ true → self.new ≡ with_block_row self.old feeder row.now }
+        ensures kept { result ≡ false → self.new ≡ self.old }
+    {
+        if !take_each(&self.limits, row) {
+            return false;
+        }
+        let at = self.sources.len();
+        write_row(&self.limits, row.values(), at, &mut self.places);
+        self.sources.push_reserved(feeder);
+        true
+    }
+
+    /// Lends the feeder of each row.
+    pub(crate) fn sources(&self) -> &[u32]
+        ensures { result.now ≡ feeders_of self.now.rows }
+    {
+        &self.sources
+    }
+
+    /// Lends the entries of column `c`, in order of the rows.
+    pub(crate) fn column(&self, c: usize) -> &[Option<i64>]
+        requires { c < length self.now.schema.columns }
+        ensures { result.now ≡ column_of self.now.rows c }
+    {
+        let rows = self.sources.len();
+        let first = MAX_BLOCK_ROWS * c;
+        &self.places[first..first + rows]
+    }
+
+    /// Lends the numbers that each column takes.
+    pub(crate) fn limits(&self) -> &[Limits]
+        ensures { result.now ≡ map limits_of self.now.schema.columns }
+    {
+        &self.limits
+    }
+}
+
+/// Writes the entries of a row that fits, each into place `at` of its column's.
+fn write_row(limits: &[Limits], values: &[Option<i128>], at: usize, places: &mut Vec<Option<i64>>)
+    requires at { at < 64 }
+    requires long { length places.old.items ≡ 64 * length limits.now }
+    requires wide { length values.now ≡ length limits.now }
+    requires below { (c : ℕ) (d : Limits) → c < length limits.now →
+        ((slice_index_or limits.now c d).least +ℤ pos (slice_index_or limits.now c d).size)
+        ≤ℤ pos (2 ^ 63) }
+    requires taken { (c : ℕ) (d : Limits) → c < length limits.now →
+        is_between (slice_index_or limits.now c d).least (slice_index_or limits.now c d).size
+        (entry_at values.now c) ≡ true }
+    ensures long { length places.new.items ≡ length places.old.items }
+    ensures others { (c r : ℕ) → r < 64 → r ≢ at →
+        slice_index_or places.new.items (64 * c + r) None
+        ≡ slice_index_or places.old.items (64 * c + r) None }
+    ensures row { (c : ℕ) → c < length limits.now →
+        slice_index_or places.new.items (64 * c + at) None ≡ entry_at values.now c }
+{
+    'columns: for c in 0..limits.len() {
+        places[MAX_BLOCK_ROWS * c + at] = limits[c].narrow(values[c]);
+    }
+}
