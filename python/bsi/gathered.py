@@ -1,0 +1,71 @@
+"""Answers over several parts of the rows, put together exactly from the answers of each."""
+
+from __future__ import annotations
+
+import threading
+from typing import Any, Callable, List, Optional, Sequence, Tuple
+
+import numpy as np
+
+Fields = Sequence[bytes]
+
+
+class Gathered:
+    """A store whose rows lie in several parts. `each` makes a call of every part, at the same time, and returns what they answered.
+
+    A lower median is found by counts: it is the least number with at least half of the numbers at or below it. A round asks for the counts
+    at `bounds` numbers at once, so it leaves one in bounds + 1 of those that are possible."""
+
+    def __init__(self, each: Callable[..., List[Any]], bounds: int):
+        self._each, self._bounds = each, bounds
+        # Which rows lie where, in order of all rows: a part, and how many of its rows.
+        self.runs: List[Tuple[int, int]] = []
+        self.lock = threading.RLock()
+
+    def counts(self, questions: Sequence[Fields]) -> List[int]:
+        with self.lock:
+            return [sum(counts) for counts in zip(*self._each("counts", questions))]
+
+    def sum(self, name: bytes, fields: Fields) -> int:
+        with self.lock:
+            return sum(self._each("sum", name, fields))
+
+    def value(self, word: bytes, name: bytes, fields: Fields) -> Optional[int]:
+        with self.lock:
+            if word == b"median":
+                return self._median(name, fields)
+            numbers = [number for number in self._each("value", word, name, fields) if number is not None]
+            return (min if word == b"least" else max)(numbers, default=None)
+
+    def _median(self, name: bytes, fields: Fields) -> Optional[int]:
+        low, high = self.value(b"least", name, fields), self.value(b"greatest", name, fields)
+        if low is None or high is None:
+            return None
+
+        def at_most(numbers: Sequence[int]) -> List[int]:
+            return self.counts([[*fields, name, b"<=", b"%d" % number, b"and"] for number in numbers])
+
+        half = (at_most([high])[0] + 1) // 2
+        while low < high:
+            step = -(-(high - low) // (self._bounds + 1))
+            bounds = list(range(low + step - 1, high, step))
+            enough = [count >= half for count in at_most(bounds)]
+            first = enough.index(True) if True in enough else len(bounds)
+            low, high = low if first == 0 else bounds[first - 1] + 1, high if first == len(bounds) else bounds[first]
+        return low
+
+    def select(self, fields: Fields) -> Tuple[np.ndarray, int]:
+        with self.lock:
+            bits = [np.unpackbits(words.view(np.uint8), count=rows, bitorder="little") for words, rows in self._each("select", fields)]
+            taken, runs = [0] * len(bits), []
+            for part, rows in self.runs:
+                runs.append(bits[part][taken[part] : taken[part] + rows])
+                taken[part] += rows
+            joined = np.concatenate([*runs, np.empty(0, np.uint8)])
+            packed = np.zeros(-(-len(joined) // 64) * 8, np.uint8)
+            packed[: -(-len(joined) // 8)] = np.packbits(joined, bitorder="little")
+            return packed.view(np.uint64), len(joined)
+
+    def rows(self) -> int:
+        with self.lock:
+            return sum(self._each("rows"))

@@ -1,0 +1,146 @@
+"""Which kind a column of values is of: the narrowest that keeps each of them exactly, and how the kinds of several parts go together."""
+
+from __future__ import annotations
+
+import numbers
+from datetime import date, timezone
+from decimal import Decimal
+from typing import Any, Optional, Tuple
+
+import numpy as np
+
+from .kinds import NANOSECONDS, UNITS, Decimals, Flags, Kind, Misfit, Texts, Times, Whole, first_misfit, nanoseconds_of, shown
+from .values import Values
+
+# How many places of decimals are tried for floats, and how many different texts a column may have.
+MOST_PLACES, MOST_TEXTS = 6, 1024
+# The kind of a column, None where all of it is null, and the numbers that stand for its values.
+Narrowed = Tuple[Optional[Kind], np.ndarray]
+
+
+def narrow(given: Values) -> Narrowed:
+    """Returns the narrowest kind of the values and the numbers that stand for them. The first value that fits in none is a Misfit."""
+    values, valid = given.values, given.valid
+    if not valid.any():
+        return None, np.zeros(len(values), np.int64)
+    if values.dtype == object:
+        return _of_objects(given)
+    kinds = {
+        "b": [Flags()],
+        "i": [Whole()],
+        "u": [Whole()],
+        "f": [Whole(), *(Decimals(places) for places in range(1, MOST_PLACES + 1))],
+        "M": [Times(unit, given.zone) for unit in UNITS],
+    }[values.dtype.kind]
+    return first_that_keeps(kinds, values, valid)
+
+
+def first_that_keeps(kinds: list, values: np.ndarray, valid: np.ndarray) -> Narrowed:
+    """Returns the first of the kinds that keeps all values. What the last one does not keep is the Misfit."""
+    for kind in kinds[:-1]:
+        try:
+            return kind, kind.encode(values, valid)
+        except Misfit:
+            pass
+    return kinds[-1], kinds[-1].encode(values, valid)
+
+
+def _of_objects(given: Values) -> Narrowed:
+    first = given.values[int(given.valid.argmax())]
+    if isinstance(first, str):
+        return _texts(given)
+    if isinstance(first, (bool, np.bool_)):
+        return Flags(), Flags().encode(given.values, given.valid)
+    if isinstance(first, (date, np.datetime64)):
+        return _times(given)
+    if isinstance(first, (numbers.Real, Decimal, np.number)):
+        return _numbers(given)
+    raise Misfit(int(given.valid.argmax()), first, f"{shown(first)} is none of numbers, times, booleans or texts")
+
+
+def _texts(given: Values) -> Narrowed:
+    found: dict = {}
+    for row in np.flatnonzero(given.valid).tolist():
+        text = given.values[row]
+        if not isinstance(text, str):
+            raise Misfit(row, text, f"{shown(text)} is no text, as those before it are")
+        found[text] = None
+        refuse_many_texts(found, row, text)
+    kind = Texts(given.order, ordered=True) if given.order else Texts(tuple(found))
+    return kind, kind.encode(given.values, given.valid)
+
+
+def refuse_many_texts(found: dict, row: int, text: str) -> None:
+    if len(found) > MOST_TEXTS:
+        raise Misfit(row, text, f"{shown(text)} is one text more than the {MOST_TEXTS:,} that a column may have; leave the column out")
+
+
+def _numbers(given: Values) -> Narrowed:
+    """Decimals of as many places as the values show, and whole numbers where none of them is a Decimal or has a fraction."""
+    places, is_whole = 0, True
+    for row in np.flatnonzero(given.valid).tolist():
+        value = given.values[row]
+        is_whole &= not isinstance(value, Decimal)
+        places = max(places, _places(row, value))
+    kind = Whole() if is_whole and places == 0 else Decimals(places)
+    return kind, kind.encode(given.values, given.valid)
+
+
+def _places(row: int, value: Any) -> int:
+    if isinstance(value, (numbers.Integral, np.bool_)):
+        return 0
+    if isinstance(value, (float, np.floating)):
+        value = Decimal(str(value)).normalize()
+    if not isinstance(value, Decimal):
+        raise Misfit(row, value, f"{shown(value)} is no number, or no decimal")
+    places = -value.as_tuple().exponent if value.is_finite() else 99
+    if places > 18:
+        raise Misfit(row, value, f"{shown(value)} has more than 18 decimal places" if places < 99 else f"{shown(value)} is no finite number")
+    return max(0, places)
+
+
+def _times(given: Values) -> Narrowed:
+    moments, zones = np.zeros(len(given.values), object), set()
+    for row in np.flatnonzero(given.valid).tolist():
+        value = given.values[row]
+        try:
+            moments[row], is_aware = nanoseconds_of(value)
+        except (TypeError, ValueError) as why:
+            raise Misfit(row, value, str(why)) from None
+        zones.add(value.tzinfo if is_aware else None)
+        if len(zones) > 1 and None in zones:
+            raise Misfit(row, value, f"{shown(value)} has {'a' if is_aware else 'no'} time zone, and one before it has {'none' if is_aware else 'one'}")
+    zone = zones.pop() if len(zones) == 1 else timezone.utc
+    unit = next(unit for unit in UNITS if all(moment % NANOSECONDS[unit] == 0 for moment in moments))
+    counts = moments // NANOSECONDS[unit]
+    first_misfit(np.array([abs(count) >= 1 << 63 for count in counts], bool), given.values, f"is past 63 bits of {UNITS[unit]}")
+    return Times(unit, zone), counts.astype(np.int64)
+
+
+def joined(one: Optional[Kind], other: Optional[Kind]) -> Optional[Kind]:
+    """Returns the kind that keeps what both keep, or raises TypeError where there is none."""
+    if one is None or other is None or one == other:
+        return one or other
+    if isinstance(one, (Whole, Decimals)) and isinstance(other, (Whole, Decimals)):
+        return Decimals(max(getattr(one, "places", 0), getattr(other, "places", 0)))
+    if isinstance(one, Times) and isinstance(other, Times) and (one.zone is None) == (other.zone is None):
+        finer = max(one.unit, other.unit, key=list(UNITS).index)
+        return Times(finer, one.zone if one.zone == other.zone else timezone.utc)
+    if isinstance(one, Texts) and isinstance(other, Texts) and not one.ordered and not other.ordered:
+        return Texts(one.values + other.values)
+    raise TypeError(f"{other.takes} stand below {one.takes}")
+
+
+def recode(found: np.ndarray, valid: np.ndarray, old: Optional[Kind], new: Optional[Kind]) -> np.ndarray:
+    """Returns the numbers under a kind that keeps what the old one keeps. The first that leaves 63 bits is a Misfit."""
+    if old is None or old == new:
+        return found
+    if isinstance(old, Texts):
+        return np.where(valid, np.array([new.places[text] for text in old.values], np.int64)[found], 0)
+    if isinstance(old, Times):
+        factor = NANOSECONDS[old.unit] // NANOSECONDS[new.unit]
+    else:
+        factor = 10 ** (new.places - getattr(old, "places", 0))
+    most = (2**63 - 1) // factor
+    first_misfit((found > most) | (found < -most), found, f"leaves 63 bits as one of {new}")
+    return found * factor
