@@ -23,14 +23,14 @@ MOST_SHOWN = 20
 
 
 def _arguments(words: Optional[List[str]]) -> Any:
-    about, _, rest = (__doc__ or "").partition("\n\n")
-    parser = argparse.ArgumentParser(prog="python -m bsi", description=rest, formatter_class=argparse.RawDescriptionHelpFormatter)
-    parser.add_argument("words", nargs="+", metavar="FILE.. [QUESTION..]", help="files, and then questions about their rows")
+    _, _, rest = (__doc__ or "").partition("\n\n")
+    parser = argparse.ArgumentParser(prog="python -m bsi", usage="python -m bsi [OPTION..] FILE.. [QUESTION..]", description=rest, formatter_class=argparse.RawDescriptionHelpFormatter)
+    parser.add_argument("words", nargs="+", metavar="WORD", help="files, and then questions about their rows")
     parser.add_argument("--columns", metavar="NAME,..", help="the columns that are wanted; all where it is not given")
     parser.add_argument("--text", metavar="NAME,..", default="", help="columns that hold texts, whatever they look like")
     parser.add_argument("--null", metavar="FIELD", action="append", default=[""], help="a further field that stands for a null")
     parser.add_argument("--parts", metavar="N", type=int, default=1, help="splits the rows over N threads")
-    return parser.parse_args(words)
+    return parser.parse_intermixed_args(words)
 
 
 def _read(files: List[str], given: Any) -> Any:

@@ -18,7 +18,9 @@ from .errors import BadColumns
 
 NUMBERS = {"c": "i1", "C": "u1", "s": "i2", "S": "u2", "i": "i4", "I": "u4", "l": "i8", "L": "u8", "e": "f2", "f": "f4", "g": "f8"}
 TIMES = {"tdD": ("i4", "D"), "tdm": ("i8", "ms"), "tss:": ("i8", "s"), "tsm:": ("i8", "ms"), "tsu:": ("i8", "us"), "tsn:": ("i8", "ns")}
-Read = Tuple[np.ndarray, np.ndarray, Any]
+# Values, which of them are valid, the time zone of times, and the order of the texts of an ordered dictionary.
+Read = Tuple[np.ndarray, np.ndarray, Any, Optional[Tuple[str, ...]]]
+ORDERED = 1
 
 
 class _Schema(Structure):
@@ -54,7 +56,7 @@ def _opened(data: Any) -> Tuple[_Schema, _Array, Any]:
 
 
 def array_of(data: Any) -> Read:
-    """Returns the values of an Arrow array, which of them are valid, and their time zone."""
+    """Returns the values of an Arrow array."""
     schema, array, _kept = _opened(data)
     return _read(schema, array)
 
@@ -66,8 +68,8 @@ def struct_of(data: Any) -> List[Tuple[str, Read]]:
         raise BadColumns("rows come as an Arrow record batch, and not as one array")
     hidden, found = ~_validity(array), []
     for place in range(schema.n_children):
-        values, valid, zone = _read(schema.children[place].contents, array.children[place].contents, array.offset, array.length)
-        found.append(((schema.children[place].contents.name or b"").decode(), (values, valid & ~hidden, zone)))
+        values, valid, *rest = _read(schema.children[place].contents, array.children[place].contents, array.offset, array.length)
+        found.append(((schema.children[place].contents.name or b"").decode(), (values, valid & ~hidden, *rest)))
     return found
 
 
@@ -102,22 +104,22 @@ def _read(schema: _Schema, array: _Array, skipped: int = 0, length: Optional[int
         raise BadColumns("the Arrow array has a length below 0")
     layout, start = schema.format.decode(), array.offset + skipped
     if layout == "n":
-        return np.zeros(length, np.int64), np.zeros(length, bool), None
+        return np.zeros(length, np.int64), np.zeros(length, bool), None, None
     valid = _validity(array, skipped, length)
     if schema.dictionary:
         return _from_dictionary(schema, array, layout, start, valid)
     if layout in NUMBERS:
-        return _fixed(array, NUMBERS[layout], start, length), valid, None
+        return _fixed(array, NUMBERS[layout], start, length), valid, None, None
     if layout == "b":
-        return _bits(array, 1, start, length), valid, None
+        return _bits(array, 1, start, length), valid, None, None
     for prefix, (stored, unit) in TIMES.items():
         if layout == prefix or prefix.endswith(":") and layout.startswith(prefix):
             times = _fixed(array, stored, start, length).astype(np.int64).view(f"M8[{unit}]")
-            return times, valid, _zone(layout[len(prefix) :])
+            return times, valid, _zone(layout[len(prefix) :]), None
     if layout in ("u", "U"):
-        return _texts(array, "i4" if layout == "u" else "i8", start, valid), valid, None
+        return _texts(array, "i4" if layout == "u" else "i8", start, valid), valid, None, None
     if decimal := re.fullmatch(r"d:\d+,(-?\d+)(?:,128)?", layout):
-        return _decimals(array, int(decimal.group(1)), start, valid), valid, None
+        return _decimals(array, int(decimal.group(1)), start, valid), valid, None, None
     raise BadColumns(f"an Arrow array of format {layout!r} is none of numbers, times, booleans or texts")
 
 
@@ -130,12 +132,13 @@ def _from_dictionary(schema: _Schema, array: _Array, layout: str, start: int, va
     if layout not in NUMBERS:
         raise BadColumns(f"the Arrow array has a dictionary, and format {layout!r}")
     places = np.where(valid, _fixed(array, NUMBERS[layout], start, len(valid)), 0).astype(np.int64)
-    values, is_valid, zone = _read(schema.dictionary.contents, array.dictionary.contents)
+    values, is_valid, zone, _ = _read(schema.dictionary.contents, array.dictionary.contents)
     if not len(values):
-        return np.zeros(len(valid), np.int64), np.zeros(len(valid), bool), zone
+        return np.zeros(len(valid), np.int64), np.zeros(len(valid), bool), zone, None
     if ((places < 0) | (places >= len(values))).any():
         raise BadColumns("the Arrow array names places that its dictionary has not")
-    return values[places], valid & is_valid[places], zone
+    is_ordered = schema.flags & ORDERED and values.dtype == object and is_valid.all()
+    return values[places], valid & is_valid[places], zone, tuple(values.tolist()) if is_ordered else None
 
 
 def _texts(array: _Array, stored: str, start: int, valid: np.ndarray) -> np.ndarray:

@@ -9,7 +9,7 @@ import numpy as np
 from .errors import BadColumns, BadRow, BadSchema
 from .forms import LEAST, MOST, Form, narrowest
 from .kinds import Kind, Misfit, Whole
-from .narrowing import joined, narrow, recode
+from .narrowing import encode, joined, narrow, recode
 from .values import Values, columns_of, values_of
 
 Encoded = List[Tuple[np.ndarray, np.ndarray]]
@@ -59,7 +59,7 @@ class Wishes:
             if kind is None:
                 kind, numbers = narrow(values)
             elif isinstance(kind, Kind):
-                numbers = kind.encode(values.values, values.valid)
+                numbers = encode(kind, values)
             else:
                 raise BadSchema(f"the kind of column {name!r} is given as one, such as Decimals('0.01'), and not as {kind!r}")
         except Misfit as why:

@@ -49,10 +49,14 @@ class Form:
         except (IndexError, OverflowError, ValueError):
             return number
 
+    def show(self, number: int) -> str:
+        """Returns the value that a number stands for as a text, and the number where that can't be told."""
+        return self.kind.show(number) if self.value(number) is not number else f"{number:,}"
+
     def misfit(self, column: str, row: int, number: int) -> BadRow:
         """Returns the refusal of a number that the column does not take."""
-        value = self.value(number)
-        return BadRow(column, row, value, f"{value} is not from {self.value(self.offset)} to {self.value(self.most)}")
+        reason = f"{self.show(number)} is not from {self.show(self.offset)} to {self.show(self.most)}"
+        return BadRow(column, row, self.value(number), reason)
 
     def of(self, kind: Kind) -> "Form":
         """Returns the same form for numbers that stand for another kind of value."""

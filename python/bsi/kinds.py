@@ -59,6 +59,7 @@ class Kind:
 
     names_values = False  # whether its numbers are no quantities, but places in a list
     takes = ""  # what its values are called in an error
+    unfit = ""  # what is wrong with a value that no number stands for
 
     def cut(self, constant: Any) -> Cut:
         """Returns where the constant lies among the column's numbers. Refuses one of another type by TypeError or ValueError."""
@@ -72,6 +73,10 @@ class Kind:
         """Returns the value that a number of the column stands for."""
         return number
 
+    def show(self, number: int) -> str:
+        """Returns the value that a number stands for as a text."""
+        return str(self.decode(number))
+
     def decode_sum(self, total: int) -> Any:
         """Returns what a sum of numbers stands for, or raises TypeError where such values have no sum."""
         raise TypeError(f"{self.takes} have no sum")
@@ -80,7 +85,7 @@ class Kind:
         """Returns the number that stands for a value, or raises TypeError or ValueError."""
         left, right = self.cut(value)
         if left == right:
-            raise ValueError(f"{shown(value)} is none of {self}")
+            raise ValueError(f"{shown(value)} {self.unfit}")
         return left
 
     def encode(self, values: np.ndarray, valid: np.ndarray) -> np.ndarray:
@@ -96,13 +101,20 @@ class Kind:
         return numbers_found
 
 
+def decimal_of(text: str) -> Decimal:
+    """Returns the number that a text spells, or raises ValueError."""
+    if not NUMBER.fullmatch(text):
+        raise ValueError(f"{shown(text)} is no number")
+    return Decimal(text)
+
+
 def fraction_of(constant: Any, read_float: Callable[[Any], Fraction] = Fraction) -> Fraction:
     """Returns the real number that a constant is, or one that stands as far out or as near to 0 for every column."""
     if isinstance(constant, np.generic) and constant.dtype.kind in "iub":
         constant = constant.item()
     if not isinstance(constant, (numbers.Rational, Decimal, float, np.floating)):
         raise TypeError(f"{shown(constant)} is no number")
-    if constant != constant:
+    if constant.is_nan() if isinstance(constant, Decimal) else constant != constant:
         raise ValueError("nan is no number; isnull() finds the nulls")
     if constant in (math.inf, -math.inf):
         return Fraction(FAR if constant > 0 else -FAR)
@@ -118,14 +130,16 @@ class Whole(Kind):
     """Whole numbers. Answers are ints. A float stands for the number that it is."""
 
     takes = "whole numbers"
+    unfit = "is no whole number"
 
     def cut(self, constant: Any) -> Cut:
         return cut_of(fraction_of(constant, lambda number: Fraction(float(number))))
 
-    def parse(self, text: str) -> Any:
-        if not NUMBER.fullmatch(text):
-            raise ValueError(f"{shown(text)} is no number")
-        return Decimal(text)
+    def parse(self, text: str) -> Decimal:
+        return decimal_of(text)
+
+    def show(self, number: int) -> str:
+        return f"{number:,}"
 
     def decode_sum(self, total: int) -> int:
         return total
@@ -152,7 +166,7 @@ def _whole_of_floats(values: np.ndarray, valid: np.ndarray) -> np.ndarray:
     kept = np.where(valid, values, 0)
     first_misfit(~(np.abs(kept) < 2.0**63), values, "is past 63 bits")
     found = kept.astype(np.int64)
-    first_misfit(found != kept, values, "is no whole number")
+    first_misfit(found != kept, values, Whole.unfit)
     return found
 
 
@@ -173,16 +187,12 @@ class Decimals(Kind):
     def cut(self, constant: Any) -> Cut:
         return cut_of(fraction_of(constant, lambda number: Fraction(str(number))) * 10**self.places)
 
-    def number(self, value: Any) -> int:
-        left, right = self.cut(value)
-        if left == right:
-            raise ValueError(f"{shown(value)} has more than {self.places} decimal places")
-        return left
+    @property
+    def unfit(self) -> str:  # type: ignore[override]
+        return f"has more than {self.places} decimal places"
 
     def parse(self, text: str) -> Decimal:
-        if not NUMBER.fullmatch(text):
-            raise ValueError(f"{shown(text)} is no number")
-        return Decimal(text)
+        return decimal_of(text)
 
     def decode(self, number: int) -> Decimal:
         return _decimal(number, self.places)
@@ -249,11 +259,9 @@ class Times(Kind):
             raise TypeError(f"{shown(constant)} has {'a' if is_aware else 'no'} time zone, and the column has {'one' if self.zone else 'none'}")
         return cut_of(Fraction(nanoseconds, NANOSECONDS[self.unit]))
 
-    def number(self, value: Any) -> int:
-        left, right = self.cut(value)
-        if left == right:
-            raise ValueError(f"{shown(value)} is no whole number of {UNITS[self.unit]}")
-        return left
+    @property
+    def unfit(self) -> str:  # type: ignore[override]
+        return f"is no whole number of {UNITS[self.unit]}"
 
     def parse(self, text: str) -> Any:
         return time_of(text)
@@ -261,11 +269,14 @@ class Times(Kind):
     def decode(self, number: int) -> Any:
         return _time(number * NANOSECONDS[self.unit], self.zone)
 
+    def show(self, number: int) -> str:
+        return str(self.decode(number))[:10] if self.unit == "D" else str(self.decode(number))
+
     def encode(self, values: np.ndarray, valid: np.ndarray) -> np.ndarray:
         if values.dtype.kind != "M":
             return super().encode(values, valid)
         found = values.astype(f"M8[{self.unit}]")
-        first_misfit(valid & (found.astype(values.dtype) != values), values, f"is no whole number of {UNITS[self.unit]}")
+        first_misfit(valid & (found.astype(values.dtype) != values), values, self.unfit)
         return np.where(valid, found.astype(np.int64), 0)
 
     def __str__(self) -> str:
@@ -387,10 +398,9 @@ class Texts(Kind):
             raise ValueError(f"{shown(constant)} is none of the texts, whose order was given")
         return bisect_left(self.values, constant), bisect_right(self.values, constant)
 
-    def number(self, value: Any) -> int:
-        if isinstance(value, str) and value not in self.places:
-            raise ValueError(f"{shown(value)} is none of its {len(self.values)} texts")
-        return super().number(value)
+    @property
+    def unfit(self) -> str:  # type: ignore[override]
+        return f"is none of its {len(self.values)} texts"
 
     def parse(self, text: str) -> str:
         return text

@@ -18,6 +18,15 @@ MOST_PLACES, MOST_TEXTS = 6, 1024
 Narrowed = Tuple[Optional[Kind], np.ndarray]
 
 
+def encode(kind: Kind, given: Values) -> np.ndarray:
+    """Returns the numbers that stand for the values under a kind that is known. The first other value is a Misfit."""
+    if given.values.dtype.kind == "M" and isinstance(kind, Times) and (given.zone is None) != (kind.zone is None) and given.valid.any():
+        row = int(given.valid.argmax())
+        reason = "has no time zone, and the column has one" if given.zone is None else "has a time zone, and the column has none"
+        raise Misfit(row, given.values[row], f"{shown(given.values[row])} {reason}")
+    return kind.encode(given.values, given.valid)
+
+
 def narrow(given: Values) -> Narrowed:
     """Returns the narrowest kind of the values and the numbers that stand for them. The first value that fits in none is a Misfit."""
     values, valid = given.values, given.valid

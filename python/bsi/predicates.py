@@ -49,6 +49,7 @@ class Predicate:
     """Terms in postfix order: comparisons, tests for null, and the words all, and, or, not."""
 
     __slots__ = ("terms",)
+    __array_ufunc__ = None  # (NumPy leaves operators to this class)
     terms: Tuple[Term, ...]
 
     def __init__(self, terms: Iterable[Term]):
@@ -106,6 +107,7 @@ class Column:
     """A column by its name, to be compared with constants of the column's own type."""
 
     __slots__ = ("name",)
+    __array_ufunc__ = None  # (NumPy leaves comparisons to this class)
     name: str
 
     def __init__(self, name: str):

@@ -3,8 +3,8 @@
     count [P]    rows [P]    sum COLUMN [P]    least COLUMN [P]    greatest COLUMN [P]    median COLUMN [P]
 
 P is made of `COLUMN SIGN CONSTANT` with one of = == != < <= > >=, `COLUMN null`, `COLUMN not null`, `all`, `and`, `or`, `not` and brackets;
-`where` may stand before it. `not` binds closest, then `and`. A name or a constant that is no plain word stands in quotes: "Amount (EUR)",
-'Okafor, Ada'; a quote within them is written twice. Constants are read as the column's own kind: 100, 12.50, 2026-01-31, true, Meyer.
+`where` may stand before it. `not` binds closest, then `and`. A name or a constant that is no plain word, or one of these words, stands in
+quotes: "Amount (EUR)", 'Okafor, Ada'; a quote within them is written twice. Constants are read as the column's own kind: 100, 12.50, 2026-01-31, true, Meyer.
 """
 
 from __future__ import annotations

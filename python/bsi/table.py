@@ -11,12 +11,13 @@ from typing import Any, Dict, List, Mapping, Optional, Sequence, Tuple, Union
 
 import numpy as np
 
-from .errors import BadColumns, BadQuery, BadRow, BadSchema, IndexFull, NoMemory
+from .errors import BadColumns, BadQuery, BadRow, BadSchema, Error, IndexFull, NoMemory
 from .forms import Form
-from .kinds import FAR, Misfit
+from .kinds import FAR, Flags, Misfit
+from .narrowing import encode
 from .native import BAD_ROW, INDEX_FULL, NO_MEMORY, Entries, Handle, check
-from .progress import Progress, told
 from .predicates import Column, Comparison, Null, Predicate, all_rows
+from .progress import Progress, told
 from .values import columns_of, values_of
 
 NAME = re.compile(r"[a-z][a-z0-9_]{0,31}")
@@ -86,11 +87,15 @@ class Table:
         return self._store.rows()
 
     def __repr__(self) -> str:
-        rows = self._store.rows()
+        try:
+            rows = self._store.rows()
+        except Error as why:
+            return f"{type(self).__name__} with the columns {', '.join(self._forms)}: {why}"
         size = (sum(form.bitmaps for form in self._forms.values()) + 8) * rows / 8
         width = max(map(len, self._forms))
-        lines = [f"  {name:{width}}  {form!s:24}  {form.kind}{_span(form)}" for name, form in self._forms.items()]
-        return "\n".join([f"{type(self).__name__} of {rows:,} rows, {_bytes(size)} as estimated by form", *lines])
+        texts = max(len(str(form)) for form in self._forms.values())
+        lines = [f"  {name:{width}}  {form!s:{texts}}  {form.kind}{_span(form)}" for name, form in self._forms.items()]
+        return "\n".join([f"{type(self).__name__} of {rows:,} rows, about {_bytes(size)}", *lines])
 
     # ---- Rows ----
 
@@ -110,12 +115,8 @@ class Table:
         encoded = []
         for name, form in self._forms.items():
             found = values_of(name, given[name])
-            if found.zone is not None and getattr(form.kind, "zone", found.zone) is None:
-                raise BadColumns(f"column {name!r}: its times have no zone, and those given have one")
-            if found.zone is None and found.values.dtype.kind == "M" and getattr(form.kind, "zone", None) is not None:
-                raise BadColumns(f"column {name!r}: its times have a zone, and those given have none")
             try:
-                encoded.append((form.kind.encode(found.values, found.valid), found.valid))
+                encoded.append((encode(form.kind, found), found.valid))
             except Misfit as why:
                 raise BadRow(name, why.row, why.value, why.reason) from None
         if len({len(numbers) for numbers, _ in encoded}) > 1:
@@ -128,8 +129,7 @@ class Table:
         if status == BAD_ROW:
             raise self._misfit(encoded, row)
         if status == INDEX_FULL:
-            room = self._limit - self._store.rows()
-            raise IndexFull(f"row {room:,} is past the limit of {self._limit:,} rows; none was appended", room)
+            self._refuse_full(len(encoded[0][0]))
         if status == NO_MEMORY:
             raise NoMemory(f"memory was refused; {row:,} rows were appended", row)
         check(status)
@@ -138,10 +138,17 @@ class Table:
     def _fill(self, encoded: Sequence[Tuple[np.ndarray, np.ndarray]], progress: Progress) -> None:
         """Appends many rows in blocks, and tells the progress."""
         rows = len(encoded[0][0])
+        self._refuse_full(rows)
         with told(progress, rows, "rows") as tell:
             for start in range(0, rows, BLOCK):
                 self._append([(numbers[start : start + BLOCK], valid[start : start + BLOCK]) for numbers, valid in encoded])
                 tell(min(start + BLOCK, rows))
+
+    def _refuse_full(self, more: int) -> None:
+        """Refuses so many further rows where they leave the limit. The row that is named is that of the data given."""
+        room = self._limit - self._store.rows()
+        if more > room:
+            raise IndexFull(f"row {room:,} is past the limit of {self._limit:,} rows; none was appended", room)
 
     def _misfit(self, encoded: Sequence[Tuple[np.ndarray, np.ndarray]], row: int) -> BadRow:
         """Returns which column does not take its number in a row that the library refused."""
@@ -266,10 +273,9 @@ def _entries(numbers: np.ndarray, valid: np.ndarray) -> Entries:
 
 
 def _span(form: Form) -> str:
-    low, high = form.value(form.offset), form.value(form.most)
-    if form.kind.names_values or isinstance(low, bool):
-        return ""
-    return f", {low:,} to {high:,}" if isinstance(low, int) else f", {low} to {high}"
+    """Returns the ends of the column as a text, where they are no matter of course."""
+    is_known = form.kind.names_values or form.kind == Flags()
+    return "" if is_known else f", {form.show(form.offset)} to {form.show(form.most)}"
 
 
 def _bytes(size: float) -> str:

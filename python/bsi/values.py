@@ -98,9 +98,9 @@ def _of_array(array: np.ndarray, hidden: Optional[np.ndarray] = None) -> Values:
     raise BadColumns(f"an array of {array.dtype} is none of numbers, times, booleans or texts")
 
 
-def _of_arrow(values: np.ndarray, valid: np.ndarray, zone: Any) -> Values:
+def _of_arrow(values: np.ndarray, valid: np.ndarray, zone: Any, order: Optional[Tuple[str, ...]]) -> Values:
     found = _of_array(values, ~valid)
-    return found._replace(valid=found.valid & valid, zone=zone)
+    return found._replace(valid=found.valid & valid, zone=zone, order=order)
 
 
 def _of_pandas(pandas: Any, series: Any) -> Values:
