@@ -8,7 +8,8 @@
 >>> index.count((p < 200) | p.isnull())
 2
 
-`Index.from_frame` and `read_csv` take data as it is; `Parts` splits rows over threads, and `bsi.dask` over the workers of a cluster.
+`Index.from_frame` and `read_csv` take data as it is; `Parts` splits rows over threads, and `bsi.dask` over the workers
+of a cluster.
 """
 
 from .errors import (
@@ -38,7 +39,36 @@ from .reading import read_csv
 
 # (`range` is left out, so that an import of all names hides none of Python's own)
 __all__ = [
-    "BadColumns", "BadFeeder", "BadQuery", "BadRow", "BadSchema", "BadText", "Closed", "Column", "Decimals", "Error", "Flags", "Form",
-    "Index", "IndexFull", "Kind", "LostWorker", "NoColumns", "NoMemory", "NoRoom", "Open", "Parts", "Predicate", "Shared", "Texts",
-    "Times", "Whole", "all_rows", "ask", "col", "equality", "read_csv", "slices",
-]  # fmt: skip
+    "BadColumns",
+    "BadFeeder",
+    "BadQuery",
+    "BadRow",
+    "BadSchema",
+    "BadText",
+    "Closed",
+    "Column",
+    "Decimals",
+    "Error",
+    "Flags",
+    "Form",
+    "Index",
+    "IndexFull",
+    "Kind",
+    "LostWorker",
+    "NoColumns",
+    "NoMemory",
+    "NoRoom",
+    "Open",
+    "Parts",
+    "Predicate",
+    "Shared",
+    "Texts",
+    "Times",
+    "Whole",
+    "all_rows",
+    "ask",
+    "col",
+    "equality",
+    "read_csv",
+    "slices",
+]

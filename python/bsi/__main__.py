@@ -1,7 +1,8 @@
 """python -m bsi FILE.. [QUESTION..]
 
-Reads CSV or Parquet files, says how it keeps their columns, and answers the questions. At a terminal it then waits for further ones, one a
-line; where no question is given, it reads them from standard input. The questions are those of bsi.questions:
+Reads CSV or Parquet files, says how it keeps their columns, and answers the questions. At a terminal it then waits for
+further ones, one a line; where no question is given, it reads them from standard input. The questions are those of
+bsi.questions:
 
     count price < 100 and temp null
     median "Amount (EUR)" Ordered >= 2026-01-31
@@ -24,11 +25,20 @@ MOST_SHOWN = 20
 
 def _arguments(words: Optional[List[str]]) -> Any:
     _, _, rest = (__doc__ or "").partition("\n\n")
-    parser = argparse.ArgumentParser(prog="python -m bsi", usage="python -m bsi [OPTION..] FILE.. [QUESTION..]", description=rest, formatter_class=argparse.RawDescriptionHelpFormatter)
+    parser = argparse.ArgumentParser(
+        prog="python -m bsi",
+        usage="python -m bsi [OPTION..] FILE.. [QUESTION..]",
+        description=rest,
+        formatter_class=argparse.RawDescriptionHelpFormatter,
+    )
     parser.add_argument("words", nargs="+", metavar="WORD", help="files, and then questions about their rows")
     parser.add_argument("--columns", metavar="NAME,..", help="the columns that are wanted; all where it is not given")
-    parser.add_argument("--text", metavar="NAME,..", default="", help="columns that hold texts, whatever they look like")
-    parser.add_argument("--null", metavar="FIELD", action="append", default=[""], help="a further field that stands for a null")
+    parser.add_argument(
+        "--text", metavar="NAME,..", default="", help="columns that hold texts, whatever they look like"
+    )
+    parser.add_argument(
+        "--null", metavar="FIELD", action="append", default=[""], help="a further field that stands for a null"
+    )
     parser.add_argument("--parts", metavar="N", type=int, default=1, help="splits the rows over N threads")
     return parser.parse_intermixed_args(words)
 

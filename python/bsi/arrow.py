@@ -16,8 +16,27 @@ import numpy as np
 
 from .errors import BadColumns
 
-NUMBERS = {"c": "i1", "C": "u1", "s": "i2", "S": "u2", "i": "i4", "I": "u4", "l": "i8", "L": "u8", "e": "f2", "f": "f4", "g": "f8"}
-TIMES = {"tdD": ("i4", "D"), "tdm": ("i8", "ms"), "tss:": ("i8", "s"), "tsm:": ("i8", "ms"), "tsu:": ("i8", "us"), "tsn:": ("i8", "ns")}
+NUMBERS = {
+    "c": "i1",
+    "C": "u1",
+    "s": "i2",
+    "S": "u2",
+    "i": "i4",
+    "I": "u4",
+    "l": "i8",
+    "L": "u8",
+    "e": "f2",
+    "f": "f4",
+    "g": "f8",
+}
+TIMES = {
+    "tdD": ("i4", "D"),
+    "tdm": ("i8", "ms"),
+    "tss:": ("i8", "s"),
+    "tsm:": ("i8", "ms"),
+    "tsu:": ("i8", "us"),
+    "tsn:": ("i8", "ns"),
+}
 # Values, which of them are valid, the time zone of times, and the order of the texts of an ordered dictionary.
 Read = Tuple[np.ndarray, np.ndarray, Any, Optional[Tuple[str, ...]]]
 ORDERED = 1
@@ -32,14 +51,28 @@ class _Array(Structure):
 
 
 _Schema._fields_ = [
-    ("format", c_char_p), ("name", c_char_p), ("metadata", c_char_p), ("flags", c_int64), ("n_children", c_int64),
-    ("children", POINTER(POINTER(_Schema))), ("dictionary", POINTER(_Schema)), ("release", c_void_p), ("private_data", c_void_p),
-]  # fmt: skip
-_Array._fields_ = [
-    ("length", c_int64), ("null_count", c_int64), ("offset", c_int64), ("n_buffers", c_int64), ("n_children", c_int64),
-    ("buffers", POINTER(c_void_p)), ("children", POINTER(POINTER(_Array))), ("dictionary", POINTER(_Array)), ("release", c_void_p),
+    ("format", c_char_p),
+    ("name", c_char_p),
+    ("metadata", c_char_p),
+    ("flags", c_int64),
+    ("n_children", c_int64),
+    ("children", POINTER(POINTER(_Schema))),
+    ("dictionary", POINTER(_Schema)),
+    ("release", c_void_p),
     ("private_data", c_void_p),
-]  # fmt: skip
+]
+_Array._fields_ = [
+    ("length", c_int64),
+    ("null_count", c_int64),
+    ("offset", c_int64),
+    ("n_buffers", c_int64),
+    ("n_children", c_int64),
+    ("buffers", POINTER(c_void_p)),
+    ("children", POINTER(POINTER(_Array))),
+    ("dictionary", POINTER(_Array)),
+    ("release", c_void_p),
+    ("private_data", c_void_p),
+]
 
 _pointer_of = ctypes.pythonapi.PyCapsule_GetPointer
 _pointer_of.argtypes, _pointer_of.restype = [ctypes.py_object, c_char_p], c_void_p
@@ -68,8 +101,9 @@ def struct_of(data: Any) -> List[Tuple[str, Read]]:
         raise BadColumns("rows come as an Arrow record batch, and not as one array")
     hidden, found = ~_validity(array), []
     for place in range(schema.n_children):
-        values, valid, *rest = _read(schema.children[place].contents, array.children[place].contents, array.offset, array.length)
-        found.append(((schema.children[place].contents.name or b"").decode(), (values, valid & ~hidden, *rest)))
+        field, column = schema.children[place].contents, array.children[place].contents
+        values, valid, zone, order = _read(field, column, array.offset, array.length)
+        found.append(((field.name or b"").decode(), (values, valid & ~hidden, zone, order)))
     return found
 
 
@@ -82,7 +116,7 @@ def _bytes(array: _Array, place: int, size: int) -> np.ndarray:
         return np.empty(0, np.uint8)
     if not address:
         raise BadColumns("the Arrow array has no values")
-    return np.frombuffer((ctypes.c_uint8 * size).from_address(address), np.uint8)
+    return np.ctypeslib.as_array((ctypes.c_uint8 * size).from_address(address))
 
 
 def _bits(array: _Array, place: int, start: int, length: int) -> np.ndarray:

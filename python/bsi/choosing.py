@@ -1,4 +1,5 @@
-"""Which form each column of a user's own data gets: from the numbers that stand for its values, slices of the least width and an offset."""
+"""Which form each column of a user's own data gets: from the numbers that stand for its values, slices of the least
+width and an offset."""
 
 from __future__ import annotations
 
@@ -6,22 +7,27 @@ from typing import Any, Dict, Iterable, List, Mapping, NamedTuple, Optional, Tup
 
 import numpy as np
 
-from .errors import BadColumns, BadRow, BadSchema
+from .errors import BadColumns, BadRow, BadSchema, Error
 from .forms import LEAST, MOST, Form, narrowest
-from .kinds import Kind, Misfit, Whole
-from .narrowing import encode, joined, narrow, recode
+from .kinds import Kind, Misfit, Texts, Whole
+from .narrowing import MOST_TEXTS, encode, joined, narrow, recode, too_many_texts
 from .values import Values, columns_of, values_of
 
 Encoded = List[Tuple[np.ndarray, np.ndarray]]
 
 
 class Block(NamedTuple):
-    """Numbers of a run of rows of one column, which of them are valid, what they stand for, and the first row's number."""
+    """Numbers of a run of rows of one column, which of them are valid, what they stand for, and the first row's
+    number."""
 
     kind: Optional[Kind]
     numbers: np.ndarray
     valid: np.ndarray
     row: int = 0
+
+    def value(self, row: int) -> Any:
+        """Returns what a number of the block stands for."""
+        return (self.kind or Whole()).decode(int(self.numbers[row]))
 
 
 def wanted_of(columns: Optional[Iterable[str]], names: List[str]) -> List[str]:
@@ -45,10 +51,14 @@ class Wishes:
         self.kinds, self.forms = dict(kinds or {}), dict(forms or {})
         for name in [*self.kinds, *self.forms]:
             if name not in names:
-                raise BadColumns(f"a kind or form is given for {name!r}, and the columns are {', '.join(map(repr, names))}")
+                raise BadColumns(
+                    f"a kind or form is given for {name!r}, and the columns are {', '.join(map(repr, names))}"
+                )
         for name, form in self.forms.items():
             if not isinstance(form, Form):
-                raise BadSchema(f"the form of column {name!r} is slices(..), range(..) or equality(..), and not {form!r}")
+                raise BadSchema(
+                    f"the form of column {name!r} is slices(..), range(..) or equality(..), and not {form!r}"
+                )
             if form.kind != Whole():
                 self.kinds.setdefault(name, form.kind)
 
@@ -61,7 +71,9 @@ class Wishes:
             elif isinstance(kind, Kind):
                 numbers = encode(kind, values)
             else:
-                raise BadSchema(f"the kind of column {name!r} is given as one, such as Decimals('0.01'), and not as {kind!r}")
+                raise BadSchema(
+                    f"the kind of column {name!r} is given as one, such as Decimals('0.01'), and not as {kind!r}"
+                )
         except Misfit as why:
             raise BadRow(name, row + why.row, why.value, why.reason) from None
         return Block(kind, numbers, values.valid, row)
@@ -72,7 +84,8 @@ class Wishes:
         if name in self.forms:
             return self.forms[name].of(kind)
         if high - low >= 1 << 63:
-            raise BadSchema(f"column {name!r}: from {kind.decode(low)} to {kind.decode(high)} are more than the 2^63 values that a column takes")
+            ends = f"from {kind.show(low)} to {kind.show(high)}"
+            raise BadSchema(f"column {name!r}: {ends} are more than the 2^63 values that a column takes")
         return narrowest(kind, low, high)
 
 
@@ -80,27 +93,42 @@ def kind_of(name: str, blocks: Iterable[Block]) -> Optional[Kind]:
     """Returns the kind that keeps what all blocks keep."""
     kind: Optional[Kind] = None
     for block in blocks:
+        before = kind
         try:
-            kind = joined(kind, block.kind)
+            kind = joined(before, block.kind)
         except TypeError as why:
             row = int(block.valid.argmax())
-            raise BadRow(name, block.row + row, block.kind.decode(int(block.numbers[row])), str(why)) from None
+            raise BadRow(name, block.row + row, block.value(row), str(why)) from None
+        if isinstance(kind, Texts) and kind not in (before, block.kind) and len(kind.values) > MOST_TEXTS:
+            raise _too_many_texts(name, dict.fromkeys(getattr(before, "values", ())), block)
     return kind
 
 
-def settled(name: str, blocks: List[Block], wishes: Wishes) -> Tuple[Form, Tuple[np.ndarray, np.ndarray]]:
-    """Returns the form of a column, and its numbers of all blocks under one kind."""
+def _too_many_texts(name: str, found: Dict[str, None], block: Block) -> Error:
+    """Returns which text of the block is one too many."""
+    for row in np.flatnonzero(block.valid).tolist():
+        found[block.value(row)] = None
+        if len(found) > MOST_TEXTS:
+            return BadRow(name, block.row + row, block.value(row), too_many_texts(block.value(row)))
+    return BadColumns(f"column {name!r} has more than {MOST_TEXTS:,} different texts; leave it out")
+
+
+def settled(
+    name: str, blocks: List[Block], wishes: Wishes, checked: bool = False
+) -> Tuple[Form, Tuple[np.ndarray, np.ndarray]]:
+    """Returns the form of a column, and its numbers of all blocks under one kind. Where the numbers are `checked`
+    elsewhere, those that a form which was given does not take are not refused here."""
     kind = kind_of(name, blocks)
     parts = []
     for block in blocks:
         try:
             parts.append(recode(block.numbers, block.valid, block.kind, kind))
         except Misfit as why:
-            raise BadRow(name, block.row + why.row, block.kind.decode(int(why.value)), why.reason) from None
+            raise BadRow(name, block.row + why.row, block.value(why.row), why.reason) from None
     numbers = parts[0] if len(parts) == 1 else np.concatenate(parts)
     valid = blocks[0].valid if len(blocks) == 1 else np.concatenate([block.valid for block in blocks])
     form = wishes.form(name, kind, *ends_of(numbers, valid))
-    if name in wishes.forms:
+    if name in wishes.forms and not checked:
         refuse_misfit(name, form, numbers, valid)
     return form, (numbers, valid)
 
@@ -129,5 +157,7 @@ def chosen(
     found = {name: settled(name, [wishes.block(name, values_of(name, given[name]))], wishes) for name in wanted}
     lengths = {name: len(numbers) for name, (_, (numbers, _)) in found.items()}
     if len(set(lengths.values())) > 1:
-        raise BadColumns(f"the columns differ in length: {', '.join(f'{name!r} {length:,}' for name, length in lengths.items())}")
+        raise BadColumns(
+            f"the columns differ in length: {', '.join(f'{name!r} {length:,}' for name, length in lengths.items())}"
+        )
     return {name: form for name, (form, _) in found.items()}, [encoded for _, encoded in found.values()]

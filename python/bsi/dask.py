@@ -1,4 +1,5 @@
-"""Rows over the workers of a Dask cluster: an actor on each worker keeps the index of its partitions, and only numbers leave it.
+"""Rows over the workers of a Dask cluster: an actor on each worker keeps the index of its partitions, and only numbers
+leave it.
 
     import bsi.dask
     rows = bsi.dask.from_frame(frame)          # a Dask frame, and the client at hand
@@ -16,13 +17,12 @@ import dask
 import numpy as np
 from distributed import Client, get_client, wait
 
-from .choosing import Block, Wishes, ends_of, kind_of, wanted_of
+from .choosing import Block, Wishes, ends_of, refuse_misfit, settled, wanted_of
 from .errors import BadRow, Error, IndexFull, LostWorker
 from .forms import Form
 from .gathered import Gathered
 from .index import Index
-from .kinds import Kind, Misfit
-from .narrowing import recode
+from .kinds import Kind
 from .table import MOST_ROWS, Table
 from .values import columns_of, values_of
 
@@ -32,15 +32,29 @@ Survey = Tuple[Dict[str, Block], int]
 
 
 def _survey(frame: Any, wanted: List[str], kinds: Any, forms: Any) -> Union[Survey, Error]:
-    """Looks at a partition, on its worker. A refusal is returned, so that the first one of all partitions can be told."""
+    """Looks at a partition, on its worker. A refusal is returned, so that the first one of all partitions can be
+    told."""
     try:
         wishes, ends, given = Wishes(wanted, kinds, forms), {}, columns_of(frame)
         for name in wanted:
             block = wishes.block(name, values_of(name, given[name]))
-            ends[name] = Block(block.kind, np.array(ends_of(block.numbers, block.valid)), np.full(2, block.valid.any()))
+            two, first = np.array(ends_of(block.numbers, block.valid)), int(np.argmax(block.valid)) if len(frame) else 0
+            ends[name] = Block(block.kind, two, np.full(2, block.valid.any()), first)
         return ends, len(frame)
     except Error as why:
         return why
+
+
+def _misfit(frame: Any, forms: Mapping[str, Form]) -> Optional[BadRow]:
+    """Returns the first value of a partition that a form which was given does not take, on the partition's worker."""
+    given = columns_of(frame)
+    try:
+        for name, form in forms.items():
+            values = values_of(name, given[name])
+            refuse_misfit(name, form, form.kind.encode(values.values, values.valid), values.valid)
+    except BadRow as why:
+        return why
+    return None
 
 
 class Part:
@@ -83,7 +97,8 @@ class _Actors(Gathered):
             raise LostWorker(self._lost) from None
 
     def _answer(self, actor: _Actor, future: Any) -> Any:
-        """Returns an actor's answer. Dask may wait for ever for a lost worker, so this looks from time to time whether it is there."""
+        """Returns an actor's answer. Dask may wait for ever for a lost worker, so this looks from time to time whether
+        it is there."""
         while True:
             try:
                 return future.result(timeout=SECONDS)
@@ -101,7 +116,8 @@ def _addresses(client: Client) -> set:
 
 
 class Workers(Table):
-    """Rows over the workers of a cluster, as `from_frame` makes them. Questions are those of an Index, and take no rows further."""
+    """Rows over the workers of a cluster, as `from_frame` makes them. Questions are those of an Index, and take no rows
+    further."""
 
     def append(self, data: Any) -> int:
         raise TypeError("an index over workers takes no further rows: make it of a frame that has them")
@@ -116,56 +132,63 @@ def from_frame(
     limit: Optional[int] = None,
     client: Optional[Client] = None,
 ) -> Workers:
-    """Makes an index on each worker over the partitions of a Dask frame, and chooses kinds, widths and offsets from the data of all.
+    """Makes an index on each worker over the partitions of a Dask frame, and chooses kinds, widths and offsets from the
+    data of all.
 
-    A partition stays on the worker that has it, as far as all get about as many. Rows keep the order of the partitions."""
-    method = dask.config.get("distributed.worker.multiprocessing-method", "spawn")
-    if method == "fork":
-        raise ValueError("workers must be spawned and not forked: set distributed.worker.multiprocessing-method to spawn")
+    A partition stays on the worker that has it, as far as all get about as many. Rows keep the order of the partitions.
+    """
+    if dask.config.get("distributed.worker.multiprocessing-method", "spawn") == "fork":
+        raise ValueError("workers are spawned and not forked: set distributed.worker.multiprocessing-method to spawn")
     client = client or get_client()
     wanted = wanted_of(columns, list(frame.columns))
     wishes = Wishes(wanted, kinds, forms)
     partitions = client.compute(frame.to_delayed())
-    surveys = client.gather(client.map(_survey, partitions, wanted=wanted, kinds=wishes.kinds, forms=wishes.forms, pure=False))
-    found, rows = _merged(surveys, wishes, wanted)
+    asked = {"wanted": wanted, "kinds": wishes.kinds, "forms": wishes.forms}
+    surveys = client.gather(client.map(_survey, partitions, pure=False, **asked))
+    rows = [0 if isinstance(survey, Error) else survey[1] for survey in surveys]
+    _refuse(surveys, rows)
+    found = {name: _form(name, [ends[name] for ends, _ in surveys], rows, wishes) for name in wanted}
+    if wishes.forms:
+        given = {name: found[name] for name in wishes.forms}
+        _refuse(client.gather(client.map(_misfit, partitions, forms=given, pure=False)), rows)
     if limit is not None and sum(rows) > limit:
         raise IndexFull(f"row {limit:,} is past the limit of {limit:,} rows; no index was made", limit)
     places = _places(client, partitions)
-    parts = sorted(set(places))
-    futures = [
-        client.submit(Part, found, [one for one, at in zip(partitions, places) if at == part], actor=True, workers=[part], pure=False)
-        for part in parts
-    ]
-    wait(futures)
-    store = _Actors(client, [_Actor(part, future.result()) for part, future in zip(parts, futures)])
-    store.runs = [(parts.index(place), count) for place, count in zip(places, rows)]
-    return Workers(found, MOST_ROWS * len(parts) if limit is None else limit, store)
+    return Workers(found, MOST_ROWS if limit is None else limit, _store(client, found, partitions, places, rows))
 
 
-def _merged(surveys: List[Any], wishes: Wishes, wanted: List[str]) -> Tuple[Dict[str, Form], List[int]]:
-    """Returns the form of each column over all partitions, and how many rows each partition has."""
-    rows: List[int] = []
-    for survey in surveys:
-        if isinstance(survey, BadRow):
-            raise BadRow(survey.column, sum(rows) + survey.row, survey.value, survey.reason, f" (partition {len(rows)})")
-        if isinstance(survey, Error):
-            raise survey
-        rows.append(survey[1])
-    return {name: _form(name, [ends[name] for ends, _ in surveys], wishes) for name in wanted}, rows
+def _refuse(answers: List[Any], rows: List[int]) -> None:
+    """Raises the first refusal of the partitions, with the number that its row has among all."""
+    for place, answer in enumerate(answers):
+        if isinstance(answer, BadRow):
+            row, where = sum(rows[:place]) + answer.row, f" (partition {place})"
+            raise BadRow(answer.column, row, answer.value, answer.reason, where)
+        if isinstance(answer, Error):
+            raise answer
 
 
-def _form(name: str, ends: List[Block], wishes: Wishes) -> Form:
-    ends = [block for block in ends if block.valid.any()]
-    kind, numbers = kind_of(name, ends), [0]
-    try:
-        numbers = [int(end) for block in ends for end in recode(block.numbers, block.valid, block.kind, kind)] or [0]
-    except Misfit as why:
-        raise BadRow(name, 0, why.value, why.reason) from None
-    return wishes.form(name, kind, min(numbers), max(numbers))
+def _store(client: Client, forms: Any, partitions: List[Any], places: List[str], rows: List[int]) -> _Actors:
+    """Makes an actor on each worker, over the partitions that have their place there."""
+    workers = sorted(set(places))
+    shares = [[one for one, place in zip(partitions, places) if place == worker] for worker in workers]
+    how = {"actor": True, "pure": False}
+    futures = [client.submit(Part, forms, share, workers=[worker], **how) for worker, share in zip(workers, shares)]
+    store = _Actors(client, [_Actor(worker, future.result()) for worker, future in zip(workers, futures)])
+    store.runs = [(workers.index(place), count) for place, count in zip(places, rows)]
+    return store
+
+
+def _form(name: str, ends: List[Block], rows: List[int], wishes: Wishes) -> Form:
+    """Returns the form of a column over all partitions, of each of which the two ends are known."""
+    starts = [sum(rows[:place]) for place in range(len(rows))]
+    there = [block._replace(row=start + block.row) for start, block in zip(starts, ends) if block.valid.any()]
+    form, _ = settled(name, there or ends, wishes, checked=True)
+    return form
 
 
 def _places(client: Client, partitions: List[Any]) -> List[str]:
-    """Returns for each partition the worker that keeps its rows: one that has it, unless that one has its share already."""
+    """Returns for each partition the worker that keeps its rows: one that has it, unless that one has its share
+    already."""
     wait(partitions)
     workers, holders = sorted(_addresses(client)), client.who_has(partitions)
     load, share = dict.fromkeys(workers, 0), -(-len(partitions) // len(workers))

@@ -2,7 +2,7 @@
 
 from __future__ import annotations
 
-from typing import Any, Optional
+from typing import Any, Dict, Optional, Tuple, Type
 
 
 class Error(Exception):
@@ -115,7 +115,8 @@ class LostWorker(Error):
     """A worker that keeps a part of the rows is gone, and its part with it."""
 
 
-BY_STATUS = {
-    kind.status: kind
-    for kind in (Closed, Open, NoMemory, BadSchema, NoColumns, BadFeeder, BadColumns, BadRow, IndexFull, Shared, BadQuery, NoRoom, BadText)
-}
+_KINDS: Tuple[Type[Error], ...] = (
+    Closed, Open, NoMemory, BadSchema, NoColumns, BadFeeder, BadColumns, BadRow, IndexFull, Shared, BadQuery, NoRoom,
+    BadText,
+)  # fmt: skip
+BY_STATUS: Dict[Optional[int], Type[Error]] = {kind.status: kind for kind in _KINDS}

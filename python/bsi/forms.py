@@ -1,4 +1,5 @@
-"""The forms of a column: bit slices, and digits under bases, range or equality encoded. docs/GUIDE.md says how to choose one."""
+"""The forms of a column: bit slices, and digits under bases, range or equality encoded. docs/GUIDE.md says how to
+choose one."""
 
 from __future__ import annotations
 
@@ -14,8 +15,8 @@ LEAST, MOST = -(1 << 63), (1 << 63) - 1
 
 @dataclass(frozen=True)
 class Form:
-    """How a column is kept: the word of its form, its width or its bases, the least number that it takes, and what its numbers stand
-    for."""
+    """How a column is kept: the word of its form, its width or its bases, the least number that it takes, and what its
+    numbers stand for."""
 
     word: str
     sizes: Tuple[int, ...]
@@ -43,7 +44,8 @@ class Form:
         return sum(1 if base == 2 else base for base in self.sizes) + places + 1
 
     def value(self, number: int) -> Any:
-        """Returns the value that a number stands for, and the number where that can't be told, as past an end of the column."""
+        """Returns the value that a number stands for, and the number where that can't be told, as past an end of the
+        column."""
         try:
             return self.kind.decode(number)
         except (IndexError, OverflowError, ValueError):
@@ -78,12 +80,14 @@ def slices(width: int, *, offset: int = 0, kind: Kind = Whole()) -> Form:
 
 
 def range(*bases: int, offset: int = 0, kind: Kind = Whole()) -> Form:
-    """Range encoded digits under these bases, most significant first, for as many numbers as their product. A base: 2 to 1,024."""
+    """Range encoded digits under these bases, most significant first, for as many numbers as their product. A base: 2
+    to 1,024."""
     return Form("range", _whole(bases), _whole([offset])[0], kind)
 
 
 def equality(*bases: int, offset: int = 0, kind: Kind = Whole()) -> Form:
-    """Equality encoded digits under these bases, most significant first, for as many numbers as their product. A base: 2 to 1,024."""
+    """Equality encoded digits under these bases, most significant first, for as many numbers as their product. A base:
+    2 to 1,024."""
     return Form("equality", _whole(bases), _whole([offset])[0], kind)
 
 
@@ -92,7 +96,8 @@ def _whole(numbers) -> Tuple[int, ...]:
 
 
 def narrowest(kind: Kind, low: int, high: int) -> Form:
-    """Returns the smallest form for the numbers from `low` to `high`: slices, and equality encoding for a text of few values."""
+    """Returns the smallest form for the numbers from `low` to `high`: slices, and equality encoding for a text of few
+    values."""
     count = high - low + 1
     if kind.names_values and 3 <= count <= 32:
         return equality(count, offset=low, kind=kind)

@@ -11,10 +11,11 @@ Fields = Sequence[bytes]
 
 
 class Gathered:
-    """A store whose rows lie in several parts. `each` makes a call of every part, at the same time, and returns what they answered.
+    """A store whose rows lie in several parts. `each` makes a call of every part, at the same time, and returns what
+    they answered.
 
-    A lower median is found by counts: it is the least number with at least half of the numbers at or below it. A round asks for the counts
-    at `bounds` numbers at once, so it leaves one in bounds + 1 of those that are possible."""
+    A lower median is found by counts: it is the least number with at least half of the numbers at or below it. A round
+    asks for the counts at `bounds` numbers at once, so it leaves one in bounds + 1 of those that are possible."""
 
     def __init__(self, each: Callable[..., List[Any]], bounds: int):
         self._each, self._bounds = each, bounds
@@ -56,7 +57,10 @@ class Gathered:
 
     def select(self, fields: Fields) -> Tuple[np.ndarray, int]:
         with self.lock:
-            bits = [np.unpackbits(words.view(np.uint8), count=rows, bitorder="little") for words, rows in self._each("select", fields)]
+            bits = [
+                np.unpackbits(words.view(np.uint8), count=rows, bitorder="little")
+                for words, rows in self._each("select", fields)
+            ]
             taken, runs = [0] * len(bits), []
             for part, rows in self.runs:
                 runs.append(bits[part][taken[part] : taken[part] + rows])

@@ -23,7 +23,8 @@ class Index(Table):
     >>> index.median("price", ~bsi.col.temp.isnull())
     100
 
-    Each call has the index alone while it runs. `share` opens it once more, for another thread to ask at the same time."""
+    Each call has the index alone while it runs. `share` opens it once more, for another thread to ask at the same time.
+    """
 
     def __init__(self, columns: Mapping[str, Form], *, limit: Optional[int] = None):
         super().__init__(columns, MOST_ROWS if limit is None else limit, opened(columns, limit))
@@ -39,10 +40,12 @@ class Index(Table):
         limit: Optional[int] = None,
         progress: Progress = None,
     ) -> "Index":
-        """Makes an index of a pandas frame, a dict of columns or an Arrow record batch, and chooses kinds, widths and offsets from the
-        data. `repr` of the index says what it chose, and so does the logger "bsi".
+        """Makes an index of a pandas frame, a dict of columns or an Arrow record batch, and chooses kinds, widths and
+        offsets from the data. `repr` of the index says what it chose, and so does the logger "bsi".
 
-        `columns` are those wanted, `kinds` and `forms` what is not to be chosen. What can't be kept exactly is a BadRow."""
+        `columns` are those wanted, `kinds` and `forms` what is not to be chosen. What can't be kept exactly is a
+        BadRow.
+        """
         found, encoded = chosen(frame, columns, kinds, forms)
         return cls._filled(cls(found, limit=limit), encoded, progress)
 
@@ -58,11 +61,13 @@ class Index(Table):
 
     @property
     def schema(self) -> str:
-        """The records of the schema, as `bsi files --schema` reads them. A column whose name is none there has one with its number."""
+        """The records of the schema, as `bsi files --schema` reads them. A column whose name is none there has one with
+        its number."""
         return self._store.schema().decode()
 
     def share(self) -> "Index":
-        """Opens the index once more, for another thread: both can be asked at the same time, and from then on neither takes rows."""
+        """Opens the index once more, for another thread: both can be asked at the same time, and from then on neither
+        takes rows."""
         other = object.__new__(type(self))
         Table.__init__(other, self._forms, self._limit, self._store.share())
         return other

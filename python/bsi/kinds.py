@@ -1,8 +1,9 @@
 """What the whole numbers of a column stand for: numbers, decimals, times, booleans or texts.
 
-A kind turns values into whole numbers and back, and only where nothing is lost. A constant of a comparison need not be one of the values:
-its *cut* are two whole numbers, `left` up to which the column's numbers stand for less than the constant, and `right` from which on they
-stand for more. They differ by one where a number stands for the constant itself, and are equal where none does.
+A kind turns values into whole numbers and back, and only where nothing is lost. A constant of a comparison need not be
+one of the values: its *cut* are two whole numbers, `left` up to which the column's numbers stand for less than the
+constant, and `right` from which on they stand for more. They differ by one where a number stands for the constant
+itself, and are equal where none does.
 """
 
 from __future__ import annotations
@@ -62,7 +63,8 @@ class Kind:
     unfit = ""  # what is wrong with a value that no number stands for
 
     def cut(self, constant: Any) -> Cut:
-        """Returns where the constant lies among the column's numbers. Refuses one of another type by TypeError or ValueError."""
+        """Returns where the constant lies among the column's numbers. Refuses one of another type by TypeError or
+        ValueError."""
         raise NotImplementedError
 
     def parse(self, text: str) -> Any:
@@ -89,7 +91,8 @@ class Kind:
         return left
 
     def encode(self, values: np.ndarray, valid: np.ndarray) -> np.ndarray:
-        """Returns the numbers that stand for the values where they are valid, and 0 elsewhere. The first other value is a Misfit."""
+        """Returns the numbers that stand for the values where they are valid, and 0 elsewhere. The first other value is
+        a Misfit."""
         numbers_found = np.zeros(len(values), np.int64)
         for row in np.flatnonzero(valid):
             value = values[row]
@@ -116,8 +119,8 @@ def fraction_of(constant: Any, read_float: Callable[[Any], Fraction] = Fraction)
         raise TypeError(f"{shown(constant)} is no number")
     if constant.is_nan() if isinstance(constant, Decimal) else constant != constant:
         raise ValueError("nan is no number; isnull() finds the nulls")
-    if constant in (math.inf, -math.inf):
-        return Fraction(FAR if constant > 0 else -FAR)
+    if constant == math.inf or constant == -math.inf:
+        return Fraction(FAR if constant == math.inf else -FAR)
     if isinstance(constant, (float, np.floating)):
         return read_float(constant)
     if isinstance(constant, Decimal) and abs(constant.adjusted()) > 100:
@@ -172,8 +175,8 @@ def _whole_of_floats(values: np.ndarray, valid: np.ndarray) -> np.ndarray:
 
 @dataclass(frozen=True)
 class Decimals(Kind):
-    """Decimals of so many places, given as a number of places or as the scale, "0.01". Answers are Decimal. A float stands for the decimal
-    that it prints as."""
+    """Decimals of so many places, given as a number of places or as the scale, "0.01". Answers are Decimal. A float
+    stands for the decimal that it prints as."""
 
     places: Any = 2
     takes = "decimals"
@@ -242,8 +245,10 @@ def _decimal(number: int, places: int) -> Decimal:
 
 @dataclass(frozen=True)
 class Times(Kind):
-    """Points of time, as a count of days "D", seconds "s", "ms", "us" or "ns" since 1970-01-01, in UTC where there is a zone. Answers are
-    pandas.Timestamp, or datetime where there is no pandas. Constants are dates, times, or texts such as 2026-01-31T12:00."""
+    """Points of time, as a count of days "D", seconds "s", "ms", "us" or "ns" since 1970-01-01, in UTC where there is a
+    zone. Answers are pandas.Timestamp, or datetime where there is no pandas. Constants are dates, times, or texts such
+    as 2026-01-31T12:00.
+    """
 
     unit: str = "D"
     zone: Any = None
@@ -256,7 +261,8 @@ class Times(Kind):
     def cut(self, constant: Any) -> Cut:
         nanoseconds, is_aware = nanoseconds_of(constant)
         if is_aware != (self.zone is not None) and type(constant) is not date:
-            raise TypeError(f"{shown(constant)} has {'a' if is_aware else 'no'} time zone, and the column has {'one' if self.zone else 'none'}")
+            has, column_has = ("a", "none") if is_aware else ("no", "one")
+            raise TypeError(f"{shown(constant)} has {has} time zone, and the column has {column_has}")
         return cut_of(Fraction(nanoseconds, NANOSECONDS[self.unit]))
 
     @property
@@ -280,7 +286,9 @@ class Times(Kind):
         return np.where(valid, found.astype(np.int64), 0)
 
     def __str__(self) -> str:
-        return f"times in {UNITS[self.unit]}" + (f" in {self.zone}" if self.zone else "") if self.unit != "D" else "dates"
+        return (
+            f"times in {UNITS[self.unit]}" + (f" in {self.zone}" if self.zone else "") if self.unit != "D" else "dates"
+        )
 
 
 EPOCH = datetime(1970, 1, 1)
@@ -298,7 +306,9 @@ def time_of(text: str) -> Any:
         raise ValueError(f"{shown(text)} has more than six places of a second beside a zone")
     clock, _, fraction = clock.partition(".")
     zone = "+00:00" if zone == "Z" else zone if ":" in zone else f"{zone[:3]}:{zone[3:]}"
-    return datetime.fromisoformat(f"{day}T{clock if clock.count(':') > 1 else clock + ':00'}.{fraction.ljust(6, '0')}{zone}")
+    return datetime.fromisoformat(
+        f"{day}T{clock if clock.count(':') > 1 else clock + ':00'}.{fraction.ljust(6, '0')}{zone}"
+    )
 
 
 def nanoseconds_of(moment: Any) -> Tuple[int, bool]:
@@ -362,7 +372,9 @@ class Flags(Kind):
         return total
 
     def encode(self, values: np.ndarray, valid: np.ndarray) -> np.ndarray:
-        return np.where(valid, values, False).astype(np.int64) if values.dtype == bool else super().encode(values, valid)
+        return (
+            np.where(valid, values, False).astype(np.int64) if values.dtype == bool else super().encode(values, valid)
+        )
 
     def __str__(self) -> str:
         return "booleans"
@@ -370,8 +382,8 @@ class Flags(Kind):
 
 @dataclass(frozen=True)
 class Texts(Kind):
-    """One of these texts, as its place among them. They compare in order of their characters, and in the order given where `ordered`.
-    Answers are str."""
+    """One of these texts, as its place among them. They compare in order of their characters, and in the order given
+    where `ordered`. Answers are str."""
 
     values: Tuple[str, ...]
     ordered: bool = False

@@ -1,15 +1,29 @@
-"""Which kind a column of values is of: the narrowest that keeps each of them exactly, and how the kinds of several parts go together."""
+"""Which kind a column of values is of: the narrowest that keeps each of them exactly, and how the kinds of several
+parts go together."""
 
 from __future__ import annotations
 
 import numbers
 from datetime import date, timezone
 from decimal import Decimal
-from typing import Any, Optional, Tuple
+from typing import Any, Dict, List, Optional, Tuple
 
 import numpy as np
 
-from .kinds import NANOSECONDS, UNITS, Decimals, Flags, Kind, Misfit, Texts, Times, Whole, first_misfit, nanoseconds_of, shown
+from .kinds import (
+    NANOSECONDS,
+    UNITS,
+    Decimals,
+    Flags,
+    Kind,
+    Misfit,
+    Texts,
+    Times,
+    Whole,
+    first_misfit,
+    nanoseconds_of,
+    shown,
+)
 from .values import Values
 
 # How many places of decimals are tried for floats, and how many different texts a column may have.
@@ -20,28 +34,38 @@ Narrowed = Tuple[Optional[Kind], np.ndarray]
 
 def encode(kind: Kind, given: Values) -> np.ndarray:
     """Returns the numbers that stand for the values under a kind that is known. The first other value is a Misfit."""
-    if given.values.dtype.kind == "M" and isinstance(kind, Times) and (given.zone is None) != (kind.zone is None) and given.valid.any():
+    if (
+        given.values.dtype.kind == "M"
+        and isinstance(kind, Times)
+        and (given.zone is None) != (kind.zone is None)
+        and given.valid.any()
+    ):
         row = int(given.valid.argmax())
-        reason = "has no time zone, and the column has one" if given.zone is None else "has a time zone, and the column has none"
+        reason = (
+            "has no time zone, and the column has one"
+            if given.zone is None
+            else "has a time zone, and the column has none"
+        )
         raise Misfit(row, given.values[row], f"{shown(given.values[row])} {reason}")
     return kind.encode(given.values, given.valid)
 
 
 def narrow(given: Values) -> Narrowed:
-    """Returns the narrowest kind of the values and the numbers that stand for them. The first value that fits in none is a Misfit."""
+    """Returns the narrowest kind of the values and the numbers that stand for them. The first value that fits in none
+    is a Misfit."""
     values, valid = given.values, given.valid
     if not valid.any():
         return None, np.zeros(len(values), np.int64)
     if values.dtype == object:
         return _of_objects(given)
-    kinds = {
+    kinds: Dict[str, List[Kind]] = {
         "b": [Flags()],
         "i": [Whole()],
         "u": [Whole()],
         "f": [Whole(), *(Decimals(places) for places in range(1, MOST_PLACES + 1))],
         "M": [Times(unit, given.zone) for unit in UNITS],
-    }[values.dtype.kind]
-    return first_that_keeps(kinds, values, valid)
+    }
+    return first_that_keeps(kinds[values.dtype.kind], values, valid)
 
 
 def first_that_keeps(kinds: list, values: np.ndarray, valid: np.ndarray) -> Narrowed:
@@ -74,18 +98,20 @@ def _texts(given: Values) -> Narrowed:
         if not isinstance(text, str):
             raise Misfit(row, text, f"{shown(text)} is no text, as those before it are")
         found[text] = None
-        refuse_many_texts(found, row, text)
+        if len(found) > MOST_TEXTS:
+            raise Misfit(row, text, too_many_texts(text))
     kind = Texts(given.order, ordered=True) if given.order else Texts(tuple(found))
     return kind, kind.encode(given.values, given.valid)
 
 
-def refuse_many_texts(found: dict, row: int, text: str) -> None:
-    if len(found) > MOST_TEXTS:
-        raise Misfit(row, text, f"{shown(text)} is one text more than the {MOST_TEXTS:,} that a column may have; leave the column out")
+def too_many_texts(text: str) -> str:
+    """Returns what is wrong with a text past those that a column may have."""
+    return f"{shown(text)} is one text more than the {MOST_TEXTS:,} that a column may have; leave the column out"
 
 
 def _numbers(given: Values) -> Narrowed:
-    """Decimals of as many places as the values show, and whole numbers where none of them is a Decimal or has a fraction."""
+    """Decimals of as many places as the values show, and whole numbers where none of them is a Decimal or has a
+    fraction."""
     places, is_whole = 0, True
     for row in np.flatnonzero(given.valid).tolist():
         value = given.values[row]
@@ -102,10 +128,12 @@ def _places(row: int, value: Any) -> int:
         value = Decimal(str(value)).normalize()
     if not isinstance(value, Decimal):
         raise Misfit(row, value, f"{shown(value)} is no number, or no decimal")
-    places = -value.as_tuple().exponent if value.is_finite() else 99
-    if places > 18:
-        raise Misfit(row, value, f"{shown(value)} has more than 18 decimal places" if places < 99 else f"{shown(value)} is no finite number")
-    return max(0, places)
+    exponent = value.as_tuple().exponent
+    if not isinstance(exponent, int):
+        raise Misfit(row, value, f"{shown(value)} is no finite number")
+    if exponent < -18:
+        raise Misfit(row, value, f"{shown(value)} has more than 18 decimal places")
+    return max(0, -exponent)
 
 
 def _times(given: Values) -> Narrowed:
@@ -118,11 +146,13 @@ def _times(given: Values) -> Narrowed:
             raise Misfit(row, value, str(why)) from None
         zones.add(value.tzinfo if is_aware else None)
         if len(zones) > 1 and None in zones:
-            raise Misfit(row, value, f"{shown(value)} has {'a' if is_aware else 'no'} time zone, and one before it has {'none' if is_aware else 'one'}")
+            has, other_has = ("a", "none") if is_aware else ("no", "one")
+            raise Misfit(row, value, f"{shown(value)} has {has} time zone, and one before it has {other_has}")
     zone = zones.pop() if len(zones) == 1 else timezone.utc
     unit = next(unit for unit in UNITS if all(moment % NANOSECONDS[unit] == 0 for moment in moments))
     counts = moments // NANOSECONDS[unit]
-    first_misfit(np.array([abs(count) >= 1 << 63 for count in counts], bool), given.values, f"is past 63 bits of {UNITS[unit]}")
+    is_far = np.array([abs(count) >= 1 << 63 for count in counts], bool)
+    first_misfit(is_far, given.values, f"is past 63 bits of {UNITS[unit]}")
     return Times(unit, zone), counts.astype(np.int64)
 
 
@@ -144,11 +174,12 @@ def recode(found: np.ndarray, valid: np.ndarray, old: Optional[Kind], new: Optio
     """Returns the numbers under a kind that keeps what the old one keeps. The first that leaves 63 bits is a Misfit."""
     if old is None or old == new:
         return found
-    if isinstance(old, Texts):
+    factor = 1
+    if isinstance(old, Texts) and isinstance(new, Texts):
         return np.where(valid, np.array([new.places[text] for text in old.values], np.int64)[found], 0)
-    if isinstance(old, Times):
+    if isinstance(old, Times) and isinstance(new, Times):
         factor = NANOSECONDS[old.unit] // NANOSECONDS[new.unit]
-    else:
+    elif isinstance(new, Decimals):
         factor = 10 ** (new.places - getattr(old, "places", 0))
     most = (2**63 - 1) // factor
     first_misfit((found > most) | (found < -most), found, f"leaves 63 bits as one of {new}")

@@ -1,7 +1,7 @@
 """The C library by ctypes: its structs, and a handle whose calls take and give whole numbers alone.
 
-A call lets go of Python's lock, and the library wants each handle to itself, so a handle has a lock of its own. No pointer is null, not
-even one to nothing.
+A call lets go of Python's lock, and the library wants each handle to itself, so a handle has a lock of its own. No
+pointer is null, not even one to nothing.
 """
 
 from __future__ import annotations
@@ -10,7 +10,7 @@ import ctypes
 import os
 import threading
 from ctypes import POINTER, Structure, byref, c_bool, c_int64, c_size_t, c_uint8, c_uint32, c_uint64, c_void_p
-from typing import Optional, Sequence, Tuple
+from typing import Any, Dict, List, Optional, Sequence, Tuple
 
 import numpy as np
 
@@ -34,10 +34,17 @@ class _Column(Structure):
 
 
 class _Answer(Structure):
-    _fields_ = [("kind", c_uint32), ("present", c_bool), ("value", c_int64), ("count", c_uint64), ("low", c_uint64), ("high", c_uint64)]
+    _fields_ = [
+        ("kind", c_uint32),
+        ("present", c_bool),
+        ("value", c_int64),
+        ("count", c_uint64),
+        ("low", c_uint64),
+        ("high", c_uint64),
+    ]
 
 
-_CALLS = {
+_CALLS: Dict[str, List[Any]] = {
     "bsi_open": [c_void_p, c_size_t, c_uint32, POINTER(c_uint64)],
     "bsi_append": [c_uint32, c_void_p, c_size_t, POINTER(c_uint64)],
     "bsi_ask": [c_void_p, c_size_t, POINTER(_Answer), c_void_p, c_size_t],
@@ -52,16 +59,21 @@ _NOTHING = ctypes.addressof(_nothing)
 
 
 def _load() -> ctypes.CDLL:
-    """Loads the library: that of the variable BSI_LIBRARY, the one of the wheel, or the one that `make lib` leaves in the repository."""
+    """Loads the library: that of the variable BSI_LIBRARY, the one of the wheel, or the one that `make lib` leaves in
+    the repository."""
     here = os.path.dirname(os.path.abspath(__file__))
-    places = [os.environ.get("BSI_LIBRARY"), os.path.join(here, "libbsi.so"), os.path.join(here, "..", "..", "out", "lib", "libbsi.so")]
+    places = [
+        os.environ.get("BSI_LIBRARY"),
+        os.path.join(here, "libbsi.so"),
+        os.path.join(here, "..", "..", "out", "lib", "libbsi.so"),
+    ]
     path = next((place for place in places if place and os.path.isfile(place)), None)
     if path is None:
         raise ImportError("there is no libbsi.so: `make wheel` puts it beside the package, or BSI_LIBRARY names it")
     library = ctypes.CDLL(path)
     for name, arguments in _CALLS.items():
         call = getattr(library, name)
-        call.argtypes, call.restype = [POINTER(_Index), *arguments], c_uint32
+        call.argtypes, call.restype = [POINTER(_Index)] + arguments, c_uint32
     return library
 
 
@@ -75,7 +87,7 @@ def _address(array: Optional[np.ndarray]) -> int:
 def _texts(fields: Sequence[bytes]):
     """Returns the fields as C has them, and the bytes that they point into, which must live as long."""
     joined = b"".join(fields)
-    at = ctypes.cast(ctypes.c_char_p(joined), c_void_p).value
+    at = ctypes.cast(ctypes.c_char_p(joined), c_void_p).value or _NOTHING
     texts = (_Text * max(1, len(fields)))()
     for text, field in zip(texts, fields):
         text.at, text.len = at, len(field)
@@ -92,7 +104,9 @@ class Handle:
             bad_record, text = c_uint64(), np.frombuffer(schema, np.uint8)
             status = self._call("bsi_open", _address(text), len(text), 1, byref(bad_record))
             if status == BAD_SCHEMA:
-                raise errors.BadSchema(f"the library does not take record {bad_record.value} of the schema", bad_record.value)
+                raise errors.BadSchema(
+                    f"the library does not take record {bad_record.value} of the schema", bad_record.value
+                )
             check(status)
 
     def _call(self, name: str, *arguments) -> int:

@@ -30,7 +30,8 @@ class _Threads(Gathered):
         return list(self._threads.map(lambda handle: getattr(handle, call)(*arguments), self.handles))
 
     def append(self, columns: Sequence[Entries]) -> Tuple[int, int]:
-        """Gives each part a run of the rows, which all fit. A run but the last has a multiple of 8 rows, so that no bitmap is moved."""
+        """Gives each part a run of the rows, which all fit. A run but the last has a multiple of 8 rows, so that no
+        bitmap is moved."""
         rows = len(columns[0][0])
         step = -(-rows // (8 * len(self.handles))) * 8
         with self.lock:
@@ -59,8 +60,8 @@ def _run(column: Entries, start: int, end: int) -> Entries:
 
 
 class Parts(Table):
-    """Rows split over n indexes, each asked on a thread of its own. Counts, sums, ends, masks and exact lower medians are put together, so
-    every answer is that of one index over all rows, in the order in which they were appended."""
+    """Rows split over n indexes, each asked on a thread of its own. Counts, sums, ends, masks and exact lower medians
+    are put together, so every answer is that of one index over all rows, in the order in which they were appended."""
 
     def __init__(self, n: int, columns: Mapping[str, Form], *, limit: Optional[int] = None):
         if not 1 <= n <= 256:

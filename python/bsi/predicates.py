@@ -55,7 +55,8 @@ class Predicate:
     def __init__(self, terms: Iterable[Term]):
         terms = tuple(terms)
         if _fields(terms) > MOST_FIELDS:
-            raise BadQuery(f"a predicate has at most {MOST_FIELDS:,} fields (a comparison has 3, isnull() 2), and this one {_fields(terms):,}")
+            rule = f"a predicate has at most {MOST_FIELDS:,} fields (a comparison has 3, isnull() 2)"
+            raise BadQuery(f"{rule}, and this one {_fields(terms):,}")
         object.__setattr__(self, "terms", terms)
 
     def __setattr__(self, name: str, value: Any):
@@ -85,7 +86,8 @@ class Predicate:
         return Predicate((*self.terms, *other.terms, word))
 
     def __bool__(self) -> bool:
-        raise TypeError("a predicate is neither true nor false: write & | ~ in place of 'and', 'or', 'not', and two comparisons for a < x < b")
+        better = "write & | ~ in place of 'and', 'or', 'not', and two comparisons for a < x < b"
+        raise TypeError(f"a predicate is neither true nor false: {better}")
 
     def __repr__(self) -> str:
         stack: List[str] = []
@@ -96,7 +98,9 @@ class Predicate:
                 right, left = stack.pop(), stack.pop()
                 stack.append(f"({left} {'&' if term == 'and' else '|'} {right})")
             else:
-                stack.append("all_rows" if term == "all" else f"({term})" if isinstance(term, Comparison) else str(term))
+                stack.append(
+                    "all_rows" if term == "all" else f"({term})" if isinstance(term, Comparison) else str(term)
+                )
         return stack[0]
 
 

@@ -12,8 +12,9 @@ Progress = Union[Callable[[int, int], None], bool, None]
 @contextmanager
 def told(progress: Progress, total: int, unit: str) -> Iterator[Callable[[int], None]]:
     """Gives a function to be told how much is done."""
-    if callable(progress):
-        yield lambda done: progress(done, total)
+    if progress is not None and not isinstance(progress, bool):
+        callback = progress
+        yield lambda done: callback(done, total)
         return
     try:
         from tqdm import tqdm

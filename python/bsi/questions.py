@@ -2,9 +2,10 @@
 
     count [P]    rows [P]    sum COLUMN [P]    least COLUMN [P]    greatest COLUMN [P]    median COLUMN [P]
 
-P is made of `COLUMN SIGN CONSTANT` with one of = == != < <= > >=, `COLUMN null`, `COLUMN not null`, `all`, `and`, `or`, `not` and brackets;
-`where` may stand before it. `not` binds closest, then `and`. A name or a constant that is no plain word, or one of these words, stands in
-quotes: "Amount (EUR)", 'Okafor, Ada'; a quote within them is written twice. Constants are read as the column's own kind: 100, 12.50, 2026-01-31, true, Meyer.
+P is made of `COLUMN SIGN CONSTANT` with one of = == != < <= > >=, `COLUMN null`, `COLUMN not null`, `all`, `and`, `or`,
+`not` and brackets; `where` may stand before it. `not` binds closest, then `and`. A name or a constant that is no plain
+word, or one of these words, stands in quotes: "Amount (EUR)", 'Okafor, Ada'; a quote within them is written twice.
+Constants are read as the column's own kind: 100, 12.50, 2026-01-31, true, Meyer.
 """
 
 from __future__ import annotations
@@ -119,7 +120,9 @@ def _apply(operands: List[Predicate], waiting: List[str], least: int) -> None:
     while waiting and BINDS[waiting[-1]] >= least:
         operator = waiting.pop()
         right = operands.pop()
-        operands.append(~right if operator == "not" else operands.pop() & right if operator == "and" else operands.pop() | right)
+        operands.append(
+            ~right if operator == "not" else operands.pop() & right if operator == "and" else operands.pop() | right
+        )
 
 
 def _operand(table: Table, tokens: List[Token], at: int) -> Tuple[Predicate, int]:

@@ -1,7 +1,8 @@
 """CSV files as they are: any header names, decimals, dates and times, booleans, texts of few values.
 
-The first field of a column that is no null says what the column holds. A field that is none of these is refused, with its column and row.
-Each block of records is turned into numbers as it is read, so what stays in memory is 9 bytes a row and column until the index is made.
+The first field of a column that is no null says what the column holds. A field that is none of these is refused, with
+its column and row. Each block of records is turned into numbers as it is read, so what stays in memory is 9 bytes a row
+and column until the index is made.
 """
 
 from __future__ import annotations
@@ -13,16 +14,31 @@ import re
 from contextlib import contextmanager
 from decimal import Decimal
 from itertools import islice
-from typing import IO, Any, Callable, Collection, Dict, Iterable, Iterator, List, Mapping, NamedTuple, Optional, Tuple, Type, Union
+from typing import (
+    IO,
+    Any,
+    Callable,
+    Collection,
+    Dict,
+    Iterable,
+    Iterator,
+    List,
+    Mapping,
+    NamedTuple,
+    Optional,
+    Tuple,
+    Type,
+    Union,
+)
 
 import numpy as np
 
 from .choosing import Block, Wishes, settled, wanted_of
-from .errors import BadColumns, BadRow, Error
+from .errors import BadColumns, BadRow
 from .forms import Form
 from .index import Index
 from .kinds import NUMBER, TIME, Decimals, Flags, Kind, Misfit, Texts, Times, Whole, shown, time_of
-from .narrowing import Narrowed, first_that_keeps, narrow, refuse_many_texts
+from .narrowing import MOST_TEXTS, Narrowed, first_that_keeps, narrow, too_many_texts
 from .parts import Parts
 from .progress import Progress, told
 from .values import Values
@@ -36,11 +52,17 @@ UNIT_OF_PLACES = ("s", "ms", "ms", "ms", "us", "us", "us", "ns", "ns", "ns")
 
 
 class Part(NamedTuple):
-    """Records of a file that follow each other, the first one's number among the rows, and where it stands."""
+    """Records of a file that follow each other, the first one's number among the rows, and its line where each has
+    one."""
 
     records: List[List[str]]
     row: int
-    place: Callable[[int], str]
+    path: Path
+    line: Optional[int]
+
+    def place(self, row: int) -> str:
+        """Returns where a record of the part stands."""
+        return f" (of {self.path})" if self.line is None else f" (line {self.line + row} of {self.path})"
 
 
 def read_csv(
@@ -56,10 +78,13 @@ def read_csv(
     parts: int = 1,
     progress: Progress = None,
 ) -> Union[Index, Parts]:
-    """Makes an index of CSV files with one header, and chooses kinds, widths and offsets from what they hold. `repr` says what it chose.
+    """Makes an index of CSV files with one header, and chooses kinds, widths and offsets from what they hold. `repr`
+    says what it chose.
 
-    `columns` are those wanted; `kinds` and `forms` what is not to be chosen (`Texts` keeps a column of codes as text); `nulls` the fields
-    that stand for nothing. With several `parts` the rows are split over as many indexes. What can't be kept exactly is a BadRow."""
+    `columns` are those wanted; `kinds` and `forms` what is not to be chosen (`Texts` keeps a column of codes as text);
+    `nulls` the fields that stand for nothing. With several `parts` the rows are split over as many indexes. What can't
+    be kept exactly is a BadRow.
+    """
     paths = [paths] if isinstance(paths, (str, os.PathLike)) else list(paths)
     if not paths:
         raise BadColumns("there is no file")
@@ -89,7 +114,7 @@ class _Reader:
         """Reads a file, and keeps the numbers of its wanted columns."""
         with _opened(path, encoding) as (raw, text):
             records = _records(csv.reader(text, delimiter=delimiter, strict=True), path)
-            self._head(next(records, Part([[]], 0, str)).records[0], path)
+            self._head(next(records, Part([[]], 0, path, None)).records[0], path)
             for part in records:
                 self._keep(part._replace(row=self._rows))
                 self._rows += len(part.records)
@@ -114,7 +139,9 @@ class _Reader:
         width = len(self._header)
         for row, record in enumerate(part.records):
             if len(record) != width:
-                raise BadColumns(f"row {part.row + row}{part.place(row)} has {len(record)} fields, and the header {width}")
+                raise BadColumns(
+                    f"row {part.row + row}{part.place(row)} has {len(record)} fields, and the header {width}"
+                )
         fields = list(zip(*part.records))
         for name in self.wanted:
             self.blocks[name].append(self._block(name, fields[self._header.index(name)], part))
@@ -147,7 +174,9 @@ def _nothing() -> Block:
 
 @contextmanager
 def _opened(path: Path, encoding: str) -> Iterator[Tuple[IO[bytes], IO[str]]]:
-    with open(path, "rb", buffering=0) as raw, io.TextIOWrapper(io.BufferedReader(raw, 1 << 20), encoding=encoding, newline="") as text:
+    with open(path, "rb", buffering=0) as raw, io.TextIOWrapper(
+        io.BufferedReader(raw, 1 << 20), encoding=encoding, newline=""
+    ) as text:
         try:
             yield raw, text
         except UnicodeDecodeError as why:
@@ -169,7 +198,7 @@ def _records(reader: Any, path: Path) -> Iterator[Part]:
         # (lines can be told where each record is one)
         first = line + 1 if reader.line_num - line == len(records) else None
         if records:
-            yield Part(records, rows, lambda row, first=first: f" (line {first + row} of {path})" if first else f" (of {path})")
+            yield Part(records, rows, path, first)
             most = RECORDS
         rows += len(records)
 
@@ -191,7 +220,11 @@ def _refuse_others(texts: List[str], spelling: Callable[[str], Any], what: str) 
     for row, text in enumerate(texts):
         if not spelling(text):
             has_zeros = re.fullmatch(r"-?0[0-9]+(\.[0-9]*)?", text) and what == "number"
-            code = " without the 0 before it, which a code may need; give the column's kind, as Texts or Whole()" if has_zeros else ""
+            code = (
+                " without the 0 before it, which a code may need; give the column's kind, as Texts or Whole()"
+                if has_zeros
+                else ""
+            )
             raise Misfit(row, text, f"{shown(text)} is no {what}{code}")
 
 
@@ -252,9 +285,9 @@ def _flags(texts: List[str]) -> Narrowed:
 def _texts(texts: List[str]) -> Narrowed:
     found: dict = {}
     for row, text in enumerate(texts):
-        if text not in found:
-            found[text] = None
-            refuse_many_texts(found, row, text)
+        found[text] = None
+        if len(found) > MOST_TEXTS:
+            raise Misfit(row, text, too_many_texts(text))
     kind = Texts(tuple(found))
     return kind, kind.encode(_objects(texts).values, np.ones(len(texts), bool))
 
@@ -274,6 +307,3 @@ def _of_kind(kind: Kind, texts: List[str]) -> np.ndarray:
         except (ValueError, ArithmeticError) as why:
             raise Misfit(row, text, str(why)) from None
     return kind.encode(_objects(values).values, np.ones(len(texts), bool))
-
-
-__all__ = ["read_csv", "Error"]

@@ -1,7 +1,8 @@
-"""Typed questions over a store of rows: names, kinds and predicates on this side, whole numbers and fields of a query on the other.
+"""Typed questions over a store of rows: names, kinds and predicates on this side, whole numbers and fields of a query
+on the other.
 
-A *store* is a `native.Handle`, or a `gathered.Gathered` of several. Both have the calls `counts`, `sum`, `value`, `select`, `rows` and
-`close`, and but for Dask `append`.
+A *store* is a `native.Handle`, or a `gathered.Gathered` of several. Both have the calls `counts`, `sum`, `value`,
+`select`, `rows` and `close`, and but for Dask `append`.
 """
 
 from __future__ import annotations
@@ -27,7 +28,8 @@ Name = Union[str, Column]
 
 
 def names_within(columns: Sequence[str]) -> Dict[str, str]:
-    """Returns the names that the library gets: the column's own where that can be, and otherwise one with its number."""
+    """Returns the names that the library gets: the column's own where that can be, and otherwise one with its
+    number."""
     taken = {name for name in columns if NAME.fullmatch(name) and name not in WORDS}
     numbered = (f"c{number}" for number in range(2 * len(columns)) if f"c{number}" not in taken)
     return {name: name if name in taken else next(numbered) for name in columns}
@@ -42,25 +44,34 @@ def opened(columns: Mapping[str, Form], limit: Optional[int] = None) -> Handle:
             raise
         name, form = list(columns.items())[why.record - 1]
         rule = "1 to 63 slices; or bases of 2 to 1,024, with a sum of at most 4,096 and a product of at most 2^63"
-        raise BadSchema(f"column {name!r} can't be kept as {form}: {rule}; all numbers within 64 bits", why.record) from None
+        raise BadSchema(
+            f"column {name!r} can't be kept as {form}: {rule}; all numbers within 64 bits", why.record
+        ) from None
 
 
 def schema_of(columns: Mapping[str, Form], limit: Optional[int]) -> bytes:
     """Returns the records of a schema. Refuses what is none, so that a record of the library is one of a column."""
     for name, form in columns.items():
         if not isinstance(name, str) or not isinstance(form, Form):
-            raise BadSchema(f"an index has columns by name, each slices(..), range(..) or equality(..), and not {name!r}: {form!r}")
+            raise BadSchema(
+                f"an index has columns by name, each slices(..), range(..) or equality(..), and not {name!r}: {form!r}"
+            )
     if len(columns) > MOST_COLUMNS:
-        raise BadSchema(f"an index has at most {MOST_COLUMNS} columns, and not {len(columns)}; name those that are wanted")
+        raise BadSchema(
+            f"an index has at most {MOST_COLUMNS} columns, and not {len(columns)}; name those that are wanted"
+        )
     if limit is not None and not 1 <= limit <= MOST_ROWS:
         raise BadSchema(f"the limit is 1 to {MOST_ROWS:,} rows, and not {limit:,}")
     within = names_within(list(columns))
-    records = [form.record(within[name]) for name, form in columns.items()] + ([] if limit is None else [f"limit,{limit}"])
+    records = [form.record(within[name]) for name, form in columns.items()] + (
+        [] if limit is None else [f"limit,{limit}"]
+    )
     return "".join(f"{record}\n" for record in records).encode()
 
 
 class Table:
-    """Rows of named columns, and answers to questions about them. Any thread may ask; questions of one store are asked one at a time."""
+    """Rows of named columns, and answers to questions about them. Any thread may ask; questions of one store are asked
+    one at a time."""
 
     def __init__(self, columns: Mapping[str, Form], limit: int, store: Any):
         self._forms, self._limit, self._store = dict(columns), limit, store
@@ -100,7 +111,8 @@ class Table:
     # ---- Rows ----
 
     def append(self, data: Any) -> int:
-        """Appends rows, given as a dict of columns, a pandas frame or an Arrow record batch, and returns how many they are.
+        """Appends rows, given as a dict of columns, a pandas frame or an Arrow record batch, and returns how many they
+        are.
 
         A value that its column does not take, and a row past the limit, are refused before anything changes."""
         return self._append(self._encoded(data))
@@ -108,9 +120,15 @@ class Table:
     def _encoded(self, data: Any) -> List[Tuple[np.ndarray, np.ndarray]]:
         """Returns the numbers of each column, and which of them are valid."""
         given = columns_of(data)
-        missing, unknown = [name for name in self._forms if name not in given], [name for name in given if name not in self._forms]
+        missing, unknown = [name for name in self._forms if name not in given], [
+            name for name in given if name not in self._forms
+        ]
         if missing or unknown:
-            words = [f"{what} {', '.join(map(repr, names))}" for what, names in (("missing are", missing), ("unknown are", unknown)) if names]
+            words = [
+                f"{what} {', '.join(map(repr, names))}"
+                for what, names in (("missing are", missing), ("unknown are", unknown))
+                if names
+            ]
             raise BadColumns(f"the index has the columns {', '.join(map(repr, self._forms))}; {' and '.join(words)}")
         encoded = []
         for name, form in self._forms.items():
@@ -141,7 +159,9 @@ class Table:
         self._refuse_full(rows)
         with told(progress, rows, "rows") as tell:
             for start in range(0, rows, BLOCK):
-                self._append([(numbers[start : start + BLOCK], valid[start : start + BLOCK]) for numbers, valid in encoded])
+                self._append(
+                    [(numbers[start : start + BLOCK], valid[start : start + BLOCK]) for numbers, valid in encoded]
+                )
                 tell(min(start + BLOCK, rows))
 
     def _refuse_full(self, more: int) -> None:
@@ -183,8 +203,8 @@ class Table:
         return self._value(b"greatest", column, where)
 
     def median(self, column: Name, where: Predicate = all_rows) -> Any:
-        """Returns the lower median of the column in these rows: of an even count the lower one of the two in the middle. None where there
-        is no value."""
+        """Returns the lower median of the column in these rows: of an even count the lower one of the two in the
+        middle. None where there is no value."""
         return self._value(b"median", column, where)
 
     def mask(self, where: Predicate = all_rows) -> np.ndarray:
@@ -213,7 +233,9 @@ class Table:
     def _query(self, where: Predicate) -> List[bytes]:
         """Returns the fields of the predicate, over the numbers of the columns."""
         if not isinstance(where, Predicate):
-            raise TypeError(f"a predicate is made of bsi.col, as bsi.col.price < 100, and is not {type(where).__name__}")
+            raise TypeError(
+                f"a predicate is made of bsi.col, as bsi.col.price < 100, and is not {type(where).__name__}"
+            )
         fields: List[bytes] = []
         for term in where.terms:
             if isinstance(term, Null):
@@ -260,9 +282,12 @@ def among_numbers(sign: str, left: int, right: int) -> Tuple[str, int]:
 
 
 def within(form: Form, sign: str, number: int) -> Tuple[str, int]:
-    """Returns the same comparison with a number that the column takes: below its least one there is none, from it on are all."""
+    """Returns the same comparison with a number that the column takes: below its least one there is none, from it on
+    are all."""
     if sign in ("=", "!="):
-        return (sign, number) if form.offset <= number <= form.most else within(form, "<" if sign == "=" else ">=", -FAR)
+        return (
+            (sign, number) if form.offset <= number <= form.most else within(form, "<" if sign == "=" else ">=", -FAR)
+        )
     if number > form.most:
         return ("<=", form.most) if sign == "<" else (">", form.most)
     return sign, max(number, form.offset)

@@ -1,4 +1,5 @@
-"""What comes in: NumPy arrays, masked arrays, pandas, Arrow arrays and lists, each as one NumPy array and which of its places are valid.
+"""What comes in: NumPy arrays, masked arrays, pandas, Arrow arrays and lists, each as one NumPy array and which of its
+places are valid.
 
 None, NaN, NaT, pandas.NA, masked places and those that an Arrow bitmap clears are nulls.
 """
@@ -15,12 +16,12 @@ import numpy as np
 from . import arrow
 from .errors import BadColumns
 
-NUMPY_TYPES = {int: np.int64, bool: np.bool_, float: np.float64}
+NUMPY_TYPES: Dict[type, Any] = {int: np.int64, bool: np.bool_, float: np.float64}
 
 
 class Values(NamedTuple):
-    """An array of the dtypes b, i, u, f, M or object, which of its places are valid, the time zone of its times, and the order of its
-    texts, where it has these."""
+    """An array of the dtypes b, i, u, f, M or object, which of its places are valid, the time zone of its times, and
+    the order of its texts, where it has these."""
 
     values: np.ndarray
     valid: np.ndarray
@@ -42,7 +43,9 @@ def columns_of(data: Any) -> Dict[str, Any]:
         columns = arrow.struct_of(data)
         _refuse_names([name for name, _ in columns])
         return {name: _of_arrow(*read) for name, read in columns}
-    raise BadColumns(f"rows come as a dict of columns, a pandas frame or an Arrow record batch, and not as {type(data).__name__}")
+    raise BadColumns(
+        f"rows come as a dict of columns, a pandas frame or an Arrow record batch, and not as {type(data).__name__}"
+    )
 
 
 def _refuse_names(names: list) -> None:
@@ -116,11 +119,15 @@ def _of_pandas(pandas: Any, series: Any) -> Values:
         return _of_array(series.to_numpy())
     valid, plain = series.notna().to_numpy(), getattr(dtype, "numpy_dtype", None)
     if isinstance(plain, np.dtype) and plain.kind in "iufb":
-        values = series.to_numpy(dtype=plain, na_value=plain.type(0))
+        values = series.to_numpy(dtype=plain, na_value=False if plain.kind == "b" else 0)
         return Values(values, valid & ~np.isnan(values) if plain.kind == "f" else valid)
     if isinstance(dtype, (pandas.PeriodDtype, pandas.IntervalDtype)):
         raise BadColumns(f"a series of {dtype} is none of numbers, times, booleans or texts")
-    return _of_objects(series.to_numpy(object).tolist()) if not isinstance(dtype, pandas.SparseDtype) else _of_array(np.asarray(series))
+    return (
+        _of_objects(series.to_numpy(object).tolist())
+        if not isinstance(dtype, pandas.SparseDtype)
+        else _of_array(np.asarray(series))
+    )
 
 
 def is_null(value: Any) -> bool:
@@ -139,7 +146,11 @@ def _of_objects(objects: list) -> Values:
     types = {type(value) for value, is_valid in zip(objects, valid.tolist()) if is_valid}
     if len(types) == 1 and (plain := NUMPY_TYPES.get(next(iter(types)))) is not None:
         try:
-            kept = objects if valid.all() else [value if is_valid else plain(0) for value, is_valid in zip(objects, valid.tolist())]
+            kept = (
+                objects
+                if valid.all()
+                else [value if is_valid else plain(0) for value, is_valid in zip(objects, valid.tolist())]
+            )
             return Values(np.array(kept, plain), valid)
         except OverflowError:
             pass

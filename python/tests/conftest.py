@@ -1,4 +1,5 @@
-"""Puts the package of this repository on the path, also for the processes that tests start, and counts warnings as failures."""
+"""Puts the package of this repository on the path, also for the processes that tests start, and counts warnings as
+failures."""
 
 import os
 import sys

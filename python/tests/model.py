@@ -9,7 +9,14 @@ import bsi
 
 WORDS = np.array(["ape", "bee", "cat", "dog", "eel", "fox"])
 EPOCH = datetime.datetime(1970, 1, 1)
-COMPARE = {"<": np.less, "<=": np.less_equal, ">": np.greater, ">=": np.greater_equal, "=": np.equal, "!=": np.not_equal}
+COMPARE = {
+    "<": np.less,
+    "<=": np.less_equal,
+    ">": np.greater,
+    ">=": np.greater_equal,
+    "=": np.equal,
+    "!=": np.not_equal,
+}
 
 
 def random_form(rng):
@@ -23,7 +30,8 @@ def random_form(rng):
 
 
 def random_kind(rng):
-    """Returns a kind, a function from the column's numbers to its values, and one from a value near them to a number that may lie between."""
+    """Returns a kind, a function from the column's numbers to its values, and one from a value near them to a number
+    that may lie between."""
     return [
         (bsi.Whole(), int),
         (bsi.Decimals(2), lambda number: Decimal(number).scaleb(-2)),
@@ -56,7 +64,8 @@ class Table:
         return {name: form for name, (form, *_) in self.columns.items()}
 
     def comparison(self):
-        """Returns a comparison and the rows that it selects. Constants lie among the numbers, between two of them and past both ends."""
+        """Returns a comparison and the rows that it selects. Constants lie among the numbers, between two of them and
+        past both ends."""
         name = str(self.rng.choice(list(self.columns)))
         form, numbers, there, value = self.columns[name]
         column = bsi.col[name]

@@ -41,7 +41,9 @@ def client():
 def test_workers_are_spawned(client):
     import dask
 
-    with dask.config.set({"distributed.worker.multiprocessing-method": "fork"}), pytest.raises(ValueError, match="spawned and not forked"):
+    with dask.config.set({"distributed.worker.multiprocessing-method": "fork"}), pytest.raises(
+        ValueError, match="spawned and not forked"
+    ):
         bsi.dask.from_frame(frames.from_pandas(table(10), npartitions=1))
 
 
@@ -62,7 +64,12 @@ def test_answers_are_exact_and_a_lost_worker_is_told(client):
     rows, one = bsi.dask.from_frame(frames.from_pandas(frame, npartitions=10, sort=False)), bsi.Index.from_frame(frame)
     assert rows.forms == one.forms and len(rows) == 40_000 and repr(rows).startswith("Workers of 40,000 rows")
     assert len(client.run(os.getpid)) == len({actor.address for actor in rows._store._actors}) == 4
-    for where in (bsi.all_rows, (col.a < 345_678) & col.b.notnull() | (col.who == "dog"), col.day < "2026-01-05", col.a < 0):
+    for where in (
+        bsi.all_rows,
+        (col.a < 345_678) & col.b.notnull() | (col.who == "dog"),
+        col.day < "2026-01-05",
+        col.a < 0,
+    ):
         assert rows.count(where) == one.count(where) and (rows.mask(where) == one.mask(where)).all()
         assert rows.sum("price", where) == one.sum("price", where)
         for name in one.columns:

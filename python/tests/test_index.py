@@ -13,7 +13,9 @@ from bsi import col
 
 
 def small(**more):
-    index = bsi.Index({"price": bsi.slices(20), "temp": bsi.range(10, 10, 10, offset=-400), "day": bsi.equality(7)}, **more)
+    index = bsi.Index(
+        {"price": bsi.slices(20), "temp": bsi.range(10, 10, 10, offset=-400), "day": bsi.equality(7)}, **more
+    )
     index.append({"price": [100, 250, None, 7], "temp": [-400, 599, 0, None], "day": [0, 6, 3, 3]})
     return index
 
@@ -22,7 +24,11 @@ def test_the_first_example():
     index, p = small(), col.price
     assert index.count((p < 200) & ~col.temp.isnull()) == 1
     assert (index.sum("price", p >= 5), index.median("temp"), index.least("temp", ~p.isnull())) == (357, 0, -400)
-    assert (index.greatest("price"), index.rows(p == 7).tolist(), index.mask(p == 7).tolist()) == (250, [3], [False, False, False, True])
+    assert (index.greatest("price"), index.rows(p == 7).tolist(), index.mask(p == 7).tolist()) == (
+        250,
+        [3],
+        [False, False, False, True],
+    )
     assert index.median("temp", p == 7) is None and index.least(p, p > 250) is None and index.sum("price", p > 250) == 0
 
 
@@ -112,20 +118,72 @@ def test_constants_are_compared_exactly():
     index.append({"x": [-8, -1, 0, 2, 3, 7, None], "c": [0, Decimal("0.2"), 0.3, 0.4, 5, 6.3, None]})
     x, c = col.x, col.c
     for where, rows in (
-        (x < 2.5, [0, 1, 2, 3]), (x <= 2.5, [0, 1, 2, 3]), (x > 2.5, [4, 5]), (x >= 2.5, [4, 5]), (x == 2.5, []), (x != 2.5, [0, 1, 2, 3, 4, 5]),
-        (x < Fraction(-1, 2), [0, 1]), (x >= Decimal("-8.0"), [0, 1, 2, 3, 4, 5]), (x < 10**30, [0, 1, 2, 3, 4, 5]), (x > -(10**30), [0, 1, 2, 3, 4, 5]),
-        (x < -9, []), (x <= -8, [0]), (x < -8, []), (x > 7, []), (x >= 8, []), (x <= 8, [0, 1, 2, 3, 4, 5]), (x == 99, []), (x != 99, [0, 1, 2, 3, 4, 5]),
-        (x < float("inf"), [0, 1, 2, 3, 4, 5]), (x <= -np.inf, []), (x == np.inf, []), (x == np.int8(2), [3]), (x == np.float32(2), [3]), (x == True, []),
-        (np.int64(2) <= x, [3, 4, 5]), (2.5 > x, [0, 1, 2, 3]), (x < Decimal("1e999999"), [0, 1, 2, 3, 4, 5]), (x <= Decimal("-1e-999999"), [0, 1]),
-        (x < 2.0**60 + 1, [0, 1, 2, 3, 4, 5]), (x.between(-1, 2), [1, 2, 3]), (x.isin([7, -8, 50]), [0, 5]), (x.isin([]), []), (x.notnull() & x.isnull(), []),
-        (c < 0.3, [0, 1]), (c == 0.3, [2]), (c <= Decimal("0.25"), [0, 1]), (c == 0.25, []), (c == Fraction(1, 3), []), (c > Fraction(1, 3), [3, 4, 5]),
-        (c < 1, [0, 1, 2, 3]), (c == 6.3, [5]), (c > 6.35, []), (c != 0.31, [0, 1, 2, 3, 4, 5]), (c == np.float32(0.3), [2]), (c >= Decimal("Infinity"), []),
-    ):  # fmt: skip
+        (x < 2.5, [0, 1, 2, 3]),
+        (x <= 2.5, [0, 1, 2, 3]),
+        (x > 2.5, [4, 5]),
+        (x >= 2.5, [4, 5]),
+        (x == 2.5, []),
+        (x != 2.5, [0, 1, 2, 3, 4, 5]),
+        (x < Fraction(-1, 2), [0, 1]),
+        (x >= Decimal("-8.0"), [0, 1, 2, 3, 4, 5]),
+        (x < 10**30, [0, 1, 2, 3, 4, 5]),
+        (x > -(10**30), [0, 1, 2, 3, 4, 5]),
+        (x < -9, []),
+        (x <= -8, [0]),
+        (x < -8, []),
+        (x > 7, []),
+        (x >= 8, []),
+        (x <= 8, [0, 1, 2, 3, 4, 5]),
+        (x == 99, []),
+        (x != 99, [0, 1, 2, 3, 4, 5]),
+        (x < float("inf"), [0, 1, 2, 3, 4, 5]),
+        (x <= -np.inf, []),
+        (x == np.inf, []),
+        (x == np.int8(2), [3]),
+        (x == np.float32(2), [3]),
+        (x == True, []),
+        (np.int64(2) <= x, [3, 4, 5]),
+        (2.5 > x, [0, 1, 2, 3]),
+        (x < Decimal("1e999999"), [0, 1, 2, 3, 4, 5]),
+        (x <= Decimal("-1e-999999"), [0, 1]),
+        (x < 2.0**60 + 1, [0, 1, 2, 3, 4, 5]),
+        (x.between(-1, 2), [1, 2, 3]),
+        (x.isin([7, -8, 50]), [0, 5]),
+        (x.isin([]), []),
+        (x.notnull() & x.isnull(), []),
+        (c < 0.3, [0, 1]),
+        (c == 0.3, [2]),
+        (c <= Decimal("0.25"), [0, 1]),
+        (c == 0.25, []),
+        (c == Fraction(1, 3), []),
+        (c > Fraction(1, 3), [3, 4, 5]),
+        (c < 1, [0, 1, 2, 3]),
+        (c == 6.3, [5]),
+        (c > 6.35, []),
+        (c != 0.31, [0, 1, 2, 3, 4, 5]),
+        (c == np.float32(0.3), [2]),
+        (c >= Decimal("Infinity"), []),
+    ):
         assert index.rows(where).tolist() == rows, where
     assert index.sum("c") == Decimal("12.2") and str(index.sum("c", c > 7)) == "0.0"
 
 
-@pytest.mark.parametrize("constant", [None, "5", b"5", float("nan"), Decimal("nan"), Decimal("sNaN"), 1j, [1], np.array([1, 2]), object(), np.datetime64(5, "D")])
+@pytest.mark.parametrize(
+    "constant",
+    [
+        None,
+        "5",
+        b"5",
+        float("nan"),
+        Decimal("nan"),
+        Decimal("sNaN"),
+        1j,
+        [1],
+        np.array([1, 2]),
+        object(),
+        np.datetime64(5, "D"),
+    ],
+)
 def test_constants_that_are_none(constant):
     with pytest.raises(bsi.BadQuery, match="column 'price' is compared with one of whole numbers"):
         small().count(col.price < constant)
@@ -139,7 +197,14 @@ def test_predicates_never_change():
         where.terms = ()
     with pytest.raises(AttributeError):
         col.price.name = "x"
-    for wrong in (lambda: 1 < col.price < 5, lambda: not where, lambda: where and where, lambda: col.a < col.b, lambda: where & True, lambda: where | 5):
+    for wrong in (
+        lambda: 1 < col.price < 5,
+        lambda: not where,
+        lambda: where and where,
+        lambda: col.a < col.b,
+        lambda: where & True,
+        lambda: where | 5,
+    ):
         with pytest.raises(TypeError):
             wrong()
     with pytest.raises(TypeError, match="a predicate is made of bsi.col"):
@@ -166,7 +231,12 @@ def test_a_thousand_fields():
 
 def test_unknown_columns():
     index = small()
-    for ask in (lambda: index.count(col.cost < 5), lambda: index.sum("cost"), lambda: index.median(col.cost), lambda: index.mask(col.cost.isnull())):
+    for ask in (
+        lambda: index.count(col.cost < 5),
+        lambda: index.sum("cost"),
+        lambda: index.median(col.cost),
+        lambda: index.mask(col.cost.isnull()),
+    ):
         with pytest.raises(bsi.BadQuery, match="there is no column 'cost', only 'price', 'temp', 'day'"):
             ask()
 
@@ -183,7 +253,14 @@ def test_closing():
     with index:
         assert index.count() == 4
     index.close()
-    for call in (index.count, lambda: index.append({"price": [1], "temp": [1], "day": [1]}), lambda: len(index), lambda: index.mask(), index.share, lambda: index.schema):
+    for call in (
+        index.count,
+        lambda: index.append({"price": [1], "temp": [1], "day": [1]}),
+        lambda: len(index),
+        lambda: index.mask(),
+        index.share,
+        lambda: index.schema,
+    ):
         with pytest.raises(bsi.Closed):
             call()
 
@@ -208,17 +285,38 @@ def test_an_index_stays_in_its_process():
 
 def test_texts_and_times_and_flags():
     index = bsi.Index.from_frame(
-        {"who": ["b", "d", None, "b"], "at": np.array(["2026-01-01", "2026-01-05", "NaT", "2026-03-01"], "M8[D]"), "ok": [True, False, None, True]}
+        {
+            "who": ["b", "d", None, "b"],
+            "at": np.array(["2026-01-01", "2026-01-05", "NaT", "2026-03-01"], "M8[D]"),
+            "ok": [True, False, None, True],
+        }
     )
     who, at = col.who, col.at
     for where, rows in (
-        (who == "b", [0, 3]), (who != "b", [1]), (who < "c", [0, 3]), (who >= "c", [1]), (who == "zebra", []), (who != "zebra", [0, 1, 3]), (who <= "", []),
-        (at == "2026-01-05", [1]), (at < "2026-01-05T00:00:01", [0, 1]), (at > "2026-01-04T23:59", [1, 3]), (at == "2026-01-05T12:00", []),
-        (at <= np.datetime64("2026-01"), [0]), (at < np.datetime64("2026-01-01T01", "h"), [0]), (col.ok == True, [0, 3]), (col.ok == np.bool_(False), [1]),
-    ):  # fmt: skip
+        (who == "b", [0, 3]),
+        (who != "b", [1]),
+        (who < "c", [0, 3]),
+        (who >= "c", [1]),
+        (who == "zebra", []),
+        (who != "zebra", [0, 1, 3]),
+        (who <= "", []),
+        (at == "2026-01-05", [1]),
+        (at < "2026-01-05T00:00:01", [0, 1]),
+        (at > "2026-01-04T23:59", [1, 3]),
+        (at == "2026-01-05T12:00", []),
+        (at <= np.datetime64("2026-01"), [0]),
+        (at < np.datetime64("2026-01-01T01", "h"), [0]),
+        (col.ok == True, [0, 3]),
+        (col.ok == np.bool_(False), [1]),
+    ):
         assert index.rows(where).tolist() == rows, where
     assert (index.least("who"), index.median("who"), index.sum("ok"), index.greatest("ok")) == ("b", "b", 2, True)
-    for wrong, why in ((who == 5, "5 is no text"), (at < 5, "5 is no date or time"), (at < "yesterday", "no date or time"), (col.ok == 1, "neither True nor False")):
+    for wrong, why in (
+        (who == 5, "5 is no text"),
+        (at < 5, "5 is no date or time"),
+        (at < "yesterday", "no date or time"),
+        (col.ok == 1, "neither True nor False"),
+    ):
         with pytest.raises(bsi.BadQuery, match=why):
             index.count(wrong)
     for name in ("who", "at"):
@@ -227,11 +325,19 @@ def test_texts_and_times_and_flags():
     with pytest.raises(bsi.BadRow, match="row 0: 'new' is none of its 2 texts"):
         index.append({"who": ["new"], "at": [None], "ok": [None]})
     with pytest.raises(bsi.BadRow, match="row 1: .*2026-01-01T12:00.* is no whole number of days"):
-        index.append({"who": ["b", "d"], "at": np.array(["2026-01-01T00:00", "2026-01-01T12:00"], "M8[m]"), "ok": [None, None]})
+        index.append(
+            {"who": ["b", "d"], "at": np.array(["2026-01-01T00:00", "2026-01-01T12:00"], "M8[m]"), "ok": [None, None]}
+        )
 
 
 def test_kinds_that_are_none():
-    for wrong in (lambda: bsi.Decimals("0.02"), lambda: bsi.Decimals(19), lambda: bsi.Decimals("x"), lambda: bsi.Times("h"), lambda: bsi.Texts(("a", "a"), ordered=True)):
+    for wrong in (
+        lambda: bsi.Decimals("0.02"),
+        lambda: bsi.Decimals(19),
+        lambda: bsi.Decimals("x"),
+        lambda: bsi.Times("h"),
+        lambda: bsi.Texts(("a", "a"), ordered=True),
+    ):
         with pytest.raises(ValueError):
             wrong()
     for wrong in (lambda: bsi.Texts(()), lambda: bsi.Texts((1,)), lambda: bsi.slices(2.5)):
@@ -242,8 +348,14 @@ def test_kinds_that_are_none():
 
 def test_kinds_and_forms_that_are_given():
     frame = {"a": [1.5, 2.25], "b": [3, 4], "c": ["x", "y"]}
-    index = bsi.Index.from_frame(frame, ["a", "b"], kinds={"a": bsi.Decimals("0.001")}, forms={"b": bsi.equality(5, offset=2)})
-    assert index.columns == ["a", "b"] and str(index.sum("a")) == "3.750" and str(index.forms["b"]) == "equality(5, offset=2)"
+    index = bsi.Index.from_frame(
+        frame, ["a", "b"], kinds={"a": bsi.Decimals("0.001")}, forms={"b": bsi.equality(5, offset=2)}
+    )
+    assert (
+        index.columns == ["a", "b"]
+        and str(index.sum("a")) == "3.750"
+        and str(index.forms["b"]) == "equality(5, offset=2)"
+    )
     for more, why in (
         ({"forms": {"b": bsi.slices(2)}}, "column 'b', row 1: 4 is not from 0 to 3"),
         ({"kinds": {"a": bsi.Whole()}}, "column 'a', row 0: 1.5 is no whole number"),

@@ -16,4 +16,7 @@ def test_ten_million_rows():
     where, rows = (col.a < 12_345) & (col.b >= -100), (a < 12_345) & (b >= -100) & (b != 7)
     assert index.count(where) == rows.sum() and (index.mask(where) == rows).all()
     assert (index.rows(where & (col.a == 99)) == np.flatnonzero(rows & (a == 99))).all()
-    assert index.sum("b", where) == int(b[rows].sum()) and index.median("a", where) == np.partition(a[rows], (rows.sum() - 1) // 2)[(rows.sum() - 1) // 2]
+    assert (
+        index.sum("b", where) == int(b[rows].sum())
+        and index.median("a", where) == np.partition(a[rows], (rows.sum() - 1) // 2)[(rows.sum() - 1) // 2]
+    )

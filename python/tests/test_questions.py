@@ -15,24 +15,45 @@ from bsi.questions import predicate
 def index():
     return bsi.Index.from_frame(
         {
-            "price": [100, 250, None, 7], "Amount (EUR)": [1.5, 2.25, 0.5, None], "where": ["a b", "O'Hara", "null", None], "ok": [True, False, None, True],
-            "day": ["2026-01-31", "2026-02-01", None, "2026-02-28"], "and": [1, 2, 3, 4],
+            "price": [100, 250, None, 7],
+            "Amount (EUR)": [1.5, 2.25, 0.5, None],
+            "where": ["a b", "O'Hara", "null", None],
+            "ok": [True, False, None, True],
+            "day": ["2026-01-31", "2026-02-01", None, "2026-02-28"],
+            "and": [1, 2, 3, 4],
         },
         kinds={"day": bsi.Times("D")},
-    )  # fmt: skip
+    )
 
 
 @pytest.mark.parametrize(
     "text, answer",
     [
-        ("count", 4), ("count all", 4), ("count price < 100 and \"Amount (EUR)\" null", 1), ("rows price >= 100", [0, 1]), ("sum price", 357),
-        ("median price where not price = 7", 100), ("least 'Amount (EUR)' price!=100", bsi.Decimals(2).decode(225)), ("count price<2.5", 0),
-        ("count not price null and not (price = 7 or price = 100)", 1), ("count price null or price not null", 4), ("greatest price price > 1000", None),
-        ("count 'where' = 'O''Hara'", 1), ("count where \"where\" = \"a b\"", 1), ("count 'where' = 'null'", 1), ("count 'where' null", 1), ("count ok = TRUE", 2),
-        ("greatest price day >= 2026-02-01", 250), ("count 'and' > 1 and 'and' < 4", 2), ("count price = -5", 0), ("count not not price == 7", 1),
-        ("count (((price = 7)))", 1), ("count price = 7 or price = 100 and ok = false", 1), ("count (price = 7 or price = 100) and ok = false", 0),
+        ("count", 4),
+        ("count all", 4),
+        ('count price < 100 and "Amount (EUR)" null', 1),
+        ("rows price >= 100", [0, 1]),
+        ("sum price", 357),
+        ("median price where not price = 7", 100),
+        ("least 'Amount (EUR)' price!=100", bsi.Decimals(2).decode(225)),
+        ("count price<2.5", 0),
+        ("count not price null and not (price = 7 or price = 100)", 1),
+        ("count price null or price not null", 4),
+        ("greatest price price > 1000", None),
+        ("count 'where' = 'O''Hara'", 1),
+        ('count where "where" = "a b"', 1),
+        ("count 'where' = 'null'", 1),
+        ("count 'where' null", 1),
+        ("count ok = TRUE", 2),
+        ("greatest price day >= 2026-02-01", 250),
+        ("count 'and' > 1 and 'and' < 4", 2),
+        ("count price = -5", 0),
+        ("count not not price == 7", 1),
+        ("count (((price = 7)))", 1),
+        ("count price = 7 or price = 100 and ok = false", 1),
+        ("count (price = 7 or price = 100) and ok = false", 0),
     ],
-)  # fmt: skip
+)
 def test_answers(index, text, answer):
     found = bsi.ask(index, text)
     assert (found.tolist() if isinstance(answer, list) else found) == answer
@@ -41,16 +62,33 @@ def test_answers(index, text, answer):
 @pytest.mark.parametrize(
     "text, why",
     [
-        ("", "a question begins with"), ("drop price", "a question begins with"), ("sum", "asked of a column"), ("sum cost", "no column 'cost'"),
-        ("count cost = 5", "no column 'cost'"), ("count price", "a sign and a constant"), ("count price <", "a sign and a constant"),
-        ("count price 5", "a sign and a constant"), ("count price < cheap", "'cheap' is no number"), ("count day < 5", "no date or time"),
-        ("count price < 5 and", "ends where a column is wanted"), ("count (price < 5", "opened and not closed"), ("count price < 5)", "closed that was not opened"),
-        ("count price < 5 price < 6", "'and', 'or' or the end"), ("count and", "a sign and a constant"), ("count price < 'x", "no word of a question"),
-        ("count not", "ends where a column is wanted"), ("count price ! 5", "no word of a question"), ("count ()", "no column"), ("sum 'where'", "have no sum"), ("sum where", "have no sum"),
-        ("count 'and' > 5 < 6", "'and', 'or' or the end"), ("count where > 5", "no column '>'"), ("count " + " and ".join(["price = 1"] * 300), "at most 1,000 fields"),
+        ("", "a question begins with"),
+        ("drop price", "a question begins with"),
+        ("sum", "asked of a column"),
+        ("sum cost", "no column 'cost'"),
+        ("count cost = 5", "no column 'cost'"),
+        ("count price", "a sign and a constant"),
+        ("count price <", "a sign and a constant"),
+        ("count price 5", "a sign and a constant"),
+        ("count price < cheap", "'cheap' is no number"),
+        ("count day < 5", "no date or time"),
+        ("count price < 5 and", "ends where a column is wanted"),
+        ("count (price < 5", "opened and not closed"),
+        ("count price < 5)", "closed that was not opened"),
+        ("count price < 5 price < 6", "'and', 'or' or the end"),
+        ("count and", "a sign and a constant"),
+        ("count price < 'x", "no word of a question"),
+        ("count not", "ends where a column is wanted"),
+        ("count price ! 5", "no word of a question"),
+        ("count ()", "no column"),
+        ("sum 'where'", "have no sum"),
+        ("sum where", "have no sum"),
+        ("count 'and' > 5 < 6", "'and', 'or' or the end"),
+        ("count where > 5", "no column '>'"),
+        ("count " + " and ".join(["price = 1"] * 300), "at most 1,000 fields"),
         ("count __import__('os')", "no column"),
     ],
-)  # fmt: skip
+)
 def test_questions_that_are_none(index, text, why):
     with pytest.raises(bsi.BadQuery, match=why):
         bsi.ask(index, text)
@@ -65,7 +103,9 @@ def test_deep_questions(index):
 
 
 def run(*words, given=""):
-    return subprocess.run([sys.executable, "-m", "bsi", *words], input=given, capture_output=True, text=True, check=False)
+    return subprocess.run(
+        [sys.executable, "-m", "bsi", *words], input=given, capture_output=True, text=True, check=False
+    )
 
 
 def test_the_command(tmp_path, capsys):
@@ -73,14 +113,28 @@ def test_the_command(tmp_path, capsys):
     path.write_text("n,Day\n1,2026-01-31\n2,2026-02-01\nn/a,\n")
     other.write_text("n,Day\n5,2026-02-03\n")
     ran = run(str(path), str(other), "--null", "n/a", "sum n", "greatest Day n < 5", "rows n null", "count n = x")
-    assert ran.stdout.splitlines()[1:] == ["  n    slices(3)                whole numbers, 0 to 7", "  Day  slices(2, offset=20484)  dates, 2026-01-31 to 2026-02-03", "8", "2026-02-01 00:00:00", "2"]
+    assert ran.stdout.splitlines()[1:] == [
+        "  n    slices(3)                whole numbers, 0 to 7",
+        "  Day  slices(2, offset=20484)  dates, 2026-01-31 to 2026-02-03",
+        "8",
+        "2026-02-01 00:00:00",
+        "2",
+    ]
     assert ran.stdout.startswith("Index of 4 rows, about ") and ran.returncode == 1
     assert ran.stderr == "bsi: column 'n' is compared with one of whole numbers: 'x' is no number\n"
     ran = run(str(path), "--null=n/a", "--columns", "n", "--parts", "2", given="count\n\nmedian n\n")
-    assert ran.stdout.splitlines()[0].startswith("Parts of 3 rows") and ran.stdout.splitlines()[2:] == ["3", "1"] and ran.returncode == 0
+    assert (
+        ran.stdout.splitlines()[0].startswith("Parts of 3 rows")
+        and ran.stdout.splitlines()[2:] == ["3", "1"]
+        and ran.returncode == 0
+    )
     ran = run(str(path), "--text", "n", "least n n > 1")
     assert ran.stdout.splitlines()[-1] == "2" and ran.returncode == 0
     ran = run(str(path))
-    assert ran.returncode == 1 and ran.stderr == f"bsi: column 'n', row 2 (line 4 of {path}): 'n/a' is no number\n" and ran.stdout == ""
+    assert (
+        ran.returncode == 1
+        and ran.stderr == f"bsi: column 'n', row 2 (line 4 of {path}): 'n/a' is no number\n"
+        and ran.stdout == ""
+    )
     assert "No such file" in run("none.csv").stderr and run().returncode == 2
     assert main([str(path), "--null", "n/a", "count"]) == 0 and capsys.readouterr().out.endswith("3\n")

@@ -73,5 +73,7 @@ def test_frames_answer_as_pandas():
                 assert index.sum("Whole No", where) == chosen["Whole No"].sum()
                 assert index.greatest("day", where) == (chosen["day"].max() if len(chosen) else None)
                 median = chosen["price"].quantile(0.5, interpolation="lower")
-                assert index.median("price", where) == (None if np.isnan(median) else bsi.Decimals(2).decode(round(median * 100)))
+                assert index.median("price", where) == (
+                    None if np.isnan(median) else bsi.Decimals(2).decode(round(median * 100))
+                )
                 assert index.least("who", where) == (chosen["who"].min() if len(chosen) else None)

@@ -32,19 +32,37 @@ def test_an_export():
     index = bsi.read_csv(path, ["Ordered", "Amount (EUR)", "Customer"], nulls=["", "n/a"])
     assert index.columns == ["Ordered", "Amount (EUR)", "Customer"] and len(index) == 6
     assert index.median("Amount (EUR)", col.Ordered < "2026-02-01") == Decimal("12.50")
-    assert index.greatest("Ordered") == datetime.datetime(2026, 3, 1) and index.count(col.Customer == "Okafor, Ada") >= 1
+    assert (
+        index.greatest("Ordered") == datetime.datetime(2026, 3, 1) and index.count(col.Customer == "Okafor, Ada") >= 1
+    )
 
 
 def test_kinds_are_chosen(write):
-    text = "n,d,day,at,ok,t,z,nothing\n-5,1.5,2026-01-31,2026-01-31T12:00:30,True,x,2026-01-31T12:00Z,\n,,,,,,,\n7,.25,1999-12-31,2026-02-01 00:00,false,\"y, z\",2026-01-31T12:00+01:00,\n"
+    text = (
+        "n,d,day,at,ok,t,z,nothing\n"
+        "-5,1.5,2026-01-31,2026-01-31T12:00:30,True,x,2026-01-31T12:00Z,\n"
+        ",,,,,,,\n"
+        '7,.25,1999-12-31,2026-02-01 00:00,false,"y, z",2026-01-31T12:00+01:00,\n'
+    )
     index = bsi.read_csv(write(text))
     kinds = {name: form.kind for name, form in index.forms.items()}
     assert kinds == {
-        "n": bsi.Whole(), "d": bsi.Decimals(2), "day": bsi.Times("D"), "at": bsi.Times("s"), "ok": bsi.Flags(), "t": bsi.Texts(("x", "y, z")),
-        "z": bsi.Times("s", datetime.timezone.utc), "nothing": bsi.Whole(),
-    }  # fmt: skip
+        "n": bsi.Whole(),
+        "d": bsi.Decimals(2),
+        "day": bsi.Times("D"),
+        "at": bsi.Times("s"),
+        "ok": bsi.Flags(),
+        "t": bsi.Texts(("x", "y, z")),
+        "z": bsi.Times("s", datetime.timezone.utc),
+        "nothing": bsi.Whole(),
+    }
     assert index.rows(col.n.isnull()).tolist() == [1] and index.count(col.nothing.isnull()) == 3
-    assert (index.sum("n"), index.sum("d"), index.least("day"), index.greatest("t")) == (2, Decimal("1.75"), datetime.datetime(1999, 12, 31), "y, z")
+    assert (index.sum("n"), index.sum("d"), index.least("day"), index.greatest("t")) == (
+        2,
+        Decimal("1.75"),
+        datetime.datetime(1999, 12, 31),
+        "y, z",
+    )
     assert index.least("z") == datetime.datetime(2026, 1, 31, 11, tzinfo=datetime.timezone.utc)
 
 
@@ -133,9 +151,15 @@ def test_kinds_that_are_given(write):
     for more, why in (
         ({"kinds": {"zap": bsi.Texts}}, "given for 'zap'"),
         ({"kinds": {"zip": bsi.Texts, "cents": bsi.Times("D")}}, "column 'cents', row 0 .* no date or time"),
-        ({"columns": ["zip"], "kinds": {"zip": bsi.Texts(("10001",))}}, "column 'zip', row 0 .* is none of its 1 texts"),
+        (
+            {"columns": ["zip"], "kinds": {"zip": bsi.Texts(("10001",))}},
+            "column 'zip', row 0 .* is none of its 1 texts",
+        ),
         ({"columns": ["zip", "none"]}, "there is no column 'none'"),
-        ({"kinds": {"zip": bsi.Texts, "cents": bsi.Whole()}, "forms": {"cents": bsi.slices(2)}}, "column 'cents', row 0: 7 is not from 0 to 3"),
+        (
+            {"kinds": {"zip": bsi.Texts, "cents": bsi.Whole()}, "forms": {"cents": bsi.slices(2)}},
+            "column 'cents', row 0: 7 is not from 0 to 3",
+        ),
         ({"kinds": {"zip": bsi.Texts, "cents": bsi.Whole()}, "limit": 2}, "row 2 is past the limit"),
     ):
         with pytest.raises(bsi.Error, match=why):

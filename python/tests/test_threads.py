@@ -11,7 +11,10 @@ from bsi import col
 
 def table(rows, seed=3):
     rng = np.random.default_rng(seed)
-    return {"a": rng.integers(0, 1 << 20, rows), "b": np.ma.MaskedArray(rng.integers(-400, 600, rows), rng.random(rows) < 0.1)}
+    return {
+        "a": rng.integers(0, 1 << 20, rows),
+        "b": np.ma.MaskedArray(rng.integers(-400, 600, rows), rng.random(rows) < 0.1),
+    }
 
 
 FORMS = {"a": bsi.slices(20), "b": bsi.range(10, 10, 10, offset=-400)}
@@ -43,7 +46,9 @@ def test_eight_threads_ask_one_index(shared):
     index = bsi.Index(FORMS)
     index.append(data)
     wanted = [int(((data["a"] < limit) & (data["b"] >= 100).filled(False)).sum()) for limit in LIMITS]
-    medians = [int(np.sort(data["a"][data["a"] >= limit])[(int((data["a"] >= limit).sum()) - 1) // 2]) for limit in LIMITS]
+    medians = [
+        int(np.sort(data["a"][data["a"] >= limit])[(int((data["a"] >= limit).sum()) - 1) // 2]) for limit in LIMITS
+    ]
 
     def ask(one):
         for _ in range(5):
@@ -96,19 +101,33 @@ def test_parts_put_answers_together():
             for start, end in ((0, 0), (0, 1), (1, 50_000), (50_000, 100_003)):
                 parts.append({name: values[start:end] for name, values in data.items()})
             assert len(parts) == 100_003 and repr(parts).startswith("Parts of 100,003 rows")
-            for where in (bsi.all_rows, col.a < 345_678, (col.b < 12) | (col.a == int(data["a"][5])), col.b.isnull(), col.a < 0):
+            for where in (
+                bsi.all_rows,
+                col.a < 345_678,
+                (col.b < 12) | (col.a == int(data["a"][5])),
+                col.b.isnull(),
+                col.a < 0,
+            ):
                 assert parts.count(where) == index.count(where)
                 assert (parts.mask(where) == index.mask(where)).all() and (parts.rows(where) == index.rows(where)).all()
                 for name in FORMS:
                     assert parts.sum(name, where) == index.sum(name, where)
                     for end in ("least", "greatest", "median"):
-                        assert getattr(parts, end)(name, where) == getattr(index, end)(name, where), (n, end, name, where)
+                        assert getattr(parts, end)(name, where) == getattr(index, end)(name, where), (
+                            n,
+                            end,
+                            name,
+                            where,
+                        )
 
 
 def test_parts_change_nothing_at_a_refusal():
     parts = bsi.Parts(3, FORMS, limit=50)
     parts.append(table(30))
-    for bad, why in (({"a": [0] * 20, "b": [0] * 19 + [600]}, "column 'b', row 19: 600 is not from -400 to 599"), (table(21), "row 20 is past the limit of 50 rows")):
+    for bad, why in (
+        ({"a": [0] * 20, "b": [0] * 19 + [600]}, "column 'b', row 19: 600 is not from -400 to 599"),
+        (table(21), "row 20 is past the limit of 50 rows"),
+    ):
         with pytest.raises(bsi.Error, match=why):
             parts.append(bad)
         assert len(parts) == 30 and len(parts.mask()) == 30
@@ -134,7 +153,8 @@ def test_memory_that_is_refused(monkeypatch):
 
 
 def test_each_status_has_its_exception():
-    names = "Closed Open NoMemory BadSchema NoColumns BadFeeder BadColumns BadRow IndexFull Shared BadQuery NoRoom BadText".split()
+    names = ["Closed", "Open", "NoMemory", "BadSchema", "NoColumns", "BadFeeder", "BadColumns", "BadRow", "IndexFull"]
+    names += ["Shared", "BadQuery", "NoRoom", "BadText"]
     assert [bsi.errors.BY_STATUS[status].__name__ for status in range(1, 14)] == names
     for status in (1, 2, 3, 4, 5, 6, 7, 10, 11, 12, 13):
         with pytest.raises(bsi.errors.BY_STATUS[status]):

@@ -1,4 +1,5 @@
-"""Nulls and numbers of every source come in as they are, and what can't be kept exactly is refused with its column and row."""
+"""Nulls and numbers of every source come in as they are, and what can't be kept exactly is refused with its column and
+row."""
 
 import datetime
 from decimal import Decimal
@@ -45,7 +46,10 @@ WITH_A_NULL = {
     "arrow of floats with a nan": Arrow("g", 3, [None, np.array([1, np.nan, 3])], null_count=0),
     "arrow with an offset": Arrow("i", 3, [bits(*[0] * 9, 1, 0, 1), np.arange(-8, 4, dtype=np.int32)], offset=9),
     "arrow with a dictionary": Arrow(
-        "c", 3, [bits(1, 0, 1), np.array([1, 77, 0], np.int8)], dictionary=Arrow("l", 2, [None, np.array([3, 1])], null_count=0)
+        "c",
+        3,
+        [bits(1, 0, 1), np.array([1, 77, 0], np.int8)],
+        dictionary=Arrow("l", 2, [None, np.array([3, 1])], null_count=0),
     ),
 }
 
@@ -85,11 +89,23 @@ CHOSEN = {
     "a date before 1970": ([datetime.date(1900, 1, 1)], bsi.Times("D"), [pandas.Timestamp(1900, 1, 1)]),
     "a date far away": ([datetime.date(9999, 12, 31)], bsi.Times("D"), [datetime.datetime(9999, 12, 31)]),
     "datetimes": ([datetime.datetime(2026, 1, 31, 12)], bsi.Times("s"), [pandas.Timestamp(2026, 1, 31, 12)]),
-    "times of pandas": (pandas.Series(pandas.to_datetime(["2026-01-31", None])), bsi.Times("D"), [pandas.Timestamp(DAY)]),
-    "milliseconds": (np.array(["2026-01-31T00:00:00.5"], "M8[ms]"), bsi.Times("ms"), [pandas.Timestamp("2026-01-31 00:00:00.500")]),
+    "times of pandas": (
+        pandas.Series(pandas.to_datetime(["2026-01-31", None])),
+        bsi.Times("D"),
+        [pandas.Timestamp(DAY)],
+    ),
+    "milliseconds": (
+        np.array(["2026-01-31T00:00:00.5"], "M8[ms]"),
+        bsi.Times("ms"),
+        [pandas.Timestamp("2026-01-31 00:00:00.500")],
+    ),
     "nanoseconds": ([pandas.Timestamp(1)], bsi.Times("ns"), [pandas.Timestamp(1)]),
     "months": (np.array(["2026-02"], "M8[M]"), bsi.Times("D"), [pandas.Timestamp(2026, 2, 1)]),
-    "arrow dates": (Arrow("tdD", 2, [None, np.array([0, 1], np.int32)]), bsi.Times("D"), [pandas.Timestamp(0), pandas.Timestamp(1970, 1, 2)]),
+    "arrow dates": (
+        Arrow("tdD", 2, [None, np.array([0, 1], np.int32)]),
+        bsi.Times("D"),
+        [pandas.Timestamp(0), pandas.Timestamp(1970, 1, 2)],
+    ),
     "arrow booleans": (Arrow("b", 3, [bits(1, 1, 0), bits(1, 0, 1)]), bsi.Flags(), [True, False]),
     "arrow texts": (texts("b", "ä", "", validity=bits(1, 1, 1)), bsi.Texts(("", "b", "ä")), ["b", "ä", ""]),
     "large arrow texts": (texts("b", "a", large=True), bsi.Texts(("a", "b")), ["b", "a"]),
@@ -99,7 +115,14 @@ CHOSEN = {
         ["a", "b"],
     ),
     "arrow decimals": (
-        Arrow("d:10,2", 2, [bits(1, 1), np.frombuffer((-125).to_bytes(16, "little", signed=True) + (7).to_bytes(16, "little"), np.uint8)]),
+        Arrow(
+            "d:10,2",
+            2,
+            [
+                bits(1, 1),
+                np.frombuffer((-125).to_bytes(16, "little", signed=True) + (7).to_bytes(16, "little"), np.uint8),
+            ],
+        ),
         bsi.Decimals(2),
         [Decimal("-1.25"), Decimal("0.07")],
     ),
