@@ -60,7 +60,7 @@ def _shown(answer: Any) -> str:
     if answer is None:
         return "none"
     if not hasattr(answer, "tolist"):
-        return str(answer)
+        return str(answer).removesuffix(" 00:00:00")
     more = [f".. {len(answer) - MOST_SHOWN:,} more"] if len(answer) > MOST_SHOWN else []
     return " ".join([*map(str, answer[:MOST_SHOWN].tolist()), *more]) or "none"
 

@@ -136,6 +136,8 @@ class Whole(Kind):
     unfit = "is no whole number"
 
     def cut(self, constant: Any) -> Cut:
+        if type(constant) is int:
+            return constant, constant + 1
         return cut_of(fraction_of(constant, lambda number: Fraction(float(number))))
 
     def parse(self, text: str) -> Decimal:
@@ -225,7 +227,7 @@ class Decimals(Kind):
         return scaled.astype(np.int64)
 
     def __str__(self) -> str:
-        return f"decimals of {self.places} places"
+        return f"decimals of {self.places} place{'' if self.places == 1 else 's'}"
 
 
 def _places_of_scale(scale: Any) -> int:

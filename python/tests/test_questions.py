@@ -117,7 +117,7 @@ def test_the_command(tmp_path, capsys):
         "  n    slices(3)                whole numbers, 0 to 7",
         "  Day  slices(2, offset=20484)  dates, 2026-01-31 to 2026-02-03",
         "8",
-        "2026-02-01 00:00:00",
+        "2026-02-01",
         "2",
     ]
     assert ran.stdout.startswith("Index of 4 rows, about ") and ran.returncode == 1
