@@ -51,14 +51,12 @@ class Wishes:
         self.kinds, self.forms = dict(kinds or {}), dict(forms or {})
         for name in [*self.kinds, *self.forms]:
             if name not in names:
-                raise BadColumns(
-                    f"a kind or form is given for {name!r}, and the columns are {', '.join(map(repr, names))}"
-                )
+                listed = ", ".join(map(repr, names))
+                raise BadColumns(f"a kind or form is given for {name!r}, and the columns are {listed}")
         for name, form in self.forms.items():
             if not isinstance(form, Form):
-                raise BadSchema(
-                    f"the form of column {name!r} is slices(..), range(..) or equality(..), and not {form!r}"
-                )
+                shape = "slices(..), range(..) or equality(..)"
+                raise BadSchema(f"the form of column {name!r} is {shape}, and not {form!r}")
             if form.kind != Whole():
                 self.kinds.setdefault(name, form.kind)
 
@@ -71,9 +69,7 @@ class Wishes:
             elif isinstance(kind, Kind):
                 numbers = encode(kind, values)
             else:
-                raise BadSchema(
-                    f"the kind of column {name!r} is given as one, such as Decimals('0.01'), and not as {kind!r}"
-                )
+                raise BadSchema(f"the kind of column {name!r} is one, as Decimals('0.01') is, and not {kind!r}")
         except Misfit as why:
             raise BadRow(name, row + why.row, why.value, why.reason) from None
         return Block(kind, numbers, values.valid, row)
@@ -113,11 +109,17 @@ def _too_many_texts(name: str, found: Dict[str, None], block: Block) -> Error:
     return BadColumns(f"column {name!r} has more than {MOST_TEXTS:,} different texts; leave it out")
 
 
-def settled(
-    name: str, blocks: List[Block], wishes: Wishes, checked: bool = False
-) -> Tuple[Form, Tuple[np.ndarray, np.ndarray]]:
-    """Returns the form of a column, and its numbers of all blocks under one kind. Where the numbers are `checked`
-    elsewhere, those that a form which was given does not take are not refused here."""
+def settled(name: str, blocks: List[Block], wishes: Wishes) -> Tuple[Form, Tuple[np.ndarray, np.ndarray]]:
+    """Returns the form of a column, and its numbers of all blocks. Refuses those that a form which was given does not
+    take."""
+    form, (numbers, valid) = joined_blocks(name, blocks, wishes)
+    if name in wishes.forms:
+        refuse_misfit(name, form, numbers, valid)
+    return form, (numbers, valid)
+
+
+def joined_blocks(name: str, blocks: List[Block], wishes: Wishes) -> Tuple[Form, Tuple[np.ndarray, np.ndarray]]:
+    """Returns the form of a column, and its numbers of all blocks under one kind."""
     kind = kind_of(name, blocks)
     parts = []
     for block in blocks:
@@ -127,10 +129,7 @@ def settled(
             raise BadRow(name, block.row + why.row, block.value(why.row), why.reason) from None
     numbers = parts[0] if len(parts) == 1 else np.concatenate(parts)
     valid = blocks[0].valid if len(blocks) == 1 else np.concatenate([block.valid for block in blocks])
-    form = wishes.form(name, kind, *ends_of(numbers, valid))
-    if name in wishes.forms and not checked:
-        refuse_misfit(name, form, numbers, valid)
-    return form, (numbers, valid)
+    return wishes.form(name, kind, *ends_of(numbers, valid)), (numbers, valid)
 
 
 def ends_of(numbers: np.ndarray, valid: np.ndarray) -> Tuple[int, int]:
@@ -157,7 +156,6 @@ def chosen(
     found = {name: settled(name, [wishes.block(name, values_of(name, given[name]))], wishes) for name in wanted}
     lengths = {name: len(numbers) for name, (_, (numbers, _)) in found.items()}
     if len(set(lengths.values())) > 1:
-        raise BadColumns(
-            f"the columns differ in length: {', '.join(f'{name!r} {length:,}' for name, length in lengths.items())}"
-        )
+        listed = ", ".join(f"{name!r} {length:,}" for name, length in lengths.items())
+        raise BadColumns(f"the columns differ in length: {listed}")
     return {name: form for name, (form, _) in found.items()}, [encoded for _, encoded in found.values()]

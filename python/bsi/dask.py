@@ -11,13 +11,14 @@ Workers must be spawned, as Dask does by itself, and not forked: a process with 
 from __future__ import annotations
 
 import asyncio
+import contextlib
 from typing import Any, Dict, Iterable, List, Mapping, NamedTuple, Optional, Tuple, Union
 
 import dask
 import numpy as np
 from distributed import Client, get_client, wait
 
-from .choosing import Block, Wishes, ends_of, refuse_misfit, settled, wanted_of
+from .choosing import Block, Wishes, ends_of, joined_blocks, refuse_misfit, wanted_of
 from .errors import BadRow, Error, IndexFull, LostWorker
 from .forms import Form
 from .gathered import Gathered
@@ -107,7 +108,7 @@ class _Actors(Gathered):
                     raise LostWorker(actor.address) from None
 
     def close(self) -> None:
-        with self.lock:
+        with self.lock, contextlib.suppress(LostWorker):
             self._ask("close")
 
 
@@ -173,16 +174,29 @@ def _store(client: Client, forms: Any, partitions: List[Any], places: List[str],
     shares = [[one for one, place in zip(partitions, places) if place == worker] for worker in workers]
     how = {"actor": True, "pure": False}
     futures = [client.submit(Part, forms, share, workers=[worker], **how) for worker, share in zip(workers, shares)]
+    _wait(client, futures, workers)
     store = _Actors(client, [_Actor(worker, future.result()) for worker, future in zip(workers, futures)])
     store.runs = [(workers.index(place), count) for place, count in zip(places, rows)]
     return store
+
+
+def _wait(client: Client, futures: List[Any], workers: List[str]) -> None:
+    """Waits for the actors, as long as their workers are there."""
+    while True:
+        try:
+            wait(futures, timeout=SECONDS)
+            return
+        except (asyncio.TimeoutError, TimeoutError):
+            gone = set(workers) - _addresses(client)
+            if gone:
+                raise LostWorker(f"the worker {', '.join(sorted(gone))} is gone; make the index again") from None
 
 
 def _form(name: str, ends: List[Block], rows: List[int], wishes: Wishes) -> Form:
     """Returns the form of a column over all partitions, of each of which the two ends are known."""
     starts = [sum(rows[:place]) for place in range(len(rows))]
     there = [block._replace(row=start + block.row) for start, block in zip(starts, ends) if block.valid.any()]
-    form, _ = settled(name, there or ends, wishes, checked=True)
+    form, _ = joined_blocks(name, there or ends, wishes)
     return form
 
 

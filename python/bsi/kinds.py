@@ -16,6 +16,7 @@ from dataclasses import dataclass, field
 from datetime import date, datetime, timedelta, timezone
 from decimal import Decimal
 from fractions import Fraction
+from itertools import repeat
 from typing import Any, Callable, Dict, Optional, Tuple
 
 import numpy as np
@@ -26,7 +27,8 @@ FAR = 1 << 200
 NANOSECONDS = {"D": 86_400_000_000_000, "s": 1_000_000_000, "ms": 1_000_000, "us": 1_000, "ns": 1}
 UNITS = {"D": "days", "s": "seconds", "ms": "milliseconds", "us": "microseconds", "ns": "nanoseconds"}
 NUMBER = re.compile(r"-?(?:[0-9]+(?:\.[0-9]*)?|\.[0-9]+)(?:[eE][-+]?[0-9]{1,3})?")
-TIME = re.compile(r"(\d{4}-\d\d-\d\d)(?:[T ](\d\d:\d\d(?::\d\d(?:\.\d{1,9})?)?)(Z|[+-]\d\d:?\d\d)?)?", re.ASCII)
+CLOCK, ZONE = r"\d\d:\d\d(?::\d\d(?:\.\d{1,9})?)?", r"Z|[+-](?:[01]\d|2[0-3]):?[0-5]\d"
+TIME = re.compile(rf"(\d{{4}}-\d\d-\d\d)(?:[T ]({CLOCK})({ZONE})?)?", re.ASCII)
 
 
 class Misfit(ValueError):
@@ -271,8 +273,9 @@ class Times(Kind):
     def unfit(self) -> str:  # type: ignore[override]
         return f"is no whole number of {UNITS[self.unit]}"
 
-    def parse(self, text: str) -> Any:
-        return time_of(text)
+    def parse(self, text: str) -> str:
+        nanoseconds_of_text(text)
+        return text
 
     def decode(self, number: int) -> Any:
         return _time(number * NANOSECONDS[self.unit], self.zone)
@@ -296,27 +299,26 @@ class Times(Kind):
 EPOCH = datetime(1970, 1, 1)
 
 
-def time_of(text: str) -> Any:
-    """Returns the time that a text spells, as NumPy has it, or with its zone as datetime has it."""
+def nanoseconds_of_text(text: str) -> Tuple[int, bool]:
+    """Returns the nanoseconds since 1970-01-01 that a text spells, in UTC where it has a zone, and whether it has
+    one."""
     found = TIME.fullmatch(text)
     if not found:
         raise ValueError(f"{shown(text)} is no date or time; one is 2026-01-31 or 2026-01-31T12:00:00")
     day, clock, zone = found.groups()
-    if zone is None:
-        return np.datetime64(f"{day}T{clock}" if clock else day)
-    if len(clock.partition(".")[2]) > 6:
-        raise ValueError(f"{shown(text)} has more than six places of a second beside a zone")
-    clock, _, fraction = clock.partition(".")
-    zone = "+00:00" if zone == "Z" else zone if ":" in zone else f"{zone[:3]}:{zone[3:]}"
-    return datetime.fromisoformat(
-        f"{day}T{clock if clock.count(':') > 1 else clock + ':00'}.{fraction.ljust(6, '0')}{zone}"
-    )
+    clock, _, fraction = (clock or "00").partition(".")
+    try:
+        seconds = int(np.datetime64(f"{day}T{clock}", "s").astype(np.int64))
+    except ValueError:
+        raise ValueError(f"{shown(text)} is no date or time: the calendar or the clock has no such") from None
+    ahead = 0 if zone in (None, "Z") else (int(zone[1:3]) * 60 + int(zone[-2:])) * (-60 if zone[0] == "-" else 60)
+    return (seconds - ahead) * NANOSECONDS["s"] + int(fraction.ljust(9, "0")), zone is not None
 
 
 def nanoseconds_of(moment: Any) -> Tuple[int, bool]:
     """Returns the nanoseconds since 1970-01-01, in UTC where the moment has a zone, and whether it has one."""
     if isinstance(moment, str):
-        moment = time_of(moment)
+        return nanoseconds_of_text(moment)
     if isinstance(moment, np.datetime64) and not np.isnat(moment):
         unit, count = np.datetime_data(moment.dtype)
         if unit in ("Y", "M", "W"):
@@ -424,7 +426,7 @@ class Texts(Kind):
 
     def encode(self, values: np.ndarray, valid: np.ndarray) -> np.ndarray:
         try:
-            found = np.fromiter(map(lambda value: self.places.get(value, -1), values), np.int64, len(values))
+            found = np.fromiter(map(self.places.get, values, repeat(-1)), np.int64, len(values))
         except TypeError:
             return super().encode(values, valid)
         return super().encode(values, valid) if (valid & (found < 0)).any() else np.where(valid, found, 0)

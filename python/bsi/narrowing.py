@@ -10,20 +10,8 @@ from typing import Any, Dict, List, Optional, Tuple
 
 import numpy as np
 
-from .kinds import (
-    NANOSECONDS,
-    UNITS,
-    Decimals,
-    Flags,
-    Kind,
-    Misfit,
-    Texts,
-    Times,
-    Whole,
-    first_misfit,
-    nanoseconds_of,
-    shown,
-)
+from .kinds import NANOSECONDS, UNITS, Decimals, Flags, Kind, Misfit, Texts, Times, Whole
+from .kinds import first_misfit, nanoseconds_of, shown
 from .values import Values
 
 # How many places of decimals are tried for floats, and how many different texts a column may have.
@@ -34,19 +22,9 @@ Narrowed = Tuple[Optional[Kind], np.ndarray]
 
 def encode(kind: Kind, given: Values) -> np.ndarray:
     """Returns the numbers that stand for the values under a kind that is known. The first other value is a Misfit."""
-    if (
-        given.values.dtype.kind == "M"
-        and isinstance(kind, Times)
-        and (given.zone is None) != (kind.zone is None)
-        and given.valid.any()
-    ):
-        row = int(given.valid.argmax())
-        reason = (
-            "has no time zone, and the column has one"
-            if given.zone is None
-            else "has a time zone, and the column has none"
-        )
-        raise Misfit(row, given.values[row], f"{shown(given.values[row])} {reason}")
+    if given.values.dtype.kind == "M" and isinstance(kind, Times) and (given.zone is None) != (kind.zone is None):
+        has, column_has = ("no", "one") if given.zone is None else ("a", "none")
+        first_misfit(given.valid, given.values, f"has {has} time zone, and the column has {column_has}")
     return kind.encode(given.values, given.valid)
 
 
@@ -92,16 +70,23 @@ def _of_objects(given: Values) -> Narrowed:
 
 
 def _texts(given: Values) -> Narrowed:
-    found: dict = {}
+    there = given.values[given.valid].tolist()
+    if set(map(type, there)) != {str} or len(set(there)) > MOST_TEXTS:
+        _refuse_texts(given)
+    kind = Texts(given.order, ordered=True) if given.order else Texts(tuple(set(there)))
+    return kind, kind.encode(given.values, given.valid)
+
+
+def _refuse_texts(given: Values) -> None:
+    """Raises the first value that is no text, or one text more than a column may have."""
+    found = set()
     for row in np.flatnonzero(given.valid).tolist():
         text = given.values[row]
         if not isinstance(text, str):
             raise Misfit(row, text, f"{shown(text)} is no text, as those before it are")
-        found[text] = None
+        found.add(text)
         if len(found) > MOST_TEXTS:
             raise Misfit(row, text, too_many_texts(text))
-    kind = Texts(given.order, ordered=True) if given.order else Texts(tuple(found))
-    return kind, kind.encode(given.values, given.valid)
 
 
 def too_many_texts(text: str) -> str:
@@ -125,7 +110,7 @@ def _places(row: int, value: Any) -> int:
     if isinstance(value, (numbers.Integral, np.bool_)):
         return 0
     if isinstance(value, (float, np.floating)):
-        value = Decimal(str(value)).normalize()
+        value = Decimal(str(value)) if value % 1 else Decimal(0)
     if not isinstance(value, Decimal):
         raise Misfit(row, value, f"{shown(value)} is no number, or no decimal")
     exponent = value.as_tuple().exponent
@@ -148,11 +133,16 @@ def _times(given: Values) -> Narrowed:
         if len(zones) > 1 and None in zones:
             has, other_has = ("a", "none") if is_aware else ("no", "one")
             raise Misfit(row, value, f"{shown(value)} has {has} time zone, and one before it has {other_has}")
-    zone = zones.pop() if len(zones) == 1 else timezone.utc
+    return times_of(moments, given.values, zones.pop() if len(zones) == 1 else timezone.utc)
+
+
+def times_of(moments: np.ndarray, values: Any, zone: Any) -> Narrowed:
+    """Returns times of the coarsest unit that keeps all of these nanoseconds, and the counts of it. `values` are what
+    they came from."""
     unit = next(unit for unit in UNITS if all(moment % NANOSECONDS[unit] == 0 for moment in moments))
     counts = moments // NANOSECONDS[unit]
     is_far = np.array([abs(count) >= 1 << 63 for count in counts], bool)
-    first_misfit(is_far, given.values, f"is past 63 bits of {UNITS[unit]}")
+    first_misfit(is_far, values, f"is past 63 bits of {UNITS[unit]}")
     return Times(unit, zone), counts.astype(np.int64)
 
 

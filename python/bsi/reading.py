@@ -12,24 +12,11 @@ import io
 import os
 import re
 from contextlib import contextmanager
+from datetime import timezone
 from decimal import Decimal
 from itertools import islice
-from typing import (
-    IO,
-    Any,
-    Callable,
-    Collection,
-    Dict,
-    Iterable,
-    Iterator,
-    List,
-    Mapping,
-    NamedTuple,
-    Optional,
-    Tuple,
-    Type,
-    Union,
-)
+from typing import IO, Any, Callable, Collection, Dict, Iterable, Iterator, List, Mapping, NamedTuple, Optional
+from typing import Tuple, Type, Union
 
 import numpy as np
 
@@ -37,8 +24,8 @@ from .choosing import Block, Wishes, settled, wanted_of
 from .errors import BadColumns, BadRow
 from .forms import Form
 from .index import Index
-from .kinds import NUMBER, TIME, Decimals, Flags, Kind, Misfit, Texts, Times, Whole, shown, time_of
-from .narrowing import MOST_TEXTS, Narrowed, first_that_keeps, narrow, too_many_texts
+from .kinds import NUMBER, TIME, Decimals, Flags, Kind, Misfit, Texts, Times, Whole, nanoseconds_of_text, shown
+from .narrowing import Narrowed, narrow, times_of
 from .parts import Parts
 from .progress import Progress, told
 from .values import Values
@@ -48,7 +35,8 @@ RECORDS = 1 << 16
 # Numbers as a file spells them. One that begins with a needless 0 may be a code, whose text would be lost.
 PLAIN = re.compile(r"-?(?:0|[1-9][0-9]*)")
 POINT = re.compile(r"-?(?:0|[1-9][0-9]*)?\.[0-9]+|-?(?:0|[1-9][0-9]*)\.?")
-UNIT_OF_PLACES = ("s", "ms", "ms", "ms", "us", "us", "us", "ns", "ns", "ns")
+DAY = re.compile(r"\d{4}-\d\d-\d\d", re.ASCII)
+MICROSECONDS = re.compile(r"\d{4}-\d\d-\d\d(?:[T ]\d\d:\d\d(?::\d\d(?:\.\d{1,6})?)?)?", re.ASCII)
 
 
 class Part(NamedTuple):
@@ -137,19 +125,18 @@ class _Reader:
     def _keep(self, part: Part) -> None:
         assert self._header is not None
         width = len(self._header)
-        for row, record in enumerate(part.records):
-            if len(record) != width:
-                raise BadColumns(
-                    f"row {part.row + row}{part.place(row)} has {len(record)} fields, and the header {width}"
-                )
-        fields = list(zip(*part.records))
+        if set(map(len, part.records)) != {width}:
+            row, fields = next((row, len(one)) for row, one in enumerate(part.records) if len(one) != width)
+            raise BadColumns(f"row {part.row + row}{part.place(row)} has {fields} fields, and the header {width}")
+        columns = list(zip(*part.records))
         for name in self.wanted:
-            self.blocks[name].append(self._block(name, fields[self._header.index(name)], part))
+            self.blocks[name].append(self._block(name, list(columns[self._header.index(name)]), part))
 
-    def _block(self, name: str, fields: Tuple[str, ...], part: Part) -> Block:
-        valid = np.fromiter((field not in self._nulls for field in fields), bool, len(fields))
-        numbers = np.zeros(len(fields), np.int64)
-        there = list(fields) if valid.all() else [field for field, is_valid in zip(fields, valid.tolist()) if is_valid]
+    def _block(self, name: str, fields: List[str], part: Part) -> Block:
+        valid, numbers, there = np.ones(len(fields), bool), np.zeros(len(fields), np.int64), fields
+        if not self._nulls.isdisjoint(fields):
+            valid = np.array([field not in self._nulls for field in fields], bool)
+            there = [field for field in fields if field not in self._nulls]
         if not there:
             return Block(None, numbers, valid, part.row)
         try:
@@ -174,11 +161,11 @@ def _nothing() -> Block:
 
 @contextmanager
 def _opened(path: Path, encoding: str) -> Iterator[Tuple[IO[bytes], IO[str]]]:
-    with open(path, "rb", buffering=0) as raw, io.TextIOWrapper(
-        io.BufferedReader(raw, 1 << 20), encoding=encoding, newline=""
-    ) as text:
+    """Opens a file as bytes, whose place says how far it is read, and as the text that they are."""
+    with open(path, "rb", buffering=0) as raw:
+        buffered = io.BufferedReader(raw, 1 << 20)
         try:
-            yield raw, text
+            yield raw, io.TextIOWrapper(buffered, encoding=encoding, newline="")
         except UnicodeDecodeError as why:
             raise BadColumns(f"{path}: it is no {encoding} text ({why.reason}); name its encoding") from None
 
@@ -219,62 +206,54 @@ def _refuse_others(texts: List[str], spelling: Callable[[str], Any], what: str) 
     """Raises the first text that is not spelt so."""
     for row, text in enumerate(texts):
         if not spelling(text):
-            has_zeros = re.fullmatch(r"-?0[0-9]+(\.[0-9]*)?", text) and what == "number"
-            code = (
-                " without the 0 before it, which a code may need; give the column's kind, as Texts or Whole()"
-                if has_zeros
-                else ""
-            )
-            raise Misfit(row, text, f"{shown(text)} is no {what}{code}")
+            raise Misfit(row, text, f"{shown(text)} is no {what}")
 
 
 def _numbers(texts: List[str]) -> Narrowed:
     if all(map(PLAIN.fullmatch, texts)):
-        return Whole(), _whole(texts)
+        return Whole(), _int64(texts, texts)
     if all(map(POINT.fullmatch, texts)) and all(text.strip("-.") for text in texts):
         places = max(len(text.partition(".")[2]) for text in texts)
         if places <= 18:
             return Decimals(places), _scaled(texts, places)
-    _refuse_others(texts, lambda text: NUMBER.fullmatch(text) and not re.match(r"-?0[0-9]", text), "number")
+    _refuse_others(texts, NUMBER.fullmatch, "number")
+    zeros = "number without the 0 before it, which a code may need; give the column's kind, as Texts or Whole()"
+    _refuse_others(texts, lambda text: not re.match(r"-?0[0-9]", text), zeros)
     return narrow(_objects([Decimal(text) for text in texts]))
-
-
-def _whole(texts: List[str]) -> np.ndarray:
-    try:
-        return np.array(list(map(int, texts)), np.int64)
-    except (OverflowError, ValueError):
-        row = next(row for row, text in enumerate(texts) if len(text) > 20 or abs(int(text)) >= 1 << 63)
-        raise Misfit(row, texts[row], f"{shown(texts[row])} is past 63 bits") from None
 
 
 def _scaled(texts: List[str], places: int) -> np.ndarray:
     halves = (text.partition(".") for text in texts)
-    return _whole([whole + fraction.ljust(places, "0") for whole, _, fraction in halves])
+    return _int64([whole + fraction.ljust(places, "0") for whole, _, fraction in halves], texts)
+
+
+def _int64(digits: List[str], texts: List[str]) -> np.ndarray:
+    """Returns the numbers of these digits. The first past 64 bits is a Misfit, shown as its text."""
+    try:
+        return np.array(list(map(int, digits)), np.int64)
+    except (OverflowError, ValueError):
+        far = (row for row, one in enumerate(digits) if len(one) > 40 or not -(1 << 63) <= int(one) < 1 << 63)
+        row = next(far)
+        raise Misfit(row, texts[row], f"{shown(texts[row])} is past 63 bits") from None
 
 
 def _times(texts: List[str]) -> Narrowed:
-    found = [TIME.fullmatch(text) for text in texts]
-    _refuse_others(texts, TIME.fullmatch, "date or time")
-    if any(match.group(3) for match in found if match):
-        return narrow(_objects(_each(texts, time_of)))
-    places = max(len((match.group(2) or "").partition(".")[2]) for match in found if match)
-    try:
-        times = np.array(texts, "M8[D]" if all(len(text) == 10 for text in texts) else f"M8[{UNIT_OF_PLACES[places]}]")
-    except ValueError:
-        _each(texts, time_of)
-        raise
-    units = [Times(unit) for unit in ("D", "s", "ms", "us", "ns")]
-    return first_that_keeps(units, times, np.ones(len(texts), bool))
-
-
-def _each(texts: List[str], parse: Callable[[str], Any]) -> List[Any]:
-    values = []
+    unit = "D" if all(map(DAY.fullmatch, texts)) else "us" if all(map(MICROSECONDS.fullmatch, texts)) else None
+    if unit is not None:
+        try:
+            return narrow(Values(np.array(texts, f"M8[{unit}]"), np.ones(len(texts), bool)))
+        except ValueError:
+            pass  # (one of them is no day of the calendar or no time of the clock, and is found below)
+    moments, zones = np.zeros(len(texts), object), set()
     for row, text in enumerate(texts):
         try:
-            values.append(parse(text))
-        except ValueError:
-            raise Misfit(row, text, f"{shown(text)} is no date or time") from None
-    return values
+            moments[row], is_aware = nanoseconds_of_text(text)
+        except ValueError as why:
+            raise Misfit(row, text, str(why)) from None
+        zones.add(is_aware)
+        if len(zones) > 1:
+            raise Misfit(row, text, f"{shown(text)} has {'a' if is_aware else 'no'} time zone, as none before it")
+    return times_of(moments, texts, timezone.utc if zones.pop() else None)
 
 
 def _flags(texts: List[str]) -> Narrowed:
@@ -283,13 +262,7 @@ def _flags(texts: List[str]) -> Narrowed:
 
 
 def _texts(texts: List[str]) -> Narrowed:
-    found: dict = {}
-    for row, text in enumerate(texts):
-        found[text] = None
-        if len(found) > MOST_TEXTS:
-            raise Misfit(row, text, too_many_texts(text))
-    kind = Texts(tuple(found))
-    return kind, kind.encode(_objects(texts).values, np.ones(len(texts), bool))
+    return narrow(_objects(texts))
 
 
 def _objects(values: List[Any]) -> Values:

@@ -8,7 +8,7 @@ A *store* is a `native.Handle`, or a `gathered.Gathered` of several. Both have t
 from __future__ import annotations
 
 import re
-from typing import Any, Dict, List, Mapping, Optional, Sequence, Tuple, Union
+from typing import Any, Dict, Iterable, List, Mapping, Optional, Sequence, Tuple, Union
 
 import numpy as np
 
@@ -43,29 +43,24 @@ def opened(columns: Mapping[str, Form], limit: Optional[int] = None) -> Handle:
         if not 1 <= why.record <= len(columns):
             raise
         name, form = list(columns.items())[why.record - 1]
-        rule = "1 to 63 slices; or bases of 2 to 1,024, with a sum of at most 4,096 and a product of at most 2^63"
-        raise BadSchema(
-            f"column {name!r} can't be kept as {form}: {rule}; all numbers within 64 bits", why.record
-        ) from None
+        rule = "1 to 63 slices, or bases of 2 to 1,024 with a sum of at most 4,096 and a product of at most 2^63"
+        reason = f"column {name!r} can't be kept as {form}: {rule}; all numbers within 64 bits"
+        raise BadSchema(reason, why.record) from None
 
 
 def schema_of(columns: Mapping[str, Form], limit: Optional[int]) -> bytes:
     """Returns the records of a schema. Refuses what is none, so that a record of the library is one of a column."""
     for name, form in columns.items():
         if not isinstance(name, str) or not isinstance(form, Form):
-            raise BadSchema(
-                f"an index has columns by name, each slices(..), range(..) or equality(..), and not {name!r}: {form!r}"
-            )
+            shape = "slices(..), range(..) or equality(..)"
+            raise BadSchema(f"an index has columns by name, each {shape}, and not {name!r}: {form!r}")
     if len(columns) > MOST_COLUMNS:
-        raise BadSchema(
-            f"an index has at most {MOST_COLUMNS} columns, and not {len(columns)}; name those that are wanted"
-        )
+        raise BadSchema(f"an index has at most {MOST_COLUMNS} columns, and not {len(columns)}; name those wanted")
     if limit is not None and not 1 <= limit <= MOST_ROWS:
         raise BadSchema(f"the limit is 1 to {MOST_ROWS:,} rows, and not {limit:,}")
     within = names_within(list(columns))
-    records = [form.record(within[name]) for name, form in columns.items()] + (
-        [] if limit is None else [f"limit,{limit}"]
-    )
+    records = [form.record(within[name]) for name, form in columns.items()]
+    records += [] if limit is None else [f"limit,{limit}"]
     return "".join(f"{record}\n" for record in records).encode()
 
 
@@ -119,18 +114,14 @@ class Table:
 
     def _encoded(self, data: Any) -> List[Tuple[np.ndarray, np.ndarray]]:
         """Returns the numbers of each column, and which of them are valid."""
-        given = columns_of(data)
-        missing, unknown = [name for name in self._forms if name not in given], [
-            name for name in given if name not in self._forms
-        ]
-        if missing or unknown:
-            words = [
-                f"{what} {', '.join(map(repr, names))}"
-                for what, names in (("missing are", missing), ("unknown are", unknown))
-                if names
-            ]
-            raise BadColumns(f"the index has the columns {', '.join(map(repr, self._forms))}; {' and '.join(words)}")
-        encoded = []
+        given, encoded = columns_of(data), []
+        for what, names in (
+            ("missing", self._forms.keys() - given.keys()),
+            ("unknown", given.keys() - self._forms.keys()),
+        ):
+            if names:
+                raise BadColumns(f"{what} columns: {_listed(sorted(names))}; the index has {_listed(self._forms)}")
+
         for name, form in self._forms.items():
             found = values_of(name, given[name])
             try:
@@ -227,7 +218,7 @@ class Table:
     def _name(self, column: Name) -> str:
         name = column.name if isinstance(column, Column) else column
         if name not in self._forms:
-            raise BadQuery(f"there is no column {name!r}, only {', '.join(map(repr, self._forms))}")
+            raise BadQuery(f"there is no column {name!r}, only {_listed(self._forms)}")
         return name
 
     def _query(self, where: Predicate) -> List[bytes]:
@@ -291,6 +282,10 @@ def within(form: Form, sign: str, number: int) -> Tuple[str, int]:
     if number > form.most:
         return ("<=", form.most) if sign == "<" else (">", form.most)
     return sign, max(number, form.offset)
+
+
+def _listed(names: Iterable[str]) -> str:
+    return ", ".join(map(repr, names))
 
 
 def _entries(numbers: np.ndarray, valid: np.ndarray) -> Entries:

@@ -8,6 +8,7 @@ from __future__ import annotations
 
 import sys
 from collections.abc import Iterable, Mapping
+from datetime import date
 from decimal import Decimal
 from typing import Any, Dict, NamedTuple, Optional, Tuple
 
@@ -16,6 +17,7 @@ import numpy as np
 from . import arrow
 from .errors import BadColumns
 
+NEVER_NULL = {int, bool, str, date}
 NUMPY_TYPES: Dict[type, Any] = {int: np.int64, bool: np.bool_, float: np.float64}
 
 
@@ -112,7 +114,8 @@ def _of_pandas(pandas: Any, series: Any) -> Values:
         # (one place more than the categories, for the code -1)
         texts = np.array([*dtype.categories, None], object)
         found = _of_objects(texts[series.cat.codes.to_numpy()].tolist())
-        return found._replace(order=tuple(dtype.categories) if dtype.ordered else None)
+        is_order = dtype.ordered and all(isinstance(text, str) for text in dtype.categories)
+        return found._replace(order=tuple(dtype.categories) if is_order else None)
     if isinstance(dtype, pandas.DatetimeTZDtype):
         return _of_array(series.dt.tz_convert("UTC").dt.tz_localize(None).to_numpy())._replace(zone=dtype.tz)
     if isinstance(dtype, np.dtype):
@@ -123,11 +126,9 @@ def _of_pandas(pandas: Any, series: Any) -> Values:
         return Values(values, valid & ~np.isnan(values) if plain.kind == "f" else valid)
     if isinstance(dtype, (pandas.PeriodDtype, pandas.IntervalDtype)):
         raise BadColumns(f"a series of {dtype} is none of numbers, times, booleans or texts")
-    return (
-        _of_objects(series.to_numpy(object).tolist())
-        if not isinstance(dtype, pandas.SparseDtype)
-        else _of_array(np.asarray(series))
-    )
+    if isinstance(dtype, pandas.SparseDtype):
+        return _of_array(np.asarray(series))
+    return _of_objects(series.to_numpy(object).tolist())
 
 
 def is_null(value: Any) -> bool:
@@ -142,16 +143,16 @@ def is_null(value: Any) -> bool:
 
 
 def _of_objects(objects: list) -> Values:
-    valid = np.fromiter((not is_null(value) for value in objects), bool, len(objects))
-    types = {type(value) for value, is_valid in zip(objects, valid.tolist()) if is_valid}
+    types = set(map(type, objects))
+    if types <= NEVER_NULL | {type(None)}:
+        valid = np.array([value is not None for value in objects], bool)
+        types.discard(type(None))
+    else:
+        valid = np.array([not is_null(value) for value in objects], bool)
+        types = {type(value) for value, is_valid in zip(objects, valid) if is_valid}
     if len(types) == 1 and (plain := NUMPY_TYPES.get(next(iter(types)))) is not None:
         try:
-            kept = (
-                objects
-                if valid.all()
-                else [value if is_valid else plain(0) for value, is_valid in zip(objects, valid.tolist())]
-            )
-            return Values(np.array(kept, plain), valid)
+            return Values(np.array([value if is_valid else 0 for value, is_valid in zip(objects, valid)], plain), valid)
         except OverflowError:
             pass
     array = np.empty(len(objects), object)

@@ -55,11 +55,13 @@ def test_a_refusal_names_the_row_of_all(client):
         bsi.dask.from_frame(frames.from_pandas(frame, npartitions=10))
     with pytest.raises(bsi.IndexFull, match="row 999 is past the limit"):
         bsi.dask.from_frame(frames.from_pandas(table(1_000), npartitions=10), limit=999)
+    with pytest.raises(bsi.BadRow, match=r"column 'a', row 0 \(partition 0\): .* is not from 0 to 3"):
+        bsi.dask.from_frame(frames.from_pandas(table(1_000), npartitions=10), forms={"a": bsi.slices(2)})
     with pytest.raises(bsi.BadColumns, match="no column 'z'"):
         bsi.dask.from_frame(frames.from_pandas(table(10), npartitions=1), ["z"])
 
 
-def test_answers_are_exact_and_a_lost_worker_is_told(client):
+def test_answers_are_exact_and_a_lost_worker_is_told(client, monkeypatch):
     frame = table()
     rows, one = bsi.dask.from_frame(frames.from_pandas(frame, npartitions=10, sort=False)), bsi.Index.from_frame(frame)
     assert rows.forms == one.forms and len(rows) == 40_000 and repr(rows).startswith("Workers of 40,000 rows")
@@ -75,6 +77,8 @@ def test_answers_are_exact_and_a_lost_worker_is_told(client):
         for name in one.columns:
             for end in ("least", "greatest", "median"):
                 assert getattr(rows, end)(name, where) == getattr(one, end)(name, where), (end, name, where)
+    monkeypatch.setattr("bsi.dask.SECONDS", 0.0001)
+    assert rows.count() == 40_000 and rows.median("a") == one.median("a")
     with pytest.raises(TypeError, match="takes no further rows"):
         rows.append(frame)
     gone, pid = sorted(client.run(os.getpid).items())[1]

@@ -70,11 +70,11 @@ def test_rows_that_do_not_fit_change_nothing():
 @pytest.mark.parametrize(
     "data, why",
     [
-        ({"price": [1], "temp": [1]}, "missing are 'day'"),
-        ({"price": [1], "temp": [1], "day": [1], "more": [1]}, "unknown are 'more'"),
+        ({"price": [1], "temp": [1]}, "missing columns: 'day'"),
+        ({"price": [1], "temp": [1], "day": [1], "more": [1]}, "unknown columns: 'more'"),
         ({"price": [1], "temp": [1, 2], "day": [1]}, "'temp' 2"),
         ({"price": [1], "temp": [1], "day": np.zeros((1, 1))}, "one dimension"),
-        ({}, "missing are 'price', 'temp', 'day'"),
+        ({}, "missing columns: 'day', 'price', 'temp'; the index has 'price', 'temp', 'day'"),
         ([1, 2, 3], "a dict of columns"),
     ],
 )

@@ -102,6 +102,7 @@ def test_numbers_are_read_exactly(write, fields, kind, total):
         (["2026-01-31", "31.1.2026"], 1, "is no date or time"),
         (["2026-01-31T10:00", "2026-01-31T25:00"], 1, "is no date or time"),
         (["2026-01-31T10:00Z", "2026-01-31T10:00"], 1, "has no time zone"),
+        (["2026-01-31", "9999-12-31T00:00:00.000000001"], 1, "past 63 bits of nanoseconds"),
         (["true", "yes"], 1, "no true or false"),
         ([f"text{number}" for number in range(1025)], 1024, "one text more than the 1,024"),
         (["1", '"2\n3"'], 1, r"\(of .*rows.csv\): '2\\n3' is no number"),
@@ -182,3 +183,13 @@ def test_several_files_of_many_blocks(write, monkeypatch):
         bsi.read_csv([first, write("t,n\n1,1\n", "four.csv")])
     with pytest.raises(bsi.BadRow, match="column 't', row 50 .*"):
         bsi.read_csv([write("n,t\n" + "1,5\n" * 50, "five.csv"), write("n,t\n1,x\n", "six.csv")])
+
+
+def test_times_are_read_exactly(write):
+    fields = ["2026-01-31T12:00:00.123456789", "2026-01-31 12:00", "2026-01-31T12:00:00.5"]
+    index = bsi.read_csv(write("t\n" + "\n".join(fields)))
+    assert index.forms["t"].kind == bsi.Times("ns") and str(index.greatest("t")) == "2026-01-31 12:00:00.500000"
+    assert [index.rows(col.t == field).tolist() for field in fields] == [[0], [1], [2]]
+    index = bsi.read_csv(write("t\n1600-01-01T00:00:00.5+0130\n9999-12-31T23:59:59Z\n"))
+    assert index.least("t") == datetime.datetime(1599, 12, 31, 22, 30, 0, 500_000, datetime.timezone.utc)
+    assert index.count(col.t > "9999-12-31T23:59:58.999999999Z") == 1
