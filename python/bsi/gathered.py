@@ -39,20 +39,19 @@ class Gathered:
             return (min if word == b"least" else max)(numbers, default=None)
 
     def _median(self, name: bytes, fields: Fields) -> Optional[int]:
-        low, high = self.value(b"least", name, fields), self.value(b"greatest", name, fields)
-        if low is None or high is None:
+        """Halves what is left between the medians of the parts, since that of all lies between the least and the
+        greatest of them."""
+        medians = [number for number in self._each("value", b"median", name, fields) if number is not None]
+        if not medians:
             return None
-
-        def at_most(numbers: Sequence[int]) -> List[int]:
-            return self.counts([[*fields, name, b"<=", b"%d" % number, b"and"] for number in numbers])
-
-        half = (at_most([high])[0] + 1) // 2
+        low, high = min(medians), max(medians)
+        half = (self.counts([[*fields, name, b"null", b"not", b"and"]])[0] + 1) // 2
         while low < high:
             step = -(-(high - low) // (self._bounds + 1))
             bounds = list(range(low + step - 1, high, step))
-            enough = [count >= half for count in at_most(bounds)]
-            first = enough.index(True) if True in enough else len(bounds)
-            low, high = low if first == 0 else bounds[first - 1] + 1, high if first == len(bounds) else bounds[first]
+            counts = self.counts([[*fields, name, b"<=", b"%d" % bound, b"and"] for bound in bounds])
+            below = sum(count < half for count in counts)
+            low, high = bounds[below - 1] + 1 if below else low, bounds[below] if below < len(bounds) else high
         return low
 
     def select(self, fields: Fields) -> Tuple[np.ndarray, int]:

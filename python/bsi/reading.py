@@ -15,6 +15,7 @@ from contextlib import contextmanager
 from datetime import timezone
 from decimal import Decimal
 from itertools import islice
+from operator import itemgetter
 from typing import IO, Any, Callable, Collection, Dict, Iterable, Iterator, List, Mapping, NamedTuple, Optional
 from typing import Tuple, Type, Union
 
@@ -31,7 +32,7 @@ from .progress import Progress, told
 from .values import Values
 
 Path = Union[str, "os.PathLike[str]"]
-RECORDS = 1 << 16
+RECORDS = 1 << 13
 # Numbers as a file spells them. One that begins with a needless 0 may be a code, whose text would be lost.
 PLAIN = re.compile(r"-?(?:0|[1-9][0-9]*)")
 POINT = re.compile(r"-?(?:0|[1-9][0-9]*)?\.[0-9]+|-?(?:0|[1-9][0-9]*)\.?")
@@ -126,11 +127,11 @@ class _Reader:
         assert self._header is not None
         width = len(self._header)
         if set(map(len, part.records)) != {width}:
-            row, fields = next((row, len(one)) for row, one in enumerate(part.records) if len(one) != width)
-            raise BadColumns(f"row {part.row + row}{part.place(row)} has {fields} fields, and the header {width}")
-        columns = list(zip(*part.records))
+            row, found = next((row, len(one)) for row, one in enumerate(part.records) if len(one) != width)
+            raise BadColumns(f"row {part.row + row}{part.place(row)} has {found} fields, and the header {width}")
         for name in self.wanted:
-            self.blocks[name].append(self._block(name, list(columns[self._header.index(name)]), part))
+            fields = list(map(itemgetter(self._header.index(name)), part.records))
+            self.blocks[name].append(self._block(name, fields, part))
 
     def _block(self, name: str, fields: List[str], part: Part) -> Block:
         valid, numbers, there = np.ones(len(fields), bool), np.zeros(len(fields), np.int64), fields
