@@ -213,7 +213,7 @@ def _refuse_others(texts: List[str], spelling: Callable[[str], Any], what: str) 
 def _numbers(texts: List[str]) -> Narrowed:
     if all(map(PLAIN.fullmatch, texts)):
         return Whole(), _int64(texts, texts)
-    if all(map(POINT.fullmatch, texts)) and all(text.strip("-.") for text in texts):
+    if all(map(POINT.fullmatch, texts)):
         places = max(len(text.partition(".")[2]) for text in texts)
         if places <= 18:
             return Decimals(places), _scaled(texts, places)

@@ -1,7 +1,7 @@
 """Three years of four weather stations: how cold a day of each month is, and how often it freezes while it rains.
 
-It reads the row files of examples/weather, asks an index, and draws what it answered. Cells are divided by `# %%`, so that an editor runs
-them one by one.
+It reads the row files of examples/weather, asks an index, and draws what it answered. Cells are divided by `# %%`, so
+that an editor runs them one by one.
 
 usage: python3 python/examples/weather.py [PICTURE]      the picture is weather.png where it is not named
 """
@@ -51,10 +51,13 @@ print(index)
 c = bsi.col
 months = range(1, 13)
 stations = list(index.forms["station"].kind.values)
-medians = {name: [index.median("temp", (c.station == name) & (c.month == month)) for month in months] for name in stations}
-icy = [index.count((c.month == month) & (c.temp < 0) & (c.rain > 0)) for month in months]
+medians = {
+    name: [index.median("temp", (c.station == name) & (c.month == month)) for month in months] for name in stations
+}
+freezing_rain = (c.temp < 0) & (c.rain > 0)
+icy = [index.count((c.month == month) & freezing_rain) for month in months]
 coldest = index.least("temp")
-print(f"{index.count((c.temp < 0) & (c.rain > 0))} station days of freezing rain; the coldest day had {coldest} degrees:")
+print(f"{index.count(freezing_rain)} station days of freezing rain; the coldest day had {coldest} degrees:")
 print(frame[index.mask(c.temp == coldest)].to_string(index=False))
 
 # %% The picture.

@@ -18,7 +18,7 @@ except bsi.NoMemory as why:
     resource.setrlimit(resource.RLIMIT_AS, (-1, -1))
     whole = np.concatenate([rows[:100], rows])[: len(index)]
     assert len(index) == 100 + why.appended and why.appended < len(rows), (len(index), why.appended)
-    assert index.count(bsi.col.a == 7) == (whole == 7).sum() and index.sum("a") == whole.sum() and index.median("a") is not None
+    assert index.count(bsi.col.a == 7) == (whole == 7).sum() and index.sum("a") == whole.sum()
     assert index.append({"a": rows[why.appended :]}) == len(rows) - why.appended and len(index) == len(rows) + 100
     print(str(why))
 """
@@ -32,7 +32,8 @@ def work(times):
         index = bsi.Index({"a": bsi.slices(13)})
         index.append(rows)
         other = index.share()
-        assert other.count(bsi.col.a < 50) == 50 and index.median("a") == 2499 and len(index.rows(bsi.col.a > 4990)) == 9
+        assert other.count(bsi.col.a < 50) == 50 and index.median("a") == 2499
+        assert len(index.rows(bsi.col.a > 4990)) == 9
         try:
             index.append(rows)
         except bsi.Shared:

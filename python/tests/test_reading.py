@@ -183,6 +183,16 @@ def test_several_files_of_many_blocks(write, monkeypatch):
         bsi.read_csv([first, write("t,n\n1,1\n", "four.csv")])
     with pytest.raises(bsi.BadRow, match="column 't', row 50 .*"):
         bsi.read_csv([write("n,t\n" + "1,5\n" * 50, "five.csv"), write("n,t\n1,x\n", "six.csv")])
+    with pytest.raises(bsi.BadRow, match="column 't', row 1025: 'v1' is one text more than the 1,024"):
+        bsi.read_csv(write("t\nv0\n" + "".join(f"w{number}\n" for number in range(1023)) + "v0\nv1\nv2\n", "seven.csv"))
+
+
+def test_units_of_several_blocks(write, monkeypatch):
+    monkeypatch.setattr("bsi.reading.RECORDS", 2)
+    fields = ["2026-01-31", "", "2026-01-31T00:00:01", "1969-12-31T23:59:59.5", "", "", "1900-01-01"]
+    index = bsi.read_csv(write("t,n\n" + "".join(f"{field},1\n" for field in fields)))
+    assert index.forms["t"].kind == bsi.Times("ms") and index.count(col.t.isnull()) == 3
+    assert [index.rows(col.t == field).tolist() for field in fields if field] == [[0], [2], [3], [6]]
 
 
 def test_times_are_read_exactly(write):

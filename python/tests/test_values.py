@@ -68,6 +68,7 @@ CHOSEN = {
     "uint64": (np.array([0, 2**63 - 1], np.uint64), bsi.Whole(), [0, 2**63 - 1]),
     "big-endian": (np.array([1, 2], ">i4"), bsi.Whole(), [1, 2]),
     "the ends of 64 bits": ([2**63 - 1, 2**63 - 2], bsi.Whole(), [2**63 - 1, 2**63 - 2]),
+    "an offset at the end of 64 bits": ([2**63 - 1, 2**63 - 6], bsi.Whole(), [2**63 - 1, 2**63 - 6]),
     "the least of 64 bits": ([-(2**63)], bsi.Whole(), [-(2**63)]),
     "numbers past 2^53": ([2**53 + 1, None], bsi.Whole(), [2**53 + 1]),
     "cents": (np.array([0.1, 0.25, 1e6]), bsi.Decimals(2), [Decimal("0.10"), Decimal("0.25"), Decimal("1000000.00")]),
