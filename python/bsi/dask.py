@@ -80,11 +80,11 @@ class _Actors(Gathered):
     """The actors of the parts, and the client that reaches them."""
 
     def __init__(self, client: Client, actors: List[_Actor]):
-        super().__init__(self._ask, BOUNDS)
+        super().__init__(BOUNDS)
         self._client, self._actors = client, actors
         self._lost: Optional[str] = None
 
-    def _ask(self, call: str, *arguments: Any) -> List[Any]:
+    def _each(self, call: str, *arguments: Any) -> List[Any]:
         if self._lost is not None:
             raise LostWorker(self._lost)
         try:
@@ -109,7 +109,7 @@ class _Actors(Gathered):
 
     def close(self) -> None:
         with self.lock, contextlib.suppress(LostWorker):
-            self._ask("close")
+            self._each("close")
 
 
 def _addresses(client: Client) -> set:

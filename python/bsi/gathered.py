@@ -3,7 +3,7 @@
 from __future__ import annotations
 
 import threading
-from typing import Any, Callable, List, Optional, Sequence, Tuple
+from typing import Any, List, Optional, Sequence, Tuple
 
 import numpy as np
 
@@ -11,17 +11,20 @@ Fields = Sequence[bytes]
 
 
 class Gathered:
-    """A store whose rows lie in several parts. `each` makes a call of every part, at the same time, and returns what
-    they answered.
+    """A store whose rows lie in several parts.
 
     A lower median is found by counts: it is the least number with at least half of the numbers at or below it. A round
     asks for the counts at `bounds` numbers at once, so it leaves one in bounds + 1 of those that are possible."""
 
-    def __init__(self, each: Callable[..., List[Any]], bounds: int):
-        self._each, self._bounds = each, bounds
+    def __init__(self, bounds: int):
+        self._bounds = bounds
         # Which rows lie where, in order of all rows: a part, and how many of its rows.
         self.runs: List[Tuple[int, int]] = []
         self.lock = threading.RLock()
+
+    def _each(self, call: str, *arguments: Any) -> List[Any]:
+        """Makes a call of every part, at the same time, and returns what they answered."""
+        raise NotImplementedError
 
     def counts(self, questions: Sequence[Fields]) -> List[int]:
         with self.lock:
@@ -56,10 +59,8 @@ class Gathered:
 
     def select(self, fields: Fields) -> Tuple[np.ndarray, int]:
         with self.lock:
-            bits = [
-                np.unpackbits(words.view(np.uint8), count=rows, bitorder="little")
-                for words, rows in self._each("select", fields)
-            ]
+            selected = self._each("select", fields)
+            bits = [np.unpackbits(words.view(np.uint8), count=rows, bitorder="little") for words, rows in selected]
             taken, runs = [0] * len(bits), []
             for part, rows in self.runs:
                 runs.append(bits[part][taken[part] : taken[part] + rows])

@@ -11,7 +11,7 @@ from .forms import Form
 from .gathered import Gathered
 from .index import Index
 from .kinds import Kind
-from .native import INDEX_FULL, NO_MEMORY, OK, Entries, Handle, check
+from .native import INDEX_FULL, OK, Entries, Handle, check
 from .progress import Progress
 from .table import MOST_ROWS, Table, opened
 
@@ -22,11 +22,11 @@ class _Threads(Gathered):
     """The handles of the parts, and a thread for each."""
 
     def __init__(self, handles: List[Handle], limit: int):
-        super().__init__(self._ask, BOUNDS)
+        super().__init__(BOUNDS)
         self.handles, self.limit = handles, limit
         self._threads = ThreadPoolExecutor(len(handles), "bsi")
 
-    def _ask(self, call: str, *arguments: Any) -> List[Any]:
+    def _each(self, call: str, *arguments: Any) -> List[Any]:
         return list(self._threads.map(lambda handle: getattr(handle, call)(*arguments), self.handles))
 
     def append(self, columns: Sequence[Entries]) -> Tuple[int, int]:
@@ -39,12 +39,15 @@ class _Threads(Gathered):
                 return INDEX_FULL, 0
             starts = range(0, rows, step or 1)
             runs = [[_run(column, start, start + step) for column in columns] for start in starts]
-            answers = list(self._threads.map(Handle.append, self.handles, runs))
-            if any(status == NO_MEMORY for status, _ in answers):
+            try:
+                for status, _ in list(self._threads.map(Handle.append, self.handles, runs)):
+                    check(status)
+            except BaseException as why:
+                # (some parts may have taken their rows, and others not)
                 self.close()
-                raise NoMemory("memory was refused to one of the parts; they are closed, since others took their rows")
-            for status, _ in answers:
-                check(status)
+                if isinstance(why, NoMemory):
+                    raise NoMemory("memory was refused to one of the parts; they are closed") from None
+                raise
             self.runs += [(part, len(run[0][0])) for part, run in enumerate(runs)]
             return OK, rows
 

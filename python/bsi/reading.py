@@ -107,8 +107,8 @@ class _Reader:
             for part in records:
                 self._keep(part._replace(row=self._rows))
                 self._rows += len(part.records)
-                tell(self._bytes + raw.tell())
-            self._bytes += raw.tell()
+                tell(self._bytes + _place(raw))
+            self._bytes += _place(raw)
 
     def _head(self, header: List[str], path: Path) -> None:
         if self._header is None:
@@ -169,6 +169,11 @@ def _opened(path: Path, encoding: str) -> Iterator[Tuple[IO[bytes], IO[str]]]:
             yield raw, io.TextIOWrapper(buffered, encoding=encoding, newline="")
         except UnicodeDecodeError as why:
             raise BadColumns(f"{path}: it is no {encoding} text ({why.reason}); name its encoding") from None
+
+
+def _place(raw: IO[bytes]) -> int:
+    """Returns how many bytes of a file have been read, and 0 for a pipe, which does not know."""
+    return raw.tell() if raw.seekable() else 0
 
 
 def _records(reader: Any, path: Path) -> Iterator[Part]:

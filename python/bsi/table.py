@@ -289,7 +289,7 @@ def _listed(names: Iterable[str]) -> str:
 
 
 def _entries(numbers: np.ndarray, valid: np.ndarray) -> Entries:
-    return np.ascontiguousarray(numbers, np.int64), None if valid.all() else np.packbits(valid, bitorder="little")
+    return np.require(numbers, np.int64, ["C", "A"]), None if valid.all() else np.packbits(valid, bitorder="little")
 
 
 def _span(form: Form) -> str:

@@ -136,5 +136,7 @@ def test_the_command(tmp_path, capsys):
         and ran.stderr == f"bsi: column 'n', row 2 (line 4 of {path}): 'n/a' is no number\n"
         and ran.stdout == ""
     )
+    ran = run("/dev/stdin", "sum n", given="n\n5\n6\n")
+    assert ran.stdout.splitlines()[-1] == "11" and ran.returncode == 0
     assert "No such file" in run("none.csv").stderr and run().returncode == 2
     assert main([str(path), "--null", "n/a", "count"]) == 0 and capsys.readouterr().out.endswith("3\n")

@@ -152,6 +152,20 @@ def test_memory_that_is_refused(monkeypatch):
         parts.count()
 
 
+def test_an_append_to_parts_that_is_interrupted(monkeypatch):
+    parts = bsi.Parts(2, FORMS)
+    parts.append(table(50))
+
+    def interrupted(self, columns):
+        raise KeyboardInterrupt
+
+    monkeypatch.setattr(bsi.native.Handle, "append", interrupted)
+    with pytest.raises(KeyboardInterrupt):
+        parts.append(table(50))
+    with pytest.raises(bsi.Closed):
+        parts.mask()
+
+
 def test_each_status_has_its_exception():
     names = ["Closed", "Open", "NoMemory", "BadSchema", "NoColumns", "BadFeeder", "BadColumns", "BadRow", "IndexFull"]
     names += ["Shared", "BadQuery", "NoRoom", "BadText"]
