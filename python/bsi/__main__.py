@@ -11,12 +11,17 @@ bsi.questions:
 from __future__ import annotations
 
 import argparse
+import contextlib
 import sys
-from typing import Any, List, Optional
+from datetime import datetime
+from typing import Any, Iterator, List, Optional
+
+import numpy as np
 
 from .errors import Error
 from .index import Index
 from .kinds import Texts
+from .parts import Parts
 from .questions import ask, is_question
 from .reading import read_csv
 
@@ -52,15 +57,21 @@ def _read(files: List[str], given: Any) -> Any:
         return read_csv(files, columns, kinds=kinds, nulls=given.null, parts=given.parts, progress=progress)
     import pandas
 
+    if given.text or len(given.null) > 1:
+        raise ValueError("--text and --null are for CSV files alone")
     frame = pandas.concat([pandas.read_parquet(file, columns=columns) for file in files], ignore_index=True)
+    if given.parts > 1:
+        return Parts.from_frame(given.parts, frame, progress=progress)
     return Index.from_frame(frame, progress=progress)
 
 
 def _shown(answer: Any) -> str:
     if answer is None:
         return "none"
-    if not hasattr(answer, "tolist"):
+    if isinstance(answer, datetime):
         return str(answer).removesuffix(" 00:00:00")
+    if not isinstance(answer, np.ndarray):
+        return str(answer)
     more = [f".. {len(answer) - MOST_SHOWN:,} more"] if len(answer) > MOST_SHOWN else []
     return " ".join([*map(str, answer[:MOST_SHOWN].tolist()), *more]) or "none"
 
@@ -86,16 +97,22 @@ def main(words: Optional[List[str]] = None) -> int:
         return 1
     print(table, flush=True)
     answered = [_answer(table, question) for question in questions]
-    at_terminal = sys.stdin.isatty()
-    if at_terminal or not questions:
-        if at_terminal:
-            print("? ", end="", flush=True)
-        for line in sys.stdin:
-            if line.strip():
-                answered.append(_answer(table, line))
-            if at_terminal:
-                print("? ", end="", flush=True)
+    if sys.stdin.isatty():
+        for line in _typed():
+            _answer(table, line)
+    elif not questions:
+        answered += [_answer(table, line) for line in sys.stdin if line.strip()]
     return 0 if all(answered) else 1
+
+
+def _typed() -> Iterator[str]:
+    """Yields the lines that are typed at a terminal, up to its end."""
+    with contextlib.suppress(ImportError):
+        import readline  # noqa: F401 (it lets input() be edited)
+    with contextlib.suppress(EOFError):
+        while True:
+            if line := input("? ").strip():
+                yield line
 
 
 if __name__ == "__main__":

@@ -1,5 +1,6 @@
 """Questions as texts, and the command that answers them."""
 
+import os
 import subprocess
 import sys
 
@@ -140,3 +141,32 @@ def test_the_command(tmp_path, capsys):
     assert ran.stdout.splitlines()[-1] == "11" and ran.returncode == 0
     assert "No such file" in run("none.csv").stderr and run().returncode == 2
     assert main([str(path), "--null", "n/a", "count"]) == 0 and capsys.readouterr().out.endswith("3\n")
+
+
+def test_the_command_waits_at_a_terminal(tmp_path):
+    path = tmp_path / "rows.csv"
+    path.write_text("n\n5\n6\n")
+    terminal, end = os.openpty()
+    command = [sys.executable, "-m", "bsi", str(path), "count"]
+    with subprocess.Popen(command, stdin=end, stdout=subprocess.PIPE, stderr=subprocess.STDOUT) as started:
+        os.write(terminal, b"sum n\n\nsum x\ngreatest n n < 6\n\x04")
+        out = started.communicate(timeout=60)[0].decode().replace("? ", "").splitlines()
+    os.close(terminal)
+    os.close(end)
+    assert [line for line in out[2:] if line] == ["2", "11", "bsi: there is no column 'x', only 'n'", "5"]
+    assert started.returncode == 0
+
+
+def test_the_command_reads_parquet_where_pandas_can(monkeypatch, capsys):
+    pandas = pytest.importorskip("pandas")
+    monkeypatch.setattr(
+        pandas,
+        "read_parquet",
+        lambda file, columns: pandas.DataFrame({"n": [1, 2], "t": ["a", "b"]})[columns or ["n", "t"]],
+    )
+    assert main(["x.parquet", "y.parquet", "sum n", "rows t = b"]) == 0
+    assert capsys.readouterr().out.splitlines()[3:] == ["6", "1 3"]
+    assert main(["x.parquet", "--columns", "t", "--parts", "2", "greatest t"]) == 0
+    assert capsys.readouterr().out.splitlines()[2:] == ["b"]
+    assert main(["x.parquet", "--null", "n/a", "count"]) == 1
+    assert capsys.readouterr().err == "bsi: --text and --null are for CSV files alone\n"
