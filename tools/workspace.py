@@ -72,7 +72,7 @@ class Tally:
     """Counts checks, with a line for each."""
 
     def __init__(self):
-        self.passed = self.failed = 0
+        self.passed = self.failed = self.skipped = 0
 
     def fails(self, text):
         self.failed += 1
@@ -85,11 +85,13 @@ class Tally:
         self.passed += 1
         print(f"ok      {text}", flush=True)
 
-    def add(self, passed, failed):
+    def add(self, passed, failed, skipped=0):
         self.passed += passed
         self.failed += failed
+        self.skipped += skipped
 
     def close(self):
         """Prints the count as the last line, and returns the status: 0 where checks ran and none failed."""
-        print(f"{self.passed} passed, {self.failed} failed", flush=True)
+        skipped = f", {self.skipped} skipped" if self.skipped else ""
+        print(f"{self.passed} passed, {self.failed} failed{skipped}", flush=True)
         return 0 if self.passed and not self.failed else 1

@@ -1,6 +1,8 @@
-//! Tests of feeders that read row files, and of whole runs over row files. No crate uses it.
+//! Tests of feeders that read row files, of whole runs over row files, and of command lines. No crate uses it.
 #![tactic(auto)]
 
+#[cfg(test)]
+mod command_lines;
 #[cfg(test)]
 mod faults;
 #[cfg(test)]

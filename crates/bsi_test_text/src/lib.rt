@@ -1,10 +1,8 @@
-//! Tests of calls on texts, of row files and command lines, and of readers and writers that fail. No crate uses it.
+//! Tests of calls on texts, of row files, and of readers and writers that fail. No crate uses it.
 #![tactic(auto)]
 
 #[cfg(test)]
 mod calls;
-#[cfg(test)]
-mod command_lines;
 #[cfg(test)]
 mod ends;
 #[cfg(test)]
