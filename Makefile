@@ -1,6 +1,7 @@
 # Builds, tests and installs bsi. The Rattle kit's command `rt` must be on the path.
 
 PREFIX ?= /usr/local
+PYTHON ?= /usr/bin/python3
 PROGRAM = crates/bsi/out/bsi
 NAME := bsi-$(shell cat VERSION)-$(shell uname -s | tr A-Z a-z)-$(shell uname -m)
 BIN = $(DESTDIR)$(PREFIX)/bin
@@ -58,6 +59,15 @@ bench: build
 
 plot:
 	@bench/plot bench/figures.txt docs
+
+# The Python package with the library, for pip, which then needs no network: docs/PYTHON.md.
+.PHONY: wheel
+wheel: lib
+	rm -rf out/wheel && mkdir -p out/wheel/build
+	cp -r python/bsi python/pyproject.toml python/setup.py VERSION LICENSE-APACHE LICENSE-MIT out/wheel/build
+	install -m 644 out/lib/libbsi.so out/wheel/build/bsi
+	cd out/wheel && $(PYTHON) -m pip wheel -q --no-build-isolation --no-index --no-deps ./build
+	rm -r out/wheel/build
 
 clean:
 	rm -rf crates/*/out out

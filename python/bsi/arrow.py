@@ -1,0 +1,205 @@
+"""The Arrow C data interface, read by ctypes: what any library gives by `__arrow_c_array__`, without Arrow itself.
+
+The values are copied, so nothing of the producer is kept. Its capsules release what they hold when they go.
+"""
+
+from __future__ import annotations
+
+import ctypes
+import re
+from ctypes import POINTER, Structure, c_char_p, c_int64, c_void_p
+from datetime import timezone
+from decimal import Decimal
+from typing import Any, List, Optional, Tuple
+
+import numpy as np
+
+from .errors import BadColumns
+
+NUMBERS = {
+    "c": "i1",
+    "C": "u1",
+    "s": "i2",
+    "S": "u2",
+    "i": "i4",
+    "I": "u4",
+    "l": "i8",
+    "L": "u8",
+    "e": "f2",
+    "f": "f4",
+    "g": "f8",
+}
+TIMES = {
+    "tdD": ("i4", "D"),
+    "tdm": ("i8", "ms"),
+    "tss:": ("i8", "s"),
+    "tsm:": ("i8", "ms"),
+    "tsu:": ("i8", "us"),
+    "tsn:": ("i8", "ns"),
+}
+# Values, which of them are valid, the time zone of times, and the order of the texts of an ordered dictionary.
+Read = Tuple[np.ndarray, np.ndarray, Any, Optional[Tuple[str, ...]]]
+ORDERED = 1
+
+
+class _Schema(Structure):
+    pass
+
+
+class _Array(Structure):
+    pass
+
+
+_Schema._fields_ = [
+    ("format", c_char_p),
+    ("name", c_char_p),
+    ("metadata", c_char_p),
+    ("flags", c_int64),
+    ("n_children", c_int64),
+    ("children", POINTER(POINTER(_Schema))),
+    ("dictionary", POINTER(_Schema)),
+    ("release", c_void_p),
+    ("private_data", c_void_p),
+]
+_Array._fields_ = [
+    ("length", c_int64),
+    ("null_count", c_int64),
+    ("offset", c_int64),
+    ("n_buffers", c_int64),
+    ("n_children", c_int64),
+    ("buffers", POINTER(c_void_p)),
+    ("children", POINTER(POINTER(_Array))),
+    ("dictionary", POINTER(_Array)),
+    ("release", c_void_p),
+    ("private_data", c_void_p),
+]
+
+_pointer_of = ctypes.pythonapi.PyCapsule_GetPointer
+_pointer_of.argtypes, _pointer_of.restype = [ctypes.py_object, c_char_p], c_void_p
+
+
+def _opened(data: Any) -> Tuple[_Schema, _Array, Any]:
+    """Returns the two structs that the data gives, and what must live as long as they."""
+    capsules = data.__arrow_c_array__()
+    schema = _Schema.from_address(_pointer_of(capsules[0], b"arrow_schema"))
+    array = _Array.from_address(_pointer_of(capsules[1], b"arrow_array"))
+    if not schema.release or not array.release:
+        raise BadColumns("the Arrow array was released before")
+    return schema, array, capsules
+
+
+def array_of(data: Any) -> Read:
+    """Returns the values of an Arrow array."""
+    schema, array, _kept = _opened(data)
+    return _read(schema, array)
+
+
+def struct_of(data: Any) -> List[Tuple[str, Read]]:
+    """Returns the columns of an Arrow struct array, which is how a record batch is given."""
+    schema, array, _kept = _opened(data)
+    if schema.format != b"+s":
+        raise BadColumns("rows come as an Arrow record batch, and not as one array")
+    hidden, found = ~_validity(array), []
+    for place in range(schema.n_children):
+        field, column = schema.children[place].contents, array.children[place].contents
+        values, valid, zone, order = _read(field, column, array.offset, array.length)
+        found.append(((field.name or b"").decode(), (values, valid & ~hidden, zone, order)))
+    return found
+
+
+def _bytes(array: _Array, place: int, size: int) -> np.ndarray:
+    """Returns the first bytes of a buffer, as they lie there."""
+    if place >= array.n_buffers or size < 0:
+        raise BadColumns("the Arrow array has too few buffers")
+    address = array.buffers[place]
+    if size == 0:
+        return np.empty(0, np.uint8)
+    if not address:
+        raise BadColumns("the Arrow array has no values")
+    return np.ctypeslib.as_array((ctypes.c_uint8 * size).from_address(address))
+
+
+def _bits(array: _Array, place: int, start: int, length: int) -> np.ndarray:
+    packed = _bytes(array, place, (start + length + 7) // 8)
+    return np.unpackbits(packed, bitorder="little")[start : start + length].astype(bool)
+
+
+def _validity(array: _Array, skipped: int = 0, length: Optional[int] = None) -> np.ndarray:
+    length = array.length if length is None else length
+    if array.null_count == 0 or not array.n_buffers or not array.buffers[0]:
+        return np.ones(length, bool)
+    return _bits(array, 0, array.offset + skipped, length)
+
+
+def _read(schema: _Schema, array: _Array, skipped: int = 0, length: Optional[int] = None) -> Read:
+    """Returns the values from `skipped` on, as many as `length`, or all."""
+    length = array.length - skipped if length is None else length
+    if length < 0 or array.offset < 0 or skipped + length > array.length:
+        raise BadColumns("the Arrow array has a length below 0")
+    layout, start = schema.format.decode(), array.offset + skipped
+    if layout == "n":
+        return np.zeros(length, np.int64), np.zeros(length, bool), None, None
+    valid = _validity(array, skipped, length)
+    if schema.dictionary:
+        return _from_dictionary(schema, array, layout, start, valid)
+    if layout in NUMBERS:
+        return _fixed(array, NUMBERS[layout], start, length), valid, None, None
+    if layout == "b":
+        return _bits(array, 1, start, length), valid, None, None
+    for prefix, (stored, unit) in TIMES.items():
+        if layout == prefix or prefix.endswith(":") and layout.startswith(prefix):
+            times = _fixed(array, stored, start, length).astype(np.int64).view(f"M8[{unit}]")
+            return times, valid, _zone(layout[len(prefix) :]), None
+    if layout in ("u", "U"):
+        return _texts(array, "i4" if layout == "u" else "i8", start, valid), valid, None, None
+    if decimal := re.fullmatch(r"d:\d+,(-?\d+)(?:,128)?", layout):
+        return _decimals(array, int(decimal.group(1)), start, valid), valid, None, None
+    raise BadColumns(f"an Arrow array of format {layout!r} is none of numbers, times, booleans or texts")
+
+
+def _fixed(array: _Array, stored: str, start: int, length: int) -> np.ndarray:
+    item = np.dtype(stored).itemsize
+    return _bytes(array, 1, (start + length) * item)[start * item :].view(stored).copy()
+
+
+def _from_dictionary(schema: _Schema, array: _Array, layout: str, start: int, valid: np.ndarray) -> Read:
+    if layout not in NUMBERS:
+        raise BadColumns(f"the Arrow array has a dictionary, and format {layout!r}")
+    places = np.where(valid, _fixed(array, NUMBERS[layout], start, len(valid)), 0).astype(np.int64)
+    values, is_valid, zone, _ = _read(schema.dictionary.contents, array.dictionary.contents)
+    if not len(values):
+        return np.zeros(len(valid), np.int64), np.zeros(len(valid), bool), zone, None
+    if ((places < 0) | (places >= len(values))).any():
+        raise BadColumns("the Arrow array names places that its dictionary has not")
+    is_ordered = schema.flags & ORDERED and values.dtype == object and is_valid.all()
+    return values[places], valid & is_valid[places], zone, tuple(values.tolist()) if is_ordered else None
+
+
+def _texts(array: _Array, stored: str, start: int, valid: np.ndarray) -> np.ndarray:
+    texts = np.empty(len(valid), object)
+    if not len(valid):
+        return texts
+    ends = _fixed(array, stored, start, len(valid) + 1).tolist()
+    if ends[0] < 0 or any(end < begin for begin, end in zip(ends, ends[1:])):
+        raise BadColumns("the texts of the Arrow array do not follow each other")
+    joined = _bytes(array, 2, ends[-1]).tobytes()
+    for place in np.flatnonzero(valid).tolist():
+        texts[place] = joined[ends[place] : ends[place + 1]].decode()
+    return texts
+
+
+def _decimals(array: _Array, scale: int, start: int, valid: np.ndarray) -> np.ndarray:
+    stored = _bytes(array, 1, (start + len(valid)) * 16)[start * 16 :].tobytes()
+    decimals = np.empty(len(valid), object)
+    for place in np.flatnonzero(valid).tolist():
+        number = int.from_bytes(stored[place * 16 : place * 16 + 16], "little", signed=True)
+        decimals[place] = Decimal((number < 0, tuple(map(int, str(abs(number)))), -scale))
+    return decimals
+
+
+def _zone(name: str) -> Any:
+    if name in ("", "UTC"):
+        return timezone.utc if name else None
+    from zoneinfo import ZoneInfo
+
+    return ZoneInfo(name)

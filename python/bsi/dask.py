@@ -1,0 +1,215 @@
+"""Rows over the workers of a Dask cluster: an actor on each worker keeps the index of its partitions, and only numbers
+leave it.
+
+    import bsi.dask
+    rows = bsi.dask.from_frame(frame)          # a Dask frame, and the client at hand
+    rows.median("price", bsi.col.day < 31)     # exact, as over one index
+
+Workers must be spawned, as Dask does by itself, and not forked: a process with threads is no safe parent.
+"""
+
+from __future__ import annotations
+
+import asyncio
+import contextlib
+from typing import Any, Dict, Iterable, List, Mapping, NamedTuple, Optional, Tuple, Union
+
+import dask
+import numpy as np
+from distributed import Client, get_client, wait
+
+from .choosing import Block, Wishes, ends_of, joined_blocks, refuse_misfit, wanted_of
+from .errors import BadRow, Error, IndexFull, LostWorker
+from .forms import Form
+from .gathered import Gathered
+from .index import Index
+from .kinds import Kind
+from .table import MOST_ROWS, Table
+from .values import columns_of, values_of
+
+BOUNDS, SECONDS = 63, 0.5
+# Of each column of a partition the two ends of its numbers, as a block of two; and how many rows the partition has.
+Survey = Tuple[Dict[str, Block], int]
+
+
+def _survey(frame: Any, wanted: List[str], kinds: Any, forms: Any) -> Union[Survey, Error]:
+    """Looks at a partition, on its worker. A refusal is returned, so that the first one of all partitions can be
+    told."""
+    try:
+        wishes, ends, given = Wishes(wanted, kinds, forms), {}, columns_of(frame)
+        for name in wanted:
+            block = wishes.block(name, values_of(name, given[name]))
+            two, first = np.array(ends_of(block.numbers, block.valid)), int(np.argmax(block.valid)) if len(frame) else 0
+            ends[name] = Block(block.kind, two, np.full(2, block.valid.any()), first)
+        return ends, len(frame)
+    except Error as why:
+        return why
+
+
+def _misfit(frame: Any, forms: Mapping[str, Form]) -> Optional[BadRow]:
+    """Returns the first value of a partition that a form which was given does not take, on the partition's worker."""
+    given = columns_of(frame)
+    try:
+        for name, form in forms.items():
+            values = values_of(name, given[name])
+            refuse_misfit(name, form, form.kind.encode(values.values, values.valid), values.valid)
+    except BadRow as why:
+        return why
+    return None
+
+
+class Part:
+    """A Dask actor: the index of some partitions."""
+
+    def __init__(self, forms: Mapping[str, Form], frames: Iterable[Any]):
+        self._index = Index(forms)
+        for frame in frames:
+            self._index.append(frame[list(forms)])
+
+    def call(self, name: str, *arguments: Any) -> Any:
+        """Makes a call of the index's store."""
+        return getattr(self._index._store, name)(*arguments)
+
+
+class _Actor(NamedTuple):
+    address: str
+    proxy: Any
+
+
+class _Actors(Gathered):
+    """The actors of the parts, and the client that reaches them."""
+
+    def __init__(self, client: Client, actors: List[_Actor]):
+        super().__init__(BOUNDS)
+        self._client, self._actors = client, actors
+        self._lost: Optional[str] = None
+
+    def _each(self, call: str, *arguments: Any) -> List[Any]:
+        if self._lost is not None:
+            raise LostWorker(self._lost)
+        try:
+            futures = [actor.proxy.call(call, *arguments) for actor in self._actors]
+            return [self._answer(actor, future) for actor, future in zip(self._actors, futures)]
+        except (OSError, ValueError, LostWorker) as why:
+            if isinstance(why, Error) and not isinstance(why, LostWorker):
+                raise
+            gone = sorted({actor.address for actor in self._actors} - _addresses(self._client)) or [str(why)]
+            self._lost = f"the worker {', '.join(gone)} is gone, and its rows with it; make the index again"
+            raise LostWorker(self._lost) from None
+
+    def _answer(self, actor: _Actor, future: Any) -> Any:
+        """Returns an actor's answer. Dask may wait for ever for a lost worker, so this looks from time to time whether
+        it is there."""
+        while True:
+            try:
+                return future.result(timeout=SECONDS)
+            except (asyncio.TimeoutError, TimeoutError):
+                if actor.address not in _addresses(self._client):
+                    raise LostWorker(actor.address) from None
+
+    def close(self) -> None:
+        with self.lock, contextlib.suppress(LostWorker):
+            self._each("close")
+
+
+def _addresses(client: Client) -> set:
+    return set(client.scheduler_info()["workers"])
+
+
+class Workers(Table):
+    """Rows over the workers of a cluster, as `from_frame` makes them. Questions are those of an Index, and take no rows
+    further."""
+
+    def append(self, data: Any) -> int:
+        raise TypeError("an index over workers takes no further rows: make it of a frame that has them")
+
+
+def from_frame(
+    frame: Any,
+    columns: Optional[Iterable[str]] = None,
+    *,
+    kinds: Optional[Mapping[str, Kind]] = None,
+    forms: Optional[Mapping[str, Form]] = None,
+    limit: Optional[int] = None,
+    client: Optional[Client] = None,
+) -> Workers:
+    """Makes an index on each worker over the partitions of a Dask frame, and chooses kinds, widths and offsets from the
+    data of all.
+
+    A partition stays on the worker that has it, as far as all get about as many. Rows keep the order of the partitions.
+    """
+    if dask.config.get("distributed.worker.multiprocessing-method", "spawn") == "fork":
+        raise ValueError("workers are spawned and not forked: set distributed.worker.multiprocessing-method to spawn")
+    client = client or get_client()
+    wanted = wanted_of(columns, list(frame.columns))
+    wishes = Wishes(wanted, kinds, forms)
+    partitions = client.compute(frame.to_delayed())
+    asked = {"wanted": wanted, "kinds": wishes.kinds, "forms": wishes.forms}
+    surveys = client.gather(client.map(_survey, partitions, pure=False, **asked))
+    rows = [0 if isinstance(survey, Error) else survey[1] for survey in surveys]
+    _refuse(surveys, rows)
+    found = {name: _form(name, [ends[name] for ends, _ in surveys], rows, wishes) for name in wanted}
+    if wishes.forms:
+        given = {name: found[name] for name in wishes.forms}
+        _refuse(client.gather(client.map(_misfit, partitions, forms=given, pure=False)), rows)
+    if limit is not None and sum(rows) > limit:
+        raise IndexFull(f"row {limit:,} is past the limit of {limit:,} rows; no index was made", limit)
+    places = _places(client, partitions)
+    return Workers(found, MOST_ROWS if limit is None else limit, _store(client, found, partitions, places, rows))
+
+
+def _refuse(answers: List[Any], rows: List[int]) -> None:
+    """Raises the first refusal of the partitions, with the number that its row has among all."""
+    for place, answer in enumerate(answers):
+        if isinstance(answer, BadRow):
+            row, where = sum(rows[:place]) + answer.row, f" (partition {place})"
+            raise BadRow(answer.column, row, answer.value, answer.reason, where)
+        if isinstance(answer, Error):
+            raise answer
+
+
+def _store(client: Client, forms: Any, partitions: List[Any], places: List[str], rows: List[int]) -> _Actors:
+    """Makes an actor on each worker, over the partitions that have their place there."""
+    workers = sorted(set(places))
+    shares = [[one for one, place in zip(partitions, places) if place == worker] for worker in workers]
+    how = {"actor": True, "pure": False}
+    futures = [client.submit(Part, forms, share, workers=[worker], **how) for worker, share in zip(workers, shares)]
+    _wait(client, futures, workers)
+    store = _Actors(client, [_Actor(worker, future.result()) for worker, future in zip(workers, futures)])
+    store.runs = [(workers.index(place), count) for place, count in zip(places, rows)]
+    return store
+
+
+def _wait(client: Client, futures: List[Any], workers: List[str]) -> None:
+    """Waits for the actors, as long as their workers are there."""
+    while True:
+        try:
+            wait(futures, timeout=SECONDS)
+            return
+        except (asyncio.TimeoutError, TimeoutError):
+            gone = set(workers) - _addresses(client)
+            if gone:
+                raise LostWorker(f"the worker {', '.join(sorted(gone))} is gone; make the index again") from None
+
+
+def _form(name: str, ends: List[Block], rows: List[int], wishes: Wishes) -> Form:
+    """Returns the form of a column over all partitions, of each of which the two ends are known."""
+    starts = [sum(rows[:place]) for place in range(len(rows))]
+    there = [block._replace(row=start + block.row) for start, block in zip(starts, ends) if block.valid.any()]
+    form, _ = joined_blocks(name, there or ends, wishes)
+    return form
+
+
+def _places(client: Client, partitions: List[Any]) -> List[str]:
+    """Returns for each partition the worker that keeps its rows: one that has it, unless that one has its share
+    already."""
+    wait(partitions)
+    workers, holders = sorted(_addresses(client)), client.who_has(partitions)
+    load, share = dict.fromkeys(workers, 0), -(-len(partitions) // len(workers))
+    places = []
+    for partition in partitions:
+        there = [worker for worker in holders.get(partition.key, ()) if load.get(worker, share) < share]
+        place = min(there or workers, key=load.__getitem__)
+        load[place] += 1
+        places.append(place)
+    return places

@@ -1,0 +1,75 @@
+"""Answers over several parts of the rows, put together exactly from the answers of each."""
+
+from __future__ import annotations
+
+import threading
+from typing import Any, List, Optional, Sequence, Tuple
+
+import numpy as np
+
+Fields = Sequence[bytes]
+
+
+class Gathered:
+    """A store whose rows lie in several parts.
+
+    A lower median is found by counts: it is the least number with at least half of the numbers at or below it. A round
+    asks for the counts at `bounds` numbers at once, so it leaves one in bounds + 1 of those that are possible."""
+
+    def __init__(self, bounds: int):
+        self._bounds = bounds
+        # Which rows lie where, in order of all rows: a part, and how many of its rows.
+        self.runs: List[Tuple[int, int]] = []
+        self.lock = threading.RLock()
+
+    def _each(self, call: str, *arguments: Any) -> List[Any]:
+        """Makes a call of every part, at the same time, and returns what they answered."""
+        raise NotImplementedError
+
+    def counts(self, questions: Sequence[Fields]) -> List[int]:
+        with self.lock:
+            return [sum(counts) for counts in zip(*self._each("counts", questions))]
+
+    def sum(self, name: bytes, fields: Fields) -> int:
+        with self.lock:
+            return sum(self._each("sum", name, fields))
+
+    def value(self, word: bytes, name: bytes, fields: Fields) -> Optional[int]:
+        with self.lock:
+            if word == b"median":
+                return self._median(name, fields)
+            numbers = [number for number in self._each("value", word, name, fields) if number is not None]
+            return (min if word == b"least" else max)(numbers, default=None)
+
+    def _median(self, name: bytes, fields: Fields) -> Optional[int]:
+        """Halves what is left between the medians of the parts, since that of all lies between the least and the
+        greatest of them."""
+        medians = [number for number in self._each("value", b"median", name, fields) if number is not None]
+        if not medians:
+            return None
+        low, high = min(medians), max(medians)
+        half = (self.counts([[*fields, name, b"null", b"not", b"and"]])[0] + 1) // 2
+        while low < high:
+            step = -(-(high - low) // (self._bounds + 1))
+            bounds = list(range(low + step - 1, high, step))
+            counts = self.counts([[*fields, name, b"<=", b"%d" % bound, b"and"] for bound in bounds])
+            below = sum(count < half for count in counts)
+            low, high = bounds[below - 1] + 1 if below else low, bounds[below] if below < len(bounds) else high
+        return low
+
+    def select(self, fields: Fields) -> Tuple[np.ndarray, int]:
+        with self.lock:
+            selected = self._each("select", fields)
+            bits = [np.unpackbits(words.view(np.uint8), count=rows, bitorder="little") for words, rows in selected]
+            taken, runs = [0] * len(bits), []
+            for part, rows in self.runs:
+                runs.append(bits[part][taken[part] : taken[part] + rows])
+                taken[part] += rows
+            joined = np.concatenate([*runs, np.empty(0, np.uint8)])
+            packed = np.zeros(-(-len(joined) // 64) * 8, np.uint8)
+            packed[: -(-len(joined) // 8)] = np.packbits(joined, bitorder="little")
+            return packed.view(np.uint64), len(joined)
+
+    def rows(self) -> int:
+        with self.lock:
+            return sum(self._each("rows"))

@@ -1,0 +1,73 @@
+"""An index: rows of named columns in one process, kept as bitmaps by the C library."""
+
+from __future__ import annotations
+
+import logging
+from typing import Any, Iterable, Mapping, Optional
+
+from .choosing import chosen
+from .forms import Form
+from .kinds import Kind
+from .progress import Progress
+from .table import MOST_ROWS, Table, opened
+
+log = logging.getLogger("bsi")
+
+
+class Index(Table):
+    """Rows of named columns, and exact answers to questions about them.
+
+    >>> index = bsi.Index({"price": bsi.slices(20), "temp": bsi.range(10, 10, 10, offset=-400)})
+    >>> index.append({"price": [100, 250], "temp": [-12, None]})
+    2
+    >>> index.median("price", ~bsi.col.temp.isnull())
+    100
+
+    Each call has the index alone while it runs. `share` opens it once more, for another thread to ask at the same time.
+    """
+
+    def __init__(self, columns: Mapping[str, Form], *, limit: Optional[int] = None):
+        super().__init__(columns, MOST_ROWS if limit is None else limit, opened(columns, limit))
+
+    @classmethod
+    def from_frame(
+        cls,
+        frame: Any,
+        columns: Optional[Iterable[str]] = None,
+        *,
+        kinds: Optional[Mapping[str, Kind]] = None,
+        forms: Optional[Mapping[str, Form]] = None,
+        limit: Optional[int] = None,
+        progress: Progress = None,
+    ) -> "Index":
+        """Makes an index of a pandas frame, a dict of columns or an Arrow record batch, and chooses kinds, widths and
+        offsets from the data. `repr` of the index says what it chose, and so does the logger "bsi".
+
+        `columns` are those wanted, `kinds` and `forms` what is not to be chosen. What can't be kept exactly is a
+        BadRow.
+        """
+        found, encoded = chosen(frame, columns, kinds, forms)
+        return cls._filled(cls(found, limit=limit), encoded, progress)
+
+    @staticmethod
+    def _filled(table: Any, encoded: Any, progress: Progress) -> Any:
+        try:
+            table._fill(encoded, progress)
+        except BaseException:
+            table.close()
+            raise
+        log.info("%r", table)
+        return table
+
+    @property
+    def schema(self) -> str:
+        """The records of the schema, as `bsi files --schema` reads them. A column whose name is none there has one with
+        its number."""
+        return self._store.schema().decode()
+
+    def share(self) -> "Index":
+        """Opens the index once more, for another thread: both can be asked at the same time, and from then on neither
+        takes rows."""
+        other = object.__new__(type(self))
+        Table.__init__(other, self._forms, self._limit, self._store.share())
+        return other

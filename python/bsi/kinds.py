@@ -1,0 +1,435 @@
+"""What the whole numbers of a column stand for: numbers, decimals, times, booleans or texts.
+
+A kind turns values into whole numbers and back, and only where nothing is lost. A constant of a comparison need not be
+one of the values: its *cut* are two whole numbers, `left` up to which the column's numbers stand for less than the
+constant, and `right` from which on they stand for more. They differ by one where a number stands for the constant
+itself, and are equal where none does.
+"""
+
+from __future__ import annotations
+
+import math
+import numbers
+import re
+from bisect import bisect_left, bisect_right
+from dataclasses import dataclass, field
+from datetime import date, datetime, timedelta, timezone
+from decimal import Decimal
+from fractions import Fraction
+from itertools import repeat
+from typing import Any, Callable, Dict, Optional, Tuple
+
+import numpy as np
+
+Cut = Tuple[int, int]
+# A number past all that a column can take.
+FAR = 1 << 200
+NANOSECONDS = {"D": 86_400_000_000_000, "s": 1_000_000_000, "ms": 1_000_000, "us": 1_000, "ns": 1}
+UNITS = {"D": "days", "s": "seconds", "ms": "milliseconds", "us": "microseconds", "ns": "nanoseconds"}
+NUMBER = re.compile(r"-?(?:[0-9]+(?:\.[0-9]*)?|\.[0-9]+)(?:[eE][-+]?[0-9]{1,3})?")
+CLOCK, ZONE = r"\d\d:\d\d(?::\d\d(?:\.\d{1,9})?)?", r"Z|[+-](?:[01]\d|2[0-3]):?[0-5]\d"
+TIME = re.compile(rf"(\d{{4}}-\d\d-\d\d)(?:[T ]({CLOCK})({ZONE})?)?", re.ASCII)
+
+
+class Misfit(ValueError):
+    """The first value of an array that a kind does not take: its place, and why."""
+
+    def __init__(self, row: int, value: Any, reason: str):
+        super().__init__(reason)
+        self.row, self.value, self.reason = row, value, reason
+
+
+def first_misfit(bad: np.ndarray, values: np.ndarray, reason: str) -> None:
+    """Raises the first value that is marked as bad, if one is."""
+    if bad.any():
+        row = int(bad.argmax())
+        raise Misfit(row, values[row], f"{shown(values[row])} {reason}")
+
+
+def shown(value: Any) -> str:
+    """Returns a value as an error shows it."""
+    text = repr(value.item() if isinstance(value, np.generic) and value.dtype.kind in "iufb" else value)
+    return text if len(text) <= 60 else text[:57] + "..."
+
+
+def cut_of(value: Fraction) -> Cut:
+    """Returns the cut of an exact number among the whole numbers."""
+    return math.ceil(value), math.floor(value) + 1
+
+
+class Kind:
+    """What a column's numbers stand for. This is the base of the five kinds, and has what most of them share."""
+
+    names_values = False  # whether its numbers are no quantities, but places in a list
+    takes = ""  # what its values are called in an error
+    unfit = ""  # what is wrong with a value that no number stands for
+
+    def cut(self, constant: Any) -> Cut:
+        """Returns where the constant lies among the column's numbers. Refuses one of another type by TypeError or
+        ValueError."""
+        raise NotImplementedError
+
+    def parse(self, text: str) -> Any:
+        """Returns the constant that a text spells, or raises ValueError."""
+        raise NotImplementedError
+
+    def decode(self, number: int) -> Any:
+        """Returns the value that a number of the column stands for."""
+        return number
+
+    def show(self, number: int) -> str:
+        """Returns the value that a number stands for as a text."""
+        return str(self.decode(number))
+
+    def decode_sum(self, total: int) -> Any:
+        """Returns what a sum of numbers stands for, or raises TypeError where such values have no sum."""
+        raise TypeError(f"{self.takes} have no sum")
+
+    def number(self, value: Any) -> int:
+        """Returns the number that stands for a value, or raises TypeError or ValueError."""
+        left, right = self.cut(value)
+        if left == right:
+            raise ValueError(f"{shown(value)} {self.unfit}")
+        return left
+
+    def encode(self, values: np.ndarray, valid: np.ndarray) -> np.ndarray:
+        """Returns the numbers that stand for the values where they are valid, and 0 elsewhere. The first other value is
+        a Misfit."""
+        numbers_found = np.zeros(len(values), np.int64)
+        for row in np.flatnonzero(valid):
+            value = values[row]
+            try:
+                numbers_found[row] = self.number(value)
+            except (TypeError, ValueError, ArithmeticError) as why:
+                reason = "it is past 64 bits" if isinstance(why, OverflowError) else str(why)
+                raise Misfit(int(row), value, reason) from None
+        return numbers_found
+
+
+def decimal_of(text: str) -> Decimal:
+    """Returns the number that a text spells, or raises ValueError."""
+    if not NUMBER.fullmatch(text):
+        raise ValueError(f"{shown(text)} is no number")
+    return Decimal(text)
+
+
+def fraction_of(constant: Any, read_float: Callable[[Any], Fraction] = Fraction) -> Fraction:
+    """Returns the real number that a constant is, or one that stands as far out or as near to 0 for every column."""
+    if isinstance(constant, np.generic) and constant.dtype.kind in "iub":
+        constant = constant.item()
+    if not isinstance(constant, (numbers.Rational, Decimal, float, np.floating)):
+        raise TypeError(f"{shown(constant)} is no number")
+    if constant.is_nan() if isinstance(constant, Decimal) else constant != constant:
+        raise ValueError("nan is no number; isnull() finds the nulls")
+    if constant == math.inf or constant == -math.inf:
+        return Fraction(FAR if constant == math.inf else -FAR)
+    if isinstance(constant, (float, np.floating)):
+        return read_float(constant)
+    if isinstance(constant, Decimal) and abs(constant.adjusted()) > 100:
+        return Fraction(int(constant.compare(0))) * (FAR if constant.adjusted() > 0 else Fraction(1, FAR))
+    return Fraction(constant)
+
+
+@dataclass(frozen=True)
+class Whole(Kind):
+    """Whole numbers. Answers are ints. A float stands for the number that it is."""
+
+    takes = "whole numbers"
+    unfit = "is no whole number"
+
+    def cut(self, constant: Any) -> Cut:
+        if type(constant) is int:
+            return constant, constant + 1
+        return cut_of(fraction_of(constant, lambda number: Fraction(float(number))))
+
+    def parse(self, text: str) -> Decimal:
+        return decimal_of(text)
+
+    def show(self, number: int) -> str:
+        return f"{number:,}"
+
+    def decode_sum(self, total: int) -> int:
+        return total
+
+    def encode(self, values: np.ndarray, valid: np.ndarray) -> np.ndarray:
+        if values.dtype.kind in "iub":
+            if values.dtype.kind == "u":
+                first_misfit(valid & (values > np.uint64(2**63 - 1)), values, "is past 63 bits")
+            return np.where(valid, values, 0).astype(np.int64)
+        if values.dtype.kind == "f":
+            return _whole_of_floats(values, valid)
+        if values.dtype == object and set(map(type, values[valid])) <= {int, bool}:
+            try:
+                return np.where(valid, values, 0).astype(np.int64)
+            except OverflowError:
+                pass
+        return super().encode(values, valid)
+
+    def __str__(self) -> str:
+        return "whole numbers"
+
+
+def _whole_of_floats(values: np.ndarray, valid: np.ndarray) -> np.ndarray:
+    kept = np.where(valid, values, 0)
+    first_misfit(~(np.abs(kept) < 2.0**63), values, "is past 63 bits")
+    found = kept.astype(np.int64)
+    first_misfit(found != kept, values, Whole.unfit)
+    return found
+
+
+@dataclass(frozen=True)
+class Decimals(Kind):
+    """Decimals of so many places, given as a number of places or as the scale, "0.01". Answers are Decimal. A float
+    stands for the decimal that it prints as."""
+
+    places: Any = 2
+    takes = "decimals"
+
+    def __post_init__(self):
+        places = self.places if isinstance(self.places, int) else _places_of_scale(self.places)
+        if not 0 <= places <= 18:
+            raise ValueError(f"decimals have 0 to 18 places, and not {places}")
+        object.__setattr__(self, "places", places)
+
+    def cut(self, constant: Any) -> Cut:
+        return cut_of(fraction_of(constant, lambda number: Fraction(str(number))) * 10**self.places)
+
+    @property
+    def unfit(self) -> str:  # type: ignore[override]
+        return f"has more than {self.places} decimal places"
+
+    def parse(self, text: str) -> Decimal:
+        return decimal_of(text)
+
+    def decode(self, number: int) -> Decimal:
+        return _decimal(number, self.places)
+
+    def decode_sum(self, total: int) -> Decimal:
+        return _decimal(total, self.places)
+
+    def encode(self, values: np.ndarray, valid: np.ndarray) -> np.ndarray:
+        scale = 10**self.places
+        if values.dtype.kind in "iub":
+            whole = Whole().encode(values, valid)
+            most = (2**63 - 1) // scale
+            first_misfit((whole > most) | (whole < -most), values, f"is past 63 bits at {self.places} decimal places")
+            return whole * scale
+        if values.dtype.kind == "f":
+            return self._encode_floats(values, valid)
+        return super().encode(values, valid)
+
+    def _encode_floats(self, values: np.ndarray, valid: np.ndarray) -> np.ndarray:
+        # A decimal of as many digits as a float keeps (15 of a double) is the only such one that the float prints as.
+        most = 10.0 ** np.finfo(values.dtype).precision
+        with np.errstate(over="ignore", invalid="ignore"):
+            scaled = np.rint(np.where(valid, values, 0).astype(np.float64) * 10.0**self.places)
+            back = (scaled / 10.0**self.places).astype(values.dtype)
+        fits = (np.abs(scaled) <= most) & (back == np.where(valid, values, 0))
+        first_misfit(~fits, values, f"can't be kept exactly with {self.places} decimal places")
+        return scaled.astype(np.int64)
+
+    def __str__(self) -> str:
+        return f"decimals of {self.places} place{'' if self.places == 1 else 's'}"
+
+
+def _places_of_scale(scale: Any) -> int:
+    try:
+        places = -Decimal(str(scale)).log10()
+        if places == int(places):
+            return int(places)
+    except (ArithmeticError, ValueError):
+        pass
+    raise ValueError(f"{shown(scale)} is no scale; one is 0.1, 0.01, ..")
+
+
+def _decimal(number: int, places: int) -> Decimal:
+    """Returns number / 10^places exactly, whatever the precision of the context."""
+    return Decimal((number < 0, tuple(map(int, str(abs(number)))), -places))
+
+
+@dataclass(frozen=True)
+class Times(Kind):
+    """Points of time, as a count of days "D", seconds "s", "ms", "us" or "ns" since 1970-01-01, in UTC where there is a
+    zone. Answers are pandas.Timestamp, or datetime where there is no pandas. Constants are dates, times, or texts such
+    as 2026-01-31T12:00.
+    """
+
+    unit: str = "D"
+    zone: Any = None
+    takes = "times"
+
+    def __post_init__(self):
+        if self.unit not in UNITS:
+            raise ValueError(f"{shown(self.unit)} is no unit of time; those are {', '.join(UNITS)}")
+
+    def cut(self, constant: Any) -> Cut:
+        nanoseconds, is_aware = nanoseconds_of(constant)
+        if is_aware != (self.zone is not None) and type(constant) is not date:
+            has, column_has = ("a", "none") if is_aware else ("no", "one")
+            raise TypeError(f"{shown(constant)} has {has} time zone, and the column has {column_has}")
+        return cut_of(Fraction(nanoseconds, NANOSECONDS[self.unit]))
+
+    @property
+    def unfit(self) -> str:  # type: ignore[override]
+        return f"is no whole number of {UNITS[self.unit]}"
+
+    def parse(self, text: str) -> str:
+        nanoseconds_of_text(text)
+        return text
+
+    def decode(self, number: int) -> Any:
+        return _time(number * NANOSECONDS[self.unit], self.zone)
+
+    def show(self, number: int) -> str:
+        return str(self.decode(number))[:10] if self.unit == "D" else str(self.decode(number))
+
+    def encode(self, values: np.ndarray, valid: np.ndarray) -> np.ndarray:
+        if values.dtype.kind != "M":
+            return super().encode(values, valid)
+        found = values.astype(f"M8[{self.unit}]")
+        first_misfit(valid & (found.astype(values.dtype) != values), values, self.unfit)
+        return np.where(valid, found.astype(np.int64), 0)
+
+    def __str__(self) -> str:
+        return (
+            f"times in {UNITS[self.unit]}" + (f" in {self.zone}" if self.zone else "") if self.unit != "D" else "dates"
+        )
+
+
+EPOCH = datetime(1970, 1, 1)
+
+
+def nanoseconds_of_text(text: str) -> Tuple[int, bool]:
+    """Returns the nanoseconds since 1970-01-01 that a text spells, in UTC where it has a zone, and whether it has
+    one."""
+    found = TIME.fullmatch(text)
+    if not found:
+        raise ValueError(f"{shown(text)} is no date or time; one is 2026-01-31 or 2026-01-31T12:00:00")
+    day, clock, zone = found.groups()
+    clock, _, fraction = (clock or "00").partition(".")
+    try:
+        seconds = int(np.datetime64(f"{day}T{clock}", "s").astype(np.int64))
+    except ValueError:
+        raise ValueError(f"{shown(text)} is no date or time: the calendar or the clock has no such") from None
+    ahead = 0 if zone in (None, "Z") else (int(zone[1:3]) * 60 + int(zone[-2:])) * (-60 if zone[0] == "-" else 60)
+    return (seconds - ahead) * NANOSECONDS["s"] + int(fraction.ljust(9, "0")), zone is not None
+
+
+def nanoseconds_of(moment: Any) -> Tuple[int, bool]:
+    """Returns the nanoseconds since 1970-01-01, in UTC where the moment has a zone, and whether it has one."""
+    if isinstance(moment, str):
+        return nanoseconds_of_text(moment)
+    if isinstance(moment, np.datetime64) and not np.isnat(moment):
+        unit, count = np.datetime_data(moment.dtype)
+        if unit in ("Y", "M", "W"):
+            unit, count, moment = "D", 1, moment.astype("M8[D]")
+        if unit not in ("h", "m", *NANOSECONDS):
+            raise TypeError(f"{shown(moment)} is finer than nanoseconds")
+        factor = {"h": 3600 * NANOSECONDS["s"], "m": 60 * NANOSECONDS["s"], **NANOSECONDS}[unit]
+        return int(moment.astype(np.int64)) * count * factor, False
+    if isinstance(moment, datetime) and moment == moment:
+        is_aware = moment.tzinfo is not None
+        since = (moment.astimezone(timezone.utc).replace(tzinfo=None) if is_aware else moment) - EPOCH
+        # (pandas.Timestamp is a datetime that has nanoseconds besides)
+        return since // timedelta(microseconds=1) * 1000 + getattr(moment, "nanosecond", 0), is_aware
+    if isinstance(moment, date) and moment == moment:
+        return (moment - EPOCH.date()).days * NANOSECONDS["D"], False
+    raise TypeError(f"{shown(moment)} is no date or time")
+
+
+def _time(nanoseconds: int, zone: Any) -> Any:
+    """Returns the point of time as a pandas.Timestamp where that can be, and as a datetime otherwise."""
+    try:
+        import pandas
+
+        if abs(nanoseconds) < 2**63:
+            return pandas.Timestamp(nanoseconds, tz=zone)
+    except (ImportError, ValueError):
+        pass
+    try:
+        moment = EPOCH + timedelta(microseconds=nanoseconds // 1000)
+    except OverflowError:
+        return np.datetime64(nanoseconds // NANOSECONDS["s"], "s")
+    return moment.replace(tzinfo=timezone.utc).astimezone(zone) if zone is not None else moment
+
+
+@dataclass(frozen=True)
+class Flags(Kind):
+    """Booleans, as 0 and 1. Answers are bools; a sum is how many are true."""
+
+    takes = "booleans"
+
+    def cut(self, constant: Any) -> Cut:
+        if isinstance(constant, (bool, np.bool_)):
+            return int(constant), int(constant) + 1
+        raise TypeError(f"{shown(constant)} is neither True nor False")
+
+    def parse(self, text: str) -> bool:
+        if text.lower() not in ("true", "false"):
+            raise ValueError(f"{shown(text)} is neither true nor false")
+        return text.lower() == "true"
+
+    def decode(self, number: int) -> bool:
+        return bool(number)
+
+    def decode_sum(self, total: int) -> int:
+        return total
+
+    def encode(self, values: np.ndarray, valid: np.ndarray) -> np.ndarray:
+        return (
+            np.where(valid, values, False).astype(np.int64) if values.dtype == bool else super().encode(values, valid)
+        )
+
+    def __str__(self) -> str:
+        return "booleans"
+
+
+@dataclass(frozen=True)
+class Texts(Kind):
+    """One of these texts, as its place among them. They compare in order of their characters, and in the order given
+    where `ordered`. Answers are str."""
+
+    values: Tuple[str, ...]
+    ordered: bool = False
+    places: Dict[str, int] = field(init=False, repr=False, compare=False)
+    names_values = True
+    takes = "texts"
+
+    def __post_init__(self):
+        values = tuple(self.values)
+        if not values or any(not isinstance(value, str) for value in values):
+            raise TypeError("a column of texts needs the list of them")
+        values = values if self.ordered else tuple(sorted(set(values)))
+        object.__setattr__(self, "values", values)
+        object.__setattr__(self, "places", {value: place for place, value in enumerate(values)})
+        if len(self.places) < len(values):
+            raise ValueError("a text stands twice in the list")
+
+    def cut(self, constant: Any) -> Cut:
+        if not isinstance(constant, str):
+            raise TypeError(f"{shown(constant)} is no text")
+        if constant in self.places:
+            return self.places[constant], self.places[constant] + 1
+        if self.ordered:
+            raise ValueError(f"{shown(constant)} is none of the texts, whose order was given")
+        return bisect_left(self.values, constant), bisect_right(self.values, constant)
+
+    @property
+    def unfit(self) -> str:  # type: ignore[override]
+        return f"is none of its {len(self.values)} texts"
+
+    def parse(self, text: str) -> str:
+        return text
+
+    def decode(self, number: int) -> str:
+        return self.values[number]
+
+    def encode(self, values: np.ndarray, valid: np.ndarray) -> np.ndarray:
+        try:
+            found = np.fromiter(map(self.places.get, values, repeat(-1)), np.int64, len(values))
+        except TypeError:
+            return super().encode(values, valid)
+        return super().encode(values, valid) if (valid & (found < 0)).any() else np.where(valid, found, 0)
+
+    def __str__(self) -> str:
+        return f"{len(self.values)} texts"

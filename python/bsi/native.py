@@ -1,0 +1,191 @@
+"""The C library by ctypes: its structs, and a handle whose calls take and give whole numbers alone.
+
+A call lets go of Python's lock, and the library wants each handle to itself, so a handle has a lock of its own. No
+pointer is null, not even one to nothing.
+"""
+
+from __future__ import annotations
+
+import ctypes
+import os
+import threading
+from ctypes import POINTER, Structure, byref, c_bool, c_int64, c_size_t, c_uint8, c_uint32, c_uint64, c_void_p
+from typing import Any, Dict, List, Optional, Sequence, Tuple
+
+import numpy as np
+
+from . import errors
+
+OK, BAD_SCHEMA, BAD_ROW, INDEX_FULL, NO_ROOM, NO_MEMORY = 0, 4, 8, 9, 12, 3
+# The numbers of one column, and an Arrow validity bitmap of them or none.
+Entries = Tuple[np.ndarray, Optional[np.ndarray]]
+
+
+class _Index(Structure):
+    _fields_ = [("at", c_void_p), ("full", c_bool)]
+
+
+class _Text(Structure):
+    _fields_ = [("at", c_void_p), ("len", c_size_t)]
+
+
+class _Column(Structure):
+    _fields_ = [("values", c_void_p), ("values_len", c_size_t), ("valid", c_void_p), ("valid_len", c_size_t)]
+
+
+class _Answer(Structure):
+    _fields_ = [
+        ("kind", c_uint32),
+        ("present", c_bool),
+        ("value", c_int64),
+        ("count", c_uint64),
+        ("low", c_uint64),
+        ("high", c_uint64),
+    ]
+
+
+_CALLS: Dict[str, List[Any]] = {
+    "bsi_open": [c_void_p, c_size_t, c_uint32, POINTER(c_uint64)],
+    "bsi_append": [c_uint32, c_void_p, c_size_t, POINTER(c_uint64)],
+    "bsi_ask": [c_void_p, c_size_t, POINTER(_Answer), c_void_p, c_size_t],
+    "bsi_select": [c_void_p, c_size_t, c_void_p, c_size_t],
+    "bsi_rows": [POINTER(c_uint64)],
+    "bsi_schema": [c_void_p, c_size_t, POINTER(c_size_t)],
+    "bsi_share": [POINTER(_Index)],
+    "bsi_close": [],
+}
+_nothing = (c_uint64 * 1)()
+_NOTHING = ctypes.addressof(_nothing)
+
+
+def _load() -> ctypes.CDLL:
+    """Loads the library: that of the variable BSI_LIBRARY, the one of the wheel, or the one that `make lib` leaves in
+    the repository."""
+    here = os.path.dirname(os.path.abspath(__file__))
+    places = [
+        os.environ.get("BSI_LIBRARY"),
+        os.path.join(here, "libbsi.so"),
+        os.path.join(here, "..", "..", "out", "lib", "libbsi.so"),
+    ]
+    path = next((place for place in places if place and os.path.isfile(place)), None)
+    if path is None:
+        raise ImportError("there is no libbsi.so: `make wheel` puts it beside the package, or BSI_LIBRARY names it")
+    library = ctypes.CDLL(path)
+    for name, arguments in _CALLS.items():
+        call = getattr(library, name)
+        call.argtypes, call.restype = [POINTER(_Index)] + arguments, c_uint32
+    return library
+
+
+_library = _load()
+
+
+def _address(array: Optional[np.ndarray]) -> int:
+    return _NOTHING if array is None or not len(array) else array.ctypes.data
+
+
+def _texts(fields: Sequence[bytes]):
+    """Returns the fields as C has them, and the bytes that they point into, which must live as long."""
+    joined = b"".join(fields)
+    at = ctypes.cast(ctypes.c_char_p(joined), c_void_p).value or _NOTHING
+    texts = (_Text * max(1, len(fields)))()
+    for text, field in zip(texts, fields):
+        text.at, text.len = at, len(field)
+        at += len(field)
+    return texts, joined
+
+
+class Handle:
+    """One open index of the library. Fields are those of a query record, as docs/FORMATS.md has them."""
+
+    def __init__(self, schema: Optional[bytes] = None):
+        self._lock, self._index = threading.Lock(), _Index()
+        if schema is not None:
+            bad_record, text = c_uint64(), np.frombuffer(schema, np.uint8)
+            status = self._call("bsi_open", _address(text), len(text), 1, byref(bad_record))
+            if status == BAD_SCHEMA:
+                raise errors.BadSchema(
+                    f"the library does not take record {bad_record.value} of the schema", bad_record.value
+                )
+            check(status)
+
+    def _call(self, name: str, *arguments) -> int:
+        with self._lock:
+            return getattr(_library, name)(byref(self._index), *arguments)
+
+    def append(self, columns: Sequence[Entries]) -> Tuple[int, int]:
+        """Appends rows, and returns the status and the row that it tells."""
+        given = (_Column * max(1, len(columns)))()
+        for column, (values, valid) in zip(given, columns):
+            column.values, column.values_len = _address(values), len(values)
+            column.valid, column.valid_len = _address(valid), 0 if valid is None else len(valid)
+        row = c_uint64()
+        return self._call("bsi_append", 0, ctypes.addressof(given), len(columns), byref(row)), row.value
+
+    def _ask(self, fields: Sequence[bytes]) -> _Answer:
+        answer, (texts, _kept) = _Answer(), _texts(fields)
+        check(self._call("bsi_ask", ctypes.addressof(texts), len(fields), byref(answer), _NOTHING, 0))
+        return answer
+
+    def counts(self, questions: Sequence[Sequence[bytes]]) -> list[int]:
+        """Returns how many rows each of these predicates selects."""
+        return [self._ask([b"count", *fields]).count for fields in questions]
+
+    def sum(self, name: bytes, fields: Sequence[bytes]) -> int:
+        """Returns the sum of the column's numbers in the rows that the predicate selects."""
+        answer = self._ask([b"sum", name, *fields])
+        return (answer.high << 64 | answer.low) - (answer.high >> 63 << 128)
+
+    def value(self, word: bytes, name: bytes, fields: Sequence[bytes]) -> Optional[int]:
+        """Returns the least, greatest or lower median number in these rows, or None where there is none."""
+        answer = self._ask([word, name, *fields])
+        return answer.value if answer.present else None
+
+    def select(self, fields: Sequence[bytes]) -> Tuple[np.ndarray, int]:
+        """Returns the words whose bits say which rows the predicate selects, and how many rows there are."""
+        (texts, _kept), status, rows = _texts(fields), NO_ROOM, 0
+        while status == NO_ROOM:
+            # (another thread may append between the two calls; then there is too little room, and both are made again)
+            rows = self.rows()
+            words = np.empty((rows + 63) // 64, np.uint64)
+            status = self._call("bsi_select", ctypes.addressof(texts), len(fields), _address(words), len(words))
+        check(status)
+        return words, rows
+
+    def rows(self) -> int:
+        """Returns how many rows the index has."""
+        rows = c_uint64()
+        check(self._call("bsi_rows", byref(rows)))
+        return rows.value
+
+    def schema(self) -> bytes:
+        """Returns the records of the schema."""
+        size = c_size_t()
+        status, text = NO_ROOM, np.empty(0, np.uint8)
+        while status == NO_ROOM:
+            text = np.empty(size.value, np.uint8)
+            status = self._call("bsi_schema", _address(text), len(text), byref(size))
+        check(status)
+        return text[: size.value].tobytes()
+
+    def share(self) -> "Handle":
+        """Returns another handle of the same index. From then on it takes no rows."""
+        other = Handle()
+        check(self._call("bsi_share", byref(other._index)))
+        return other
+
+    def close(self) -> None:
+        """Closes the handle; one that is closed stays so."""
+        self._call("bsi_close")
+
+    def __del__(self):
+        if getattr(self, "_index", None) is not None and _library is not None:
+            self.close()
+
+
+def check(status: int) -> None:
+    """Raises the exception of a status that is a refusal."""
+    if status in (BAD_ROW, INDEX_FULL) or status not in errors.BY_STATUS and status != OK:
+        raise errors.Error(f"the library answered with status {status}")
+    if status != OK:
+        raise errors.BY_STATUS[status]()

@@ -1,0 +1,192 @@
+"""Which rows a question is over: comparisons of columns with constants and tests for null, joined by `&`, `|` and `~`.
+
+A predicate is its terms in postfix order, as a query of the library has them, and never changes.
+"""
+
+from __future__ import annotations
+
+from typing import Any, Callable, Iterable, List, NamedTuple, Tuple, Union
+
+from .errors import BadQuery
+
+MOST_FIELDS = 1000
+OPPOSITE = {"=": "!=", "!=": "=", "<": ">=", ">=": "<", "<=": ">", ">": "<="}
+
+
+class Comparison(NamedTuple):
+    """A column, one of the signs = != < <= > >=, and a constant."""
+
+    column: str
+    sign: str
+    constant: Any
+
+    def __str__(self) -> str:
+        return f"{_name(self.column)} {'==' if self.sign == '=' else self.sign} {self.constant!r}"
+
+
+class Null(NamedTuple):
+    """A column, which is to be null."""
+
+    column: str
+
+    def __str__(self) -> str:
+        return f"{_name(self.column)}.isnull()"
+
+
+Term = Union[Comparison, Null, str]
+
+
+def _name(column: str) -> str:
+    return f"col.{column}" if column.isidentifier() else f"col[{column!r}]"
+
+
+def _fields(terms: Iterable[Term]) -> int:
+    """Returns how many fields the terms are in a query."""
+    return sum(3 if isinstance(term, Comparison) else 2 if isinstance(term, Null) else 1 for term in terms)
+
+
+class Predicate:
+    """Terms in postfix order: comparisons, tests for null, and the words all, and, or, not."""
+
+    __slots__ = ("terms",)
+    __array_ufunc__ = None  # (NumPy leaves operators to this class)
+    terms: Tuple[Term, ...]
+
+    def __init__(self, terms: Iterable[Term]):
+        terms = tuple(terms)
+        if _fields(terms) > MOST_FIELDS:
+            rule = f"a predicate has at most {MOST_FIELDS:,} fields (a comparison has 3, isnull() 2)"
+            raise BadQuery(f"{rule}, and this one {_fields(terms):,}")
+        object.__setattr__(self, "terms", terms)
+
+    def __setattr__(self, name: str, value: Any):
+        raise AttributeError("a predicate never changes")
+
+    def __reduce__(self):
+        return Predicate, (self.terms,)
+
+    def __eq__(self, other: Any) -> bool:
+        return isinstance(other, Predicate) and self.terms == other.terms
+
+    def __hash__(self) -> int:
+        return hash(self.terms)
+
+    def __and__(self, other: "Predicate") -> "Predicate":
+        return self._with(other, "and")
+
+    def __or__(self, other: "Predicate") -> "Predicate":
+        return self._with(other, "or")
+
+    def __invert__(self) -> "Predicate":
+        return Predicate((*self.terms, "not"))
+
+    def _with(self, other: Any, word: str) -> "Predicate":
+        if not isinstance(other, Predicate):
+            raise TypeError(f"a predicate stands on each side of '{word}', and not {type(other).__name__}")
+        return Predicate((*self.terms, *other.terms, word))
+
+    def __bool__(self) -> bool:
+        better = "write & | ~ in place of 'and', 'or', 'not', and two comparisons for a < x < b"
+        raise TypeError(f"a predicate is neither true nor false: {better}")
+
+    def __repr__(self) -> str:
+        stack: List[str] = []
+        for term in self.terms:
+            if term == "not":
+                stack.append(f"~{stack.pop()}")
+            elif term in ("and", "or"):
+                right, left = stack.pop(), stack.pop()
+                stack.append(f"({left} {'&' if term == 'and' else '|'} {right})")
+            else:
+                stack.append(
+                    "all_rows" if term == "all" else f"({term})" if isinstance(term, Comparison) else str(term)
+                )
+        return stack[0]
+
+
+all_rows = Predicate(("all",))
+
+
+class Column:
+    """A column by its name, to be compared with constants of the column's own type."""
+
+    __slots__ = ("name",)
+    __array_ufunc__ = None  # (NumPy leaves comparisons to this class)
+    name: str
+
+    def __init__(self, name: str):
+        if not isinstance(name, str):
+            raise TypeError(f"the name of a column is a text, and not {name!r}")
+        object.__setattr__(self, "name", name)
+
+    def __setattr__(self, name: str, value: Any):
+        raise AttributeError("a column never changes")
+
+    def __reduce__(self):
+        return Column, (self.name,)
+
+    def _compared(self, sign: str, constant: Any) -> Predicate:
+        if isinstance(constant, (Column, Predicate)):
+            raise TypeError("a column is compared with a constant, and not with another column")
+        return Predicate((Comparison(self.name, sign, constant),))
+
+    def __eq__(self, constant: Any) -> Predicate:  # type: ignore[override]
+        return self._compared("=", constant)
+
+    def __ne__(self, constant: Any) -> Predicate:  # type: ignore[override]
+        return self._compared("!=", constant)
+
+    def __lt__(self, constant: Any) -> Predicate:
+        return self._compared("<", constant)
+
+    def __le__(self, constant: Any) -> Predicate:
+        return self._compared("<=", constant)
+
+    def __gt__(self, constant: Any) -> Predicate:
+        return self._compared(">", constant)
+
+    def __ge__(self, constant: Any) -> Predicate:
+        return self._compared(">=", constant)
+
+    __hash__ = None  # type: ignore[assignment]
+
+    def isnull(self) -> Predicate:
+        """Selects the rows that have a null here."""
+        return Predicate((Null(self.name),))
+
+    def notnull(self) -> Predicate:
+        """Selects the rows that have a value here."""
+        return ~self.isnull()
+
+    def between(self, least: Any, greatest: Any) -> Predicate:
+        """Selects the rows from the one constant to the other, both included."""
+        return (self >= least) & (self <= greatest)
+
+    def isin(self, constants: Iterable[Any]) -> Predicate:
+        """Selects the rows that have one of the constants here."""
+        found = [self == constant for constant in constants]
+        if not found:
+            return ~all_rows
+        terms = found[0].terms + tuple(term for one in found[1:] for term in (*one.terms, "or"))
+        return Predicate(terms)
+
+    def __repr__(self) -> str:
+        return _name(self.name)
+
+
+class _Columns:
+    """Columns by name: `col.price`, or `col["Amount (EUR)"]`."""
+
+    def __getattr__(self, name: str) -> Column:
+        if name.startswith("__"):
+            raise AttributeError(name)
+        return Column(name)
+
+    def __getitem__(self, name: str) -> Column:
+        return Column(name)
+
+    def __repr__(self) -> str:
+        return "bsi.col"
+
+
+col = _Columns()

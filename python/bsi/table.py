@@ -1,0 +1,306 @@
+"""Typed questions over a store of rows: names, kinds and predicates on this side, whole numbers and fields of a query
+on the other.
+
+A *store* is a `native.Handle`, or a `gathered.Gathered` of several. Both have the calls `counts`, `sum`, `value`,
+`select`, `rows` and `close`, and but for Dask `append`.
+"""
+
+from __future__ import annotations
+
+import re
+from typing import Any, Dict, Iterable, List, Mapping, Optional, Sequence, Tuple, Union
+
+import numpy as np
+
+from .errors import BadColumns, BadQuery, BadRow, BadSchema, Error, IndexFull, NoMemory
+from .forms import Form
+from .kinds import FAR, Flags, Misfit
+from .narrowing import encode
+from .native import BAD_ROW, INDEX_FULL, NO_MEMORY, Entries, Handle, check
+from .predicates import Column, Comparison, Null, Predicate, all_rows
+from .progress import Progress, told
+from .values import columns_of, values_of
+
+NAME = re.compile(r"[a-z][a-z0-9_]{0,31}")
+WORDS = {"all", "null", "and", "or", "not"}
+MOST_ROWS, MOST_COLUMNS, BLOCK = 1 << 32, 64, 1 << 20
+Name = Union[str, Column]
+
+
+def names_within(columns: Sequence[str]) -> Dict[str, str]:
+    """Returns the names that the library gets: the column's own where that can be, and otherwise one with its
+    number."""
+    taken = {name for name in columns if NAME.fullmatch(name) and name not in WORDS}
+    numbered = (f"c{number}" for number in range(2 * len(columns)) if f"c{number}" not in taken)
+    return {name: name if name in taken else next(numbered) for name in columns}
+
+
+def opened(columns: Mapping[str, Form], limit: Optional[int] = None) -> Handle:
+    """Opens an index of these columns in the library."""
+    try:
+        return Handle(schema_of(columns, limit))
+    except BadSchema as why:
+        if not 1 <= why.record <= len(columns):
+            raise
+        name, form = list(columns.items())[why.record - 1]
+        rule = "1 to 63 slices, or bases of 2 to 1,024 with a sum of at most 4,096 and a product of at most 2^63"
+        reason = f"column {name!r} can't be kept as {form}: {rule}; all numbers within 64 bits"
+        raise BadSchema(reason, why.record) from None
+
+
+def schema_of(columns: Mapping[str, Form], limit: Optional[int]) -> bytes:
+    """Returns the records of a schema. Refuses what is none, so that a record of the library is one of a column."""
+    for name, form in columns.items():
+        if not isinstance(name, str) or not isinstance(form, Form):
+            shape = "slices(..), range(..) or equality(..)"
+            raise BadSchema(f"an index has columns by name, each {shape}, and not {name!r}: {form!r}")
+    if len(columns) > MOST_COLUMNS:
+        raise BadSchema(f"an index has at most {MOST_COLUMNS} columns, and not {len(columns)}; name those wanted")
+    if limit is not None and not 1 <= limit <= MOST_ROWS:
+        raise BadSchema(f"the limit is 1 to {MOST_ROWS:,} rows, and not {limit:,}")
+    within = names_within(list(columns))
+    records = [form.record(within[name]) for name, form in columns.items()]
+    records += [] if limit is None else [f"limit,{limit}"]
+    return "".join(f"{record}\n" for record in records).encode()
+
+
+class Table:
+    """Rows of named columns, and answers to questions about them. Any thread may ask; questions of one store are asked
+    one at a time."""
+
+    def __init__(self, columns: Mapping[str, Form], limit: int, store: Any):
+        self._forms, self._limit, self._store = dict(columns), limit, store
+        self._within = {name: within.encode() for name, within in names_within(list(columns)).items()}
+
+    # ---- What it is ----
+
+    @property
+    def columns(self) -> List[str]:
+        """The names of the columns, in order."""
+        return list(self._forms)
+
+    @property
+    def forms(self) -> Dict[str, Form]:
+        """The form of each column."""
+        return dict(self._forms)
+
+    @property
+    def limit(self) -> int:
+        """The most rows that it takes."""
+        return self._limit
+
+    def __len__(self) -> int:
+        return self._store.rows()
+
+    def __repr__(self) -> str:
+        try:
+            rows = self._store.rows()
+        except Error as why:
+            return f"{type(self).__name__} with the columns {', '.join(self._forms)}: {why}"
+        size = (sum(form.bitmaps for form in self._forms.values()) + 8) * rows / 8
+        width = max(map(len, self._forms))
+        texts = max(len(str(form)) for form in self._forms.values())
+        lines = [f"  {name:{width}}  {form!s:{texts}}  {form.kind}{_span(form)}" for name, form in self._forms.items()]
+        return "\n".join([f"{type(self).__name__} of {rows:,} rows, about {_bytes(size)}", *lines])
+
+    # ---- Rows ----
+
+    def append(self, data: Any) -> int:
+        """Appends rows, given as a dict of columns, a pandas frame or an Arrow record batch, and returns how many they
+        are.
+
+        A value that its column does not take, and a row past the limit, are refused before anything changes."""
+        return self._append(self._encoded(data))
+
+    def _encoded(self, data: Any) -> List[Tuple[np.ndarray, np.ndarray]]:
+        """Returns the numbers of each column, and which of them are valid."""
+        given, encoded = columns_of(data), []
+        for what, names in (
+            ("missing", self._forms.keys() - given.keys()),
+            ("unknown", given.keys() - self._forms.keys()),
+        ):
+            if names:
+                raise BadColumns(f"{what} columns: {_listed(sorted(names))}; the index has {_listed(self._forms)}")
+
+        for name, form in self._forms.items():
+            found = values_of(name, given[name])
+            try:
+                encoded.append((encode(form.kind, found), found.valid))
+            except Misfit as why:
+                raise BadRow(name, why.row, why.value, why.reason) from None
+        if len({len(numbers) for numbers, _ in encoded}) > 1:
+            lengths = [f"{name!r} {len(numbers):,}" for name, (numbers, _) in zip(self._forms, encoded)]
+            raise BadColumns(f"the columns differ in length: {', '.join(lengths)}")
+        return encoded
+
+    def _append(self, encoded: Sequence[Tuple[np.ndarray, np.ndarray]]) -> int:
+        status, row = self._store.append([_entries(numbers, valid) for numbers, valid in encoded])
+        if status == BAD_ROW:
+            raise self._misfit(encoded, row)
+        if status == INDEX_FULL:
+            self._refuse_full(len(encoded[0][0]))
+        if status == NO_MEMORY:
+            raise NoMemory(f"memory was refused; {row:,} rows were appended", row)
+        check(status)
+        return row
+
+    def _fill(self, encoded: Sequence[Tuple[np.ndarray, np.ndarray]], progress: Progress) -> None:
+        """Appends many rows in blocks, and tells the progress."""
+        rows = len(encoded[0][0])
+        self._refuse_full(rows)
+        with told(progress, rows, "rows") as tell:
+            for start in range(0, rows, BLOCK):
+                self._append(
+                    [(numbers[start : start + BLOCK], valid[start : start + BLOCK]) for numbers, valid in encoded]
+                )
+                tell(min(start + BLOCK, rows))
+
+    def _refuse_full(self, more: int) -> None:
+        """Refuses so many further rows where they leave the limit. The row that is named is that of the data given."""
+        room = self._limit - self._store.rows()
+        if more > room:
+            raise IndexFull(f"row {room:,} is past the limit of {self._limit:,} rows; none was appended", room)
+
+    def _misfit(self, encoded: Sequence[Tuple[np.ndarray, np.ndarray]], row: int) -> BadRow:
+        """Returns which column does not take its number in a row that the library refused."""
+        for (name, form), (numbers, valid) in zip(self._forms.items(), encoded):
+            number = int(numbers[row])
+            if valid[row] and not form.offset <= number <= form.most:
+                return form.misfit(name, row, number)
+        raise AssertionError(f"row {row} was refused, and each column takes its number")
+
+    # ---- Questions ----
+
+    def count(self, where: Predicate = all_rows) -> int:
+        """Returns how many rows the predicate selects."""
+        return self._store.counts([self._query(where)])[0]
+
+    def sum(self, column: Name, where: Predicate = all_rows) -> Any:
+        """Returns the sum of the column's values in the rows that the predicate selects, 0 where there are none."""
+        name = self._name(column)
+        kind = self._forms[name].kind
+        try:
+            kind.decode_sum(0)
+        except TypeError as why:
+            raise BadQuery(f"column {name!r}: {why}") from None
+        return kind.decode_sum(self._store.sum(self._within[name], self._query(where)))
+
+    def least(self, column: Name, where: Predicate = all_rows) -> Any:
+        """Returns the least value of the column in these rows, or None where there is none."""
+        return self._value(b"least", column, where)
+
+    def greatest(self, column: Name, where: Predicate = all_rows) -> Any:
+        """Returns the greatest value of the column in these rows, or None where there is none."""
+        return self._value(b"greatest", column, where)
+
+    def median(self, column: Name, where: Predicate = all_rows) -> Any:
+        """Returns the lower median of the column in these rows: of an even count the lower one of the two in the
+        middle. None where there is no value."""
+        return self._value(b"median", column, where)
+
+    def mask(self, where: Predicate = all_rows) -> np.ndarray:
+        """Returns for each row whether the predicate selects it, as an array of bool."""
+        words, rows = self._store.select(self._query(where))
+        return np.unpackbits(words.view(np.uint8), count=rows, bitorder="little").view(np.bool_)
+
+    def rows(self, where: Predicate = all_rows) -> np.ndarray:
+        """Returns the numbers of the rows that the predicate selects, from 0, in order."""
+        words, _ = self._store.select(self._query(where))
+        some = np.flatnonzero(words)
+        places = np.flatnonzero(np.unpackbits(words[some].view(np.uint8), bitorder="little"))
+        return some[places >> 6] * 64 + (places & 63)
+
+    def _value(self, word: bytes, column: Name, where: Predicate) -> Any:
+        name = self._name(column)
+        number = self._store.value(word, self._within[name], self._query(where))
+        return None if number is None else self._forms[name].kind.decode(number)
+
+    def _name(self, column: Name) -> str:
+        name = column.name if isinstance(column, Column) else column
+        if name not in self._forms:
+            raise BadQuery(f"there is no column {name!r}, only {_listed(self._forms)}")
+        return name
+
+    def _query(self, where: Predicate) -> List[bytes]:
+        """Returns the fields of the predicate, over the numbers of the columns."""
+        if not isinstance(where, Predicate):
+            raise TypeError(
+                f"a predicate is made of bsi.col, as bsi.col.price < 100, and is not {type(where).__name__}"
+            )
+        fields: List[bytes] = []
+        for term in where.terms:
+            if isinstance(term, Null):
+                fields += [self._within[self._name(term.column)], b"null"]
+            elif isinstance(term, Comparison):
+                fields += self._comparison(term)
+            else:
+                fields.append(term.encode())
+        return fields
+
+    def _comparison(self, term: Comparison) -> List[bytes]:
+        name = self._name(term.column)
+        form = self._forms[name]
+        try:
+            sign, number = among_numbers(term.sign, *form.kind.cut(term.constant))
+        except (TypeError, ValueError) as why:
+            raise BadQuery(f"column {name!r} is compared with one of {form.kind}: {why}") from None
+        sign, number = within(form, sign, number)
+        return [self._within[name], sign.encode(), b"%d" % number]
+
+    # ---- Its end ----
+
+    def close(self) -> None:
+        """Gives the memory back. Any further call is refused, but close()."""
+        self._store.close()
+
+    def __enter__(self):
+        return self
+
+    def __exit__(self, *why) -> None:
+        self.close()
+
+    def __reduce__(self):
+        raise TypeError("an index lives in one process; bsi.dask has one for each worker")
+
+
+def among_numbers(sign: str, left: int, right: int) -> Tuple[str, int]:
+    """Returns the comparison of a number with a whole one that says the same as that with a constant of this cut."""
+    if sign in ("<", ">="):
+        return sign, left
+    if sign in ("<=", ">"):
+        return ("<", right) if sign == "<=" else (">=", right)
+    return (sign, left) if left < right else ("<" if sign == "=" else ">=", -FAR)
+
+
+def within(form: Form, sign: str, number: int) -> Tuple[str, int]:
+    """Returns the same comparison with a number that the column takes: below its least one there is none, from it on
+    are all."""
+    if sign in ("=", "!="):
+        return (
+            (sign, number) if form.offset <= number <= form.most else within(form, "<" if sign == "=" else ">=", -FAR)
+        )
+    if number > form.most:
+        return ("<=", form.most) if sign == "<" else (">", form.most)
+    return sign, max(number, form.offset)
+
+
+def _listed(names: Iterable[str]) -> str:
+    return ", ".join(map(repr, names))
+
+
+def _entries(numbers: np.ndarray, valid: np.ndarray) -> Entries:
+    return np.require(numbers, np.int64, ["C", "A"]), None if valid.all() else np.packbits(valid, bitorder="little")
+
+
+def _span(form: Form) -> str:
+    """Returns the ends of the column as a text, where they are no matter of course."""
+    is_known = form.kind.names_values or form.kind == Flags()
+    return "" if is_known else f", {form.show(form.offset)} to {form.show(form.most)}"
+
+
+def _bytes(size: float) -> str:
+    for unit in ("bytes", "KB", "MB"):
+        if size < 1000:
+            return f"{size:,.0f} {unit}" if unit == "bytes" else f"{size:.1f} {unit}"
+        size /= 1000
+    return f"{size:.1f} GB"

@@ -1,0 +1,9 @@
+"""Puts the package of this repository on the path, also for the processes that tests start, and counts warnings as
+failures."""
+
+import os
+import sys
+
+TOP = os.path.dirname(os.path.dirname(os.path.abspath(__file__)))
+sys.path.insert(0, TOP)
+os.environ["PYTHONPATH"] = os.pathsep.join([TOP, *filter(None, [os.environ.get("PYTHONPATH")])])

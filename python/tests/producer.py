@@ -1,0 +1,58 @@
+"""A producer of Arrow arrays by the C data interface, over NumPy buffers, for the tests of its reader."""
+
+import ctypes
+
+import numpy as np
+from bsi.arrow import _Array, _Schema
+
+_RELEASE = ctypes.CFUNCTYPE(None, ctypes.c_void_p)
+_new = ctypes.pythonapi.PyCapsule_New
+_new.argtypes, _new.restype = [ctypes.c_void_p, ctypes.c_char_p, ctypes.c_void_p], ctypes.py_object
+
+
+class Arrow:
+    """An Arrow array of a format, with its buffers as NumPy arrays or None, and children by name or a dictionary."""
+
+    def __init__(
+        self, layout, length, buffers, offset=0, null_count=-1, children=None, dictionary=None, flags=0, released=False
+    ):
+        self._release = _RELEASE(lambda _: None)
+        release = None if released else ctypes.cast(self._release, ctypes.c_void_p)
+        kept = [buffer if buffer is None else np.ascontiguousarray(buffer) for buffer in buffers]
+        pointers = (ctypes.c_void_p * max(1, len(kept)))(
+            *[None if buffer is None else buffer.ctypes.data for buffer in kept]
+        )
+        children = dict(children or {})
+        self.schema = _Schema(layout.encode(), b"", None, flags, len(children), None, None, release, None)
+        self.array = _Array(length, null_count, offset, len(kept), len(children), None, None, None, release, None)
+        self.array.buffers = ctypes.cast(pointers, ctypes.POINTER(ctypes.c_void_p))
+        self._kept = [kept, pointers, children, dictionary]
+        if children:
+            for name, child in children.items():
+                child.schema.name = name.encode()
+            schemas = (ctypes.POINTER(_Schema) * len(children))(
+                *[ctypes.pointer(child.schema) for child in children.values()]
+            )
+            arrays = (ctypes.POINTER(_Array) * len(children))(
+                *[ctypes.pointer(child.array) for child in children.values()]
+            )
+            self._kept += [schemas, arrays]
+            self.schema.children, self.array.children = schemas, arrays
+        if dictionary:
+            self.schema.dictionary, self.array.dictionary = ctypes.pointer(dictionary.schema), ctypes.pointer(
+                dictionary.array
+            )
+
+    def __arrow_c_array__(self, requested_schema=None):
+        schema = _new(ctypes.addressof(self.schema), b"arrow_schema", None)
+        return schema, _new(ctypes.addressof(self.array), b"arrow_array", None)
+
+
+def bits(*flags):
+    return np.packbits(np.array(flags, bool), bitorder="little")
+
+
+def texts(*values, large=False, validity=None):
+    joined = "".join(values).encode()
+    ends = np.cumsum([0, *[len(value.encode()) for value in values]]).astype("i8" if large else "i4")
+    return Arrow("U" if large else "u", len(values), [validity, ends, np.frombuffer(joined or b"\0", np.uint8)])

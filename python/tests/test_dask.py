@@ -1,0 +1,88 @@
+"""Four workers of Dask, each with the index of its partitions, and one of them ended in the middle."""
+
+import os
+import signal
+
+import numpy as np
+import pytest
+
+distributed = pytest.importorskip("distributed")
+pandas = pytest.importorskip("pandas")
+frames = pytest.importorskip("dask.dataframe")
+
+import bsi  # noqa: E402
+import bsi.dask  # noqa: E402
+from bsi import col  # noqa: E402
+
+
+def table(rows=40_000):
+    rng = np.random.default_rng(1)
+    frame = pandas.DataFrame(
+        {
+            "a": rng.integers(0, 1 << 20, rows),
+            "b": np.where(rng.random(rows) < 0.1, np.nan, rng.integers(-400, 600, rows)),
+            "day": pandas.Timestamp("2026-01-01") + pandas.to_timedelta(rng.integers(0, 100, rows), unit="D"),
+            "price": np.round(rng.random(rows) * 100, 2),
+            "who": rng.choice(["ape", "bee", "cat"], rows),
+        }
+    )
+    # One partition has whole prices alone and another text.
+    frame.loc[:4_000, "price"], frame.loc[:4_000, "who"] = 5.0, "dog"
+    return frame
+
+
+@pytest.fixture(scope="module")
+def client():
+    how = {"n_workers": 4, "threads_per_worker": 1, "processes": True, "dashboard_address": None, "silence_logs": 60}
+    with distributed.LocalCluster(**how) as cluster, distributed.Client(cluster) as client:
+        yield client
+
+
+def test_workers_are_spawned(client):
+    import dask
+
+    with dask.config.set({"distributed.worker.multiprocessing-method": "fork"}), pytest.raises(
+        ValueError, match="spawned and not forked"
+    ):
+        bsi.dask.from_frame(frames.from_pandas(table(10), npartitions=1))
+
+
+def test_a_refusal_names_the_row_of_all(client):
+    frame = table(1_000)
+    frame.loc[777, "price"] = 1 / 3
+    frame.loc[900, "price"] = 2 / 3
+    with pytest.raises(bsi.BadRow, match=r"column 'price', row 777 \(partition 7\)"):
+        bsi.dask.from_frame(frames.from_pandas(frame, npartitions=10))
+    with pytest.raises(bsi.IndexFull, match="row 999 is past the limit"):
+        bsi.dask.from_frame(frames.from_pandas(table(1_000), npartitions=10), limit=999)
+    with pytest.raises(bsi.BadRow, match=r"column 'a', row 0 \(partition 0\): .* is not from 0 to 3"):
+        bsi.dask.from_frame(frames.from_pandas(table(1_000), npartitions=10), forms={"a": bsi.slices(2)})
+    with pytest.raises(bsi.BadColumns, match="no column 'z'"):
+        bsi.dask.from_frame(frames.from_pandas(table(10), npartitions=1), ["z"])
+
+
+def test_answers_are_exact_and_a_lost_worker_is_told(client, monkeypatch):
+    frame = table()
+    rows, one = bsi.dask.from_frame(frames.from_pandas(frame, npartitions=10, sort=False)), bsi.Index.from_frame(frame)
+    assert rows.forms == one.forms and len(rows) == 40_000 and repr(rows).startswith("Workers of 40,000 rows")
+    assert len(client.run(os.getpid)) == len({actor.address for actor in rows._store._actors}) == 4
+    for where in (
+        bsi.all_rows,
+        (col.a < 345_678) & col.b.notnull() | (col.who == "dog"),
+        col.day < "2026-01-05",
+        col.a < 0,
+    ):
+        assert rows.count(where) == one.count(where) and (rows.mask(where) == one.mask(where)).all()
+        assert rows.sum("price", where) == one.sum("price", where)
+        for name in one.columns:
+            for end in ("least", "greatest", "median"):
+                assert getattr(rows, end)(name, where) == getattr(one, end)(name, where), (end, name, where)
+    monkeypatch.setattr("bsi.dask.SECONDS", 0.0001)
+    assert rows.count() == 40_000 and rows.median("a") == one.median("a")
+    with pytest.raises(TypeError, match="takes no further rows"):
+        rows.append(frame)
+    gone, pid = sorted(client.run(os.getpid).items())[1]
+    os.kill(pid, signal.SIGKILL)
+    for _ in range(2):
+        with pytest.raises(bsi.LostWorker, match=f"the worker {gone} is gone, and its rows with it"):
+            rows.count()

@@ -1,0 +1,377 @@
+"""What an index says of itself, what it refuses, and that a refusal changes nothing."""
+
+import copy
+import pickle
+from decimal import Decimal
+from fractions import Fraction
+
+import numpy as np
+import pytest
+
+import bsi
+from bsi import col
+
+
+def small(**more):
+    index = bsi.Index(
+        {"price": bsi.slices(20), "temp": bsi.range(10, 10, 10, offset=-400), "day": bsi.equality(7)}, **more
+    )
+    index.append({"price": [100, 250, None, 7], "temp": [-400, 599, 0, None], "day": [0, 6, 3, 3]})
+    return index
+
+
+def test_the_first_example():
+    index, p = small(), col.price
+    assert index.count((p < 200) & ~col.temp.isnull()) == 1
+    assert (index.sum("price", p >= 5), index.median("temp"), index.least("temp", ~p.isnull())) == (357, 0, -400)
+    assert (index.greatest("price"), index.rows(p == 7).tolist(), index.mask(p == 7).tolist()) == (
+        250,
+        [3],
+        [False, False, False, True],
+    )
+    assert index.median("temp", p == 7) is None and index.least(p, p > 250) is None and index.sum("price", p > 250) == 0
+
+
+def test_it_says_what_it_is():
+    index = small()
+    assert repr(index).splitlines()[0].startswith("Index of 4 rows, about ")
+    assert "temp   range(10, 10, 10, offset=-400)  whole numbers, -400 to 599" in repr(index)
+    assert index.columns == ["price", "temp", "day"] and str(index.forms["day"]) == "equality(7)"
+    assert index.schema == "column,price,slices,20\ncolumn,temp,range,10 10 10,-400\ncolumn,day,equality,7\n"
+    index.close()
+    assert "closed" in repr(index)
+
+
+def test_names_that_the_library_does_not_take():
+    names = ["Amount (EUR)", "c0", "all", "größe", "", "c2", "x" * 40]
+    index = bsi.Index({name: bsi.slices(4) for name in names})
+    index.append({name: [place] for place, name in enumerate(names)})
+    assert [index.greatest(name) for name in names] == list(range(7))
+    assert all(index.count(col[name] == place) == 1 for place, name in enumerate(names))
+
+
+def test_rows_that_do_not_fit_change_nothing():
+    index = small(limit=6)
+    for column, values, row, why in (
+        ("price", [1, 1 << 20], 1, "1,048,576 is not from 0 to 1,048,575"),
+        ("temp", [-401, 0], 0, "-401 is not from -400 to 599"),
+        ("day", [6, 7], 1, "7 is not from 0 to 6"),
+        ("day", [6, 2.5], 1, "2.5 is no whole number"),
+    ):
+        with pytest.raises(bsi.BadRow) as refused:
+            index.append({"price": [0, 0], "temp": [0, 0], "day": [0, 0], column: values})
+        assert str(refused.value) == f"column {column!r}, row {row}: {why}" and len(index) == 4
+    with pytest.raises(bsi.IndexFull, match="row 2 is past the limit of 6 rows") as refused:
+        index.append({"price": [0] * 3, "temp": [0] * 3, "day": [0] * 3})
+    assert refused.value.row == 2 and len(index) == 4 and index.count(col.price == 0) == 0
+    assert index.append({"price": [0] * 2, "temp": [0] * 2, "day": [0] * 2}) == 2
+
+
+@pytest.mark.parametrize(
+    "data, why",
+    [
+        ({"price": [1], "temp": [1]}, "missing columns: 'day'"),
+        ({"price": [1], "temp": [1], "day": [1], "more": [1]}, "unknown columns: 'more'"),
+        ({"price": [1], "temp": [1, 2], "day": [1]}, "'temp' 2"),
+        ({"price": [1], "temp": [1], "day": np.zeros((1, 1))}, "one dimension"),
+        ({}, "missing columns: 'day', 'price', 'temp'; the index has 'price', 'temp', 'day'"),
+        ([1, 2, 3], "a dict of columns"),
+    ],
+)
+def test_columns_that_differ(data, why):
+    index = small()
+    with pytest.raises((bsi.BadColumns, bsi.BadRow), match=why):
+        index.append(data)
+    assert len(index) == 4
+
+
+@pytest.mark.parametrize(
+    "columns, why",
+    [
+        ({}, "needs a column"),
+        ({"a": 5}, "slices"),
+        ({5: bsi.slices(1)}, "by name"),
+        ({"a": bsi.slices(5), "b": bsi.slices(0)}, r"column 'b' can't be kept as slices\(0\)"),
+        ({"a": bsi.slices(64)}, "1 to 63 slices"),
+        ({"a": bsi.equality()}, "bases of 2 to 1,024"),
+        ({"a": bsi.range(10, 1)}, "bases of 2 to 1,024"),
+        ({"a": bsi.range(*[1024] * 7)}, "product of at most"),
+        ({"a": bsi.slices(63, offset=1)}, "within 64 bits"),
+        ({"a": bsi.slices(5, offset=-(2**63) - 1)}, "within 64 bits"),
+        ({f"a{number}": bsi.slices(1) for number in range(65)}, "at most 64 columns"),
+    ],
+)
+def test_schemas_that_are_none(columns, why):
+    with pytest.raises(bsi.BadSchema, match=why):
+        bsi.Index(columns)
+
+
+def test_limits():
+    for limit in (0, -1, 2**32 + 1):
+        with pytest.raises(bsi.BadSchema, match="the limit is 1 to"):
+            bsi.Index({"a": bsi.slices(1)}, limit=limit)
+    assert bsi.Index({"a": bsi.slices(1)}, limit=2**32).limit == bsi.Index({"a": bsi.slices(1)}).limit == 2**32
+
+
+def test_constants_are_compared_exactly():
+    index = bsi.Index({"x": bsi.slices(4, offset=-8), "c": bsi.slices(6, kind=bsi.Decimals("0.1"))})
+    index.append({"x": [-8, -1, 0, 2, 3, 7, None], "c": [0, Decimal("0.2"), 0.3, 0.4, 5, 6.3, None]})
+    x, c = col.x, col.c
+    for where, rows in (
+        (x < 2.5, [0, 1, 2, 3]),
+        (x <= 2.5, [0, 1, 2, 3]),
+        (x > 2.5, [4, 5]),
+        (x >= 2.5, [4, 5]),
+        (x == 2.5, []),
+        (x != 2.5, [0, 1, 2, 3, 4, 5]),
+        (x < Fraction(-1, 2), [0, 1]),
+        (x >= Decimal("-8.0"), [0, 1, 2, 3, 4, 5]),
+        (x < 10**30, [0, 1, 2, 3, 4, 5]),
+        (x > -(10**30), [0, 1, 2, 3, 4, 5]),
+        (x < -9, []),
+        (x <= -8, [0]),
+        (x < -8, []),
+        (x > 7, []),
+        (x >= 8, []),
+        (x <= 8, [0, 1, 2, 3, 4, 5]),
+        (x == 99, []),
+        (x != 99, [0, 1, 2, 3, 4, 5]),
+        (x < float("inf"), [0, 1, 2, 3, 4, 5]),
+        (x <= -np.inf, []),
+        (x == np.inf, []),
+        (x == np.int8(2), [3]),
+        (x == np.float32(2), [3]),
+        (x == True, []),
+        (np.int64(2) <= x, [3, 4, 5]),
+        (2.5 > x, [0, 1, 2, 3]),
+        (x < Decimal("1e999999"), [0, 1, 2, 3, 4, 5]),
+        (x <= Decimal("-1e-999999"), [0, 1]),
+        (x < 2.0**60 + 1, [0, 1, 2, 3, 4, 5]),
+        (x.between(-1, 2), [1, 2, 3]),
+        (x.isin([7, -8, 50]), [0, 5]),
+        (x.isin([]), []),
+        (x.notnull() & x.isnull(), []),
+        (c < 0.3, [0, 1]),
+        (c == 0.3, [2]),
+        (c <= Decimal("0.25"), [0, 1]),
+        (c == 0.25, []),
+        (c == Fraction(1, 3), []),
+        (c > Fraction(1, 3), [3, 4, 5]),
+        (c < 1, [0, 1, 2, 3]),
+        (c == 6.3, [5]),
+        (c > 6.35, []),
+        (c != 0.31, [0, 1, 2, 3, 4, 5]),
+        (c == np.float32(0.3), [2]),
+        (c >= Decimal("Infinity"), []),
+    ):
+        assert index.rows(where).tolist() == rows, where
+    assert index.sum("c") == Decimal("12.2") and str(index.sum("c", c > 7)) == "0.0"
+
+
+@pytest.mark.parametrize(
+    "constant",
+    [
+        None,
+        "5",
+        b"5",
+        float("nan"),
+        Decimal("nan"),
+        Decimal("sNaN"),
+        1j,
+        [1],
+        np.array([1, 2]),
+        object(),
+        np.datetime64(5, "D"),
+    ],
+)
+def test_constants_that_are_none(constant):
+    with pytest.raises(bsi.BadQuery, match="column 'price' is compared with one of whole numbers"):
+        small().count(col.price < constant)
+
+
+def test_predicates_never_change():
+    where = (col.price < 5) & ~col["Amount (EUR)"].isnull() | bsi.all_rows
+    assert repr(where) == "(((col.price < 5) & ~col['Amount (EUR)'].isnull()) | all_rows)"
+    assert pickle.loads(pickle.dumps(where)) == where == copy.deepcopy(where) and len({where, where}) == 1
+    with pytest.raises(AttributeError):
+        where.terms = ()
+    with pytest.raises(AttributeError):
+        col.price.name = "x"
+    for wrong in (
+        lambda: 1 < col.price < 5,
+        lambda: not where,
+        lambda: where and where,
+        lambda: col.a < col.b,
+        lambda: where & True,
+        lambda: where | 5,
+    ):
+        with pytest.raises(TypeError):
+            wrong()
+    with pytest.raises(TypeError, match="a predicate is made of bsi.col"):
+        small().count("price < 5")
+    with pytest.raises(TypeError):
+        col[5]
+
+
+def test_a_thousand_fields():
+    index, where = small(), col.price != 10**9
+    for _ in range(249):
+        where = where & (col.price != 10**9)
+    assert sum(3 if isinstance(term, tuple) else 1 for term in where.terms) == 999
+    assert index.count(where) == 3 and index.count(~where) == 1 and len(repr(where)) > 1000
+    with pytest.raises(bsi.BadQuery, match="at most 1,000 fields .* and this one 1,003"):
+        where & (col.price == 1)
+    deep = col.price < 5
+    for _ in range(997):
+        deep = ~deep
+    assert index.count(deep) == 4 and repr(deep).startswith("~~~~")
+    with pytest.raises(bsi.BadQuery, match="1,001"):
+        ~deep
+
+
+def test_unknown_columns():
+    index = small()
+    for ask in (
+        lambda: index.count(col.cost < 5),
+        lambda: index.sum("cost"),
+        lambda: index.median(col.cost),
+        lambda: index.mask(col.cost.isnull()),
+    ):
+        with pytest.raises(bsi.BadQuery, match="there is no column 'cost', only 'price', 'temp', 'day'"):
+            ask()
+
+
+def test_sums_past_64_bits():
+    index = bsi.Index({"x": bsi.slices(63, offset=-(2**62)), "y": bsi.slices(62)})
+    xs, ys = [-(2**62)] * 10 + [5], [2**62 - 1] * 11
+    index.append({"x": xs, "y": ys})
+    assert (index.sum("x"), index.sum("y")) == (sum(xs), sum(ys))
+
+
+def test_closing():
+    index = small()
+    with index:
+        assert index.count() == 4
+    index.close()
+    for call in (
+        index.count,
+        lambda: index.append({"price": [1], "temp": [1], "day": [1]}),
+        lambda: len(index),
+        lambda: index.mask(),
+        index.share,
+        lambda: index.schema,
+    ):
+        with pytest.raises(bsi.Closed):
+            call()
+
+
+def test_sharing():
+    index = small()
+    other = index.share()
+    third = other.share()
+    for one in (index, other, third):
+        with pytest.raises(bsi.Shared):
+            one.append({"price": [1], "temp": [1], "day": [1]})
+    index.close()
+    other.close()
+    assert third.count() == 4 and third.sum("price") == 357
+
+
+def test_an_index_stays_in_its_process():
+    for copied in (pickle.dumps, copy.copy, copy.deepcopy):
+        with pytest.raises(TypeError, match="lives in one process"):
+            copied(small())
+
+
+def test_texts_and_times_and_flags():
+    index = bsi.Index.from_frame(
+        {
+            "who": ["b", "d", None, "b"],
+            "at": np.array(["2026-01-01", "2026-01-05", "NaT", "2026-03-01"], "M8[D]"),
+            "ok": [True, False, None, True],
+        }
+    )
+    who, at = col.who, col.at
+    for where, rows in (
+        (who == "b", [0, 3]),
+        (who != "b", [1]),
+        (who < "c", [0, 3]),
+        (who >= "c", [1]),
+        (who == "zebra", []),
+        (who != "zebra", [0, 1, 3]),
+        (who <= "", []),
+        (at == "2026-01-05", [1]),
+        (at < "2026-01-05T00:00:01", [0, 1]),
+        (at > "2026-01-04T23:59", [1, 3]),
+        (at == "2026-01-05T12:00", []),
+        (at <= np.datetime64("2026-01"), [0]),
+        (at < np.datetime64("2026-01-01T01", "h"), [0]),
+        (col.ok == True, [0, 3]),
+        (col.ok == np.bool_(False), [1]),
+    ):
+        assert index.rows(where).tolist() == rows, where
+    assert (index.least("who"), index.median("who"), index.sum("ok"), index.greatest("ok")) == ("b", "b", 2, True)
+    for wrong, why in (
+        (who == 5, "5 is no text"),
+        (at < 5, "5 is no date or time"),
+        (at < "yesterday", "no date or time"),
+        (col.ok == 1, "neither True nor False"),
+    ):
+        with pytest.raises(bsi.BadQuery, match=why):
+            index.count(wrong)
+    for name in ("who", "at"):
+        with pytest.raises(bsi.BadQuery, match=f"column '{name}': .* have no sum"):
+            index.sum(name)
+    with pytest.raises(bsi.BadRow, match="row 0: 'new' is none of its 2 texts"):
+        index.append({"who": ["new"], "at": [None], "ok": [None]})
+    with pytest.raises(bsi.BadRow, match="row 1: .*2026-01-01T12:00.* is no whole number of days"):
+        index.append(
+            {"who": ["b", "d"], "at": np.array(["2026-01-01T00:00", "2026-01-01T12:00"], "M8[m]"), "ok": [None, None]}
+        )
+
+
+def test_kinds_that_are_none():
+    for wrong in (
+        lambda: bsi.Decimals("0.02"),
+        lambda: bsi.Decimals(19),
+        lambda: bsi.Decimals("x"),
+        lambda: bsi.Times("h"),
+        lambda: bsi.Texts(("a", "a"), ordered=True),
+    ):
+        with pytest.raises(ValueError):
+            wrong()
+    for wrong in (lambda: bsi.Texts(()), lambda: bsi.Texts((1,)), lambda: bsi.slices(2.5)):
+        with pytest.raises((TypeError, AttributeError)):
+            wrong()
+    assert bsi.Decimals("0.01") == bsi.Decimals(2) == bsi.Decimals(0.01) and bsi.Decimals(1) != bsi.Decimals(2)
+
+
+def test_kinds_and_forms_that_are_given():
+    frame = {"a": [1.5, 2.25], "b": [3, 4], "c": ["x", "y"]}
+    index = bsi.Index.from_frame(
+        frame, ["a", "b"], kinds={"a": bsi.Decimals("0.001")}, forms={"b": bsi.equality(5, offset=2)}
+    )
+    assert (
+        index.columns == ["a", "b"]
+        and str(index.sum("a")) == "3.750"
+        and str(index.forms["b"]) == "equality(5, offset=2)"
+    )
+    for more, why in (
+        ({"forms": {"b": bsi.slices(2)}}, "column 'b', row 1: 4 is not from 0 to 3"),
+        ({"kinds": {"a": bsi.Whole()}}, "column 'a', row 0: 1.5 is no whole number"),
+        ({"kinds": {"z": bsi.Whole()}}, "given for 'z'"),
+        ({"columns": ["a", "z"]}, "no column 'z'"),
+        ({"columns": ["a", "a"]}, "there twice"),
+        ({"columns": []}, "there are no columns"),
+        ({"limit": 1}, "row 1 is past the limit of 1 rows"),
+    ):
+        with pytest.raises(bsi.Error, match=why):
+            bsi.Index.from_frame(frame, **more)
+    with pytest.raises(bsi.BadSchema, match="more than the 2\\^63 values"):
+        bsi.Index.from_frame({"a": [-(2**63), 2**63 - 1]})
+
+
+def test_progress_is_told():
+    told = []
+    bsi.Index.from_frame({"a": np.arange(1 << 20 | 5)}, progress=lambda done, total: told.append((done, total)))
+    assert told == [(1 << 20, 1048581), (1048581, 1048581)]

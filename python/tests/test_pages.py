@@ -1,0 +1,47 @@
+"""docs/PYTHON.md prints what it says, and the example draws."""
+
+import doctest
+import os
+import re
+import subprocess
+import sys
+
+import pytest
+
+TOP = os.path.dirname(os.path.dirname(os.path.dirname(os.path.abspath(__file__))))
+PAGE, EXAMPLES = os.path.join(TOP, "docs", "PYTHON.md"), os.path.join(TOP, "examples")
+
+
+def blocks(language):
+    with open(PAGE, encoding="utf-8") as page:
+        return re.findall(rf"^```{language}\n(.*?)^```$", page.read(), re.MULTILINE | re.DOTALL)
+
+
+def test_the_page_prints_what_it_says(monkeypatch):
+    pytest.importorskip("pandas")
+    monkeypatch.chdir(EXAMPLES)
+    lines = "\n".join(blocks("python"))
+    test = doctest.DocTestParser().get_doctest(lines, {}, "PYTHON.md", PAGE, 0)
+    found = doctest.DocTestRunner(optionflags=doctest.REPORT_NDIFF).run(test)
+    assert found.attempted > 15 and found.failed == 0
+
+
+def test_the_commands_of_the_page_print_what_they_say():
+    pytest.importorskip("pandas")
+    commands = [text for text in blocks("text") if text.startswith("$ python3 ")]
+    assert commands
+    for text in commands:
+        line, _, wanted = text.partition("\n")
+        command = line.removeprefix("$ ").replace("python3", sys.executable, 1)
+        ran = subprocess.run(["sh", "-c", command], cwd=EXAMPLES, capture_output=True, text=True, check=False)
+        assert (ran.stdout, ran.stderr) == (wanted, "")
+
+
+def test_the_example_draws(tmp_path):
+    pytest.importorskip("pandas")
+    pytest.importorskip("matplotlib")
+    picture = tmp_path / "weather.png"
+    example = os.path.join(TOP, "python", "examples", "weather.py")
+    ran = subprocess.run([sys.executable, example, str(picture)], capture_output=True, text=True, check=False)
+    assert ran.returncode == 0, ran.stderr
+    assert "208 station days of freezing rain" in ran.stdout and picture.stat().st_size > 10_000

@@ -1,0 +1,172 @@
+"""Questions as texts, and the command that answers them."""
+
+import os
+import subprocess
+import sys
+
+import pytest
+
+import bsi
+from bsi import col
+from bsi.__main__ import main
+from bsi.questions import predicate
+
+
+@pytest.fixture(scope="module")
+def index():
+    return bsi.Index.from_frame(
+        {
+            "price": [100, 250, None, 7],
+            "Amount (EUR)": [1.5, 2.25, 0.5, None],
+            "where": ["a b", "O'Hara", "null", None],
+            "ok": [True, False, None, True],
+            "day": ["2026-01-31", "2026-02-01", None, "2026-02-28"],
+            "and": [1, 2, 3, 4],
+        },
+        kinds={"day": bsi.Times("D")},
+    )
+
+
+@pytest.mark.parametrize(
+    "text, answer",
+    [
+        ("count", 4),
+        ("count all", 4),
+        ('count price < 100 and "Amount (EUR)" null', 1),
+        ("rows price >= 100", [0, 1]),
+        ("sum price", 357),
+        ("median price where not price = 7", 100),
+        ("least 'Amount (EUR)' price!=100", bsi.Decimals(2).decode(225)),
+        ("count price<2.5", 0),
+        ("count not price null and not (price = 7 or price = 100)", 1),
+        ("count price null or price not null", 4),
+        ("greatest price price > 1000", None),
+        ("count 'where' = 'O''Hara'", 1),
+        ('count where "where" = "a b"', 1),
+        ("count 'where' = 'null'", 1),
+        ("count 'where' null", 1),
+        ("count ok = TRUE", 2),
+        ("greatest price day >= 2026-02-01", 250),
+        ("count 'and' > 1 and 'and' < 4", 2),
+        ("count price = -5", 0),
+        ("count not not price == 7", 1),
+        ("count (((price = 7)))", 1),
+        ("count price = 7 or price = 100 and ok = false", 1),
+        ("count (price = 7 or price = 100) and ok = false", 0),
+    ],
+)
+def test_answers(index, text, answer):
+    found = bsi.ask(index, text)
+    assert (found.tolist() if isinstance(answer, list) else found) == answer
+
+
+@pytest.mark.parametrize(
+    "text, why",
+    [
+        ("", "a question begins with"),
+        ("drop price", "a question begins with"),
+        ("sum", "asked of a column"),
+        ("sum cost", "no column 'cost'"),
+        ("count cost = 5", "no column 'cost'"),
+        ("count price", "a sign and a constant"),
+        ("count price <", "a sign and a constant"),
+        ("count price 5", "a sign and a constant"),
+        ("count price < cheap", "'cheap' is no number"),
+        ("count day < 5", "no date or time"),
+        ("count price < 5 and", "ends where a column is wanted"),
+        ("count (price < 5", "opened and not closed"),
+        ("count price < 5)", "closed that was not opened"),
+        ("count price < 5 price < 6", "'and', 'or' or the end"),
+        ("count and", "a sign and a constant"),
+        ("count price < 'x", "no word of a question"),
+        ("count not", "ends where a column is wanted"),
+        ("count price ! 5", "no word of a question"),
+        ("count ()", "no column"),
+        ("sum 'where'", "have no sum"),
+        ("sum where", "have no sum"),
+        ("count 'and' > 5 < 6", "'and', 'or' or the end"),
+        ("count where > 5", "no column '>'"),
+        ("count " + " and ".join(["price = 1"] * 300), "at most 1,000 fields"),
+        ("count __import__('os')", "no column"),
+    ],
+)
+def test_questions_that_are_none(index, text, why):
+    with pytest.raises(bsi.BadQuery, match=why):
+        bsi.ask(index, text)
+
+
+def test_deep_questions(index):
+    assert bsi.ask(index, "count " + "(" * 50_000 + "price = 7" + ")" * 50_000) == 1
+    assert bsi.ask(index, "count " + "not " * 996 + "price = 7") == 1
+    with pytest.raises(bsi.BadQuery):
+        bsi.ask(index, "count " + "(" * 50_000)
+    assert predicate(index, "price < 5 or not day null") == (col.price < bsi.Whole().parse("5")) | ~col.day.isnull()
+
+
+def run(*words, given=""):
+    return subprocess.run(
+        [sys.executable, "-m", "bsi", *words], input=given, capture_output=True, text=True, check=False
+    )
+
+
+def test_the_command(tmp_path, capsys):
+    path, other = tmp_path / "rows.csv", tmp_path / "more.csv"
+    path.write_text("n,Day\n1,2026-01-31\n2,2026-02-01\nn/a,\n")
+    other.write_text("n,Day\n5,2026-02-03\n")
+    ran = run(str(path), str(other), "--null", "n/a", "sum n", "greatest Day n < 5", "rows n null", "count n = x")
+    assert ran.stdout.splitlines()[1:] == [
+        "  n    slices(3)                whole numbers, 0 to 7",
+        "  Day  slices(2, offset=20484)  dates, 2026-01-31 to 2026-02-03",
+        "8",
+        "2026-02-01",
+        "2",
+    ]
+    assert ran.stdout.startswith("Index of 4 rows, about ") and ran.returncode == 1
+    assert ran.stderr == "bsi: column 'n' is compared with one of whole numbers: 'x' is no number\n"
+    ran = run(str(path), "--null=n/a", "--columns", "n", "--parts", "2", given="count\n\nmedian n\n")
+    assert (
+        ran.stdout.splitlines()[0].startswith("Parts of 3 rows")
+        and ran.stdout.splitlines()[2:] == ["3", "1"]
+        and ran.returncode == 0
+    )
+    ran = run(str(path), "--text", "n", "least n n > 1")
+    assert ran.stdout.splitlines()[-1] == "2" and ran.returncode == 0
+    ran = run(str(path))
+    assert (
+        ran.returncode == 1
+        and ran.stderr == f"bsi: column 'n', row 2 (line 4 of {path}): 'n/a' is no number\n"
+        and ran.stdout == ""
+    )
+    ran = run("/dev/stdin", "sum n", given="n\n5\n6\n")
+    assert ran.stdout.splitlines()[-1] == "11" and ran.returncode == 0
+    assert "No such file" in run("none.csv").stderr and run().returncode == 2
+    assert main([str(path), "--null", "n/a", "count"]) == 0 and capsys.readouterr().out.endswith("3\n")
+
+
+def test_the_command_waits_at_a_terminal(tmp_path):
+    path = tmp_path / "rows.csv"
+    path.write_text("n\n5\n6\n")
+    terminal, end = os.openpty()
+    command = [sys.executable, "-m", "bsi", str(path), "count"]
+    with subprocess.Popen(command, stdin=end, stdout=subprocess.PIPE, stderr=subprocess.STDOUT) as started:
+        os.write(terminal, b"sum n\n\nsum x\ngreatest n n < 6\n\x04")
+        out = started.communicate(timeout=60)[0].decode().replace("? ", "").splitlines()
+    os.close(terminal)
+    os.close(end)
+    assert [line for line in out[2:] if line] == ["2", "11", "bsi: there is no column 'x', only 'n'", "5"]
+    assert started.returncode == 0
+
+
+def test_the_command_reads_parquet_where_pandas_can(monkeypatch, capsys):
+    pandas = pytest.importorskip("pandas")
+    monkeypatch.setattr(
+        pandas,
+        "read_parquet",
+        lambda file, columns: pandas.DataFrame({"n": [1, 2], "t": ["a", "b"]})[columns or ["n", "t"]],
+    )
+    assert main(["x.parquet", "y.parquet", "sum n", "rows t = b"]) == 0
+    assert capsys.readouterr().out.splitlines()[3:] == ["6", "1 3"]
+    assert main(["x.parquet", "--columns", "t", "--parts", "2", "greatest t"]) == 0
+    assert capsys.readouterr().out.splitlines()[2:] == ["b"]
+    assert main(["x.parquet", "--null", "n/a", "count"]) == 1
+    assert capsys.readouterr().err == "bsi: --text and --null are for CSV files alone\n"

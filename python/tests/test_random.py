@@ -1,0 +1,79 @@
+"""Random tables of all kinds and forms, and random questions, beside the same by NumPy."""
+
+import numpy as np
+import pytest
+
+import bsi
+import model
+
+TABLES = 10_000
+
+
+def check_question(asked, table, name):
+    where, rows = table.predicate()
+    assert asked.count(where) == rows.sum(), where
+    assert (asked.mask(where) == rows).all(), where
+    assert asked.rows(where).tolist() == np.flatnonzero(rows).tolist(), where
+    total, *ends = table.answers(name, rows)
+    if total is not None:
+        assert asked.sum(name, where) == total, (name, where)
+    for word, end in zip(("least", "greatest", "median"), ends):
+        found = getattr(asked, word)(name, where)
+        assert found == end and (found is None) == (end is None), (word, name, where)
+
+
+@pytest.mark.parametrize("seed", range(10))
+def test_10_000_tables_and_questions(seed):
+    rng = np.random.default_rng(seed)
+    for _ in range(TABLES // 10):
+        table = model.Table(rng)
+        with bsi.Index(table.forms()) as index:
+            assert index.append(table.data()) == len(index) == table.rows
+            check_question(index, table, str(rng.choice(list(table.columns))))
+
+
+def test_parts_answer_as_one_index():
+    rng = np.random.default_rng(77)
+    for _ in range(60):
+        table = model.Table(rng)
+        with bsi.Parts(int(rng.integers(1, 6)), table.forms()) as parts:
+            data, cut = table.data(), int(rng.integers(0, table.rows + 1))
+            parts.append({name: values[:cut] for name, values in data.items()})
+            parts.append({name: values[cut:] for name, values in data.items()})
+            assert len(parts) == table.rows
+            for _ in range(4):
+                check_question(parts, table, str(rng.choice(list(table.columns))))
+
+
+def test_frames_answer_as_pandas():
+    pandas = pytest.importorskip("pandas")
+    rng = np.random.default_rng(78)
+    for _ in range(60):
+        rows = int(rng.integers(1, 300))
+        frame = pandas.DataFrame(
+            {
+                "Whole No": rng.integers(-(10**12), 10**12, rows),
+                "flag": rng.random(rows) < 0.5,
+                "price": np.where(rng.random(rows) < 0.2, np.nan, np.round(rng.random(rows) * 1000, 2)),
+                "day": pandas.Timestamp("2026-01-01") + pandas.to_timedelta(rng.integers(0, 400, rows), unit="D"),
+                "who": model.WORDS[rng.integers(0, 6, rows)],
+            }
+        )
+        c, limit, day = bsi.col, float(np.round(rng.random() * 1000, 2)), frame["day"].iloc[0]
+        with bsi.Index.from_frame(frame) as index:
+            for where, mask in (
+                (c.price < limit, frame["price"] < limit),
+                ((c.day >= day) & ~(c.who == "cat"), (frame["day"] >= day) & ~(frame["who"] == "cat")),
+                (c.price.isnull() | (c.flag == True), frame["price"].isna() | frame["flag"]),  # noqa: E712
+                ((c.who > "bell") & (c["Whole No"] > 0), (frame["who"] > "bell") & (frame["Whole No"] > 0)),
+            ):
+                assert index.count(where) == mask.sum(), where
+                assert (index.mask(where) == mask.to_numpy()).all(), where
+                chosen = frame[mask]
+                assert index.sum("Whole No", where) == chosen["Whole No"].sum()
+                assert index.greatest("day", where) == (chosen["day"].max() if len(chosen) else None)
+                median = chosen["price"].quantile(0.5, interpolation="lower")
+                assert index.median("price", where) == (
+                    None if np.isnan(median) else bsi.Decimals(2).decode(round(median * 100))
+                )
+                assert index.least("who", where) == (chosen["who"].min() if len(chosen) else None)

@@ -1,0 +1,177 @@
+"""Threads that ask one index, and parts that each have a thread of their own."""
+
+import threading
+
+import numpy as np
+import pytest
+
+import bsi
+from bsi import col
+
+
+def table(rows, seed=3):
+    rng = np.random.default_rng(seed)
+    return {
+        "a": rng.integers(0, 1 << 20, rows),
+        "b": np.ma.MaskedArray(rng.integers(-400, 600, rows), rng.random(rows) < 0.1),
+    }
+
+
+FORMS = {"a": bsi.slices(20), "b": bsi.range(10, 10, 10, offset=-400)}
+LIMITS = range(0, 1 << 20, 1 << 16)
+
+
+def in_threads(asks):
+    """Runs each on a thread of its own, all at once, and returns what they raised."""
+    raised, start = [], threading.Barrier(len(asks))
+
+    def run(ask):
+        try:
+            start.wait()
+            ask()
+        except BaseException as why:  # noqa: BLE001
+            raised.append(why)
+
+    threads = [threading.Thread(target=run, args=(ask,)) for ask in asks]
+    for thread in threads:
+        thread.start()
+    for thread in threads:
+        thread.join()
+    return raised
+
+
+@pytest.mark.parametrize("shared", [True, False])
+def test_eight_threads_ask_one_index(shared):
+    data = table(20_000)
+    index = bsi.Index(FORMS)
+    index.append(data)
+    wanted = [int(((data["a"] < limit) & (data["b"] >= 100).filled(False)).sum()) for limit in LIMITS]
+    medians = [
+        int(np.sort(data["a"][data["a"] >= limit])[(int((data["a"] >= limit).sum()) - 1) // 2]) for limit in LIMITS
+    ]
+
+    def ask(one):
+        for _ in range(5):
+            assert [one.count((col.a < limit) & (col.b >= 100)) for limit in LIMITS] == wanted
+            assert [one.median("a", col.a >= limit) for limit in LIMITS] == medians
+
+    handles = [index.share() if shared else index for _ in range(8)]
+    assert in_threads([lambda one=one: ask(one) for one in handles]) == []
+
+
+def test_an_index_is_closed_while_others_ask():
+    for _ in range(20):
+        index = bsi.Index(FORMS)
+        index.append(table(5_000))
+        closed = []
+
+        def ask(index=index, closed=closed):
+            try:
+                for _ in range(200):
+                    assert index.count(col.a >= 0) == 5_000
+            except bsi.Closed as why:
+                closed.append(why)
+
+        assert in_threads([ask, ask, ask, index.close]) == []
+
+
+@pytest.mark.parametrize("make", [lambda: bsi.Index(FORMS), lambda: bsi.Parts(4, FORMS)])
+def test_rows_come_in_while_others_ask(make):
+    index, data = make(), table(400)
+
+    def append():
+        for _ in range(50):
+            index.append(data)
+
+    def ask():
+        for _ in range(50):
+            mask = index.mask(col.b.isnull())
+            assert len(mask) % 400 == 0 and mask.sum() == np.ma.getmaskarray(data["b"]).sum() * (len(mask) // 400)
+            assert len(index.rows(col.a >= 0)) % 400 == 0
+
+    assert in_threads([append, append, ask, ask]) == [] and len(index) == 40_000
+
+
+def test_parts_put_answers_together():
+    data = table(100_003)
+    index = bsi.Index(FORMS)
+    index.append(data)
+    for n in (1, 2, 3, 7, 16):
+        with bsi.Parts(n, FORMS) as parts:
+            for start, end in ((0, 0), (0, 1), (1, 50_000), (50_000, 100_003)):
+                parts.append({name: values[start:end] for name, values in data.items()})
+            assert len(parts) == 100_003 and repr(parts).startswith("Parts of 100,003 rows")
+            for where in (
+                bsi.all_rows,
+                col.a < 345_678,
+                (col.b < 12) | (col.a == int(data["a"][5])),
+                col.b.isnull(),
+                col.a < 0,
+            ):
+                assert parts.count(where) == index.count(where)
+                assert (parts.mask(where) == index.mask(where)).all() and (parts.rows(where) == index.rows(where)).all()
+                for name in FORMS:
+                    assert parts.sum(name, where) == index.sum(name, where)
+                    for end in ("least", "greatest", "median"):
+                        assert getattr(parts, end)(name, where) == getattr(index, end)(name, where), (
+                            n,
+                            end,
+                            name,
+                            where,
+                        )
+
+
+def test_parts_change_nothing_at_a_refusal():
+    parts = bsi.Parts(3, FORMS, limit=50)
+    parts.append(table(30))
+    for bad, why in (
+        ({"a": [0] * 20, "b": [0] * 19 + [600]}, "column 'b', row 19: 600 is not from -400 to 599"),
+        (table(21), "row 20 is past the limit of 50 rows"),
+    ):
+        with pytest.raises(bsi.Error, match=why):
+            parts.append(bad)
+        assert len(parts) == 30 and len(parts.mask()) == 30
+    parts.close()
+    with pytest.raises(bsi.Closed):
+        parts.count()
+    for n in (0, -1, 257):
+        with pytest.raises(ValueError, match="1 to 256 parts"):
+            bsi.Parts(n, FORMS)
+
+
+def test_memory_that_is_refused(monkeypatch):
+    index = bsi.Index(FORMS)
+    monkeypatch.setattr(bsi.native.Handle, "append", lambda self, columns: (bsi.native.NO_MEMORY, 2))
+    with pytest.raises(bsi.NoMemory, match="2 rows were appended") as refused:
+        index.append(table(5))
+    assert refused.value.appended == 2 and isinstance(refused.value, MemoryError)
+    parts = bsi.Parts(2, FORMS)
+    with pytest.raises(bsi.NoMemory, match="they are closed"):
+        parts.append(table(50))
+    with pytest.raises(bsi.Closed):
+        parts.count()
+
+
+def test_an_append_to_parts_that_is_interrupted(monkeypatch):
+    parts = bsi.Parts(2, FORMS)
+    parts.append(table(50))
+
+    def interrupted(self, columns):
+        raise KeyboardInterrupt
+
+    monkeypatch.setattr(bsi.native.Handle, "append", interrupted)
+    with pytest.raises(KeyboardInterrupt):
+        parts.append(table(50))
+    with pytest.raises(bsi.Closed):
+        parts.mask()
+
+
+def test_each_status_has_its_exception():
+    names = ["Closed", "Open", "NoMemory", "BadSchema", "NoColumns", "BadFeeder", "BadColumns", "BadRow", "IndexFull"]
+    names += ["Shared", "BadQuery", "NoRoom", "BadText"]
+    assert [bsi.errors.BY_STATUS[status].__name__ for status in range(1, 14)] == names
+    for status in (1, 2, 3, 4, 5, 6, 7, 10, 11, 12, 13):
+        with pytest.raises(bsi.errors.BY_STATUS[status]):
+            bsi.native.check(status)
+    with pytest.raises(bsi.Error, match="status 99"):
+        bsi.native.check(99)

@@ -1,0 +1,241 @@
+"""Nulls and numbers of every source come in as they are, and what can't be kept exactly is refused with its column and
+row."""
+
+import datetime
+from decimal import Decimal
+from fractions import Fraction
+
+import numpy as np
+import pytest
+from producer import Arrow, bits, texts
+
+import bsi
+
+pandas = pytest.importorskip("pandas")
+NAN, DAY = float("nan"), datetime.date(2026, 1, 31)
+
+# Sources of the numbers 1, null, 3.
+WITH_A_NULL = {
+    "list": [1, None, 3],
+    "list with nan": [1, NAN, 3],
+    "list of floats": [1.0, NAN, 3.0],
+    "list with NA": [1, pandas.NA, 3],
+    "list with NaT": [1, pandas.NaT, 3],
+    "list with a decimal nan": [1, Decimal("nan"), 3],
+    "list of NumPy numbers": [np.int8(1), None, np.uint64(3)],
+    "generator": (number for number in [1, None, 3]),
+    "floats": np.array([1, np.nan, 3]),
+    "half floats": np.array([1, np.nan, 3], np.float16),
+    "objects": np.array([1, None, 3], object),
+    "masked": np.ma.MaskedArray([1, 99, 3], [False, True, False]),
+    "masked floats": np.ma.MaskedArray([1, 2.5, 3], [False, True, False]),
+    "masked objects": np.ma.MaskedArray(np.array([1, "x", 3], object), [False, True, False]),
+    "series of floats": pandas.Series([1, None, 3]),
+    "series of Int64": pandas.Series([1, None, 3], dtype="Int64"),
+    "series of UInt8": pandas.Series([1, None, 3], dtype="UInt8"),
+    "series of Float64": pandas.Series([1, None, 3], dtype="Float64"),
+    "series of objects": pandas.Series([1, None, 3], dtype=object),
+    "series with an index of its own": pandas.Series([1, None, 3], index=[5, 5, 0]),
+    "sparse series": pandas.Series(pandas.arrays.SparseArray([1, np.nan, 3])),
+    "categories": pandas.Series([1, None, 3]).astype("category"),
+    "extension array": pandas.array([1, None, 3], dtype="Int64"),
+    "index": pandas.Index([1, np.nan, 3]),
+    "arrow": Arrow("l", 3, [bits(1, 0, 1), np.array([1, 9, 3])]),
+    "arrow of small numbers": Arrow("C", 3, [bits(1, 0, 1), np.array([1, 9, 3], np.uint8)]),
+    "arrow of floats": Arrow("f", 3, [bits(1, 0, 1), np.array([1, 9, 3], np.float32)]),
+    "arrow of floats with a nan": Arrow("g", 3, [None, np.array([1, np.nan, 3])], null_count=0),
+    "arrow with an offset": Arrow("i", 3, [bits(*[0] * 9, 1, 0, 1), np.arange(-8, 4, dtype=np.int32)], offset=9),
+    "arrow with a dictionary": Arrow(
+        "c",
+        3,
+        [bits(1, 0, 1), np.array([1, 77, 0], np.int8)],
+        dictionary=Arrow("l", 2, [None, np.array([3, 1])], null_count=0),
+    ),
+}
+
+
+@pytest.mark.parametrize("name", WITH_A_NULL)
+def test_nulls_of_every_source(name):
+    index = bsi.Index({"x": bsi.slices(2)})
+    assert index.append({"x": WITH_A_NULL[name]}) == 3
+    assert index.mask(bsi.col.x.isnull()).tolist() == [False, True, False]
+    assert (index.least("x"), index.greatest("x"), index.sum("x")) == (1, 3, 4)
+
+
+# Sources, the kind that is chosen, and the values that come back, each but the null.
+CHOSEN = {
+    "int8": (np.array([-128, 127], np.int8), bsi.Whole(), [-128, 127]),
+    "uint64": (np.array([0, 2**63 - 1], np.uint64), bsi.Whole(), [0, 2**63 - 1]),
+    "big-endian": (np.array([1, 2], ">i4"), bsi.Whole(), [1, 2]),
+    "the ends of 64 bits": ([2**63 - 1, 2**63 - 2], bsi.Whole(), [2**63 - 1, 2**63 - 2]),
+    "an offset at the end of 64 bits": ([2**63 - 1, 2**63 - 6], bsi.Whole(), [2**63 - 1, 2**63 - 6]),
+    "the least of 64 bits": ([-(2**63)], bsi.Whole(), [-(2**63)]),
+    "numbers past 2^53": ([2**53 + 1, None], bsi.Whole(), [2**53 + 1]),
+    "cents": (np.array([0.1, 0.25, 1e6]), bsi.Decimals(2), [Decimal("0.10"), Decimal("0.25"), Decimal("1000000.00")]),
+    "float32 tenths": (np.array([0.1, -12.3], np.float32), bsi.Decimals(1), [Decimal("0.1"), Decimal("-12.3")]),
+    "decimals": ([Decimal("1.250"), Decimal("-0.5")], bsi.Decimals(3), [Decimal("1.250"), Decimal("-0.500")]),
+    "a decimal with an exponent": ([Decimal("1E+2")], bsi.Decimals(0), [Decimal(100)]),
+    "mixed numbers": ([1, 2.5, Decimal("0.25")], bsi.Decimals(2), [1, Decimal("2.5"), Decimal("0.25")]),
+    "booleans": ([True, None, False], bsi.Flags(), [True, False]),
+    "pandas booleans": (pandas.array([True, None, False], dtype="boolean"), bsi.Flags(), [True, False]),
+    "texts": (["b", "a", None, "b"], bsi.Texts(("a", "b")), ["b", "a", "b"]),
+    "NumPy texts": (np.array(["b", "a"]), bsi.Texts(("a", "b")), ["b", "a"]),
+    "pandas texts": (pandas.Series(["b", None, "a"], dtype="string"), bsi.Texts(("a", "b")), ["b", "a"]),
+    "an order of texts": (
+        pandas.Categorical(["low", "high", None], ["low", "mid", "high"], ordered=True),
+        bsi.Texts(("low", "mid", "high"), ordered=True),
+        ["low", "high"],
+    ),
+    "dates": ([DAY, None], bsi.Times("D"), [pandas.Timestamp(DAY)]),
+    "a date before 1970": ([datetime.date(1900, 1, 1)], bsi.Times("D"), [pandas.Timestamp(1900, 1, 1)]),
+    "a date far away": ([datetime.date(9999, 12, 31)], bsi.Times("D"), [datetime.datetime(9999, 12, 31)]),
+    "datetimes": ([datetime.datetime(2026, 1, 31, 12)], bsi.Times("s"), [pandas.Timestamp(2026, 1, 31, 12)]),
+    "times of pandas": (
+        pandas.Series(pandas.to_datetime(["2026-01-31", None])),
+        bsi.Times("D"),
+        [pandas.Timestamp(DAY)],
+    ),
+    "milliseconds": (
+        np.array(["2026-01-31T00:00:00.5"], "M8[ms]"),
+        bsi.Times("ms"),
+        [pandas.Timestamp("2026-01-31 00:00:00.500")],
+    ),
+    "nanoseconds": ([pandas.Timestamp(1)], bsi.Times("ns"), [pandas.Timestamp(1)]),
+    "months": (np.array(["2026-02"], "M8[M]"), bsi.Times("D"), [pandas.Timestamp(2026, 2, 1)]),
+    "arrow dates": (
+        Arrow("tdD", 2, [None, np.array([0, 1], np.int32)]),
+        bsi.Times("D"),
+        [pandas.Timestamp(0), pandas.Timestamp(1970, 1, 2)],
+    ),
+    "arrow booleans": (Arrow("b", 3, [bits(1, 1, 0), bits(1, 0, 1)]), bsi.Flags(), [True, False]),
+    "arrow texts": (texts("b", "ä", "", validity=bits(1, 1, 1)), bsi.Texts(("", "b", "ä")), ["b", "ä", ""]),
+    "large arrow texts": (texts("b", "a", large=True), bsi.Texts(("a", "b")), ["b", "a"]),
+    "arrow texts by a dictionary": (
+        Arrow("c", 3, [bits(1, 1, 0), np.array([1, 0, 5], np.int8)], dictionary=texts("b", "a"), flags=1),
+        bsi.Texts(("b", "a"), ordered=True),
+        ["a", "b"],
+    ),
+    "arrow decimals": (
+        Arrow(
+            "d:10,2",
+            2,
+            [
+                bits(1, 1),
+                np.frombuffer((-125).to_bytes(16, "little", signed=True) + (7).to_bytes(16, "little"), np.uint8),
+            ],
+        ),
+        bsi.Decimals(2),
+        [Decimal("-1.25"), Decimal("0.07")],
+    ),
+    "an arrow null array": (Arrow("n", 2, []), bsi.Whole(), []),
+    "nothing": ([], bsi.Whole(), []),
+    "nulls alone": ([None, NAN], bsi.Whole(), []),
+}
+
+
+@pytest.mark.parametrize("name", CHOSEN)
+def test_values_come_back_in_their_own_type(name):
+    given, kind, values = CHOSEN[name]
+    index = bsi.Index.from_frame({"x": given})
+    assert index.forms["x"].kind == kind
+    there = index.rows(~bsi.col.x.isnull())
+    assert len(there) == len(values)
+    for value in values:
+        assert index.count(bsi.col.x == value) == values.count(value)
+    if values and not kind.names_values:
+        least, greatest = index.least("x"), index.greatest("x")
+        assert (least, greatest) == (min(values), max(values)) and isinstance(least, type(min(values)))
+        assert str(least) == str(kind.decode(kind.number(min(values))))
+
+
+def test_a_zone_is_kept():
+    times = pandas.Series(pandas.to_datetime(["2026-01-31 12:00", None])).dt.tz_localize("Europe/Paris")
+    index = bsi.Index.from_frame({"t": times})
+    assert index.least("t") == times[0] and index.least("t").tzinfo is not None
+    assert index.count(bsi.col.t <= datetime.datetime(2026, 1, 31, 11, tzinfo=datetime.timezone.utc)) == 1
+    with pytest.raises(bsi.BadQuery, match="no time zone, and the column has one"):
+        index.count(bsi.col.t < datetime.datetime(2026, 1, 31))
+    with pytest.raises(bsi.BadRow, match="row 0: .* has no time zone"):
+        index.append({"t": times.dt.tz_localize(None)})
+    with pytest.raises(bsi.BadRow, match="row 1: .* no time zone, and one before it has one"):
+        bsi.Index.from_frame({"t": [times[0].to_pydatetime(), datetime.datetime(2026, 1, 1)]})
+
+
+def test_a_record_batch_is_a_frame():
+    batch = Arrow("+s", 2, [None], children={"a": Arrow("l", 2, [None, np.array([5, 6])]), "b": texts("x", "y")})
+    index = bsi.Index.from_frame(batch)
+    assert (index.sum("a"), index.least("b"), index.append(batch), len(index)) == (11, "x", 2, 4)
+
+
+# Values that can't be kept, the row that is named, and why.
+REFUSED = {
+    "2^63": ([1, 2**63], 1, "past 63 bits|past 64 bits"),
+    "a large uint64": (np.array([1, 2**63], np.uint64), 1, "past 63 bits"),
+    "a third": (np.array([0.5, 1 / 3, 0.1]), 1, "exactly with 6 decimal places"),
+    "a large float": (np.array([0.5, 1e300]), 1, "exactly with"),
+    "infinity": (np.array([1.0, np.inf]), 1, "exactly with|63 bits"),
+    "a fraction": ([Decimal("0.5"), Fraction(1, 3)], 1, "no number, or no decimal"),
+    "infinite decimal": ([Decimal("inf")], 0, "no finite number"),
+    "many places": ([Decimal("1e-30")], 0, "more than 18"),
+    "text among numbers": ([1, "2"], 1, "no number"),
+    "number among texts": (["a", None, 2], 2, "no text"),
+    "a boolean among texts": (["a", True], 1, "no text"),
+    "a number among booleans": ([True, 1], 1, "neither True nor False"),
+    "a date among numbers": ([1, DAY], 1, "no number"),
+    "a number among dates": ([DAY, 1], 1, "no date or time"),
+    "bytes": ([b"a"], 0, "none of numbers"),
+    "a list in a list": ([[1, 2], [3, 4]], 0, "none of numbers"),
+    "an array in a list": ([1, np.array([1, 2])], 1, "no number"),
+    "a complex number": ([1, 2j], 1, "no number"),
+    "a duration": ([datetime.timedelta(1)], 0, "none of numbers"),
+    "texts of many values": ([f"text {number}" for number in range(1030)], 1024, "one text more than the 1,024"),
+}
+
+
+@pytest.mark.parametrize("name", REFUSED)
+def test_what_cannot_be_kept_names_its_column_and_row(name):
+    given, row, why = REFUSED[name]
+    with pytest.raises(bsi.BadRow, match=why) as refused:
+        bsi.Index.from_frame({"fine": list(range(len(given))), "the x": given})
+    assert (refused.value.column, refused.value.row, refused.value.status) == ("the x", row, 8)
+    assert str(refused.value).startswith(f"column 'the x', row {row}: ")
+
+
+# What is no column at all.
+NO_COLUMNS = {
+    "two dimensions": np.zeros((2, 2)),
+    "no dimension": np.array(5),
+    "bytes": np.array([b"a"]),
+    "complex numbers": np.array([1j]),
+    "durations": np.array([1], "m8[s]"),
+    "records": np.zeros(2, [("a", int)]),
+    "a text": "123",
+    "a number": 5,
+    "a dict": {1: 2},
+    "periods": pandas.Series(pandas.period_range("2026-01", periods=2, freq="M")),
+    "intervals": pandas.Series(pandas.interval_range(0, 2)),
+    "an arrow list": Arrow("+l", 1, [None, np.zeros(2, np.int32)]),
+    "a released arrow array": Arrow("l", 1, [None, np.zeros(1)], released=True),
+    "an arrow array without values": Arrow("l", 1, [None, None]),
+    "an arrow array of few buffers": Arrow("l", 1, [None]),
+    "an arrow array of negative length": Arrow("l", -1, [None, np.zeros(1)]),
+    "a place past an arrow dictionary": Arrow("l", 1, [None, np.array([2])], dictionary=texts("a")),
+    "arrow texts that go back": Arrow("u", 2, [None, np.array([0, 5, 2], np.int32), np.zeros(9, np.uint8)]),
+}
+
+
+@pytest.mark.parametrize("name", NO_COLUMNS)
+def test_what_is_no_column_is_refused(name):
+    index = bsi.Index({"x": bsi.slices(8)})
+    with pytest.raises(bsi.BadColumns, match="column 'x': "):
+        index.append({"x": NO_COLUMNS[name]})
+    assert len(index) == 0
+
+
+def test_frames_that_are_none():
+    for data in ([1, 2], "text", None, Arrow("l", 1, [None, np.zeros(1)])):
+        with pytest.raises(bsi.BadColumns):
+            bsi.Index.from_frame(data)
+    for columns in ([1, 2], ["a", "a"], [("a", "b"), ("a", "c")]):
+        with pytest.raises(bsi.BadColumns):
+            bsi.Index.from_frame(pandas.DataFrame([[1, 2]], columns=columns))
