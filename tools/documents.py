@@ -186,7 +186,7 @@ def fault_in_runs(top, program="bin/bsi"):
 def fault_in_tarball(top):
     """Returns what is wrong with the tarball of `make dist`, or which command of a document prints something else by its program, or None."""
     with tempfile.TemporaryDirectory(prefix="bsi-dist-") as room:
-        line = f"make -s -o build dist && cd out/dist && sha256sum --check --quiet SHA256SUMS && tar -xzf *.tar.gz -C {room}"
+        line = f"make -s -o build -o lib dist && cd out/dist && sha256sum --check --quiet SHA256SUMS && tar -xzf *.tar.gz -C {room}"
         ran = workspace.run(["sh", "-c", line], folder=top)
         if ran.status:
             return f"make dist: {workspace.ending(ran.status)}: {ran.err.decode(errors='replace').strip()}"
