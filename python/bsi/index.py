@@ -2,7 +2,6 @@
 
 from __future__ import annotations
 
-import logging
 from typing import Any, Iterable, Mapping, Optional
 
 from .choosing import chosen
@@ -10,8 +9,6 @@ from .forms import Form
 from .kinds import Kind
 from .progress import Progress
 from .table import MOST_ROWS, Table, opened
-
-log = logging.getLogger("bsi")
 
 
 class Index(Table):
@@ -47,17 +44,7 @@ class Index(Table):
         BadRow.
         """
         found, encoded = chosen(frame, columns, kinds, forms)
-        return cls._filled(cls(found, limit=limit), encoded, progress)
-
-    @staticmethod
-    def _filled(table: Any, encoded: Any, progress: Progress) -> Any:
-        try:
-            table._fill(encoded, progress)
-        except BaseException:
-            table.close()
-            raise
-        log.info("%r", table)
-        return table
+        return cls(found, limit=limit)._filled(encoded, progress)
 
     @property
     def schema(self) -> str:

@@ -117,7 +117,8 @@ def fraction_of(constant: Any, read_float: Callable[[Any], Fraction] = Fraction)
     """Returns the real number that a constant is, or one that stands as far out or as near to 0 for every column."""
     if isinstance(constant, np.generic) and constant.dtype.kind in "iub":
         constant = constant.item()
-    if not isinstance(constant, (numbers.Rational, Decimal, float, np.floating)):
+    is_number = isinstance(constant, (numbers.Rational, Decimal, float, np.floating))
+    if not is_number or isinstance(constant, np.timedelta64):
         raise TypeError(f"{shown(constant)} is no number")
     if constant.is_nan() if isinstance(constant, Decimal) else constant != constant:
         raise ValueError("nan is no number; isnull() finds the nulls")

@@ -110,7 +110,7 @@ def _places(row: int, value: Any) -> int:
     if isinstance(value, (numbers.Integral, np.bool_)):
         return 0
     if isinstance(value, (float, np.floating)):
-        value = Decimal(str(value)) if value % 1 else Decimal(0)
+        value = Decimal(0) if np.isfinite(value) and value % 1 == 0 else Decimal(str(value))
     if not isinstance(value, Decimal):
         raise Misfit(row, value, f"{shown(value)} is no number, or no decimal")
     exponent = value.as_tuple().exponent

@@ -9,7 +9,6 @@ from .choosing import chosen, refuse_misfit
 from .errors import NoMemory
 from .forms import Form
 from .gathered import Gathered
-from .index import Index
 from .kinds import Kind
 from .native import INDEX_FULL, OK, Entries, Handle, check
 from .progress import Progress
@@ -86,7 +85,7 @@ class Parts(Table):
     ) -> "Parts":
         """Makes parts of a frame, as Index.from_frame makes an index."""
         found, encoded = chosen(frame, columns, kinds, forms)
-        return Index._filled(cls(n, found, limit=limit), encoded, progress)
+        return cls(n, found, limit=limit)._filled(encoded, progress)
 
     def _append(self, encoded: Any) -> int:
         for (name, form), (numbers, valid) in zip(self._forms.items(), encoded):

@@ -86,8 +86,9 @@ def read_csv(
             reader.read(path, delimiter, encoding, tell)
     found = {name: settled(name, reader.blocks.pop(name), reader.wishes) for name in reader.wanted}
     chosen, encoded = {name: form for name, (form, _) in found.items()}, [numbers for _, numbers in found.values()]
-    table = Index(chosen, limit=limit) if parts == 1 else Parts(parts, chosen, limit=limit)
-    return Index._filled(table, encoded, None)
+    if parts == 1:
+        return Index(chosen, limit=limit)._filled(encoded, None)
+    return Parts(parts, chosen, limit=limit)._filled(encoded, None)
 
 
 class _Reader:

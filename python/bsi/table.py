@@ -7,8 +7,9 @@ A *store* is a `native.Handle`, or a `gathered.Gathered` of several. Both have t
 
 from __future__ import annotations
 
+import logging
 import re
-from typing import Any, Dict, Iterable, List, Mapping, Optional, Sequence, Tuple, Union
+from typing import Any, Dict, Iterable, List, Mapping, Optional, Sequence, Tuple, TypeVar, Union
 
 import numpy as np
 
@@ -25,6 +26,8 @@ NAME = re.compile(r"[a-z][a-z0-9_]{0,31}")
 WORDS = {"all", "null", "and", "or", "not"}
 MOST_ROWS, MOST_COLUMNS, BLOCK = 1 << 32, 64, 1 << 20
 Name = Union[str, Column]
+Self = TypeVar("Self", bound="Table")
+log = logging.getLogger("bsi")
 
 
 def names_within(columns: Sequence[str]) -> Dict[str, str]:
@@ -144,6 +147,16 @@ class Table:
         check(status)
         return row
 
+    def _filled(self: Self, encoded: Sequence[Tuple[np.ndarray, np.ndarray]], progress: Progress) -> Self:
+        """Returns the table with these rows, or closes it where they can't be appended."""
+        try:
+            self._fill(encoded, progress)
+        except BaseException:
+            self.close()
+            raise
+        log.info("%r", self)
+        return self
+
     def _fill(self, encoded: Sequence[Tuple[np.ndarray, np.ndarray]], progress: Progress) -> None:
         """Appends many rows in blocks, and tells the progress."""
         rows = len(encoded[0][0])
@@ -224,9 +237,7 @@ class Table:
     def _query(self, where: Predicate) -> List[bytes]:
         """Returns the fields of the predicate, over the numbers of the columns."""
         if not isinstance(where, Predicate):
-            raise TypeError(
-                f"a predicate is made of bsi.col, as bsi.col.price < 100, and is not {type(where).__name__}"
-            )
+            raise TypeError(f"a predicate is made of bsi.col, as col.price < 100, and is not {type(where).__name__}")
         fields: List[bytes] = []
         for term in where.terms:
             if isinstance(term, Null):
@@ -242,9 +253,9 @@ class Table:
         form = self._forms[name]
         try:
             sign, number = among_numbers(term.sign, *form.kind.cut(term.constant))
-        except (TypeError, ValueError) as why:
+        except (TypeError, ValueError, ArithmeticError) as why:
             raise BadQuery(f"column {name!r} is compared with one of {form.kind}: {why}") from None
-        sign, number = within(form, sign, number)
+        sign, number = clamped(form, sign, number)
         return [self._within[name], sign.encode(), b"%d" % number]
 
     # ---- Its end ----
@@ -272,13 +283,13 @@ def among_numbers(sign: str, left: int, right: int) -> Tuple[str, int]:
     return (sign, left) if left < right else ("<" if sign == "=" else ">=", -FAR)
 
 
-def within(form: Form, sign: str, number: int) -> Tuple[str, int]:
+def clamped(form: Form, sign: str, number: int) -> Tuple[str, int]:
     """Returns the same comparison with a number that the column takes: below its least one there is none, from it on
     are all."""
     if sign in ("=", "!="):
-        return (
-            (sign, number) if form.offset <= number <= form.most else within(form, "<" if sign == "=" else ">=", -FAR)
-        )
+        if form.offset <= number <= form.most:
+            return sign, number
+        sign, number = "<" if sign == "=" else ">=", -FAR
     if number > form.most:
         return ("<=", form.most) if sign == "<" else (">", form.most)
     return sign, max(number, form.offset)

@@ -1,0 +1,88 @@
+"""Random texts, files and values: each is answered, kept exactly, or refused by an error of the package, and by no
+other."""
+
+import datetime
+import random
+from decimal import Decimal
+from fractions import Fraction
+
+import numpy as np
+
+import bsi
+
+WORDS = "count sum rows median least greatest where and or not null all ( ) = == != < <= > >= !".split()
+WORDS += "' \" a b 5 -3 2.5 1e9 true \\ , ''".split()
+# fmt: off
+VALUES = [
+    None, 0, 1, -1, 2**62, 2**63, -(2**63), -(2**64), True, False, 0.5, -0.0, 1e308, float("nan"), float("inf"),
+    Decimal("1.50"), Decimal("-1e-18"), Decimal("1e40"), Decimal("sNaN"), Fraction(1, 3), Fraction(1, 4),
+    "", "a", "ä\0", "5", b"x", 1j, [], {}, (), object(), Ellipsis, int, bsi.col.x, bsi.all_rows,
+    datetime.date.min, datetime.date.max, datetime.datetime.max, datetime.timedelta(1),
+    datetime.datetime(2026, 1, 1, tzinfo=datetime.timezone.utc),
+    np.int8(-5), np.uint64(2**64 - 1), np.float32(0.1), np.float16("inf"), np.longdouble(1) / 3, np.bool_(True),
+    np.datetime64("NaT"), np.datetime64("2026-01"), np.datetime64(2**62, "s"), np.datetime64(5, "ps"),
+    np.timedelta64(1, "s"), np.array([1, 2]), np.array(7), np.str_("t"), np.void(b"v"),
+]
+PIECES = [
+    "1", "-2", "0.5", "007", "", "x", '"', '""', ",", ",", ",", "\n", "\n", "\r\n", "2026-01-31", "T12:00Z", "true",
+    "é", "\0", " ", "1e5", "nan", "-",
+]
+# fmt: on
+
+
+def test_random_questions():
+    rng = random.Random(1)
+    index = bsi.Index.from_frame({"a": [1, None, 3], "b": ["x", "y", None]})
+    answered = 0
+    for _ in range(20_000):
+        text = rng.choice(["count ", "sum a ", ""]) + " ".join(rng.choices(WORDS, k=rng.randrange(9)))
+        try:
+            bsi.ask(index, text)
+            answered += 1
+        except bsi.BadQuery:
+            pass
+    assert answered > 100
+
+
+def test_random_values():
+    rng = random.Random(2)
+    kept = 0
+    for _ in range(8_000):
+        one = rng.choice(VALUES)
+        values = [rng.choice([one, one, rng.choice(VALUES), None]) for _ in range(rng.randrange(1, 5))]
+        try:
+            index = bsi.Index.from_frame({"x": values})
+        except bsi.Error:
+            continue
+        kept += 1
+        kind = index.forms["x"].kind
+        for row in index.rows(~bsi.col.x.isnull()):
+            assert index.mask(bsi.col.x == values[row])[row] and kind.decode(kind.number(values[row])) is not None
+    assert kept > 800
+
+
+def test_random_constants():
+    index = bsi.Index.from_frame(
+        {"n": [1], "d": [Decimal("0.5")], "t": [datetime.date(2026, 1, 1)], "f": [True], "s": ["a"], "z": [None]}
+    )
+    for value in (value for value in VALUES if not isinstance(value, (bsi.Column, bsi.Predicate))):
+        for name in index.columns:
+            for sign in ("=", "!=", "<", "<=", ">", ">="):
+                try:
+                    assert index.count(bsi.col[name]._compared(sign, value)) in (0, 1)
+                except bsi.BadQuery:
+                    pass
+
+
+def test_random_files(tmp_path):
+    rng = random.Random(3)
+    path, read = tmp_path / "rows.csv", 0
+    for _ in range(3_000):
+        lines = ["a,b"] + [f"{rng.choice(PIECES)},{rng.choice(PIECES)}" for _ in range(rng.randrange(4))]
+        text = "\n".join(lines) if rng.random() < 0.6 else "".join(rng.choices(PIECES, k=rng.randrange(12)))
+        path.write_bytes(text.encode() if rng.random() < 0.9 else bytes(rng.randrange(256) for _ in range(20)))
+        try:
+            read += len(bsi.read_csv(path)) >= 0
+        except bsi.Error:
+            pass
+    assert read > 300
