@@ -18,7 +18,7 @@ build:
 
 # The C library, into out/lib. docs/C.md shows a program that uses it.
 lib:
-	@tools/library
+	@crates/bsi_c/library
 
 demo: build
 	@tools/demo

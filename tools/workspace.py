@@ -86,9 +86,7 @@ class Tally:
         print(f"ok      {text}", flush=True)
 
     def add(self, passed, failed, skipped=0):
-        self.passed += passed
-        self.failed += failed
-        self.skipped += skipped
+        self.passed, self.failed, self.skipped = self.passed + passed, self.failed + failed, self.skipped + skipped
 
     def close(self):
         """Prints the count as the last line, and returns the status: 0 where checks ran and none failed."""
