@@ -22,8 +22,8 @@ pub extern "C" fn bsi_open(
     feeders: u32,
     bad_record: &mut u64,
 ) -> u32
-    ensures told { Tells result (IsOpening (opened_in index.old.held.value) schema.now feeders
-        bad_record.new (opened_in index.new.held.value)) }
+    ensures told { Tells result (IsOpening index.old.held.value schema.now feeders bad_record.new
+        index.new.held.value) }
     ensures kept { result ≢ 0 → index.new.held.value ≡ index.old.held.value }
 {
     status_of(open(alloc, index, schema, feeders, bad_record))

@@ -45,12 +45,15 @@ IsTextRefusal text number why = ⊥
 abbrev pub IsFeederCount : ℕ → Type 0
 IsFeederCount feeders = (1 ≤ feeders) × (feeders ≤ 64)
 
-abbrev pub IsOpening : Option Opened → List ℕ → ℕ → ℕ → Option Opened → Ending → Type 0
+abbrev pub IsOpening : Option State → List ℕ → ℕ → ℕ → Option State → Ending → Type 0
 IsOpening before text feeders number after (Ok done) =
-    (before ≡ None) × IsFeederCount feeders × MatchOption after ⊥ (IsNew text feeders)
-IsOpening before text feeders number after (Err Open) = IsSome before
-IsOpening before text feeders number after (Err BadFeeder) = (before ≡ None) × (IsFeederCount feeders → ⊥)
-IsOpening before text feeders number after (Err why) = IsTextRefusal text number why
+    (opened_in before ≡ None) × IsFeederCount feeders × MatchOption (opened_in after) ⊥ (IsNew text feeders)
+    × (is_shared after ≡ false)
+IsOpening before text feeders number after (Err Open) = IsSome (opened_in before)
+IsOpening before text feeders number after (Err BadFeeder) =
+    (opened_in before ≡ None) × (IsFeederCount feeders → ⊥)
+IsOpening before text feeders number after (Err why) =
+    (opened_in before ≡ None) × IsFeederCount feeders × IsTextRefusal text number why
 
 -- ---- appending
 

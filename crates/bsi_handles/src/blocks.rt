@@ -4,46 +4,64 @@ ghost use Rattle.std.specs.Prelude.{◌≡◌, ◌+◌, ◌<◌, ◌≤◌, leng
 ghost use Rattle.std.specs.List.{list_all};
 ghost use Rattle.bsi_handles.specs.Calls.{with_first, AreAppendable, IsAppended, IsRowsRefusal};
 ghost use Rattle.bsi_handles.specs.Columns.{are_columns, has_rows, row_count, row_of, rows_of, AreTaken};
-ghost use Rattle.bsi_table.specs.Table.{with_rows, AreFitting, AreFrom};
+ghost use Rattle.bsi_table.specs.Table.{with_rows};
 
 use crate::columns::{Column, are_columns, count_rows, entry};
 use crate::fitting::first_misfit;
 use crate::refusal::Refusal;
-use bsi_table::{Index, MAX_BLOCK_ROWS, NoMemory, Row};
+use bsi_table::{Block, Index, MAX_BLOCK_ROWS, NoMemory, Row};
 use std::alloc::Global;
+use std::mem;
 
-/// Makes row `r`.
-fn make_row(alloc: Global, columns: &[Column], rows: usize, r: usize) -> Result<Row, NoMemory>
+/// Makes `row` row `r` of the columns. It allocates no memory if the row has room.
+fn fill_row(
+    alloc: Global,
+    columns: &[Column],
+    rows: usize,
+    r: usize,
+    row: &mut Row,
+) -> Result<(), NoMemory>
     requires whole { list_all (has_rows rows) columns.now ≡ true }
     requires within { r < rows }
-    ensures { IfOk result (λ row. row ≡ row_of columns.now r) }
+    ensures { OnOk result (row.new ≡ row_of columns.now r) }
 {
-    let mut entries = Vec::with_capacity(alloc, columns.len())?;
+    let mut entries = mem::replace(row, Row::new(Vec::new(alloc))).into_values();
+    entries.clear();
+    entries.reserve(columns.len())?;
     'columns: for c in 0..columns.len() {
         entries.push_reserved(entry(&columns[c], rows, r));
     }
-    Ok(Row::new(entries))
+    *row = Row::new(entries);
+    Ok(())
 }
 
-/// Makes so many rows of a feeder, from row `from` on.
-fn make_rows(
+/// Fills the block with so many rows of a feeder, from row `from` on. Each fits.
+fn fill_block(
     alloc: Global,
     feeder: u32,
     columns: &[Column],
-    rows: usize,
     from: usize,
     count: usize,
-) -> Result<Vec<(u32, Row)>, NoMemory>
-    requires whole { list_all (has_rows rows) columns.now ≡ true }
-    requires within { from + count ≤ rows }
-    ensures { IfOk result (λ made. made.items ≡ rows_of feeder columns.now from count) }
+    row: &mut Row,
+    block: &mut Block,
+) -> Result<(), NoMemory>
+    requires fed { feeder < block.old.feeders }
+    requires even { are_columns (length block.old.schema.columns) columns.now ≡ true }
+    requires taken { AreTaken block.old.schema.columns columns.now (row_count columns.now) }
+    requires within { from + count ≤ row_count columns.now }
+    requires few { count ≤ 64 }
+    ensures schema { block.new.schema ≡ block.old.schema }
+    ensures feeders { block.new.feeders ≡ block.old.feeders }
+    ensures rows { OnOk result (block.new.rows ≡ rows_of feeder columns.now from count) }
 {
-    let mut made = Vec::with_capacity(alloc, count)?;
+    block.clear();
+    let rows = count_rows(columns);
     'rows: for k in 0..count {
-        let row = make_row(alloc, columns, rows, from + k)?;
-        made.push_reserved((feeder, row));
+        fill_row(alloc, columns, rows, from + k, row)?;
+        // The row was tested, so it fits.
+        let _ = block.push(feeder, row);
     }
-    Ok(made)
+    Ok(())
 }
 
 /// Appends so many rows from row `from` on, or none. Each fits, and the row limit leaves place for them.
@@ -54,18 +72,24 @@ fn append_block(
     columns: &[Column],
     from: usize,
     count: usize,
+    row: &mut Row,
+    block: &mut Block,
 ) -> Result<(), NoMemory>
     requires fed { feeder < index.old.feeders }
     requires even { are_columns (length index.old.schema.columns) columns.now ≡ true }
     requires taken { AreTaken index.old.schema.columns columns.now (row_count columns.now) }
     requires within { from + count ≤ row_count columns.now }
     requires few { count ≤ 64 }
+    requires schema { block.old.schema ≡ index.old.schema }
+    requires feeders { block.old.feeders ≡ index.old.feeders }
+    ensures schema { block.new.schema ≡ block.old.schema }
+    ensures feeders { block.new.feeders ≡ block.old.feeders }
     ensures appended { OnOk result
         (index.new ≡ with_rows index.old (rows_of feeder columns.now from count)) }
     ensures kept { OnErr result (index.new ≡ index.old) }
 {
-    let made = make_rows(alloc, feeder, columns, count_rows(columns), from, count)?;
-    match index.append_rows(&made) {
+    fill_block(alloc, feeder, columns, from, count, row, block)?;
+    match index.append_block(block) {
         Ok(_) => Ok(()),
         // All rows were tested, so only memory can be refused.
         Err(_) => Err(NoMemory),
@@ -88,10 +112,14 @@ fn append_blocks(
 {
     *appended = 0;
     let rows = count_rows(columns);
+    let mut row = Row::new(Vec::new(alloc));
+    let mut block = index.new_block()?;
     'parts: for k in 0..rows.div_ceil(MAX_BLOCK_ROWS) {
         let from = MAX_BLOCK_ROWS * k;
         let count = (rows - from).min(MAX_BLOCK_ROWS);
-        append_block(alloc, index, feeder, columns, from, count)?;
+        append_block(
+            alloc, index, feeder, columns, from, count, &mut row, &mut block,
+        )?;
         *appended = (from + count) as u64;
     }
     Ok(())

@@ -36,8 +36,8 @@ pub fn open(
     feeders: u32,
     bad_record: &mut u64,
 ) -> Result<(), Refusal>
-    ensures ending { IsOpening (opened_in index.old.held.value) text.now feeders bad_record.new
-        (opened_in index.new.held.value) result }
+    ensures ending { IsOpening index.old.held.value text.now feeders bad_record.new
+        index.new.held.value result }
     ensures kept { OnErr result (index.new.held.value ≡ index.old.held.value) }
 {
     *bad_record = 0;
