@@ -64,12 +64,19 @@ pub record AreAppendable (table : Table) (feeder : ℕ) (columns : List Column) 
   pub taken : AreTaken table.schema.columns columns (row_count columns)
   pub within : length table.rows + row_count columns ≤ table.limit
 
--- the rows are refused; of one that does not fit this is the number
+-- the columns are of a feeder that there is, and of the index's number and one length
+abbrev pub AreOfIndex : Table → ℕ → List Column → Type 0
+AreOfIndex table feeder columns = (feeder < table.feeders) × (are_columns (length table.schema.columns) columns ≡ true)
+
+-- the rows are refused, for the first cause that applies; of one that does not fit this is the number
 abbrev pub IsRowsRefusal : Table → ℕ → List Column → ℕ → Refusal → Type 0
 IsRowsRefusal table feeder columns row BadFeeder = table.feeders ≤ feeder
-IsRowsRefusal table feeder columns row BadColumns = are_columns (length table.schema.columns) columns ≡ false
-IsRowsRefusal table feeder columns row BadRow = IsFirstMisfit table.schema.columns columns row
-IsRowsRefusal table feeder columns row IndexFull = table.limit < length table.rows + row_count columns
+IsRowsRefusal table feeder columns row BadColumns =
+    (feeder < table.feeders) × (are_columns (length table.schema.columns) columns ≡ false)
+IsRowsRefusal table feeder columns row BadRow = AreOfIndex table feeder columns × IsFirstMisfit table.schema.columns columns row
+IsRowsRefusal table feeder columns row IndexFull =
+    AreOfIndex table feeder columns × AreTaken table.schema.columns columns (row_count columns)
+    × (table.limit < length table.rows + row_count columns)
 IsRowsRefusal table feeder columns row why = ⊥
 
 -- the first so many rows of the columns were appended

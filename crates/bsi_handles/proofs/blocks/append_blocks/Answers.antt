@@ -1,4 +1,5 @@
 use Rattle.std.proofs.Common.{◌≡◌, ◌<◌, ◌*◌, true, length, sym, ap, ◌∙◌, arith, subst}
+use Rattle.bsi_table.specs.RowBlocks.{RowBlock}
 use Rattle.bsi_table.specs.Table.{with_rows, Table}
 use Rattle.bsi_handles.specs.Columns.{are_columns, row_count, rows_of, AreTaken}
 use Rattle.bsi_handles.proofs.RowsOf.{with_none, with_block}
@@ -8,7 +9,13 @@ pub parts-init : goal.parts-init
 parts-init c = record {
   done = omega arith;
   rows = sym (with_none c.args.index.now c.args.feeder c.args.columns.now);
+  schema = ap (λ (b : RowBlock). b.schema) c.in_ok-block.ensures;
+  feeders = ap (λ (b : RowBlock). b.feeders) c.in_ok-block.ensures;
 }
+
+-- no memory for the block: nothing was appended
+pub returns-in_err-block-clause-rows : goal.returns-in_err-block-clause-rows
+returns-in_err-block-clause-rows c = sym (with_none c.args.index.now c.args.feeder c.args.columns.now)
 
 -- the blocks so far change the rows alone
 pub append_block-requires-clause-fed : goal.append_block-requires-clause-fed
@@ -31,4 +38,6 @@ parts-preserved c =
       rows = with_block c.args.index.now c.parts.index c.append_block.new.index c.args.feeder c.args.columns.now (64 * c.parts.k) c.min-count.result _
           (c.parts.invariant.rows ∙ ap (λ n. with_rows c.args.index.now (rows_of c.args.feeder c.args.columns.now 0 n)) before)
           c.in_ok-append_block.ensures.appended (omega arith);
+      schema = c.append_block.ensures.schema ∙ c.parts.invariant.schema;
+      feeders = c.append_block.ensures.feeders ∙ c.parts.invariant.feeders;
     }

@@ -8,4 +8,6 @@ abbrev pub invariant-parts : goal.invariant-parts
 invariant-parts l = record {
   done : l.appended ≡ min (64 * l.k) l.rows;
   rows : l.index ≡ with_first l.initial.index l.feeder l.columns l.appended;
+  schema : l.block.schema ≡ l.initial.index.schema;
+  feeders : l.block.feeders ≡ l.initial.index.feeders;
 }

@@ -1,7 +1,7 @@
 use Rattle.std.proofs.Common.{◌≡◌, ◌≤◌, length, map, take}
 use Rattle.std.specs.Vec.{vec_capacity}
 use Rattle.bsi_handles.specs.Columns.{entry_of}
-use Rattle.bsi_handles.proofs.blocks.make_row.Given as goal
+use Rattle.bsi_handles.proofs.blocks.fill_row.Given as goal
 
 -- the entries of the columns so far, and room for those of the others
 abbrev pub invariant-columns : goal.invariant-columns
