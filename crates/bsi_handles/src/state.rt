@@ -52,8 +52,8 @@ impl State {
         }
     }
 
-    /// Makes a second state of the same index, which takes no more rows. If memory is refused, it stays, but may take no
-    /// more rows.
+    /// Makes a second state of the same index, which takes no more rows. If memory is refused, the index stays, but it
+    /// may take no more rows.
     pub(crate) fn share(&mut self, alloc: Global) -> Result<Box<State>, Refusal>
         ensures kept { opened_in (Some self.new) ≡ opened_in (Some self.old) }
         ensures shared { IfOk result (λ other.
