@@ -3,7 +3,7 @@ use Rattle.std.proofs.lemmas.List.{length-append}
 use Rattle.bsi_table.specs.Columns.{fits, Declared}
 use Rattle.bsi_table.specs.RowBlocks.{RowBlock}
 use Rattle.bsi_table.specs.Rows.{Entries, FedRow}
-use Rattle.bsi_handles.specs.Columns.{row_of, rows_of}
+use Rattle.bsi_handles.specs.Columns.{rows_of}
 use Rattle.bsi_handles.proofs.RowsOf.{rows_of-more, rows_of-none}
 use Rattle.bsi_handles.proofs.blocks.fill_block.Goals as goal
 
