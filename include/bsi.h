@@ -46,7 +46,7 @@ typedef struct {
     size_t valid_len; /* in bytes */
 } bsi_column;
 
-/* An answer. Other fields than those of its kind keep what they held. */
+/* An answer. Only the fields of its kind count. */
 typedef struct {
     uint32_t kind;      /* which of BSI_COUNT, BSI_SUM, BSI_VALUE and BSI_ROWS */
     bool present;       /* BSI_VALUE: whether there is a number */
@@ -112,7 +112,7 @@ uint32_t bsi_rows(bsi_index *index, uint64_t *rows);
 uint32_t bsi_schema(bsi_index *index, uint8_t *text, size_t room, size_t *size);
 
 /* Opens another, closed handle of the same index, whose rows stand from then on: neither handle takes more. If memory is
- * refused, the other stays closed. */
+ * refused, the other stays closed, and the index may take no more rows. */
 uint32_t bsi_share(bsi_index *index, bsi_index *other);
 
 /* Closes a handle. The index is freed with its last handle. */
