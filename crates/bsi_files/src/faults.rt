@@ -39,7 +39,7 @@ pub enum FilesFault {
     /// The schema declares no column.
     #[error("bsi: schema: no columns")]
     NoColumns,
-    /// The row file of this number, from 0, gives no more rows.
+    /// The row file of this number, from 0, is the first that gives no more rows.
     #[error("bsi: file {0}: {1}")]
     Source(u32, SourceFault),
     /// There are more good rows than the row limit.

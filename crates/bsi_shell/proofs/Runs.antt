@@ -107,6 +107,7 @@ keeps_same (Some xs) after same = subst (λ o. Keeps (Some xs) o) (sym same) ref
 out_kept : (fault : FilesFault) (lines : List (List ℕ)) (before middle after : Option (List ℕ)) → Keeps middle after → AreOut fault lines before middle
     → AreOut fault lines before after
 out_kept Write lines before middle after kept out = (out.0, appends_kept before middle after _ out.1 kept)
+out_kept (Read AsksFile) lines before middle after kept out = appends_kept before middle after _ out kept
 out_kept (TooLong AsksFile) lines before middle after kept out = appends_kept before middle after _ out kept
 out_kept fault lines before middle after kept out = (out.0, appends_kept before middle after _ out.1 kept)
 
