@@ -47,7 +47,7 @@ pub enum FilesFault {
     BadSchema(u64),
     /// The schema declares no column.
     NoColumns,
-    /// The row file of this number, from 0, gives no more rows.
+    /// The row file of this number, from 0, is the first that gives no more rows.
     Source(u32, SourceFault),
     /// There are more good rows than the row limit.
     IndexFull,

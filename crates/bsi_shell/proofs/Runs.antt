@@ -1,17 +1,17 @@
 -- What a run leaves in its output, whether it met a fault or not.
-use Rattle.std.proofs.Common.{◌≡◌, ℕ, List, Option, Some, None, map, Result, Ok, Err, inl, inr, refl, sym, subst, ◌∙◌}
+use Rattle.std.proofs.Common.{◌≡◌, ℕ, false, List, Option, Some, None, map, Result, Ok, Err, refl, sym, subst, ◌∙◌}
 use Rattle.std.specs.Io.KnownBytes.{Appends, Keeps}
 use Rattle.std.specs.Prelude.{IfErr, IfSome, OnErr, OnOk}
 use Rattle.std.specs.Result.{result_and}
+use Rattle.bsi_files.proofs.Good.{run_good}
 use Rattle.bsi_files.specs.RunFaults.{IsFaultOf}
 use Rattle.bsi_files.specs.Runs.{IsRun}
-use Rattle.bsi_files.specs.Writing.{Leaves, WhereKnown, WritesAll}
+use Rattle.bsi_files.specs.Writing.{Leaves, WhereFilesKnown, WhereKnown, WritesAll}
 use Rattle.bsi_files.specs.declared.faults.FilesFault.{FilesFault}
 use Rattle.bsi_files.specs.declared.faults.FilesFault.TheVariants.{Write}
 use Rattle.bsi_text.proofs.Waiting.{cut_all}
-use Rattle.bsi_text.specs.Texts.{AreAllRecords, AreFirstRecords, IsAnswered, IsBegun}
+use Rattle.bsi_text.specs.Texts.{IsAnswered, IsBegun}
 use Rattle.bsi_shell.specs.FileRuns.{HasFailedOver, HasRunOver}
-use Rattle.bsi_shell.proofs.Good.{run_good}
 
 -- what holds anyway holds after a refusal
 pub on_err : {T E : Type 0} {P : Type 0} (r : Result T E) → P → OnErr r P
@@ -97,47 +97,54 @@ run_kept rem schema asks rows before middle after kept run = record {
 
 -- how a run over files and the flush after it ended by a fault
 module _ {S : Type 0} (rem : S → Option (List ℕ)) (schema asks : S) (rows : List S) (before middle after : Option (List ℕ)) (kept : Keeps middle after) where
-  Over : (List ℕ → List (List ℕ) → List ℕ → Type 0) → Type 0
+  abbrev Over : (List ℕ → List (List ℕ) → List ℕ → Type 0) → Type 0
   Over = WhereKnown (rem schema) (map rem rows) (rem asks)
 
   -- the run met it
-  met : (fault : FilesFault) → Over (λ declared texts asked. IsFaultOf declared texts fault)
+  met : (fault : FilesFault) → WhereFilesKnown (rem schema) (map rem rows) (λ declared texts. IsFaultOf false declared texts fault)
       → Over (λ declared texts asked. Leaves (IsRun declared texts) asked fault before middle) → HasFailedOver rem fault before after
   met fault is left = record {
     schema = schema;
     asks = asks;
     rows = rows;
-    fault_is = is;
+    fault_is = λ declared texts asked s r a. is declared texts s r;
     written = λ declared texts asked s r a. (middle, left declared texts asked s r a, kept);
   }
 
   -- the flush met it once all lines were written
   met_last : Over (λ declared texts asked. WritesAll (IsRun declared texts) asked before middle) → HasFailedOver rem Write before after
-  met_last run = met Write (λ declared texts asked s r a. run_good declared texts _ _ (run declared texts asked s r a).are)
-      (λ declared texts asked s r a.
-          let all = run declared texts asked s r a in
-          record {
-            records = all.records;
-            lines = all.lines;
-            state = all.all.0;
-            rest = all.all.1;
-            first = all.all.2;
-            few = all.few;
-            too_long = λ same. cc (same);
-            are = all.are;
-            out = cut_all before middle _ all.written;
-          })
+  met_last run = record {
+    schema = schema;
+    asks = asks;
+    rows = rows;
+    fault_is = λ declared texts asked s r a.
+        let all = run declared texts asked s r a in
+        run_good declared texts all.records all.lines all.are;
+    written = λ declared texts asked s r a.
+        let all = run declared texts asked s r a in
+        (middle, record {
+          records = all.records;
+          lines = all.lines;
+          state = all.all.0;
+          rest = all.all.1;
+          first = all.all.2;
+          few = all.few;
+          too_long = λ same. cc (same);
+          are = all.are;
+          out = cut_all before middle _ all.written;
+        }, kept);
+  }
 
   pub failed_over : (run flushed both : Result Unit FilesFault) → both ≡ result_and run flushed
       → OnOk run (Over (λ declared texts asked. WritesAll (IsRun declared texts) asked before middle))
-      → IfErr run (λ fault. Over (λ declared texts asked. IsFaultOf declared texts fault))
+      → IfErr run (λ fault. WhereFilesKnown (rem schema) (map rem rows) (λ declared texts. IsFaultOf false declared texts fault))
       → IfErr run (λ fault. Over (λ declared texts asked. Leaves (IsRun declared texts) asked fault before middle))
       → IfErr flushed (λ fault. fault ≡ Write) → IfErr both (λ fault. HasFailedOver rem fault before after)
   failed_over run flushed both is lines fault left last =
       subst (λ (r : Result Unit FilesFault). IfErr r (λ fault. HasFailedOver rem fault before after)) (sym is) (by run flushed lines fault left last)
     where
       by : (r f : Result Unit FilesFault) → OnOk r (Over (λ declared texts asked. WritesAll (IsRun declared texts) asked before middle))
-          → IfErr r (λ fault. Over (λ declared texts asked. IsFaultOf declared texts fault))
+          → IfErr r (λ fault. WhereFilesKnown (rem schema) (map rem rows) (λ declared texts. IsFaultOf false declared texts fault))
           → IfErr r (λ fault. Over (λ declared texts asked. Leaves (IsRun declared texts) asked fault before middle))
           → IfErr f (λ fault. fault ≡ Write) → IfErr (result_and r f) (λ fault. HasFailedOver rem fault before after)
       by (Ok x) (Ok y) lines fault left last = tt

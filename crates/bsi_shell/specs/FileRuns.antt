@@ -1,6 +1,6 @@
 -- What a run over files leaves in the output, and what it tells of a failure.
 use Rattle.std.specs.Io.KnownBytes.{Keeps}
-use Rattle.std.specs.Prelude.{◌≡◌, ⊤, ◌⊎◌, ℕ, List, Option, map}
+use Rattle.std.specs.Prelude.{◌≡◌, ⊤, ◌⊎◌, ℕ, false, List, Option, map}
 use Rattle.bsi_files.specs.RunFaults.{IsFaultOf}
 use Rattle.bsi_files.specs.Runs.{IsRun}
 use Rattle.bsi_files.specs.Writing.{Leaves, WhereKnown, WritesAll}
@@ -21,18 +21,18 @@ pub record HasRunOver {S : Type 0} (rem : S → Option (List ℕ)) (before after
       (λ declared texts asked. WritesAll (IsRun declared texts) asked before after)
 
 -- what a run that ends by a fault leaves in an output that is flushed at its end
-abbrev pub LeavesFlushed : (List (List Field) → List (List ℕ) → Type 0) → List ℕ → FilesFault → Option (List ℕ) → Option (List ℕ) → Type 0
-LeavesFlushed IsOf asked fault before after =
-    (middle : Option (List ℕ)) × Leaves IsOf asked fault before middle × Keeps middle after
+abbrev pub LeavesFlushed : List ℕ → List (List ℕ) → List ℕ → FilesFault → Option (List ℕ) → Option (List ℕ) → Type 0
+LeavesFlushed declared texts asked fault before after =
+    (middle : Option (List ℕ)) × Leaves (IsRun declared texts) asked fault before middle × Keeps middle after
 
 -- some files were opened, and where it is known what they give, they have the fault, and the output what it leaves
 pub record HasFailedOver {S : Type 0} (rem : S → Option (List ℕ)) (fault : FilesFault) (before after : Option (List ℕ)) : Type 0 where
   pub schema : S
   pub asks : S
   pub rows : List S
-  pub fault_is : WhereKnown (rem schema) (map rem rows) (rem asks) (λ declared texts asked. IsFaultOf declared texts fault)
+  pub fault_is : WhereKnown (rem schema) (map rem rows) (rem asks) (λ declared texts asked. IsFaultOf false declared texts fault)
   pub written : WhereKnown (rem schema) (map rem rows) (rem asks)
-      (λ declared texts asked. LeavesFlushed (IsRun declared texts) asked fault before after)
+      (λ declared texts asked. LeavesFlushed declared texts asked fault before after)
 
 -- a failure that may be met while files are opened
 abbrev pub IsOpenFailure : Failure → Type 0

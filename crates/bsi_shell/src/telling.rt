@@ -29,7 +29,7 @@ pub(crate) fn tell_fault<D: Display + Drop, F: Write>(fault: D, faults: &mut F) 
 /// Writes the line of a failure, and returns its status.
 pub(crate) fn tell_failure<F: Write>(failure: Failure<'_>, faults: &mut F) -> u8
     ensures status { result ≡ 1 }
-    ensures told { IsCut (F.contents faults.old) (F.contents faults.new) (failure_line failure) }
+    ensures told { IsCut (F.contents faults.old) (F.contents faults.new) (failure_line failure.entry) }
 {
     match failure {
         Failure::CannotOpen(path) => {

@@ -1,4 +1,4 @@
-use Rattle.std.proofs.Common.{refl}
+use Rattle.std.proofs.Common.{refl, rules}
 use Rattle.bsi_shell.proofs.Runs.{failed_over, if_err_so, on_both, on_ok_so, run_kept}
 use Rattle.bsi_shell.proofs.files.run_opened.Goals as goal
 
