@@ -1,7 +1,7 @@
 use Rattle.std.proofs.Common.{false, sym, ap, refl, ◌∙◌}
 use Rattle.std.specs.Prelude.{sum_by, count_ones}
-use Rattle.bsi_slices.proofs.Narrowing.{empty_kept, empty_ones}
-use Rattle.bsi_slices.proofs.slices.totals.narrow_block.Goals as goal
+use Rattle.bsi_words.proofs.Narrowing.{empty_kept, empty_ones}
+use Rattle.bsi_words.proofs.ranks.narrow_block.Goals as goal
 
 pub returns-then-is_empty-clause-chosen : goal.returns-then-is_empty-clause-chosen
 returns-then-is_empty-clause-chosen c = empty_kept c.args.is_set c.args.chosen.now c.args.words.now c.requires.same (c.if-is_empty.ensures.0 refl)
