@@ -12,7 +12,7 @@ ghost use Rattle.bsi_words.specs.Places.{has_place, IsEncoded};
 ghost use Rattle.bsi_words.specs.Ranks.{word_kept, IsRankedRows};
 
 use crate::sums::is_empty;
-use bsi_bits::{Bits, know_fits, lanes};
+use bsi_bits::{Bits, know_fits};
 
 /// The number of words in a block that is narrowed. It is small, since narrowing leaves more and more blocks with no
 /// row.
@@ -141,10 +141,18 @@ fn narrow_block(chosen: &mut [u64], words: &[u64], is_set: bool, next: &[u64]) -
     if is_empty(chosen) {
         return 0;
     }
-    if is_set {
-        lanes::and(chosen, words);
-    } else {
-        lanes::and_not(chosen, words);
+    let mut clear = 0u64;
+    'words: for i in 0..chosen.len() {
+        let kept = kept_word(chosen[i], words[i], is_set);
+        chosen[i] = kept;
+        clear += u64::from((kept & !next[i]).count_ones());
     }
-    lanes::count_and_not(chosen, next) as u64
+    clear
+}
+
+/// Returns those rows of a word that are set in another one or, as wanted, those that are clear there.
+fn kept_word(word: u64, other: u64, is_set: bool) -> u64
+    ensures { result ≡ word_kept is_set word other }
+{
+    if is_set { word & other } else { word & !other }
 }
