@@ -13,10 +13,14 @@ ghost use Rattle.bsi_words.specs.Ranks.{word_kept, IsRankedRows};
 
 use crate::sums::is_empty;
 use bsi_bits::{Bits, know_fits};
+use std::simd::u64x4;
 
 /// The number of words in a block that is narrowed. It is small, since narrowing leaves more and more blocks with no
 /// row.
 const BLOCK_WORDS: usize = 32;
+
+/// The number of words that are narrowed at a time.
+const LANES: usize = 4;
 
 /// The rows that have the number of a rank, that number, and the rank of its row among them.
 #[derive(Drop)]
@@ -141,8 +145,16 @@ fn narrow_block(chosen: &mut [u64], words: &[u64], is_set: bool, next: &[u64]) -
     if is_empty(chosen) {
         return 0;
     }
+    let whole = chosen.len() / LANES;
     let mut clear = 0u64;
-    'words: for i in 0..chosen.len() {
+    'fours: for k in 0..whole {
+        let other = u64x4::from_slice(&words[LANES * k..]);
+        let kept = kept_words(u64x4::from_slice(&chosen[LANES * k..]), other, is_set);
+        kept.copy_to_slice(&mut chosen[LANES * k..]);
+        let left = words_without(kept, u64x4::from_slice(&next[LANES * k..]));
+        clear += ones_in(left);
+    }
+    'words: for i in LANES * whole..chosen.len() {
         let kept = kept_word(chosen[i], words[i], is_set);
         chosen[i] = kept;
         clear += u64::from((kept & !next[i]).count_ones());
@@ -155,4 +167,30 @@ fn kept_word(word: u64, other: u64, is_set: bool) -> u64
     ensures { result ≡ word_kept is_set word other }
 {
     if is_set { word & other } else { word & !other }
+}
+
+/// Returns the rows of four words that are set in four others or, as wanted, those that are clear there.
+fn kept_words(words: u64x4, others: u64x4, is_set: bool) -> u64x4
+    ensures { result ≡ zip2 (word_kept is_set) words others }
+{
+    if is_set {
+        return words & others;
+    }
+    words_without(words, others)
+}
+
+/// Returns the rows of four words that are clear in four others.
+fn words_without(words: u64x4, others: u64x4) -> u64x4
+    ensures { result ≡ zip2 (word_kept false) words others }
+{
+    words & !others
+}
+
+/// Returns the number of ones in four words. It counts each word by one instruction.
+fn ones_in(words: u64x4) -> u64
+    ensures ones { result ≡ sum_by count_ones words }
+    ensures few { result ≤ 256 }
+{
+    let [a, b, c, d] = words.to_array();
+    (a.count_ones() + b.count_ones() + c.count_ones() + d.count_ones()) as u64
 }
