@@ -11,7 +11,7 @@ use Rattle.bsi_bits.proofs.Pairs.{chunk-zip2}
 use Rattle.std.proofs.lemmas.List.Sums.{sum_by-cons}
 use Rattle.std.proofs.lemmas.Nat.{and_le_l}
 use Rattle.bsi_bits.proofs.Logic.{IsBitwise, and_bitwise, and_not_bitwise}
-use Rattle.bsi_slices.specs.Blocks.{word_kept}
+use Rattle.bsi_words.specs.Ranks.{word_kept}
 
 -- what is kept of a word is at most the word
 pub kept_less : (wanted : Bool) (x y : ℕ) → word_kept wanted x y ≤ x

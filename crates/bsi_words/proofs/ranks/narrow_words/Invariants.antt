@@ -1,9 +1,9 @@
 use Rattle.std.proofs.Common.{◌≡◌, ◌*◌, ◌≤◌, false, take}
 use Rattle.std.specs.Prelude.{min, sum_by, count_ones}
 use Rattle.std.specs.Simd.Lanes.{zip2}
-use Rattle.bsi_slices.specs.Blocks.{word_kept}
-use Rattle.bsi_slices.proofs.Narrowing.{IsPart}
-use Rattle.bsi_slices.proofs.slices.totals.narrow_words.Given as goal
+use Rattle.bsi_words.specs.Ranks.{word_kept}
+use Rattle.bsi_words.proofs.Narrowing.{IsPart}
+use Rattle.bsi_words.proofs.ranks.narrow_words.Given as goal
 
 abbrev pub invariant-blocks-2 : goal.invariant-blocks-2
 invariant-blocks-2 l = record {

@@ -5,10 +5,10 @@ use Rattle.bsi_bits.specs.Packed.{bits_of}
 use Rattle.bsi_bits.proofs.CountingPairs.{count_pairs}
 use Rattle.bsi_bits.proofs.Logic.{zipped_packed, zipped_bits}
 use Rattle.bsi_bits.proofs.Reading.{length-bits_of}
-use Rattle.bsi_slices.specs.Blocks.{word_kept}
+use Rattle.bsi_words.specs.Ranks.{word_kept}
 use Rattle.bsi_bits.proofs.InWords.{shown_packed, shown_bits}
-use Rattle.bsi_slices.proofs.Narrowing.{kept_bitwise, kept_less}
-use Rattle.bsi_slices.proofs.slices.totals.narrow.Goals as goal
+use Rattle.bsi_words.proofs.Narrowing.{kept_bitwise, kept_less}
+use Rattle.bsi_words.proofs.ranks.narrow.Goals as goal
 
 pub returns-clause-packed : goal.returns-clause-packed
 returns-clause-packed c =

@@ -1,7 +1,7 @@
 use Rattle.std.proofs.Common.{◌≡◌, ◌-◌, ◌<◌, ◌≤◌, length}
 use Rattle.std.specs.Prelude.{nat_lt, nat_le}
 use Rattle.bsi_components.specs.Component.{count_where}
-use Rattle.bsi_components.proofs.encoding.Encoding.digit_of_rank.Given as goal
+use Rattle.bsi_components.proofs.encoding.Encoding.rows_of_rank.Given as goal
 
 abbrev pub invariant-digits : goal.invariant-digits
 invariant-digits g l =

@@ -4,9 +4,9 @@ use Rattle.std.specs.Simd.Lanes.{zip2, chunk}
 use Rattle.std.proofs.lemmas.Simd.{length-zip2, length-chunk}
 use Rattle.bsi_bits.proofs.Pairs.{chunk-zip2}
 use Rattle.bsi_bits.proofs.Summing.{summed_block, summed_all}
-use Rattle.bsi_slices.specs.Blocks.{word_kept}
-use Rattle.bsi_slices.proofs.Narrowing.{IsPart, part_more, part_all, narrowed_part}
-use Rattle.bsi_slices.proofs.slices.totals.narrow_words.Goals as goal
+use Rattle.bsi_words.specs.Ranks.{word_kept}
+use Rattle.bsi_words.proofs.Narrowing.{IsPart, part_more, part_all, narrowed_part}
+use Rattle.bsi_words.proofs.ranks.narrow_words.Goals as goal
 
 -- one block more
 pub blocks-2-preserved : goal.blocks-2-preserved
