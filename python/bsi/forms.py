@@ -5,6 +5,7 @@ from __future__ import annotations
 
 import math
 from dataclasses import dataclass, replace
+from functools import cached_property
 from typing import Any, Tuple
 
 from .errors import BadRow
@@ -23,12 +24,12 @@ class Form:
     offset: int = 0
     kind: Kind = Whole()
 
-    @property
+    @cached_property
     def size(self) -> int:
         """How many numbers the column takes, from the offset up."""
         return 1 << min(self.sizes[0], 64) if self.word == "slices" else math.prod(self.sizes)
 
-    @property
+    @cached_property
     def most(self) -> int:
         """The greatest number that the column takes."""
         return self.offset + self.size - 1

@@ -26,6 +26,9 @@ class Gathered:
         """Makes a call of every part, at the same time, and returns what they answered."""
         raise NotImplementedError
 
+    def count(self, fields: Fields) -> int:
+        return self.counts([fields])[0]
+
     def counts(self, questions: Sequence[Fields]) -> List[int]:
         with self.lock:
             return [sum(counts) for counts in zip(*self._each("counts", questions))]
@@ -48,7 +51,7 @@ class Gathered:
         if not medians:
             return None
         low, high = min(medians), max(medians)
-        half = (self.counts([[*fields, name, b"null", b"not", b"and"]])[0] + 1) // 2
+        half = (self.count([*fields, name, b"null", b"not", b"and"]) + 1) // 2
         while low < high:
             step = -(-(high - low) // (self._bounds + 1))
             bounds = list(range(low + step - 1, high, step))

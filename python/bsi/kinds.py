@@ -156,7 +156,8 @@ class Whole(Kind):
         if values.dtype.kind in "iub":
             if values.dtype.kind == "u":
                 first_misfit(valid & (values > np.uint64(2**63 - 1)), values, "is past 63 bits")
-            return np.where(valid, values, 0).astype(np.int64)
+            # (a copy in each case, since the library reads the numbers while other threads run)
+            return values.astype(np.int64) if valid.all() else np.where(valid, values, 0).astype(np.int64, copy=False)
         if values.dtype.kind == "f":
             return _whole_of_floats(values, valid)
         if values.dtype == object and set(map(type, values[valid])) <= {int, bool}:

@@ -8,8 +8,11 @@ from __future__ import annotations
 
 import ctypes
 import os
+import struct
 import threading
+from array import array
 from ctypes import POINTER, Structure, byref, c_bool, c_int64, c_size_t, c_uint8, c_uint32, c_uint64, c_void_p
+from functools import lru_cache
 from typing import Any, Dict, List, Optional, Sequence, Tuple
 
 import numpy as np
@@ -23,10 +26,6 @@ Entries = Tuple[np.ndarray, Optional[np.ndarray]]
 
 class _Index(Structure):
     _fields_ = [("at", c_void_p), ("full", c_bool)]
-
-
-class _Text(Structure):
-    _fields_ = [("at", c_void_p), ("len", c_size_t)]
 
 
 class _Column(Structure):
@@ -56,6 +55,7 @@ _CALLS: Dict[str, List[Any]] = {
 }
 _nothing = (c_uint64 * 1)()
 _NOTHING = ctypes.addressof(_nothing)
+_NO_PLACES, _NO_LENGTH = c_void_p(_NOTHING), c_size_t(0)
 
 
 def _load() -> ctypes.CDLL:
@@ -78,21 +78,25 @@ def _load() -> ctypes.CDLL:
 
 
 _library = _load()
+# The same call for arguments that are of C's types as they are: ctypes turns those of the others, one by one.
+_ask = _library["bsi_ask"]
+_ask.restype = c_uint32
 
 
 def _address(array: Optional[np.ndarray]) -> int:
     return _NOTHING if array is None or not len(array) else array.ctypes.data
 
 
-def _texts(fields: Sequence[bytes]):
-    """Returns the fields as C has them, and the bytes that they point into, which must live as long."""
-    joined = b"".join(fields)
-    at = ctypes.cast(ctypes.c_char_p(joined), c_void_p).value or _NOTHING
-    texts = (_Text * max(1, len(fields)))()
-    for text, field in zip(texts, fields):
-        text.at, text.len = at, len(field)
+@lru_cache(256)
+def _slices(fields: Tuple[bytes, ...]) -> Tuple[bytes, c_size_t, array]:
+    """Returns the fields as C has them, an address and a length each, how many they are, and the bytes there, which
+    must live as long. Those of the last questions are kept."""
+    text, slices = array("B", b"".join(fields)), []
+    at = text.buffer_info()[0] or _NOTHING
+    for field in fields:
+        slices += (at, len(field))
         at += len(field)
-    return texts, joined
+    return struct.pack(f"{len(slices)}Q", *slices), c_size_t(len(fields)), text
 
 
 class Handle:
@@ -100,6 +104,7 @@ class Handle:
 
     def __init__(self, schema: Optional[bytes] = None):
         self._lock, self._index = threading.Lock(), _Index()
+        self._at = byref(self._index)
         if schema is not None:
             bad_record, text = c_uint64(), np.frombuffer(schema, np.uint8)
             status = self._call("bsi_open", _address(text), len(text), 1, byref(bad_record))
@@ -111,7 +116,7 @@ class Handle:
 
     def _call(self, name: str, *arguments) -> int:
         with self._lock:
-            return getattr(_library, name)(byref(self._index), *arguments)
+            return getattr(_library, name)(self._at, *arguments)
 
     def append(self, columns: Sequence[Entries]) -> Tuple[int, int]:
         """Appends rows, and returns the status and the row that it tells."""
@@ -122,33 +127,40 @@ class Handle:
         row = c_uint64()
         return self._call("bsi_append", 0, ctypes.addressof(given), len(columns), byref(row)), row.value
 
-    def _ask(self, fields: Sequence[bytes]) -> _Answer:
-        answer, (texts, _kept) = _Answer(), _texts(fields)
-        check(self._call("bsi_ask", ctypes.addressof(texts), len(fields), byref(answer), _NOTHING, 0))
+    def _ask(self, *fields: bytes) -> _Answer:
+        answer, (slices, length, _kept) = _Answer(), _slices(fields)
+        with self._lock:
+            status = _ask(self._at, slices, length, byref(answer), _NO_PLACES, _NO_LENGTH)
+        if status != OK:
+            check(status)
         return answer
+
+    def count(self, fields: Sequence[bytes]) -> int:
+        """Returns how many rows the predicate selects."""
+        return self._ask(b"count", *fields).count
 
     def counts(self, questions: Sequence[Sequence[bytes]]) -> list[int]:
         """Returns how many rows each of these predicates selects."""
-        return [self._ask([b"count", *fields]).count for fields in questions]
+        return [self.count(fields) for fields in questions]
 
     def sum(self, name: bytes, fields: Sequence[bytes]) -> int:
         """Returns the sum of the column's numbers in the rows that the predicate selects."""
-        answer = self._ask([b"sum", name, *fields])
+        answer = self._ask(b"sum", name, *fields)
         return (answer.high << 64 | answer.low) - (answer.high >> 63 << 128)
 
     def value(self, word: bytes, name: bytes, fields: Sequence[bytes]) -> Optional[int]:
         """Returns the least, greatest or lower median number in these rows, or None where there is none."""
-        answer = self._ask([word, name, *fields])
+        answer = self._ask(word, name, *fields)
         return answer.value if answer.present else None
 
     def select(self, fields: Sequence[bytes]) -> Tuple[np.ndarray, int]:
         """Returns the words whose bits say which rows the predicate selects, and how many rows there are."""
-        (texts, _kept), status, rows = _texts(fields), NO_ROOM, 0
+        (slices, length, _kept), status, rows = _slices(tuple(fields)), NO_ROOM, 0
         while status == NO_ROOM:
             # (another thread may append between the two calls; then there is too little room, and both are made again)
             rows = self.rows()
             words = np.empty((rows + 63) // 64, np.uint64)
-            status = self._call("bsi_select", ctypes.addressof(texts), len(fields), _address(words), len(words))
+            status = self._call("bsi_select", slices, length, _address(words), len(words))
         check(status)
         return words, rows
 

@@ -54,7 +54,7 @@ class Predicate:
 
     def __init__(self, terms: Iterable[Term]):
         terms = tuple(terms)
-        if _fields(terms) > MOST_FIELDS:
+        if 3 * len(terms) > MOST_FIELDS and _fields(terms) > MOST_FIELDS:
             rule = f"a predicate has at most {MOST_FIELDS:,} fields (a comparison has 3, isnull() 2)"
             raise BadQuery(f"{rule}, and this one {_fields(terms):,}")
         object.__setattr__(self, "terms", terms)
@@ -180,7 +180,9 @@ class _Columns:
     def __getattr__(self, name: str) -> Column:
         if name.startswith("__"):
             raise AttributeError(name)
-        return Column(name)
+        # (kept, so that the next use of the name finds it there)
+        column = self.__dict__[name] = Column(name)
+        return column
 
     def __getitem__(self, name: str) -> Column:
         return Column(name)

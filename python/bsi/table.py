@@ -1,8 +1,8 @@
 """Typed questions over a store of rows: names, kinds and predicates on this side, whole numbers and fields of a query
 on the other.
 
-A *store* is a `native.Handle`, or a `gathered.Gathered` of several. Both have the calls `counts`, `sum`, `value`,
-`select`, `rows` and `close`, and but for Dask `append`.
+A *store* is a `native.Handle`, or a `gathered.Gathered` of several. Both have the calls `count`, `counts`, `sum`,
+`value`, `select`, `rows` and `close`, and but for Dask `append`.
 """
 
 from __future__ import annotations
@@ -186,7 +186,7 @@ class Table:
 
     def count(self, where: Predicate = all_rows) -> int:
         """Returns how many rows the predicate selects."""
-        return self._store.counts([self._query(where)])[0]
+        return self._store.count(self._query(where))
 
     def sum(self, column: Name, where: Predicate = all_rows) -> Any:
         """Returns the sum of the column's values in the rows that the predicate selects, 0 where there are none."""

@@ -1,4 +1,4 @@
-"""docs/PYTHON.md prints what it says, and the example draws."""
+"""docs/PYTHON.md and README.md print what they say, and the example draws."""
 
 import doctest
 import os
@@ -10,10 +10,11 @@ import pytest
 
 TOP = os.path.dirname(os.path.dirname(os.path.dirname(os.path.abspath(__file__))))
 PAGE, EXAMPLES = os.path.join(TOP, "docs", "PYTHON.md"), os.path.join(TOP, "examples")
+README = os.path.join(TOP, "README.md")
 
 
-def blocks(language):
-    with open(PAGE, encoding="utf-8") as page:
+def blocks(language, path=PAGE):
+    with open(path, encoding="utf-8") as page:
         return re.findall(rf"^```{language}\n(.*?)^```$", page.read(), re.MULTILINE | re.DOTALL)
 
 
@@ -24,6 +25,17 @@ def test_the_page_prints_what_it_says(monkeypatch):
     test = doctest.DocTestParser().get_doctest(lines, {}, "PYTHON.md", PAGE, 0)
     found = doctest.DocTestRunner(optionflags=doctest.REPORT_NDIFF).run(test)
     assert found.attempted > 15 and found.failed == 0
+
+
+def test_the_readme_gives_what_its_comment_says(monkeypatch):
+    pytest.importorskip("pandas")
+    monkeypatch.chdir(EXAMPLES)
+    (block,) = blocks("python", README)
+    names = {}
+    *before, last = block.strip().splitlines()
+    exec("\n".join(before), names)
+    question, _, wanted = last.partition("  #")
+    assert repr(eval(question, names)) == wanted.strip()
 
 
 def test_the_commands_of_the_page_print_what_they_say():

@@ -1,6 +1,10 @@
 -- What a handle holds, its parts and a box at the same types own the same.
 use mir.Syntax.{impl, tnil, dnil}
+use mathlib.Core.Bool.{true}
 use mathlib.Core.List.{[]}
+use mathlib.Core.Path.{◌≡◌, refl, sym, subst}
+use lib.Dec.{T}
+use Rattle.std.specs.Prelude.{Option, None, Some, is_some}
 use denote.Signature.{Slot, plain}
 use Rattle.std.proofs.BoxSteps.Form.{Bx}
 use Rattle.std.specs.contracts.alloc.Global as Heap
@@ -19,3 +23,8 @@ FromParts = plain (λ _. Parts.the_row Inner.the_row Heap.the_row ghosts)
 
 abbrev pub FromHeld : Slot 0
 FromHeld = plain (λ _. Held.the_row)
+
+-- what is there is some value
+pub some_of : {X : Type 0} (held : Option X) → is_some held ≡ true → (x : X) × (held ≡ Some x)
+some_of None wrong = absurd (subst T (sym wrong) tt)
+some_of (Some x) full = (x, refl)

@@ -1,4 +1,5 @@
 pub mod AsBox
 pub mod Declaring
 pub mod RowsOf
+pub mod Steps
 pub mod Telling

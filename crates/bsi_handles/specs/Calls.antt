@@ -34,12 +34,12 @@ pub record IsNew (text : List ℕ) (feeders : ℕ) (opened : Opened) : Type 0 wh
   pub declared : IsSchemaText text opened.table.schema opened.table.limit
   pub empty : opened.table ≡ no_rows opened.table.schema feeders opened.table.limit
 
--- the text is refused; of a bad record this is the number
+-- the text is refused; of a bad record this is the number, and else it is 0
 abbrev pub IsTextRefusal : List ℕ → ℕ → Refusal → Type 0
 IsTextRefusal text number BadSchema = HasBadRecord text number
-IsTextRefusal text number NoColumns = DeclaresNoColumn text
-IsTextRefusal text number BadText = IsTooLong text
-IsTextRefusal text number NoMemory = Unit {0}
+IsTextRefusal text number NoColumns = DeclaresNoColumn text × (number ≡ 0)
+IsTextRefusal text number BadText = IsTooLong text × (number ≡ 0)
+IsTextRefusal text number NoMemory = number ≡ 0
 IsTextRefusal text number why = ⊥
 
 abbrev pub IsFeederCount : ℕ → Type 0
@@ -48,10 +48,10 @@ IsFeederCount feeders = (1 ≤ feeders) × (feeders ≤ 64)
 abbrev pub IsOpening : Option State → List ℕ → ℕ → ℕ → Option State → Ending → Type 0
 IsOpening before text feeders number after (Ok done) =
     (opened_in before ≡ None) × IsFeederCount feeders × MatchOption (opened_in after) ⊥ (IsNew text feeders)
-    × (is_shared after ≡ false)
-IsOpening before text feeders number after (Err Open) = IsSome (opened_in before)
+    × (is_shared after ≡ false) × (number ≡ 0)
+IsOpening before text feeders number after (Err Open) = IsSome (opened_in before) × (number ≡ 0)
 IsOpening before text feeders number after (Err BadFeeder) =
-    (opened_in before ≡ None) × (IsFeederCount feeders → ⊥)
+    (opened_in before ≡ None) × (IsFeederCount feeders → ⊥) × (number ≡ 0)
 IsOpening before text feeders number after (Err why) =
     (opened_in before ≡ None) × IsFeederCount feeders × IsTextRefusal text number why
 
@@ -68,15 +68,15 @@ pub record AreAppendable (table : Table) (feeder : ℕ) (columns : List Column) 
 abbrev pub AreOfIndex : Table → ℕ → List Column → Type 0
 AreOfIndex table feeder columns = (feeder < table.feeders) × (are_columns (length table.schema.columns) columns ≡ true)
 
--- the rows are refused, for the first cause that applies; of one that does not fit this is the number
+-- the rows are refused, for the first cause that applies; of one that does not fit this is the number, and else it is 0
 abbrev pub IsRowsRefusal : Table → ℕ → List Column → ℕ → Refusal → Type 0
-IsRowsRefusal table feeder columns row BadFeeder = table.feeders ≤ feeder
+IsRowsRefusal table feeder columns row BadFeeder = (table.feeders ≤ feeder) × (row ≡ 0)
 IsRowsRefusal table feeder columns row BadColumns =
-    (feeder < table.feeders) × (are_columns (length table.schema.columns) columns ≡ false)
+    (feeder < table.feeders) × (are_columns (length table.schema.columns) columns ≡ false) × (row ≡ 0)
 IsRowsRefusal table feeder columns row BadRow = AreOfIndex table feeder columns × IsFirstMisfit table.schema.columns columns row
 IsRowsRefusal table feeder columns row IndexFull =
     AreOfIndex table feeder columns × AreTaken table.schema.columns columns (row_count columns)
-    × (table.limit < length table.rows + row_count columns)
+    × (table.limit < length table.rows + row_count columns) × (row ≡ 0)
 IsRowsRefusal table feeder columns row why = ⊥
 
 -- the first so many rows of the columns were appended
@@ -97,13 +97,13 @@ abbrev pub with_table : Opened → Table → Opened
 with_table opened table = record opened { table = table }
 
 abbrev pub IsAppending : Option State → ℕ → List Column → ℕ → Option State → Ending → Type 0
-IsAppending None feeder columns row after ending = (ending ≡ Err Closed) × (after ≡ None)
+IsAppending None feeder columns row after ending = (ending ≡ Err Closed) × (row ≡ 0) × (after ≡ None)
 IsAppending (Some (Alone opened)) feeder columns row after ending =
     (table : Table) × (after ≡ Some (Alone (with_table opened table)))
     × IsAppended opened.table feeder columns row table ending
 IsAppending (Some (shared_state opened)) feeder columns row after ending =
-    (ending ≡ Err Shared) × (after ≡ Some (shared_state opened))
-IsAppending (Some Moved) feeder columns row after ending = (ending ≡ Err Closed) × (after ≡ Some Moved)
+    (ending ≡ Err Shared) × (row ≡ 0) × (after ≡ Some (shared_state opened))
+IsAppending (Some Moved) feeder columns row after ending = (ending ≡ Err Closed) × (row ≡ 0) × (after ≡ Some Moved)
 
 -- ---- asking
 
@@ -198,7 +198,7 @@ HoldsShared held opened = (opened_in held ≡ opened) × (is_shared held ≡ tru
 -- an index can't be shared: there is none, or memory was refused
 abbrev pub IsShareRefusal : Option Opened → Refusal → Type 0
 IsShareRefusal held Closed = held ≡ None
-IsShareRefusal held NoMemory = Unit {0}
+IsShareRefusal held NoMemory = IsSome held
 IsShareRefusal held why = ⊥
 
 abbrev pub IsSharing : Option State → Option State → Option State → Option State → Ending → Type 0

@@ -6,7 +6,7 @@ ghost use Rattle.bsi_handles.specs.Calls.{as_pairs, IsReplied, IsShort, IsWritte
 use crate::opened::Opened;
 use crate::refusal::Refusal;
 use bsi_records::read_query;
-use bsi_table::Answer;
+use bsi_table::{Answer, AskError};
 use csv::ByteRecord;
 use std::alloc::Global;
 
@@ -56,11 +56,12 @@ pub(crate) fn reply(
     let Some(query) = read_query(alloc, index.schema(), &fields)? else {
         return Err(Refusal::BadQuery);
     };
-    let Ok(reply) = index.ask(&query) else {
-        // The columns of a query that was read are there, so only memory can be refused.
-        return Err(Refusal::NoMemory);
-    };
-    write(&reply, answer, places)
+    match index.ask(&query) {
+        Ok(reply) => write(&reply, answer, places),
+        Err(AskError::NoMemory) => Err(Refusal::NoMemory),
+        // By the proof this never is, since the columns of a query that was read are there.
+        Err(AskError::BadColumn(_)) => Err(Refusal::BadQuery),
+    }
 }
 
 /// Writes an answer.

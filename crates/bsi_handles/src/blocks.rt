@@ -128,6 +128,7 @@ fn append_blocks(
 /// Tests whether all rows of the columns can be appended. It writes the first row that does not fit, if that is why
 /// not.
 fn check_rows(index: &Index, feeder: u32, columns: &[Column], row: &mut u64) -> Result<(), Refusal>
+    requires { row.old ≡ 0 }
     ensures taken { OnOk result (AreAppendable index.now feeder columns.now) }
     ensures refused { IfErr result (IsRowsRefusal index.now feeder columns.now row.new) }
 {
@@ -159,6 +160,7 @@ pub(crate) fn append_columns(
     columns: &[Column],
     row: &mut u64,
 ) -> Result<(), Refusal>
+    requires { row.old ≡ 0 }
     ensures { IsAppended index.old feeder columns.now row.new index.new result }
 {
     check_rows(index, feeder, columns, row)?;

@@ -76,6 +76,7 @@ impl Opened {
         columns: &[Column],
         row: &mut u64,
     ) -> Result<(), Refusal>
+        requires { row.old ≡ 0 }
         ensures text { self.new ≡ with_table self.old self.new.table }
         ensures rows { IsAppended self.old.table feeder columns.now row.new self.new.table result }
     {

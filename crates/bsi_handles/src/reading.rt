@@ -22,8 +22,10 @@ pub(crate) fn open_text(
     feeders: u32,
     bad_record: &mut u64,
 ) -> Result<Opened, Refusal>
-    requires { IsFeederCount feeders }
+    requires feeders { IsFeederCount feeders }
+    requires zero { bad_record.old ≡ 0 }
     ensures opened { IfOk result (IsNew text.now feeders) }
+    ensures zero { OnOk result (bad_record.new ≡ 0) }
     ensures refused { IfErr result (IsTextRefusal text.now bad_record.new) }
 {
     let (schema, limit) = read_table(alloc, text, bad_record)?;
@@ -36,7 +38,9 @@ pub(crate) fn open_text(
 
 /// Reads the columns and the row limit, which is the greatest there is where no record gives another.
 fn read_table(alloc: Global, text: &[u8], bad_record: &mut u64) -> Result<(Schema, u64), Refusal>
+    requires { bad_record.old ≡ 0 }
     ensures declared { IfOk result (λ read. IsSchemaText text.now read.0 read.1) }
+    ensures zero { OnOk result (bad_record.new ≡ 0) }
     ensures refused { IfErr result (IsTextRefusal text.now bad_record.new) }
 {
     let mut records = RecordSource::new(alloc, text);
@@ -60,8 +64,10 @@ fn declare_all<S: Read + Drop>(
     requires fresh { (records.old.taken ≡ 0) × (records.old.end ≡ None) }
     requires start { reader_state records.old.input ≡ st.StartRecord }
     requires none { (schema.old, limit.old) ≡ none_declared }
+    requires zero { bad_record.old ≡ 0 }
     ensures declared { OnOk result (FromText (source_of S.remaining records.old.input)
         (λ bytes. Declares bytes (schema.new, limit.new))) }
+    ensures zero { OnOk result (bad_record.new ≡ 0) }
     ensures fault { IfErr result (λ why. FromText (source_of S.remaining records.old.input)
         (λ bytes. IsTextRefusal bytes bad_record.new why)) }
 {

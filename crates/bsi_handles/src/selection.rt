@@ -12,7 +12,7 @@ use crate::opened::Opened;
 use crate::refusal::Refusal;
 use bsi_bits::Bits;
 use bsi_records::read_query;
-use bsi_table::{NoMemory, Pred, Schema};
+use bsi_table::{AskError, NoMemory, Pred, Schema};
 use csv::ByteRecord;
 use std::alloc::Global;
 
@@ -29,11 +29,12 @@ pub(crate) fn write_mask(
     let Some(pred) = read_predicate(alloc, index.schema(), fields)? else {
         return Err(Refusal::BadQuery);
     };
-    let Ok(found) = index.select(&pred) else {
-        // The columns of a predicate that was read are there, so only memory can be refused.
-        return Err(Refusal::NoMemory);
-    };
-    copy_words(&found, words)
+    match index.select(&pred) {
+        Ok(found) => copy_words(&found, words),
+        Err(AskError::NoMemory) => Err(Refusal::NoMemory),
+        // By the proof this never is, since the columns of a predicate that was read are there.
+        Err(AskError::BadColumn(_)) => Err(Refusal::BadQuery),
+    }
 }
 
 /// Reads the predicate that the fields spell, as that of a count.

@@ -61,6 +61,9 @@ impl State {
             × HoldsShared (Some other.value) (opened_in (Some self.old))) }
         ensures refused { IfErr result (IsShareRefusal (opened_in (Some self.old))) }
     {
+        if self.opened().is_none() {
+            return Err(Refusal::Closed);
+        }
         let Ok(mut other) = Box::new(alloc, State::Moved) else {
             return Err(Refusal::NoMemory);
         };

@@ -3,6 +3,8 @@
 
 pub mod blocks;
 pub mod marks;
+mod ranks;
 mod sums;
 
+pub use ranks::{RankedRows, rows_of_rank};
 pub use sums::{is_empty, sum_by_places};

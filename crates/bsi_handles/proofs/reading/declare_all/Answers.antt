@@ -10,6 +10,7 @@ records-init g c = record {
   going = c.requires.fresh.1;
   counted = c.requires.fresh.0;
   few = omega (arith, c.requires.fresh.0);
+  zero = c.requires.zero;
   declared = λ bytes left. declared_none bytes _ _ _ _ c.requires.start c.requires.fresh.0 c.requires.none left;
 }
 
@@ -22,6 +23,7 @@ records-preserved g c =
       going = taken.1;
       counted = taken.0.1 ∙ omega (arith, c.records.invariant.counted);
       few = c.next_record.ensures.few;
+      zero = c.records.invariant.zero;
       declared = λ bytes left.
           declared_more g.S.Read.remaining bytes c.records.records.input c.next_record.new.self.input c.records.records.taken
           (c.records.schema, c.records.limit) (c.records.invariant.declared bytes left) fields c.next_record.new.self.taken (c.read_setup.new.schema, c.read_setup.new.limit) true taken.0.0 taken.0.1 change refl;

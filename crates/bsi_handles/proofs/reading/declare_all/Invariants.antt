@@ -10,6 +10,7 @@ invariant-records g l = record {
   going : l.records.end ≡ None;
   counted : l.records.taken ≡ l.before;
   few : l.records.taken ≤ 1000000;
+  zero : l.bad_record ≡ 0;
   declared : FromText (source_of g.S.Read.remaining l.initial.records.input) (λ bytes.
       HasDeclared bytes (reader_state l.records.input) (source_of g.S.Read.remaining l.records.input) l.records.taken (l.schema, l.limit));
 }

@@ -1,30 +1,20 @@
 -- A handle may go to another thread where what it holds may.
 use mir.Raw.{raw}
 use denote.Memory.{lone}
-use base.Fraction.{full_share}
-use denote.Exit.{Exit, unchanged, leaves, hidden, under}
-use denote.RattleType.{RattleType}
-use denote.RawPtr.{Ptr, block_ptr, null_ptr, lies_at}
+use denote.RawPtr.{Ptr}
 use denote.Struct.Struct.{exits_of}
 use denote.Struct.Owning.{shape, fields, to}
-use denote.Param.Send.{IsSend, AllSend, owning_send, struct_send, sendable, Quiet, part_keyless}
+use denote.Param.Send.{IsSend, AllSend, owning_send, struct_send, sendable}
 use base.Shift.{Keyless}
 use Rattle.std.specs.Prelude.{Option, None, Some}
 use Rattle.std.specs.Global.{Global}
 use Rattle.std.proofs.Crossing as heap
+use Rattle.std_alloc.proofs.SendSync.{quiet, lies}
 use Rattle.std.below.std_heap.proofs.Global.TheSendSync as handle
 use Rattle.bsi_handles.specs.Owned.{held_owns}
 use Rattle.bsi_handles.specs.contracts.state.State as State
 use Rattle.bsi_handles.proofs.state.State.TheSendSync.{the_send as state}
 use Rattle.bsi_handles.specs.contracts.held.Held.{the_row, the_type}
-
-quiet : {D X : Type 0} (to : D → X) (e : Exit X) → Quiet e → Quiet (hidden (under to e))
-quiet to unchanged q = λ x w. tt
-quiet to (leaves L l S s r₀) q = λ d. q (to d)
-
-lies : (R : RattleType) → IsSend R → (p : Ptr) (x : R.Denot) → Keyless (lies_at R full_share p x)
-lies R s (block_ptr b o) x = part_keyless R s full_share x b o
-lies R s null_ptr x = tt
 
 keyless : (alloc : Global) (p : Ptr) (held : Option State.the_row.Denot) → Keyless (held_owns alloc p held)
 keyless alloc p None = tt

@@ -1,80 +1,39 @@
 -- `into_parts` moves two fields, and what they own goes with them.
-use mathlib.Core.Path.{◌≡◌, refl, sym, subst}
 use mathlib.Core.Bool.{true}
-use lib.Dec.{T}
-use Rattle.std.specs.Prelude.{Option, None, Some, is_some}
-use Rattle.std.specs.contracts.alloc.Global as Heap
-use Rattle.bsi_handles.specs.contracts.state.State as Inner
-use Rattle.bsi_handles.specs.contracts.held.Held as Held
-use contract.Monad.{fact}
-use denote.RawPtr.{Ptr}
-use mathlib.Core.List.{List, [], ◌∷◌, ◌++◌}
-use seplogic.Ra.Ura.{Ura}
-use mir.Val.{Val}
-use base.Logic.{SProp, ent, id⊢}
-use base.Fml.{ftrue, fsep}
-use prog.Memory.{Memory}
-use prog.Routine.{Routine}
-use prog.Wp.{WpFn, Tables}
-use types.Logic.{Logic}
-use contract.Monad.{Fun}
-use contract.Running.{tables, tables_of}
-use sound.WpLaws.{WpFn-mono}
-use types.Kit.{Item, ‵, raw, ◌⊛◌, ◌$◌, ◌∵◌, !, qed, by, move, drop, use1, join, split, fsplit, fjoin, suffices, done}
-use types.Part.{whole, sub, agg}
-use types.Run.{stop, fld, no_more, and_then, of_opd, returns, enter}
-use types.ByLocal.{alloc_all, pass_all, free_all, look_at, get, get_in, sets}
+use Rattle.std.specs.Prelude.{Option, Some, is_some}
 use denote.Exit.{yes}
-use denote.Signature.{type_at}
-use denote.Steps.{nothing, heard}
-use denote.Triple.Spec.{triple_of}
-use denote.Triple.Table.{entered}
-use denote.Triple.Walked.{says, Stays, stay_dropped, walk_of, ends_at, Goes-dropped, walk_Meets}
-use Rattle.std.proofs.BoxSteps.Form.{D, B, word, box_typed}
-use Rattle.std.proofs.BoxSteps.Steps.{box_out, box_in}
-use Rattle.bsi_handles.proofs.AsBox.{E, FromHeld as From}
+use Rattle.bsi_handles.proofs.Steps.{◌≡◌, refl, sym, subst, List, [], ◌∷◌, ◌++◌, Val, SProp, ent, emp, id⊢, ftrue, fsep, WpFn, tables, ‵, raw, ◌⊛◌, ◌$◌, ◌∵◌, !, qed, by, move, keep, use0, use1, split, fsplit, fjoin, suffices, whole, sub, agg, stop, fld, no_more, and_then, of_opd, returns, enter, alloc_all, pass_all, free_all, look_at, get, get_in, sets, nothing, Stays, stay_dropped, walk_of, Goes-dropped, proved_at, leaves, heard, rewrite, type_at, D, B, word, box_typed, box_out, box_in, fact, fact_i}
+use Rattle.bsi_handles.proofs.AsBox.{E, FromHeld, some_of}
+use Rattle.bsi_handles.specs.contracts.held.Held as Held
+use Rattle.bsi_handles.specs.contracts.state.State as State
 use Rattle.bsi_handles.specs.contracts.held.Held.into_parts as F
-use Rattle.bsi_handles.specs.contracts.held.Held.into_parts.Key.{name as #self}
-use Rattle.bsi_handles.proofs.held.Held.into_parts.Statement as stated
+use Rattle.bsi_handles.proofs.held.Held.into_parts.Statement.{statement}
 use Rattle.bsi_handles.proofs.held.Held.into_parts.Code as code
 
-abbrev stayed : Stays (F.ended).signature.params (F.ended).kept
-stayed = (stay_dropped From yes, tt)
+abbrev stayed : Stays F.ended.signature.params F.ended.kept
+stayed = (stay_dropped FromHeld yes, tt)
 
-module _ {M : Type 1} {𝓤 : Ura M} (𝓛 : Logic 𝓤) (at_mem : Memory → SProp 𝓤) (run : Routine → Fun 𝓤) (𝓣 : Tables 𝓤 𝓛.H) where
-  open 𝓛 use {H}
-
-  module _ (p : Ptr) (a : Heap.the_row.Denot) (vs : List Val) where
-    abbrev bound : Option Inner.the_row.Denot → (walk_of 𝓛 F.ended stayed (F.clauses 𝓛 at_mem run)).Ghost
-    bound held = ((tt, tt, tt, (record { ptr = p; alloc = a; value = held }, tt), (vs, tt)), tt)
-
-    walk : (held : Option Inner.the_row.Denot)
-        → ent 𝓤 ((walk_of 𝓛 F.ended stayed (F.clauses 𝓛 at_mem run)).pre (bound held)) (WpFn 𝓤 H 𝓣.C 𝓣.Λ code.function (vs ++ []) ((walk_of 𝓛 F.ended stayed (F.clauses 𝓛 at_mem run)).post (bound held)))
-    walk None =
-        let none : Option Inner.the_row.Denot = None in
-        qed 𝓛 ((‵ ftrue ⊛ ‵ (fsep (Held.the_row.own_val (record { ptr = p; alloc = a; value = none }) vs) ftrue)) ∷ raw (fact 𝓤 (is_some none ≡ true)) ∷ []) ∵
-        move ! (1 ∷ []) $ heard ! (is_some none ≡ true) (λ e. absurd (subst T (sym e) tt))
-    walk (Some x) =
-        let z = bound (Some x) in
-        let Post = (walk_of 𝓛 F.ended stayed (F.clauses 𝓛 at_mem run)).post z in
-        let v : D E = record { ptr = p; alloc = a; value = x } in
-        let To = type_at (F.signature).result tt in
-        let made : To.Denot = record { ptr = p; alloc = a; value = x } in
-        qed 𝓛 ((‵ ftrue ⊛ ‵ (fsep ((B E).own_val v vs) ftrue)) ∷ raw (fact 𝓤 (is_some (Some x) ≡ true)) ∷ []) ∵ move ! (1 ∷ []) $ drop ! $ split ! $ drop ! $ fsplit ! $
-        box_out E ! v vs (λ b o hv e ws fa. box_in E ! v b o v.value e refl $ use1 𝓛 (‵ (To.own_val made (word E hv b o ∷ []))) (id⊢ 𝓤 _) $ move ! (1 ∷ []) $ drop ! $
-        let w = word E hv b o in
-        let Γ : List (Item 𝓤) = ‵ (To.own_val made (w ∷ [])) ∷ [] in
-        by ! (subst (λ (us : List Val). ent 𝓤 (types.Kit.⋆ 𝓛 Γ) (WpFn 𝓤 H 𝓣.C 𝓣.Λ code.function (us ++ []) Post)) (sym ws)
-        (qed 𝓛 Γ ∵ enter ! 𝓣.C 𝓣.Λ code.function (w ∷ []) _ $ alloc_all ! (λ ls. pass_all ! refl (box_typed E hv b o fa, tt) $
-        sets ! (of_opd ! (get_in ! (fld ! refl (stop !)) (sub ! 0 refl (whole !)))) refl (tt, tt) $ sets ! (of_opd ! (get_in ! (fld ! refl (stop !)) (sub ! 1 refl (whole !)))) refl fa $ sets ! (of_opd ! (get ! refl)) refl (tt, tt) $
-        sets ! (agg ! (and_then ! (get ! refl) (and_then ! (get ! refl) (no_more !)))) refl (box_typed E hv b o fa) $ returns ! (look_at ! 0 refl) $ free_all ! refl $
-        suffices ! _ (ends_at 𝓛 F.ended stayed (F.clauses 𝓛 at_mem run) z w made (tt, tt) (tt, tt)) $ says ! refl $
-        nothing ! $ nothing ! $ fjoin ! $ join ! $ nothing ! $ join ! $ done !))))
-
-pub into_parts_spec : {M : Type 1} → stated.statement M
-unfolding tables_of
+pub into_parts_spec : {M : Type 1} → statement M
 into_parts_spec 𝓤 𝓛 𝓜 𝓡 wired =
-    let 𝓣 : Tables 𝓤 𝓛.H = tables_of 𝓤 𝓛.H 𝓜 (tables 𝓤 𝓛.H 𝓜 𝓡 𝓡.env) in
-    entered 𝓤 𝓛.H (triple_of 𝓛 F.signature (F.spec 𝓛 𝓜.mem 𝓡.returns)) 𝓣.C 𝓣.Λ #self code.function (code.unfolded 𝓤 𝓛.H 𝓜 𝓡 wired)
-    (walk_Meets 𝓛 F.ended stayed (Goes-dropped 𝓛 0 From yes (λ κs x f. refl), tt) (F.clauses 𝓛 𝓜.mem 𝓡.returns) (WpFn 𝓤 𝓛.H 𝓣.C 𝓣.Λ code.function) (WpFn-mono 𝓤 𝓛.H 𝓛.laws 𝓣 code.function)
-    (λ z. walk 𝓛 𝓜.mem 𝓡.returns 𝓣 z.0.3.0.ptr z.0.3.0.alloc z.0.4.0 z.0.3.0.value))
+    let 𝓣 = tables 𝓤 𝓛.H 𝓜 𝓡 𝓡.env in let c = F.clauses 𝓛 𝓜.mem 𝓡.returns in
+    proved_at 𝓛 F.ended stayed c 𝓜 𝓡 (Goes-dropped 𝓛 0 FromHeld yes (λ κs x f. refl), tt) F.Key.name code.function (code.unfolded 𝓤 𝓛.H 𝓜 𝓡 wired) (λ z are.
+    let Run : List Val → SProp 𝓤 = λ ws. WpFn 𝓤 𝓛.H 𝓣.C 𝓣.Λ code.function (ws ++ []) ((walk_of 𝓛 F.ended stayed c).post z) in
+    let held = z.0.3.0 in let To = type_at F.signature.result tt in
+    qed 𝓛 ((‵ ftrue ⊛ ‵ (fsep (Held.the_row.own_val held z.0.4.0) ftrue)) ∷ raw (fact 𝓤 (is_some held.value ≡ true)) ∷ []) ∵ move ! (1 ∷ []) $
+    heard ! (is_some held.value ≡ true) (λ full. let there = some_of held.value full in
+    let box : D E = record { ptr = held.ptr; alloc = held.alloc; value = there.0 } in
+    let made : To.Denot = record { ptr = held.ptr; alloc = held.alloc; value = there.0 } in
+    split ! $ move ! (1 ∷ []) $ fsplit ! $
+    rewrite ! 0 (λ (value : Option State.the_row.Denot). ‵ (Held.the_row.own_val (record { ptr = held.ptr; alloc = held.alloc; value = value }) z.0.4.0)) there.1 refl $
+    use1 𝓛 (‵ ((B E).own_val box z.0.4.0)) (id⊢ 𝓤 _) $
+    box_out E ! box z.0.4.0 (λ b o hv at words fits. let w = word E hv b o in let typed = box_typed E hv b o fits in
+    box_in E ! box b o box.value at refl $ use1 𝓛 (‵ (To.own_val made (w ∷ []))) (id⊢ 𝓤 _) $ keep ! (0 ∷ []) $
+    suffices ! (Run (w ∷ [])) (subst (λ (ws : List Val). ent 𝓤 (Run (w ∷ [])) (Run ws)) (sym words) (id⊢ 𝓤 (Run (w ∷ [])))) $
+    enter ! 𝓣.C 𝓣.Λ code.function (w ∷ []) _ $ alloc_all ! (λ l. pass_all ! refl (typed, tt) $
+    sets ! (of_opd ! (get_in ! (fld ! refl (stop !)) (sub ! 0 refl (whole !)))) refl (tt, tt) $
+    sets ! (of_opd ! (get_in ! (fld ! refl (stop !)) (sub ! 1 refl (whole !)))) refl fits $
+    sets ! (of_opd ! (get ! refl)) refl (tt, tt) $
+    sets ! (agg ! (and_then ! (get ! refl) (and_then ! (get ! refl) (no_more !)))) refl typed $
+    returns ! (look_at ! 0 refl) $ free_all ! refl $
+    use0 𝓛 (raw (fact 𝓤 (Some there.0 ≡ held.value))) (fact_i 𝓤 _ (emp 𝓤) (sym there.1)) $ nothing ! $ nothing ! $ fjoin ! $ nothing ! $
+    keep ! (0 ∷ 1 ∷ 3 ∷ 2 ∷ []) $ by ! (leaves 𝓛 F.ended stayed c z w made (tt, tt) (tt, tt))))))
