@@ -121,18 +121,21 @@ module _ {S : Type 0} (rem : S → Option (List ℕ)) (schema asks : S) (rows : 
         let all = run declared texts asked s r a in
         run_good declared texts all.records all.lines all.are;
     written = λ declared texts asked s r a.
-        let all = run declared texts asked s r a in
-        (middle, record {
-          records = all.records;
-          lines = all.lines;
-          state = all.all.0;
-          rest = all.all.1;
-          first = all.all.2;
-          few = all.few;
-          too_long = λ same. cc (same);
-          are = all.are;
-          out = cut_all before middle _ all.written;
-        }, kept);
+        let all = run declared texts asked s r a in (
+          middle,
+          record {
+            records = all.records;
+            lines = all.lines;
+            state = all.all.0;
+            rest = all.all.1;
+            first = all.all.2;
+            few = all.few;
+            too_long = λ same. cc (same);
+            are = all.are;
+            out = cut_all before middle _ all.written;
+          },
+          kept,
+        );
   }
 
   pub failed_over : (run flushed both : Result Unit FilesFault) → both ≡ result_and run flushed
