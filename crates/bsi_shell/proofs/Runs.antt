@@ -38,9 +38,9 @@ on_both {T} {U} {E} {P} {Q} first other both is holds follows = subst (λ r. OnO
     by (Ok x) (Err e) p = tt
     by (Err e) o p = tt
 
-pub on_ok_both : {T E P Q : Type 0} (r : Result T E) → OnOk r P → OnOk r Q → OnOk r (P × Q)
-on_ok_both (Ok x) p q = (p, q)
-on_ok_both (Err e) p q = tt
+pub on_ok_both : {T E : Type 0} (P Q : Type 0) (r : Result T E) → OnOk r P → OnOk r Q → OnOk r (P × Q)
+on_ok_both P Q (Ok x) p q = (p, q)
+on_ok_both P Q (Err e) p q = tt
 
 -- a fact of an input that is known
 pub if_some : {P Q : List ℕ → Type 0} (known : Option (List ℕ)) → ((bytes : List ℕ) → P bytes → Q bytes) → IfSome known P → IfSome known Q
@@ -140,18 +140,21 @@ module _ {S : Type 0} (rem : S → Option (List ℕ)) (schema asks : S) (rows : 
         let all = run declared texts asked s r a in
         run_good declared texts all.records all.lines all.are;
     written = λ declared texts asked s r a.
-        let all = run declared texts asked s r a in
-        (middle, record {
-          records = all.records;
-          lines = all.lines;
-          state = all.all.0;
-          rest = all.all.1;
-          first = all.all.2;
-          few = all.few;
-          too_long = λ same. cc (same);
-          are = all.are;
-          out = cut_all before middle _ all.written;
-        }, kept);
+        let all = run declared texts asked s r a in (
+          middle,
+          record {
+            records = all.records;
+            lines = all.lines;
+            state = all.all.0;
+            rest = all.all.1;
+            first = all.all.2;
+            few = all.few;
+            too_long = λ same. cc (same);
+            are = all.are;
+            out = cut_all before middle _ all.written;
+          },
+          kept,
+        );
   }
 
   pub failed_over : (run flushed both : Result Unit FilesFault) → both ≡ result_and run flushed

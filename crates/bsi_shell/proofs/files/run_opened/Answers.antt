@@ -9,7 +9,7 @@ returns-clause-ran g c =
     let before = g.O.Write.contents c.args.output.now in
     let after = g.O.Write.contents c.run_files-run.new.writer in
     on_both c.run_files-run.result c.map_err-flushed.result c.and.result c.and.ensures
-    (on_ok_both c.run_files-run.result (few_files c.run_files-run.result (length rows) c.run_files-run.ensures.files) c.run_files-run.ensures.lines)
+    (on_ok_both _ _ c.run_files-run.result (few_files c.run_files-run.result (length rows) c.run_files-run.ensures.files) c.run_files-run.ensures.lines)
     (λ both. run_kept g.S.Read.remaining c.args.opened.schema c.args.opened.asks rows before after (g.O.Write.contents c.flush.new.self)
     c.flush.ensures.bytes c.requires both.0 (both.1 refl))
 

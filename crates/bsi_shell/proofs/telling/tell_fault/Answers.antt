@@ -10,13 +10,13 @@ returns-clause-told g c =
     let after = g.F.Write.contents c.if-is_ok.faults in
     let text = g.D.Display.output c.args.fault in
     elim c.if-is_ok.branch [
-      then-is_ok w ↦
-        let sent = w.as_slice.result.now in
-        told_line text (10 ∷ []) c.new-line.result.items c.writeln.new.self.items sent before after
-        c.new-line.ensures
-        (of_ok c.writeln.result c.is_ok.result c.is_ok.ensures.value w.if-is_ok.true c.writeln.ensures.bytes)
-        w.as_slice.ensures.value
-        (subst (λ (now : g.row.F.Denot). IsCut before (g.F.Write.contents now) sent) (sym w.faults-is)
-        (cut_each w.write_bytes.result before (g.F.Write.contents w.write_bytes.new.writer) sent w.write_bytes.ensures.ok w.write_bytes.ensures.part))
-    | else-is_ok w ↦ untold text before after (10 ∷ []) (ap g.F.Write.contents w.faults-is)
+      | then-is_ok w ↦
+          let sent = w.as_slice.result.now in
+          told_line text (10 ∷ []) c.new-line.result.items c.writeln.new.self.items sent before after
+          c.new-line.ensures
+          (of_ok c.writeln.result c.is_ok.result c.is_ok.ensures.value w.if-is_ok.true c.writeln.ensures.bytes)
+          w.as_slice.ensures.value
+          (subst (λ (now : g.row.F.Denot). IsCut before (g.F.Write.contents now) sent) (sym w.faults-is)
+          (cut_each w.write_bytes.result before (g.F.Write.contents w.write_bytes.new.writer) sent w.write_bytes.ensures.ok w.write_bytes.ensures.part))
+      | else-is_ok w ↦ untold text before after (10 ∷ []) (ap g.F.Write.contents w.faults-is)
     ]
