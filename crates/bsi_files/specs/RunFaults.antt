@@ -89,10 +89,11 @@ pub record ArePastLimit (declared : List ℕ) (texts : List (List ℕ)) : Type 0
   pub first : AreMatched (HasFirstRows schema) texts rows
   pub past : limit < sum_by length rows
 
--- what a fault tells of the bytes of the schema file and of the row files, and of whether a gate may stop a feeder. One
--- that is met once the headers are read tells that these are good.
+-- what a fault tells of the bytes of the schema file and of the row files, where a gate may stop a feeder and where none
+-- does. One that is met once the headers are read, but for refused memory and for a row file that can't be read to its
+-- end, tells that these are good.
 abbrev pub IsFaultOf : Bool → List ℕ → List (List ℕ) → FilesFault → Type 0
-IsFaultOf stops declared texts run.TooManyFiles = ⊤
+IsFaultOf stops declared texts run.TooManyFiles = 64 < length texts
 IsFaultOf stops declared texts (run.Read which.SchemaFile) = ⊤
 IsFaultOf stops declared texts (run.BadSchema number) = IsBadRecord declared none_declared number
 IsFaultOf stops declared texts (run.TooLong which.SchemaFile) = DeclaresTooLong declared none_declared
@@ -135,12 +136,13 @@ IsSourceFault feds (run.Source number fault) =
     MatchOption (slice_get feds number) ⊥ (λ fed. fed.fault ≡ Some fault) × AllWithin (λ fed. fed.fault ≡ None) feds 0 number
 IsSourceFault feds fault = ⊥
 
--- the fault is that a feeder was not closed
+-- the fault is that a feeder, one of these, was not closed
 abbrev pub IsNotClosed : List Fed → FilesFault → Type 0
 IsNotClosed feds (run.NotClosed number) = number < length feds
 IsNotClosed feds fault = ⊥
 
--- the fault is that a feeder was not closed or, where no feeder was stopped that no gate stops, the first one of a source
+-- the fault is that one of these feeders was not closed, or the first one of a source; then no feeder was stopped where no
+-- gate does
 abbrev pub IsKeptFault : Bool → List Fed → FilesFault → Type 0
 IsKeptFault stops feds (run.NotClosed number) = number < length feds
 IsKeptFault stops feds fault = IsSourceFault feds fault × (stops ≡ false → AreGoing feds)

@@ -1,5 +1,6 @@
 -- What a run leaves in its output, whether it met a fault or not.
-use Rattle.std.proofs.Common.{◌≡◌, ℕ, false, List, Option, Some, None, map, Result, Ok, Err, refl, sym, subst, ◌∙◌}
+use Rattle.std.proofs.Common.{◌≡◌, ◌↔◌, ◌⊎◌, ◌<◌, ◌≤◌, ℕ, true, false, leb, List, length, Option, Some, None, map, Result, Ok, Err, inl, inr, refl, sym, subst, ◌∙◌}
+use Rattle.std.proofs.lemmas.Bool.Decides.{leb_tells}
 use Rattle.std.specs.Io.KnownBytes.{Appends, Keeps}
 use Rattle.std.specs.Prelude.{IfErr, IfSome, OnErr, OnOk}
 use Rattle.std.specs.Result.{result_and}
@@ -8,7 +9,7 @@ use Rattle.bsi_files.specs.RunFaults.{IsFaultOf}
 use Rattle.bsi_files.specs.Runs.{IsRun}
 use Rattle.bsi_files.specs.Writing.{Leaves, WhereFilesKnown, WhereKnown, WritesAll}
 use Rattle.bsi_files.specs.declared.faults.FilesFault.{FilesFault}
-use Rattle.bsi_files.specs.declared.faults.FilesFault.TheVariants.{Write}
+use Rattle.bsi_files.specs.declared.faults.FilesFault.TheVariants.{TooManyFiles, Write}
 use Rattle.bsi_text.proofs.Waiting.{cut_all}
 use Rattle.bsi_text.specs.Texts.{IsAnswered, IsBegun}
 use Rattle.bsi_shell.specs.FileRuns.{HasFailedOver, HasRunOver}
@@ -37,6 +38,10 @@ on_both {T} {U} {E} {P} {Q} first other both is holds follows = subst (λ r. OnO
     by (Ok x) (Err e) p = tt
     by (Err e) o p = tt
 
+pub on_ok_both : {T E : Type 0} (P Q : Type 0) (r : Result T E) → OnOk r P → OnOk r Q → OnOk r (P × Q)
+on_ok_both P Q (Ok x) p q = (p, q)
+on_ok_both P Q (Err e) p q = tt
+
 -- a fact of an input that is known
 pub if_some : {P Q : List ℕ → Type 0} (known : Option (List ℕ)) → ((bytes : List ℕ) → P bytes → Q bytes) → IfSome known P → IfSome known Q
 if_some None follows p = tt
@@ -49,7 +54,7 @@ of_each known (Ok x) follows answered fault = if_some known follows answered
 of_each known (Err e) follows answered fault = fault
 
 -- bytes that were appended, and then kept
-appends_kept : (before middle after : Option (List ℕ)) (bytes : List ℕ) → Appends before middle bytes → Keeps middle after → Appends before after bytes
+pub appends_kept : (before middle after : Option (List ℕ)) (bytes : List ℕ) → Appends before middle bytes → Keeps middle after → Appends before after bytes
 appends_kept None middle after bytes appended kept = tt
 appends_kept (Some xs) None after bytes appended kept = absurd appended
 appends_kept (Some xs) (Some ys) None bytes appended kept = absurd kept
@@ -76,13 +81,24 @@ begun_kept before middle after kept bytes begun =
       written = (w.0, w.1, w.2, appends_kept before middle after _ w.3 kept);
     }
 
+-- a run that was not told of too many files has no more than there may be
+pub few_files : {T : Type 0} (run : Result T FilesFault) (n : ℕ) → (run ≡ Err TooManyFiles) ↔ (64 < n) → OnOk run (n ≤ 64)
+few_files (Err e) n told = tt
+few_files (Ok x) n told = by (leb_tells n 64)
+  where
+    by : ((leb n 64 ≡ true) × (n ≤ 64)) ⊎ ((leb n 64 ≡ false) × (64 < n)) → n ≤ 64
+    by (inl within) = within.1
+    by (inr past) = absurd (cc (told.1 past.1))
+
 -- the lines of a run over files, and then no more
 pub run_kept : {S : Type 0} (rem : S → Option (List ℕ)) (schema asks : S) (rows : List S) (before middle after : Option (List ℕ)) → Keeps middle after
-    → WhereKnown (rem schema) (map rem rows) (rem asks) (λ declared texts asked. WritesAll (IsRun declared texts) asked before middle) → HasRunOver rem before after
-run_kept rem schema asks rows before middle after kept run = record {
+    → 0 < length rows → length rows ≤ 64 → WhereKnown (rem schema) (map rem rows) (rem asks) (λ declared texts asked. WritesAll (IsRun declared texts) asked before middle) → HasRunOver rem before after
+run_kept rem schema asks rows before middle after kept some few run = record {
   schema = schema;
   asks = asks;
   rows = rows;
+  some = some;
+  few = few;
   written = λ declared texts asked s r a.
       let all = run declared texts asked s r a in
       record {
@@ -96,7 +112,8 @@ run_kept rem schema asks rows before middle after kept run = record {
 }
 
 -- how a run over files and the flush after it ended by a fault
-module _ {S : Type 0} (rem : S → Option (List ℕ)) (schema asks : S) (rows : List S) (before middle after : Option (List ℕ)) (kept : Keeps middle after) where
+module _ {S : Type 0} (rem : S → Option (List ℕ)) (schema asks : S) (rows : List S) (before middle after : Option (List ℕ)) (kept : Keeps middle after)
+    (some : 0 < length rows) where
   abbrev Over : (List ℕ → List (List ℕ) → List ℕ → Type 0) → Type 0
   Over = WhereKnown (rem schema) (map rem rows) (rem asks)
 
@@ -107,6 +124,7 @@ module _ {S : Type 0} (rem : S → Option (List ℕ)) (schema asks : S) (rows : 
     schema = schema;
     asks = asks;
     rows = rows;
+    some = some;
     fault_is = λ declared texts asked s r a. is declared texts s r;
     written = λ declared texts asked s r a. (middle, left declared texts asked s r a, kept);
   }
@@ -117,6 +135,7 @@ module _ {S : Type 0} (rem : S → Option (List ℕ)) (schema asks : S) (rows : 
     schema = schema;
     asks = asks;
     rows = rows;
+    some = some;
     fault_is = λ declared texts asked s r a.
         let all = run declared texts asked s r a in
         run_good declared texts all.records all.lines all.are;

@@ -1,6 +1,6 @@
 -- What a run over files leaves in the output, and what it tells of a failure.
 use Rattle.std.specs.Io.KnownBytes.{Keeps}
-use Rattle.std.specs.Prelude.{◌≡◌, ⊤, ◌⊎◌, ℕ, false, List, Option, map}
+use Rattle.std.specs.Prelude.{◌≡◌, ◌<◌, ◌≤◌, ⊤, ◌⊎◌, ℕ, false, List, Option, length, map}
 use Rattle.bsi_files.specs.RunFaults.{IsFaultOf}
 use Rattle.bsi_files.specs.Runs.{IsRun}
 use Rattle.bsi_files.specs.Writing.{Leaves, WhereKnown, WritesAll}
@@ -11,12 +11,14 @@ use Rattle.bsi_shell.specs.declared.files.Failure.{Failure}
 use Rattle.bsi_shell.specs.declared.files.Failure.TheVariants.{CannotOpen, Run}
 use Rattle.bsi_text.specs.Waiting.{IsCut}
 
--- some files were opened, and where it is known what they give, the lines of a run over them were put after what the
--- output held
+-- some files were opened, 1 to 64 of them row files, and where it is known what they give, the lines of a run over them
+-- were put after what the output held
 pub record HasRunOver {S : Type 0} (rem : S → Option (List ℕ)) (before after : Option (List ℕ)) : Type 0 where
   pub schema : S
   pub asks : S
   pub rows : List S
+  pub some : 0 < length rows
+  pub few : length rows ≤ 64
   pub written : WhereKnown (rem schema) (map rem rows) (rem asks)
       (λ declared texts asked. WritesAll (IsRun declared texts) asked before after)
 
@@ -25,11 +27,13 @@ abbrev pub LeavesFlushed : List ℕ → List (List ℕ) → List ℕ → FilesFa
 LeavesFlushed declared texts asked fault before after =
     (middle : Option (List ℕ)) × Leaves (IsRun declared texts) asked fault before middle × Keeps middle after
 
--- some files were opened, and where it is known what they give, they have the fault, and the output what it leaves
+-- some files were opened, one of them a row file or more, and where it is known what they give, they have the fault, and
+-- the output what it leaves
 pub record HasFailedOver {S : Type 0} (rem : S → Option (List ℕ)) (fault : FilesFault) (before after : Option (List ℕ)) : Type 0 where
   pub schema : S
   pub asks : S
   pub rows : List S
+  pub some : 0 < length rows
   pub fault_is : WhereKnown (rem schema) (map rem rows) (rem asks) (λ declared texts asked. IsFaultOf false declared texts fault)
   pub written : WhereKnown (rem schema) (map rem rows) (rem asks)
       (λ declared texts asked. LeavesFlushed declared texts asked fault before after)
@@ -44,7 +48,7 @@ abbrev pub HasFailed : {S : Type 0} → (S → Option (List ℕ)) → Option (Li
 HasFailed rem before after (CannotOpen path) = Keeps before after
 HasFailed rem before after (Run fault) = ((fault ≡ NoMemory) × Keeps before after) ⊎ HasFailedOver rem fault before after
 
--- a run ended early, and of the line of this failure a first part was told, all of it unless the writer failed
+-- a run ended early, and a first part of the line of this failure was told
 pub record HasToldFailure {S : Type 0} (rem : S → Option (List ℕ)) (before after said told : Option (List ℕ)) : Type 0 where
   pub failure : Failure
   pub failed : HasFailed rem before after failure

@@ -1,3 +1,4 @@
 pub mod Commands
 pub mod FaultLines
 pub mod FileRuns
+pub mod ScriptRuns

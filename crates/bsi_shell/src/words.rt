@@ -1,8 +1,9 @@
 //! The command line: the words after the program's name, and the status that they end with.
-ghost use Rattle.std.specs.Prelude.{◌≡◌, ◌≤◌, OnErr, OnOk};
+ghost use Rattle.std.specs.Prelude.{◌≡◌, ◌≤◌, IfErr, OnErr, OnOk};
 ghost use Rattle.bsi_shell.specs.Commands.{BeginsWithFiles};
-ghost use Rattle.bsi_shell.specs.FaultLines.{usage_line, IsToldOfScript};
+ghost use Rattle.bsi_shell.specs.FaultLines.{usage_line};
 ghost use Rattle.bsi_shell.specs.FileRuns.{HasRunOver, HasToldFailure};
+ghost use Rattle.bsi_shell.specs.ScriptRuns.{HasToldScript, LeavesScript};
 ghost use Rattle.bsi_text.specs.Texts.{IfKnown, IsAnswered, IsBegun};
 ghost use Rattle.bsi_text.specs.Waiting.{IsCut};
 
@@ -30,24 +31,26 @@ pub fn run_words<
     ensures status { result ≤ 2 }
 
     // Where the first word is not `files`: a run with no fault has answered the whole input. After status 1 what was
-    // written is a first part of the lines that answer the whole input, and the line on `faults` is that of a fault.
+    // written is a first part of the lines that answer the whole input, what the fault leaves, and what is on `faults` is
+    // a first part of the line of this fault.
     ensures answered { result ≡ 0 → ¬ BeginsWithFiles words.items →
         IfKnown (I.remaining input) IsAnswered (O.contents output.old) (O.contents output.new) }
     ensures begun { result ≡ 1 → ¬ BeginsWithFiles words.items →
         IfKnown (I.remaining input) IsBegun (O.contents output.old) (O.contents output.new) }
     ensures said { result ≡ 1 → ¬ BeginsWithFiles words.items →
-        IsToldOfScript (F.contents faults.old) (F.contents faults.new) }
+        HasToldScript (I.remaining input) (O.contents output.old) (O.contents output.new)
+        (F.contents faults.old) (F.contents faults.new) }
 
     // Where it is `files`, a run with no fault over the files that were opened has answered all their asks. After status
-    // 1 the line on `faults` is that of a fault that the files have, and the output has what this fault leaves.
+    // 1 the output has what a fault that the files have leaves, and `faults` a first part of the line of this fault.
     ensures ran { result ≡ 0 → BeginsWithFiles words.items →
         HasRunOver S.remaining (O.contents output.old) (O.contents output.new) }
     ensures told { result ≡ 1 → BeginsWithFiles words.items →
         HasToldFailure S.remaining (O.contents output.old) (O.contents output.new)
         (F.contents faults.old) (F.contents faults.new) }
 
-    // In each case: a run with no fault says nothing. After status 2 nothing was written, and `faults` has the usage
-    // line, or a first part of it where that writer failed.
+    // In each case: a run with no fault says nothing. After status 2 nothing was written, and `faults` has a first part
+    // of the usage line.
     ensures quiet { result ≡ 0 → F.contents faults.new ≡ F.contents faults.old }
     ensures wrong { result ≡ 2 → O.contents output.new ≡ O.contents output.old }
     ensures usage { result ≡ 2 → IsCut (F.contents faults.old) (F.contents faults.new) usage_line }
@@ -78,6 +81,8 @@ fn run_to_end<I: Read + Drop, O: Write>(
         (IfKnown (I.remaining input) IsAnswered (O.contents output.old) (O.contents output.new)) }
     ensures fault { OnErr result
         (IfKnown (I.remaining input) IsBegun (O.contents output.old) (O.contents output.new)) }
+    ensures left { IfErr result (λ fault.
+        LeavesScript (I.remaining input) fault (O.contents output.old) (O.contents output.new)) }
 {
     // The proof takes from this that what answers the whole input has also begun to.
     bsi_text::laws::begun();
