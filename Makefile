@@ -47,11 +47,13 @@ uninstall:
 	rm -f "$(BIN)/bsi" "$(MAN)/bsi.1" "$(BASH)/bsi" "$(ZSH)/_bsi" "$(INCLUDE)/bsi.h" "$(LIB)/pkgconfig/bsi.pc"
 	rm -f "$(LIB)/libbsi.a" "$(LIB)/libbsi.so.0" "$(LIB)/libbsi.so"
 
-# For machines without the kit: unpacked anywhere, or copied over a prefix.
+# For machines without the kit: unpacked anywhere, or copied over a prefix. In its pages, what lies in the repository alone has no link.
 dist: build lib
 	rm -rf out/dist
 	$(MAKE) -s -o build -o lib install DESTDIR=out/dist/ PREFIX=$(NAME)
 	cp -r README.md CHANGELOG.md LICENSE-APACHE LICENSE-MIT docs examples out/dist/$(NAME)
+	sed -Ezi 's@\[([^]]*)\]\((\.\./)?(CONTRIBUTING|bench|cases|crates|python|tests|tools)[^)]*\)@\1@g' \
+	    out/dist/$(NAME)/*.md out/dist/$(NAME)/docs/*.md out/dist/$(NAME)/examples/*.md
 	cd out/dist && tar --sort=name --mtime=@0 --owner=0 --group=0 -c $(NAME) | gzip -9n >$(NAME).tar.gz && sha256sum $(NAME).tar.gz >SHA256SUMS
 
 bench: build

@@ -3,12 +3,11 @@
 #![tactic(auto)]
 
 mod any;
-mod choosing;
 mod decomposed;
 mod growth;
 
 pub use any::AnyColumn;
-pub use bsi_components::{Encoding, EndDigit, EqualityComponent, RangeComponent, RankedDigit};
+pub use bsi_components::{Encoding, EndDigit, EqualityComponent, RangeComponent, RankedRows};
 pub use bsi_slices::{Column, Op, Rank, Slices};
 pub use decomposed::Decomposed;
 pub use std::alloc::AllocError as NoMemory;

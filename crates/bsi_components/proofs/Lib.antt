@@ -3,6 +3,7 @@ pub mod DigitCounts
 pub mod DigitOrders
 pub mod EqualityDigits
 pub mod EqualityReads
+pub mod FoundDigits
 pub mod RangeDigits
 pub mod RangeReads
 pub mod RankSearch

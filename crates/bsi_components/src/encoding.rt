@@ -3,16 +3,17 @@
 ghost use Rattle.std.specs.Prelude.{◌≡◌, ℕ, ◌+◌, ◌*◌, ◌^◌, ◌≤◌, ◌<◌, ◌==◌, ◌&&◌, Bool, true, List, [], ◌∷◌, ◌++◌, length, map, sum, count_by, slice_index, nat_lt, nat_le, IfOk, OnOk, OnErr, IsOk, IsTrue};
 ghost use Rattle.std.specs.List.{items_where_true};
 ghost use Rattle.std.specs.Bool.{OnTrue, OnFalse};
-ghost use Rattle.std.specs.Simd.Lanes.{zip2};
 ghost use Rattle.bsi_bits.specs.BitList.{word_count};
 ghost use Rattle.bsi_bits.specs.Packed.{bit_of};
-ghost use Rattle.bsi_components.specs.Component.{at_most_from, count_where, IsRankedDigit};
+ghost use Rattle.bsi_components.specs.Component.{at_most_from, count_where};
+ghost use Rattle.bsi_words.specs.Ranks.{IsRankedRows};
 ghost use Rattle.bsi_bits.specs.Marked.{HasMarked};
 ghost use Rattle.bsi_components.specs.EndDigits.{AnswersLeast, AnswersGreatest};
 
 use crate::NoMemory;
-use crate::answers::{EndDigit, RankedDigit};
+use crate::answers::EndDigit;
 use bsi_bits::Bits;
+use bsi_words::RankedRows;
 use std::alloc::Global;
 
 /// A component: the digits of one place of a column's numbers, a row each, kept as bitmaps.
@@ -137,23 +138,22 @@ pub trait Encoding: Drop {
         found.count_and(scratch)
     }
 
-    /// Returns the digit of the row of rank `rank`, from 0, among the rows of a found set in order of their digits,
-    /// and the rank of that row among the rows of its digit. `scratch` is a vector of as many bits, and its bits are
-    /// unspecified afterwards. The provided body halves the range of possible digits by one `count_le` after the
-    /// other.
-    fn digit_of_rank(&self, rank: u64, found: &Bits, scratch: &mut Bits) -> RankedDigit
-        requires same { length (digits self.now) ≡ length found.now.bits }
-        requires scratch { length (digits self.now) ≡ length scratch.old.bits }
-        requires there { rank < count_by (λ b. b) found.now.bits }
-        ensures digit { result.digit < base_of self.now }
-        ensures ranked { IsRankedDigit rank found.now.bits (digits self.now) result }
-        ensures scratch { length scratch.new.bits ≡ length scratch.old.bits }
+    /// Finds the digit of the row of rank `rank`, from 0, among the rows of a found set in order of their digits, and
+    /// returns the rows that have this digit. The provided body halves the range of possible digits by one `count_le`
+    /// after the other, and takes memory for a vector of as many bits.
+    fn rows_of_rank(&self, rank: u64, found: Bits) -> Result<RankedRows, NoMemory>
+        requires same { length (digits self.now) ≡ length found.bits }
+        requires there { rank < count_by (λ b. b) found.bits }
+        ensures digit { IfOk result (λ ranked. ranked.number < base_of self.now) }
+        ensures ranked { IfOk result (λ ranked. IsRankedRows rank found.bits (digits self.now)
+            ranked.number ranked.rank ranked.rows.bits) }
     {
+        let mut scratch = found.copy()?;
         let (mut low, mut high) = (0, self.base() - 1);
         let mut below = 0;
         'digits: while low < high {
             let middle = low + (high - low) / 2;
-            let upto = self.count_le(middle, found, scratch);
+            let upto = self.count_le(middle, &found, &mut scratch);
             if rank < upto {
                 high = middle;
             } else {
@@ -161,23 +161,14 @@ pub trait Encoding: Drop {
                 low = middle + 1;
             }
         }
-        RankedDigit {
-            digit: low,
+        self.eq_into(low, &mut scratch);
+        let mut rows = found;
+        rows.and_with(&scratch);
+        Ok(RankedRows {
+            number: u64::from(low),
             rank: rank - below,
-        }
-    }
-
-    /// Keeps of a set of rows those whose digit is `d`. `scratch` is a vector of as many bits, and its bits are
-    /// unspecified afterwards.
-    fn keep_digit(&self, d: u32, scratch: &mut Bits, rows: &mut Bits)
-        requires below { d < base_of self.now }
-        requires scratch { length (digits self.now) ≡ length scratch.old.bits }
-        requires same { length (digits self.now) ≡ length rows.old.bits }
-        ensures rows { rows.new.bits ≡ zip2 (λ f v. f && (v == d)) rows.old.bits (digits self.now) }
-        ensures scratch { length scratch.new.bits ≡ length scratch.old.bits }
-    {
-        self.eq_into(d, scratch);
-        rows.and_with(scratch);
+            rows,
+        })
     }
 
     /// Makes a second component of the same digits.

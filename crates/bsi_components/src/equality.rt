@@ -1,8 +1,8 @@
 //! The equality encoded component: a bitmap for each digit says which rows have it.
 //!
-//! A step reads the bitmaps up to the digit or those past it, whichever are fewer. The rank of a digit is counted one
-//! digit after another from the nearer end: a count of "at most" would read as many bitmaps. A sum counts the binary
-//! places of the digits, which stand behind the bitmaps.
+//! A step reads the bitmaps up to the digit or those past it, whichever are fewer. A sum counts the binary places of the
+//! digits, which stand behind the bitmaps, and a rank goes down them. Under base 2 or 3, which has none, a rank is counted
+//! one digit after another.
 
 ghost use Rattle.std.specs.Prelude.{◌≡◌, ◌≢◌, ℕ, ◌+◌, ◌-◌, ◌*◌, ◌^◌, ◌<◌, ◌≤◌, ◌==◌, ◌&&◌, ◌||◌, not, ◌++◌, length, map, true, slice_index, IsTrue, IsFalse};
 ghost use Rattle.bsi_bits.specs.BitList.{word_count};

@@ -7,7 +7,8 @@ mod equality;
 mod places;
 mod range;
 
-pub use answers::{EndDigit, RankedDigit};
+pub use answers::EndDigit;
+pub use bsi_words::RankedRows;
 pub use encoding::Encoding;
 pub use equality::EqualityComponent;
 pub use range::RangeComponent;

@@ -52,6 +52,7 @@ cut_all before after text written = (length text, subst (Appends before after) (
 -- all of these lines went out, also with others before them
 pub out_all : (fault : FilesFault) (lines : List (List ℕ)) (before after : Option (List ℕ)) → Appends before after (concat lines) → AreOut fault lines before after
 out_all Write lines before after written = cut_all before after (concat lines) written
+out_all (Read AsksFile) lines before after written = written
 out_all (TooLong AsksFile) lines before after written = written
 out_all fault lines before after written =
     (length lines, subst (λ ls. Appends before after (concat ls)) (sym (take_all (length lines) lines (omega arith))) written)
@@ -60,6 +61,8 @@ pub out_after : (fault : FilesFault) (head lines : List (List ℕ)) (before midd
     → AreOut fault lines middle after → AreOut fault (head ++ lines) before after
 out_after Write head lines before middle after written out =
     subst (IsCut before after) (sym (concat-append head lines)) (cut_whole before middle after (concat head) (concat lines) written out)
+out_after (Read AsksFile) head lines before middle after written out =
+    subst (Appends before after) (sym (concat-append head lines)) (appends-more before middle after (concat head) (concat lines) written out)
 out_after (TooLong AsksFile) head lines before middle after written out =
     subst (Appends before after) (sym (concat-append head lines)) (appends-more before middle after (concat head) (concat lines) written out)
 out_after fault head lines before middle after written out = (

@@ -79,9 +79,9 @@ module _ {R : Type 0} (rem : R → Option (List ℕ)) (bytes : List ℕ) (a b : 
   }
 
   -- the next record can't be done
-  pub declared_bad : (fields : List Field) (number : ℕ) (next : Declared × ℕ) (done : Bool) → HasRead rem a b (fields ∷ []) → number ≡ taken + 1
+  pub declared_bad : (fields : List Field) (number : ℕ) (next : Declared × ℕ) (done : Bool) → HasRead rem a b (fields ∷ []) → number ≡ taken + 1 → number ≤ 1000000
       → IsChange (table_after now.0 now.1 fields) now next done → done ≡ false → IsBadRecord bytes before number
-  declared_bad fields number next done read is change not =
+  declared_bad fields number next done read is few change not =
       let begun = begun_more rem bytes a b has.records fields has.begun read in
       record {
         records = has.records;
@@ -90,6 +90,7 @@ module _ {R : Type 0} (rem : R → Option (List ℕ)) (bytes : List ℕ) (a b : 
         rest = begun.rest;
         first = begun.first;
         number_is = omega (arith, has.many, is);
+        few = few;
         bad = subst (λ o. MatchOption o ⊥ (λ (t : Declared × ℕ). table_after t.0 t.1 fields ≡ None)) (sym has.declared)
             (change_none (table_after now.0 now.1 fields) now next done change not);
       }

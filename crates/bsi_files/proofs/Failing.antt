@@ -1,6 +1,9 @@
 -- Faults of sources, and of a run.
-use Rattle.std.proofs.Common.{◌≡◌, ◌≢◌, All, ℕ, suc, zero, ◌<◌, ◌≤◌, true, List, [], ◌∷◌, ◌++◌, length, map, Option, Some, None, Err, IfSome, MatchOption, inl, refl, ap, sym, ◌∙◌, subst, arith, length-append}
-use Rattle.std.specs.Prelude.{IsSome, slice_get, slice_index_or}
+use Rattle.std.proofs.Common.{◌≡◌, ◌≢◌, All, ℕ, suc, zero, ◌≤◌, Bool, true, false, List, [], ◌∷◌, ◌++◌, length, map, take, Option, Some, None, Err, IfSome, MatchOption, inl, refl, ap, sym, ◌∙◌, subst, arith, length-append}
+use Rattle.std.specs.Prelude.{IsSome, slice_get}
+use Rattle.std.specs.List.{AllWithin}
+use Rattle.std.proofs.lemmas.List.{take-map}
+use Rattle.std.proofs.lemmas.List.Elements.{All-cons, All-head, All-nil, All-tail, All-take}
 use Rattle.csv.specs.Machine.{Read, next_record}
 use Rattle.csv.specs.Reading.{Reached, default_config, reader_state, source_of, strip_bom}
 use Rattle.csv.specs.declared.parser.State.TheVariants as st
@@ -17,11 +20,12 @@ use Rattle.bsi_files.specs.Begun.{Begins}
 use Rattle.bsi_files.specs.Ends.{tasks, AreEndsOf}
 use Rattle.bsi_files.specs.Faults.{is_early, is_late, is_of_schema}
 use Rattle.bsi_files.specs.Feeding.{HasFailed, StopsAfter}
-use Rattle.bsi_files.specs.Headers.{HasHeader, IsHeadersFault}
+use Rattle.bsi_files.specs.Headers.{HasHeader, IsBehindHeaders, IsHeadersFault}
 use Rattle.bsi_files.specs.Matching.{AreMatched}
-use Rattle.bsi_files.specs.RunFaults.{AreGood, AreOverLimit, FailsAt, HasFirstRows, HasGivenRows, IsFaultOf, IsKeptFault, IsLoadFault, IsRunFault, IsTooLong}
+use Rattle.bsi_files.specs.RowFiles.{RowFile}
+use Rattle.bsi_files.specs.RunFaults.{AreGood, AreGoodBefore, AreOverLimit, AreRowFiles, FailsAt, HasFirstRows, HasGivenRows, IsFaultOf, IsKeptFault, IsLoadFault, IsRunFault, IsTooLong, WasReadOut}
 use Rattle.bsi_files.specs.SchemaFiles.{none_declared, IsSchemaFault, IsSchemaFile}
-use Rattle.bsi_files.specs.Takings.{AreTold}
+use Rattle.bsi_files.specs.Takings.{AreGoing, AreTold}
 use Rattle.bsi_files.specs.Writing.{Leaves}
 use Rattle.bsi_files.specs.declared.faults.FilesFault.{FilesFault}
 use Rattle.bsi_files.specs.declared.faults.FilesFault.TheVariants as run
@@ -29,25 +33,26 @@ use Rattle.bsi_files.specs.declared.faults.Which.TheVariants as which
 use Rattle.bsi_files.specs.declared.feeding.FeedEnd.{FeedEnd}
 use Rattle.bsi_files.specs.declared.loading.Fed.{Fed}
 use Rattle.bsi_files.proofs.Asking.{begun_join, HasBegun}
-use Rattle.bsi_files.proofs.Heading.{all_known, headers_of}
+use Rattle.bsi_files.proofs.Files.{matched_long, row_file, IsWholeLaw}
+use Rattle.bsi_files.proofs.Heading.{all_known, headers_of, map_long}
+use Rattle.bsi_files.proofs.Takings.{get_lt}
 
 -- ---- which faults are met when
 
-module _ {R : Type 0} (rem : R → Option (List ℕ)) (limit : ℕ) (sources : List (Source R)) where
-  pub load_early : (fault : FilesFault) → is_early fault ≡ true → (fault ≡ run.IndexFull → AreOverLimit rem limit sources) → IsLoadFault rem limit sources fault
+module _ {R : Type 0} (rem : R → Option (List ℕ)) (stops : Bool) (limit : ℕ) (sources : List (Source R)) where
+  pub load_early : (fault : FilesFault) → is_early fault ≡ true → (fault ≡ run.IndexFull → AreOverLimit rem limit sources) → IsLoadFault rem stops limit sources fault
   load_early run.IndexFull early over = over refl
-  load_early (run.NotClosed number) early over = tt
   load_early run.Readers early over = tt
   load_early run.NoMemory early over = tt
   load_early fault early over = absurd (cc (early))
 
-  pub load_run : (fault : FilesFault) → IsLoadFault rem limit sources fault → IsRunFault rem limit sources fault
+  pub load_run : (fault : FilesFault) → IsLoadFault rem stops limit sources fault → IsRunFault rem stops limit sources fault
   load_run (run.Read which.AsksFile) met = tt
   load_run (run.TooLong which.AsksFile) met = tt
   load_run run.Write met = tt
   load_run fault met = met
 
-  pub late_run : (fault : FilesFault) → is_late fault ≡ true → IsRunFault rem limit sources fault
+  pub late_run : (fault : FilesFault) → is_late fault ≡ true → IsRunFault rem stops limit sources fault
   late_run (run.Read which.AsksFile) late = tt
   late_run (run.TooLong which.AsksFile) late = tt
   late_run run.Write late = tt
@@ -55,28 +60,19 @@ module _ {R : Type 0} (rem : R → Option (List ℕ)) (limit : ℕ) (sources : L
   late_run run.NoMemory late = tt
   late_run fault late = absurd (cc (late))
 
-  pub load_counted : (fault : FilesFault) → IsLoadFault rem limit sources fault → fault ≢ run.TooManyFiles
-  load_counted fault met = λ is. subst (λ f. IsLoadFault rem limit sources f) is met
+  pub load_counted : (fault : FilesFault) → IsLoadFault rem stops limit sources fault → fault ≢ run.TooManyFiles
+  load_counted fault met = λ is. subst (λ f. IsLoadFault rem stops limit sources f) is met
 
-pub leaves_loaded : (Is : List (List Field) → List (List ℕ) → Type 0) {R : Type 0} (rem : R → Option (List ℕ)) (limit : ℕ) (sources : List (Source R)) (asked : List ℕ)
-    (fault : FilesFault) (before after : Option (List ℕ)) → IsLoadFault rem limit sources fault → after ≡ before → Leaves Is asked fault before after
-leaves_loaded Is rem limit sources asked (run.Source number e) before after met same = same
-leaves_loaded Is rem limit sources asked (run.NotClosed number) before after met same = same
-leaves_loaded Is rem limit sources asked run.IndexFull before after met same = same
-leaves_loaded Is rem limit sources asked run.Readers before after met same = inl same
-leaves_loaded Is rem limit sources asked run.NoMemory before after met same = inl same
-leaves_loaded Is rem limit sources asked fault before after met same = absurd met
+pub leaves_loaded : (Is : List (List Field) → List (List ℕ) → Type 0) {R : Type 0} (rem : R → Option (List ℕ)) (stops : Bool) (limit : ℕ) (sources : List (Source R)) (asked : List ℕ)
+    (fault : FilesFault) (before after : Option (List ℕ)) → IsLoadFault rem stops limit sources fault → after ≡ before → Leaves Is asked fault before after
+leaves_loaded Is rem stops limit sources asked (run.Source number e) before after met same = same
+leaves_loaded Is rem stops limit sources asked (run.NotClosed number) before after met same = same
+leaves_loaded Is rem stops limit sources asked run.IndexFull before after met same = same
+leaves_loaded Is rem stops limit sources asked run.Readers before after met same = inl same
+leaves_loaded Is rem stops limit sources asked run.NoMemory before after met same = inl same
+leaves_loaded Is rem stops limit sources asked fault before after met same = absurd met
 
 -- ---- from what was kept of an end to its source
-
-pub get_is : (feds : List Fed) (k n : ℕ) (d : Fed) (e : SourceFault) → k < length feds → n ≡ k → (slice_index_or feds k d).fault ≡ Some e
-    → MatchOption (slice_get feds n) ⊥ (λ fed. fed.fault ≡ Some e)
-get_is feds k n d e lt same is = subst (λ m. MatchOption (slice_get feds m) ⊥ (λ fed. fed.fault ≡ Some e)) (sym same) (at feds k lt is)
-  where
-    at : (xs : List Fed) (i : ℕ) → i < length xs → (slice_index_or xs i d).fault ≡ Some e → MatchOption (slice_get xs i) ⊥ (λ fed. fed.fault ≡ Some e)
-    at [] i lt is = absurd (omega arith)
-    at (x ∷ xs) zero lt is = is
-    at (x ∷ xs) (suc i) lt is = at xs i (omega arith) is
 
 module _ {R : Type 0} (rem : R → Option (List ℕ)) where
   kept_at : (takings : List Taking) (k : ℕ) (feeders : List Sending) (sources : List (Source R)) (ends : List FeedEnd) (feds : List Fed) (n : ℕ) (e : SourceFault)
@@ -96,24 +92,46 @@ module _ {R : Type 0} (rem : R → Option (List ℕ)) where
       let rest = kept_at takings (suc k) feeders sources ends feds n e are.1 loaded.1 is in
       record { source = rest.source; many = rest.many; at = rest.at; failed = rest.failed }
 
-  pub kept_load : (limit : ℕ) (takings : List Taking) (feeders : List Sending) (sources : List (Source R)) (ends : List FeedEnd) (feds : List Fed)
-      → AreEndsOf rem (tasks feeders sources) ends → AreTold takings 0 ends feds → (fault : FilesFault) → IsKeptFault feds fault → IsLoadFault rem limit sources fault
-  kept_load limit takings feeders sources ends feds are loaded (run.Source number e) kept = kept_at takings 0 feeders sources ends feds number e are loaded kept
-  kept_load limit takings feeders sources ends feds are loaded (run.NotClosed number) kept = tt
-  kept_load limit takings feeders sources ends feds are loaded fault kept = absurd kept
+  -- the sources before the first one that answered a fault were read out, where no feeder was stopped
+  read_before : (takings : List Taking) (k : ℕ) (feeders : List Sending) (sources : List (Source R)) (ends : List FeedEnd) (feds : List Fed) (n : ℕ)
+      → length sources ≡ length feeders → AreEndsOf rem (tasks feeders sources) ends → AreTold takings k ends feds
+      → AllWithin (λ fed. fed.fault ≡ None) feds 0 n → AreGoing feds → All (WasReadOut rem) (take n sources)
+  read_before takings k feeders sources ends feds zero many are told none going = All-nil (WasReadOut rem)
+  read_before takings k feeders [] ends feds (suc n) many are told none going = All-nil (WasReadOut rem)
+  read_before takings k [] (source ∷ sources) ends feds (suc n) many are told none going = absurd (omega arith)
+  read_before takings k (feeder ∷ feeders) (source ∷ sources) [] feds (suc n) many are told none going = absurd are
+  read_before takings k (feeder ∷ feeders) (source ∷ sources) (end ∷ ends) [] (suc n) many are told none going = absurd told
+  read_before takings k (feeder ∷ feeders) (source ∷ sources) (end ∷ ends) (fed ∷ feds) (suc n) many are told none going =
+      let runs : end.stopped ≡ false = sym told.0.kept.stopped ∙ All-head (λ (x : Fed). x.stopped ≡ false) fed feds going in
+      let fine : end.fault ≡ None = sym told.0.kept.fault ∙ none 0 fed (omega arith) (omega arith) in
+      All-cons (WasReadOut rem) source (take n sources) (λ more. (are.0.fed.rows, end.bad, are.0.fed.out runs fine more))
+      (read_before takings (suc k) feeders sources ends feds n (omega arith) are.1 told.1 (λ i d low lt. none (suc i) d (omega arith) (omega arith))
+      (All-tail (λ (x : Fed). x.stopped ≡ false) fed feds going))
+
+  kept_many : (takings : List Taking) (k : ℕ) (feeders : List Sending) (sources : List (Source R)) (ends : List FeedEnd) (feds : List Fed)
+      → AreEndsOf rem (tasks feeders sources) ends → AreTold takings k ends feds → length feds ≤ length sources
+  kept_many takings k feeders sources [] [] are told = omega arith
+  kept_many takings k feeders sources [] (x ∷ feds) are told = absurd told
+  kept_many takings k [] sources (e ∷ ends) feds are told = absurd are
+  kept_many takings k (f ∷ feeders) [] (e ∷ ends) feds are told = absurd are
+  kept_many takings k (f ∷ feeders) (s ∷ sources) (e ∷ ends) [] are told = absurd told
+  kept_many takings k (f ∷ feeders) (s ∷ sources) (e ∷ ends) (x ∷ feds) are told =
+      (let le = kept_many takings (suc k) feeders sources ends feds are.1 told.1 in omega arith)
 
   pub few_kept : (takings : List Taking) (feeders : List Sending) (sources : List (Source R)) (ends : List FeedEnd) (feds : List Fed)
       → AreEndsOf rem (tasks feeders sources) ends → AreTold takings 0 ends feds → length sources ≤ 64 → length feds ≤ 64
-  few_kept takings feeders sources ends feds are loaded few = (let le = at 0 feeders sources ends feds are loaded in omega arith)
-    where
-      at : (k : ℕ) (fs : List Sending) (ss : List (Source R)) (es : List FeedEnd) (xs : List Fed) → AreEndsOf rem (tasks fs ss) es → AreTold takings k es xs
-          → length xs ≤ length ss
-      at k fs ss [] [] are loaded = omega arith
-      at k fs ss [] (x ∷ xs) are loaded = absurd loaded
-      at k [] ss (e ∷ es) xs are loaded = absurd are
-      at k (f ∷ fs) [] (e ∷ es) xs are loaded = absurd are
-      at k (f ∷ fs) (s ∷ ss) (e ∷ es) [] are loaded = absurd loaded
-      at k (f ∷ fs) (s ∷ ss) (e ∷ es) (x ∷ xs) are loaded = (let le = at (suc k) fs ss es xs are.1 loaded.1 in omega arith)
+  few_kept takings feeders sources ends feds are told few = (let le = kept_many takings 0 feeders sources ends feds are told in omega arith)
+
+  pub kept_load : (stops : Bool) (limit : ℕ) (takings : List Taking) (feeders : List Sending) (sources : List (Source R)) (ends : List FeedEnd) (feds : List Fed)
+      → length sources ≡ length feeders → AreEndsOf rem (tasks feeders sources) ends → AreTold takings 0 ends feds
+      → (fault : FilesFault) → IsKeptFault stops feds fault → IsLoadFault rem stops limit sources fault
+  kept_load stops limit takings feeders sources ends feds many are told (run.Source n e) kept = (
+    kept_at takings 0 feeders sources ends feds n e are told kept.0.0,
+    λ never. read_before takings 0 feeders sources ends feds n many are told kept.0.1 (kept.1 never),
+  )
+  kept_load stops limit takings feeders sources ends feds many are told (run.NotClosed n) kept =
+      (let le = kept_many takings 0 feeders sources ends feds are told in omega (arith, kept, le))
+  kept_load stops limit takings feeders sources ends feds many are told fault kept = absurd kept.0
 
   -- ---- from the source to the bytes
 
@@ -181,14 +199,18 @@ module _ {R : Type 0} (rem : R → Option (List ℕ)) where
       }
 
   -- what was good before rows were loaded
+  headers_known : (schema : Declared) (readers : List R) (sources : List (Source R)) (texts : List (List ℕ)) → AreMatched (Begins rem schema) readers sources
+      → map rem readers ≡ map (λ text. Some text) texts → All (HasHeader schema) texts
+  headers_known schema readers sources texts begun is =
+      all_known (HasHeader schema) texts (subst (λ os. All (λ other. IfSome other (HasHeader schema)) os) is (headers_of rem schema readers sources begun))
+
   good : (declared : List ℕ) (schema : Declared) (limit : ℕ) (readers : List R) (sources : List (Source R)) (texts : List (List ℕ)) → IsSchemaFile declared schema limit
       → AreMatched (Begins rem schema) readers sources → map rem readers ≡ map (λ text. Some text) texts → AreGood declared texts
   good declared schema limit readers sources texts schema_is begun is = record {
     schema = schema;
     limit = limit;
     schema_is = schema_is;
-    headers = all_known (HasHeader schema) texts
-        (subst (λ os. All (λ other. IfSome other (HasHeader schema)) os) is (headers_of rem schema readers sources begun));
+    headers = headers_known schema readers sources texts begun is;
   }
 
   -- some first records behind the header
@@ -225,20 +247,59 @@ module _ {R : Type 0} (rem : R → Option (List ℕ)) where
   all_first schema (reader ∷ readers) (s ∷ sources) (text ∷ texts) (rows ∷ lists) begun is given =
       (first_rows schema reader s text rows begun.0 (cc (is)) given.0, all_first schema readers sources texts lists begun.1 (cc (is)) given.1)
 
-  module _ (declared : List ℕ) (schema : Declared) (limit : ℕ) (readers : List R) (sources : List (Source R)) (texts : List (List ℕ))
-      (schema_is : IsSchemaFile declared schema limit) (begun : AreMatched (Begins rem schema) readers sources)
+  -- the files of sources that were read out
+  row_files : IsWholeLaw rem → (schema : Declared) (readers : List R) (sources : List (Source R)) (texts : List (List ℕ)) (n : ℕ)
+      → AreMatched (Begins rem schema) readers sources → map rem readers ≡ map (λ text. Some text) texts → All (WasReadOut rem) (take n sources)
+      → AreRowFiles schema (take n texts)
+  row_files law schema readers sources texts zero begun is out = ([], tt)
+  row_files law schema [] [] [] (suc n) begun is out = ([], tt)
+  row_files law schema [] [] (text ∷ texts) (suc n) begun is out = absurd (cc (is))
+  row_files law schema [] (s ∷ sources) texts (suc n) begun is out = absurd begun
+  row_files law schema (reader ∷ readers) [] texts (suc n) begun is out = absurd begun
+  row_files law schema (reader ∷ readers) (s ∷ sources) [] (suc n) begun is out = absurd (cc (is))
+  row_files law schema (reader ∷ readers) (s ∷ sources) (text ∷ texts) (suc n) begun is out =
+      let here = All-head (WasReadOut rem) s (take n sources) out begun.0.end_is in
+      let rest = row_files law schema readers sources texts n begun.1 (cc (is)) (All-tail (WasReadOut rem) s (take n sources) out) in
+      let file : RowFile = record { rows = here.0; bad = here.1 } in
+      (file ∷ rest.0, (row_file rem law schema reader s text here.0 here.1 begun.0 (cc (is)) here.2, rest.1))
+
+  texts_many : (schema : Declared) (readers : List R) (sources : List (Source R)) (texts : List (List ℕ)) → AreMatched (Begins rem schema) readers sources
+      → map rem readers ≡ map (λ text. Some text) texts → length texts ≡ length sources
+  texts_many schema readers sources texts begun is =
+      sym (map_long (λ text. Some text) texts) ∙ (sym (ap (λ (os : List (Option (List ℕ))). length os) is)
+      ∙ (map_long rem readers ∙ matched_long (Begins rem schema) readers sources begun))
+
+  module _ (law : IsWholeLaw rem) (stops : Bool) (declared : List ℕ) (schema : Declared) (limit : ℕ) (readers : List R) (sources : List (Source R))
+      (texts : List (List ℕ)) (schema_is : IsSchemaFile declared schema limit) (begun : AreMatched (Begins rem schema) readers sources)
       (is : map rem readers ≡ map (λ text. Some text) texts) where
-    pub run_fault_of : (fault : FilesFault) → IsRunFault rem limit sources fault → IsFaultOf declared texts fault
+    all_good : AreGood declared texts
+    all_good = good declared schema limit readers sources texts schema_is begun is
+
+    pub run_fault_of : (fault : FilesFault) → IsRunFault rem stops limit sources fault → IsFaultOf stops declared texts fault
     run_fault_of (run.Source n source.BadHeader) met =
-        let of = of_text schema readers sources texts n met.source begun is met.at in
-        absurd ((stops_after schema of.reader met.source met.many source.BadHeader of.begins met.failed).stopped.later refl)
+        let of = of_text schema readers sources texts n met.0.source begun is met.0.at in
+        absurd ((stops_after schema of.reader met.0.source met.0.many source.BadHeader of.begins met.0.failed).stopped.later refl)
     run_fault_of (run.Source n source.TooLong) met =
-        let of = of_text schema readers sources texts n met.source begun is met.at in (
-          good declared schema limit readers sources texts schema_is begun is,
-          subst (λ o. MatchOption o ⊥ IsTooLong) (sym of.at)
-              (too_long schema of.reader met.source of.text met.many of.begins of.known (stops_after schema of.reader met.source met.many source.TooLong of.begins met.failed)),
-        )
-    run_fault_of (run.Source n fault) met = (schema, limit, schema_is)
+        let of = of_text schema readers sources texts n met.0.source begun is met.0.at in
+        let after = stops_after schema of.reader met.0.source met.0.many source.TooLong of.begins met.0.failed in
+        record {
+          schema = schema;
+          limit = limit;
+          schema_is = schema_is;
+          headers = headers_known schema readers sources texts begun is;
+          here = subst (λ o. MatchOption o ⊥ IsTooLong) (sym of.at) (too_long schema of.reader met.0.source of.text met.0.many of.begins of.known after);
+          before = λ never. row_files law schema readers sources texts n begun is (met.1 never);
+        }
+    run_fault_of (run.Source n fault) met =
+        let of = of_text schema readers sources texts n met.0.source begun is met.0.at in
+        record {
+          schema = schema;
+          limit = limit;
+          schema_is = schema_is;
+          names = get_lt texts n of.text of.at;
+          headers = All-take (HasHeader schema) n texts (headers_known schema readers sources texts begun is);
+        }
+    run_fault_of (run.NotClosed n) met = (all_good, omega (arith, met, texts_many schema readers sources texts begun is))
     run_fault_of (run.BadSchema n) met = absurd met
     run_fault_of run.NoColumns met = absurd met
     run_fault_of (run.TooLong which.SchemaFile) met = absurd met
@@ -253,22 +314,33 @@ module _ {R : Type 0} (rem : R → Option (List ℕ)) where
       past = met.past;
     }
     run_fault_of run.NoMemory met = tt
-    run_fault_of fault met = good declared schema limit readers sources texts schema_is begun is
+    run_fault_of fault met = all_good
 
 -- at the schema file, and at the headers
-pub schema_fault_of : (declared : List ℕ) (texts : List (List ℕ)) (fault : FilesFault) → is_of_schema fault ≡ true → IsSchemaFault declared none_declared fault
-    → IsFaultOf declared texts fault
-schema_fault_of declared texts (run.BadSchema n) first met = met
-schema_fault_of declared texts run.NoColumns first met = met
-schema_fault_of declared texts (run.TooLong which.SchemaFile) first met = met
-schema_fault_of declared texts (run.Read which.SchemaFile) first met = tt
-schema_fault_of declared texts run.NoMemory first met = tt
-schema_fault_of declared texts fault first met = absurd (cc (first))
+pub schema_fault_of : (stops : Bool) (declared : List ℕ) (texts : List (List ℕ)) (fault : FilesFault) → is_of_schema fault ≡ true
+    → IsSchemaFault declared none_declared fault → IsFaultOf stops declared texts fault
+schema_fault_of stops declared texts (run.BadSchema n) first met = met
+schema_fault_of stops declared texts run.NoColumns first met = met
+schema_fault_of stops declared texts (run.TooLong which.SchemaFile) first met = met
+schema_fault_of stops declared texts (run.Read which.SchemaFile) first met = tt
+schema_fault_of stops declared texts run.NoMemory first met = tt
+schema_fault_of stops declared texts fault first met = absurd (cc (first))
 
-pub headers_fault_of : (declared : List ℕ) (texts : List (List ℕ)) (schema : Declared) (limit : ℕ) → IsSchemaFile declared schema limit
-    → (fault : FilesFault) → IsHeadersFault schema (map (λ text. Some text) texts) fault → IsFaultOf declared texts fault
-headers_fault_of declared texts schema limit is (run.Source n source.BadHeader) met = record { schema = schema; limit = limit; schema_is = is; first = met }
-headers_fault_of declared texts schema limit is (run.Source n source.TooLong) met = absurd met
-headers_fault_of declared texts schema limit is (run.Source n fault) met = (schema, limit, is)
-headers_fault_of declared texts schema limit is run.NoMemory met = tt
-headers_fault_of declared texts schema limit is fault met = absurd met
+good_before : (declared : List ℕ) (texts : List (List ℕ)) (schema : Declared) (limit : ℕ) (n : ℕ) → IsSchemaFile declared schema limit
+    → IsBehindHeaders schema (map (λ text. Some text) texts) n → AreGoodBefore declared texts n
+good_before declared texts schema limit n is met = record {
+  schema = schema;
+  limit = limit;
+  schema_is = is;
+  names = omega (arith, met.names, map_long (λ (text : List ℕ). Some text) texts);
+  headers = all_known (HasHeader schema) (take n texts)
+      (subst (λ os. All (λ other. IfSome other (HasHeader schema)) os) (take-map (λ text. Some text) n texts) met.headers);
+}
+
+pub headers_fault_of : (stops : Bool) (declared : List ℕ) (texts : List (List ℕ)) (schema : Declared) (limit : ℕ) → IsSchemaFile declared schema limit
+    → (fault : FilesFault) → IsHeadersFault schema (map (λ text. Some text) texts) fault → IsFaultOf stops declared texts fault
+headers_fault_of stops declared texts schema limit is (run.Source n source.BadHeader) met = record { schema = schema; limit = limit; schema_is = is; first = met }
+headers_fault_of stops declared texts schema limit is (run.Source n source.TooLong) met = absurd met
+headers_fault_of stops declared texts schema limit is (run.Source n fault) met = good_before declared texts schema limit n is met
+headers_fault_of stops declared texts schema limit is run.NoMemory met = tt
+headers_fault_of stops declared texts schema limit is fault met = absurd met

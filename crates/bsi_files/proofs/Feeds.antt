@@ -1,5 +1,5 @@
 -- What a feeder has sent so far of a source.
-use Rattle.std.proofs.Common.{◌≡◌, ℕ, ◌+◌, ◌≤◌, Bool, false, List, [], ◌∷◌, ◌++◌, Option, Some, None, IfSome, length, refl, sym, ap, ◌∙◌, subst, arith, length-append}
+use Rattle.std.proofs.Common.{◌≡◌, ℕ, ◌+◌, ◌≤◌, false, List, [], ◌∷◌, ◌++◌, Option, Some, None, IfSome, length, refl, sym, ap, ◌∙◌, subst, arith, length-append}
 use Rattle.std.specs.Prelude.{Result, Err, MatchOption}
 use Rattle.std.proofs.lemmas.List.{append_assoc, append-nil}
 use Rattle.bsi_rings.specs.Rings.{with_sent, Sending}
@@ -7,6 +7,7 @@ use Rattle.bsi_table.specs.Rows.{Entries}
 use Rattle.csv.specs.declared.reader.Reader.{Reader}
 use Rattle.bsi_text.specs.Sources.{End, GivesFirst, HasStopped, HasTaken, Layout, Source, StillHas, Tally}
 use Rattle.bsi_text.specs.declared.rows.SourceFault.{SourceFault}
+use Rattle.bsi_files.specs.declared.feeding.FeedEnd.{FeedEnd}
 use Rattle.bsi_files.specs.Feeding.{FailsNow, GivesNext, GivesNone, HasFailed, HasFed, IsReadOut, StopsAfter}
 
 -- of all good rows and all other records that a source still had, it has the rest
@@ -33,6 +34,11 @@ pub record HasSent {R : Type 0} (rem : R → Option (List ℕ)) (feeder : Sendin
   pub many : length rows ≡ n
   pub gives : (all : List Entries) → (others : ℕ) → StillHas rem source all others → HasRest rem source after rows all others
   pub gone : HasGone rem source after rows
+
+-- what follows for each value follows for one that is there
+pub of_some : {A : Type 0} {P Q : A → Type 0} (found : Option A) → IfSome found P → ((x : A) → P x → Q x) → IfSome found Q
+of_some None is follows = tt
+of_some (Some x) is follows = follows x is
 
 -- what follows where there is no end yet
 on_end : {P Q : Type 0} (L : Result (Unit {0}) SourceFault → Type 0) (end : End) → MatchOption end P L → (P → Q) → MatchOption end Q L
@@ -120,25 +126,21 @@ module _ {R : Type 0} (rem : R → Option (List ℕ)) (feeder : Sending) (source
       }
 
   -- a feeder that sends no more has sent the first rows, and all of them where the source has none left
-  pub fed_first : (n : ℕ) (now : Sending) (after : Source R) (sent : List Entries) (accepted bad : ℕ) (stopped : Bool) (fault : Option SourceFault)
-      → (has : HasSent rem feeder source n now after) → sent ≡ now.sent → accepted ≡ n
-      → (stopped ≡ false → fault ≡ None → (rest : List Entries) → (left : ℕ) → StillHas rem after rest left → (rest ≡ []) × (bad ≡ after.tally.bad + left))
-      → (stopped ≡ false → fault ≡ None → source.end ≡ None → IsReadOut rem source has.rows bad)
-      → HasFed rem source feeder.sent sent accepted bad stopped fault
-  fed_first n now after sent accepted bad stopped fault has is many none out = record {
+  pub fed_first : (n : ℕ) (now : Sending) (after : Source R) (end : FeedEnd) → (has : HasSent rem feeder source n now after)
+      → IfSome end.closing (λ closing. closing.rows ≡ now.sent) → end.accepted ≡ n
+      → (end.stopped ≡ false → end.fault ≡ None → (rest : List Entries) → (left : ℕ) → StillHas rem after rest left
+      → (rest ≡ []) × (end.bad ≡ after.tally.bad + left))
+      → (end.stopped ≡ false → end.fault ≡ None → source.end ≡ None → IsReadOut rem source has.rows end.bad)
+      → HasFed rem source feeder.sent end
+  fed_first n now after end has sent many none out = record {
     rows = has.rows;
-    sent = is ∙ has.sent;
+    sent = of_some end.closing sent (λ closing is. is ∙ has.sent);
     many = has.many ∙ sym many;
     first = λ all others still. (let was = has.gives all others still in (was.rest, sym was.parts));
     given = λ going. record { at = after.input; end = after.tally; taken = has.gone.taken; few = has.gone.few };
     all = λ going fine. λ all others still.
         let was = has.gives all others still in
-        let end = none going fine was.rest was.left was.still in
-        (sym (was.parts ∙ ap (λ xs. has.rows ++ xs) end.0 ∙ append-nil has.rows), end.1 ∙ was.count);
+        let over = none going fine was.rest was.left was.still in
+        (sym (was.parts ∙ ap (λ xs. has.rows ++ xs) over.0 ∙ append-nil has.rows), over.1 ∙ was.count);
     out = out;
   }
-
--- what follows for each value follows for one that is there
-pub of_some : {A : Type 0} {P Q : A → Type 0} (found : Option A) → IfSome found P → ((x : A) → P x → Q x) → IfSome found Q
-of_some None is follows = tt
-of_some (Some x) is follows = follows x is

@@ -13,6 +13,7 @@ use Rattle.bsi_table.specs.Rows.{Entries, FedRow}
 use Rattle.bsi_text.specs.RowFiles.{bad_count, good_rows}
 use Rattle.bsi_text.specs.Sources.{HasTaken, IsOver, IsWholeFile, Layout, Source, StandsAfter, Tally}
 use Rattle.bsi_files.specs.Begun.{Begins}
+use Rattle.bsi_files.specs.Feeding.{IsReadOut}
 use Rattle.bsi_files.specs.Feds.{fed_counts, AreFedFrom, HasRun, IsAllFed, IsFedFrom}
 use Rattle.bsi_files.proofs.Mixing.{same_length}
 use Rattle.bsi_files.proofs.Showing.{in_order_too, lines_too}
@@ -60,14 +61,13 @@ module _ {R : Type 0} (rem : R → Option (List ℕ)) where
   IsWholeLaw = (layout : Layout) → (a b : Reader R) → (text : List ℕ) → (start end : Tally) → (rows : List Entries)
       → StandsAfter rem layout a text → HasTaken rem layout a b start end rows → IsOver rem b → IsWholeFile layout text start end rows
 
-  one_file : IsWholeLaw → (schema : Declared) (reader : R) (source : Source R) (text : List ℕ) (rows : List FedRow) (n : ℕ) (fed : Fed)
-      → Begins rem schema reader source → rem reader ≡ Some text → IsFedFrom rem false rows n source fed
-      → IsRowFile schema text (record { rows = rows_from n rows; bad = fed.bad })
-  one_file law schema reader source text rows n fed begins is has =
+  -- the file of a source that was read out
+  pub row_file : IsWholeLaw → (schema : Declared) (reader : R) (source : Source R) (text : List ℕ) (rows : List Entries) (bad : ℕ)
+      → Begins rem schema reader source → rem reader ≡ Some text → IsReadOut rem source rows bad → IsRowFile schema text (record { rows = rows; bad = bad })
+  row_file law schema reader source text rows bad begins is out =
       let stands : StandsAfter rem source.layout source.input (strip_bom text) =
       subst (λ o. IfSome o (λ bytes. StandsAfter rem source.layout source.input (strip_bom bytes))) is begins.behind in
-      let out = has.out refl begins.end_is in
-      let whole = law source.layout source.input out.at (strip_bom text) source.tally out.end (rows_from n rows) stands out.taken out.over in
+      let whole = law source.layout source.input out.at (strip_bom text) source.tally out.end rows stands out.taken out.over in
       let schema_is : source.layout.schema ≡ schema = begins.schema_is in
       let none : source.tally.taken ≡ 0 = ap (λ (t : Tally). t.taken) begins.tally_is in
       let no_bad : source.tally.bad ≡ 0 = ap (λ (t : Tally). t.bad) begins.tally_is in
@@ -80,6 +80,12 @@ module _ {R : Type 0} (rem : R → Option (List ℕ)) where
         rows_are = whole.good ∙ ap (λ s. good_rows s source.layout.header whole.records) schema_is;
         bad_is = omega (arith, out.bad_is, no_bad, whole.bad, ap (λ s. bad_count s source.layout.header whole.records) schema_is);
       }
+
+  one_file : IsWholeLaw → (schema : Declared) (reader : R) (source : Source R) (text : List ℕ) (rows : List FedRow) (n : ℕ) (fed : Fed)
+      → Begins rem schema reader source → rem reader ≡ Some text → IsFedFrom rem false rows n source fed
+      → IsRowFile schema text (record { rows = rows_from n rows; bad = fed.bad })
+  one_file law schema reader source text rows n fed begins is has =
+      row_file law schema reader source text (rows_from n rows) fed.bad begins is (has.out refl begins.end_is)
 
   all_files : IsWholeLaw → (schema : Declared) (readers : List R) (sources : List (Source R)) (texts : List (List ℕ)) (rows : List FedRow) (n : ℕ) (feds : List Fed)
       → AreMatched (Begins rem schema) readers sources → map rem readers ≡ map (λ text. Some text) texts → AreFedFrom rem false rows n sources feds

@@ -1,6 +1,7 @@
 -- Headers that were read, and the first file that has none.
-use Rattle.std.proofs.Common.{◌≡◌, ◌≢◌, ◌<◌, ◌≤◌, ◌+◌, arith, length-append, ℕ, suc, true, List, [], ◌∷◌, ◌++◌, length, map, All, Option, Some, None, IfSome, MatchOption, refl, ap, sym, ◌∙◌, subst}
+use Rattle.std.proofs.Common.{◌≡◌, ◌≢◌, ◌<◌, ◌≤◌, ◌+◌, arith, length-append, ℕ, suc, true, List, [], ◌∷◌, ◌++◌, length, map, take, All, Option, Some, None, IfSome, MatchOption, refl, ap, sym, ◌∙◌, subst}
 use Rattle.std.proofs.lemmas.List.Elements.{All-cons, All-head, All-nil, All-tail}
+use Rattle.std.proofs.Math.Seq.{take-append_seam}
 use Rattle.csv.specs.Machine.{Read, next_record}
 use Rattle.csv.specs.Reading.{default_config, reader_state, source_of, strip_bom}
 use Rattle.csv.specs.declared.parser.State.TheVariants as st
@@ -11,7 +12,7 @@ use Rattle.bsi_text.specs.Sources.{Source, StandsAfter}
 use Rattle.bsi_text.specs.declared.rows.SourceFault.{SourceFault}
 use Rattle.bsi_text.specs.declared.rows.SourceFault.TheVariants as source
 use Rattle.bsi_files.specs.Begun.{Begins}
-use Rattle.bsi_files.specs.Headers.{HasHeader, IsFirstWithout, IsHeaderFault, IsHeadersFault, LacksHeader}
+use Rattle.bsi_files.specs.Headers.{HasHeader, IsBehindHeaders, IsFirstWithout, IsHeaderFault, IsHeadersFault, LacksHeader}
 use Rattle.bsi_files.specs.Matching.{AreMatched}
 use Rattle.bsi_files.specs.declared.faults.FilesFault.{FilesFault}
 use Rattle.bsi_files.specs.declared.faults.FilesFault.TheVariants as files
@@ -30,7 +31,7 @@ map_append : {X Y : Type 0} (f : X → Y) (xs ys : List X) → map f (xs ++ ys) 
 map_append f [] ys = refl
 map_append f (x ∷ xs) ys = ap (λ zs. f x ∷ zs) (map_append f xs ys)
 
-map_long : {X Y : Type 0} (f : X → Y) (xs : List X) → length (map f xs) ≡ length xs
+pub map_long : {X Y : Type 0} (f : X → Y) (xs : List X) → length (map f xs) ≡ length xs
 map_long f [] = refl
 map_long f (x ∷ xs) = ap (λ n. suc n) (map_long f xs)
 
@@ -68,16 +69,38 @@ module _ {R : Type 0} (rem : R → Option (List ℕ)) (schema : Declared) where
     none = lacks;
   }
 
+  -- each file before it has a header
+  behind : (all left rest : List R) (reader : R) (sources : List (Source R)) (number : ℕ) → HasMatched (Begins rem schema) all left sources
+      → left ≡ reader ∷ rest → number ≡ length sources → IsBehindHeaders schema (map rem all) number
+  behind all left rest reader sources number has is at =
+      let files : map rem all ≡ map rem has.done ++ map rem left = ap (λ rs. map rem rs) has.parts ∙ map_append rem has.done left in
+      let place : number ≡ length (map rem has.done) = at ∙ sym (map_long rem has.done ∙ matched_long (Begins rem schema) has.done sources has.matched) in
+      let one : length left ≡ suc (length rest) = ap (λ (rs : List R). length rs) is in
+      record {
+        names = omega (arith, place, ap (λ (os : List (Option (List ℕ))). length os) files, length-append (map rem has.done) (map rem left), map_long rem left, one);
+        headers = subst (λ os. All (λ other. IfSome other (HasHeader schema)) os)
+            (sym (take-append_seam (map rem has.done) (map rem left))
+            ∙ (ap (λ k. take k (map rem has.done ++ map rem left)) (sym place) ∙ ap (λ os. take number os) (sym files)))
+            (headers_of has.done sources has.matched);
+      }
+
+  numbered : (all left rest : List R) (reader : R) (sources : List (Source R)) (place number : ℕ) → HasMatched (Begins rem schema) all left sources
+      → left ≡ reader ∷ rest → place ≡ length sources → (place < 64 → number ≡ place) → length all ≤ 64 → number ≡ length sources
+  numbered all left rest reader sources place number has is at named few =
+      let done : length has.done ≡ length sources = matched_long (Begins rem schema) has.done sources has.matched in
+      let parts : length all ≡ length has.done + length left = ap (λ (rs : List R). length rs) has.parts ∙ length-append has.done left in
+      let one : length left ≡ suc (length rest) = ap (λ (rs : List R). length rs) is in
+      named (omega arith) ∙ at
+
   pub headers_fault : (all left rest : List R) (reader : R) (sources : List (Source R)) (place number : ℕ) (fault : FilesFault) → HasMatched (Begins rem schema) all left sources
       → left ≡ reader ∷ rest → place ≡ length sources → (place < 64 → number ≡ place) → length all ≤ 64 → IsHeaderFault schema (rem reader) number fault
       → IsHeadersFault schema (map rem all) fault
   headers_fault all left rest reader sources place number (files.Source f source.BadHeader) has is at named few met =
-      let done : length has.done ≡ length sources = matched_long (Begins rem schema) has.done sources has.matched in
-      let parts : length all ≡ length has.done + length left = ap (λ (rs : List R). length rs) has.parts ∙ length-append has.done left in
-      let one : length left ≡ suc (length rest) = ap (λ (rs : List R). length rs) is in
-      first_without all left rest reader sources f has is (met.0 ∙ (named (omega arith) ∙ at)) met.1
-  headers_fault all left rest reader sources place number (files.Source f source.Read) has is at named few met = tt
-  headers_fault all left rest reader sources place number (files.Source f source.NoMemory) has is at named few met = tt
+      first_without all left rest reader sources f has is (met.0 ∙ numbered all left rest reader sources place number has is at named few) met.1
+  headers_fault all left rest reader sources place number (files.Source f source.Read) has is at named few met =
+      behind all left rest reader sources f has is (met ∙ numbered all left rest reader sources place number has is at named few)
+  headers_fault all left rest reader sources place number (files.Source f source.NoMemory) has is at named few met =
+      behind all left rest reader sources f has is (met ∙ numbered all left rest reader sources place number has is at named few)
   headers_fault all left rest reader sources place number fault has is at named few met = absurd met
 
 -- of files whose bytes are known

@@ -115,15 +115,17 @@ module _ {R : Type 0} (rem : R → Option (List ℕ)) (takings : List Taking) wh
   one_given : (n : ℕ) (feeder : Sending) (source : Source R) (end : FeedEnd) (fed : Fed) → feeder.sent ≡ [] → IsEndOf rem feeder source end
       → IsTold takings n end fed → fed.closed ≡ true
       → (rows : List Entries) × HasGivenRows rem source rows × ((taking_at takings n).told ≡ Some rows)
-  one_given n feeder source end fed fresh is told closed = by end.closing refl is.fed told.told
+  one_given n feeder source end fed fresh is told closed = by end.closing refl is.fed.sent told.told
     where
-      by : (o : Option Sent) → end.closing ≡ o
-          → IfSome o (λ closing. HasFed rem source feeder.sent closing.rows end.accepted end.bad end.stopped end.fault)
+      has : HasFed rem source feeder.sent end
+      has = is.fed
+
+      by : (o : Option Sent) → end.closing ≡ o → IfSome o (λ closing. closing.rows ≡ feeder.sent ++ has.rows)
           → IfSome o (λ closing. (taking_at takings n).told ≡ Some closing.rows)
           → (rows : List Entries) × HasGivenRows rem source rows × ((taking_at takings n).told ≡ Some rows)
-      by None e has t =
+      by None e sent t =
           let wrong : false ≡ true = sym (ap (λ o. is_some o) e) ∙ (sym told.kept.closed ∙ closed) in absurd (cc (wrong))
-      by (Some closing) e has t = (has.rows, has.given, t ∙ ap (λ xs. Some xs) (has.sent ∙ ap (λ xs. xs ++ has.rows) fresh))
+      by (Some closing) e sent t = (has.rows, has.given, t ∙ ap (λ xs. Some xs) (sent ∙ ap (λ xs. xs ++ has.rows) fresh))
 
   all_given : (system : System) (n : ℕ) (feeders : List Sending) (sources : List (Source R)) (ends : List FeedEnd) (feds : List Fed)
       → length sources ≡ length feeders → AreFeeders system n feeders → AreEndsOf rem (tasks feeders sources) ends → AreTold takings n ends feds

@@ -36,7 +36,7 @@ set_told [] f row = refl
 set_told (x ∷ ts) zero row = refl
 set_told (x ∷ ts) (suc f) row = set_told ts f row
 
-get_lt : {A : Type 0} (xs : List A) (f : ℕ) (x : A) → slice_get xs f ≡ Some x → f < length xs
+pub get_lt : {A : Type 0} (xs : List A) (f : ℕ) (x : A) → slice_get xs f ≡ Some x → f < length xs
 get_lt [] f x is = absurd (cc (is))
 get_lt (y ∷ xs) zero x is = omega arith
 get_lt (y ∷ xs) (suc f) x is = (let rest = get_lt xs f x is in omega arith)
@@ -285,16 +285,18 @@ module _ {R : Type 0} (rem : R → Option (List ℕ)) where
   fed_one : (stops : Bool) (rows : List FedRow) (takings : List Taking) (n : ℕ) (feeder : Sending) (source : Source R) (end : FeedEnd) (fed : Fed)
       → rows_from n rows ≡ (taking_at takings n).taken → feeder.sent ≡ [] → IsEndOf rem feeder source end → IsLoaded takings n end fed → IsFine stops fed
       → IsFedFrom rem stops rows n source fed
-  fed_one stops rows takings n feeder source end fed from fresh is loaded fine = by end.closing refl is.fed loaded.taken
+  fed_one stops rows takings n feeder source end fed from fresh is loaded fine = by end.closing refl is.fed.sent loaded.taken
     where
-      by : (o : Option Sent) → end.closing ≡ o
-          → IfSome o (λ closing. HasFed rem source feeder.sent closing.rows end.accepted end.bad end.stopped end.fault)
+      has : HasFed rem source feeder.sent end
+      has = is.fed
+
+      by : (o : Option Sent) → end.closing ≡ o → IfSome o (λ closing. closing.rows ≡ feeder.sent ++ has.rows)
           → IfSome o (λ closing. taking_at takings n ≡ all_taken closing.rows) → IsFedFrom rem stops rows n source fed
-      by None e has taken =
+      by None e sent taken =
           let wrong : false ≡ true = sym (ap (λ o. is_some o) e) ∙ (sym loaded.kept.closed ∙ fine.closed) in absurd (cc (wrong))
-      by (Some closing) e has taken =
+      by (Some closing) e sent taken =
           let same : has.rows ≡ rows_from n rows =
-          sym (from ∙ (ap (λ (t : Taking). t.taken) taken ∙ (has.sent ∙ ap (λ xs. xs ++ has.rows) fresh))) in
+          sym (from ∙ (ap (λ (t : Taking). t.taken) taken ∙ (sent ∙ ap (λ xs. xs ++ has.rows) fresh))) in
           record {
             many = sym (ap length same) ∙ (has.many ∙ sym loaded.kept.accepted);
             out = λ never going.

@@ -7,12 +7,12 @@ use Rattle.bsi_files.specs.Feeding.{HasFailed, HasFed}
 use Rattle.bsi_files.specs.declared.feeding.FeedEnd.{FeedEnd}
 use Rattle.bsi_files.specs.Matching.{AreMatched}
 
--- what the end of a feeder tells of the feeder and of its source: the rows that its closing carries, and the fault that
--- the source answered
+-- what the end of a feeder tells of the feeder and of its source: the rows that were read, which its closing carries, and
+-- the fault that the source answered
 pub record IsEndOf {R : Type 0} (rem : R → Option (List ℕ)) (feeder : Sending) (source : Source R) (end : FeedEnd) : Type 0 where
   pub number : IfSome end.closing (λ closing. closing.number ≡ feeder.number)
   pub channel : IfSome end.closing (λ closing. closing.channel ≡ feeder.channel)
-  pub fed : IfSome end.closing (λ closing. HasFed rem source feeder.sent closing.rows end.accepted end.bad end.stopped end.fault)
+  pub fed : HasFed rem source feeder.sent end
   pub fault : IfSome end.fault (HasFailed rem source end.accepted)
 
 -- a feeder and the source that it reads

@@ -1,11 +1,12 @@
 -- What a feeder that reads a row file sends.
-use Rattle.std.specs.Prelude.{◌≡◌, ◌≤◌, ℕ, ◌+◌, Bool, false, List, [], ◌∷◌, ◌++◌, Option, Some, None, Err, length, MatchOption}
+use Rattle.std.specs.Prelude.{◌≡◌, ◌≤◌, ℕ, ◌+◌, false, List, [], ◌∷◌, ◌++◌, Option, Some, None, Err, IfSome, length, MatchOption}
 use Rattle.csv.specs.declared.reader.Reader.{Reader}
 use mathlib.Core.List.{IsPrefix}
 use Rattle.bsi_rings.specs.Rings.{with_sent, Sending}
 use Rattle.bsi_table.specs.Rows.{Entries}
 use Rattle.bsi_text.specs.Sources.{GivesFirst, HasEnded, HasStopped, HasTaken, IsOver, Source, StillHas, Tally}
 use Rattle.bsi_text.specs.declared.rows.SourceFault.{SourceFault}
+use Rattle.bsi_files.specs.declared.feeding.FeedEnd.{FeedEnd}
 use Rattle.bsi_files.specs.declared.feeding.Turn.{Turn}
 use Rattle.bsi_files.specs.declared.feeding.Turn.TheVariants as turn
 
@@ -36,16 +37,16 @@ pub record GivesRows {R : Type 0} (rem : R → Option (List ℕ)) (source : Sour
   pub taken : HasTaken rem source.layout source.input at source.tally end rows
   pub few : source.tally.taken ≤ 1000000 → end.taken ≤ 1000000
 
--- what a feeder had sent before and after it read a source, and how it says that it ended
-pub record HasFed {R : Type 0} (rem : R → Option (List ℕ)) (source : Source R) (before after : List Entries)
-    (accepted bad : ℕ) (stopped : Bool) (fault : Option SourceFault) : Type 0 where
+-- the rows that a feeder read of a source and sent after others, and how it says that it ended. A closing carries them
+pub record HasFed {R : Type 0} (rem : R → Option (List ℕ)) (source : Source R) (before : List Entries) (end : FeedEnd)
+    : Type 0 where
   pub rows : List Entries
-  pub sent : after ≡ before ++ rows
-  pub many : length rows ≡ accepted
+  pub sent : IfSome end.closing (λ closing. closing.rows ≡ before ++ rows)
+  pub many : length rows ≡ end.accepted
   pub first : BeginsWith rem source rows
   pub given : source.end ≡ None → GivesRows rem source rows
-  pub all : stopped ≡ false → fault ≡ None → HasOnly rem source rows bad
-  pub out : stopped ≡ false → fault ≡ None → source.end ≡ None → IsReadOut rem source rows bad
+  pub all : end.stopped ≡ false → end.fault ≡ None → HasOnly rem source rows end.bad
+  pub out : end.stopped ≡ false → end.fault ≡ None → source.end ≡ None → IsReadOut rem source rows end.bad
 
 -- a source of which more was to be read gave so many rows, and then stopped at the fault
 pub record StopsAfter {R : Type 0} (rem : R → Option (List ℕ)) (source : Source R) (many : ℕ) (fault : SourceFault)

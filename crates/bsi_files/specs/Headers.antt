@@ -1,5 +1,5 @@
 -- Which row file has no header.
-use Rattle.std.specs.Prelude.{◌≡◌, ⊤, ℕ, true, List, [], ◌∷◌, ◌++◌, Option, All, IfSome, MatchOption, length}
+use Rattle.std.specs.Prelude.{◌≡◌, ⊤, ℕ, ◌<◌, true, List, [], ◌∷◌, ◌++◌, Option, All, IfSome, MatchOption, length, take}
 use Rattle.csv.specs.Machine.{next_record}
 use Rattle.csv.specs.Reading.{default_config, strip_bom}
 use Rattle.csv.specs.declared.parser.State.TheVariants as st
@@ -30,6 +30,11 @@ pub record IsFirstWithout (schema : Declared) (files : List (Option (List ℕ)))
   pub others : All (λ other. IfSome other (HasHeader schema)) before
   pub none : IfSome file (LacksHeader schema)
 
+-- this number is that of a file, and each file before it has a header, where its bytes are known
+pub record IsBehindHeaders (schema : Declared) (files : List (Option (List ℕ))) (number : ℕ) : Type 0 where
+  pub names : number < length files
+  pub headers : All (λ other. IfSome other (HasHeader schema)) (take number files)
+
 -- a fault that is met at the header of the file of this number
 abbrev pub IsHeaderFault : Declared → Option (List ℕ) → ℕ → FilesFault → Type 0
 IsHeaderFault schema file number (Source f source.BadHeader) = (f ≡ number) × IfSome file (LacksHeader schema)
@@ -40,7 +45,7 @@ IsHeaderFault schema file number fault = ⊥
 -- a fault that is met at the headers of the files
 abbrev pub IsHeadersFault : Declared → List (Option (List ℕ)) → FilesFault → Type 0
 IsHeadersFault schema files (Source f source.BadHeader) = IsFirstWithout schema files f
-IsHeadersFault schema files (Source f source.Read) = ⊤
-IsHeadersFault schema files (Source f source.NoMemory) = ⊤
+IsHeadersFault schema files (Source f source.Read) = IsBehindHeaders schema files f
+IsHeadersFault schema files (Source f source.NoMemory) = IsBehindHeaders schema files f
 IsHeadersFault schema files NoMemory = ⊤
 IsHeadersFault schema files fault = ⊥

@@ -1,6 +1,7 @@
 pub mod AskLines
 pub mod Begun
 pub mod Ends
+pub mod FaultTexts
 pub mod Faults
 pub mod Feds
 pub mod Feeding

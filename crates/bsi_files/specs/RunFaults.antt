@@ -1,6 +1,6 @@
 -- What a fault of a run tells of the bytes of its files.
-use Rattle.std.specs.Prelude.{◌≡◌, ⊤, ℕ, ◌<◌, ◌≤◌, true, List, ◌∷◌, All, Option, None, Some, MatchOption, length, map, slice_get}
-use Rattle.std.specs.List.{sum_by}
+use Rattle.std.specs.Prelude.{◌≡◌, ⊤, ℕ, ◌<◌, ◌≤◌, Bool, true, false, List, ◌∷◌, All, Option, None, Some, MatchOption, length, map, slice_get, take}
+use Rattle.std.specs.List.{sum_by, AllWithin}
 use Rattle.csv.specs.declared.parser.State.{State}
 use Rattle.bsi_records.specs.Numbers.{Field}
 use Rattle.bsi_table.specs.Columns.{Declared}
@@ -10,10 +10,12 @@ use Rattle.bsi_text.specs.Sources.{Source}
 use Rattle.bsi_text.specs.Texts.{AreFirstRecords}
 use Rattle.bsi_text.specs.declared.rows.SourceFault.{SourceFault}
 use Rattle.bsi_text.specs.declared.rows.SourceFault.TheVariants as source
-use Rattle.bsi_files.specs.Feeding.{GivesRows, HasFailed}
+use Rattle.bsi_files.specs.Feeding.{GivesRows, HasFailed, IsReadOut}
 use Rattle.bsi_files.specs.Headers.{HasHeader, IsFirstWithout}
 use Rattle.bsi_files.specs.Matching.{AreMatched}
+use Rattle.bsi_files.specs.RowFiles.{IsRowFile, RowFile}
 use Rattle.bsi_files.specs.SchemaFiles.{none_declared, DeclaresNoColumn, DeclaresTooLong, IsBadRecord, IsSchemaFile}
+use Rattle.bsi_files.specs.Takings.{AreGoing}
 use Rattle.bsi_files.specs.Writing.{AreTooMany}
 use Rattle.bsi_files.specs.declared.faults.FilesFault.{FilesFault}
 use Rattle.bsi_files.specs.declared.faults.FilesFault.TheVariants as run
@@ -45,6 +47,28 @@ pub record AreGood (declared : List ℕ) (texts : List (List ℕ)) : Type 0 wher
   pub schema_is : IsSchemaFile declared schema limit
   pub headers : All (HasHeader schema) texts
 
+-- a schema is declared, this number is that of a file, and each file before it has a header of the schema
+pub record AreGoodBefore (declared : List ℕ) (texts : List (List ℕ)) (number : ℕ) : Type 0 where
+  pub schema : Declared
+  pub limit : ℕ
+  pub schema_is : IsSchemaFile declared schema limit
+  pub names : number < length texts
+  pub headers : All (HasHeader schema) (take number texts)
+
+-- these are row files, none of which is too long
+abbrev pub AreRowFiles : Declared → List (List ℕ) → Type 0
+AreRowFiles schema texts = (files : List RowFile) × AreMatched (IsRowFile schema) texts files
+
+-- a schema is declared, each file has a header of it, and the file of this number is too long; where no gate stops a
+-- feeder, it is the first one
+pub record IsFirstTooLong (stops : Bool) (declared : List ℕ) (texts : List (List ℕ)) (number : ℕ) : Type 0 where
+  pub schema : Declared
+  pub limit : ℕ
+  pub schema_is : IsSchemaFile declared schema limit
+  pub headers : All (HasHeader schema) texts
+  pub here : MatchOption (slice_get texts number) ⊥ IsTooLong
+  pub before : stops ≡ false → AreRowFiles schema (take number texts)
+
 -- these are the good rows of some first records behind the header of these bytes, at most 1,000,000
 pub record HasFirstRows (schema : Declared) (bytes : List ℕ) (rows : List Entries) : Type 0 where
   pub header : List Field
@@ -65,21 +89,21 @@ pub record ArePastLimit (declared : List ℕ) (texts : List (List ℕ)) : Type 0
   pub first : AreMatched (HasFirstRows schema) texts rows
   pub past : limit < sum_by length rows
 
--- what a fault tells of the bytes of the schema file and of the row files. One that is met once the headers are read
--- tells that these are good.
-abbrev pub IsFaultOf : List ℕ → List (List ℕ) → FilesFault → Type 0
-IsFaultOf declared texts run.TooManyFiles = ⊤
-IsFaultOf declared texts (run.Read which.SchemaFile) = ⊤
-IsFaultOf declared texts (run.BadSchema number) = IsBadRecord declared none_declared number
-IsFaultOf declared texts (run.TooLong which.SchemaFile) = DeclaresTooLong declared none_declared
-IsFaultOf declared texts run.NoColumns = DeclaresNoColumn declared none_declared
-IsFaultOf declared texts (run.Source number source.BadHeader) = HasBadHeader declared texts number
-IsFaultOf declared texts (run.Source number source.TooLong) =
-    AreGood declared texts × MatchOption (slice_get texts number) ⊥ IsTooLong
-IsFaultOf declared texts (run.Source number fault) = (schema : Declared) × (limit : ℕ) × IsSchemaFile declared schema limit
-IsFaultOf declared texts run.IndexFull = ArePastLimit declared texts
-IsFaultOf declared texts run.NoMemory = ⊤
-IsFaultOf declared texts fault = AreGood declared texts
+-- what a fault tells of the bytes of the schema file and of the row files, and of whether a gate may stop a feeder. One
+-- that is met once the headers are read tells that these are good.
+abbrev pub IsFaultOf : Bool → List ℕ → List (List ℕ) → FilesFault → Type 0
+IsFaultOf stops declared texts run.TooManyFiles = ⊤
+IsFaultOf stops declared texts (run.Read which.SchemaFile) = ⊤
+IsFaultOf stops declared texts (run.BadSchema number) = IsBadRecord declared none_declared number
+IsFaultOf stops declared texts (run.TooLong which.SchemaFile) = DeclaresTooLong declared none_declared
+IsFaultOf stops declared texts run.NoColumns = DeclaresNoColumn declared none_declared
+IsFaultOf stops declared texts (run.Source number source.BadHeader) = HasBadHeader declared texts number
+IsFaultOf stops declared texts (run.Source number source.TooLong) = IsFirstTooLong stops declared texts number
+IsFaultOf stops declared texts (run.Source number fault) = AreGoodBefore declared texts number
+IsFaultOf stops declared texts run.IndexFull = ArePastLimit declared texts
+IsFaultOf stops declared texts (run.NotClosed number) = AreGood declared texts × (number < length texts)
+IsFaultOf stops declared texts run.NoMemory = ⊤
+IsFaultOf stops declared texts fault = AreGood declared texts
 
 -- ---- by the sources
 
@@ -101,24 +125,39 @@ pub record AreOverLimit {R : Type 0} (rem : R → Option (List ℕ)) (limit : �
   pub given : AreMatched (HasGivenRows rem) sources rows
   pub past : limit < sum_by length rows
 
--- the fault is that of a source, or that a feeder was not closed
-abbrev pub IsKeptFault : List Fed → FilesFault → Type 0
-IsKeptFault feds (run.Source number fault) = MatchOption (slice_get feds number) ⊥ (λ fed. fed.fault ≡ Some fault)
-IsKeptFault feds (run.NotClosed number) = ⊤
-IsKeptFault feds fault = ⊥
+-- a source of which more was to be read was read out
+abbrev pub WasReadOut : {R : Type 0} → (R → Option (List ℕ)) → Source R → Type 0
+WasReadOut rem source = source.end ≡ None → (rows : List Entries) × (bad : ℕ) × IsReadOut rem source rows bad
+
+-- the fault is the first one that a source answered
+abbrev pub IsSourceFault : List Fed → FilesFault → Type 0
+IsSourceFault feds (run.Source number fault) =
+    MatchOption (slice_get feds number) ⊥ (λ fed. fed.fault ≡ Some fault) × AllWithin (λ fed. fed.fault ≡ None) feds 0 number
+IsSourceFault feds fault = ⊥
+
+-- the fault is that a feeder was not closed
+abbrev pub IsNotClosed : List Fed → FilesFault → Type 0
+IsNotClosed feds (run.NotClosed number) = number < length feds
+IsNotClosed feds fault = ⊥
+
+-- the fault is that a feeder was not closed or, where no feeder was stopped that no gate stops, the first one of a source
+abbrev pub IsKeptFault : Bool → List Fed → FilesFault → Type 0
+IsKeptFault stops feds (run.NotClosed number) = number < length feds
+IsKeptFault stops feds fault = IsSourceFault feds fault × (stops ≡ false → AreGoing feds)
 
 -- a fault that is met while rows are loaded
-abbrev pub IsLoadFault : {R : Type 0} → (R → Option (List ℕ)) → ℕ → List (Source R) → FilesFault → Type 0
-IsLoadFault rem limit sources (run.Source number fault) = FailsAt rem sources number fault
-IsLoadFault rem limit sources (run.NotClosed number) = ⊤
-IsLoadFault rem limit sources run.IndexFull = AreOverLimit rem limit sources
-IsLoadFault rem limit sources run.Readers = ⊤
-IsLoadFault rem limit sources run.NoMemory = ⊤
-IsLoadFault rem limit sources fault = ⊥
+abbrev pub IsLoadFault : {R : Type 0} → (R → Option (List ℕ)) → Bool → ℕ → List (Source R) → FilesFault → Type 0
+IsLoadFault rem stops limit sources (run.Source number fault) =
+    FailsAt rem sources number fault × (stops ≡ false → All (WasReadOut rem) (take number sources))
+IsLoadFault rem stops limit sources (run.NotClosed number) = number < length sources
+IsLoadFault rem stops limit sources run.IndexFull = AreOverLimit rem limit sources
+IsLoadFault rem stops limit sources run.Readers = ⊤
+IsLoadFault rem stops limit sources run.NoMemory = ⊤
+IsLoadFault rem stops limit sources fault = ⊥
 
 -- or from then on
-abbrev pub IsRunFault : {R : Type 0} → (R → Option (List ℕ)) → ℕ → List (Source R) → FilesFault → Type 0
-IsRunFault rem limit sources (run.Read which.AsksFile) = ⊤
-IsRunFault rem limit sources (run.TooLong which.AsksFile) = ⊤
-IsRunFault rem limit sources run.Write = ⊤
-IsRunFault rem limit sources fault = IsLoadFault rem limit sources fault
+abbrev pub IsRunFault : {R : Type 0} → (R → Option (List ℕ)) → Bool → ℕ → List (Source R) → FilesFault → Type 0
+IsRunFault rem stops limit sources (run.Read which.AsksFile) = ⊤
+IsRunFault rem stops limit sources (run.TooLong which.AsksFile) = ⊤
+IsRunFault rem stops limit sources run.Write = ⊤
+IsRunFault rem stops limit sources fault = IsLoadFault rem stops limit sources fault

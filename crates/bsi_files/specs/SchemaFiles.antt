@@ -42,6 +42,7 @@ pub record IsBadRecord (bytes : List ℕ) (before : Declared × ℕ) (number : �
   pub rest : List ℕ
   pub first : AreFirstRecords bytes (records ++ fields ∷ []) state rest
   pub number_is : number ≡ length records + 1
+  pub few : number ≤ 1000000
   pub bad : MatchOption (table_declared before records) ⊥ (λ now. table_after now.0 now.1 fields ≡ None)
 
 -- the first 1,000,000 records declare something, and there is one more

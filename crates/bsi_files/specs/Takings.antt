@@ -1,5 +1,5 @@
 -- What the loader has taken when the feeders have ended.
-use Rattle.std.specs.Prelude.{◌≡◌, ⊤, ℕ, suc, ◌+◌, ◌<◌, true, List, [], ◌∷◌, None, Some, ◌≢◌, Bool, false, IfSome, is_some, length}
+use Rattle.std.specs.Prelude.{◌≡◌, ⊤, All, ℕ, suc, ◌+◌, ◌<◌, true, List, [], ◌∷◌, None, Some, ◌≢◌, Bool, false, IfSome, is_some, length}
 use Rattle.std.specs.List.{list_all}
 use Rattle.bsi_table.specs.Rows.{Entries}
 use Rattle.bsi_system.specs.Running.{taking_at, AlwaysHolds, Loading, MayLoad, Taking}
@@ -70,6 +70,10 @@ abbrev pub AreLoaded : List Taking → ℕ → List FeedEnd → List Fed → Typ
 AreLoaded takings n [] [] = ⊤
 AreLoaded takings n (end ∷ ends) (fed ∷ feds) = IsLoaded takings n end fed × AreLoaded takings (suc n) ends feds
 AreLoaded takings n ends feds = ⊥
+
+-- no feeder was stopped
+abbrev pub AreGoing : List Fed → Type 0
+AreGoing feds = All (λ fed. fed.stopped ≡ false) feds
 
 -- a run goes on with what was kept of an end: no fault, a closing and, where no gate stops a feeder, none that was
 pub record IsFine (stops : Bool) (fed : Fed) : Type 0 where

@@ -22,9 +22,10 @@ pub record WritesAll (IsOf : List (List Field) → List (List ℕ) → Type 0) (
   pub are : IsOf records lines
   pub written : Appends before after (concat lines)
 
--- which of these lines went out before a fault: only the writer's cuts a line, and all stand before that of too many asks
+-- which of these lines went out before a fault: only the writer's cuts a line, and all stand before one of the asks text
 abbrev pub AreOut : FilesFault → List (List ℕ) → Option (List ℕ) → Option (List ℕ) → Type 0
 AreOut Write lines before after = IsCut before after (concat lines)
+AreOut (Read AsksFile) lines before after = Appends before after (concat lines)
 AreOut (TooLong AsksFile) lines before after = Appends before after (concat lines)
 AreOut fault lines before after = (n : ℕ) × Appends before after (concat (take n lines))
 
@@ -54,7 +55,12 @@ Leaves IsOf asked Readers before after = (after ≡ before) ⊎ WritesPart IsOf 
 Leaves IsOf asked NoMemory before after = (after ≡ before) ⊎ WritesPart IsOf asked NoMemory before after
 Leaves IsOf asked fault before after = after ≡ before
 
--- what is so of the bytes of the schema file, of the row files and of the asks text, where all of them are known
+-- what is so of the bytes of the schema file and of the row files, where all of them are known
+abbrev pub WhereFilesKnown : Option (List ℕ) → List (Option (List ℕ)) → (List ℕ → List (List ℕ) → Type 0) → Type 0
+WhereFilesKnown schema files Is =
+    (declared : List ℕ) → (texts : List (List ℕ)) → schema ≡ Some declared → files ≡ map Some texts → Is declared texts
+
+-- and of the asks text
 abbrev pub WhereKnown : Option (List ℕ) → List (Option (List ℕ)) → Option (List ℕ) → (List ℕ → List (List ℕ) → List ℕ → Type 0) → Type 0
 WhereKnown schema files asks Is =
     (declared : List ℕ) → (texts : List (List ℕ)) → (asked : List ℕ)

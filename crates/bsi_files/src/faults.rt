@@ -5,60 +5,87 @@ ghost use Rattle.bsi_files.specs.Faults.{is_late, is_of_schema, text_fault};
 
 use bsi_text::SourceFault;
 use std::alloc::AllocError;
-use thiserror::Error;
+use std::error::Error;
+use std::fmt;
 
 /// One of the two texts beside the row files.
-#[derive(Clone, Copy, Debug, PartialEq, Eq, Error)]
+#[derive(Clone, Copy, Debug, PartialEq, Eq)]
 pub enum Which {
     /// The file that declares the columns and the row limit.
-    #[error("schema")]
     SchemaFile,
     /// The file of questions.
-    #[error("asks")]
     AsksFile,
+}
+
+impl fmt::Display for Which {
+    ghost use Rattle.std.specs.Prelude.{Some};
+    ghost use Rattle.bsi_files.specs.FaultTexts.{which_text};
+
+    ghost output = { λ which. Some (which_text which) };
+
+    fn fmt<W: fmt::Write>(&self, f: &mut fmt::Formatter<W>) -> fmt::Result {
+        match self {
+            Which::SchemaFile => write!(f, "schema"),
+            Which::AsksFile => write!(f, "asks"),
+        }
+    }
 }
 
 /// Why a run over row files ends early; `run_files` says in which order it looks for the causes. A fault of the
 /// questions, of a reader, of memory or of the writer may come after some lines were written; before the others,
 /// nothing was written.
-#[derive(Clone, Copy, Debug, PartialEq, Eq, Error)]
+#[derive(Clone, Copy, Debug, PartialEq, Eq)]
 pub enum FilesFault {
     /// There are more than 64 row files.
-    #[error("bsi: more than 64 files")]
     TooManyFiles,
     /// The reader of the text failed.
-    #[error("bsi: {0}: read failed")]
     Read(Which),
     /// The text has more than 1,000,000 records.
-    #[error("bsi: {0}: input too long")]
     TooLong(Which),
     /// The schema's record of this number, from 1, declares neither a column nor the row limit, or cannot be carried
     /// out.
-    #[error("bsi: schema: bad record {0}")]
     BadSchema(u64),
     /// The schema declares no column.
-    #[error("bsi: schema: no columns")]
     NoColumns,
-    /// The row file of this number, from 0, gives no more rows.
-    #[error("bsi: file {0}: {1}")]
+    /// The row file of this number, from 0, is the first that gives no more rows.
     Source(u32, SourceFault),
     /// There are more good rows than the row limit.
-    #[error("bsi: index full")]
     IndexFull,
     /// The feeder of this number, from 0, is the first that left no closing. Where each left one, it is the first that
     /// was stopped though its gate stops none.
-    #[error("bsi: file {0}: not closed")]
     NotClosed(u32),
     /// No place was found for a reader of the table, or no copy of it was given.
-    #[error("bsi: no reader")]
     Readers,
     /// Memory other than that of an answer was refused, or a thread could not be started.
-    #[error("bsi: no memory")]
     NoMemory,
     /// The writer failed, or took no byte.
-    #[error("bsi: write failed")]
     Write,
 }
+
+impl fmt::Display for FilesFault {
+    ghost use Rattle.std.specs.Prelude.{Some};
+    ghost use Rattle.bsi_files.specs.FaultTexts.{fault_text};
+
+    ghost output = { λ fault. Some (fault_text fault) };
+
+    fn fmt<W: fmt::Write>(&self, f: &mut fmt::Formatter<W>) -> fmt::Result {
+        match self {
+            FilesFault::TooManyFiles => write!(f, "bsi: more than 64 files"),
+            FilesFault::Read(which) => write!(f, "bsi: {which}: read failed"),
+            FilesFault::TooLong(which) => write!(f, "bsi: {which}: input too long"),
+            FilesFault::BadSchema(record) => write!(f, "bsi: schema: bad record {record}"),
+            FilesFault::NoColumns => write!(f, "bsi: schema: no columns"),
+            FilesFault::Source(file, fault) => write!(f, "bsi: file {file}: {fault}"),
+            FilesFault::IndexFull => write!(f, "bsi: index full"),
+            FilesFault::NotClosed(file) => write!(f, "bsi: file {file}: not closed"),
+            FilesFault::Readers => write!(f, "bsi: no reader"),
+            FilesFault::NoMemory => write!(f, "bsi: no memory"),
+            FilesFault::Write => write!(f, "bsi: write failed"),
+        }
+    }
+}
+
+impl Error for FilesFault {}
 
 impl From<AllocError> for FilesFault {
     ghost use Rattle.bsi_files.specs.declared.faults.FilesFault.TheVariants.{NoMemory};

@@ -53,12 +53,10 @@ pub fn feed<R: Wait, I: Read + Drop, G: Gate>(
     ensures number { IfSome result.closing (λ closing. closing.number ≡ feeder.number) }
     ensures channel { IfSome result.closing (λ closing. closing.channel ≡ feeder.channel) }
 
-    // The closing carries what was sent before, and then the rows that were accepted: the first good ones that the
-    // source still had. Where nothing stopped the feeder and there is no fault, they are all of them, and the bad
-    // records are all others.
-    ensures fed { IfSome result.closing
-        (λ closing. HasFed I.remaining source feeder.sent closing.rows result.accepted result.bad
-        result.stopped result.fault) }
+    // The rows that were accepted are the first good ones that the source still had. Where nothing stopped the feeder
+    // and there is no fault, they are all of them, and the bad records are all others. A closing carries what was sent
+    // before, and then them.
+    ensures fed { HasFed I.remaining source feeder.sent result }
 
     // A fault is the one that the source answered once it had given so many rows.
     ensures fault { IfSome result.fault (HasFailed I.remaining source result.accepted) }

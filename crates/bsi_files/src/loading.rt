@@ -4,12 +4,12 @@
 //! long, and publishes from 4,096 held rows on, so that few stand beside the two copies of the table. Such a publish
 //! may be refused memory: the rows stay held. Nobody asks before the last one.
 
-ghost use Rattle.std.specs.Prelude.{◌≡◌, ◌≢◌, ◌<◌, ◌≤◌, ℕ, [], All, Err, IfErr, IfOk, IfSome, None, OnOk, Ok, Some, false, length, true};
+ghost use Rattle.std.specs.Prelude.{◌≡◌, ◌≢◌, ◌<◌, ◌≤◌, ℕ, [], All, Err, IfErr, IfOk, IfSome, None, OnErr, OnOk, Ok, Some, false, length, true};
 ghost use Rattle.bsi_system.specs.Running.{published_all, taking_at, AlwaysHolds, IsClosingOf};
 ghost use Rattle.bsi_files.specs.Ends.{AreClosings};
-ghost use Rattle.bsi_files.specs.Takings.{all_closed, AreTold, IsDrained, IsFine, IsFullAt, IsFullBefore, IsKept, KeepsOthers, KeepsTold, TakesOnlyOf};
+ghost use Rattle.bsi_files.specs.Takings.{all_closed, AreGoing, AreTold, IsDrained, IsFine, IsFullAt, IsFullBefore, IsKept, KeepsOthers, KeepsTold, TakesOnlyOf};
 ghost use Rattle.bsi_files.specs.Faults.{is_early};
-ghost use Rattle.bsi_files.specs.RunFaults.{IsKeptFault};
+ghost use Rattle.bsi_files.specs.RunFaults.{IsKeptFault, IsNotClosed, IsSourceFault};
 
 use crate::headers::file_number;
 use crate::pause::Pause;
@@ -282,25 +282,46 @@ fn drain<B: Naming, R: Wait>(rt: &R, loader: &mut Loader<B>, feeder: u32) -> Res
     unreachable!()
 }
 
-/// Looks for a fault of a source, and then for a feeder that left no closing or that was stopped though no gate stops
-/// one.
+/// Looks for a feeder that was stopped though no gate stops one, then for a fault of a source, and then for a feeder
+/// that left no closing.
 pub(crate) fn check_all(fed: &[Fed], stops: bool) -> Result<(), FilesFault>
     requires { length fed.now ≤ 64 }
-    ensures fault { IfErr result (IsKeptFault fed.now) }
+    ensures fault { IfErr result (IsKeptFault stops fed.now) }
     ensures fine { OnOk result (All (IsFine stops) fed.now) }
 
-    // A fault of a source comes before a feeder that was not closed.
+    // A fault of a source comes before a feeder that was not closed, unless one was stopped though no gate stops any.
     ensures order { (file : ℕ) → result ≡ Err (FilesFault.NotClosed file) →
-        All (λ end. end.fault ≡ None) fed.now }
+        (stops ≡ false → AreGoing fed.now) → All (λ end. end.fault ≡ None) fed.now }
 {
+    check_going(fed, stops)?;
     check_sources(fed)?;
-    check_ends(fed, stops)
+    check_closed(fed)
+}
+
+/// Looks for a feeder that was stopped though no gate stops one, and answers the fault of the first feeder that left no
+/// closing. Where each left one, the full index that stops a feeder was told before.
+fn check_going(fed: &[Fed], stops: bool) -> Result<(), FilesFault>
+    requires { length fed.now ≤ 64 }
+    ensures fault { IfErr result (IsNotClosed fed.now) }
+    ensures going { OnOk result (stops ≡ false → AreGoing fed.now) }
+    ensures stopped { OnErr result (¬ (stops ≡ false → AreGoing fed.now)) }
+{
+    if stops {
+        return Ok(());
+    }
+    'files: for (file, end) in fed.iter().enumerate() {
+        if end.stopped {
+            check_closed(fed)?;
+            return Err(FilesFault::NotClosed(file_number(file)));
+        }
+    }
+    Ok(())
 }
 
 /// Looks for the first file whose source answered a fault, and answers this fault.
 fn check_sources(fed: &[Fed]) -> Result<(), FilesFault>
     requires { length fed.now ≤ 64 }
-    ensures fault { IfErr result (IsKeptFault fed.now) }
+    ensures fault { IfErr result (IsSourceFault fed.now) }
     ensures fine { OnOk result (All (λ end. end.fault ≡ None) fed.now) }
     ensures kind { (file : ℕ) → result ≢ Err (FilesFault.NotClosed file) }
 {
@@ -312,15 +333,14 @@ fn check_sources(fed: &[Fed]) -> Result<(), FilesFault>
     Ok(())
 }
 
-/// Looks for the first feeder that left no closing or that was stopped though no gate stops one, and answers this
-/// fault.
-fn check_ends(fed: &[Fed], stops: bool) -> Result<(), FilesFault>
-    ensures fault { IfErr result (IsKeptFault fed.now) }
+/// Looks for the first feeder that left no closing, and answers this fault.
+fn check_closed(fed: &[Fed]) -> Result<(), FilesFault>
+    requires { length fed.now ≤ 64 }
+    ensures fault { IfErr result (IsNotClosed fed.now) }
     ensures closed { OnOk result (All (λ end. end.closed ≡ true) fed.now) }
-    ensures going { OnOk result (All (λ end. stops ≡ false → end.stopped ≡ false) fed.now) }
 {
     'files: for (file, end) in fed.iter().enumerate() {
-        if !end.closed || end.stopped && !stops {
+        if !end.closed {
             return Err(FilesFault::NotClosed(file_number(file)));
         }
     }

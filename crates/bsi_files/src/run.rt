@@ -7,7 +7,7 @@ ghost use Rattle.bsi_files.specs.Feds.{HasRun, IsAllFed};
 ghost use Rattle.bsi_files.specs.Faults.{is_early, is_late};
 ghost use Rattle.bsi_files.specs.RunFaults.{IsFaultOf, IsLoadFault, IsRunFault};
 ghost use Rattle.bsi_files.specs.Runs.{IsRun};
-ghost use Rattle.bsi_files.specs.Writing.{Leaves, WhereKnown, WritesAll};
+ghost use Rattle.bsi_files.specs.Writing.{Leaves, WhereFilesKnown, WhereKnown, WritesAll};
 
 use crate::asks::answer_all;
 use crate::headers::{begin_all, capacities, file_number};
@@ -33,11 +33,11 @@ use std::thread::{Scope, Threads};
 /// the gate stops is no fault, and the rows that it sent count.
 ///
 /// It looks for faults in this order: the number of files; the schema file; the header of each row file; a reader of
-/// the table and a thread for each feeder; once the threads have ended the row limit, then the first row file that
-/// gives no more rows, then the first feeder without a closing, then the first that was stopped though its gate stops
-/// none; and, while it writes answers, the questions, a reader and the writer. Refused memory is answered where it is
-/// met. Lines that stand before a fault are whole, unless the writer fails. It keeps two copies of the table, and
-/// beside them some thousand rows.
+/// the table and a thread for each feeder; once the threads have ended the row limit, then, where a feeder was stopped
+/// though its gate stops none, the first feeder without a closing, then the first row file that gives no more rows,
+/// then the first feeder without a closing; and, while it writes answers, the questions, a reader and the writer.
+/// Refused memory is answered where it is met. Lines that stand before a fault are whole, unless the writer fails. It
+/// keeps two copies of the table, and beside them some thousand rows.
 pub fn run_files<
     R: Threads + Wait + AllocGlobal + Sync,
     S: Read + Drop,
@@ -53,8 +53,8 @@ pub fn run_files<
 
     // What a fault tells of the bytes of the schema file and of the row files.
     ensures fault { IfErr result (λ fault.
-        WhereKnown (S.remaining schema) (map I.remaining sources.items) (A.remaining asks)
-        (λ declared texts asked. IsFaultOf declared texts fault)) }
+        WhereFilesKnown (S.remaining schema) (map I.remaining sources.items)
+        (λ declared texts. IsFaultOf G.STOPS declared texts fault)) }
 
     // From bytes to bytes, where no gate stops a feeder.
     ensures lines { OnOk result (G.STOPS ≡ false →
@@ -125,7 +125,7 @@ fn run_in<
     requires many { length run.sources.items ≡ length capacities.items }
     requires few { length run.sources.items ≤ 64 }
     ensures counted { IfErr result (λ fault. fault ≢ FilesFault.TooManyFiles) }
-    ensures fault { IfErr result (IsRunFault I.remaining limit run.sources.items) }
+    ensures fault { IfErr result (IsRunFault I.remaining G.STOPS limit run.sources.items) }
     ensures quiet { IfErr result (λ fault. is_late fault ≡ false →
         W.contents writer.new ≡ W.contents writer.old) }
     ensures lines { OnOk result (IfSome (A.remaining run.asks) (λ asked.
@@ -176,7 +176,8 @@ fn run_ends<
     requires ready { AreReady loader.old.system B.about.limit feeders.items run.sources.items }
     requires schema { run.schema ≡ B.about.schema }
     ensures counted { IfErr result (λ fault. fault ≢ FilesFault.TooManyFiles) }
-    ensures fault { IfErr result (IsRunFault I.remaining B.about.limit run.sources.items) }
+    ensures fault { IfErr result
+        (IsRunFault I.remaining G.STOPS B.about.limit run.sources.items) }
     ensures quiet { IfErr result (λ fault. is_late fault ≡ false →
         W.contents writer.new ≡ W.contents writer.old) }
     ensures lines { OnOk result (IfSome (A.remaining run.asks) (λ asked.
@@ -214,7 +215,7 @@ fn feed_files<
     gate: &G,
 ) -> Result<(Vec<Fed>, Told<B>), FilesFault>
     requires { AreReady loader.old.system B.about.limit feeders.items sources.items }
-    ensures fault { IfErr result (IsLoadFault I.remaining B.about.limit sources.items) }
+    ensures fault { IfErr result (IsLoadFault I.remaining G.STOPS B.about.limit sources.items) }
     ensures fed { IfOk result (λ run.
         IsAllFed I.remaining G.STOPS B.about.limit run.1 sources.items run.0.items) }
 {
@@ -225,7 +226,8 @@ fn feed_files<
         rt,
         move |scope| -> Result<(Vec<Fed>, Told<B>), FilesFault>
             requires { AreReady loader.now.system B.about.limit feeders.items sources.items }
-            ensures fault { IfErr result (IsLoadFault I.remaining B.about.limit sources.items) }
+            ensures fault { IfErr result
+                (IsLoadFault I.remaining G.STOPS B.about.limit sources.items) }
             ensures fed { IfOk result (λ run.
                 IsAllFed I.remaining G.STOPS B.about.limit run.1 sources.items run.0.items) }
         { feed_in(scope, rt, shared, loader, feeders, sources) },
@@ -250,7 +252,7 @@ fn feed_in<
     sources: Vec<RowSource<I>>,
 ) -> Result<(Vec<Fed>, Told<B>), FilesFault>
     requires { AreReady loader.old.system B.about.limit feeders.items sources.items }
-    ensures fault { IfErr result (IsLoadFault I.remaining B.about.limit sources.items) }
+    ensures fault { IfErr result (IsLoadFault I.remaining G.STOPS B.about.limit sources.items) }
     ensures fed { IfOk result (λ run.
         IsAllFed I.remaining G.STOPS B.about.limit run.1 sources.items run.0.items) }
 {

@@ -9,7 +9,7 @@ use std::io::{ErrorKind, Write};
 
 /// Writes all bytes. A write that a signal interrupts is tried again. After a fault, what went out is a first part of
 /// them. It is not `write_all`, which does not promise what a fault leaves.
-pub(crate) fn write_bytes<W: Write>(writer: &mut W, bytes: &[u8]) -> Result<(), FilesFault>
+pub fn write_bytes<W: Write>(writer: &mut W, bytes: &[u8]) -> Result<(), FilesFault>
     ensures ok { OnOk result (Appends (W.contents writer.old) (W.contents writer.new) bytes.now) }
     ensures part { OnErr result (IsCut (W.contents writer.old) (W.contents writer.new) bytes.now) }
     ensures fault { IfErr result (λ fault. fault ≡ FilesFault.Write) }

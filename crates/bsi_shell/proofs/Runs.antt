@@ -1,15 +1,17 @@
 -- What a run leaves in its output, whether it met a fault or not.
-use Rattle.std.proofs.Common.{◌≡◌, ℕ, List, Option, Some, None, map, Result, Ok, Err, inl, inr, refl, sym, subst, ◌∙◌}
+use Rattle.std.proofs.Common.{◌≡◌, ℕ, false, List, Option, Some, None, map, Result, Ok, Err, refl, sym, subst, ◌∙◌}
 use Rattle.std.specs.Io.KnownBytes.{Appends, Keeps}
 use Rattle.std.specs.Prelude.{IfErr, IfSome, OnErr, OnOk}
 use Rattle.std.specs.Result.{result_and}
+use Rattle.bsi_files.proofs.Good.{run_good}
+use Rattle.bsi_files.specs.RunFaults.{IsFaultOf}
 use Rattle.bsi_files.specs.Runs.{IsRun}
-use Rattle.bsi_files.specs.Writing.{AreOut, Leaves, WhereKnown, WritesAll, WritesPart}
+use Rattle.bsi_files.specs.Writing.{Leaves, WhereFilesKnown, WhereKnown, WritesAll}
 use Rattle.bsi_files.specs.declared.faults.FilesFault.{FilesFault}
-use Rattle.bsi_files.specs.declared.faults.FilesFault.TheVariants.{Read, TooLong, Readers, NoMemory, Write}
-use Rattle.bsi_files.specs.declared.faults.Which.TheVariants.{AsksFile}
+use Rattle.bsi_files.specs.declared.faults.FilesFault.TheVariants.{Write}
+use Rattle.bsi_text.proofs.Waiting.{cut_all}
 use Rattle.bsi_text.specs.Texts.{IsAnswered, IsBegun}
-use Rattle.bsi_shell.specs.FileRuns.{HasBegunOver, HasPartOver, HasRunOver, IsPartOfRun}
+use Rattle.bsi_shell.specs.FileRuns.{HasFailedOver, HasRunOver}
 
 -- what holds anyway holds after a refusal
 pub on_err : {T E : Type 0} {P : Type 0} (r : Result T E) → P → OnErr r P
@@ -93,93 +95,68 @@ run_kept rem schema asks rows before middle after kept run = record {
       };
 }
 
--- a part of them, and then no more
-keeps_both : (before middle after : Option (List ℕ)) → Keeps before middle → Keeps middle after → Keeps before after
-keeps_both None middle after first last = tt
-keeps_both (Some xs) None after first last = absurd first
-keeps_both (Some xs) (Some ys) None first last = absurd last
-keeps_both (Some xs) (Some ys) (Some zs) first last = last ∙ first
+-- how a run over files and the flush after it ended by a fault
+module _ {S : Type 0} (rem : S → Option (List ℕ)) (schema asks : S) (rows : List S) (before middle after : Option (List ℕ)) (kept : Keeps middle after) where
+  abbrev Over : (List ℕ → List (List ℕ) → List ℕ → Type 0) → Type 0
+  Over = WhereKnown (rem schema) (map rem rows) (rem asks)
 
-keeps_same : (before after : Option (List ℕ)) → after ≡ before → Keeps before after
+  -- the run met it
+  met : (fault : FilesFault) → WhereFilesKnown (rem schema) (map rem rows) (λ declared texts. IsFaultOf false declared texts fault)
+      → Over (λ declared texts asked. Leaves (IsRun declared texts) asked fault before middle) → HasFailedOver rem fault before after
+  met fault is left = record {
+    schema = schema;
+    asks = asks;
+    rows = rows;
+    fault_is = λ declared texts asked s r a. is declared texts s r;
+    written = λ declared texts asked s r a. (middle, left declared texts asked s r a, kept);
+  }
+
+  -- the flush met it once all lines were written
+  met_last : Over (λ declared texts asked. WritesAll (IsRun declared texts) asked before middle) → HasFailedOver rem Write before after
+  met_last run = record {
+    schema = schema;
+    asks = asks;
+    rows = rows;
+    fault_is = λ declared texts asked s r a.
+        let all = run declared texts asked s r a in
+        run_good declared texts all.records all.lines all.are;
+    written = λ declared texts asked s r a.
+        let all = run declared texts asked s r a in (
+          middle,
+          record {
+            records = all.records;
+            lines = all.lines;
+            state = all.all.0;
+            rest = all.all.1;
+            first = all.all.2;
+            few = all.few;
+            too_long = λ same. cc (same);
+            are = all.are;
+            out = cut_all before middle _ all.written;
+          },
+          kept,
+        );
+  }
+
+  pub failed_over : (run flushed both : Result Unit FilesFault) → both ≡ result_and run flushed
+      → OnOk run (Over (λ declared texts asked. WritesAll (IsRun declared texts) asked before middle))
+      → IfErr run (λ fault. WhereFilesKnown (rem schema) (map rem rows) (λ declared texts. IsFaultOf false declared texts fault))
+      → IfErr run (λ fault. Over (λ declared texts asked. Leaves (IsRun declared texts) asked fault before middle))
+      → IfErr flushed (λ fault. fault ≡ Write) → IfErr both (λ fault. HasFailedOver rem fault before after)
+  failed_over run flushed both is lines fault left last =
+      subst (λ (r : Result Unit FilesFault). IfErr r (λ fault. HasFailedOver rem fault before after)) (sym is) (by run flushed lines fault left last)
+    where
+      by : (r f : Result Unit FilesFault) → OnOk r (Over (λ declared texts asked. WritesAll (IsRun declared texts) asked before middle))
+          → IfErr r (λ fault. WhereFilesKnown (rem schema) (map rem rows) (λ declared texts. IsFaultOf false declared texts fault))
+          → IfErr r (λ fault. Over (λ declared texts asked. Leaves (IsRun declared texts) asked fault before middle))
+          → IfErr f (λ fault. fault ≡ Write) → IfErr (result_and r f) (λ fault. HasFailedOver rem fault before after)
+      by (Ok x) (Ok y) lines fault left last = tt
+      by (Ok x) (Err e) lines fault left last = subst (λ (g : FilesFault). HasFailedOver rem g before after) (sym last) (met_last lines)
+      by (Err e) f lines fault left last = met e fault left
+
+pub keeps_same : (before after : Option (List ℕ)) → after ≡ before → Keeps before after
 keeps_same None after same = tt
 keeps_same (Some xs) after same = subst (λ o. Keeps (Some xs) o) (sym same) refl
-
-out_kept : (fault : FilesFault) (lines : List (List ℕ)) (before middle after : Option (List ℕ)) → Keeps middle after → AreOut fault lines before middle
-    → AreOut fault lines before after
-out_kept Write lines before middle after kept out = (out.0, appends_kept before middle after _ out.1 kept)
-out_kept (TooLong AsksFile) lines before middle after kept out = appends_kept before middle after _ out kept
-out_kept fault lines before middle after kept out = (out.0, appends_kept before middle after _ out.1 kept)
-
-part_of : (declared : List ℕ) (texts : List (List ℕ)) (asked : List ℕ) (fault : FilesFault) (before middle after : Option (List ℕ)) → Keeps middle after
-    → WritesPart (IsRun declared texts) asked fault before middle → IsPartOfRun declared texts asked before after
-part_of declared texts asked fault before middle after kept part = inr (inr (
-  fault,
-  record {
-    records = part.records;
-    lines = part.lines;
-    state = part.state;
-    rest = part.rest;
-    first = part.first;
-    few = part.few;
-    too_long = part.too_long;
-    are = part.are;
-    out = out_kept fault part.lines before middle after kept part.out;
-  },
-))
-
-nothing_of : (declared : List ℕ) (texts : List (List ℕ)) (asked : List ℕ) (before middle after : Option (List ℕ)) → Keeps middle after → middle ≡ before
-    → IsPartOfRun declared texts asked before after
-nothing_of declared texts asked before middle after kept same = inl (keeps_both before middle after (keeps_same before middle same) kept)
-
-left_kept : (declared : List ℕ) (texts : List (List ℕ)) (asked : List ℕ) (fault : FilesFault) (before middle after : Option (List ℕ)) → Keeps middle after
-    → Leaves (IsRun declared texts) asked fault before middle → IsPartOfRun declared texts asked before after
-left_kept declared texts asked (Read AsksFile) before middle after kept left = part_of declared texts asked (Read AsksFile) before middle after kept left
-left_kept declared texts asked (TooLong AsksFile) before middle after kept left = part_of declared texts asked (TooLong AsksFile) before middle after kept left
-left_kept declared texts asked Write before middle after kept left = part_of declared texts asked Write before middle after kept left
-left_kept declared texts asked Readers before middle after kept (inl same) = nothing_of declared texts asked before middle after kept same
-left_kept declared texts asked Readers before middle after kept (inr part) = part_of declared texts asked Readers before middle after kept part
-left_kept declared texts asked NoMemory before middle after kept (inl same) = nothing_of declared texts asked before middle after kept same
-left_kept declared texts asked NoMemory before middle after kept (inr part) = part_of declared texts asked NoMemory before middle after kept part
-left_kept declared texts asked fault before middle after kept left = nothing_of declared texts asked before middle after kept left
-
-module _ {S : Type 0} (rem : S → Option (List ℕ)) (schema asks : S) (rows : List S) (before middle after : Option (List ℕ)) (kept : Keeps middle after) where
-  all_over : WhereKnown (rem schema) (map rem rows) (rem asks) (λ declared texts asked. WritesAll (IsRun declared texts) asked before middle) → HasPartOver rem before after
-  all_over run = record {
-    schema = schema;
-    asks = asks;
-    rows = rows;
-    written = λ declared texts asked s r a.
-        let all = run declared texts asked s r a in
-        inr (inl (record {
-          records = all.records;
-          lines = all.lines;
-          all = all.all;
-          few = all.few;
-          are = all.are;
-          written = appends_kept before middle after _ all.written kept;
-        }));
-  }
-
-  left_over : (fault : FilesFault)
-      → WhereKnown (rem schema) (map rem rows) (rem asks) (λ declared texts asked. Leaves (IsRun declared texts) asked fault before middle) → HasPartOver rem before after
-  left_over fault run = record {
-    schema = schema;
-    asks = asks;
-    rows = rows;
-    written = λ declared texts asked s r a. left_kept declared texts asked fault before middle after kept (run declared texts asked s r a);
-  }
-
-  -- whether the run met a fault or not
-  pub part_over : {T : Type 0} (run : Result T FilesFault)
-      → OnOk run (WhereKnown (rem schema) (map rem rows) (rem asks) (λ declared texts asked. WritesAll (IsRun declared texts) asked before middle))
-      → IfErr run (λ fault. WhereKnown (rem schema) (map rem rows) (rem asks) (λ declared texts asked. Leaves (IsRun declared texts) asked fault before middle))
-      → HasBegunOver rem before after
-  part_over (Ok x) all left = inr (all_over all)
-  part_over (Err fault) all left = inr (left_over fault left)
-
--- nothing was written
-pub begun_none : {S : Type 0} (rem : S → Option (List ℕ)) (before after : Option (List ℕ)) → after ≡ before → HasBegunOver rem before after
-begun_none rem before after same = inl (keeps_same before after same)
 
 -- what is so of every input is so of one that is known
 pub of_any : {Q : List ℕ → Type 0} (known : Option (List ℕ)) → ((bytes : List ℕ) → Q bytes) → IfSome known Q

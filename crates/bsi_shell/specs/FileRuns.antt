@@ -1,9 +1,15 @@
--- What a run over files that were opened leaves in the output.
+-- What a run over files leaves in the output, and what it tells of a failure.
 use Rattle.std.specs.Io.KnownBytes.{Keeps}
-use Rattle.std.specs.Prelude.{◌⊎◌, ℕ, List, Option, map}
+use Rattle.std.specs.Prelude.{◌≡◌, ⊤, ◌⊎◌, ℕ, false, List, Option, map}
+use Rattle.bsi_files.specs.RunFaults.{IsFaultOf}
 use Rattle.bsi_files.specs.Runs.{IsRun}
-use Rattle.bsi_files.specs.Writing.{WhereKnown, WritesAll, WritesPart}
+use Rattle.bsi_files.specs.Writing.{Leaves, WhereKnown, WritesAll}
 use Rattle.bsi_files.specs.declared.faults.FilesFault.{FilesFault}
+use Rattle.bsi_files.specs.declared.faults.FilesFault.TheVariants.{NoMemory}
+use Rattle.bsi_shell.specs.FaultLines.{failure_line}
+use Rattle.bsi_shell.specs.declared.files.Failure.{Failure}
+use Rattle.bsi_shell.specs.declared.files.Failure.TheVariants.{CannotOpen, Run}
+use Rattle.bsi_text.specs.Waiting.{IsCut}
 
 -- some files were opened, and where it is known what they give, the lines of a run over them were put after what the
 -- output held
@@ -14,22 +20,32 @@ pub record HasRunOver {S : Type 0} (rem : S → Option (List ℕ)) (before after
   pub written : WhereKnown (rem schema) (map rem rows) (rem asks)
       (λ declared texts asked. WritesAll (IsRun declared texts) asked before after)
 
--- nothing was put after what the output held; or the lines of a run over files of these bytes, for all asks or for some
--- first ones, the last line cut where the fault is the writer's
-abbrev pub IsPartOfRun : List ℕ → List (List ℕ) → List ℕ → Option (List ℕ) → Option (List ℕ) → Type 0
-IsPartOfRun declared texts asked before after =
-    Keeps before after
-    ⊎ (WritesAll (IsRun declared texts) asked before after
-    ⊎ ((fault : FilesFault) × WritesPart (IsRun declared texts) asked fault before after))
+-- what a run that ends by a fault leaves in an output that is flushed at its end
+abbrev pub LeavesFlushed : List ℕ → List (List ℕ) → List ℕ → FilesFault → Option (List ℕ) → Option (List ℕ) → Type 0
+LeavesFlushed declared texts asked fault before after =
+    (middle : Option (List ℕ)) × Leaves (IsRun declared texts) asked fault before middle × Keeps middle after
 
--- nothing was put after what the output held, or some files were opened, and where it is known what they give, a part of
--- the lines of a run over them was
-pub record HasPartOver {S : Type 0} (rem : S → Option (List ℕ)) (before after : Option (List ℕ)) : Type 0 where
+-- some files were opened, and where it is known what they give, they have the fault, and the output what it leaves
+pub record HasFailedOver {S : Type 0} (rem : S → Option (List ℕ)) (fault : FilesFault) (before after : Option (List ℕ)) : Type 0 where
   pub schema : S
   pub asks : S
   pub rows : List S
+  pub fault_is : WhereKnown (rem schema) (map rem rows) (rem asks) (λ declared texts asked. IsFaultOf false declared texts fault)
   pub written : WhereKnown (rem schema) (map rem rows) (rem asks)
-      (λ declared texts asked. IsPartOfRun declared texts asked before after)
+      (λ declared texts asked. LeavesFlushed declared texts asked fault before after)
 
-abbrev pub HasBegunOver : {S : Type 0} → (S → Option (List ℕ)) → Option (List ℕ) → Option (List ℕ) → Type 0
-HasBegunOver rem before after = Keeps before after ⊎ HasPartOver rem before after
+-- a failure that may be met while files are opened
+abbrev pub IsOpenFailure : Failure → Type 0
+IsOpenFailure (CannotOpen path) = ⊤
+IsOpenFailure (Run fault) = fault ≡ NoMemory
+
+-- a run ended early by a failure: before any file was read, and then nothing was written, or over files that were opened
+abbrev pub HasFailed : {S : Type 0} → (S → Option (List ℕ)) → Option (List ℕ) → Option (List ℕ) → Failure → Type 0
+HasFailed rem before after (CannotOpen path) = Keeps before after
+HasFailed rem before after (Run fault) = ((fault ≡ NoMemory) × Keeps before after) ⊎ HasFailedOver rem fault before after
+
+-- a run ended early, and of the line of this failure a first part was told, all of it unless the writer failed
+pub record HasToldFailure {S : Type 0} (rem : S → Option (List ℕ)) (before after said told : Option (List ℕ)) : Type 0 where
+  pub failure : Failure
+  pub failed : HasFailed rem before after failure
+  pub line : IsCut said told (failure_line failure)

@@ -1,6 +1,6 @@
 //! A run over files: it opens all files in the order of the words, and then reads them.
-ghost use Rattle.std.specs.Prelude.{◌≡◌, ◌<◌, IfOk, OnErr, OnOk, length};
-ghost use Rattle.bsi_shell.specs.FileRuns.{HasBegunOver, HasRunOver};
+ghost use Rattle.std.specs.Prelude.{◌≡◌, ◌<◌, IfErr, IfOk, OnOk, length};
+ghost use Rattle.bsi_shell.specs.FileRuns.{HasFailed, HasFailedOver, HasRunOver, IsOpenFailure};
 
 use crate::paths::Paths;
 use bsi_files::{FilesFault, Go, run_files};
@@ -10,20 +10,34 @@ use std::io::{Read, Write};
 use std::rt::Files;
 use std::sync::Wait;
 use std::thread::Threads;
-use thiserror::Error;
 
 /// Why a run over files ended early.
-#[derive(Clone, Copy, Debug, PartialEq, Eq, Error)]
+#[derive(Clone, Copy, Debug)]
 pub(crate) enum Failure<'a> {
-    /// The file cannot be opened.
-    #[error("bsi: cannot open {0}")]
+    /// The file of this path cannot be opened.
     CannotOpen(&'a str),
     /// The run met a fault.
-    #[error("{0}")]
-    Run(#[from] FilesFault),
+    Run(FilesFault),
+}
+
+impl From<FilesFault> for Failure<'_> {
+    ghost use Rattle.std.specs.Prelude.{◌≡◌};
+    ghost use Rattle.bsi_shell.specs.declared.files.Failure.TheVariants.{Run};
+
+    ghost from_gives = { λ fault failure. failure ≡ Run fault };
+
+    fn from(fault: FilesFault) -> Self {
+        Failure::Run(fault)
+    }
 }
 
 impl From<AllocError> for Failure<'_> {
+    ghost use Rattle.std.specs.Prelude.{◌≡◌};
+    ghost use Rattle.bsi_files.specs.declared.faults.FilesFault.TheVariants.{NoMemory};
+    ghost use Rattle.bsi_shell.specs.declared.files.Failure.TheVariants.{Run};
+
+    ghost from_gives = { λ _ failure. failure ≡ Run NoMemory };
+
     fn from(_refused: AllocError) -> Self {
         Failure::Run(FilesFault::NoMemory)
     }
@@ -45,8 +59,7 @@ pub(crate) fn run_over<
 >(rt: &R, paths: &Paths<'a>, output: &mut O) -> Result<(), Failure<'a>>
     ensures ran { OnOk result
         (HasRunOver S.remaining (O.contents output.old) (O.contents output.new)) }
-    ensures part { OnErr result
-        (HasBegunOver S.remaining (O.contents output.old) (O.contents output.new)) }
+    ensures failed { IfErr result (HasFailed S.remaining (O.contents output.old) (O.contents output.new)) }
 {
     let opened = open_all(rt, paths)?;
     run_opened(rt, opened, output)?;
@@ -63,8 +76,8 @@ fn run_opened<R: AllocGlobal + Threads + Wait + Sync, S: Read + Drop + Send, O: 
     requires { 0 < length opened.rows.items }
     ensures ran { OnOk result
         (HasRunOver S.remaining (O.contents output.old) (O.contents output.new)) }
-    ensures part { OnErr result
-        (HasBegunOver S.remaining (O.contents output.old) (O.contents output.new)) }
+    ensures failed { IfErr result (λ fault.
+        HasFailedOver S.remaining fault (O.contents output.old) (O.contents output.new)) }
 {
     let Opened { schema, asks, rows } = opened;
     let run = run_files(rt, schema, asks, rows, output, &Go);
@@ -77,7 +90,8 @@ fn open_all<'a, R: AllocGlobal + Files<File = S>, S: Read + Drop>(
     rt: &R,
     paths: &Paths<'a>,
 ) -> Result<Opened<S>, Failure<'a>>
-    ensures { IfOk result (λ opened. length opened.rows.items ≡ length paths.now.rows.items) }
+    ensures opened { IfOk result (λ opened. length opened.rows.items ≡ length paths.now.rows.items) }
+    ensures failed { IfErr result IsOpenFailure }
 {
     let schema = open_one(rt, paths.schema)?;
     let asks = open_one(rt, paths.asks)?;
@@ -90,9 +104,8 @@ fn open_all<'a, R: AllocGlobal + Files<File = S>, S: Read + Drop>(
 }
 
 /// Opens one file for reading.
-fn open_one<'a, R: Files<File = S>, S: Read + Drop>(
-    rt: &R,
-    path: &'a str,
-) -> Result<S, Failure<'a>> {
+fn open_one<'a, R: Files<File = S>, S: Read + Drop>(rt: &R, path: &'a str) -> Result<S, Failure<'a>>
+    ensures { IfErr result IsOpenFailure }
+{
     fs::open(rt, path).map_err(|_| Failure::CannotOpen(path))
 }

@@ -4,6 +4,7 @@
 mod files;
 mod paths;
 mod request;
+mod telling;
 mod words;
 
 pub use bsi_files::{FeedEnd, FilesFault, Gate, Go, Stopping, Which, feed, run_files};

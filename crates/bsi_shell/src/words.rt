@@ -1,21 +1,21 @@
 //! The command line: the words after the program's name, and the status that they end with.
 ghost use Rattle.std.specs.Prelude.{◌≡◌, ◌≤◌, OnErr, OnOk};
 ghost use Rattle.bsi_shell.specs.Commands.{BeginsWithFiles};
-ghost use Rattle.bsi_shell.specs.FileRuns.{HasBegunOver, HasRunOver};
+ghost use Rattle.bsi_shell.specs.FaultLines.{usage_line, IsToldOfScript};
+ghost use Rattle.bsi_shell.specs.FileRuns.{HasRunOver, HasToldFailure};
 ghost use Rattle.bsi_text.specs.Texts.{IfKnown, IsAnswered, IsBegun};
+ghost use Rattle.bsi_text.specs.Waiting.{IsCut};
 
-use crate::files::run_over;
+use crate::files::{Failure, run_over};
 use crate::request::{Request, read_request};
+use crate::telling::{tell_failure, tell_fault, tell_usage};
+use bsi_files::FilesFault;
 use bsi_text::{ScriptFault, run_script};
 use std::alloc::Global;
-use std::fmt::Display;
 use std::io::{Read, Write};
 use std::rt::Files;
 use std::sync::Wait;
 use std::thread::Threads;
-
-/// The line that answers words that are not a command.
-const USAGE: &str = "usage: bsi script | bsi files --schema FILE --asks FILE CSV..";
 
 /// Carries out what the words after the program's name ask for, and returns the status that the program ends with. The
 /// status is 0, or 1 with one line on `faults` that tells which fault was met, or 2 with the usage line for words that
@@ -30,22 +30,27 @@ pub fn run_words<
     ensures status { result ≤ 2 }
 
     // Where the first word is not `files`: a run with no fault has answered the whole input. After status 1 what was
-    // written is a first part of the lines that answer the whole input.
+    // written is a first part of the lines that answer the whole input, and the line on `faults` is that of a fault.
     ensures answered { result ≡ 0 → ¬ BeginsWithFiles words.items →
         IfKnown (I.remaining input) IsAnswered (O.contents output.old) (O.contents output.new) }
     ensures begun { result ≡ 1 → ¬ BeginsWithFiles words.items →
         IfKnown (I.remaining input) IsBegun (O.contents output.old) (O.contents output.new) }
+    ensures said { result ≡ 1 → ¬ BeginsWithFiles words.items →
+        IsToldOfScript (F.contents faults.old) (F.contents faults.new) }
 
     // Where it is `files`, a run with no fault over the files that were opened has answered all their asks. After status
-    // 1 a part of these lines was written, or nothing.
+    // 1 the line on `faults` is that of a fault that the files have, and the output has what this fault leaves.
     ensures ran { result ≡ 0 → BeginsWithFiles words.items →
         HasRunOver S.remaining (O.contents output.old) (O.contents output.new) }
-    ensures part { result ≡ 1 → BeginsWithFiles words.items →
-        HasBegunOver S.remaining (O.contents output.old) (O.contents output.new) }
+    ensures told { result ≡ 1 → BeginsWithFiles words.items →
+        HasToldFailure S.remaining (O.contents output.old) (O.contents output.new)
+        (F.contents faults.old) (F.contents faults.new) }
 
-    // In each case: a run with no fault says nothing, and after status 2 nothing was written.
+    // In each case: a run with no fault says nothing. After status 2 nothing was written, and `faults` has the usage
+    // line, or a first part of it where that writer failed.
     ensures quiet { result ≡ 0 → F.contents faults.new ≡ F.contents faults.old }
     ensures wrong { result ≡ 2 → O.contents output.new ≡ O.contents output.old }
+    ensures usage { result ≡ 2 → IsCut (F.contents faults.old) (F.contents faults.new) usage_line }
 {
     // The proof takes from this that what answers the whole input has also begun to.
     bsi_text::laws::begun();
@@ -56,10 +61,10 @@ pub fn run_words<
         },
         Request::Files(paths) => match run_over(rt, &paths, output) {
             Ok(()) => 0,
-            Err(failure) => tell_fault(failure, faults),
+            Err(failure) => tell_failure(failure, faults),
         },
         Request::Wrong => tell_usage(faults),
-        Request::NoMemory => tell_fault(ScriptFault::NoMemory, faults),
+        Request::NoMemory => tell_failure(Failure::Run(FilesFault::NoMemory), faults),
     }
 }
 
@@ -79,22 +84,4 @@ fn run_to_end<I: Read + Drop, O: Write>(
     let run = run_script(alloc, input, output);
     let flushed = output.flush().map_err(|_| ScriptFault::Write);
     run.and(flushed)
-}
-
-/// Writes the line of a fault, and returns its status.
-fn tell_fault<D: Display + Drop, F: Write>(fault: D, faults: &mut F) -> u8
-    ensures { result ≡ 1 }
-{
-    // The status tells of the fault, even if its line cannot be written.
-    let _ = writeln!(faults, "{fault}");
-    1
-}
-
-/// Writes the usage line, and returns its status.
-fn tell_usage<F: Write>(faults: &mut F) -> u8
-    ensures { result ≡ 2 }
-{
-    // The status tells of the wrong words, even if the usage line cannot be written.
-    let _ = writeln!(faults, "{USAGE}");
-    2
 }

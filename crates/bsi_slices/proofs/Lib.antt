@@ -3,8 +3,6 @@ pub mod CallerLemmas
 pub mod EndBlocks
 pub mod EndRows
 pub mod Exchanging
-pub mod Narrowing
-pub mod Places
 pub mod Ranking
 pub mod SliceBlocks
 pub mod SliceEntries
@@ -13,4 +11,5 @@ pub mod SliceNumbers
 pub mod SliceSelections
 pub mod StageBits
 pub mod Turning
+pub mod WholeRanks
 pub mod WordBlocks

@@ -274,25 +274,3 @@ module _ (found : List Bool) (entries : List (Option ℕ)) (k : ℕ) where
         low = omega (arith, state.rank_is, below);
         high = omega (arith, state.rank_is, state.there, below, same, left, split);
       }
-
-either_way : (f b : Bool) → cond f 1 0 ≡ cond (f && b) 1 0 + cond (f && not b) 1 0
-either_way false b = refl
-either_way true false = refl
-either_way true true = refl
-
--- the rows that are set are those that are set in a slice too and those that are not
-pub count_by_slice : (chosen slice : List Bool) → length slice ≡ length chosen
-    → count_by (λ b. b) chosen ≡ count_by (λ b. b) (zip2 ◌&&◌ chosen slice) + count_by (λ b. b) (zip2 (λ f b. f && not b) chosen slice)
-count_by_slice [] slice same = refl
-count_by_slice (f ∷ chosen) [] same = absurd (omega arith)
-count_by_slice (f ∷ chosen) (b ∷ slice) same =
-    let rest = count_by_slice chosen slice (omega arith) in
-    let one : cond f 1 0 ≡ cond (f && b) 1 0 + cond (f && not b) 1 0 = either_way f b in
-    omega (
-      arith,
-      rest,
-      one,
-      count_cons (λ b. b) f chosen,
-      count_cons (λ b. b) (f && b) (zip2 ◌&&◌ chosen slice),
-      count_cons (λ b. b) (f && not b) (zip2 (λ f b. f && not b) chosen slice),
-    )

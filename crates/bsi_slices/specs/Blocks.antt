@@ -1,6 +1,5 @@
 -- Words that are written block by block.
-use Rattle.std.specs.Prelude.{◌≡◌, ℕ, ◌+◌, ◌*◌, ◌<◌, ◌≤◌, ◌&&◌, Bool, true, false, List, length, slice_index_or, Option, None, bit_and}
-use Rattle.std.specs.Int.{bit_not, w64}
+use Rattle.std.specs.Prelude.{◌≡◌, ℕ, ◌+◌, ◌*◌, ◌<◌, ◌≤◌, ◌&&◌, Bool, List, length, slice_index_or, Option, None}
 use Rattle.bsi_bits.specs.Packed.{bit_of}
 
 -- of the rows of the words `from` up to `to` some are kept, and the other words are as they were
@@ -15,8 +14,3 @@ abbrev pub KeepsRows : {X : Type 0} → (Option X → Bool) → List (Option X) 
 KeepsRows passes entries at old now =
     (p : ℕ) → p < 64 * length old
     → bit_of now p ≡ (bit_of old p && passes (slice_index_or entries (64 * at + p) None))
-
--- of the rows of a word those are kept that are set in another one or, as wanted, those that are clear there
-abbrev pub word_kept : Bool → ℕ → ℕ → ℕ
-word_kept true word other = bit_and word other
-word_kept false word other = bit_and word (bit_not w64 other)

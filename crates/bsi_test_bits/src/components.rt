@@ -3,7 +3,7 @@
 ghost use Rattle.std.specs.Prelude.{◌≤◌, ◌^◌};
 
 use bsi_bits::Bits;
-use bsi_components::{Encoding, EqualityComponent, NoMemory, RangeComponent, RankedDigit};
+use bsi_components::{Encoding, EqualityComponent, NoMemory, RangeComponent, RankedRows};
 use std::alloc::Global;
 use std::process::Abort;
 use std::test::Fail;
@@ -253,32 +253,30 @@ fn blocks_of_rows(rt: HostRuntime) -> Result<(), Fail> {
     steps_of_a_block::<RangeComponent>(&rt, rt.alloc())
 }
 
-// How many of all rows have a digit of at most 1, and the row of rank 1.
+// How many of all rows have a digit of at most 1, and the rows that have the digit of the row of rank 1.
 fn counted<E: Encoding>(
     component: &E,
-    rows: &mut Bits,
+    rows: Bits,
     scratch: &mut Bits,
-) -> Option<(u64, RankedDigit)> {
+) -> Result<Option<(u64, RankedRows)>, NoMemory> {
     let len = component.len();
     if component.base() < 2 || len != rows.len() || len != scratch.len() || rows.count() < 2 {
-        return None;
+        return Ok(None);
     }
-    let low = component.count_le(1, rows, scratch);
-    let found = component.digit_of_rank(1, rows, scratch);
-    component.keep_digit(found.digit, scratch, rows);
-    Some((low, found))
+    let low = component.count_le(1, &rows, scratch);
+    Ok(Some((low, component.rows_of_rank(1, rows)?)))
 }
 
 fn ranks<E: Encoding>(rt: &impl Abort, alloc: Global) -> Result<(), Fail> {
     let component = three_digits::<E>(alloc)?;
-    let mut rows = filled(alloc, 3, true)?;
+    let rows = filled(alloc, 3, true)?;
     let mut scratch = filled(alloc, 3, false)?;
-    let ranked = RankedDigit { digit: 1, rank: 0 };
-    assert_eq!(rt;
-        counted(&component, &mut rows, &mut scratch),
-        Some((2, ranked))
-    );
-    assert!(rt; shows(&rows, &[false, false, true]));
+    let counted = counted(&component, rows, &mut scratch)?;
+    assert!(rt; counted.is_some());
+    if let Some((low, ranked)) = counted {
+        assert_eq!(rt; (low, ranked.number, ranked.rank), (2, 1, 0));
+        assert!(rt; shows(&ranked.rows, &[false, false, true]));
+    }
     Ok(())
 }
 

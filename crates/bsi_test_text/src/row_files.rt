@@ -3,7 +3,7 @@
 use crate::ends::{broken, whole};
 use bsi_plain::TextReader;
 use bsi_table::{ColumnSpec, Row, Schema, SchemaError};
-use bsi_text::{NoMemory, RowSource, SourceFault};
+use bsi_text::{RowSource, SourceFault};
 use std::alloc::Global;
 use std::io;
 use std::io::Read;
@@ -255,26 +255,5 @@ fn a_row_file_has_at_most_a_million_records(rt: HostRuntime) -> Result<(), Fail>
         drained = drain(rt.alloc(), &schema, 1_000_001);
     }
     assert_eq!(rt; drained, want);
-    Ok(())
-}
-
-fn text_once(alloc: Global, fault: SourceFault) -> Result<String, NoMemory> {
-    format!(in alloc; "{fault}")
-}
-
-#[test]
-fn each_fault_has_its_text(rt: HostRuntime) -> Result<(), Fail> {
-    for (fault, want) in [
-        (SourceFault::BadHeader, "bad header"),
-        (SourceFault::Read, "read failed"),
-        (SourceFault::NoMemory, "no memory"),
-        (SourceFault::TooLong, "input too long"),
-    ] {
-        let text = match text_once(rt.alloc(), fault) {
-            Err(_) => text_once(rt.alloc(), fault)?,
-            Ok(text) => text,
-        };
-        assert_eq!(rt; text.as_str(), want);
-    }
     Ok(())
 }

@@ -9,5 +9,5 @@ mod Standing
 mod Taking
 mod Turns
 mod Unique
-mod Waiting
+pub mod Waiting
 mod Writes

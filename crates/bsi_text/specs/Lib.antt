@@ -1,3 +1,4 @@
+pub mod FaultTexts
 pub mod Pasts
 pub mod RecordTexts
 pub mod RowFiles

@@ -15,26 +15,41 @@ use crate::reading::{MAX_RECORDS, end_after, plain_reader, read_next};
 use bsi_table::{Row, Schema};
 use csv::{ByteRecord, Reader};
 use std::alloc::{AllocError, Global};
+use std::error::Error;
+use std::fmt;
 use std::io::Read;
 use std::marker::Model;
-use thiserror::Error;
 
 /// Why a row source gives no more rows.
-#[derive(Clone, Copy, Debug, PartialEq, Eq, Error)]
+#[derive(Clone, Copy, Debug, PartialEq, Eq)]
 pub enum SourceFault {
     /// The first record does not name each column exactly once and nothing else, or there is no record.
-    #[error("bad header")]
     BadHeader,
     /// The reader failed.
-    #[error("read failed")]
     Read,
     /// Memory was refused for the header, a record, a row or the copy of the schema.
-    #[error("no memory")]
     NoMemory,
     /// There are more than 1,000,000 records after the header.
-    #[error("input too long")]
     TooLong,
 }
+
+impl fmt::Display for SourceFault {
+    ghost use Rattle.std.specs.Prelude.{Some};
+    ghost use Rattle.bsi_text.specs.FaultTexts.{source_fault_text};
+
+    ghost output = { λ fault. Some (source_fault_text fault) };
+
+    fn fmt<W: fmt::Write>(&self, f: &mut fmt::Formatter<W>) -> fmt::Result {
+        match self {
+            SourceFault::BadHeader => write!(f, "bad header"),
+            SourceFault::Read => write!(f, "read failed"),
+            SourceFault::NoMemory => write!(f, "no memory"),
+            SourceFault::TooLong => write!(f, "input too long"),
+        }
+    }
+}
+
+impl Error for SourceFault {}
 
 impl From<AllocError> for SourceFault {
     ghost use Rattle.bsi_text.specs.declared.rows.SourceFault.TheVariants.{NoMemory};

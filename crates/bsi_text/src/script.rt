@@ -16,28 +16,43 @@ use crate::session::Session;
 use crate::watched::{Watched, has_whole_record};
 use csv::{ByteRecord, Reader};
 use std::alloc::{AllocError, Global};
+use std::error::Error;
+use std::fmt;
 use std::io::{Read, Write};
-use thiserror::Error;
 
 /// The most bytes of waiting lines.
 const MAX_GATHERED: usize = 1 << 16;
 
 /// Why a script ends before its input does. The lines before the end were written.
-#[derive(Clone, Copy, Debug, PartialEq, Eq, Error)]
+#[derive(Clone, Copy, Debug, PartialEq, Eq)]
 pub enum ScriptFault {
     /// The reader failed.
-    #[error("bsi: read failed")]
     Read,
     /// The writer failed, or took no byte.
-    #[error("bsi: write failed")]
     Write,
     /// Memory was refused while a record was read, something was set up or a line was written.
-    #[error("bsi: no memory")]
     NoMemory,
     /// There are more than 1,000,000 records.
-    #[error("bsi: input too long")]
     TooLong,
 }
+
+impl fmt::Display for ScriptFault {
+    ghost use Rattle.std.specs.Prelude.{Some};
+    ghost use Rattle.bsi_text.specs.FaultTexts.{script_fault_text};
+
+    ghost output = { λ fault. Some (script_fault_text fault) };
+
+    fn fmt<W: fmt::Write>(&self, f: &mut fmt::Formatter<W>) -> fmt::Result {
+        match self {
+            ScriptFault::Read => write!(f, "bsi: read failed"),
+            ScriptFault::Write => write!(f, "bsi: write failed"),
+            ScriptFault::NoMemory => write!(f, "bsi: no memory"),
+            ScriptFault::TooLong => write!(f, "bsi: input too long"),
+        }
+    }
+}
+
+impl Error for ScriptFault {}
 
 impl From<csv::Error> for ScriptFault {
     ghost use Rattle.std.specs.Prelude.{◌≡◌, if◌then◌else◌};

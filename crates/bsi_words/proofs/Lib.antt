@@ -7,4 +7,6 @@ pub mod FoundRows
 pub mod MarkBits
 pub mod MarkPlaces
 pub mod PlaceBitmaps
+pub mod Narrowing
+pub mod PlaceRanks
 pub mod PlaceSums

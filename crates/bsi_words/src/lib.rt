@@ -1,8 +1,11 @@
-//! What the forms of a column do with words: steps on blocks of them, the words of digits, and sums over those of a found set.
+//! What the forms of a column do with words: steps on blocks of them, the words of digits, and the sum and the rows of a rank
+//! over those of a found set.
 #![tactic(auto)]
 
 pub mod blocks;
 pub mod marks;
+mod ranks;
 mod sums;
 
+pub use ranks::{RankedRows, rows_of_rank};
 pub use sums::{is_empty, sum_by_places};

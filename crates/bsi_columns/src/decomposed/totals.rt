@@ -7,7 +7,6 @@
 ghost use Rattle.std.specs.Prelude.{◌≡◌, ◌^◌, ◌<◌, length, sum, IfOk};
 ghost use Rattle.bsi_columns.specs.Totals.{numbers_at, IsRanked};
 
-use crate::choosing::choose_digit;
 use crate::decomposed::Decomposed;
 use crate::{Column, Encoding, NoMemory};
 use bsi_bits::Bits;
@@ -38,15 +37,15 @@ impl<E: Encoding> Decomposed<E> {
     {
         let mut chosen = found.copy()?;
         chosen.and_with(self.present());
-        let mut scratch = found.copy()?;
         let bases = self.bases();
         let (mut number, mut rank) = (0, k);
         let mut i = bases.len();
         'components: while i > 0 {
             i -= 1;
-            let choice = choose_digit(self.component(i), rank, &mut scratch, &mut chosen);
-            number = number * u64::from(bases.base(i)) + u64::from(choice.digit);
-            rank = choice.rank;
+            let ranked = self.component(i).rows_of_rank(rank, chosen)?;
+            number = number * u64::from(bases.base(i)) + ranked.number;
+            rank = ranked.rank;
+            chosen = ranked.rows;
         }
         Ok(number)
     }

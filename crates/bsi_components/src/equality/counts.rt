@@ -1,7 +1,9 @@
 //! Counts of found rows by digit in an equality encoded component, and what follows from them: the digit of a rank, and
 //! the sum where no binary places are kept.
 
-ghost use Rattle.std.specs.Prelude.{◌≡◌, ◌<◌, ◌≤◌, ◌==◌, length, count_by, sum};
+ghost use Rattle.std.specs.Prelude.{◌≡◌, ◌<◌, ◌≤◌, ◌==◌, ◌&&◌, length, count_by, nat_eq, sum};
+ghost use Rattle.std.specs.Simd.Lanes.{zip2};
+ghost use Rattle.bsi_words.specs.Ranks.{IsRankedRows};
 ghost use Rattle.std.specs.List.{items_where_true};
 ghost use Rattle.bsi_components.specs.Component.{count_where, IsRankedDigit};
 ghost use Rattle.bsi_components.specs.Equality.{is_among};
@@ -10,6 +12,7 @@ use crate::answers::RankedDigit;
 use crate::encoding::Encoding;
 use crate::equality::EqualityComponent;
 use bsi_bits::Bits;
+use bsi_words::RankedRows;
 
 impl EqualityComponent {
     /// Returns how many rows of a found set have a digit of `d`.
@@ -42,7 +45,7 @@ impl EqualityComponent {
 
     /// Returns the digit of the row of rank `rank` among the rows of a found set, and its rank among those of its
     /// digit. It counts the digits from 0 up.
-    pub(crate) fn rank_from_least(&self, rank: u64, found: &Bits) -> RankedDigit
+    fn rank_from_least(&self, rank: u64, found: &Bits) -> RankedDigit
         requires same { length self.now.digits ≡ length found.now.bits }
         requires there { rank < count_by (λ b. b) found.now.bits }
         ensures digit { result.digit < self.now.base }
@@ -63,29 +66,35 @@ impl EqualityComponent {
         }
     }
 
-    /// Returns the digit of the row of rank `rank` among the rows of a found set, and its rank among those of its
-    /// digit. It counts the digits from the greatest down; `rows` is the number of all found rows.
-    pub(crate) fn rank_from_greatest(&self, rank: u64, rows: u64, found: &Bits) -> RankedDigit
-        requires same { length self.now.digits ≡ length found.now.bits }
-        requires all { rows ≡ count_by (λ b. b) found.now.bits }
-        requires there { rank < rows }
-        ensures digit { result.digit < self.now.base }
-        ensures ranked { IsRankedDigit rank found.now.bits self.now.digits result }
+    /// Keeps of a set of rows those whose digit is `d`.
+    fn keep_digit(&self, d: u32, rows: &mut Bits)
+        requires below { d < self.now.base }
+        requires same { length self.now.digits ≡ length rows.old.bits }
+        ensures { rows.new.bits ≡ zip2 (λ f v. f && nat_eq v d) rows.old.bits self.now.digits }
     {
-        let mut digit = self.base() - 1;
-        let mut upto = rows;
-        'digits: while digit > 0 {
-            let below = upto - self.count_eq(digit, found);
-            if rank >= below {
-                return RankedDigit {
-                    digit,
-                    rank: rank - below,
-                };
-            }
-            upto = below;
-            digit -= 1;
+        if d == 0 && self.base() == 2 {
+            rows.and_not_with(self.bitmap(1));
+        } else {
+            rows.and_with(self.bitmap(d));
         }
-        RankedDigit { digit: 0, rank }
+    }
+
+    /// Returns the rows of a found set that have the digit of the row of rank `rank`, by counts of the digits from 0 up.
+    pub(crate) fn rows_by_counts(&self, rank: u64, found: Bits) -> RankedRows
+        requires same { length self.now.digits ≡ length found.bits }
+        requires there { rank < count_by (λ b. b) found.bits }
+        ensures digit { result.number < self.now.base }
+        ensures ranked { IsRankedRows rank found.bits self.now.digits
+            result.number result.rank result.rows.bits }
+    {
+        let choice = self.rank_from_least(rank, &found);
+        let mut rows = found;
+        self.keep_digit(choice.digit, &mut rows);
+        RankedRows {
+            number: u64::from(choice.digit),
+            rank: choice.rank,
+            rows,
+        }
     }
 
     /// Returns the sum of the digits of the found rows: for each digit but 0, the digit times the number of these rows

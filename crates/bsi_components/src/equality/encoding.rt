@@ -10,13 +10,13 @@ ghost use Rattle.bsi_bits.specs.Marked.{HasMarked};
 ghost use Rattle.bsi_components.specs.EndDigits.{AnswersGreatest, AnswersLeast};
 
 use crate::NoMemory;
-use crate::answers::{EndDigit, RankedDigit};
+use crate::answers::EndDigit;
 use crate::encoding::Encoding;
 use crate::equality::{EqualityComponent, first_stored, push_block};
 use crate::places::{is_place_set, place_count};
 use bsi_bits::{Bitmaps, Bits};
 use bsi_words::blocks::{add_missing, copy_in, drop_in, keep_in};
-use bsi_words::sum_by_places;
+use bsi_words::{RankedRows, rows_of_rank, sum_by_places};
 use std::alloc::Global;
 
 impl Encoding for EqualityComponent {
@@ -118,22 +118,15 @@ impl Encoding for EqualityComponent {
         }
     }
 
-    // It counts the digits from the end that is nearer to the rank, by one bitmap each, and writes no vector.
-    fn digit_of_rank(&self, rank: u64, found: &Bits, _scratch: &mut Bits) -> RankedDigit {
-        let rows = found.count();
-        if rank < rows / 2 {
-            self.rank_from_least(rank, found)
-        } else {
-            self.rank_from_greatest(rank, rows, found)
+    // It goes down the binary places of the digits, which are fewer than their bitmaps.
+    fn rows_of_rank(&self, rank: u64, found: Bits) -> Result<RankedRows, NoMemory> {
+        // The proof takes from this call that each digit is below the base.
+        let _base = self.base();
+        let places = self.places();
+        if places.is_empty() {
+            return Ok(self.rows_by_counts(rank, found));
         }
-    }
-
-    fn keep_digit(&self, d: u32, _scratch: &mut Bits, rows: &mut Bits) {
-        if d == 0 && self.base() == 2 {
-            rows.and_not_with(self.bitmap(1));
-        } else {
-            rows.and_with(self.bitmap(d));
-        }
+        Ok(rows_of_rank(places, rank, found))
     }
 
     fn copy(&self) -> Result<Self, NoMemory> {

@@ -10,13 +10,13 @@ ghost use Rattle.bsi_bits.specs.Marked.{HasMarked};
 ghost use Rattle.bsi_components.specs.EndDigits.{AnswersGreatest, AnswersLeast};
 
 use crate::NoMemory;
-use crate::answers::{EndDigit, RankedDigit};
+use crate::answers::EndDigit;
 use crate::encoding::Encoding;
 use crate::places::{is_place_set, place_count};
 use crate::range::{RangeComponent, push_block};
 use bsi_bits::{Bitmaps, Bits};
 use bsi_words::blocks::{add_in, copy_in, drop_in, keep_and_add, keep_but_drop, keep_in};
-use bsi_words::sum_by_places;
+use bsi_words::{RankedRows, sum_by_places};
 use std::alloc::Global;
 
 impl Encoding for RangeComponent {
@@ -109,19 +109,15 @@ impl Encoding for RangeComponent {
         }
     }
 
-    fn digit_of_rank(&self, rank: u64, found: &Bits, _scratch: &mut Bits) -> RankedDigit {
-        self.find_rank(rank, found)
-    }
-
-    fn keep_digit(&self, d: u32, _scratch: &mut Bits, rows: &mut Bits) {
-        if d == self.top() {
-            rows.and_not_with(self.bitmap(d - 1));
-        } else if d > 0 {
-            rows.and_with(self.bitmap(d));
-            rows.and_not_with(self.bitmap(d - 1));
-        } else {
-            rows.and_with(self.bitmap(0));
-        }
+    fn rows_of_rank(&self, rank: u64, found: Bits) -> Result<RankedRows, NoMemory> {
+        let choice = self.find_rank(rank, &found);
+        let mut rows = found;
+        self.keep_digit(choice.digit, &mut rows);
+        Ok(RankedRows {
+            number: u64::from(choice.digit),
+            rank: choice.rank,
+            rows,
+        })
     }
 
     fn copy(&self) -> Result<Self, NoMemory> {

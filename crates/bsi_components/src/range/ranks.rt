@@ -1,7 +1,8 @@
 //! The digit of a rank in a range encoded component. A sample of the rows tells near which digit it is likely to be, and
 //! the search by halves is over after two counts where that is right.
 
-ghost use Rattle.std.specs.Prelude.{◌≡◌, ◌+◌, ◌-◌, ◌^◌, ◌≤◌, ◌<◌, length, count_by, IfSome};
+ghost use Rattle.std.specs.Prelude.{◌≡◌, ◌+◌, ◌-◌, ◌^◌, ◌≤◌, ◌<◌, ◌&&◌, length, count_by, nat_eq, IfSome};
+ghost use Rattle.std.specs.Simd.Lanes.{zip2};
 ghost use Rattle.bsi_bits.specs.BitList.{word_count};
 ghost use Rattle.bsi_components.specs.Component.{IsRankedDigit};
 ghost use Rattle.bsi_components.specs.Ranks.{IsBetween};
@@ -57,6 +58,22 @@ impl RangeComponent {
         RankedDigit {
             digit: between.low,
             rank: rank - between.below,
+        }
+    }
+
+    /// Keeps of a set of rows those whose digit is `d`.
+    pub(crate) fn keep_digit(&self, d: u32, rows: &mut Bits)
+        requires below { d < self.now.base }
+        requires same { length self.now.digits ≡ length rows.old.bits }
+        ensures { rows.new.bits ≡ zip2 (λ f v. f && nat_eq v d) rows.old.bits self.now.digits }
+    {
+        if d == self.top() {
+            rows.and_not_with(self.bitmap(d - 1));
+        } else if d > 0 {
+            rows.and_with(self.bitmap(d));
+            rows.and_not_with(self.bitmap(d - 1));
+        } else {
+            rows.and_with(self.bitmap(0));
         }
     }
 

@@ -18,30 +18,25 @@ rows-preserved g c =
 
 -- the feeder stopped, no row is left, or the source failed
 pub returns-in-rows-clause-fed : goal.returns-in-rows-clause-fed
-returns-in-rows-clause-fed g c = elim c.match-feed_one.branch [
-  | in-Stopped w ↦
-      let told : c.match-feed_one.stopped.0 ≡ true = ap (λ (p : Bool × Option SourceFault). p.0) w.stopped-is in
-      of_some c.finish.result.closing c.finish.ensures.closing (λ closing closes.
-      fed_first g.I.Read.remaining c.args.feeder c.args.source c.rows.point c.rows.feeder c.rows.source closing.rows c.finish.result.accepted
-      c.finish.result.bad c.finish.result.stopped c.finish.result.fault c.rows.invariant
-      (closes.rows ∙ ap (λ (s : Sending). s.sent) w.in-Stopped.ensures) c.finish.ensures.accepted
-      (λ going fine rest left still. cc (told, c.finish.ensures.stopped, going)) (λ going fine more. absurd (cc (told, c.finish.ensures.stopped, going))))
-  | in-Over w ↦
-      of_some c.finish.result.closing c.finish.ensures.closing (λ closing closes.
-      fed_first g.I.Read.remaining c.args.feeder c.args.source c.rows.point c.rows.feeder c.rows.source closing.rows c.finish.result.accepted
-      c.finish.result.bad c.finish.result.stopped c.finish.result.fault c.rows.invariant
-      (closes.rows ∙ ap (λ (s : Sending). s.sent) w.in-Over.ensures.0) c.finish.ensures.accepted
-      (λ going fine rest left still. (let none = w.in-Over.ensures.1 rest left still in (none.0, c.finish.ensures.bad ∙ none.1)))
-      (λ going fine more. read_out g.I.Read.remaining c.args.feeder c.args.source c.taken_in_turn.ensures c.rows.point c.rows.feeder c.rows.source
-      c.feed_one.new.source c.finish.result.bad c.rows.invariant w.in-Over.ensures.2 c.finish.ensures.bad more))
-  | in-Failed w ↦
-      let told : c.match-feed_one.stopped.1 ≡ Some w.in-Failed.fault = ap (λ (p : Bool × Option SourceFault). p.1) w.stopped-is in
-      of_some c.finish.result.closing c.finish.ensures.closing (λ closing closes.
-      fed_first g.I.Read.remaining c.args.feeder c.args.source c.rows.point c.rows.feeder c.rows.source closing.rows c.finish.result.accepted
-      c.finish.result.bad c.finish.result.stopped c.finish.result.fault c.rows.invariant
-      (closes.rows ∙ ap (λ (s : Sending). s.sent) w.in-Failed.ensures.0) c.finish.ensures.accepted
-      (λ going fine rest left still. cc (told, c.finish.ensures.fault, fine)) (λ going fine more. absurd (cc (told, c.finish.ensures.fault, fine))))
-]
+returns-in-rows-clause-fed g c =
+    let fed = fed_first g.I.Read.remaining c.args.feeder c.args.source c.rows.point c.rows.feeder c.rows.source c.finish.result c.rows.invariant in
+    let sent : c.feed_one.new.feeder ≡ c.rows.feeder → IfSome c.finish.result.closing (λ closing. closing.rows ≡ c.rows.feeder.sent) =
+    λ same. of_some c.finish.result.closing c.finish.ensures.closing (λ closing closes. closes.rows ∙ ap (λ (s : Sending). s.sent) same) in
+    elim c.match-feed_one.branch [
+      | in-Stopped w ↦
+          let told : c.match-feed_one.stopped.0 ≡ true = ap (λ (p : Bool × Option SourceFault). p.0) w.stopped-is in
+          fed (sent w.in-Stopped.ensures) c.finish.ensures.accepted
+          (λ going fine rest left still. cc (told, c.finish.ensures.stopped, going)) (λ going fine more. absurd (cc (told, c.finish.ensures.stopped, going)))
+      | in-Over w ↦
+          fed (sent w.in-Over.ensures.0) c.finish.ensures.accepted
+          (λ going fine rest left still. (let none = w.in-Over.ensures.1 rest left still in (none.0, c.finish.ensures.bad ∙ none.1)))
+          (λ going fine more. read_out g.I.Read.remaining c.args.feeder c.args.source c.taken_in_turn.ensures c.rows.point c.rows.feeder c.rows.source
+          c.feed_one.new.source c.finish.result.bad c.rows.invariant w.in-Over.ensures.2 c.finish.ensures.bad more)
+      | in-Failed w ↦
+          let told : c.match-feed_one.stopped.1 ≡ Some w.in-Failed.fault = ap (λ (p : Bool × Option SourceFault). p.1) w.stopped-is in
+          fed (sent w.in-Failed.ensures.0) c.finish.ensures.accepted
+          (λ going fine rest left still. cc (told, c.finish.ensures.fault, fine)) (λ going fine more. absurd (cc (told, c.finish.ensures.fault, fine)))
+    ]
 
 -- a fault is the one that the source answered
 pub returns-in-rows-clause-fault : goal.returns-in-rows-clause-fault
@@ -59,8 +54,7 @@ returns-in-rows-clause-fault g c =
 -- a text of so many records is never met
 pub returns-clause-fed : goal.returns-clause-fed
 returns-clause-fed g c =
-    of_some c.finish-2.result.closing c.finish-2.ensures.closing (λ closing closes.
-    fed_first g.I.Read.remaining c.args.feeder c.args.source c.rows.point c.rows.feeder c.rows.source closing.rows c.finish-2.result.accepted
-    c.finish-2.result.bad c.finish-2.result.stopped c.finish-2.result.fault c.rows.invariant closes.rows
+    fed_first g.I.Read.remaining c.args.feeder c.args.source c.rows.point c.rows.feeder c.rows.source c.finish-2.result c.rows.invariant
+    (of_some c.finish-2.result.closing c.finish-2.ensures.closing (λ closing closes. closes.rows))
     (omega (arith, c.finish-2.ensures.accepted, c.rows-test.false, c.rows.auto.point-end))
-    (λ going fine rest left still. absurd (cc (c.finish-2.ensures.stopped, going))) (λ going fine more. absurd (cc (c.finish-2.ensures.stopped, going))))
+    (λ going fine rest left still. absurd (cc (c.finish-2.ensures.stopped, going))) (λ going fine more. absurd (cc (c.finish-2.ensures.stopped, going)))

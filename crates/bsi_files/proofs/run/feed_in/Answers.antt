@@ -54,7 +54,7 @@ returns-in_err-beside-clause-fault g c =
     let early : IfErr c.from_residual-in_err-beside.result (λ fault. is_early fault ≡ true) = search rules in
     let room : IfErr c.from_residual-in_err-beside.result (λ fault. fault ≢ IndexFull) = search rules in
     if_err_both c.from_residual-in_err-beside.result
-    (λ fault one two. load_early g.I.Read.remaining g.B.Naming.about.limit c.args.sources.items fault one (λ is. absurd (two is))) early room
+    (λ fault one two. load_early g.I.Read.remaining g.G.Stopping.STOPS g.B.Naming.about.limit c.args.sources.items fault one (λ is. absurd (two is))) early room
 
 -- the table is full
 pub returns-in_err-load_rest-clause-fault : goal.returns-in_err-load_rest-clause-fault
@@ -68,7 +68,7 @@ returns-in_err-load_rest-clause-fault g c =
     let full : IfErr c.from_residual-in_err-load_rest.result (λ fault. fault ≡ IndexFull →
     (all_closed c.deref.result.now ≡ true) × IsFullBefore (length c.deref.result.now) c.load_rest.new.loader) = search rules in
     if_err_both c.from_residual-in_err-load_rest.result
-    (λ fault one two. load_early rem g.B.Naming.about.limit c.args.sources.items fault one
+    (λ fault one two. load_early rem g.G.Stopping.STOPS g.B.Naming.about.limit c.args.sources.items fault one
     (λ is. (let now = subst (λ (xs : List Fed). (all_closed xs ≡ true) × IsFullBefore (length xs) c.load_rest.new.loader) c.deref.ensures.value (two is) in
     over_limit rem c.settle_all.new.loader.takings g.B.Naming.about.limit c.load_rest.new.loader c.args.loader.now.system c.args.feeders.items c.args.sources.items
     ends feds now.1 (c.load_rest.ensures.system ∙ (c.settle_all.ensures.system ∙ c.load_where-beside.ensures.system)) c.requires.most c.requires.channels
@@ -80,7 +80,7 @@ returns-in_err-told-clause-fault g c =
     let early : IfErr c.from_residual-in_err-told.result (λ fault. is_early fault ≡ true) = search rules in
     let room : IfErr c.from_residual-in_err-told.result (λ fault. fault ≢ IndexFull) = search rules in
     if_err_both c.from_residual-in_err-told.result
-    (λ fault one two. load_early g.I.Read.remaining g.B.Naming.about.limit c.args.sources.items fault one (λ is. absurd (two is))) early room
+    (λ fault one two. load_early g.I.Read.remaining g.G.Stopping.STOPS g.B.Naming.about.limit c.args.sources.items fault one (λ is. absurd (two is))) early room
 
 pub load_rest-requires : goal.load_rest-requires
 load_rest-requires g c =
@@ -106,6 +106,9 @@ returns-in_err-check_all-clause-fault g c =
     let rem = g.I.Read.remaining in
     let are : AreEndsOf rem (tasks c.args.feeders.items c.args.sources.items) ends =
     subst (λ given. AreEndsOf rem given ends) (c.start_all-started.ensures c.in_ok-beside.ensures.started) c.in_ok-joined.ensures in
-    let kept : IfErr c.from_residual-in_err-check_all.result (IsKeptFault c.settle_all.new.fed.items) = search rules in
+    let stops = g.G.Stopping.STOPS in
+    let feds = c.settle_all.new.fed.items in
+    let kept : IfErr c.from_residual-in_err-check_all.result (IsKeptFault c.STOPS.result feds) = search rules in
     if_err c.from_residual-in_err-check_all.result
-    (kept_load rem g.B.Naming.about.limit c.settle_all.new.loader.takings c.args.feeders.items c.args.sources.items ends c.settle_all.new.fed.items are c.in_ok-settle_all.ensures.told) kept
+    (λ fault is. kept_load rem stops g.B.Naming.about.limit c.settle_all.new.loader.takings c.args.feeders.items c.args.sources.items ends feds c.requires.many are
+    c.in_ok-settle_all.ensures.told fault (subst (λ b. IsKeptFault b feds fault) c.STOPS.ensures is)) kept

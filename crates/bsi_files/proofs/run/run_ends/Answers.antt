@@ -17,24 +17,24 @@ answer_all-requires-clause-few g c =
 -- rows were not all loaded
 pub returns-in_err-fed-clause-counted : goal.returns-in_err-fed-clause-counted
 returns-in_err-fed-clause-counted g c =
-    let met : IfErr c.from_residual.result (IsLoadFault g.I.Read.remaining g.B.Naming.about.limit c.args.run.sources.items) = search rules in
-    if_err c.from_residual.result (load_counted g.I.Read.remaining g.B.Naming.about.limit c.args.run.sources.items) met
+    let met : IfErr c.from_residual.result (IsLoadFault g.I.Read.remaining g.G.Stopping.STOPS g.B.Naming.about.limit c.args.run.sources.items) = search rules in
+    if_err c.from_residual.result (load_counted g.I.Read.remaining g.G.Stopping.STOPS g.B.Naming.about.limit c.args.run.sources.items) met
 
 pub returns-in_err-fed-clause-fault : goal.returns-in_err-fed-clause-fault
 returns-in_err-fed-clause-fault g c =
-    let met : IfErr c.from_residual.result (IsLoadFault g.I.Read.remaining g.B.Naming.about.limit c.args.run.sources.items) = search rules in
-    if_err c.from_residual.result (load_run g.I.Read.remaining g.B.Naming.about.limit c.args.run.sources.items) met
+    let met : IfErr c.from_residual.result (IsLoadFault g.I.Read.remaining g.G.Stopping.STOPS g.B.Naming.about.limit c.args.run.sources.items) = search rules in
+    if_err c.from_residual.result (load_run g.I.Read.remaining g.G.Stopping.STOPS g.B.Naming.about.limit c.args.run.sources.items) met
 
 pub returns-in_err-fed-clause-part : goal.returns-in_err-fed-clause-part
 returns-in_err-fed-clause-part g c =
     let before = g.W.Write.contents c.args.writer.now in
-    let met : IfErr c.from_residual.result (IsLoadFault g.I.Read.remaining g.B.Naming.about.limit c.args.run.sources.items) = search rules in
+    let met : IfErr c.from_residual.result (IsLoadFault g.I.Read.remaining g.G.Stopping.STOPS g.B.Naming.about.limit c.args.run.sources.items) = search rules in
     if_err c.from_residual.result (λ fault is. if_some _ (g.A.Read.remaining c.args.run.asks)
-    (λ asked. leaves_loaded _ g.I.Read.remaining g.B.Naming.about.limit c.args.run.sources.items asked fault before before is refl)) met
+    (λ asked. leaves_loaded _ g.I.Read.remaining g.G.Stopping.STOPS g.B.Naming.about.limit c.args.run.sources.items asked fault before before is refl)) met
 
 -- or a fault was met while lines were written
 pub returns-clause-fault : goal.returns-clause-fault
-returns-clause-fault g c = if_err c.answer_all.result (late_run g.I.Read.remaining g.B.Naming.about.limit c.args.run.sources.items) c.answer_all.ensures.late
+returns-clause-fault g c = if_err c.answer_all.result (late_run g.I.Read.remaining g.G.Stopping.STOPS g.B.Naming.about.limit c.args.run.sources.items) c.answer_all.ensures.late
 
 pub returns-clause-counted : goal.returns-clause-counted
 returns-clause-counted g c = late_counted c.answer_all.result c.answer_all.ensures.late

@@ -70,7 +70,7 @@ returns-in_err-schema-clause-fault g c =
     let first : IfErr c.from_residual.result (λ fault. is_of_schema fault ≡ true) = search rules in
     let met : IfErr c.from_residual.result (λ fault. IfSome (g.S.Read.remaining c.args.schema) (λ bytes. IsSchemaFault bytes none_declared fault)) = search rules in
     if_err_both c.from_residual.result
-    (λ fault one two declared texts asked s i a. schema_fault_of declared texts fault one
+    (λ fault one two declared texts s i. schema_fault_of g.G.Stopping.STOPS declared texts fault one
     (subst (λ (o : Option (List ℕ)). IfSome o (λ bytes. IsSchemaFault bytes none_declared fault)) s two)) first met
 
 pub returns-in_err-sources-clause-fault : goal.returns-in_err-sources-clause-fault
@@ -79,19 +79,19 @@ returns-in_err-sources-clause-fault g c =
     let limit = c.in_ok-schema.limit in
     let met : IfErr c.from_residual-in_err-sources.result (IsHeadersFault schema (map g.I.Read.remaining c.args.sources.items)) = search rules in
     if_err c.from_residual-in_err-sources.result
-    (λ fault is declared texts asked s i a.
+    (λ fault is declared texts s i.
     (let declares : IsSchemaFile declared schema limit = subst (λ (o : Option (List ℕ)). IfSome o (λ bytes. IsSchemaFile bytes schema limit)) s c.in_ok-schema.ensures.declared in
-    headers_fault_of declared texts schema limit declares fault (subst (λ files. IsHeadersFault schema files fault) i is))) met
+    headers_fault_of g.G.Stopping.STOPS declared texts schema limit declares fault (subst (λ files. IsHeadersFault schema files fault) i is))) met
 
 pub returns-in_err-capacities-clause-fault : goal.returns-in_err-capacities-clause-fault
 returns-in_err-capacities-clause-fault g c =
     let refused : IfErr c.from_residual-in_err-capacities.result (λ fault. fault ≡ NoMemory) = search rules in
-    if_err c.from_residual-in_err-capacities.result (λ fault is declared texts asked s i a. subst (λ f. IsFaultOf declared texts f) (sym is) tt) refused
+    if_err c.from_residual-in_err-capacities.result (λ fault is declared texts s i. subst (λ f. IsFaultOf g.G.Stopping.STOPS declared texts f) (sym is) tt) refused
 
 pub returns-in_err-columns-clause-fault : goal.returns-in_err-columns-clause-fault
 returns-in_err-columns-clause-fault g c =
     let refused : IfErr c.from_residual-in_err-columns.result (λ fault. fault ≡ NoMemory) = search rules in
-    if_err c.from_residual-in_err-columns.result (λ fault is declared texts asked s i a. subst (λ f. IsFaultOf declared texts f) (sym is) tt) refused
+    if_err c.from_residual-in_err-columns.result (λ fault is declared texts s i. subst (λ f. IsFaultOf g.G.Stopping.STOPS declared texts f) (sym is) tt) refused
 
 pub returns-clause-fault : goal.returns-clause-fault
 returns-clause-fault g c =
@@ -103,7 +103,7 @@ returns-clause-fault g c =
     let sources = c.in_ok-sources.sources.items in
     let begin : AreMatched (Begins rem columns) readers sources =
     subst (λ (s : Declared). AreMatched (Begins rem s) readers sources) (sym c.in_ok-columns.ensures) c.in_ok-sources.ensures.begun in
-    if_err c.run_in.result (λ fault met declared texts asked s i a.
+    if_err c.run_in.result (λ fault met declared texts s i.
     (let declares : IsSchemaFile declared schema limit = subst (λ (o : Option (List ℕ)). IfSome o (λ bytes. IsSchemaFile bytes schema limit)) s c.in_ok-schema.ensures.declared in
     let schema_is : IsSchemaFile declared columns limit = subst (λ (d : Declared). IsSchemaFile declared d limit) (sym c.in_ok-columns.ensures) declares in
-    run_fault_of rem declared columns limit readers sources texts schema_is begin i fault met)) c.run_in.ensures.fault
+    run_fault_of rem c.rows_of_a_file.ensures g.G.Stopping.STOPS declared columns limit readers sources texts schema_is begin i fault met)) c.run_in.ensures.fault

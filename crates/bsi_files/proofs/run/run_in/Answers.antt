@@ -42,4 +42,4 @@ returns-in-Ok-clause-part g c =
 
 pub returns-in-Ok-clause-fault : goal.returns-in-Ok-clause-fault
 returns-in-Ok-clause-fault g c =
-    subst (λ (t : Table). IfErr c.run_ends-ran.result (IsRunFault g.I.Read.remaining t.limit c.args.run.sources.items)) c.requires.about c.run_ends-ran.ensures.fault
+    subst (λ (t : Table). IfErr c.run_ends-ran.result (IsRunFault g.I.Read.remaining g.G.Stopping.STOPS t.limit c.args.run.sources.items)) c.requires.about c.run_ends-ran.ensures.fault

@@ -1,5 +1,5 @@
-use Rattle.std.proofs.Common.{refl}
-use Rattle.bsi_shell.proofs.Runs.{if_err_so, on_both, on_err, on_ok_so, part_over, run_kept}
+use Rattle.std.proofs.Common.{refl, rules}
+use Rattle.bsi_shell.proofs.Runs.{failed_over, if_err_so, on_both, on_ok_so, run_kept}
 use Rattle.bsi_shell.proofs.files.run_opened.Goals as goal
 
 -- all lines were written, and the flush kept them
@@ -11,12 +11,14 @@ returns-clause-ran g c =
     (λ lines. run_kept g.S.Read.remaining c.args.opened.schema c.args.opened.asks c.args.opened.rows.items before after (g.O.Write.contents c.flush.new.self)
     c.flush.ensures.bytes (lines refl))
 
--- or a part of them
-pub returns-clause-part : goal.returns-clause-part
-returns-clause-part g c =
+-- or the run met a fault, or the flush did
+pub returns-clause-failed : goal.returns-clause-failed
+returns-clause-failed g c =
     let before = g.O.Write.contents c.args.output.now in
-    let after = g.O.Write.contents c.run_files-run.new.writer in
-    on_err c.and.result
-    (part_over g.S.Read.remaining c.args.opened.schema c.args.opened.asks c.args.opened.rows.items before after (g.O.Write.contents c.flush.new.self)
-    c.flush.ensures.bytes c.run_files-run.result (on_ok_so _ _ c.run_files-run.result c.run_files-run.ensures.lines refl)
-    (if_err_so _ _ c.run_files-run.result c.run_files-run.ensures.part refl))
+    let middle = g.O.Write.contents c.run_files-run.new.writer in
+    failed_over g.S.Read.remaining c.args.opened.schema c.args.opened.asks c.args.opened.rows.items before middle (g.O.Write.contents c.flush.new.self)
+    c.flush.ensures.bytes c.run_files-run.result c.map_err-flushed.result c.and.result c.and.ensures
+    (on_ok_so _ _ c.run_files-run.result c.run_files-run.ensures.lines refl)
+    c.run_files-run.ensures.fault
+    (if_err_so _ _ c.run_files-run.result c.run_files-run.ensures.part refl)
+    (search rules)

@@ -1,6 +1,8 @@
-use Rattle.std.proofs.Common.{refl, subst, sym}
+use Rattle.std.proofs.Common.{inl, refl, subst, sym}
+use Rattle.bsi_files.specs.declared.faults.FilesFault.TheVariants.{NoMemory}
 use Rattle.bsi_shell.specs.Commands.{BeginsWithFiles}
-use Rattle.bsi_shell.proofs.Runs.{of_any}
+use Rattle.bsi_shell.specs.declared.files.Failure.TheVariants.{Run}
+use Rattle.bsi_shell.proofs.Runs.{keeps_same, of_any}
 use Rattle.bsi_shell.proofs.words.run_words.Goals as goal
 
 pub returns-in-Ok-clause-answered : goal.returns-in-Ok-clause-answered
@@ -14,7 +16,7 @@ pub returns-in-Ok-clause-quiet : goal.returns-in-Ok-clause-quiet
 returns-in-Ok-clause-quiet g c = λ zero. refl
 
 pub returns-in-Script-clause-answered : goal.returns-in-Script-clause-answered
-returns-in-Script-clause-answered g c = λ zero other. cc (c.tell_fault.ensures, zero)
+returns-in-Script-clause-answered g c = λ zero other. cc (c.tell_fault.ensures.status, zero)
 
 pub returns-in-Script-clause-begun : goal.returns-in-Script-clause-begun
 returns-in-Script-clause-begun g c = λ one other. c.in-Err.ensures.fault
@@ -25,3 +27,12 @@ returns-in-Wrong-clause-wrong g c = λ two. refl
 -- no memory for the words: nothing was written
 pub returns-clause-begun : goal.returns-clause-begun
 returns-clause-begun g c = λ one other. of_any (g.I.Read.remaining c.args.input) (λ bytes. c.begun.ensures.nothing bytes (g.O.Write.contents c.args.output.now))
+
+pub returns-clause-told : goal.returns-clause-told
+returns-clause-told g c = λ one files.
+    let written = g.O.Write.contents c.args.output.now in
+    record {
+      failure = Run NoMemory;
+      failed = inl (refl, keeps_same written written refl);
+      line = c.tell_failure-in-NoMemory.ensures.told;
+    }

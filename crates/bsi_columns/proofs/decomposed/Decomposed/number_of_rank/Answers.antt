@@ -25,13 +25,12 @@ components-init g c =
     record {
       rung = subst AtHeight (sym c.len-i.ensures.len) start;
       chosen_even = ap length chosen ∙ length-zip2 ◌&&◌ found (map is_some entries) (sym (length-map entries is_some ∙ c.requires.same));
-      scratch_even = ap length c.in_ok-scratch.ensures;
     }
 
 -- one component down
 next : (g : given.Over) (c : goal.After-from g)
     → IsRung c.bases-bases.result.now c.args.found.now.bits c.args.self.now.entries c.args.k (c.components.i - 1)
-    (c.components.number * c.from.result + c.choose_digit-choice.result.digit) c.choose_digit-choice.result.rank c.choose_digit-choice.new.chosen.bits
+    (c.components.number * c.from.result + c.in_ok-ranked.ranked.number) c.in_ok-ranked.ranked.rank c.in_ok-ranked.ranked.rows.bits
 next g c =
     let bs = c.bases-bases.result.now in
     let entries = c.args.self.now.entries in
@@ -43,40 +42,35 @@ next g c =
     let base = c.component.ensures.base ∙ ap (λ bs. get_or bs j 0) same in
     let above : c.components.i ≡ j + 1 = omega (arith, c.components-test.true) in
     let AtHeight : ℕ → Type 0 = λ i. IsRung bs found entries c.args.k i c.components.number c.components.rank c.components.chosen.bits in
-    let AtNumber : ℕ → Type 0 = λ b. IsRung bs found entries c.args.k j (c.components.number * b + c.choose_digit-choice.result.digit) c.choose_digit-choice.result.rank c.choose_digit-choice.new.chosen.bits in
+    let AtNumber : ℕ → Type 0 = λ b. IsRung bs found entries c.args.k j (c.components.number * b + c.in_ok-ranked.ranked.number) c.in_ok-ranked.ranked.rank c.in_ok-ranked.ranked.rows.bits in
     subst AtNumber (sym (c.from.ensures ∙ c.base.ensures.base)) (
-    rung_step bs c.len-i.ensures.valid found entries c.args.k j within c.components.number c.components.rank c.choose_digit-choice.result.digit c.choose_digit-choice.result.rank
-    c.components.chosen.bits c.choose_digit-choice.new.chosen.bits (g.E.Encoding.digits c.component.result.now) (subst AtHeight above c.components.invariant.rung) digits
-    (omega (arith, base, c.choose_digit-choice.ensures.digit)) c.choose_digit-choice.ensures.chosen c.choose_digit-choice.ensures.rank c.choose_digit-choice.ensures.there)
+    rung_step bs c.len-i.ensures.valid found entries c.args.k j within c.components.number c.components.rank c.in_ok-ranked.ranked.number c.in_ok-ranked.ranked.rank
+    c.components.chosen.bits c.in_ok-ranked.ranked.rows.bits (g.E.Encoding.digits c.component.result.now) (subst AtHeight above c.components.invariant.rung) digits
+    (omega (arith, base, c.in_ok-ranked.ensures.digit)) c.in_ok-ranked.ensures.ranked.rows_are c.in_ok-ranked.ensures.ranked.rank_is c.in_ok-ranked.ensures.ranked.there)
 
-small : (g : given.Over) (c : goal.After-from g) → c.components.number * c.from.result + c.choose_digit-choice.result.digit < 2 ^ 63
+small : (g : given.Over) (c : goal.After-from g) → c.components.number * c.from.result + c.in_ok-ranked.ranked.number < 2 ^ 63
 small g c =
     let bs = c.bases-bases.result.now in
     let valid = c.len-i.ensures.valid in
     let rung = next g c in
-    let below = fits_size (c.components.number * c.from.result + c.choose_digit-choice.result.digit) (weight bs (c.components.i - 1)) (product bs) (weight_pos valid (c.components.i - 1)) rung.small in
+    let below = fits_size (c.components.number * c.from.result + c.in_ok-ranked.ranked.number) (weight bs (c.components.i - 1)) (product bs) (weight_pos valid (c.components.i - 1)) rung.small in
     omega (arith, below, valid.small)
 
 pub overflow_mul-number : goal.overflow_mul-number
 overflow_mul-number g c = omega (arith, small g c)
 
 pub overflow_add-number : goal.overflow_add-number
-overflow_add-number g c = omega (arith, small g (goal.at.overflow_add-number g c).After-from, c.from-in-components.ensures)
+overflow_add-number g c = omega (arith, small g (goal.at.overflow_add-number g c).After-from)
 
 pub components-preserved : goal.components-preserved
 components-preserved g c =
-    let at = (goal.at.components-preserved g c).After-from in
-    let bs = c.bases-bases.result.now in
     let long = ap length (c.component.ensures.digits) ∙ length-map c.args.self.now.entries (λ e. digit_of c.args.self.now.bases (number_or_zero e) (c.components.i - 1)) ∙ c.requires.same in
-    let even = ap length c.choose_digit-choice.ensures.chosen
-    ∙ length-zip2 (λ f v. f && nat_eq v c.choose_digit-choice.result.digit) c.components.chosen.bits (g.E.Encoding.digits c.component.result.now) (c.components.invariant.chosen_even ∙ sym long)
+    let even = ap length c.in_ok-ranked.ensures.ranked.rows_are
+    ∙ length-zip2 (λ f v. f && nat_eq v c.in_ok-ranked.ranked.number) c.components.chosen.bits (g.E.Encoding.digits c.component.result.now) (c.components.invariant.chosen_even ∙ sym long)
     ∙ c.components.invariant.chosen_even in
-    let AtNumber : ℕ → Type 0 = λ d. IsRung c.bases-bases.result.now c.args.found.now.bits c.args.self.now.entries c.args.k (c.components.i - 1)
-    (c.components.number * c.from.result + d) c.choose_digit-choice.result.rank c.choose_digit-choice.new.chosen.bits in
     record {
-      rung = subst AtNumber (sym c.from-in-components.ensures) (next g at);
+      rung = next g (goal.at.components-preserved g c).After-from;
       chosen_even = even;
-      scratch_even = c.choose_digit-choice.ensures.scratch ∙ c.components.invariant.scratch_even;
     }
 
 -- no component is left

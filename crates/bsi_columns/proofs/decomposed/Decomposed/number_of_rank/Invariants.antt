@@ -6,7 +6,6 @@ abbrev pub invariant-components : goal.invariant-components
 invariant-components g l = record {
   rung : IsRung l.bases l.found.bits l.self.entries l.k l.i l.number l.rank l.chosen.bits;
   chosen_even : length l.chosen.bits ≡ length l.found.bits;
-  scratch_even : length l.scratch.bits ≡ length l.found.bits;
 }
 
 abbrev pub decreases-components : goal.decreases-components

@@ -1,0 +1,13 @@
+use Rattle.std.proofs.Common.{ℕ, sym, subst}
+use Rattle.bsi_words.specs.Ranks.{IsRankedRows}
+use Rattle.bsi_components.proofs.FoundDigits.{ranked_rows}
+use Rattle.bsi_components.proofs.range.encoding.RangeComponentEncoding.rows_of_rank.Goals as goal
+
+pub returns-clause-ranked : goal.returns-clause-ranked
+returns-clause-ranked c =
+    let found = c.args.found.bits in
+    let digits = c.args.self.now.digits in
+    let choice = c.find_rank-choice.result in
+    let rows = c.keep_digit.new.rows.bits in
+    let ranked = ranked_rows c.args.rank choice.digit choice.rank found digits rows c.find_rank-choice.ensures.ranked.rank_is c.find_rank-choice.ensures.ranked.there c.keep_digit.ensures in
+    subst (λ (n : ℕ). IsRankedRows c.args.rank found digits n choice.rank rows) (sym c.from.ensures) ranked

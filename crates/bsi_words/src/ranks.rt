@@ -1,0 +1,196 @@
+//! The number of a rank at the rows of a found set, by its binary places from the most significant down.
+//!
+//! A step narrows the rows by the place of the step before, and at once counts those that are clear in its own. It skips
+//! blocks of 32 words that have no row any more.
+
+ghost use Rattle.std.specs.Prelude.{◌≡◌, ℕ, List, ◌+◌, ◌*◌, ◌^◌, ◌≤◌, ◌<◌, ◌&&◌, false, if◌then◌else◌, length, not, slice_index, sum_by, count_by, count_ones};
+ghost use Rattle.std.specs.Simd.Lanes.{zip2};
+ghost use Rattle.bsi_bits.specs.BitList.{without};
+ghost use Rattle.bsi_bits.specs.BitLists.{bits_at};
+ghost use Rattle.bsi_bits.specs.Packed.{bits_of, IsPacked};
+ghost use Rattle.bsi_words.specs.Places.{has_place, IsEncoded};
+ghost use Rattle.bsi_words.specs.Ranks.{word_kept, IsRankedRows};
+
+use crate::sums::is_empty;
+use bsi_bits::{Bits, know_fits};
+use std::simd::u64x4;
+
+/// The number of words in a block that is narrowed. It is small, since narrowing leaves more and more blocks with no
+/// row.
+const BLOCK_WORDS: usize = 32;
+
+/// The number of words that are narrowed at a time.
+const LANES: usize = 4;
+
+/// The rows that have the number of a rank, that number, and the rank of its row among them.
+#[derive(Drop)]
+pub struct RankedRows {
+    /// The number.
+    pub number: u64,
+    /// The rank among the rows of this number, from 0.
+    pub rank: u64,
+    /// The rows.
+    pub rows: Bits,
+}
+
+/// Finds the number of the row of rank `rank`, from 0, among the rows of a found set in order of their numbers, and
+/// returns the rows that have this number. `places` has a vector for each binary place of the numbers, the least first.
+pub fn rows_of_rank(places: &[Bits], rank: u64, found: Bits) -> RankedRows
+    requires some { 0 < length places.now }
+    requires few { length places.now ≤ 63 }
+    requires same { (k : ℕ) → k < length places.now →
+        length (bits_at places.now k) ≡ length found.bits }
+    requires there { rank < count_by (λ b. b) found.bits }
+    ensures ranked { (numbers : List ℕ) → IsEncoded has_place places.now numbers →
+        ((k : ℕ) → slice_index numbers k < 2 ^ length places.now) →
+        length numbers ≡ length found.bits →
+        IsRankedRows rank found.bits numbers result.number result.rank result.rows.bits }
+    ensures below { result.number < 2 ^ length places.now }
+{
+    let len = found.len();
+    let mut last = places.len() - 1;
+    let mut choice = choose(rank, found.count_and_not(&places[last]));
+    let mut number = 0;
+    let mut rows = found.into_words();
+    'places: while last > 0 {
+        let clear = narrow(&mut rows, &places[last], choice.is_set, &places[last - 1]);
+        number = number * 2 + u64::from(choice.is_set);
+        choice = choose(choice.rank, clear);
+        last -= 1;
+    }
+    narrow(&mut rows, &places[0], choice.is_set, &places[0]);
+    RankedRows {
+        number: number * 2 + u64::from(choice.is_set),
+        rank: choice.rank,
+        rows: Bits::from_words(rows, len),
+    }
+}
+
+/// A binary place of the row of a rank, and the rank among the rows that have that place.
+#[derive(Clone, Copy)]
+struct Choice {
+    is_set: bool,
+    rank: u64,
+}
+
+/// Chooses the binary place of the row of a rank. The rank counts from 0 among rows of which `clear` have the place
+/// clear, and these come first.
+fn choose(rank: u64, clear: u64) -> Choice
+    ensures rank { rank ≡ (if result.is_set then clear else 0) + result.rank }
+    ensures clear { result.is_set ≡ false → result.rank < clear }
+{
+    if rank < clear {
+        Choice {
+            is_set: false,
+            rank,
+        }
+    } else {
+        Choice {
+            is_set: true,
+            rank: rank - clear,
+        }
+    }
+}
+
+/// Keeps those of the chosen rows that are set in a slice or, as wanted, those that are clear there. Returns how many
+/// of them are clear in the next slice.
+fn narrow(chosen: &mut [u64], slice: &Bits, is_set: bool, next: &Bits) -> u64
+    requires packed { IsPacked (length slice.now.bits) chosen.old }
+    requires same { length next.now.bits ≡ length slice.now.bits }
+    ensures packed { IsPacked (length slice.now.bits) chosen.new }
+    ensures chosen { bits_of (length slice.now.bits) chosen.new
+        ≡ zip2 (λ f b. f && (if is_set then b else not b))
+        (bits_of (length slice.now.bits) chosen.old) slice.now.bits }
+    ensures clear { result ≡ count_by (λ b. b)
+        (zip2 without (bits_of (length slice.now.bits) chosen.new) next.now.bits) }
+{
+    let (words, others) = (slice.words(), next.words());
+    know_fits(words);
+    know_fits(others);
+    narrow_words(chosen, words, is_set, others)
+}
+
+/// Narrows words as `narrow` does, block by block.
+fn narrow_words(chosen: &mut [u64], words: &[u64], is_set: bool, next: &[u64]) -> u64
+    requires few { length chosen.old ≤ 2 ^ 26 }
+    requires same { length words.now ≡ length chosen.old }
+    requires same_next { length next.now ≡ length chosen.old }
+    ensures chosen { chosen.new ≡ zip2 (word_kept is_set) chosen.old words.now }
+    ensures clear { result ≡ sum_by count_ones (zip2 (word_kept false) chosen.new next.now) }
+{
+    let len = chosen.len();
+    let mut clear = 0;
+    'blocks: for k in 0..len.div_ceil(BLOCK_WORDS) {
+        let at = BLOCK_WORDS * k;
+        let end = len.min(at + BLOCK_WORDS);
+        clear += narrow_block(
+            &mut chosen[at..end],
+            &words[at..end],
+            is_set,
+            &next[at..end],
+        );
+    }
+    clear
+}
+
+/// Narrows the words of a block as `narrow` does. If no row of them is chosen any more, it reads nothing else.
+fn narrow_block(chosen: &mut [u64], words: &[u64], is_set: bool, next: &[u64]) -> u64
+    requires few { length chosen.old ≤ BLOCK_WORDS }
+    requires same { length words.now ≡ length chosen.old }
+    requires same_next { length next.now ≡ length chosen.old }
+    ensures chosen { chosen.new ≡ zip2 (word_kept is_set) chosen.old words.now }
+    ensures clear { result ≡ sum_by count_ones (zip2 (word_kept false) chosen.new next.now) }
+    ensures few { result ≤ 64 * BLOCK_WORDS }
+{
+    if is_empty(chosen) {
+        return 0;
+    }
+    let whole = chosen.len() / LANES;
+    let mut clear = 0u64;
+    'fours: for k in 0..whole {
+        let other = u64x4::from_slice(&words[LANES * k..]);
+        let kept = kept_words(u64x4::from_slice(&chosen[LANES * k..]), other, is_set);
+        kept.copy_to_slice(&mut chosen[LANES * k..]);
+        let left = words_without(kept, u64x4::from_slice(&next[LANES * k..]));
+        clear += ones_in(left);
+    }
+    'words: for i in LANES * whole..chosen.len() {
+        let kept = kept_word(chosen[i], words[i], is_set);
+        chosen[i] = kept;
+        clear += u64::from((kept & !next[i]).count_ones());
+    }
+    clear
+}
+
+/// Returns those rows of a word that are set in another one or, as wanted, those that are clear there.
+fn kept_word(word: u64, other: u64, is_set: bool) -> u64
+    ensures { result ≡ word_kept is_set word other }
+{
+    if is_set { word & other } else { word & !other }
+}
+
+/// Returns the rows of four words that are set in four others or, as wanted, those that are clear there.
+fn kept_words(words: u64x4, others: u64x4, is_set: bool) -> u64x4
+    ensures { result ≡ zip2 (word_kept is_set) words others }
+{
+    if is_set {
+        return words & others;
+    }
+    words_without(words, others)
+}
+
+/// Returns the rows of four words that are clear in four others.
+fn words_without(words: u64x4, others: u64x4) -> u64x4
+    ensures { result ≡ zip2 (word_kept false) words others }
+{
+    words & !others
+}
+
+/// Returns the number of ones in four words. It counts each word by one instruction.
+fn ones_in(words: u64x4) -> u64
+    ensures ones { result ≡ sum_by count_ones words }
+    ensures few { result ≤ 256 }
+{
+    let [a, b, c, d] = words.to_array();
+    (a.count_ones() + b.count_ones() + c.count_ones() + d.count_ones()) as u64
+}
