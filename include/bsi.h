@@ -3,8 +3,8 @@
  * An index holds rows; a row has one entry for each column: a number, or a null. Rows come from 1 to 64 feeders, and
  * questions are asked of all rows. docs/C.md shows a program.
  *
- * Each call takes a handle and returns a status. Where the status is not BSI_OK, the call has changed no row;
- * bsi_append says what BSI_NO_MEMORY leaves.
+ * Each call takes a handle and returns a status. Where the status is not BSI_OK, the call has changed no row, and
+ * written nothing, but for what is said at the call.
  *
  * Pointers. No pointer is null, not even one to nothing: where a length is 0, pass any aligned address. What a call
  * reads is the caller's, and is not kept after the call. What a call writes lies apart from all else that it is given.

@@ -12,12 +12,14 @@ from __future__ import annotations
 
 import argparse
 import contextlib
+import inspect
 import sys
 from datetime import datetime
 from typing import Any, Iterator, List, Optional
 
 import numpy as np
 
+from .choosing import chosen_of
 from .errors import Error
 from .index import Index
 from .kinds import Texts
@@ -59,10 +61,13 @@ def _read(files: List[str], given: Any) -> Any:
 
     if given.text or len(given.null) > 1:
         raise ValueError("--text and --null are for CSV files alone")
-    frame = pandas.concat([pandas.read_parquet(file, columns=columns) for file in files], ignore_index=True)
-    if given.parts > 1:
-        return Parts.from_frame(given.parts, frame, progress=progress)
-    return Index.from_frame(frame, progress=progress)
+    # (nullable types, since a whole number beside a null would be a float otherwise)
+    is_new = "dtype_backend" in inspect.signature(pandas.read_parquet).parameters
+    nullable = {"dtype_backend": "numpy_nullable"} if is_new else {"use_nullable_dtypes": True}
+    frames = (pandas.read_parquet(file, columns=columns, **nullable) for file in files)
+    forms, encoded = chosen_of(frames, columns, None, None)
+    table = Index(forms) if given.parts == 1 else Parts(given.parts, forms)
+    return table._filled(encoded, progress)
 
 
 def _shown(answer: Any) -> str:

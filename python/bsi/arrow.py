@@ -8,9 +8,9 @@ from __future__ import annotations
 import ctypes
 import re
 from ctypes import POINTER, Structure, c_char_p, c_int64, c_void_p
-from datetime import timezone
+from datetime import timedelta, timezone
 from decimal import Decimal
-from typing import Any, List, Optional, Tuple
+from typing import Any, List, NamedTuple, Optional, Tuple
 
 import numpy as np
 
@@ -40,6 +40,7 @@ TIMES = {
 # Values, which of them are valid, the time zone of times, and the order of the texts of an ordered dictionary.
 Read = Tuple[np.ndarray, np.ndarray, Any, Optional[Tuple[str, ...]]]
 ORDERED = 1
+OFFSET = re.compile(r"([+-])([01]\d|2[0-3]):([0-5]\d)", re.ASCII)
 
 
 class _Schema(Structure):
@@ -94,17 +95,36 @@ def array_of(data: Any) -> Read:
     return _read(schema, array)
 
 
-def struct_of(data: Any) -> List[Tuple[str, Read]]:
+class Field(NamedTuple):
+    """A column of a record batch, whose values are read when they are wanted."""
+
+    batch: Any
+    place: int
+
+    def read(self) -> Read:
+        """Returns the values of the column."""
+        schema, array, _kept = self.batch
+        field, column = schema.children[self.place].contents, array.children[self.place].contents
+        values, valid, zone, order = _read(field, column, array.offset, array.length)
+        return values, valid & _validity(array), zone, order
+
+
+def struct_of(data: Any) -> List[Tuple[str, Field]]:
     """Returns the columns of an Arrow struct array, which is how a record batch is given."""
-    schema, array, _kept = _opened(data)
+    batch = _opened(data)
+    schema = batch[0]
     if schema.format != b"+s":
         raise BadColumns("rows come as an Arrow record batch, and not as one array")
-    hidden, found = ~_validity(array), []
-    for place in range(schema.n_children):
-        field, column = schema.children[place].contents, array.children[place].contents
-        values, valid, zone, order = _read(field, column, array.offset, array.length)
-        found.append(((field.name or b"").decode(), (values, valid & ~hidden, zone, order)))
-    return found
+    names = [_text(schema.children[place].contents.name or b"") for place in range(schema.n_children)]
+    return [(name, Field(batch, place)) for place, name in enumerate(names)]
+
+
+def _text(encoded: bytes) -> str:
+    """Returns the text of these bytes."""
+    try:
+        return encoded.decode()
+    except UnicodeDecodeError:
+        raise BadColumns(f"the Arrow array has a text that is no UTF-8: {encoded[:60]!r}") from None
 
 
 def _bytes(array: _Array, place: int, size: int) -> np.ndarray:
@@ -136,7 +156,7 @@ def _read(schema: _Schema, array: _Array, skipped: int = 0, length: Optional[int
     length = array.length - skipped if length is None else length
     if length < 0 or array.offset < 0 or skipped + length > array.length:
         raise BadColumns("the Arrow array has a length below 0")
-    layout, start = schema.format.decode(), array.offset + skipped
+    layout, start = _text(schema.format), array.offset + skipped
     if layout == "n":
         return np.zeros(length, np.int64), np.zeros(length, bool), None, None
     valid = _validity(array, skipped, length)
@@ -184,7 +204,7 @@ def _texts(array: _Array, stored: str, start: int, valid: np.ndarray) -> np.ndar
         raise BadColumns("the texts of the Arrow array do not follow each other")
     joined = _bytes(array, 2, ends[-1]).tobytes()
     for place in np.flatnonzero(valid).tolist():
-        texts[place] = joined[ends[place] : ends[place + 1]].decode()
+        texts[place] = _text(joined[ends[place] : ends[place + 1]])
     return texts
 
 
@@ -200,6 +220,12 @@ def _decimals(array: _Array, scale: int, start: int, valid: np.ndarray) -> np.nd
 def _zone(name: str) -> Any:
     if name in ("", "UTC"):
         return timezone.utc if name else None
+    if offset := OFFSET.fullmatch(name):
+        ahead = timedelta(hours=int(offset[2]), minutes=int(offset[3]))
+        return timezone(-ahead if offset[1] == "-" else ahead)
     from zoneinfo import ZoneInfo
 
-    return ZoneInfo(name)
+    try:
+        return ZoneInfo(name)
+    except (LookupError, ValueError, OSError):
+        raise BadColumns(f"the Arrow array has the time zone {name!r}, which is not known here") from None

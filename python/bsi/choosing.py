@@ -14,6 +14,8 @@ from .narrowing import MOST_TEXTS, encode, joined, narrow, recode, too_many_text
 from .values import Values, columns_of, values_of
 
 Encoded = List[Tuple[np.ndarray, np.ndarray]]
+# How many numbers a column takes at most.
+SPAN = 1 << 63
 
 
 class Block(NamedTuple):
@@ -44,11 +46,17 @@ def wanted_of(columns: Optional[Iterable[str]], names: List[str]) -> List[str]:
     return wanted
 
 
+def refuse_no_kind(name: str, kind: Any) -> None:
+    """Refuses what is given as a kind and is none."""
+    if not isinstance(kind, Kind):
+        raise BadSchema(f"the kind of column {name!r} is one, as Decimals('0.01') is, and not {kind!r}")
+
+
 class Wishes:
     """What the caller says about kinds and forms of columns, by name."""
 
     def __init__(self, names: List[str], kinds: Optional[Mapping[str, Any]], forms: Optional[Mapping[str, Form]]):
-        self.kinds, self.forms = dict(kinds or {}), dict(forms or {})
+        self.names, self.kinds, self.forms = names, dict(kinds or {}), dict(forms or {})
         for name in [*self.kinds, *self.forms]:
             if name not in names:
                 listed = ", ".join(map(repr, names))
@@ -66,10 +74,9 @@ class Wishes:
         try:
             if kind is None:
                 kind, numbers = narrow(values)
-            elif isinstance(kind, Kind):
-                numbers = encode(kind, values)
             else:
-                raise BadSchema(f"the kind of column {name!r} is one, as Decimals('0.01') is, and not {kind!r}")
+                refuse_no_kind(name, kind)
+                numbers = encode(kind, values)
         except Misfit as why:
             raise BadRow(name, row + why.row, why.value, why.reason) from None
         return Block(kind, numbers, values.valid, row)
@@ -79,10 +86,14 @@ class Wishes:
         kind = kind or Whole()
         if name in self.forms:
             return self.forms[name].of(kind)
-        if high - low >= 1 << 63:
-            ends = f"from {kind.show(low)} to {kind.show(high)}"
-            raise BadSchema(f"column {name!r}: {ends} are more than the 2^63 values that a column takes")
+        if high - low >= SPAN:
+            raise BadSchema(f"column {name!r}: {too_far(kind, low, high)}")
         return narrowest(kind, low, high)
+
+
+def too_far(kind: Kind, low: int, high: int) -> str:
+    """Returns what is wrong with numbers that lie too far apart."""
+    return f"from {kind.show(low)} to {kind.show(high)} are more than the 2^63 values that a column takes"
 
 
 def kind_of(name: str, blocks: Iterable[Block]) -> Optional[Kind]:
@@ -112,14 +123,28 @@ def _too_many_texts(name: str, found: Dict[str, None], block: Block) -> Error:
 def settled(name: str, blocks: List[Block], wishes: Wishes) -> Tuple[Form, Tuple[np.ndarray, np.ndarray]]:
     """Returns the form of a column, and its numbers of all blocks. Refuses those that a form which was given does not
     take."""
-    form, (numbers, valid) = joined_blocks(name, blocks, wishes)
+    kind, (numbers, valid) = joined_blocks(name, blocks)
+    low, high = ends_of(numbers, valid)
+    if high - low >= SPAN and name not in wishes.forms:
+        raise _first_too_far(name, kind or Whole(), numbers, valid)
+    form = wishes.form(name, kind, low, high)
     if name in wishes.forms:
         refuse_misfit(name, form, numbers, valid)
     return form, (numbers, valid)
 
 
-def joined_blocks(name: str, blocks: List[Block], wishes: Wishes) -> Tuple[Form, Tuple[np.ndarray, np.ndarray]]:
-    """Returns the form of a column, and its numbers of all blocks under one kind."""
+def _first_too_far(name: str, kind: Kind, numbers: np.ndarray, valid: np.ndarray) -> BadRow:
+    """Returns the first row that lies too far from one before it."""
+    low = np.minimum.accumulate(np.where(valid, numbers, MOST))
+    high = np.maximum.accumulate(np.where(valid, numbers, LEAST))
+    # (the difference as a number without a sign, which is right where there is a number before)
+    spans = high.view(np.uint64) - low.view(np.uint64)
+    row = int((np.logical_or.accumulate(valid) & (spans >= SPAN)).argmax())
+    return BadRow(name, row, kind.decode(int(numbers[row])), too_far(kind, int(low[row]), int(high[row])))
+
+
+def joined_blocks(name: str, blocks: List[Block]) -> Tuple[Optional[Kind], Tuple[np.ndarray, np.ndarray]]:
+    """Returns the kind of a column, and its numbers of all blocks under it."""
     kind = kind_of(name, blocks)
     parts = []
     for block in blocks:
@@ -129,7 +154,7 @@ def joined_blocks(name: str, blocks: List[Block], wishes: Wishes) -> Tuple[Form,
             raise BadRow(name, block.row + why.row, block.value(why.row), why.reason) from None
     numbers = parts[0] if len(parts) == 1 else np.concatenate(parts)
     valid = blocks[0].valid if len(blocks) == 1 else np.concatenate([block.valid for block in blocks])
-    return wishes.form(name, kind, *ends_of(numbers, valid)), (numbers, valid)
+    return kind, (numbers, valid)
 
 
 def ends_of(numbers: np.ndarray, valid: np.ndarray) -> Tuple[int, int]:
@@ -150,12 +175,37 @@ def chosen(
     data: Any, columns: Optional[Iterable[str]], kinds: Optional[Mapping[str, Any]], forms: Optional[Mapping[str, Form]]
 ) -> Tuple[Dict[str, Form], Encoded]:
     """Returns the forms of the wanted columns of a frame, and their numbers."""
-    given = columns_of(data)
-    wanted = wanted_of(columns, list(given))
-    wishes = Wishes(wanted, kinds, forms)
-    found = {name: settled(name, [wishes.block(name, values_of(name, given[name]))], wishes) for name in wanted}
-    lengths = {name: len(numbers) for name, (_, (numbers, _)) in found.items()}
+    return chosen_of([data], columns, kinds, forms)
+
+
+def chosen_of(
+    frames: Iterable[Any],
+    columns: Optional[Iterable[str]],
+    kinds: Optional[Mapping[str, Any]],
+    forms: Optional[Mapping[str, Form]],
+) -> Tuple[Dict[str, Form], Encoded]:
+    """Returns the forms of the wanted columns of frames that follow each other, and their numbers. Each frame has the
+    wanted columns of the first."""
+    wishes: Optional[Wishes] = None
+    blocks: Dict[str, List[Block]] = {}
+    rows = 0
+    for frame in frames:
+        given = columns_of(frame)
+        if wishes is None:
+            wishes = Wishes(wanted_of(columns, list(given)), kinds, forms)
+            blocks = {name: [] for name in wishes.names}
+        for name in wanted_of(wishes.names, list(given)):
+            blocks[name].append(wishes.block(name, values_of(name, given[name]), rows))
+        rows += _length({name: len(found[-1].numbers) for name, found in blocks.items()})
+    if wishes is None:
+        raise BadColumns("there is no frame")
+    found = {name: settled(name, blocks.pop(name), wishes) for name in wishes.names}
+    return {name: form for name, (form, _) in found.items()}, [encoded for _, encoded in found.values()]
+
+
+def _length(lengths: Dict[str, int]) -> int:
+    """Returns the one length that all columns have."""
     if len(set(lengths.values())) > 1:
         listed = ", ".join(f"{name!r} {length:,}" for name, length in lengths.items())
         raise BadColumns(f"the columns differ in length: {listed}")
-    return {name: form for name, (form, _) in found.items()}, [encoded for _, encoded in found.values()]
+    return next(iter(lengths.values()))

@@ -18,17 +18,20 @@ import dask
 import numpy as np
 from distributed import Client, get_client, wait
 
-from .choosing import Block, Wishes, ends_of, joined_blocks, refuse_misfit, wanted_of
+from .choosing import Block, Wishes, ends_of, joined_blocks, kind_of, refuse_misfit, wanted_of
 from .errors import BadRow, Error, IndexFull, LostWorker
-from .forms import Form
+from .forms import LEAST, Form
 from .gathered import Gathered
 from .index import Index
-from .kinds import Kind
+from .kinds import Kind, Misfit, Whole
+from .narrowing import encode
 from .table import MOST_ROWS, Table
 from .values import columns_of, values_of
 
 BOUNDS, SECONDS = 63, 0.5
-# Of each column of a partition the two ends of its numbers, as a block of two; and how many rows the partition has.
+ALL_NUMBERS = Form("slices", (64,), LEAST)
+# Of each column of a partition its first number and the two ends, as a block of three; and how many rows the partition
+# has.
 Survey = Tuple[Dict[str, Block], int]
 
 
@@ -39,22 +42,25 @@ def _survey(frame: Any, wanted: List[str], kinds: Any, forms: Any) -> Union[Surv
         wishes, ends, given = Wishes(wanted, kinds, forms), {}, columns_of(frame)
         for name in wanted:
             block = wishes.block(name, values_of(name, given[name]))
-            two, first = np.array(ends_of(block.numbers, block.valid)), int(np.argmax(block.valid)) if len(frame) else 0
-            ends[name] = Block(block.kind, two, np.full(2, block.valid.any()), first)
+            first = int(np.argmax(block.valid)) if len(frame) else 0
+            three = np.array([*block.numbers[first : first + 1], *ends_of(block.numbers, block.valid)])
+            ends[name] = Block(block.kind, three, np.full(len(three), block.valid.any()), first)
         return ends, len(frame)
     except Error as why:
         return why
 
 
-def _misfit(frame: Any, forms: Mapping[str, Form]) -> Optional[BadRow]:
-    """Returns the first value of a partition that a form which was given does not take, on the partition's worker."""
+def _misfit(frame: Any, forms: Mapping[str, Form]) -> Optional[Error]:
+    """Returns the first value of a partition that its column does not take, on the partition's worker."""
     given = columns_of(frame)
-    try:
-        for name, form in forms.items():
+    for name, form in forms.items():
+        try:
             values = values_of(name, given[name])
-            refuse_misfit(name, form, form.kind.encode(values.values, values.valid), values.valid)
-    except BadRow as why:
-        return why
+            refuse_misfit(name, form, encode(form.kind, values), values.valid)
+        except Misfit as why:
+            return BadRow(name, why.row, why.value, why.reason)
+        except Error as why:
+            return why
     return None
 
 
@@ -148,10 +154,10 @@ def from_frame(
     surveys = client.gather(client.map(_survey, partitions, pure=False, **asked))
     rows = [0 if isinstance(survey, Error) else survey[1] for survey in surveys]
     _refuse(surveys, rows)
-    found = {name: _form(name, [ends[name] for ends, _ in surveys], rows, wishes) for name in wanted}
-    if wishes.forms:
-        given = {name: found[name] for name in wishes.forms}
-        _refuse(client.gather(client.map(_misfit, partitions, forms=given, pure=False)), rows)
+    ends = {name: _placed([ends[name] for ends, _ in surveys], rows) for name in wanted}
+    if doubtful := _doubtful(ends, wishes):
+        _refuse(client.gather(client.map(_misfit, partitions, forms=doubtful, pure=False)), rows)
+    found = {name: _form(name, blocks, wishes) for name, blocks in ends.items()}
     if limit is not None and sum(rows) > limit:
         raise IndexFull(f"row {limit:,} is past the limit of {limit:,} rows; no index was made", limit)
     places = _places(client, partitions)
@@ -192,12 +198,28 @@ def _wait(client: Client, futures: List[Any], workers: List[str]) -> None:
                 raise LostWorker(f"the worker {', '.join(sorted(gone))} is gone; make the index again") from None
 
 
-def _form(name: str, ends: List[Block], rows: List[int], wishes: Wishes) -> Form:
-    """Returns the form of a column over all partitions, of each of which the two ends are known."""
+def _placed(ends: List[Block], rows: List[int]) -> List[Block]:
+    """Returns the blocks that have a number, each with its row among those of all partitions."""
     starts = [sum(rows[:place]) for place in range(len(rows))]
     there = [block._replace(row=start + block.row) for start, block in zip(starts, ends) if block.valid.any()]
-    form, _ = joined_blocks(name, there or ends, wishes)
-    return form
+    return there or ends
+
+
+def _doubtful(ends: Mapping[str, List[Block]], wishes: Wishes) -> Dict[str, Form]:
+    """Returns the columns that may not take each value of a partition: those whose form is given, and those that keep
+    it as another kind than the partition chose. Of these the form is one that takes all numbers."""
+    kinds = {name: kind_of(name, blocks) or Whole() for name, blocks in ends.items()}
+    return {
+        name: wishes.forms.get(name, ALL_NUMBERS).of(kind)
+        for name, kind in kinds.items()
+        if name in wishes.forms or any(block.kind not in (kind, None) for block in ends[name])
+    }
+
+
+def _form(name: str, ends: List[Block], wishes: Wishes) -> Form:
+    """Returns the form of a column over all partitions, of each of which the ends are known."""
+    kind, (numbers, valid) = joined_blocks(name, ends)
+    return wishes.form(name, kind, *ends_of(numbers, valid))
 
 
 def _places(client: Client, partitions: List[Any]) -> List[str]:

@@ -141,7 +141,7 @@ class Whole(Kind):
     def cut(self, constant: Any) -> Cut:
         if type(constant) is int:
             return constant, constant + 1
-        return cut_of(fraction_of(constant, lambda number: Fraction(float(number))))
+        return cut_of(fraction_of(constant, lambda number: Fraction(*number.as_integer_ratio())))
 
     def parse(self, text: str) -> Decimal:
         return decimal_of(text)
@@ -222,7 +222,8 @@ class Decimals(Kind):
 
     def _encode_floats(self, values: np.ndarray, valid: np.ndarray) -> np.ndarray:
         # A decimal of as many digits as a float keeps (15 of a double) is the only such one that the float prints as.
-        most = 10.0 ** np.finfo(values.dtype).precision
+        # Numbers go through doubles here, so a longer float has no more.
+        most = 10.0 ** min(np.finfo(values.dtype).precision, 15)
         with np.errstate(over="ignore", invalid="ignore"):
             scaled = np.rint(np.where(valid, values, 0).astype(np.float64) * 10.0**self.places)
             back = (scaled / 10.0**self.places).astype(values.dtype)
@@ -252,8 +253,8 @@ def _decimal(number: int, places: int) -> Decimal:
 @dataclass(frozen=True)
 class Times(Kind):
     """Points of time, as a count of days "D", seconds "s", "ms", "us" or "ns" since 1970-01-01, in UTC where there is a
-    zone. Answers are pandas.Timestamp, or datetime where there is no pandas. Constants are dates, times, or texts such
-    as 2026-01-31T12:00.
+    zone. Answers are pandas.Timestamp, or datetime where there is no pandas, or numpy.datetime64 in UTC where neither
+    can be it. Constants are dates, times, or texts such as 2026-01-31T12:00.
     """
 
     unit: str = "D"
@@ -266,7 +267,7 @@ class Times(Kind):
 
     def cut(self, constant: Any) -> Cut:
         nanoseconds, is_aware = nanoseconds_of(constant)
-        if is_aware != (self.zone is not None) and type(constant) is not date:
+        if is_aware != (self.zone is not None):
             has, column_has = ("a", "none") if is_aware else ("no", "one")
             raise TypeError(f"{shown(constant)} has {has} time zone, and the column has {column_has}")
         return cut_of(Fraction(nanoseconds, NANOSECONDS[self.unit]))
@@ -298,7 +299,7 @@ class Times(Kind):
         )
 
 
-EPOCH = datetime(1970, 1, 1)
+EPOCH, MICROSECOND = datetime(1970, 1, 1), timedelta(microseconds=1)
 
 
 def nanoseconds_of_text(text: str) -> Tuple[int, bool]:
@@ -330,17 +331,18 @@ def nanoseconds_of(moment: Any) -> Tuple[int, bool]:
         factor = {"h": 3600 * NANOSECONDS["s"], "m": 60 * NANOSECONDS["s"], **NANOSECONDS}[unit]
         return int(moment.astype(np.int64)) * count * factor, False
     if isinstance(moment, datetime) and moment == moment:
-        is_aware = moment.tzinfo is not None
-        since = (moment.astimezone(timezone.utc).replace(tzinfo=None) if is_aware else moment) - EPOCH
+        ahead = moment.utcoffset()
+        microseconds = (moment.replace(tzinfo=None) - EPOCH) // MICROSECOND - (ahead or timedelta()) // MICROSECOND
         # (pandas.Timestamp is a datetime that has nanoseconds besides)
-        return since // timedelta(microseconds=1) * 1000 + getattr(moment, "nanosecond", 0), is_aware
+        return microseconds * 1000 + getattr(moment, "nanosecond", 0), ahead is not None
     if isinstance(moment, date) and moment == moment:
         return (moment - EPOCH.date()).days * NANOSECONDS["D"], False
     raise TypeError(f"{shown(moment)} is no date or time")
 
 
 def _time(nanoseconds: int, zone: Any) -> Any:
-    """Returns the point of time as a pandas.Timestamp where that can be, and as a datetime otherwise."""
+    """Returns the point of time as a pandas.Timestamp where that can be, as a datetime otherwise, and as a
+    numpy.datetime64 in UTC where neither can be it."""
     try:
         import pandas
 
@@ -348,11 +350,16 @@ def _time(nanoseconds: int, zone: Any) -> Any:
             return pandas.Timestamp(nanoseconds, tz=zone)
     except (ImportError, ValueError):
         pass
+    if nanoseconds % 1000 and abs(nanoseconds) < 2**63:
+        return np.datetime64(nanoseconds, "ns")
     try:
         moment = EPOCH + timedelta(microseconds=nanoseconds // 1000)
     except OverflowError:
         return np.datetime64(nanoseconds // NANOSECONDS["s"], "s")
-    return moment.replace(tzinfo=timezone.utc).astimezone(zone) if zone is not None else moment
+    try:
+        return moment.replace(tzinfo=timezone.utc).astimezone(zone) if zone is not None else moment
+    except OverflowError:
+        return moment.replace(tzinfo=timezone.utc)  # (the zone is past the years 1 to 9999)
 
 
 @dataclass(frozen=True)

@@ -107,7 +107,9 @@ def _numbers(given: Values) -> Narrowed:
 
 
 def _places(row: int, value: Any) -> int:
-    if isinstance(value, (numbers.Integral, np.bool_)):
+    if isinstance(value, (bool, np.bool_)):
+        raise Misfit(row, value, f"{shown(value)} is no number, as those before it are")
+    if isinstance(value, numbers.Integral):
         return 0
     if isinstance(value, (float, np.floating)):
         value = Decimal(0) if np.isfinite(value) and value % 1 == 0 else Decimal(str(value))
@@ -127,7 +129,7 @@ def _times(given: Values) -> Narrowed:
         value = given.values[row]
         try:
             moments[row], is_aware = nanoseconds_of(value)
-        except (TypeError, ValueError) as why:
+        except (TypeError, ValueError, ArithmeticError) as why:
             raise Misfit(row, value, str(why)) from None
         zones.add(value.tzinfo if is_aware else None)
         if len(zones) > 1 and None in zones:

@@ -21,7 +21,7 @@ from typing import Tuple, Type, Union
 
 import numpy as np
 
-from .choosing import Block, Wishes, settled, wanted_of
+from .choosing import Block, Wishes, refuse_no_kind, settled, wanted_of
 from .errors import BadColumns, BadRow
 from .forms import Form
 from .index import Index
@@ -119,6 +119,8 @@ class _Reader:
             self.wanted = wanted_of(self._asked[0], header)
             texts = {name: kind for name, kind in (self._asked[1] or {}).items() if kind is Texts}
             self.wishes = Wishes(self.wanted, self._asked[1], self._asked[2])
+            for name in self.wishes.kinds.keys() - texts.keys():
+                refuse_no_kind(name, self.wishes.kinds[name])
             self._parsers = {name: _texts for name in texts}
             self.blocks: Dict[str, List[Block]] = {name: [_nothing()] for name in self.wanted}
         elif header != self._header:

@@ -44,7 +44,7 @@ def columns_of(data: Any) -> Dict[str, Any]:
     if hasattr(data, "__arrow_c_array__"):
         columns = arrow.struct_of(data)
         _refuse_names([name for name, _ in columns])
-        return {name: _of_arrow(*read) for name, read in columns}
+        return dict(columns)
     raise BadColumns(
         f"rows come as a dict of columns, a pandas frame or an Arrow record batch, and not as {type(data).__name__}"
     )
@@ -70,6 +70,8 @@ def _values_of(data: Any) -> Values:
     pandas = sys.modules.get("pandas")
     if isinstance(data, Values):
         return data
+    if isinstance(data, arrow.Field):
+        return _of_arrow(*data.read())
     if isinstance(data, np.ma.MaskedArray):
         found = _of_array(np.ma.getdata(data), np.ma.getmaskarray(data))
         return found._replace(valid=found.valid & ~np.ma.getmaskarray(data))

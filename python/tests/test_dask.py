@@ -2,6 +2,7 @@
 
 import os
 import signal
+from decimal import Decimal
 
 import numpy as np
 import pytest
@@ -57,6 +58,16 @@ def test_a_refusal_names_the_row_of_all(client):
         bsi.dask.from_frame(frames.from_pandas(table(1_000), npartitions=10), limit=999)
     with pytest.raises(bsi.BadRow, match=r"column 'a', row 0 \(partition 0\): .* is not from 0 to 3"):
         bsi.dask.from_frame(frames.from_pandas(table(1_000), npartitions=10), forms={"a": bsi.slices(2)})
+    # Two partitions have what another one's kind leaves no room for.
+    frame = pandas.DataFrame({"x": list(range(100))}, dtype=object)
+    frame.loc[37, "x"], frame.loc[38, "x"], frame.loc[95, "x"] = 2**61, 2**62, Decimal("0.25")
+    for kinds in (None, {"x": bsi.Decimals(2)}):
+        with pytest.raises(bsi.BadRow, match=r"column 'x', row 37 \(partition 3\): .*63 bits") as refused:
+            bsi.dask.from_frame(frames.from_pandas(frame, npartitions=10, sort=False), kinds=kinds)
+        assert refused.value.value == 2**61
+    frame.loc[37:39, "x"], frame.loc[90:, "x"] = 5, "text"
+    with pytest.raises(bsi.BadRow, match=r"column 'x', row 90: texts stand below whole numbers"):
+        bsi.dask.from_frame(frames.from_pandas(frame, npartitions=10, sort=False))
     with pytest.raises(bsi.BadColumns, match="no column 'z'"):
         bsi.dask.from_frame(frames.from_pandas(table(10), npartitions=1), ["z"])
 

@@ -367,8 +367,6 @@ def test_kinds_and_forms_that_are_given():
     ):
         with pytest.raises(bsi.Error, match=why):
             bsi.Index.from_frame(frame, **more)
-    with pytest.raises(bsi.BadSchema, match="more than the 2\\^63 values"):
-        bsi.Index.from_frame({"a": [-(2**63), 2**63 - 1]})
 
 
 def test_progress_is_told():

@@ -159,14 +159,19 @@ def test_the_command_waits_at_a_terminal(tmp_path):
 
 def test_the_command_reads_parquet_where_pandas_can(monkeypatch, capsys):
     pandas = pytest.importorskip("pandas")
+    files = {"x.parquet": {"n": [1, 2], "t": ["a", "b"]}, "y.parquet": {"n": [1, 2], "t": ["a", "b"]}}
+    files["z.parquet"] = {"n": [2**53 + 1], "t": ["c"]}
+    files["half.parquet"] = {"n": [0.5], "t": [None]}
     monkeypatch.setattr(
         pandas,
         "read_parquet",
-        lambda file, columns: pandas.DataFrame({"n": [1, 2], "t": ["a", "b"]})[columns or ["n", "t"]],
+        lambda file, columns, use_nullable_dtypes: pandas.DataFrame(files[file])[columns or ["n", "t"]],
     )
     assert main(["x.parquet", "y.parquet", "sum n", "rows t = b"]) == 0
     assert capsys.readouterr().out.splitlines()[3:] == ["6", "1 3"]
     assert main(["x.parquet", "--columns", "t", "--parts", "2", "greatest t"]) == 0
     assert capsys.readouterr().out.splitlines()[2:] == ["b"]
+    assert main(["z.parquet", "half.parquet", "sum n"]) == 0
+    assert capsys.readouterr().out.splitlines()[3:] == ["9007199254740993.5"]
     assert main(["x.parquet", "--null", "n/a", "count"]) == 1
     assert capsys.readouterr().err == "bsi: --text and --null are for CSV files alone\n"

@@ -151,6 +151,8 @@ def test_kinds_that_are_given(write):
     assert bsi.read_csv(path, kinds={"zip": bsi.Whole(), "cents": bsi.Whole()}).sum("zip") == 10502
     for more, why in (
         ({"kinds": {"zap": bsi.Texts}}, "given for 'zap'"),
+        ({"kinds": {"zip": bsi.Whole}}, "the kind of column 'zip' is one"),
+        ({"kinds": {"zip": str}}, "the kind of column 'zip' is one"),
         ({"kinds": {"zip": bsi.Texts, "cents": bsi.Times("D")}}, "column 'cents', row 0 .* no date or time"),
         (
             {"columns": ["zip"], "kinds": {"zip": bsi.Texts(("10001",))}},

@@ -121,6 +121,15 @@ def test_parts_put_answers_together():
                         )
 
 
+def test_a_median_of_parts_takes_four_fields_less():
+    parts = bsi.Parts(2, FORMS)
+    parts.append(table(50))
+    assert parts.median("a", bsi.Predicate(["all"] + ["not"] * 994)) == parts.median("a", bsi.Predicate(["all"]))
+    for more in (996, 999):
+        with pytest.raises(bsi.BadQuery, match=f"at most 996 fields, and this one has {more + 1:,}"):
+            parts.median("a", bsi.Predicate(["all"] + ["not"] * more))
+
+
 def test_parts_change_nothing_at_a_refusal():
     parts = bsi.Parts(3, FORMS, limit=50)
     parts.append(table(30))

@@ -2,6 +2,7 @@
 row."""
 
 import datetime
+import sys
 from decimal import Decimal
 from fractions import Fraction
 
@@ -71,6 +72,7 @@ CHOSEN = {
     "an offset at the end of 64 bits": ([2**63 - 1, 2**63 - 6], bsi.Whole(), [2**63 - 1, 2**63 - 6]),
     "the least of 64 bits": ([-(2**63)], bsi.Whole(), [-(2**63)]),
     "numbers past 2^53": ([2**53 + 1, None], bsi.Whole(), [2**53 + 1]),
+    "a long double past 2^53": ([np.longdouble(2**53) + 1], bsi.Whole(), [2**53 + 1]),
     "cents": (np.array([0.1, 0.25, 1e6]), bsi.Decimals(2), [Decimal("0.10"), Decimal("0.25"), Decimal("1000000.00")]),
     "float32 tenths": (np.array([0.1, -12.3], np.float32), bsi.Decimals(1), [Decimal("0.1"), Decimal("-12.3")]),
     "decimals": ([Decimal("1.250"), Decimal("-0.5")], bsi.Decimals(3), [Decimal("1.250"), Decimal("-0.500")]),
@@ -106,6 +108,11 @@ CHOSEN = {
         Arrow("tdD", 2, [None, np.array([0, 1], np.int32)]),
         bsi.Times("D"),
         [pandas.Timestamp(0), pandas.Timestamp(1970, 1, 2)],
+    ),
+    "arrow times with an offset": (
+        Arrow("tsm:-05:30", 1, [None, np.array([1_000])]),
+        bsi.Times("s", datetime.timezone(-datetime.timedelta(hours=5, minutes=30))),
+        [pandas.Timestamp(1, unit="s", tz="UTC")],
     ),
     "arrow booleans": (Arrow("b", 3, [bits(1, 1, 0), bits(1, 0, 1)]), bsi.Flags(), [True, False]),
     "arrow texts": (texts("b", "ä", "", validity=bits(1, 1, 1)), bsi.Texts(("", "b", "ä")), ["b", "ä", ""]),
@@ -155,16 +162,36 @@ def test_a_zone_is_kept():
     assert index.count(bsi.col.t <= datetime.datetime(2026, 1, 31, 11, tzinfo=datetime.timezone.utc)) == 1
     with pytest.raises(bsi.BadQuery, match="no time zone, and the column has one"):
         index.count(bsi.col.t < datetime.datetime(2026, 1, 31))
-    with pytest.raises(bsi.BadRow, match="row 0: .* has no time zone"):
-        index.append({"t": times.dt.tz_localize(None)})
+    for naive in (times.dt.tz_localize(None), [DAY], ["2026-01-31"]):
+        with pytest.raises(bsi.BadRow, match="column 't', row 0: .* has no time zone"):
+            index.append({"t": naive})
     with pytest.raises(bsi.BadRow, match="row 1: .* no time zone, and one before it has one"):
         bsi.Index.from_frame({"t": [times[0].to_pydatetime(), datetime.datetime(2026, 1, 1)]})
+
+
+def test_times_at_the_end_of_the_calendar():
+    ahead, behind = (datetime.timezone(datetime.timedelta(hours=hours)) for hours in (2, -2))
+    last = datetime.datetime(9999, 12, 31, 23, 59, 59)
+    index = bsi.Index.from_frame({"t": [last.replace(tzinfo=behind), datetime.datetime.min.replace(tzinfo=ahead)]})
+    assert index.rows(bsi.col.t == last.replace(tzinfo=behind)).tolist() == [0] and index.least("t") is not None
+    assert bsi.Times("s", ahead).decode(253402300799) == last.replace(tzinfo=datetime.timezone.utc)
+
+
+def test_nanoseconds_without_pandas(monkeypatch):
+    monkeypatch.setitem(sys.modules, "pandas", None)
+    assert bsi.Times("ns").decode(1_001) == np.datetime64(1_001, "ns")
+    assert bsi.Times("ns").decode(2_000) == datetime.datetime(1970, 1, 1, 0, 0, 0, 2)
 
 
 def test_a_record_batch_is_a_frame():
     batch = Arrow("+s", 2, [None], children={"a": Arrow("l", 2, [None, np.array([5, 6])]), "b": texts("x", "y")})
     index = bsi.Index.from_frame(batch)
     assert (index.sum("a"), index.least("b"), index.append(batch), len(index)) == (11, "x", 2, 4)
+    lists = {"a": Arrow("l", 2, [None, np.array([5, 6])]), "c": Arrow("+l", 2, [None, np.zeros(3, np.int32)])}
+    batch = Arrow("+s", 2, [None], children=lists)
+    assert bsi.Index.from_frame(batch, ["a"]).sum("a") == 11
+    with pytest.raises(bsi.BadColumns, match="column 'c': an Arrow array of format '\\+l'"):
+        bsi.Index.from_frame(batch)
 
 
 # Values that can't be kept, the row that is named, and why.
@@ -172,6 +199,8 @@ REFUSED = {
     "2^63": ([1, 2**63], 1, "past 63 bits|past 64 bits"),
     "a large uint64": (np.array([1, 2**63], np.uint64), 1, "past 63 bits"),
     "a third": (np.array([0.5, 1 / 3, 0.1]), 1, "exactly with 6 decimal places"),
+    "a long double of 17 digits": (np.array([1, 1234567890123456.5], np.longdouble), 1, "exactly with"),
+    "numbers far apart": ([None, -1, 5, 2**63 - 1], 3, "more than the 2\\^63 values"),
     "a large float": (np.array([0.5, 1e300]), 1, "exactly with"),
     "infinity": (np.array([1.0, np.inf]), 1, "exactly with|63 bits"),
     "a fraction": ([Decimal("0.5"), Fraction(1, 3)], 1, "no number, or no decimal"),
@@ -180,6 +209,7 @@ REFUSED = {
     "text among numbers": ([1, "2"], 1, "no number"),
     "number among texts": (["a", None, 2], 2, "no text"),
     "a boolean among texts": (["a", True], 1, "no text"),
+    "a boolean among numbers": ([2, True], 1, "no number"),
     "a number among booleans": ([True, 1], 1, "neither True nor False"),
     "a date among numbers": ([1, DAY], 1, "no number"),
     "a number among dates": ([DAY, 1], 1, "no date or time"),
@@ -220,6 +250,8 @@ NO_COLUMNS = {
     "an arrow array of few buffers": Arrow("l", 1, [None]),
     "an arrow array of negative length": Arrow("l", -1, [None, np.zeros(1)]),
     "a place past an arrow dictionary": Arrow("l", 1, [None, np.array([2])], dictionary=texts("a")),
+    "arrow texts that are no UTF-8": Arrow("u", 1, [None, np.array([0, 1], np.int32), np.array([255], np.uint8)]),
+    "an arrow time zone that is none": Arrow("tss:Nowhere/Here", 1, [None, np.array([0])]),
     "arrow texts that go back": Arrow("u", 2, [None, np.array([0, 5, 2], np.int32), np.zeros(9, np.uint8)]),
 }
 

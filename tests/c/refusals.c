@@ -38,13 +38,24 @@ void __wrap_free(void *block) {
 
 static bool is_fair(uint32_t status) { return status == BSI_OK || status == BSI_NO_MEMORY; }
 
+/* Returns the lower median of b in the first rows. */
+static int64_t median_of_b(uint64_t rows) {
+    for (int64_t median = 0;; median++) {
+        uint64_t low = 0;
+        for (uint64_t row = 0; row < rows; row++) low += b[row] <= median;
+        if (2 * low >= rows) return median;
+    }
+}
+
 /* Asks an index of the first rows, and sees that each answer that is given is right. */
 static void question(bsi_index *index, uint64_t rows) {
     bsi_answer answer = {0};
     uint32_t status = ask(index, "list a < 100", &answer, places, ROWS);
     wrong += !is_fair(status);
     for (uint64_t k = 0; !status && k < answer.count; k++) wrong += places[k].row >= rows || a[places[k].row] >= 100;
-    wrong += !is_fair(ask(index, "median b all", &answer, places, ROWS));
+    status = ask(index, "median b all", &answer, places, ROWS);
+    wrong += !is_fair(status);
+    wrong += !status && (answer.present != (rows > 0) || (rows && answer.value != median_of_b(rows)));
     status = selects(index, "a < 100", words, (rows + 63) / 64);
     wrong += !is_fair(status);
     for (uint64_t row = 0; !status && row < rows; row++) wrong += (words[row / 64] >> (row % 64) & 1) != (a[row] < 100);

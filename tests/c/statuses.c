@@ -111,14 +111,18 @@ static void of_sharing(void) {
     bsi_index other = {0}, third = {0};
     bsi_column two[2] = {{numbers, 1, bits, 0}, {numbers, 1, bits, 0}};
     uint8_t text[64];
+    uint64_t bad;
     size_t size = 0;
     check(bsi_schema(&open_one, text, 10, &size) == BSI_NO_ROOM && size == 52, "schema: too little room, and how much is needed");
-    check(bsi_share(&open_one, &other) == BSI_OK && rows_of(&other) == 3, "share");
+    opens(&third, "column,x,slices,8\n", 1, &bad);
+    check(bsi_share(&open_one, &third) == BSI_OPEN && append(&open_one, 0, two, 2, 1) == BSI_OK, "append: after a refused share");
+    bsi_close(&third);
+    check(bsi_share(&open_one, &other) == BSI_OK && rows_of(&other) == 4, "share");
     check(bsi_share(&open_one, &other) == BSI_OPEN, "share: into an open handle");
     check(append(&open_one, 0, two, 2, 0) == BSI_SHARED && append(&other, 0, two, 2, 0) == BSI_SHARED, "append: a shared index");
-    check(bsi_close(&open_one) == BSI_OK && rows_of(&other) == 3, "a handle stays open when the other is closed");
+    check(bsi_close(&open_one) == BSI_OK && rows_of(&other) == 4, "a handle stays open when the other is closed");
     check(append(&other, 0, two, 2, 0) == BSI_SHARED, "append: an index that was shared");
-    check(bsi_share(&other, &third) == BSI_OK && bsi_close(&other) == BSI_OK && rows_of(&third) == 3, "share: once more");
+    check(bsi_share(&other, &third) == BSI_OK && bsi_close(&other) == BSI_OK && rows_of(&third) == 4, "share: once more");
     check(bsi_close(&third) == BSI_OK && bsi_close(&third) == BSI_CLOSED, "close: twice");
 }
 
@@ -138,8 +142,29 @@ static void of_null_pointers(void) {
 }
 
 static void of_texts(void) {
-    check(!strcmp(bsi_status_text(BSI_OK), "done") && !strcmp(bsi_status_text(BSI_NO_ROOM), "no room"), "a status in words");
-    check(strcmp(bsi_status_text(BSI_BAD_TEXT), bsi_status_text(14)) && bsi_status_text(UINT32_MAX), "a number past the statuses");
+    static const struct {
+        uint32_t status;
+        const char *text;
+    } texts[] = {
+        {BSI_OK, "done"},
+        {BSI_CLOSED, "the handle is closed"},
+        {BSI_OPEN, "the handle is open"},
+        {BSI_NO_MEMORY, "no memory"},
+        {BSI_BAD_SCHEMA, "bad record in the schema"},
+        {BSI_NO_COLUMNS, "no column in the schema"},
+        {BSI_BAD_FEEDER, "no such feeder"},
+        {BSI_BAD_COLUMNS, "columns of another number or length"},
+        {BSI_BAD_ROW, "a row does not fit"},
+        {BSI_INDEX_FULL, "the index is full"},
+        {BSI_SHARED, "a shared index takes no rows"},
+        {BSI_BAD_QUERY, "no query"},
+        {BSI_NO_ROOM, "no room"},
+        {BSI_BAD_TEXT, "too many records in the schema"},
+        {14, "no status of bsi"},
+        {UINT32_MAX, "no status of bsi"},
+    };
+    for (size_t k = 0; k < sizeof texts / sizeof *texts; k++)
+        check(!strcmp(bsi_status_text(texts[k].status), texts[k].text), texts[k].text);
 }
 
 int main(void) {

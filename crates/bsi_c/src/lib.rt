@@ -58,6 +58,8 @@ pub extern "C" fn bsi_ask(
     ensures told { Tells result (IsAsking (opened_in index.old.held.value)
         (map (λ f. f.now) fields.now) answer.new places.new) }
     ensures kept { index.new.held.value ≡ index.old.held.value }
+    ensures left { result ≢ 0 → result ≢ 12 → answer.new ≡ answer.old }
+    ensures unfilled { result ≢ 0 → places.new ≡ places.old }
 {
     status_of(ask(alloc, index, fields, answer, places))
 }
@@ -74,6 +76,7 @@ pub extern "C" fn bsi_select(
     ensures told { Tells result (IsSelecting (opened_in index.old.held.value)
         (map (λ f. f.now) fields.now) words.new) }
     ensures kept { index.new.held.value ≡ index.old.held.value }
+    ensures left { result ≢ 0 → words.new ≡ words.old }
 {
     status_of(select(alloc, index, fields, words))
 }
@@ -83,6 +86,7 @@ pub extern "C" fn bsi_select(
 pub extern "C" fn bsi_rows(alloc: Global, index: &mut Handle, rows: &mut u64) -> u32
     ensures told { Tells result (IsCounting (opened_in index.old.held.value) rows.new) }
     ensures kept { index.new.held.value ≡ index.old.held.value }
+    ensures left { result ≢ 0 → rows.new ≡ rows.old }
 {
     status_of(count(alloc, index, rows))
 }
@@ -98,6 +102,8 @@ pub extern "C" fn bsi_schema(
     ensures told { Tells result
         (IsDescribing (opened_in index.old.held.value) text.new size.new) }
     ensures kept { index.new.held.value ≡ index.old.held.value }
+    ensures left { result ≢ 0 → result ≢ 12 → size.new ≡ size.old }
+    ensures unfilled { result ≢ 0 → text.new ≡ text.old }
 {
     status_of(describe(alloc, index, text, size))
 }
@@ -107,7 +113,8 @@ pub extern "C" fn bsi_schema(
 pub extern "C" fn bsi_share(alloc: Global, index: &mut Handle, other: &mut Handle) -> u32
     ensures told { Tells result (IsSharing index.old.held.value other.old.held.value
         index.new.held.value other.new.held.value) }
-    ensures kept { result ≢ 0 →
+    ensures kept { result ≢ 0 → result ≢ 3 → index.new.held.value ≡ index.old.held.value }
+    ensures held { result ≢ 0 →
         opened_in index.new.held.value ≡ opened_in index.old.held.value }
     ensures left { result ≢ 0 → other.new.held.value ≡ other.old.held.value }
 {

@@ -1,5 +1,5 @@
 -- What each call does to what a handle holds, what it answers, and when it is refused.
-use Rattle.std.specs.Prelude.{◌≡◌, ◌≢◌, ℕ, ◌+◌, ◌*◌, ◌^◌, ◌<◌, ◌≤◌, List, length, map, slice_index_or, take, Option, Some, None, Ok, Err, IsSome, true, false, MatchOption}
+use Rattle.std.specs.Prelude.{◌≡◌, ◌≢◌, ℕ, ◌+◌, ◌*◌, ◌%◌, ◌^◌, ◌<◌, ◌≤◌, List, length, map, slice_index_or, take, Option, Some, None, Ok, Err, IsSome, true, false, MatchOption}
 use Rattle.std.specs.Int.{cast_unsigned, w128}
 use Rattle.bsi_bits.specs.BitList.{word_count}
 use Rattle.bsi_bits.specs.Packed.{bit_of}
@@ -83,12 +83,13 @@ IsRowsRefusal table feeder columns row why = ⊥
 abbrev pub with_first : Table → ℕ → List Column → ℕ → Table
 with_first table feeder columns n = with_rows table (rows_of feeder columns 0 n)
 
--- an index takes rows: all of them, or, if memory is refused, the first ones, or none
+-- an index takes rows: all of them, or, if memory is refused, those of the first blocks of 64, or none
 abbrev pub IsAppended : Table → ℕ → List Column → ℕ → Table → Ending → Type 0
 IsAppended before feeder columns row after (Ok done) =
     AreAppendable before feeder columns × (row ≡ row_count columns) × (after ≡ with_first before feeder columns row)
 IsAppended before feeder columns row after (Err NoMemory) =
-    AreAppendable before feeder columns × (row ≤ row_count columns) × (after ≡ with_first before feeder columns row)
+    AreAppendable before feeder columns × (row ≤ row_count columns) × (row % 64 ≡ 0)
+    × (after ≡ with_first before feeder columns row)
 IsAppended before feeder columns row after (Err why) =
     IsRowsRefusal before feeder columns row why × (after ≡ before)
 
@@ -162,7 +163,8 @@ abbrev pub IsMasked : Opened → List Field → List ℕ → Ending → Type 0
 IsMasked opened fields words (Ok done) =
     (pred : Pred) × IsPredicate opened.table.schema fields pred × IsMask opened.table pred words
 IsMasked opened fields words (Err BadQuery) = (pred : Pred) → IsPredicate opened.table.schema fields pred → ⊥
-IsMasked opened fields words (Err NoRoom) = length words ≢ word_count (length opened.table.rows)
+IsMasked opened fields words (Err NoRoom) =
+    (pred : Pred) × IsPredicate opened.table.schema fields pred × (length words ≢ word_count (length opened.table.rows))
 IsMasked opened fields words (Err NoMemory) = Unit {0}
 IsMasked opened fields words (Err why) = ⊥
 

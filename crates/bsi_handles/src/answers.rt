@@ -1,6 +1,6 @@
 //! Answers as C has them.
 
-ghost use Rattle.std.specs.Prelude.{◌≡◌, ◌<◌, map, take, length, Err, IfErr, IfOk, OnOk};
+ghost use Rattle.std.specs.Prelude.{◌≡◌, ◌≢◌, ◌<◌, map, take, length, Err, IfErr, IfOk, OnErr, OnOk};
 ghost use Rattle.bsi_handles.specs.Calls.{as_pairs, IsReplied, IsShort, IsWritten};
 
 use crate::opened::Opened;
@@ -49,7 +49,9 @@ pub(crate) fn reply(
     answer: &mut FlatAnswer,
     places: &mut [Place],
 ) -> Result<(), Refusal>
-    ensures { IsReplied opened.now (map (λ f. f.now) fields.now) answer.new places.new result }
+    ensures replied { IsReplied opened.now (map (λ f. f.now) fields.now) answer.new places.new result }
+    ensures left { IfErr result (λ why. why ≢ Refusal.NoRoom → answer.new ≡ answer.old) }
+    ensures unfilled { OnErr result (places.new ≡ places.old) }
 {
     let index = opened.index();
     let fields = ByteRecord::from_fields(alloc, fields)?;
@@ -69,6 +71,7 @@ fn write(reply: &Answer, answer: &mut FlatAnswer, places: &mut [Place]) -> Resul
     ensures written { OnOk result (IsWritten reply.now answer.new places.new) }
     ensures short { IfErr result (λ why. (why ≡ Refusal.NoRoom)
         × IsShort reply.now answer.new places.new) }
+    ensures unfilled { OnErr result (places.new ≡ places.old) }
 {
     match reply {
         Answer::Count(count) => {
@@ -104,6 +107,7 @@ fn list(rows: &[(u32, u64)], places: &mut [Place]) -> Result<(), Refusal>
     ensures listed { OnOk result (as_pairs (take (length rows.now) places.new) ≡ rows.now) }
     ensures short { IfErr result (λ why. (why ≡ Refusal.NoRoom)
         × (length places.new < length rows.now)) }
+    ensures unfilled { OnErr result (places.new ≡ places.old) }
 {
     if rows.len() > places.len() {
         return Err(Refusal::NoRoom);

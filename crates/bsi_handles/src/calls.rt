@@ -90,6 +90,8 @@ pub fn ask(
     ensures ending { IsAsking (opened_in index.old.held.value) (map (λ f. f.now) fields.now)
         answer.new places.new result }
     ensures kept { index.new.held.value ≡ index.old.held.value }
+    ensures left { IfErr result (λ why. why ≢ Refusal.NoRoom → answer.new ≡ answer.old) }
+    ensures unfilled { OnErr result (places.new ≡ places.old) }
 {
     let Some(state) = take(index, alloc) else {
         return Err(Refusal::Closed);
@@ -112,6 +114,7 @@ pub fn select(
     ensures ending { IsSelecting (opened_in index.old.held.value) (map (λ f. f.now) fields.now)
         words.new result }
     ensures kept { index.new.held.value ≡ index.old.held.value }
+    ensures left { OnErr result (words.new ≡ words.old) }
 {
     let Some(state) = take(index, alloc) else {
         return Err(Refusal::Closed);
@@ -128,6 +131,7 @@ pub fn select(
 pub fn count(alloc: Global, index: &mut Handle, rows: &mut u64) -> Result<(), Refusal>
     ensures ending { IsCounting (opened_in index.old.held.value) rows.new result }
     ensures kept { index.new.held.value ≡ index.old.held.value }
+    ensures left { OnErr result (rows.new ≡ rows.old) }
 {
     let Some(state) = take(index, alloc) else {
         return Err(Refusal::Closed);
@@ -152,6 +156,8 @@ pub fn describe(
 ) -> Result<(), Refusal>
     ensures ending { IsDescribing (opened_in index.old.held.value) text.new size.new result }
     ensures kept { index.new.held.value ≡ index.old.held.value }
+    ensures left { IfErr result (λ why. why ≢ Refusal.NoRoom → size.new ≡ size.old) }
+    ensures unfilled { OnErr result (text.new ≡ text.old) }
 {
     let Some(state) = take(index, alloc) else {
         return Err(Refusal::Closed);
@@ -169,7 +175,9 @@ pub fn describe(
 pub fn share(alloc: Global, index: &mut Handle, other: &mut Handle) -> Result<(), Refusal>
     ensures ending { IsSharing index.old.held.value other.old.held.value index.new.held.value
         other.new.held.value result }
-    ensures kept { OnErr result
+    ensures kept { IfErr result (λ why. why ≢ Refusal.NoMemory →
+        index.new.held.value ≡ index.old.held.value) }
+    ensures held { OnErr result
         (opened_in index.new.held.value ≡ opened_in index.old.held.value) }
     ensures left { OnErr result (other.new.held.value ≡ other.old.held.value) }
 {

@@ -1,6 +1,6 @@
 //! An index that was opened, and the text of its schema.
 
-ghost use Rattle.std.specs.Prelude.{◌≡◌};
+ghost use Rattle.std.specs.Prelude.{◌≡◌, IfErr, OnErr};
 ghost use Rattle.bsi_handles.specs.Calls.{with_table, IsAppended, IsDescribed};
 ghost use Rattle.bsi_handles.specs.SchemaTexts.{IsSchemaText};
 
@@ -57,7 +57,9 @@ impl Opened {
 
     /// Writes the text, if there is room, and its length.
     pub(crate) fn describe(&self, text: &mut [u8], size: &mut usize) -> Result<(), Refusal>
-        ensures { IsDescribed self.now text.new size.new result }
+        ensures described { IsDescribed self.now text.new size.new result }
+        ensures unfilled { OnErr result (text.new ≡ text.old) }
+        ensures short { IfErr result (λ why. why ≡ Refusal.NoRoom) }
     {
         let from = self.text();
         *size = from.len();

@@ -1,6 +1,6 @@
 //! Which rows a predicate selects, as words.
 
-ghost use Rattle.std.specs.Prelude.{◌≡◌, ◌≢◌, ◌∷◌, ℕ, codes, false, length, map, slice_index_or, Err, IfErr, IfOk, OnOk};
+ghost use Rattle.std.specs.Prelude.{◌≡◌, ◌≢◌, ◌∷◌, ℕ, codes, false, length, map, slice_index_or, Err, IfErr, IfOk, OnErr, OnOk};
 ghost use Rattle.csv.specs.Records.{fields_of};
 ghost use Rattle.bsi_bits.specs.BitList.{word_count};
 ghost use Rattle.bsi_bits.specs.Packed.{bit_of};
@@ -23,7 +23,8 @@ pub(crate) fn write_mask(
     fields: &[&[u8]],
     words: &mut [u64],
 ) -> Result<(), Refusal>
-    ensures { IsMasked opened.now (map (λ f. f.now) fields.now) words.new result }
+    ensures masked { IsMasked opened.now (map (λ f. f.now) fields.now) words.new result }
+    ensures left { OnErr result (words.new ≡ words.old) }
 {
     let index = opened.index();
     let Some(pred) = read_predicate(alloc, index.schema(), fields)? else {
@@ -73,6 +74,7 @@ fn copy_words(found: &Bits, words: &mut [u64]) -> Result<(), Refusal>
         ((i : ℕ) → bit_of words.new i ≡ slice_index_or found.now.bits i false) }
     ensures other { IfErr result (λ why. (why ≡ Refusal.NoRoom)
         × (length words.new ≢ word_count (length found.now.bits))) }
+    ensures left { OnErr result (words.new ≡ words.old) }
 {
     let from = found.words();
     if from.len() != words.len() {

@@ -1,6 +1,6 @@
 //! What an open handle holds.
 
-ghost use Rattle.std.specs.Prelude.{◌≡◌, Some, option_map, IfErr, IfOk};
+ghost use Rattle.std.specs.Prelude.{◌≡◌, ◌≢◌, Some, option_map, IfErr, IfOk};
 ghost use Rattle.bsi_handles.specs.Calls.{HoldsShared, IsAppending, IsShareRefusal};
 ghost use Rattle.bsi_handles.specs.States.{opened_in};
 
@@ -55,7 +55,8 @@ impl State {
     /// Makes a second state of the same index, which takes no more rows. If memory is refused, the index stays, but it
     /// may take no more rows.
     pub(crate) fn share(&mut self, alloc: Global) -> Result<Box<State>, Refusal>
-        ensures kept { opened_in (Some self.new) ≡ opened_in (Some self.old) }
+        ensures held { opened_in (Some self.new) ≡ opened_in (Some self.old) }
+        ensures kept { IfErr result (λ why. why ≢ Refusal.NoMemory → self.new ≡ self.old) }
         ensures shared { IfOk result (λ other.
             HoldsShared (Some self.new) (opened_in (Some self.old))
             × HoldsShared (Some other.value) (opened_in (Some self.old))) }

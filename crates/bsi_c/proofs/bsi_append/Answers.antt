@@ -1,8 +1,9 @@
-use Rattle.bsi_handles.proofs.Telling.{where_no_memory}
+use Rattle.bsi_handles.proofs.Telling.{where_other}
+use Rattle.bsi_handles.specs.declared.refusal.Refusal.TheVariants.{NoMemory}
 use Rattle.bsi_c.proofs.bsi_append.Goals as goal
 
 pub returns-clause-told : goal.returns-clause-told
 returns-clause-told c = (c.append.result, c.status_of.ensures, c.append.ensures.ending)
 
 pub returns-clause-kept : goal.returns-clause-kept
-returns-clause-kept c = where_no_memory _ c.append.result _ c.status_of.ensures c.append.ensures.kept
+returns-clause-kept c = where_other NoMemory _ c.append.result _ c.status_of.ensures c.append.ensures.kept

@@ -1,4 +1,12 @@
+use Rattle.bsi_handles.proofs.Telling.{where_other, where_refused}
+use Rattle.bsi_handles.specs.declared.refusal.Refusal.TheVariants.{NoRoom}
 use Rattle.bsi_c.proofs.bsi_schema.Goals as goal
 
 pub returns-clause-told : goal.returns-clause-told
 returns-clause-told c = (c.describe.result, c.status_of.ensures, c.describe.ensures.ending)
+
+pub returns-clause-left : goal.returns-clause-left
+returns-clause-left c = where_other NoRoom _ c.describe.result _ c.status_of.ensures c.describe.ensures.left
+
+pub returns-clause-unfilled : goal.returns-clause-unfilled
+returns-clause-unfilled c = where_refused _ c.describe.result _ c.status_of.ensures c.describe.ensures.unfilled

@@ -6,8 +6,8 @@ use Rattle.bsi_table.specs.Answers.{missing_column}
 use Rattle.bsi_handles.proofs.answers.reply.Goals as goal
 
 -- no column of a query that was read is missing
-pub returns : goal.returns
-returns c = λ other spelled.
+pub returns-clause-replied : goal.returns-clause-replied
+returns-clause-replied c = λ other spelled.
     let schema = c.args.opened.now.table.schema in
     let fields : List (List ℕ) = map (λ f. f.now) c.args.fields.now in
     let is : IsQuery schema fields c.in-Some.query = search rules in

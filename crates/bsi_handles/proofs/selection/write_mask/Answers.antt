@@ -8,8 +8,8 @@ use Rattle.bsi_table.specs.declared.query.Total.TheVariants.{Count}
 use Rattle.bsi_handles.proofs.selection.write_mask.Goals as goal
 
 -- no column of a predicate that was read is missing, as none of the count by it
-pub returns : goal.returns
-returns c = λ other spelled.
+pub returns-clause-masked : goal.returns-clause-masked
+returns-clause-masked c = λ other spelled.
     let schema = c.args.opened.now.table.schema in
     let fields : List (List ℕ) = map (λ f. f.now) c.args.fields.now in
     let spells : IsPredicate schema fields c.in-Some.pred = search rules in
