@@ -1,6 +1,6 @@
 //! Vectors of one length that grow together.
 
-ghost use Rattle.std.specs.Prelude.{◌≡◌, ℕ, ◌+◌, ◌^◌, ◌≤◌, ◌<◌, Bool, [], ◌∷◌, ◌++◌, ◌-◌, length, min, slice_index, IfOk, IsOk, OnErr, OnOk};
+ghost use Rattle.std.specs.Prelude.{◌≡◌, ℕ, ◌+◌, ◌^◌, ◌≤◌, ◌<◌, Bool, false, [], ◌∷◌, ◌++◌, ◌-◌, length, min, slice_index, IfOk, IsOk, OnErr, OnOk};
 ghost use Rattle.bsi_bits.specs.BitLists.{bits_at, room_at, AreSame, Says};
 ghost use Rattle.bsi_bits.specs.Packed.{bits_of};
 
@@ -120,6 +120,27 @@ impl Bitmaps {
             self.vectors[j].push_reserved(bit_of(j));
         }
         self.room -= 1;
+    }
+
+    /// Appends a bit to each vector as `push_each` does. It writes the ones alone, which is faster where few of the bits
+    /// are set.
+    pub fn push_few<F: Fn(usize) -> bool>(&mut self, bit_of: F)
+        requires room { 0 < self.old.room }
+        requires callable { F.IsAlwaysCallable bit_of }
+        ensures count { length self.new.vectors ≡ length self.old.vectors }
+        ensures bits { (bit : ℕ → Bool) → Says (F.post bit_of) (length self.old.vectors) bit →
+            (j : ℕ) → j < length self.old.vectors →
+            bits_at self.new.vectors j ≡ bits_at self.old.vectors j ++ bit j ∷ [] }
+        ensures room { self.new.room + 1 ≡ self.old.room }
+    {
+        self.push_each(
+            |_: usize| -> bool
+                ensures { result ≡ false }
+            { false },
+        );
+        'vectors: for j in 0..self.vectors.len() {
+            self.vectors[j].raise_last(bit_of(j));
+        }
     }
 
     /// Appends the first `count` binary places of its word to each vector, least significant first, into room that is

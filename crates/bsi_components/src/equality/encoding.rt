@@ -57,7 +57,7 @@ impl Encoding for EqualityComponent {
     fn push_reserved(&mut self, digit: u32) {
         let first = first_stored(self.base);
         let own = (self.base - first) as usize;
-        self.bitmaps.push_each(
+        self.bitmaps.push_few(
             |j: usize| -> bool
                 ensures { j < own + 32 →
                     result ≡ then_places own (λ i v. v == first + i) j digit }

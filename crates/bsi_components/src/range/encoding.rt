@@ -51,7 +51,7 @@ impl Encoding for RangeComponent {
 
     fn push_reserved(&mut self, digit: u32) {
         let own = self.base as usize - 1;
-        self.bitmaps.push_each(
+        self.bitmaps.push_few(
             |j: usize| -> bool
                 ensures { j < own + 32 → result ≡ then_places own (λ i v. nat_le v i) j digit }
             {
