@@ -1,6 +1,6 @@
 //! The numbers that a column takes.
 
-ghost use Rattle.std.specs.Prelude.{◌≡◌, ◌^◌, ◌+ℤ◌, ◌≤ℤ◌, List, map, pos, true};
+ghost use Rattle.std.specs.Prelude.{◌≡◌, ◌↔◌, ◌^◌, ◌+ℤ◌, ◌≤ℤ◌, IsTrue, List, map, pos, true};
 ghost use Rattle.bsi_schema.specs.Columns.{fits, is_between, size_in, IsForm, NamedColumn};
 ghost use Rattle.bsi_schema.specs.Limits.{limits_of};
 
@@ -67,7 +67,7 @@ pub fn take_each(limits: &[Limits], row: &Row) -> bool
 
 /// Returns whether two lists of columns take the same numbers.
 pub fn are_same(first: &[Limits], second: &[Limits]) -> bool
-    ensures { result ≡ true → first.now ≡ second.now }
+    ensures { IsTrue result ↔ (first.now ≡ second.now) }
 {
     if first.len() != second.len() {
         return false;

@@ -23,6 +23,22 @@ emptied_block block = record block { rows = [] }
 abbrev pub with_block_row : RowBlock → ℕ → Entries → RowBlock
 with_block_row block feeder row = record block { rows = block.rows ++ (feeder, row) ∷ [] }
 
+-- the entries of each row, without its feeder
+abbrev pub entries_of : List FedRow → List Entries
+entries_of rows = map (λ row. row.1) rows
+
+-- each of these rows, as one of this feeder
+abbrev pub fed_as : ℕ → List Entries → List FedRow
+fed_as feeder rows = map (λ row. (feeder, row)) rows
+
+-- a block of these rows, each from this feeder
+abbrev pub fed_block : Declared → ℕ → ℕ → List Entries → RowBlock
+fed_block schema feeders feeder rows = record { schema = schema; feeders = feeders; rows = fed_as feeder rows }
+
+-- the columns of two schemas take the same numbers
+abbrev pub AreAlike : Declared → Declared → Type 0
+AreAlike first second = map limits_of first.columns ≡ map limits_of second.columns
+
 -- the entries of row r, where each of so many columns has 64 places
 unfoldable pub placed_row : ℕ → List (Option ℤ) → ℕ → Entries
 placed_row columns places r = map (λ c. slice_index_or places (64 * c + r) None) (range_with_len 0 columns)

@@ -3,16 +3,15 @@
 //! The entries of column `c` stand in 64 places from place `64 * c` on, so a row is written without moving another, and
 //! each column is lent as one slice.
 
-ghost use Rattle.std.specs.Prelude.{◌≡◌, ◌≢◌, ℕ, ◌+◌, ◌*◌, ◌<◌, ◌≤◌, ◌^◌, ◌+ℤ◌, ◌≤ℤ◌, All, List, None, IfOk, IsTrue, length, map, pos, slice_index_or, true, false};
+ghost use Rattle.std.specs.Prelude.{◌≡◌, ◌≢◌, ◌↔◌, ℕ, ◌+◌, ◌*◌, ◌<◌, ◌≤◌, ◌^◌, ◌+ℤ◌, ◌≤ℤ◌, All, List, None, Some, IfOk, IsTrue, length, pos, slice_get, slice_index_or, true, false};
 ghost use Rattle.bsi_schema.specs.Columns.{entry_at, fits, is_between};
-ghost use Rattle.bsi_schema.specs.Limits.{limits_of};
 ghost use Rattle.bsi_schema.specs.declared.limits.Limits.{Limits};
-ghost use Rattle.bsi_table.specs.RowBlocks.{emptied_block, no_block_rows, with_block_row};
+ghost use Rattle.bsi_table.specs.RowBlocks.{emptied_block, entries_of, fed_block, no_block_rows, placed_row, with_block_row, AreAlike};
 ghost use Rattle.bsi_table.specs.Rows.{column_of, feeders_of};
 ghost use Rattle.bsi_table.specs.Table.{AreFitting, AreFrom};
 
 use crate::{NoMemory, Row, Schema};
-use bsi_schema::{Limits, take_each};
+use bsi_schema::{Limits, are_same, take_each};
 use std::alloc::Global;
 use std::marker::Model;
 use std::snapshot::Snapshot;
@@ -103,6 +102,48 @@ impl Block {
         true
     }
 
+    /// Returns whether the columns of a schema take the same numbers as those that the block was made for. It takes no
+    /// memory.
+    pub fn is_like(&self, schema: &Schema) -> bool
+        ensures { IsTrue result ↔ AreAlike self.now.schema schema.now }
+    {
+        are_same(&self.limits, schema.limits())
+    }
+
+    /// Makes row `r`, counted from 0, as a row of its own.
+    pub fn row(&self, r: usize) -> Result<Row, NoMemory>
+        requires { r < length self.now.rows }
+        ensures { IfOk result (λ row. slice_get (entries_of self.now.rows) r ≡ Some row) }
+    {
+        let alloc = *self.places.allocator();
+        Ok(Row::new(read_row(alloc, self.limits.len(), r, &self.places)?))
+    }
+
+    /// Makes a block of the same rows, each from `feeder`, for a schema whose columns take the same numbers. It copies
+    /// all places at once.
+    pub(crate) fn copy_as(
+        &self,
+        schema: &Schema,
+        feeders: u32,
+        feeder: u32,
+    ) -> Result<Block, NoMemory>
+        requires alike { AreAlike self.now.schema schema.now }
+        requires feeder { feeder < feeders }
+        ensures { IfOk result (λ block. block
+            ≡ fed_block schema.now feeders feeder (entries_of self.now.rows)) }
+    {
+        let alloc = *self.places.allocator();
+        let mut sources = Vec::with_capacity(alloc, MAX_BLOCK_ROWS)?;
+        sources.resize(self.sources.len(), feeder)?;
+        Ok(Block {
+            schema: Snapshot::of(schema),
+            limits: Vec::from_slice(alloc, schema.limits())?,
+            feeders,
+            sources,
+            places: Vec::from_slice(alloc, &self.places)?,
+        })
+    }
+
     /// Lends the feeder of each row.
     pub(crate) fn sources(&self) -> &[u32]
         ensures { result.now ≡ feeders_of self.now.rows }
@@ -118,13 +159,6 @@ impl Block {
         let rows = self.sources.len();
         let first = MAX_BLOCK_ROWS * c;
         &self.places[first..first + rows]
-    }
-
-    /// Lends the numbers that each column takes.
-    pub(crate) fn limits(&self) -> &[Limits]
-        ensures { result.now ≡ map limits_of self.now.schema.columns }
-    {
-        &self.limits
     }
 }
 
@@ -149,4 +183,30 @@ fn write_row(limits: &[Limits], values: &[Option<i128>], at: usize, places: &mut
     'columns: for c in 0..limits.len() {
         places[MAX_BLOCK_ROWS * c + at] = limits[c].narrow(values[c]);
     }
+}
+
+/// Reads the entries of a row, each from place `at` of its column's.
+fn read_row(
+    alloc: Global,
+    columns: usize,
+    at: usize,
+    places: &[Option<i64>],
+) -> Result<Vec<Option<i128>>, NoMemory>
+    requires at { at < 64 }
+    requires long { length places.now ≡ 64 * columns }
+    ensures { IfOk result (λ values. values.items ≡ placed_row columns places.now at) }
+{
+    let mut values = Vec::with_capacity(alloc, columns)?;
+    'columns: for c in 0..columns {
+        values.push(to_i128(places[MAX_BLOCK_ROWS * c + at]))?;
+    }
+    Ok(values)
+}
+
+/// Returns the same entry, as a number of 128 bits.
+fn to_i128(entry: Option<i64>) -> Option<i128>
+    ensures { result ≡ entry }
+{
+    let number = entry?;
+    Some(i128::from(number))
 }

@@ -6,7 +6,7 @@ ghost use Rattle.bsi_shift.specs.Shifted.{shifted_entries};
 ghost use Rattle.bsi_table.specs.Answers.{missing_column, CountsConjunction, IsAnswer, IsReply, IsSelection, ReadsAmong};
 ghost use Rattle.bsi_schema.specs.Columns.{column_at, fits};
 ghost use Rattle.bsi_table.specs.Refusals.{index_refusal, row_refusal, rows_refusal, IsFirstOr};
-ghost use Rattle.bsi_table.specs.RowBlocks.{no_block_rows};
+ghost use Rattle.bsi_table.specs.RowBlocks.{entries_of, fed_block, no_block_rows, AreAlike};
 ghost use Rattle.bsi_table.specs.Rows.{column_of, holds};
 ghost use Rattle.bsi_table.specs.Table.{no_rows, with_row, with_rows, AreFitting, AreFrom, IsInForm};
 
@@ -19,7 +19,6 @@ use crate::{
 };
 use bsi_bits::Bits;
 use bsi_origins::Origins;
-use bsi_schema::are_same;
 use bsi_shift::Shifted;
 use std::alloc::Global;
 use std::marker::Model;
@@ -157,7 +156,17 @@ impl Index {
     {
         // The proof takes from this that the rows of the block fit the columns that it was made for.
         let _ = block.len();
-        block.feeders() <= self.feeders() && are_same(block.limits(), self.schema.limits())
+        block.feeders() <= self.feeders() && block.is_like(&self.schema)
+    }
+
+    /// Makes a block of the same rows for this index, each from `feeder`. The feeders of the block count for nothing.
+    pub fn block_of(&self, feeder: u32, block: &Block) -> Result<Block, NoMemory>
+        requires alike { AreAlike block.now.schema self.now.schema }
+        requires feeder { feeder < self.now.feeders }
+        ensures { IfOk result (λ own. own
+            ≡ fed_block self.now.schema self.now.feeders feeder (entries_of block.now.rows)) }
+    {
+        block.copy_as(&self.schema, self.feeders(), feeder)
     }
 
     /// Answers a query over all rows. A count by a predicate without `or` and `not` takes no memory.

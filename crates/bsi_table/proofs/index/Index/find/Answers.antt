@@ -1,7 +1,7 @@
 use Rattle.std.proofs.Common.{◌≡◌, ◌<◌, ℕ, length, map, ap, ap₂, sym, subst, arith, ◌∙◌}
 use Rattle.bsi_shift.specs.Shifted.{shifted_entries}
 use Rattle.bsi_table.specs.Rows.{holds, FedRow}
-use Rattle.bsi_table.specs.Table.{fed_rows, kept_at, rows_in}
+use Rattle.bsi_table.specs.Table.{kept_at, rows_in}
 use Rattle.bsi_table.proofs.TableRows.{length-fed_rows, map-fed_rows}
 use Rattle.bsi_table.proofs.index.Index.find.Goals as goal
 
