@@ -107,6 +107,15 @@ module _ (n : ℕ) (bit : Bool) (words : List ℕ) (packed : IsPacked n words) w
         ];
       }
 
+-- a 0 in the last word, which is there already
+pub pushes_nothing : (n : ℕ) (words : List ℕ) → IsPacked n words → n % 64 ≢ 0 → Pushes n false words words
+pushes_nothing n words packed partial = record {
+  few = packed.few ∙ omega arith;
+  kept = λ i below. refl;
+  pushed = packed.clear n (omega arith);
+  clear = λ i past. packed.clear i (omega arith);
+}
+
 -- packed words whose last bit is set
 module _ (n : ℕ) (words : List ℕ) (some : 0 < n) (packed : IsPacked n words) (x : ℕ) (read : x ≡ get_or words ((n - 1) / 64) x) where
   abbrev pub last_set : List ℕ
