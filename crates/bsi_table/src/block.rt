@@ -13,7 +13,7 @@ ghost use Rattle.bsi_table.specs.Table.{AreFitting, AreFrom};
 use crate::{NoMemory, Row, Schema};
 use bsi_schema::{Limits, are_same, take_each};
 use std::alloc::Global;
-use std::marker::Model;
+use std::marker::{Model, Send};
 use std::snapshot::Snapshot;
 
 /// The most rows of a block that can be appended at once.
@@ -30,6 +30,9 @@ pub struct Block {
     sources: Vec<u32>,
     places: Vec<Option<i64>>,
 }
+
+// A block may go to another thread: its snapshot has no bytes.
+unsafe impl Send for Block {}
 
 // Clauses see the schema, the number of feeders, and the rows, each with its feeder.
 impl Model for Block {
