@@ -1,13 +1,18 @@
 -- What contracts see of a ring's ends: what was sent, what was taken out, and what the closing tells.
-use Rattle.std.specs.Prelude.{◌≡◌, ℕ, suc, ◌≤◌, false, All, IfSome, IsTrue, List, [], ◌∷◌, ◌++◌, Option, None, Some, Result, Ok, Err, length, map}
+use Rattle.std.specs.Prelude.{◌≡◌, ℕ, suc, ◌+◌, ◌-◌, ◌<◌, ◌≤◌, false, All, IfSome, IsTrue, List, [], ◌∷◌, ◌++◌, Option, None, Some, Result, Ok, Err, drop, length, map, option_map, take}
 use Rattle.std.specs.declared.alloc.Global.{Global}
 use denote.RawPtr.{Ptr}
 use Rattle.rtrb.specs.Shared.{Names}
 use Rattle.rtrb.specs.declared.end.End.{End}
 use Rattle.bsi_table.specs.Columns.{fits, Declared}
+use Rattle.bsi_table.specs.RowBlocks.{entries_of, AreAlike, RowBlock}
 use Rattle.bsi_table.specs.Rows.{Entries}
+use Rattle.bsi_rings.specs.declared.feeder.BlockRefused.{BlockRefused}
+use Rattle.bsi_rings.specs.declared.feeder.BlockRefused.TheVariants as block
 use Rattle.bsi_rings.specs.declared.feeder.SubmitRefused.{SubmitRefused}
 use Rattle.bsi_rings.specs.declared.feeder.SubmitRefused.TheVariants.{Misfit, Full}
+use Rattle.bsi_rings.specs.declared.parcel.Parcel.{Parcel}
+use Rattle.bsi_rings.specs.declared.parcel.Parcel.TheVariants as parcel
 use Rattle.bsi_rings.specs.declared.channel.Front.{Front}
 use Rattle.bsi_rings.specs.declared.channel.Front.TheVariants as front
 
@@ -23,6 +28,34 @@ ring_of e = ((e.words, e.slots), (e.names, e.heap))
 pub record ChannelName : Type 0 where
   pub ring : Ring
   pub schema : Declared
+
+-- each of the rows fits
+abbrev pub AllFit : Declared → List Entries → Type 0
+AllFit schema rows = All (λ row. IsTrue (fits schema.columns row)) rows
+
+-- ---- what stands in a ring
+
+-- the rows of a parcel, the first one first
+abbrev pub rows_of : Parcel → List Entries
+rows_of (parcel.Row row) = row ∷ []
+rows_of (parcel.Block batch) = entries_of batch.block.rows
+
+-- the rows of parcels, in their order
+abbrev pub all_rows : List Parcel → List Entries
+all_rows [] = []
+all_rows (p ∷ parcels) = rows_of p ++ all_rows parcels
+
+-- the rows of the first of them
+abbrev pub first_rows : List Parcel → List Entries
+first_rows [] = []
+first_rows (p ∷ parcels) = rows_of p
+
+-- a feeder of this schema sends it: a row that fits, or a block for columns that take the same numbers, so that each of
+-- its rows fits
+abbrev pub IsParcel : Declared → Parcel → Type 0
+IsParcel schema (parcel.Row row) = IsTrue (fits schema.columns row)
+IsParcel schema (parcel.Block batch) =
+    AreAlike batch.block.schema schema × AllFit schema (entries_of batch.block.rows)
 
 -- ---- a feeder
 
@@ -40,9 +73,9 @@ new_sending number channel capacity = record { number = number; channel = channe
 abbrev pub with_sent : Sending → Entries → Sending
 with_sent s row = record s { sent = s.sent ++ row ∷ [] }
 
--- each of the rows fits
-abbrev pub AllFit : Declared → List Entries → Type 0
-AllFit schema rows = All (λ row. IsTrue (fits schema.columns row)) rows
+-- these rows were sent after the others
+abbrev pub with_sent_rows : Sending → List Entries → Sending
+with_sent_rows s rows = record s { sent = s.sent ++ rows }
 
 -- the reply to a submission. A row that fits may be refused only once as many were sent as the ring has places
 abbrev pub IsSubmitReply : Sending → Entries → Result (Unit {0}) SubmitRefused → Type 0
@@ -50,6 +83,14 @@ IsSubmitReply s row (Ok done) = IsTrue (fits s.channel.schema.columns row)
 IsSubmitReply s row (Err (Misfit back)) = (back ≡ row) × (fits s.channel.schema.columns row ≡ false)
 IsSubmitReply s row (Err (Full back)) =
     (back ≡ row) × IsTrue (fits s.channel.schema.columns row) × (s.capacity ≤ length s.sent)
+
+-- the reply to a submission of a block. One that is alike may be refused only once the rows that were sent and its own
+-- are more than the ring has places
+abbrev pub IsBlockReply : Sending → RowBlock → Result (Unit {0}) BlockRefused → Type 0
+IsBlockReply s sent (Ok done) = AreAlike sent.schema s.channel.schema
+IsBlockReply s sent (Err (block.Misfit back)) = (back ≡ sent) × ¬ AreAlike sent.schema s.channel.schema
+IsBlockReply s sent (Err (block.Full back)) =
+    (back ≡ sent) × AreAlike sent.schema s.channel.schema × (s.capacity < length s.sent + length sent.rows)
 
 -- ---- a closing
 
@@ -81,19 +122,30 @@ new_intake channel = record { channel = channel; taken = []; seen = []; told = N
 abbrev pub IsWhole : Intake → Type 0
 IsWhole i = IfSome i.told (λ sent. i.taken ++ i.seen ≡ sent)
 
--- what a channel keeps: once its closing was told, that is whole, and each row that was sent fits
-pub record IsChannel (channel : ChannelName) (taken seen : List Entries) (told : Option (List Entries)) : Type 0 where
-  pub whole : IsWhole (record { channel = channel; taken = taken; seen = seen; told = told })
-  pub fitting : IfSome told (AllFit channel.schema)
+-- what is seen of a channel: the parcels that were taken out of its ring, those that are seen in it, how many rows of the
+-- first one of these are taken, and the parcels that the closing carried
+abbrev pub intake : ChannelName → List Parcel → List Parcel → ℕ → Option (List Parcel) → Intake
+intake channel received known next told = record {
+  channel = channel;
+  taken = all_rows received ++ take next (all_rows known);
+  seen = drop next (all_rows known);
+  told = option_map all_rows told;
+}
+
+-- what a channel keeps: a row is left of the parcel that stands first. Once its closing was told, that is what was taken
+-- and then what is seen, and a feeder of this schema sent it
+pub record IsChannel (schema : Declared) (received known : List Parcel) (next : ℕ) (told : Option (List Parcel)) : Type 0 where
+  pub place : next ≤ length (first_rows known) - 1
+  pub whole : IfSome told (λ sent. received ++ known ≡ sent)
+  pub fitting : IfSome told (All (IsParcel schema))
 
 -- so many rows are seen in the ring, and nothing else changed
 abbrev pub with_seen : Intake → List Entries → Intake
 with_seen i seen = record i { seen = seen }
 
--- the first row that is seen is taken
-abbrev pub TakesFirst : Intake → Entries → Intake → Type 0
-TakesFirst old row new =
-    (old.seen ≡ row ∷ new.seen) × (new ≡ record old { taken = old.taken ++ row ∷ []; seen = new.seen })
+-- the first n rows that are seen are taken
+abbrev pub with_more_taken : Intake → ℕ → Intake
+with_more_taken i n = record i { taken = i.taken ++ take n i.seen; seen = drop n i.seen }
 
 -- the closing was told: all that was sent and not taken is seen
 abbrev pub Settles : Intake → Sent → Intake → Type 0

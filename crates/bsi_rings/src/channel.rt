@@ -1,14 +1,19 @@
 //! A channel: the loader's end of one ring, and what the feeder's closing told about it.
 
-ghost use Rattle.std.specs.Prelude.{◌≡◌, ◌<◌, ◌↔◌, [], ◌∷◌, IfSome, IsTrue, length};
+ghost use Rattle.std.specs.Prelude.{◌≡◌, ◌+◌, ◌-◌, ◌<◌, ◌≤◌, ◌↔◌, [], ◌∷◌, ◌++◌, IfOk, IfSome, IsTrue, length};
+ghost use Rattle.std.specs.Option.{option_copied};
 ghost use mathlib.Core.List.{IsPrefix};
+ghost use Rattle.rtrb.specs.Ring.{received, known_items, SameConsumer};
+ghost use Rattle.bsi_rings.specs.Rings.{all_rows, first_rows};
 
-use crate::Closing;
-use bsi_table::{Row, Schema};
+use crate::parcel::Parcel;
+use crate::{Closing, NoMemory};
+use bsi_table::{Block, Row, Schema};
 use rtrb::{Consumer, Finished};
 use std::alloc::Global;
 use std::marker::Model;
 use std::sync::Arc;
+use std::sync::atomic::{AtomicU64, Ordering};
 
 /// What stands first in a ring.
 #[derive(Clone, Copy, Debug, PartialEq, Eq)]
@@ -25,42 +30,48 @@ pub enum Front {
 #[derive(Drop)]
 pub struct Channel {
     schema: Arc<Schema, Global>,
-    ring: Consumer<Row>,
-    finished: Option<Finished<Row>>,
+    ring: Consumer<Parcel>,
+    /// So many rows of the parcel that stands first are taken.
+    next: usize,
+    /// How many rows were taken, for the feeder to read.
+    noted: Arc<AtomicU64, Global>,
+    finished: Option<Finished<Parcel>>,
 }
 
 // Clauses see which ring it is, the rows that were taken, those that are seen in the ring, and what was told.
 impl Model for Channel {
     ghost use Rattle.std.specs.Prelude.{◌≡◌, IfSome, option_map};
     ghost use Rattle.rtrb.specs.Ring.{all_sent, received, known_items};
-    ghost use Rattle.bsi_rings.specs.Rings.{ring_of, Intake, IsChannel};
+    ghost use Rattle.bsi_rings.specs.Rings.{intake, ring_of, Intake, IsChannel};
 
     ghost Value = { Intake };
 
-    ghost view = { λ l. record {
-      channel = record { ring = ring_of l.ring.end; schema = l.schema.value };
-      taken = received l.ring;
-      seen = known_items l.ring;
-      told = option_map all_sent l.finished;
-    } };
+    ghost view = { λ l. intake (record { ring = ring_of l.ring.end; schema = l.schema.value })
+        (received l.ring) (known_items l.ring) l.next (option_map all_sent l.finished) };
 
-    ghost invariant = { λ l. IsChannel (record { ring = ring_of l.ring.end; schema = l.schema.value })
-        (received l.ring) (known_items l.ring) (option_map all_sent l.finished)
+    ghost invariant = { λ l. IsChannel l.schema.value (received l.ring) (known_items l.ring) l.next
+        (option_map all_sent l.finished)
         × IfSome l.finished (λ finished. ring_of finished.end ≡ ring_of l.ring.end) };
 }
 
 impl Channel {
-    ghost use Rattle.rtrb.specs.Ring.{received, known_items};
-    ghost use Rattle.bsi_rings.specs.Rings.{new_intake, ring_of, with_seen, IsFront, IsWhole, Settles, TakesFirst};
+    ghost use Rattle.bsi_table.specs.RowBlocks.{entries_of, AreAlike};
+    ghost use Rattle.bsi_rings.specs.Rings.{new_intake, ring_of, with_seen, with_more_taken, IsFront, IsWhole, Settles};
 
     /// Makes the channel of a ring from which nothing has been taken.
-    pub(crate) fn new(schema: Arc<Schema, Global>, ring: Consumer<Row>) -> Channel
+    pub(crate) fn new(
+        schema: Arc<Schema, Global>,
+        ring: Consumer<Parcel>,
+        noted: Arc<AtomicU64, Global>,
+    ) -> Channel
         requires { (received ring ≡ []) × (known_items ring ≡ []) }
         ensures { result ≡ new_intake (record { ring = ring_of ring.end; schema = schema.value }) }
     {
         Channel {
             schema,
             ring,
+            next: 0,
+            noted,
             finished: None,
         }
     }
@@ -72,7 +83,7 @@ impl Channel {
         ensures kept { self.new ≡ with_seen self.old self.new.seen }
     {
         if self.look() {
-            if self.schema.fits(self.ring.peek_known()) {
+            if self.ring.peek_known().is_for(&self.schema) {
                 return Front::Row;
             }
             return Front::Empty;
@@ -96,21 +107,54 @@ impl Channel {
         }
     }
 
-    /// Lends the row that stands first.
-    pub fn first(&self) -> &Row
+    /// Lends the row that stands first, or none where it is one of a block.
+    pub fn first_row(&self) -> Option<&Row>
         requires { 0 < length self.now.seen }
-        ensures { IsPrefix (result.now ∷ []) self.now.seen }
+        ensures { IfSome (option_copied result) (λ row. IsPrefix (row ∷ []) self.now.seen) }
     {
-        self.ring.peek_known()
+        match self.ring.peek_known() {
+            Parcel::Row(row) => Some(row),
+            Parcel::Block(_) => None,
+        }
     }
 
-    /// Takes the row that stands first out of the ring.
-    pub fn take_first(&mut self) -> Row
-        requires { 0 < length self.old.seen }
-        ensures taken { TakesFirst self.old result self.new }
+    /// Makes a second row of that which stands first.
+    pub fn copy_first(&self) -> Result<Row, NoMemory>
+        requires { 0 < length self.now.seen }
+        ensures { IfOk result (λ row. IsPrefix (row ∷ []) self.now.seen) }
+    {
+        match self.ring.peek_known() {
+            Parcel::Row(row) => row.copy(),
+            Parcel::Block(batch) => batch.block.row(self.next),
+        }
+    }
+
+    /// Lends the block that stands first. It returns none where a row stands first, or a row of the block was taken, or
+    /// the columns of the block do not take the same numbers as those of the schema.
+    pub fn first_block(&self) -> Option<&Block>
+        requires { 0 < length self.now.seen }
+        ensures rows { IfSome (option_copied result)
+            (λ block. IsPrefix (entries_of block.rows) self.now.seen) }
+        ensures some { IfSome (option_copied result) (λ block. 0 < length block.rows) }
+        ensures alike { IfSome (option_copied result)
+            (λ block. AreAlike block.schema self.now.channel.schema) }
+    {
+        match self.ring.peek_known() {
+            Parcel::Block(batch) if self.next == 0 && batch.block.is_like(&self.schema) => {
+                Some(&batch.block)
+            }
+            _ => None,
+        }
+    }
+
+    /// Takes so many rows that stand first out of the ring, and drops them.
+    pub fn take(&mut self, rows: usize)
+        requires { rows ≤ length self.old.seen }
+        ensures taken { self.new ≡ with_more_taken self.old rows }
         ensures whole { IsWhole self.new }
     {
-        self.ring.pop_known()
+        self.next = take_rows(&mut self.ring, self.next, rows);
+        self.noted.fetch_add(rows as u64, Ordering::SeqCst);
     }
 
     /// Learns from the closing of the ring's feeder what was sent. It takes no row and allocates no memory. A second
@@ -131,4 +175,30 @@ impl Channel {
             None => self.finished = Some(finished),
         }
     }
+}
+
+/// Takes so many rows out of a ring, after the first `next` of the parcel that stands first. It returns how many rows
+/// are then taken of the parcel that stands first. A parcel goes out of the ring with its last row.
+fn take_rows(ring: &mut Consumer<Parcel>, next: usize, rows: usize) -> usize
+    requires place { next ≤ length (first_rows (known_items ring.old)) - 1 }
+    requires seen { next + rows ≤ length (all_rows (known_items ring.old)) }
+    ensures ring { SameConsumer ring.old ring.new }
+    ensures parcels { received ring.new ++ known_items ring.new
+        ≡ received ring.old ++ known_items ring.old }
+    ensures taken { length (all_rows (received ring.new)) + result
+        ≡ length (all_rows (received ring.old)) + next + rows }
+    ensures place { result ≤ length (first_rows (known_items ring.new)) - 1 }
+{
+    let mut at = next;
+    let mut left = rows;
+    'parcels: while left > 0 {
+        let here = ring.peek_known().len() - at;
+        if left < here {
+            return at + left;
+        }
+        ring.pop_known();
+        left -= here;
+        at = 0;
+    }
+    at
 }

@@ -1,10 +1,14 @@
 //! A feeder: the producer of one ring.
 
-ghost use Rattle.std.specs.Prelude.{◌≡◌, [], IfSome, OnErr, OnOk};
+ghost use Rattle.std.specs.Prelude.{◌≡◌, ◌+◌, ◌<◌, ◌≤◌, ◌^◌, ◌↔◌, [], IfSome, IsTrue, OnErr, OnOk, false, length, true};
+ghost use Rattle.rtrb.specs.Ring.{known_free, producer_capacity, sent, ProducerLooked};
+ghost use Rattle.bsi_rings.specs.Rings.{all_rows};
 
 use crate::Closing;
-use bsi_table::{Row, Schema};
-use rtrb::{Producer, PushError};
+use crate::parcel::{Batch, Parcel};
+use crate::places::Places;
+use bsi_table::{Block, Row, Schema};
+use rtrb::Producer;
 use std::alloc::Global;
 use std::marker::Model;
 use std::sync::Arc;
@@ -18,19 +22,31 @@ pub enum SubmitRefused {
     Full(Row),
 }
 
+/// Why a block is not sent, in the order of the checks. The block is handed back.
+#[derive(Drop)]
+pub enum BlockRefused {
+    /// The columns that the block was made for do not take the same numbers as those of the schema.
+    Misfit(Block),
+    /// The feeder sees fewer free places in the ring than the block has rows. The loader frees one for each row that it
+    /// takes. A block of more rows than the ring's capacity is always refused.
+    Full(Block),
+}
+
 /// The producer end of a ring, by which one feeder submits rows. It may move to a thread of its own.
 #[derive(Drop)]
 pub struct Feeder {
     number: u32,
     schema: Arc<Schema, Global>,
-    ring: Producer<Row>,
+    ring: Producer<Parcel>,
+    places: Places,
 }
 
 // Clauses see the feeder's number, which ring it sends to, the schema, the ring's capacity, and the rows that were
 // sent.
 impl Model for Feeder {
+    ghost use Rattle.std.specs.Prelude.{◌<◌, ◌≤◌, ◌^◌, All, length};
     ghost use Rattle.rtrb.specs.Ring.{sent};
-    ghost use Rattle.bsi_rings.specs.Rings.{ring_of, AllFit, Sending};
+    ghost use Rattle.bsi_rings.specs.Rings.{all_rows, ring_of, IsParcel, Sending};
 
     ghost Value = { Sending };
 
@@ -38,19 +54,28 @@ impl Model for Feeder {
       number = f.number;
       channel = record { ring = ring_of f.ring.end; schema = f.schema.value };
       capacity = f.ring.capacity;
-      sent = sent f.ring;
+      sent = all_rows (sent f.ring);
     } };
 
-    ghost invariant = { λ f. AllFit f.schema.value (sent f.ring) };
+    ghost invariant = { λ f. All (IsParcel f.schema.value) (sent f.ring)
+        × (f.places.count ≤ length (all_rows (sent f.ring)))
+        × (f.ring.capacity < 2 ^ 32) };
 }
 
 impl Feeder {
-    ghost use Rattle.rtrb.specs.Ring.{sent, producer_capacity};
-    ghost use Rattle.bsi_rings.specs.Rings.{new_sending, ring_of, with_sent, Closes, IsSubmitReply};
+    ghost use Rattle.bsi_table.specs.RowBlocks.{entries_of, AreAlike};
+    ghost use Rattle.bsi_rings.specs.Rings.{new_sending, ring_of, with_sent, with_sent_rows, Closes, IsBlockReply, IsSubmitReply};
 
     /// Makes the feeder of a ring to which nothing has been sent.
-    pub(crate) fn new(number: u32, schema: Arc<Schema, Global>, ring: Producer<Row>) -> Feeder
-        requires { sent ring ≡ [] }
+    pub(crate) fn new(
+        number: u32,
+        schema: Arc<Schema, Global>,
+        ring: Producer<Parcel>,
+        places: Places,
+    ) -> Feeder
+        requires ring { sent ring ≡ [] }
+        requires places { places.count ≡ 0 }
+        requires small { producer_capacity ring < 2 ^ 32 }
         ensures { result ≡ new_sending number
             (record { ring = ring_of ring.end; schema = schema.value }) (producer_capacity ring) }
     {
@@ -58,6 +83,7 @@ impl Feeder {
             number,
             schema,
             ring,
+            places,
         }
     }
 
@@ -66,6 +92,21 @@ impl Feeder {
         ensures { result ≡ self.now.number }
     {
         self.number
+    }
+
+    /// Returns how many rows may be on their way in the ring.
+    pub fn capacity(&self) -> u32
+        ensures { result ≡ self.now.capacity }
+    {
+        self.ring.capacity() as u32
+    }
+
+    /// Returns whether a block is of columns that take the same numbers as those of the schema: `submit_block` does not
+    /// refuse it as a misfit. It allocates no memory.
+    pub fn takes(&self, block: &Block) -> bool
+        ensures { IsTrue result ↔ AreAlike block.now.schema self.now.channel.schema }
+    {
+        block.is_like(&self.schema)
     }
 
     /// Sends a row. It allocates no memory and never waits.
@@ -77,10 +118,35 @@ impl Feeder {
         if !self.schema.fits(&row) {
             return Err(SubmitRefused::Misfit(row));
         }
-        match self.ring.push(row) {
-            Ok(()) => Ok(()),
-            Err(PushError::Full(row)) => Err(SubmitRefused::Full(row)),
+        if !has_place(&mut self.ring, &mut self.places, 1) {
+            return Err(SubmitRefused::Full(row));
         }
+        self.ring.push_reserved(Parcel::Row(row));
+        self.places.fill(1);
+        Ok(())
+    }
+
+    /// Sends the rows of a block, in their order, each as a row of this feeder. It allocates no memory and never waits.
+    /// A block of no row is sent by doing nothing.
+    pub fn submit_block(&mut self, block: Block) -> Result<(), BlockRefused>
+        ensures reply { IsBlockReply self.old block result }
+        ensures sent { OnOk result (self.new ≡ with_sent_rows self.old (entries_of block.rows)) }
+        ensures kept { OnErr result (self.new ≡ self.old) }
+    {
+        if !block.is_like(&self.schema) {
+            return Err(BlockRefused::Misfit(block));
+        }
+        let rows = block.len();
+        if rows == 0 {
+            return Ok(());
+        }
+        if !has_place(&mut self.ring, &mut self.places, rows) {
+            return Err(BlockRefused::Full(block));
+        }
+        let batch = Batch::new(block);
+        self.ring.push_reserved(Parcel::Block(batch));
+        self.places.fill(rows);
+        Ok(())
     }
 
     /// Ends the feeder, and returns the closing that tells the loader which rows were sent. It returns none if the ring
@@ -92,8 +158,22 @@ impl Feeder {
             number,
             schema,
             ring,
+            places: _places,
         } = self;
         let finished = ring.finish()?;
         Some(Closing::new(number, schema, finished))
     }
+}
+
+/// Returns whether a ring has room for a parcel of so many rows, as far as its feeder knows.
+fn has_place(ring: &mut Producer<Parcel>, places: &mut Places, rows: usize) -> bool
+    requires some { 0 < rows }
+    requires count { places.old.count ≤ length (all_rows (sent ring.old)) }
+    ensures refused { result ≡ false →
+        producer_capacity ring.old < length (all_rows (sent ring.old)) + rows }
+    ensures free { result ≡ true → 0 < known_free ring.new }
+    ensures looked { ProducerLooked ring.old ring.new }
+    ensures count { places.new.count ≡ places.old.count }
+{
+    places.have_room(ring.capacity(), rows) && !ring.is_full()
 }

@@ -5,9 +5,11 @@ mod channel;
 mod closing;
 mod feeder;
 mod making;
+mod parcel;
+mod places;
 
 pub use channel::{Channel, Front};
 pub use closing::Closing;
-pub use feeder::{Feeder, SubmitRefused};
+pub use feeder::{BlockRefused, Feeder, SubmitRefused};
 pub use making::open_rings;
 pub use std::alloc::AllocError as NoMemory;

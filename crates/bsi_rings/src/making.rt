@@ -3,13 +3,16 @@
 ghost use Rattle.std.specs.Prelude.{◌≡◌, ◌<◌, ◌^◌, IfOk, length};
 ghost use Rattle.bsi_rings.specs.Rings.{new_intake, new_sending, AreOpened};
 
+use crate::parcel::Parcel;
+use crate::places::Places;
 use crate::{Channel, Feeder, NoMemory};
-use bsi_table::{Row, Schema};
+use bsi_table::Schema;
 use rtrb::RingBuffer;
 use std::alloc::Global;
 use std::sync::Arc;
+use std::sync::atomic::AtomicU64;
 
-/// Makes a ring for each capacity. The number of each feeder is its place.
+/// Makes a ring for each capacity, which counts rows. The number of each feeder is its place.
 pub fn open_rings(
     alloc: Global,
     schema: &Arc<Schema, Global>,
@@ -40,8 +43,10 @@ fn open_ring(
     ensures schema { IfOk result (λ ends. ends.1.channel.schema ≡ schema.now.value) }
     ensures feeder { IfOk result (λ ends. ends.0 ≡ new_sending number ends.1.channel capacity) }
 {
-    let (producer, consumer) = RingBuffer::<Row>::new(alloc, capacity as usize)?;
-    let feeder = Feeder::new(number, Arc::try_clone(schema)?, producer);
-    let channel = Channel::new(Arc::try_clone(schema)?, consumer);
+    let (producer, consumer) = RingBuffer::<Parcel>::new(alloc, capacity as usize)?;
+    let noted = Arc::new(alloc, AtomicU64::new(0))?;
+    let places = Places::new(Arc::try_clone(&noted)?);
+    let feeder = Feeder::new(number, Arc::try_clone(schema)?, producer, places);
+    let channel = Channel::new(Arc::try_clone(schema)?, consumer, noted);
     Ok((feeder, channel))
 }

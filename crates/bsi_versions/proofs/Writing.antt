@@ -1,13 +1,13 @@
 -- What the writing end keeps to, from step to step.
-use Rattle.std.proofs.Common.{◌≡◌, ℕ, ◌+◌, ◌-◌, ◌<◌, List, [], ◌∷◌, ◌++◌, length, refl, sym, ◌∙◌, subst, ap, arith, append_assoc, length-append, inl, inr}
+use Rattle.std.proofs.Common.{◌≡◌, ℕ, ◌+◌, ◌-◌, ◌≤◌, List, [], ◌∷◌, ◌++◌, length, refl, sym, ◌∙◌, subst, ap, arith, append_assoc, length-append, inl, inr}
 use Rattle.std.specs.Prelude.{fold, ◌⊎◌, OnErr, Result, Ok, Err}
 use Rattle.std.proofs.lemmas.List.{append-nil}
 use mathlib.Core.List.{IsPrefix}
 use Rattle.logbook.specs.Pages.{Book}
-use Rattle.bsi_table.specs.Rows.{Entries}
+use Rattle.bsi_table.specs.RowBlocks.{RowBlock}
 use Rattle.bsi_table.specs.Table.{with_rows, Table}
 use Rattle.bsi_versions.specs.Pages.{with_list, Edition, Known, Rows}
-use Rattle.bsi_versions.specs.Editions.{after, published_all, rows_of, with_held, written, HasStaged, IsMarked, IsWriting, Stands}
+use Rattle.bsi_versions.specs.Editions.{after, published_all, rows_of, written, HasStaged, IsFor, IsMarked, IsWriting, Stands, Written}
 use Rattle.bsi_versions.specs.declared.operation.Operation.{Operation}
 use Rattle.bsi_versions.specs.declared.operation.Operation.TheVariants.{Rows as rows_operation, Mark}
 use Rattle.bsi_versions.proofs.Growing.{prefix_self, prefix_trans, prefix_whole}
@@ -65,14 +65,20 @@ staged_all pending more stage left known rows none = record {
   known = known;
 }
 
+-- a block went there
+pub staged_block : (pending more : List Operation) (block : RowBlock) → more ≡ pending ++ rows_operation block ∷ [] → HasStaged pending block.rows more []
+staged_block pending more block is =
+    staged_all pending more block.rows [] (λ e. known_after e pending more (rows_operation block) is (λ d. refl))
+    (ap rows_of is ∙ rows_of-append pending (rows_operation block ∷ []) ∙ ap (λ (xs : Rows). rows_of pending ++ xs) (append-nil block.rows)) refl
+
 -- a prefix of the front begins the whole
 front_begins : (front short long : Rows) → IsPrefix short long → IsPrefix (front ++ short) (front ++ long)
 front_begins front short long p = (p.0, append_assoc front short p.0 ∙ ap (λ (xs : Rows). front ++ xs) p.1)
 
--- where the rows are fewer than the limit, a place is free
-pub free_place : (shown held stage : Rows) (limit free rows_len held_len most : ℕ) → length shown ≡ rows_len → length (held ++ stage) ≡ held_len → limit ≡ most
-    → length shown + length held + length stage + free ≡ limit → rows_len + held_len < most → (free - 1) + 1 ≡ free
-free_place shown held stage limit free rows_len held_len most a b c places room = omega (arith, a, b, c, places, room, length-append held stage)
+-- where the limit has room for so many more rows, as many places are free
+pub free_places : (shown held stage : Rows) (limit free rows_len held_len most more : ℕ) → length shown ≡ rows_len → length (held ++ stage) ≡ held_len → limit ≡ most
+    → length shown + length held + length stage + free ≡ limit → rows_len + held_len + more ≤ most → (free - more) + more ≡ free
+free_places shown held stage limit free rows_len held_len most more a b c places room = omega (arith, a, b, c, places, room, length-append held stage)
 
 module _ (book : Book) (about : Table) where
   -- ---- the beginning
@@ -116,14 +122,14 @@ module _ (book : Book) (about : Table) where
     pub staged_shown : (next : Edition) (more : List Operation) (left : Rows) → next ≡ shown → HasStaged pending stage more left → IsWriting book about next more left history free
     staged_shown next more left same staged = subst (λ (e : Edition). IsWriting book about e more left history free) (sym same) (staged_writing more left staged)
 
-    -- ---- one row more is held
+    -- ---- more rows are held
 
-    pub held_writing : (feeder : ℕ) (row : Entries) (grown : Rows) (less : ℕ) → grown ≡ stage ++ (feeder, row) ∷ [] → less + 1 ≡ free → IsWriting book about shown pending grown history less
-    held_writing feeder row grown less more one = record {
+    pub held_writing : (added grown : Rows) (less : ℕ) → grown ≡ stage ++ added → less + length added ≡ free → IsWriting book about shown pending grown history less
+    held_writing added grown less more many = record {
       stands = is.stands;
       same_book = is.same_book;
       begins = is.begins;
-      places = omega (arith, is.places, one, ap length more, length-append stage ((feeder, row) ∷ []));
+      places = omega (arith, is.places, many, ap length more, length-append stage added);
     }
 
     -- ---- a publish
@@ -202,6 +208,17 @@ module _ (book : Book) (shown : Edition) (pending : List Operation) (n : ℕ) (i
         many = is.many;
       }))
 
+-- all that the writing end keeps to, where rows of the stage may have become pending
+pub staged_kept : (book : Book) (about : Table) (shown : Edition) (pending : List Operation) (stage : Rows) (history : Known) (free marked : ℕ)
+    → IsWriting book about shown pending stage history free → IsMarked book shown pending marked
+    → (next : Edition) (more : List Operation) (left : RowBlock) → next ≡ shown → HasStaged pending stage more left.rows → IsFor next.table left
+    → IsWriting book about next more left.rows history free × IsFor next.table left × IsMarked book next more marked
+staged_kept book about shown pending stage history free marked writing is next more left same staged kind = (
+  staged_shown book about shown pending stage history free writing next more left.rows same staged,
+  kind,
+  subst (λ (e : Edition). IsMarked book e more marked) (sym same) (staged_marked book shown pending marked is more stage left.rows staged),
+)
+
 -- a list that is to be shown is marked
 pub marked_all : (book : Book) (shown : Edition) (pending more : List Operation) (known : Known) (len : ℕ)
     → more ≡ pending ++ Mark known ∷ [] → known.book ≡ book → known.list ≡ shown.table.rows ++ rows_of pending
@@ -229,12 +246,15 @@ published_view shown pending marks stage next none now rows nothing empty =
     ∙ ap (λ (xs : Rows). record { table = with_rows shown.table (rows_of pending); held = xs }) empty
     ∙ ap (λ (xs : Rows). record { table = with_rows shown.table xs; held = [] }) (sym (append-nil (rows_of pending)) ∙ ap (λ (xs : Rows). rows_of pending ++ xs) (sym empty))
 
--- what contracts see once one row more is held
-pub held_view : (shown : Edition) (pending : List Operation) (stage grown : Rows) (feeder : ℕ) (row : Entries)
-    → grown ≡ stage ++ (feeder, row) ∷ [] → written shown pending grown ≡ with_held (written shown pending stage) feeder row
-held_view shown pending stage grown feeder row more =
+-- what contracts see once more rows are held
+abbrev pub with_more : Written → Rows → Written
+with_more w added = record w { held = w.held ++ added }
+
+pub held_view : (shown : Edition) (pending : List Operation) (stage grown added : Rows) → grown ≡ stage ++ added
+    → written shown pending grown ≡ with_more (written shown pending stage) added
+held_view shown pending stage grown added more =
     ap (λ (xs : Rows). record { table = shown.table; held = rows_of pending ++ xs }) more
-    ∙ ap (λ (xs : Rows). record { table = shown.table; held = xs }) (sym (append_assoc (rows_of pending) stage ((feeder, row) ∷ [])))
+    ∙ ap (λ (xs : Rows). record { table = shown.table; held = xs }) (sym (append_assoc (rows_of pending) stage added))
 
 -- what contracts see where rows of the stage may have become pending
 pub staged_view : (shown : Edition) (pending : List Operation) (stage : Rows) (next : Edition) (more : List Operation) (left : Rows)

@@ -4,7 +4,7 @@ use mathlib.Core.List.{IsPrefix}
 use Rattle.left_right.specs.declared.Absorb.{Ghosts}
 use Rattle.left_right.specs.declared.writer.Writer.{Writer}
 use Rattle.logbook.specs.Pages.{Book}
-use Rattle.bsi_table.specs.RowBlocks.{RowBlock}
+use Rattle.bsi_table.specs.RowBlocks.{fed_as, RowBlock}
 use Rattle.bsi_table.specs.Rows.{Entries}
 use Rattle.bsi_table.specs.Table.{no_rows, with_rows, Table}
 use Rattle.bsi_versions.specs.Pages.{Edition, Known, Rows}
@@ -53,6 +53,10 @@ written shown pending stage = record { table = shown.table; held = rows_of pendi
 -- one more row is held, last
 abbrev pub with_held : Written → ℕ → Entries → Written
 with_held w feeder row = record w { held = w.held ++ (feeder, row) ∷ [] }
+
+-- these rows of a feeder are held, last
+abbrev pub with_held_rows : Written → ℕ → List Entries → Written
+with_held_rows w feeder rows = record w { held = w.held ++ fed_as feeder rows }
 
 -- all held rows are published, in their order, after those that were
 abbrev pub published_all : Written → Written

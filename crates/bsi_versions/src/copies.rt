@@ -90,6 +90,16 @@ fn append_stage<B: Naming>(copies: &mut Copies<B>, stage: &mut Block) -> Result<
     }
 }
 
+/// Appends a block of rows to the pending operations.
+pub(crate) fn append_block<B: Naming>(copies: &mut Copies<B>, block: Block) -> Result<(), NoMemory>
+    ensures desk { copies.new.desk ≡ copies.old.desk }
+    ensures ok { OnOk result (pending copies.new
+        ≡ pending copies.old ++ Operation.Rows block ∷ []) }
+    ensures err { OnErr result (pending copies.new ≡ pending copies.old) }
+{
+    copies.append(Operation::Rows(block)).map_err(|_| NoMemory)
+}
+
 /// Marks the list that is to be shown, unless a publish that was refused has marked it, or it is shown already.
 pub(crate) fn mark_all<B: Naming>(
     copies: &mut Copies<B>,

@@ -2,13 +2,15 @@
 //!
 //! A pending operation is a block of rows or a mark, which says which list of the history the rows then are. A publish
 //! that is tried again, or has nothing to show, adds no mark. The entries of a held row go into the stage, a block of 64;
-//! a full stage becomes one operation before the next row is held. A stage in each copy would be part of what is shown.
+//! a full stage becomes one operation before the next row is held. A held block is an operation of its own, and the rows
+//! of the stage go before it. A stage in each copy would be part of what is shown.
 
 ghost use Rattle.std.specs.Prelude.{◌≡◌, ◌+◌, ◌<◌, ◌≤◌, [], IfOk, IsTrue, OnErr, OnOk, length, ◌↔◌};
 ghost use Rattle.bsi_table.specs.Columns.{fits};
-ghost use Rattle.bsi_versions.specs.Editions.{published_all, with_held};
+ghost use Rattle.bsi_table.specs.RowBlocks.{entries_of, AreAlike};
+ghost use Rattle.bsi_versions.specs.Editions.{published_all, with_held, with_held_rows};
 
-use crate::copies::{Copies, empty_stage, make_place, mark_all, show};
+use crate::copies::{Copies, append_block, empty_stage, make_place, mark_all, show};
 use crate::history::History;
 use crate::version::Version;
 use crate::{Analyst, Naming, NoMemory, Told};
@@ -111,6 +113,24 @@ impl<B: Naming> Publisher<B> {
         // The row fits the table, and the stage is for its rows, so it is added.
         let _ = self.stage.push(feeder, row);
         self.free -= 1;
+        Ok(())
+    }
+
+    /// Holds the rows of a block, each as a row of this feeder, whatever feeders the block has. It copies the block. The
+    /// rows are visible once they are published.
+    pub fn hold_block(&mut self, feeder: u32, block: &Block) -> Result<(), NoMemory>
+        requires room { length self.old.table.rows + length self.old.held + length block.now.rows
+            ≤ self.old.table.limit }
+        requires alike { AreAlike block.now.schema self.old.table.schema }
+        requires feeder { feeder < self.old.table.feeders }
+        ensures ok { OnOk result (self.new
+            ≡ with_held_rows self.old feeder (entries_of block.now.rows)) }
+        ensures err { OnErr result (self.new ≡ self.old) }
+    {
+        let own = self.published().block_of(feeder, block)?;
+        empty_stage(&mut self.copies, &mut self.stage)?;
+        append_block(&mut self.copies, own)?;
+        self.free -= block.len() as u64;
         Ok(())
     }
 

@@ -1,4 +1,4 @@
-use Rattle.std.proofs.Common.{List, [], drop, ap, refl, sym, subst, ◌∙◌, ◌≡◌}
+use Rattle.std.proofs.Common.{List, [], drop, ap, sym, subst, ◌∙◌, ◌≡◌}
 use Rattle.bsi_versions.specs.Editions.{IsMarked, IsWriting}
 use Rattle.bsi_versions.specs.Pages.{Edition, Known}
 use Rattle.bsi_versions.specs.declared.operation.Operation.{Operation}
