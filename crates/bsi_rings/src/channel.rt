@@ -56,7 +56,7 @@ impl Model for Channel {
 
 impl Channel {
     ghost use Rattle.bsi_table.specs.RowBlocks.{entries_of, AreAlike};
-    ghost use Rattle.bsi_rings.specs.Rings.{new_intake, ring_of, with_seen, with_more_taken, IsFront, IsWhole, Settles};
+    ghost use Rattle.bsi_rings.specs.Rings.{new_intake, ring_of, with_more_taken, with_seen, AllFit, IsFront, IsWhole, Settles};
 
     /// Makes the channel of a ring from which nothing has been taken.
     pub(crate) fn new(
@@ -138,9 +138,11 @@ impl Channel {
         ensures some { IfSome (option_copied result) (λ block. 0 < length block.rows) }
         ensures alike { IfSome (option_copied result)
             (λ block. AreAlike block.schema self.now.channel.schema) }
+        ensures fitting { IfSome (option_copied result)
+            (λ block. AllFit self.now.channel.schema (entries_of block.rows)) }
     {
         match self.ring.peek_known() {
-            Parcel::Block(batch) if self.next == 0 && batch.block.is_like(&self.schema) => {
+            Parcel::Block(batch) if self.next == 0 && batch.is_for(&self.schema) => {
                 Some(&batch.block)
             }
             _ => None,

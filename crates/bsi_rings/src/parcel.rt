@@ -56,7 +56,7 @@ impl Batch {
     }
 
     /// Returns whether a feeder of this schema sends it.
-    fn is_for(&self, schema: &Schema) -> bool
+    pub(crate) fn is_for(&self, schema: &Schema) -> bool
         ensures { IsTrue result ↔ IsParcel schema.now (Parcel.Block self.now) }
     {
         // The proof takes from this that the rows of the block fit the columns that it was made for.

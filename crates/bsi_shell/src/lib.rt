@@ -9,8 +9,8 @@ mod words;
 
 pub use bsi_files::{FeedEnd, FilesFault, Gate, Go, Stopping, Which, feed, run_files};
 pub use bsi_system::{
-    Analyst, AnalystRefused, Closing, Feeder, History, LoadRefused, Loader, Naming, NoMemory,
-    OpenRefused, SettleRefused, SubmitRefused, System, Told, open,
+    Analyst, AnalystRefused, BlockRefused, Closing, Feeder, History, LoadRefused, Loader, Naming,
+    NoMemory, OpenRefused, SettleRefused, SubmitRefused, System, Told, open,
 };
 pub use bsi_text::ScriptFault;
 pub use words::run_words;

@@ -1,23 +1,23 @@
 -- What a loader keeps to, from call to call.
-use Rattle.std.proofs.Common.{◌≡◌, ◌≢◌, ℕ, zero, suc, ◌<◌, ◌≤◌, Bool, true, false, cond, List, [], ◌∷◌, ◌++◌, Option, None, Some, All, length, map, set, get_or, drop, refl, sym, ◌∙◌, subst, ap, arith, append_assoc, length-append, inl, inr}
+use Rattle.std.proofs.Common.{◌≡◌, ◌≢◌, ℕ, zero, suc, ◌<◌, ◌≤◌, Bool, true, false, cond, List, [], ◌∷◌, ◌++◌, Option, None, Some, All, length, map, set, get_or, drop, take, refl, sym, ◌∙◌, subst, ap, ap₂, arith, append_assoc, length-append, inl, inr}
 use Rattle.std.specs.Prelude.{nat_eq, slice_get, option_map, IfSome, IsTrue, Err, ◌⊎◌}
-use Rattle.std.proofs.Math.Seq.{drop-append_seam}
+use Rattle.std.proofs.Math.Seq.{drop-append_seam, take-append_seam}
 use Rattle.std.proofs.lemmas.Bool.Decides.{nat_tests}
 use Rattle.std.proofs.lemmas.List.{append-nil, get_or-set_other, get_or-set_same, length-map, length-set, map-set, set-get_or, set-set}
-use Rattle.std.proofs.lemmas.List.Elements.{filter_map-append, All-get_or, All-set}
+use Rattle.std.proofs.lemmas.List.Elements.{filter_map-append, All-cons, All-get_or, All-head, All-nil, All-set}
 use Rattle.std.proofs.lemmas.Option.{get_or_from_slice_get, slice_get_cases, slice_get-map, slice_get_read, slice_get_within}
 use mathlib.Core.List.{IsPrefix}
 use Rattle.bsi_table.specs.Columns.{fits, Declared}
+use Rattle.bsi_table.specs.RowBlocks.{entries_of, fed_as, AreAlike, RowBlock}
 use Rattle.bsi_table.specs.Rows.{Entries, FedRow}
 use Rattle.bsi_load.specs.declared.event.LoadRefused.TheVariants as load
 use Rattle.bsi_load.specs.Runs.{rows_from}
 use Rattle.bsi_rings.specs.declared.channel.Front.{Front}
 use Rattle.bsi_rings.specs.declared.channel.Front.TheVariants as front
-use Rattle.bsi_rings.specs.Rings.{channels_of, with_seen, Intake, IsWhole, ChannelName, Sent}
+use Rattle.bsi_rings.specs.Rings.{channels_of, with_more_taken, with_seen, AllFit, ChannelName, Intake, IsWhole, Sent}
 use Rattle.bsi_versions.specs.Editions.{Written}
-use Rattle.bsi_versions.specs.Editions as editions
-use Rattle.bsi_system.specs.Channels.{AreUntaken, IsFirstAt, IsFirstReply, LooksAt, SettlesAt, TakesAt}
-use Rattle.bsi_system.specs.Running.{loading, no_taking, seen, seen_at, seen_of, settled_as, taken, taking, taking_at, takings_of, told, with_taken, Balanced, IsLoader, Loading, Loads, Looks, MayLoad, Taking, WithinTold}
+use Rattle.bsi_system.specs.Channels.{AreFirstAt, AreUntaken, HasFirst, HoldsFirst, IsBlockAt, IsFirstAt, IsFirstReply, LooksAt, SettlesAt, TakesAt}
+use Rattle.bsi_system.specs.Running.{loading, no_taking, seen, seen_at, seen_of, settled_as, taken, taking, taking_at, takings_of, told, with_taken_rows, Balanced, IsLoader, Loading, LoadsMany, LoadsOne, LoadsRows, Looks, MayLoad, Taking, WithinTold}
 
 -- ---- one place of a list
 
@@ -50,12 +50,11 @@ seen_same intakes new f i within now =
     let read : seen_at (seen_of new) f ≡ i.seen = ap (λ (xs : List (List Entries)). seen_at xs f) is ∙ get_or-set_same (seen_of intakes) f i.seen [] there in
     is ∙ ap (set (seen_of intakes) f) (sym read)
 
--- a row stands first of those that are seen
-pub seen_first : (intakes : List Intake) (f : ℕ) → (row : Entries) × IsFirstAt intakes f row → 0 < length (seen_at (seen_of intakes) f)
-seen_first intakes f first =
-    let at = first.1 in
+-- rows stand first of those that are seen
+pub first_seen : (intakes : List Intake) (f : ℕ) (rows : List Entries) → AreFirstAt intakes f rows → length rows ≤ length (seen_at (seen_of intakes) f)
+first_seen intakes f rows at =
     let read : seen_at (seen_of intakes) f ≡ at.intake.seen = get_or_from_slice_get (seen_of intakes) f at.intake.seen [] (slice_get-map (λ (j : Intake). j.seen) intakes f ∙ ap (option_map (λ (j : Intake). j.seen)) at.at) in
-    omega (arith, ap length (read ∙ at.first))
+    omega (arith, ap length (read ∙ at.first), length-append rows at.rest)
 
 -- ---- looking at a channel
 
@@ -107,6 +106,15 @@ rows_from-one : (f g : ℕ) (row : Entries) (b : Bool) → nat_eq f g ≡ b → 
 rows_from-one f g row true is = rw is refl
 rows_from-one f g row false is = rw is refl
 
+-- of rows of one feeder
+rows_from-fed : (f g : ℕ) (rows : List Entries) (b : Bool) → nat_eq f g ≡ b → rows_from g (fed_as f rows) ≡ cond b rows []
+rows_from-fed f g [] true is = refl
+rows_from-fed f g [] false is = refl
+rows_from-fed f g (row ∷ rows) true is =
+    rows_from-append g ((f, row) ∷ []) (fed_as f rows) ∙ ap₂ (λ (xs ys : List Entries). xs ++ ys) (rows_from-one f g row true is) (rows_from-fed f g rows true is)
+rows_from-fed f g (row ∷ rows) false is =
+    rows_from-append g ((f, row) ∷ []) (fed_as f rows) ∙ ap₂ (λ (xs ys : List Entries). xs ++ ys) (rows_from-one f g row false is) (rows_from-fed f g rows false is)
+
 -- ---- the loader
 
 module _ (intakes : List Intake) (w : Written) (is : IsLoader intakes w) where
@@ -140,23 +148,26 @@ module _ (intakes : List Intake) (w : Written) (is : IsLoader intakes w) where
       many = ap length same.channels ∙ is.many;
     }
 
-  -- the row that stands first fits the table, and its feeder is one of the table's
-  module _ (f : ℕ) (row : Entries) (first : IsFirstAt intakes f row) where
-    pub first_fits : IsTrue (fits w.table.schema.columns row)
-    first_fits =
+  -- the rows that stand first fit the table, and their feeder is one of the table's
+  module _ (f : ℕ) (rows : List Entries) (first : AreFirstAt intakes f rows) where
+    pub first_schema : first.intake.channel.schema ≡ w.table.schema
+    first_schema =
         let channel = first.intake.channel in
         let at : slice_get (channels_of intakes) f ≡ Some channel = slice_get-map (λ (i : Intake). i.channel) intakes f ∙ ap (option_map (λ (i : Intake). i.channel)) first.at in
         let read = get_or_from_slice_get (channels_of intakes) f channel channel at in
         let alike = All-get_or (λ (l : ChannelName). l.schema ≡ w.table.schema) (channels_of intakes) f channel (slice_get_within (channels_of intakes) f channel at) is.alike in
-        subst (λ (s : Declared). IsTrue (fits s.columns row)) (ap (λ (l : ChannelName). l.schema) (sym read) ∙ alike) first.fitting
+        ap (λ (l : ChannelName). l.schema) (sym read) ∙ alike
+
+    pub first_fits : AllFit w.table.schema rows
+    first_fits = subst (λ (s : Declared). AllFit s rows) first_schema first.fitting
 
     pub first_there : f < w.table.feeders
     first_there = omega (arith, slice_get_within intakes f first.intake first.at, length-map intakes (λ (i : Intake). i.channel), is.many)
 
--- ---- one row more is taken
+-- ---- rows more are taken
 
 -- a row that fits is seen first
-pub front_at : (old : List Intake) (f : ℕ) (new : List Intake) → LooksAt old f front.Row new → (row : Entries) × IsFirstAt new f row
+pub front_at : (old : List Intake) (f : ℕ) (new : List Intake) → LooksAt old f front.Row new → HasFirst new f
 front_at old f new looks =
     let now = with_seen looks.before looks.seen in
     let within = slice_get_within old f looks.before looks.at in
@@ -167,91 +178,127 @@ front_at old f new looks =
         rest = looks.found_is.1;
         at = slice_get_read new (length new) f now refl (omega (arith, within, ap length looks.now, length-set old f now)) read;
         first = looks.found_is.2;
-        fitting = looks.found_is.3;
+        fitting = All-cons (λ (r : Entries). IsTrue (fits now.channel.schema.columns r)) looks.found_is.0 [] looks.found_is.3 (All-nil (λ (r : Entries). IsTrue (fits now.channel.schema.columns r)));
       },
     )
 
--- it is read
-pub first_read : (intakes : List Intake) (f : ℕ) → (row : Entries) × IsFirstAt intakes f row → (i : Intake) (row : Entries) → i ≡ get_or intakes f i → IsPrefix (row ∷ []) i.seen
-    → IsFirstAt intakes f row
-first_read intakes f front i row read first =
-    let at : slice_get intakes f ≡ Some i =
-    slice_get_read intakes (length intakes) f i refl (slice_get_within intakes f front.1.intake front.1.at) read in
-    let same : i ≡ front.1.intake = cc (at, front.1.at) in
-    let heads : row ∷ first.0 ≡ front.0 ∷ front.1.rest = first.1 ∙ (ap (λ (j : Intake). j.seen) same ∙ front.1.first) in
-    let row_is : row ≡ front.0 = cc heads in
-    record {
-      intake = i;
-      rest = first.0;
-      at = at;
-      first = sym first.1;
-      fitting = subst (λ (r : Entries). IsTrue (fits i.channel.schema.columns r)) (sym row_is)
-          (subst (λ (j : Intake). IsTrue (fits j.channel.schema.columns front.0)) (sym same) front.1.fitting);
-    }
+module _ (intakes : List Intake) (f : ℕ) (found : HasFirst intakes f) (i : Intake) (read : i ≡ get_or intakes f i) where
+  first_intake : slice_get intakes f ≡ Some i
+  first_intake = slice_get_read intakes (length intakes) f i refl (slice_get_within intakes f found.1.intake found.1.at) read
 
--- it is the row that is taken
-pub same_row : (intakes : List Intake) (f : ℕ) (row other : Entries) (new : List Intake) → IsFirstAt intakes f row → TakesAt intakes f other new → row ≡ other
-same_row intakes f row other new first takes =
-    let same : first.intake ≡ takes.before = cc (first.at, takes.at) in
-    let heads : row ∷ first.rest ≡ other ∷ takes.after.seen = sym first.first ∙ (ap (λ (i : Intake). i.seen) same ∙ takes.takes.0) in
-    cc heads
+  first_same : i ≡ found.1.intake
+  first_same = cc (first_intake, found.1.at)
 
--- after one row more
-abbrev loaded : Loading → ℕ → Entries → Loading
-loaded s f row = record s { takings = set s.takings f (with_taken (taking_at s.takings f) row); held = s.held ++ (f, row) ∷ [] }
+  -- a row is seen
+  pub found_seen : 0 < length i.seen
+  found_seen = omega (arith, ap length (ap (λ (j : Intake). j.seen) first_same ∙ found.1.first))
 
-loaded_balanced : (s : Loading) (f : ℕ) (row : Entries) → f < length s.takings → Balanced s → Balanced (loaded s f row)
-loaded_balanced s f row within balanced g =
-    let more = with_taken (taking_at s.takings f) row in
-    let all : (b : Bool) → nat_eq f g ≡ b → rows_from g (s.published ++ (s.held ++ (f, row) ∷ [])) ≡ taken s g ++ cond b (row ∷ []) [] =
-    λ b is. ap (rows_from g) (sym (append_assoc s.published s.held ((f, row) ∷ [])))
-    ∙ (rows_from-append g (s.published ++ s.held) ((f, row) ∷ []) ∙ (ap (λ xs. xs ++ rows_from g ((f, row) ∷ [])) (balanced g) ∙ ap (λ xs. taken s g ++ xs) (rows_from-one f g row b is))) in
+  -- it is read
+  pub first_read : (row : Entries) → IsPrefix (row ∷ []) i.seen → IsFirstAt intakes f row
+  first_read row first =
+      let heads : row ∷ first.0 ≡ found.0 ∷ found.1.rest = first.1 ∙ (ap (λ (j : Intake). j.seen) first_same ∙ found.1.first) in
+      let row_is : row ≡ found.0 = cc heads in
+      record {
+        intake = i;
+        rest = first.0;
+        at = first_intake;
+        first = sym first.1;
+        fitting = subst (λ (r : Entries). AllFit i.channel.schema (r ∷ [])) (sym row_is) (subst (λ (j : Intake). AllFit j.channel.schema (found.0 ∷ [])) (sym first_same) found.1.fitting);
+      }
+
+  -- or a block of rows is
+  pub block_read : (block : RowBlock) → IsPrefix (entries_of block.rows) i.seen → 0 < length block.rows → AreAlike block.schema i.channel.schema → AllFit i.channel.schema (entries_of block.rows)
+      → IsBlockAt intakes f block
+  block_read block first some alike fitting = record {
+    first = record { intake = i; rest = first.0; at = first_intake; first = sym first.1; fitting = fitting };
+    some = some;
+    alike = alike;
+  }
+
+-- after these rows more
+abbrev loaded : Loading → ℕ → List Entries → Loading
+loaded s f rows = record s { takings = set s.takings f (with_taken_rows (taking_at s.takings f) rows); held = s.held ++ fed_as f rows }
+
+loaded_balanced : (s : Loading) (f : ℕ) (rows : List Entries) → f < length s.takings → Balanced s → Balanced (loaded s f rows)
+loaded_balanced s f rows within balanced g =
+    let more = with_taken_rows (taking_at s.takings f) rows in
+    let all : (b : Bool) → nat_eq f g ≡ b → rows_from g (s.published ++ (s.held ++ fed_as f rows)) ≡ taken s g ++ cond b rows [] =
+    λ b is. ap (rows_from g) (sym (append_assoc s.published s.held (fed_as f rows)))
+    ∙ (rows_from-append g (s.published ++ s.held) (fed_as f rows) ∙ (ap (λ xs. xs ++ rows_from g (fed_as f rows)) (balanced g) ∙ ap (λ xs. taken s g ++ xs) (rows_from-fed f g rows b is))) in
     by all (nat_eq f g) refl
   where
-    by : ((b : Bool) → nat_eq f g ≡ b → rows_from g (s.published ++ (s.held ++ (f, row) ∷ [])) ≡ taken s g ++ cond b (row ∷ []) []) → (b : Bool) → nat_eq f g ≡ b
-        → rows_from g (s.published ++ (s.held ++ (f, row) ∷ [])) ≡ taken (loaded s f row) g
+    by : ((b : Bool) → nat_eq f g ≡ b → rows_from g (s.published ++ (s.held ++ fed_as f rows)) ≡ taken s g ++ cond b rows []) → (b : Bool) → nat_eq f g ≡ b
+        → rows_from g (s.published ++ (s.held ++ fed_as f rows)) ≡ taken (loaded s f rows) g
     by all true is =
         let same : f ≡ g = grind (arith, nat_tests) in
-        all true is ∙ subst (λ (h : ℕ). taken s h ++ row ∷ [] ≡ taken (loaded s f row) h) same
-        (ap (λ (t : Taking). t.taken) (sym (get_or-set_same s.takings f (with_taken (taking_at s.takings f) row) no_taking within)))
+        all true is ∙ subst (λ (h : ℕ). taken s h ++ rows ≡ taken (loaded s f rows) h) same
+        (ap (λ (t : Taking). t.taken) (sym (get_or-set_same s.takings f (with_taken_rows (taking_at s.takings f) rows) no_taking within)))
     by all false is =
         let other : g ≢ f = λ same. grind (arith, nat_tests) in
-        all false is ∙ (append-nil (taken s g) ∙ ap (λ (t : Taking). t.taken) (sym (get_or-set_other s.takings f g (with_taken (taking_at s.takings f) row) no_taking other)))
+        all false is ∙ (append-nil (taken s g) ∙ ap (λ (t : Taking). t.taken) (sym (get_or-set_other s.takings f g (with_taken_rows (taking_at s.takings f) rows) no_taking other)))
 
-module _ (intakes : List Intake) (w : Written) (f : ℕ) (row : Entries) (new : List Intake) (next : Written) (takes : TakesAt intakes f row new) (held : next ≡ editions.with_held w f row) where
+-- rows are loaded from what was looked at
+looked_loads : (s t u : Loading) (f : ℕ) (rows : List Entries) → Looks s f t → LoadsRows t f rows u → LoadsRows s f rows u
+looked_loads s t u f rows looks loads =
+    let from : LoadsRows (record s { seen = set s.seen f (seen t f) }) f rows u = subst (λ (v : Loading). LoadsRows v f rows u) looks loads in
+    from
+    ∙ ap (λ (xs : List (List Entries)). record s { takings = set s.takings f (with_taken_rows (taking_at s.takings f) rows); seen = xs; held = s.held ++ fed_as f rows }) (set-set s.seen f (seen t f) (seen u f))
+
+-- one row of many that are one
+pub one_of_many : (s : Loading) (f : ℕ) (t : Loading) → LoadsMany s f 1 t → LoadsOne s f t
+one_of_many s f t many = by many.rows many.count many.fitting many.loads
+  where
+    by : (rows : List Entries) → length rows ≡ 1 → AllFit s.system.schema rows → LoadsRows s f rows t → LoadsOne s f t
+    by [] count fitting loads = absurd (omega arith)
+    by (row ∷ []) count fitting loads = (row, All-head (λ (r : Entries). IsTrue (fits s.system.schema.columns r)) row [] fitting, loads)
+    by (row ∷ (other ∷ rows)) count fitting loads = absurd (omega arith)
+
+module _ (intakes : List Intake) (w : Written) (f many : ℕ) (new : List Intake) (next : Written) (takes : TakesAt intakes f many new) (holds : HoldsFirst intakes f w many next) where
+  -- the rows that are taken are those that are held
+  after_is : with_more_taken takes.before many ≡ record takes.before { taken = takes.before.taken ++ holds.rows; seen = holds.first.rest }
+  after_is =
+      let same : holds.first.intake ≡ takes.before = cc (holds.first.at, takes.at) in
+      let seen_is : takes.before.seen ≡ holds.rows ++ holds.first.rest = ap (λ (i : Intake). i.seen) (sym same) ∙ holds.first.first in
+      ap₂ (λ (n : ℕ) (xs : List Entries). record takes.before { taken = takes.before.taken ++ take n xs; seen = drop n xs }) (sym holds.count) seen_is
+      ∙ ap₂ (λ (xs ys : List Entries). record takes.before { taken = takes.before.taken ++ xs; seen = ys }) (take-append_seam holds.rows holds.first.rest) (drop-append_seam holds.rows holds.first.rest)
+
   takes_channels : channels_of new ≡ channels_of intakes
   takes_channels =
-      ap channels_of takes.now ∙ map-set_same (λ (i : Intake). i.channel) intakes f takes.before takes.after takes.at (ap (λ (i : Intake). i.channel) takes.takes.1)
+      ap channels_of takes.now ∙ map-set_same (λ (i : Intake). i.channel) intakes f takes.before (with_more_taken takes.before many) takes.at refl
 
   takes_seen : seen_of new ≡ set (seen_of intakes) f (seen_at (seen_of new) f)
-  takes_seen = seen_same intakes new f takes.after (slice_get_within intakes f takes.before takes.at) takes.now
+  takes_seen = seen_same intakes new f (with_more_taken takes.before many) (slice_get_within intakes f takes.before takes.at) takes.now
 
-  pub takes_loads : Loads (loading intakes w) f row (loading new next)
+  takes_loads : LoadsRows (loading intakes w) f holds.rows (loading new next)
   takes_loads =
-      let after_is : taking takes.after ≡ with_taken (taking_at (takings_of intakes) f) row =
-      ap taking takes.takes.1 ∙ ap (λ (t : Taking). with_taken t row) (sym (taking_at-of intakes f takes.before takes.at)) in
-      let takings : takings_of new ≡ set (takings_of intakes) f (with_taken (taking_at (takings_of intakes) f) row) =
-      ap takings_of takes.now ∙ (map-set taking intakes f takes.after ∙ ap (set (takings_of intakes) f) after_is) in
-      ap (loading new) held
-      ∙ (ap (λ (ts : List Taking). record { system = record { channels = channels_of new; schema = w.table.schema; limit = w.table.limit }; takings = ts; seen = seen_of new; published = w.table.rows; held = w.held ++ (f, row) ∷ [] }) takings
-      ∙ (ap (λ (ls : List ChannelName). record { system = record { channels = ls; schema = w.table.schema; limit = w.table.limit }; takings = set (takings_of intakes) f (with_taken (taking_at (takings_of intakes) f) row); seen = seen_of new; published = w.table.rows; held = w.held ++ (f, row) ∷ [] }) takes_channels
-      ∙ ap (λ (xs : List (List Entries)). record { system = record { channels = channels_of intakes; schema = w.table.schema; limit = w.table.limit }; takings = set (takings_of intakes) f (with_taken (taking_at (takings_of intakes) f) row); seen = xs; published = w.table.rows; held = w.held ++ (f, row) ∷ [] }) takes_seen))
+      let rows = holds.rows in
+      let taking_is : taking (with_more_taken takes.before many) ≡ with_taken_rows (taking_at (takings_of intakes) f) rows =
+      ap taking after_is ∙ ap (λ (t : Taking). with_taken_rows t rows) (sym (taking_at-of intakes f takes.before takes.at)) in
+      let takings : takings_of new ≡ set (takings_of intakes) f (with_taken_rows (taking_at (takings_of intakes) f) rows) =
+      ap takings_of takes.now ∙ (map-set taking intakes f (with_more_taken takes.before many) ∙ ap (set (takings_of intakes) f) taking_is) in
+      ap (loading new) holds.held
+      ∙ (ap (λ (ts : List Taking). record { system = record { channels = channels_of new; schema = w.table.schema; limit = w.table.limit }; takings = ts; seen = seen_of new; published = w.table.rows; held = w.held ++ fed_as f rows }) takings
+      ∙ (ap (λ (ls : List ChannelName). record { system = record { channels = ls; schema = w.table.schema; limit = w.table.limit }; takings = set (takings_of intakes) f (with_taken_rows (taking_at (takings_of intakes) f) rows); seen = seen_of new; published = w.table.rows; held = w.held ++ fed_as f rows }) takes_channels
+      ∙ ap (λ (xs : List (List Entries)). record { system = record { channels = channels_of intakes; schema = w.table.schema; limit = w.table.limit }; takings = set (takings_of intakes) f (with_taken_rows (taking_at (takings_of intakes) f) rows); seen = xs; published = w.table.rows; held = w.held ++ fed_as f rows }) takes_seen))
 
   pub takes_loader : IsLoader intakes w → IsLoader new next
   takes_loader is = record {
-    balanced = subst Balanced (sym takes_loads) (loaded_balanced (loading intakes w) f row (there intakes f takes.before takes.at) is.balanced);
-    whole = subst (All IsWhole) (sym takes.now) (All-set IsWhole intakes f takes.after takes.whole is.whole);
-    alike = subst (λ (v : Written). All (λ (channel : ChannelName). channel.schema ≡ v.table.schema) (channels_of new)) (sym held)
+    balanced = subst Balanced (sym takes_loads) (loaded_balanced (loading intakes w) f holds.rows (there intakes f takes.before takes.at) is.balanced);
+    whole = subst (All IsWhole) (sym takes.now) (All-set IsWhole intakes f (with_more_taken takes.before many) takes.whole is.whole);
+    alike = subst (λ (v : Written). All (λ (channel : ChannelName). channel.schema ≡ v.table.schema) (channels_of new)) (sym holds.held)
         (subst (All (λ (channel : ChannelName). channel.schema ≡ w.table.schema)) (sym takes_channels) is.alike);
-    many = ap length takes_channels ∙ (is.many ∙ ap (λ (v : Written). v.table.feeders) (sym held));
+    many = ap length takes_channels ∙ (is.many ∙ ap (λ (v : Written). v.table.feeders) (sym holds.held));
   }
 
--- a row is loaded from what was looked at
-pub looked_loads : (s t u : Loading) (f : ℕ) (row : Entries) → Looks s f t → Loads t f row u → Loads s f row u
-looked_loads s t u f row looks loads =
-    let from : Loads (record s { seen = set s.seen f (seen t f) }) f row u = subst (λ (v : Loading). Loads v f row u) looks loads in
-    from
-    ∙ ap (λ (xs : List (List Entries)). record s { takings = set s.takings f (with_taken (taking_at s.takings f) row); seen = xs; held = s.held ++ (f, row) ∷ [] }) (set-set s.seen f (seen t f) (seen u f))
+  -- they are loaded, also from what was seen before
+  pub takes_many : (s : Loading) → IsLoader intakes w → Looks s f (loading intakes w) → LoadsMany s f many (loading new next)
+  takes_many s is looks = record {
+    rows = holds.rows;
+    count = holds.count;
+    some = holds.some;
+    fitting = subst (λ (v : Loading). AllFit v.system.schema holds.rows) looks (first_fits intakes w is f holds.rows holds.first);
+    loads = looked_loads s (loading intakes w) (loading new next) f holds.rows looks takes_loads;
+  }
 
 -- ---- a closing is told
 

@@ -1,11 +1,12 @@
 -- What is done with one channel of a list of them.
-use Rattle.std.specs.Prelude.{◌≡◌, ℕ, ◌<◌, ◌≤◌, Bool, true, false, All, IfSome, IsTrue, List, ◌∷◌, None, Some, Result, Ok, Err, length, slice_get, slice_set}
-use Rattle.bsi_table.specs.Columns.{fits}
+use Rattle.std.specs.Prelude.{◌≡◌, ℕ, ◌<◌, ◌≤◌, Bool, true, false, All, IfSome, List, [], ◌∷◌, ◌++◌, None, Some, Result, Ok, Err, length, slice_get, slice_set}
+use Rattle.bsi_table.specs.RowBlocks.{entries_of, AreAlike, RowBlock}
 use Rattle.bsi_table.specs.Rows.{Entries}
 use Rattle.bsi_load.specs.declared.event.LoadRefused.{LoadRefused}
 use Rattle.bsi_load.specs.declared.event.LoadRefused.TheVariants as load
 use Rattle.bsi_rings.specs.declared.channel.Front.{Front}
-use Rattle.bsi_rings.specs.Rings.{channels_of, with_seen, Intake, IsFront, IsWhole, Sent, Settles, TakesFirst}
+use Rattle.bsi_rings.specs.Rings.{channels_of, with_more_taken, with_seen, AllFit, Intake, IsFront, IsWhole, Sent, Settles}
+use Rattle.bsi_versions.specs.Editions.{with_held_rows, Written}
 use Rattle.bsi_system.specs.Running.{seen_at, seen_of, taking_at, takings_of, IsSettled, MayLoad, Taking}
 
 -- one channel was looked at
@@ -17,14 +18,12 @@ pub record LooksAt (old : List Intake) (f : ℕ) (found : Front) (new : List Int
   pub found_is : IsFront (with_seen before seen) found
   pub whole : IsWhole (with_seen before seen)
 
--- the first row that is seen of one channel was taken
-pub record TakesAt (old : List Intake) (f : ℕ) (row : Entries) (new : List Intake) : Type 0 where
+-- the first n rows that are seen of one channel were taken
+pub record TakesAt (old : List Intake) (f n : ℕ) (new : List Intake) : Type 0 where
   pub before : Intake
-  pub after : Intake
   pub at : slice_get old f ≡ Some before
-  pub now : new ≡ slice_set old f after
-  pub takes : TakesFirst before row after
-  pub whole : IsWhole after
+  pub now : new ≡ slice_set old f (with_more_taken before n)
+  pub whole : IsWhole (with_more_taken before n)
 
 -- the closing of one channel was told
 pub record SettlesAt (old : List Intake) (f : ℕ) (closing : Sent) (new : List Intake) : Type 0 where
@@ -43,13 +42,36 @@ pub record AreUntaken (old : List Intake) (f : ℕ) (new : List Intake) : Type 0
   pub seen : seen_of new ≡ slice_set (seen_of old) f (seen_at (seen_of new) f)
   pub whole : All IsWhole old → All IsWhole new
 
--- the row is the first that is seen of a channel, and fits
-pub record IsFirstAt (intakes : List Intake) (f : ℕ) (row : Entries) : Type 0 where
+-- the rows are the first that are seen of a channel, and each fits
+pub record AreFirstAt (intakes : List Intake) (f : ℕ) (rows : List Entries) : Type 0 where
   pub intake : Intake
   pub rest : List Entries
   pub at : slice_get intakes f ≡ Some intake
-  pub first : intake.seen ≡ row ∷ rest
-  pub fitting : IsTrue (fits intake.channel.schema.columns row)
+  pub first : intake.seen ≡ rows ++ rest
+  pub fitting : AllFit intake.channel.schema rows
+
+-- the row is the first that is seen of a channel, and fits
+abbrev pub IsFirstAt : List Intake → ℕ → Entries → Type 0
+IsFirstAt intakes f row = AreFirstAt intakes f (row ∷ [])
+
+-- a row stands first in a channel, and fits
+abbrev pub HasFirst : List Intake → ℕ → Type 0
+HasFirst intakes f = (row : Entries) × IsFirstAt intakes f row
+
+-- the rows of a block are the first that are seen of a channel; it has one, and the columns that it was made for take the
+-- same numbers as those of the channel's schema
+pub record IsBlockAt (intakes : List Intake) (f : ℕ) (block : RowBlock) : Type 0 where
+  pub first : AreFirstAt intakes f (entries_of block.rows)
+  pub some : 0 < length block.rows
+  pub alike : AreAlike block.schema first.intake.channel.schema
+
+-- so many rows, at least one, that stand first in a channel are held too
+pub record HoldsFirst (intakes : List Intake) (f : ℕ) (w : Written) (many : ℕ) (next : Written) : Type 0 where
+  pub rows : List Entries
+  pub count : length rows ≡ many
+  pub some : 0 < many
+  pub first : AreFirstAt intakes f rows
+  pub held : next ≡ with_held_rows w f rows
 
 -- the reply to the question whether a first row can be taken, where the table is full or not
 abbrev pub IsFirstReply : List Taking → ℕ → Bool → Result (Unit {0}) LoadRefused → Type 0

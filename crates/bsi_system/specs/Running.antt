@@ -2,11 +2,12 @@
 use Rattle.std.specs.Prelude.{◌≡◌, ℕ, ◌+◌, ◌<◌, ◌≤◌, ⊤, All, IfSome, IsTrue, List, [], ◌∷◌, ◌++◌, Option, None, Some, Result, Ok, Err, drop, length, map, slice_get, slice_index_or, slice_set}
 use mathlib.Core.List.{IsPrefix}
 use Rattle.bsi_table.specs.Columns.{fits, Declared}
+use Rattle.bsi_table.specs.RowBlocks.{fed_as}
 use Rattle.bsi_table.specs.Rows.{Entries, FedRow}
 use Rattle.bsi_load.specs.declared.event.LoadRefused.{LoadRefused}
 use Rattle.bsi_load.specs.declared.event.LoadRefused.TheVariants as load
 use Rattle.bsi_load.specs.Runs.{rows_from}
-use Rattle.bsi_rings.specs.Rings.{channels_of, Intake, IsWhole, ChannelName, Sending, Sent}
+use Rattle.bsi_rings.specs.Rings.{channels_of, AllFit, ChannelName, Intake, IsWhole, Sending, Sent}
 use Rattle.bsi_versions.specs.Editions.{Written}
 
 -- which rings a system has, the schema of its rows, and the most rows of its table
@@ -100,6 +101,11 @@ IsLoaderReply s f (Err load.Empty) = (f < length s.takings) × (told s f ≡ Non
 IsLoaderReply s f (Err load.IndexFull) = MayLoad s.takings f × (length s.published + length s.held ≡ s.system.limit)
 IsLoaderReply s f (Err load.NoMemory) = MayLoad s.takings f × (length s.published + length s.held < s.system.limit)
 
+-- the reply to a load of many rows: it is refused as a load of one row is
+abbrev pub IsBlockLoadReply : Loading → ℕ → Result ℕ LoadRefused → Type 0
+IsBlockLoadReply s f (Ok many) = IsLoaderReply s f (Ok tt)
+IsBlockLoadReply s f (Err refused) = IsLoaderReply s f (Err refused)
+
 -- a load is refused for a full table or for memory only where a row is seen in the feeder's ring
 abbrev pub IsSeenWhere : List Entries → LoadRefused → Type 0
 IsSeenWhere seen load.IndexFull = 0 < length seen
@@ -126,6 +132,27 @@ Loads s f row t =
 -- a row that fits is loaded
 abbrev pub LoadsOne : Loading → ℕ → Loading → Type 0
 LoadsOne s f t = (row : Entries) × IsTrue (fits s.system.schema.columns row) × Loads s f row t
+
+-- these rows more were taken
+abbrev pub with_taken_rows : Taking → List Entries → Taking
+with_taken_rows t rows = record t { taken = t.taken ++ rows }
+
+-- the rows are the next ones that are taken of the feeder, and they are held, last
+abbrev pub LoadsRows : Loading → ℕ → List Entries → Loading → Type 0
+LoadsRows s f rows t =
+    t ≡ record s {
+      takings = slice_set s.takings f (with_taken_rows (taking_at s.takings f) rows);
+      seen = slice_set s.seen f (seen t f);
+      held = s.held ++ fed_as f rows;
+    }
+
+-- so many rows are loaded, at least one, of which each fits
+pub record LoadsMany (s : Loading) (f many : ℕ) (t : Loading) : Type 0 where
+  pub rows : List Entries
+  pub count : length rows ≡ many
+  pub some : 0 < many
+  pub fitting : AllFit s.system.schema rows
+  pub loads : LoadsRows s f rows t
 
 -- ---- settling and publishing
 

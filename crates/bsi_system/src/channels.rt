@@ -1,14 +1,15 @@
 //! The loader's ends of all rings.
 
-ghost use Rattle.std.specs.Prelude.{◌≡◌, ◌<◌, Some, IfErr, OnOk, length, slice_get};
-ghost use Rattle.bsi_table.specs.Rows.{Entries};
+ghost use Rattle.std.specs.Prelude.{◌≡◌, ◌<◌, ◌≤◌, Some, IfErr, IfOk, IfSome, OnOk, length, slice_get};
+ghost use Rattle.std.specs.Option.{option_copied};
 ghost use Rattle.bsi_rings.specs.Rings.{channels_of};
 ghost use Rattle.bsi_system.specs.Running.{seen_at, seen_of, takings_of, IsSeenWhere};
-ghost use Rattle.bsi_system.specs.Channels.{AreUntaken, IsFirstAt, IsFirstReply, LooksAt, SettlesAt, TakesAt};
+ghost use Rattle.bsi_system.specs.Channels.{AreUntaken, HasFirst, IsBlockAt, IsFirstAt, IsFirstReply, LooksAt, SettlesAt, TakesAt};
 
+use crate::NoMemory;
 use bsi_load::LoadRefused;
 use bsi_rings::{Channel, Closing, Front};
-use bsi_table::Row;
+use bsi_table::{Block, Row};
 
 /// Looks for the row of a feeder that is to be taken next. The row stays in the ring.
 pub(crate) fn find_first(
@@ -18,7 +19,7 @@ pub(crate) fn find_first(
 ) -> Result<(), LoadRefused>
     ensures reply { IsFirstReply (takings_of channels.old.items) feeder full result }
     ensures same { AreUntaken channels.old.items feeder channels.new.items }
-    ensures first { OnOk result ((row : Entries) × IsFirstAt channels.new.items feeder row) }
+    ensures first { OnOk result (HasFirst channels.new.items feeder) }
     ensures seen { IfErr result (IsSeenWhere (seen_at (seen_of channels.new.items) feeder)) }
 {
     let place = feeder as usize;
@@ -36,12 +37,28 @@ pub(crate) fn find_first(
     Ok(())
 }
 
-/// Lends the row of a feeder that was found.
-pub(crate) fn first_of(channels: &Vec<Channel>, feeder: u32) -> &Row
-    requires { (row : Entries) × IsFirstAt channels.now.items feeder row }
-    ensures { IsFirstAt channels.now.items feeder result.now }
+/// Lends the row of a feeder that was found, or none where it is one of a block.
+pub(crate) fn first_row_of(channels: &Vec<Channel>, feeder: u32) -> Option<&Row>
+    requires { HasFirst channels.now.items feeder }
+    ensures { IfSome (option_copied result) (IsFirstAt channels.now.items feeder) }
 {
-    channels[feeder as usize].first()
+    channels[feeder as usize].first_row()
+}
+
+/// Makes a second row of that of a feeder that was found.
+pub(crate) fn copy_first_of(channels: &Vec<Channel>, feeder: u32) -> Result<Row, NoMemory>
+    requires { HasFirst channels.now.items feeder }
+    ensures { IfOk result (IsFirstAt channels.now.items feeder) }
+{
+    channels[feeder as usize].copy_first()
+}
+
+/// Lends the block of a feeder that stands first, or none where a row does, or a row of the block was taken.
+pub(crate) fn first_block_of(channels: &Vec<Channel>, feeder: u32) -> Option<&Block>
+    requires { HasFirst channels.now.items feeder }
+    ensures { IfSome (option_copied result) (IsBlockAt channels.now.items feeder) }
+{
+    channels[feeder as usize].first_block()
 }
 
 /// Looks at what stands first in a ring.
@@ -53,13 +70,14 @@ fn front_of(channels: &mut Vec<Channel>, place: usize) -> Front
     channel.front()
 }
 
-/// Takes the next row of a feeder out of its ring.
-pub(crate) fn take_of(channels: &mut Vec<Channel>, feeder: u32) -> Row
-    requires { (row : Entries) × IsFirstAt channels.old.items feeder row }
-    ensures { TakesAt channels.old.items feeder result channels.new.items }
+/// Takes so many rows of a feeder out of its ring.
+pub(crate) fn take_of(channels: &mut Vec<Channel>, feeder: u32, rows: usize)
+    requires feeder { feeder < length channels.old.items }
+    requires rows { rows ≤ length (seen_at (seen_of channels.old.items) feeder) }
+    ensures { TakesAt channels.old.items feeder rows channels.new.items }
 {
     let channel = &mut channels[feeder as usize];
-    channel.take_first()
+    channel.take(rows);
 }
 
 /// Learns from the closing of a feeder what it sent.

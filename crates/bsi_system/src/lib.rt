@@ -2,12 +2,13 @@
 #![tactic(auto)]
 
 mod channels;
+mod holding;
 mod loader;
 mod opening;
 mod system;
 
 pub use bsi_load::{LoadRefused, MakeError};
-pub use bsi_rings::{Closing, Feeder, SubmitRefused};
+pub use bsi_rings::{BlockRefused, Closing, Feeder, SubmitRefused};
 pub use bsi_versions::{Analyst, AnalystRefused, History, Naming, Told};
 pub use loader::{Loader, SettleRefused};
 pub use opening::open;

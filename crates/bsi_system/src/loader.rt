@@ -1,13 +1,14 @@
 //! The loader: it takes rows out of the feeders' rings, holds them, and publishes them.
 //!
-//! The row that stands first is held while it is in the ring, and taken out only then: holding it may be refused memory,
-//! and a row that comes back could not go to the front of the ring again.
+//! Rows that stand first are held while they are in the ring, and taken out only then: holding them may be refused memory,
+//! and rows that come back could not go to the front of the ring again.
 
 ghost use Rattle.std.specs.Prelude.{◌≡◌, ◌≢◌, ◌+◌, ◌≤◌, IfErr, IfOk, IfSome, OnErr, OnOk, length};
-ghost use Rattle.bsi_system.specs.Running.{published_all, seen, settled_as, told, AlwaysHolds, IsClosingOf, IsLoaderReply, IsSeenWhere, LoadsOne, Looks};
+ghost use Rattle.bsi_system.specs.Running.{published_all, seen, settled_as, told, AlwaysHolds, IsBlockLoadReply, IsClosingOf, IsLoaderReply, IsSeenWhere, LoadsMany, LoadsOne, Looks};
 
 use crate::NoMemory;
-use crate::channels::{find_first, first_of, settle_of, take_of};
+use crate::channels::{find_first, settle_of, take_of};
+use crate::holding::{hold_first, hold_next};
 use bsi_load::LoadRefused;
 use bsi_rings::{Channel, Closing};
 use bsi_versions::{Analyst, Naming, Publisher, Told};
@@ -65,11 +66,42 @@ impl<B: Naming> Loader<B> {
     {
         let full = self.publisher.is_full();
         find_first(&mut self.channels, feeder, full)?;
-        self.publisher
-            .hold(feeder, first_of(&self.channels, feeder))
-            .map_err(|_| LoadRefused::NoMemory)?;
-        take_of(&mut self.channels, feeder);
+        hold_first(&mut self.publisher, &self.channels, feeder).map_err(|_| LoadRefused::NoMemory)?;
+        take_of(&mut self.channels, feeder, 1);
         Ok(())
+    }
+
+    /// Takes what stands first in a feeder's ring, and holds it: all rows of a block at one step, where none of them was
+    /// taken and there is room for all below the limit, and else one row. It returns how many rows it took. If it is
+    /// refused, all rows stay in the ring. It never waits.
+    pub fn load_block(&mut self, feeder: u32) -> Result<usize, LoadRefused>
+        ensures reply { IsBlockLoadReply self.old feeder result }
+        ensures seen { IfErr result (IsSeenWhere (seen self.new feeder)) }
+        ensures loaded { IfOk result (λ many. LoadsMany self.old feeder many self.new) }
+        ensures kept { OnErr result (Looks self.old feeder self.new) }
+        ensures system { self.new.system ≡ self.old.system }
+        ensures always { AlwaysHolds self.new }
+    {
+        let loaded = self.load_next(feeder);
+        self.show();
+        loaded
+    }
+
+    /// Takes a block, or else one row, out of a feeder's ring, and holds its rows. It is a call of its own, so that
+    /// `load_block` can then show what always holds.
+    fn load_next(&mut self, feeder: u32) -> Result<usize, LoadRefused>
+        ensures reply { IsBlockLoadReply self.old feeder result }
+        ensures seen { IfErr result (IsSeenWhere (seen self.new feeder)) }
+        ensures loaded { IfOk result (λ many. LoadsMany self.old feeder many self.new) }
+        ensures kept { OnErr result (Looks self.old feeder self.new) }
+    {
+        let full = self.publisher.is_full();
+        find_first(&mut self.channels, feeder, full)?;
+        let rows = hold_next(&mut self.publisher, &self.channels, feeder).map_err(
+            |_| LoadRefused::NoMemory,
+        )?;
+        take_of(&mut self.channels, feeder, rows);
+        Ok(rows)
     }
 
     /// Learns from a feeder's closing what the feeder sent. From then on each of those rows can be loaded, and once all

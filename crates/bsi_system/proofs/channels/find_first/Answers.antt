@@ -1,5 +1,6 @@
+use Rattle.std.proofs.Common.{◌∷◌, []}
 use Rattle.bsi_rings.specs.declared.channel.Front.TheVariants.{Row, Empty, Ended}
-use Rattle.bsi_system.proofs.Takings.{front_at, looks_ended, looks_same, may_load, seen_first}
+use Rattle.bsi_system.proofs.Takings.{first_seen, front_at, looks_ended, looks_same, may_load}
 use Rattle.bsi_system.proofs.channels.find_first.Goals as goal
 
 pub returns-in-Empty-clause-same : goal.returns-in-Empty-clause-same
@@ -19,7 +20,9 @@ returns-then-full-clause-same c = looks_same c.args.channels.now.items c.args.fe
 
 pub returns-then-full-clause-seen : goal.returns-then-full-clause-seen
 returns-then-full-clause-seen c =
-    seen_first c.front_of.new.channels.items c.args.feeder (front_at c.args.channels.now.items c.args.feeder c.front_of.new.channels.items c.in-Row.ensures)
+    let new = c.front_of.new.channels.items in
+    let found = front_at c.args.channels.now.items c.args.feeder new c.in-Row.ensures in
+    first_seen new c.args.feeder (found.0 ∷ []) found.1
 
 pub returns-clause-reply : goal.returns-clause-reply
 returns-clause-reply c = (may_load c.args.channels.now.items c.args.feeder c.front_of.new.channels.items c.in-Row.ensures, c.if-full.false)
