@@ -19,7 +19,7 @@ use Rattle.bsi_text.specs.declared.rows.SourceFault.TheVariants as source
 use Rattle.bsi_files.specs.Begun.{Begins}
 use Rattle.bsi_files.specs.Ends.{tasks, AreEndsOf}
 use Rattle.bsi_files.specs.Faults.{is_early, is_late, is_of_schema}
-use Rattle.bsi_files.specs.Feeding.{HasFailed, StopsAfter}
+use Rattle.bsi_feeding.specs.Feeding.{HasFailed, StopsAfter}
 use Rattle.bsi_files.specs.Headers.{HasHeader, IsBehindHeaders, IsHeadersFault}
 use Rattle.bsi_files.specs.Matching.{AreMatched}
 use Rattle.bsi_files.specs.RowFiles.{RowFile}
@@ -30,7 +30,7 @@ use Rattle.bsi_files.specs.Writing.{Leaves}
 use Rattle.bsi_files.specs.declared.faults.FilesFault.{FilesFault}
 use Rattle.bsi_files.specs.declared.faults.FilesFault.TheVariants as run
 use Rattle.bsi_files.specs.declared.faults.Which.TheVariants as which
-use Rattle.bsi_files.specs.declared.feeding.FeedEnd.{FeedEnd}
+use Rattle.bsi_feeding.specs.declared.feeding.FeedEnd.{FeedEnd}
 use Rattle.bsi_files.specs.declared.loading.Fed.{Fed}
 use Rattle.bsi_files.proofs.Asking.{begun_join, HasBegun}
 use Rattle.bsi_files.proofs.Files.{matched_long, row_file, IsWholeLaw}

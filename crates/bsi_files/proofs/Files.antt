@@ -13,7 +13,7 @@ use Rattle.bsi_table.specs.Rows.{Entries, FedRow}
 use Rattle.bsi_text.specs.RowFiles.{bad_count, good_rows}
 use Rattle.bsi_text.specs.Sources.{HasTaken, IsOver, IsWholeFile, Layout, Source, StandsAfter, Tally}
 use Rattle.bsi_files.specs.Begun.{Begins}
-use Rattle.bsi_files.specs.Feeding.{IsReadOut}
+use Rattle.bsi_feeding.specs.Feeding.{IsReadOut}
 use Rattle.bsi_files.specs.Feds.{fed_counts, AreFedFrom, HasRun, IsAllFed, IsFedFrom}
 use Rattle.bsi_files.proofs.Mixing.{same_length}
 use Rattle.bsi_files.proofs.Showing.{in_order_too, lines_too}

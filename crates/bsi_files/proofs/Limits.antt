@@ -11,12 +11,12 @@ use Rattle.bsi_system.specs.Running.{taking_at, AlwaysHolds, Loading, System, Ta
 use Rattle.bsi_table.specs.Rows.{Entries, FedRow}
 use Rattle.bsi_text.specs.Sources.{Source}
 use Rattle.bsi_files.specs.Ends.{tasks, AreEndsOf, AreFeeders, IsEndOf}
-use Rattle.bsi_files.specs.Feeding.{HasFed}
+use Rattle.bsi_feeding.specs.Feeding.{HasFed}
 use Rattle.bsi_files.specs.Matching.{AreMatched}
 use Rattle.bsi_files.specs.Mixes.{in_order, AreAlike}
 use Rattle.bsi_files.specs.RunFaults.{AreOverLimit, HasGivenRows}
 use Rattle.bsi_files.specs.Takings.{all_closed, AreTold, IsFullBefore, IsTold, KeepsTold}
-use Rattle.bsi_files.specs.declared.feeding.FeedEnd.{FeedEnd}
+use Rattle.bsi_feeding.specs.declared.feeding.FeedEnd.{FeedEnd}
 use Rattle.bsi_files.specs.declared.loading.Fed.{Fed}
 use Rattle.bsi_files.proofs.Files.{matched_long}
 use Rattle.bsi_files.proofs.Mixing.{same_length}

@@ -13,8 +13,8 @@ use Rattle.bsi_text.specs.Sources.{Source}
 use Rattle.bsi_files.specs.Ends.{tasks, AreClosings, AreEndsOf, AreFeeders, IsEndOf}
 use Rattle.bsi_files.specs.Feds.{AreFedFrom, IsAllFed, IsFedFrom}
 use Rattle.bsi_files.specs.Takings.{all_taken, AreLoaded, AreTold, IsDrained, IsFine, IsFullAt, IsKept, IsLoaded, IsTold, KeepsOthers, KeepsTold, TakesOnlyOf}
-use Rattle.bsi_files.specs.Feeding.{HasFed, IsReadOut}
-use Rattle.bsi_files.specs.declared.feeding.FeedEnd.{FeedEnd}
+use Rattle.bsi_feeding.specs.Feeding.{HasFed, IsReadOut}
+use Rattle.bsi_feeding.specs.declared.feeding.FeedEnd.{FeedEnd}
 use Rattle.bsi_files.specs.declared.loading.Fed.{Fed}
 
 -- ---- one taking of a list

@@ -3,8 +3,8 @@ use Rattle.std.specs.Prelude.{◌≡◌, ◌≤◌, ⊤, ℕ, suc, List, [], ◌
 use Rattle.bsi_rings.specs.Rings.{Sending}
 use Rattle.bsi_system.specs.Running.{IsClosingOf, IsFeederOf, System}
 use Rattle.bsi_text.specs.Sources.{Source}
-use Rattle.bsi_files.specs.Feeding.{HasFailed, HasFed}
-use Rattle.bsi_files.specs.declared.feeding.FeedEnd.{FeedEnd}
+use Rattle.bsi_feeding.specs.Feeding.{HasFailed, HasFed}
+use Rattle.bsi_feeding.specs.declared.feeding.FeedEnd.{FeedEnd}
 use Rattle.bsi_files.specs.Matching.{AreMatched}
 
 -- what the end of a feeder tells of the feeder and of its source: the rows that were read, which its closing carries, and

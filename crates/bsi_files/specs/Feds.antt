@@ -5,7 +5,7 @@ use Rattle.bsi_records.specs.Numbers.{Field}
 use Rattle.bsi_table.specs.Columns.{Declared}
 use Rattle.bsi_table.specs.Rows.{FedRow}
 use Rattle.bsi_text.specs.Sources.{Source}
-use Rattle.bsi_files.specs.Feeding.{IsReadOut}
+use Rattle.bsi_feeding.specs.Feeding.{IsReadOut}
 use Rattle.bsi_files.specs.declared.loading.Fed.{Fed}
 use Rattle.bsi_files.specs.Runs.{AreLines}
 

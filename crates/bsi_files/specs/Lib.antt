@@ -4,7 +4,6 @@ pub mod Ends
 pub mod FaultTexts
 pub mod Faults
 pub mod Feds
-pub mod Feeding
 pub mod Headers
 pub mod Matching
 pub mod Mixes

@@ -10,7 +10,7 @@ use Rattle.bsi_text.specs.Sources.{Source}
 use Rattle.bsi_text.specs.Texts.{AreFirstRecords}
 use Rattle.bsi_text.specs.declared.rows.SourceFault.{SourceFault}
 use Rattle.bsi_text.specs.declared.rows.SourceFault.TheVariants as source
-use Rattle.bsi_files.specs.Feeding.{GivesRows, HasFailed, IsReadOut}
+use Rattle.bsi_feeding.specs.Feeding.{GivesRows, HasFailed, IsReadOut}
 use Rattle.bsi_files.specs.Headers.{HasHeader, IsFirstWithout}
 use Rattle.bsi_files.specs.Matching.{AreMatched}
 use Rattle.bsi_files.specs.RowFiles.{IsRowFile, RowFile}

@@ -3,7 +3,7 @@ use Rattle.std.specs.Prelude.{◌≡◌, ⊤, All, ℕ, suc, ◌+◌, ◌<◌, t
 use Rattle.std.specs.List.{list_all}
 use Rattle.bsi_table.specs.Rows.{Entries}
 use Rattle.bsi_system.specs.Running.{taking_at, AlwaysHolds, Loading, MayLoad, Taking}
-use Rattle.bsi_files.specs.declared.feeding.FeedEnd.{FeedEnd}
+use Rattle.bsi_feeding.specs.declared.feeding.FeedEnd.{FeedEnd}
 use Rattle.bsi_files.specs.declared.loading.Fed.{Fed}
 
 -- all that the closing carried

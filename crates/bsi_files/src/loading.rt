@@ -12,9 +12,9 @@ ghost use Rattle.bsi_files.specs.Faults.{is_early};
 ghost use Rattle.bsi_files.specs.RunFaults.{IsKeptFault, IsNotClosed, IsSourceFault};
 
 use crate::headers::file_number;
-use crate::pause::Pause;
 use crate::threads::Watch;
 use crate::{FeedEnd, FilesFault, Gate, NoMemory};
+use bsi_feeding::Pause;
 use bsi_system::{Closing, LoadRefused, Loader, Naming, Told};
 use bsi_text::SourceFault;
 use std::sync::Wait;

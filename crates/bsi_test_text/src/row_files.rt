@@ -17,7 +17,7 @@ fn narrow_once(alloc: Global) -> Result<Schema, SchemaError> {
 }
 
 // A refused growth is asked for again.
-fn narrow_schema(alloc: Global) -> Result<Schema, SchemaError> {
+pub(crate) fn narrow_schema(alloc: Global) -> Result<Schema, SchemaError> {
     match narrow_once(alloc) {
         Err(SchemaError::NoMemory) => narrow_once(alloc),
         made => made,
@@ -33,7 +33,7 @@ fn schema_once(alloc: Global) -> Result<Schema, SchemaError> {
 }
 
 // The columns a, of numbers below 16, and b, of numbers below 10; a refused growth is asked for again.
-fn schema_of(alloc: Global) -> Result<Schema, SchemaError> {
+pub(crate) fn schema_of(alloc: Global) -> Result<Schema, SchemaError> {
     match schema_once(alloc) {
         Err(SchemaError::NoMemory) => schema_once(alloc),
         made => made,

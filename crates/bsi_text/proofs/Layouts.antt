@@ -7,7 +7,7 @@ use Rattle.std.proofs.lemmas.List.{at_drop_more, get_or-map, length-append, leng
 use Rattle.std.proofs.lemmas.Simd.{map-map}
 use Rattle.std.proofs.lemmas.List.Folds.{list_all_more, list_all_at}
 use Rattle.std.proofs.lemmas.List.Sums.{prefix_len-drop_all}
-use Rattle.bsi_table.specs.Columns.{Declared, NamedColumn, column_at, is_between, is_taken_by, no_column}
+use Rattle.bsi_table.specs.Columns.{Declared}
 use Rattle.bsi_table.specs.Rows.{Entries}
 use Rattle.bsi_records.specs.Numbers.{Field, value_in, values_in}
 use Rattle.bsi_text.specs.RowFiles.{in_order, place_of}

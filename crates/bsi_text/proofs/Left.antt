@@ -1,6 +1,6 @@
 -- The rows that a source still has, and those that it gives of them.
 use Rattle.std.proofs.Common.{◌≡◌, ℕ, ◌+◌, List, [], ◌∷◌, ◌++◌, Option, Some, None, Result, Ok, Err, is_some, IsSome, IfOk, IfSome, MatchOption, length, refl, sym, ap, ap₂, subst, ◌∙◌, arith, Bool, true, false}
-use Rattle.std.proofs.lemmas.List.{append_assoc}
+use Rattle.std.proofs.lemmas.List.{append-nil, append_assoc}
 use Rattle.std.proofs.lemmas.List.Elements.{filter_map-append}
 use Rattle.std.proofs.lemmas.List.Sums.{sum_by-append}
 use mathlib.Core.List.{IsPrefix}
@@ -12,9 +12,10 @@ use Rattle.csv.specs.declared.reader.Reader.{Reader}
 use Rattle.bsi_table.specs.Rows.{Entries}
 use Rattle.bsi_records.specs.Numbers.{Field}
 use Rattle.bsi_text.specs.RowFiles.{bad_count, good_row, good_rows, given}
-use Rattle.bsi_text.specs.Sources.{AreLeft, GivesFirst, HasGiven, HasLeft, HasRead, HasTaken, IsOver, IsWholeFile, Layout, Source, StandsAfter, Tally, end_after, tally_of}
+use Rattle.bsi_text.specs.Sources.{AreLeft, End, GivesFirst, GivesFirstRows, HasEndedBy, HasGiven, HasGivenRows, HasLeft, HasRead, HasRest, HasTaken, IsOver, IsWholeFile, IsWithoutFault, Layout, Source, StandsAfter, Tally, end_after, tally_of}
 use Rattle.bsi_text.specs.declared.rows.SourceFault.{SourceFault}
 use Rattle.bsi_text.proofs.AllRecords.{all_records, one_reading, records_behind}
+use Rattle.bsi_text.proofs.Joining.{taken_both}
 use Rattle.bsi_text.proofs.Taking.{bad_one}
 
 -- an option that is not there is not there
@@ -183,6 +184,48 @@ module _ {R : Type 0} (rem : R → Option (List ℕ)) where
     fills_first old new (Err fault) row same going layout_is goes has = tt
     fills_first old new (Ok true) row same going layout_is goes has = gives_first old new (Ok (Some row)) same going layout_is goes has
     fills_first old new (Ok false) row same going layout_is goes has = gives_first old new (Ok None) same going layout_is goes has
+
+    -- a call that gives several rows gives the first ones, and all of them where it meets the end
+    pub gives_rows : (old new : Source R) (rows : List Entries) → old.layout ≡ layout → old.end ≡ None → new.layout ≡ layout
+        → HasGivenRows rem layout old.input new.input old.tally new.tally rows new.end → GivesFirstRows rem old new rows
+    gives_rows old new rows same going layout_is gave = λ all others still.
+        let has : HasLeft rem layout old.input all others =
+        subst (λ l. HasLeft rem l old.input all others) same
+        (subst (λ end. MatchOption end (HasLeft rem old.layout old.input all others) (λ e. (all ≡ []) × (others ≡ 0))) going still) in
+        by all others has new.end refl gave.behind
+      where
+        by : (all : List Entries) (others : ℕ) → HasLeft rem layout old.input all others → (end : End) → new.end ≡ end
+            → MatchOption end ((gave.at ≡ new.input) × (gave.middle ≡ new.tally)) (HasEndedBy rem layout gave.at gave.middle new.tally)
+            → (rest : List Entries) × (all ≡ rows ++ rest) × (IsWithoutFault new → HasRest rem old new rest others)
+        by all others has None is behind =
+            let both = parts old.input gave.at old.tally gave.middle rows all others gave.taken has in
+            let rest = good_rows layout.schema layout.header both.rest in
+            let left = bad_count layout.schema layout.header both.rest in
+            let kept : HasLeft rem layout gave.at rest left = record { records = both.rest; left = both.left; good = refl; others = refl } in (
+              rest,
+              sym both.all,
+              λ fine. record {
+                left = left;
+                still = subst (λ end. MatchOption end (HasLeft rem new.layout new.input rest left) (λ e. (rest ≡ []) × (left ≡ 0))) (sym is)
+                    (subst (λ l. HasLeft rem l new.input rest left) (sym layout_is) (subst (λ input. HasLeft rem layout input rest left) behind.0 kept));
+                count = subst (λ (tally : Tally). tally.bad + left ≡ old.tally.bad + others) behind.1 both.bads;
+              },
+            )
+        by all others has (Some (Ok done)) is behind =
+            let taken = subst (λ xs. HasTaken rem layout old.input behind.at old.tally new.tally xs) (append-nil rows)
+            (taken_both rem layout old.input gave.at behind.at old.tally gave.middle new.tally rows [] gave.taken behind.taken) in
+            let whole = whole_rows old.input behind.at old.tally new.tally rows all others taken behind.over has in (
+              [],
+              sym (append-nil rows ∙ whole.0),
+              λ fine. record {
+                left = 0;
+                still = subst (λ end. MatchOption end (HasLeft rem new.layout new.input [] 0) (λ e. (◌≡◌ {A = List Entries} [] []) × (◌≡◌ {A = ℕ} 0 0))) (sym is) (refl, refl);
+                count = omega (arith, whole.1);
+              },
+            )
+        by all others has (Some (Err fault)) is behind =
+            let first = first_rows old.input gave.at old.tally gave.middle rows all others gave.taken has in
+            (first.0, sym first.1, λ fine. absurd (fine fault is))
 
     -- what is left after the header is all of a file
     pub left_of_file : (input : Reader R) (text : List ℕ) (rows : List Entries) (n : ℕ) → StandsAfter rem layout input text → HasLeft rem layout input rows n

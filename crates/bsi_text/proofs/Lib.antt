@@ -1,5 +1,6 @@
 mod AllRecords
 pub mod Determined
+mod Filling
 mod Joining
 mod Layouts
 mod Left

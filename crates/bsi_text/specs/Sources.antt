@@ -1,5 +1,5 @@
 -- The source of the rows of a row file.
-use Rattle.std.specs.Prelude.{◌≡◌, ◌≢◌, ◌⊎◌, ℕ, ◌+◌, ◌≤◌, List, [], ◌∷◌, Option, None, Some, Result, Ok, IsSome, IsTrue, IfSome, length, Bool, true, false, MatchOption}
+use Rattle.std.specs.Prelude.{◌≡◌, ◌≢◌, ◌⊎◌, ◌↔◌, ℕ, ◌+◌, ◌≤◌, All, List, [], ◌∷◌, ◌++◌, Option, None, Some, Result, Ok, Err, IsSome, IsTrue, IfSome, length, Bool, true, false, MatchOption}
 use Rattle.csv.specs.Machine.{next_record}
 use Rattle.csv.specs.Reading.{AreRecords, Ready, Reached, default_config, is_flexible, is_io, reader_config, reader_state, reader_trim, source_of}
 use Rattle.csv.specs.declared.error.ErrorKind.{ErrorKind}
@@ -7,7 +7,8 @@ use Rattle.csv.specs.declared.error.ErrorKind.TheVariants as error
 use Rattle.csv.specs.declared.parser.State.TheVariants as st
 use Rattle.csv.specs.declared.reader.Reader.{Reader}
 use Rattle.csv.specs.declared.reader.Trim.TheVariants as trim
-use Rattle.bsi_table.specs.Columns.{Declared}
+use Rattle.bsi_table.specs.Columns.{fits, Declared}
+use Rattle.bsi_table.specs.RowBlocks.{fed_as, RowBlock}
 use Rattle.bsi_table.specs.Rows.{Entries}
 use Rattle.bsi_records.specs.Numbers.{Field}
 use Rattle.bsi_text.specs.RowFiles.{bad_count, good_rows, is_header}
@@ -143,6 +144,66 @@ GivesFirst rem old new found =
     → MatchOption found ((rows ≡ []) × (new.tally.bad ≡ old.tally.bad + bad))
     (λ row. (rest : List Entries) × (left : ℕ) × (rows ≡ row ∷ rest) × StillHas rem new rest left
     × (new.tally.bad + left ≡ old.tally.bad + bad))
+
+-- ---- blocks that are filled
+
+-- the rows stand last in a block, each from this feeder
+abbrev pub with_fed_rows : RowBlock → ℕ → List Entries → RowBlock
+with_fed_rows block feeder rows = record block { rows = block.rows ++ fed_as feeder rows }
+
+-- how a source ended: all records that were left are bad, or a fault was met
+abbrev pub HasEndedBy : {R : Type 0} → (R → Option (List ℕ)) → Layout → Reader R → Tally → Tally
+    → Result (Unit {0}) SourceFault → Type 0
+HasEndedBy rem layout at before after (Ok done) = HasEnded rem layout at before after
+HasEndedBy rem layout at before after (Err fault) = HasStopped rem layout at before after fault
+
+-- how a source stands after a call that takes records until it finds enough or none is left
+abbrev pub end_of : Result Bool SourceFault → End
+end_of (Ok more) = end_after more
+end_of (Err fault) = Some (Err fault)
+
+-- a reader gave the rows of the good ones of the records that were taken, and goes on or, behind them, has ended
+pub record HasGivenRows {R : Type 0} (rem : R → Option (List ℕ)) (layout : Layout) (old new : Reader R)
+    (before after : Tally) (rows : List Entries) (end : End) : Type 0 where
+  pub at : Reader R
+  pub middle : Tally
+  pub taken : HasTaken rem layout old at before middle rows
+  pub behind : MatchOption end ((at ≡ new) × (middle ≡ after)) (HasEndedBy rem layout at middle after)
+
+-- the rows that a reader gave were put into a block, and it goes on just where the block is full
+pub record PutsRows {R : Type 0} (rem : R → Option (List ℕ)) (layout : Layout) (old new : Reader R)
+    (before after : Tally) (feeder : ℕ) (start full : RowBlock) (end : End) : Type 0 where
+  pub rows : List Entries
+  pub added : full ≡ with_fed_rows start feeder rows
+  pub fitting : All (λ row. IsTrue (fits layout.schema.columns row)) rows
+  pub given : HasGivenRows rem layout old new before after rows end
+  pub goes_on : (end ≡ None) ↔ (length full.rows ≡ 64)
+
+-- a source met no fault
+abbrev pub IsWithoutFault : {R : Type 0} → Source R → Type 0
+IsWithoutFault source = (fault : SourceFault) → source.end ≢ Some (Err fault)
+
+-- of the good rows that a source still had and of all other records, it has the rest
+pub record HasRest {R : Type 0} (rem : R → Option (List ℕ)) (old new : Source R) (rest : List Entries) (others : ℕ)
+    : Type 0 where
+  pub left : ℕ
+  pub still : StillHas rem new rest left
+  pub count : new.tally.bad + left ≡ old.tally.bad + others
+
+-- the rows are the first of those that a source still had, which has the others now unless it met a fault. Bad records
+-- were counted.
+abbrev pub GivesFirstRows : {R : Type 0} → (R → Option (List ℕ)) → Source R → Source R → List Entries → Type 0
+GivesFirstRows rem old new rows =
+    (all : List Entries) → (others : ℕ) → StillHas rem old all others
+    → (rest : List Entries) × (all ≡ rows ++ rest) × (IsWithoutFault new → HasRest rem old new rest others)
+
+-- a source that had not ended put the next rows into a block: the first of those that it still had
+pub record Fills {R : Type 0} (rem : R → Option (List ℕ)) (old new : Source R) (feeder : ℕ) (start full : RowBlock)
+    : Type 0 where
+  pub puts : PutsRows rem old.layout old.input new.input old.tally new.tally feeder start full new.end
+  pub first : GivesFirstRows rem old new puts.rows
+
+-- ---- the first record
 
 -- a reader stands after the first record of a text, which is the header
 abbrev pub StandsAfter : {R : Type 0} → (R → Option (List ℕ)) → Layout → Reader R → List ℕ → Type 0

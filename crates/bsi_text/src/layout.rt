@@ -2,26 +2,28 @@
 //!
 //! The header is tested as it is defined, once a file: each column has one field, and each field is a column.
 
-ghost use Rattle.std.specs.Prelude.{◌≡◌, [], if◌then◌else◌, map, count_by, Some, None, true, IfOk, IsTrue, OnOk};
+ghost use Rattle.std.specs.Prelude.{◌≡◌, ◌<◌, [], if◌then◌else◌, length, map, count_by, Some, None, true, false, IfOk, IsTrue, OnErr, OnOk};
 ghost use Rattle.std.specs.List.{list_all};
 ghost use Rattle.std.specs.Str.{bytes_eq};
 ghost use Rattle.csv.specs.Records.{fields_of};
 ghost use Rattle.bsi_table.specs.Columns.{fits};
+ghost use Rattle.bsi_table.specs.RowBlocks.{no_block_rows, with_block_row, AreAlike};
 ghost use Rattle.bsi_records.specs.Numbers.{values_in};
 ghost use Rattle.bsi_text.specs.RowFiles.{given, good_row, in_order, is_header, is_known, is_named_once, place_of};
 
 use crate::NoMemory;
 use bsi_records::{field, read_value};
-use bsi_table::{Row, Schema};
+use bsi_table::{Block, Row, Schema};
 use csv::ByteRecord;
 use std::alloc::Global;
 use std::marker::Model;
 use std::mem;
+use std::sync::Arc;
 
 /// The columns of a row file, with, for each column, the place of its field in a record.
 #[derive(Drop)]
 pub(crate) struct Layout {
-    schema: Schema,
+    schema: Arc<Schema, Global>,
     header: ByteRecord,
     places: Vec<usize>,
 }
@@ -35,10 +37,10 @@ impl Model for Layout {
 
     ghost Value = { Layout };
 
-    ghost view = { λ l. record { schema = l.schema; header = fields_of l.header } };
+    ghost view = { λ l. record { schema = l.schema.value; header = fields_of l.header } };
 
     ghost invariant = { λ l. l.places.items
-        ≡ map (λ column. place_of (fields_of l.header) column.name) l.schema.columns };
+        ≡ map (λ column. place_of (fields_of l.header) column.name) l.schema.value.columns };
 }
 
 impl Layout {
@@ -56,12 +58,19 @@ impl Layout {
             return Ok(None);
         }
         let places = places_of(alloc, schema, &header)?;
-        let schema = schema.copy()?;
+        let schema = Arc::new(alloc, schema.copy()?)?;
         Ok(Some(Layout {
             schema,
             header,
             places,
         }))
+    }
+
+    /// Makes a block of no rows for the rows of such files, each from one of so many feeders.
+    pub(crate) fn block(&self, alloc: Global, feeders: u32) -> Result<Block, NoMemory>
+        ensures { IfOk result (λ block. block ≡ no_block_rows self.now.schema feeders) }
+    {
+        Block::new(alloc, &self.schema, feeders)
     }
 
     /// Empties a row, and makes room in it for an entry of each column.
@@ -94,6 +103,37 @@ impl Layout {
             return Ok(false);
         }
         Ok(self.schema.fits(row))
+    }
+
+    /// Reads a record into a row, adds this to a block if the record is good, and returns whether it is. The block tests
+    /// whether the row fits.
+    pub(crate) fn add(
+        &self,
+        alloc: Global,
+        fields: &ByteRecord,
+        row: &mut Row,
+        feeder: u32,
+        block: &mut Block,
+    ) -> Result<bool, NoMemory>
+        requires alike { AreAlike block.old.schema self.now.schema }
+        requires room { length block.old.rows < 64 }
+        requires feeder { feeder < block.old.feeders }
+        ensures row { IfOk result (λ good. given good row.new
+            ≡ good_row self.now.schema self.now.header (fields_of fields.now)) }
+        ensures fits { IfOk result (λ good. good ≡ true →
+            IsTrue (fits self.now.schema.columns row.new)) }
+        ensures added { IfOk result (λ good. good ≡ true →
+            block.new ≡ with_block_row block.old feeder row.new) }
+        ensures kept { IfOk result (λ good. good ≡ false → block.new ≡ block.old) }
+        ensures same { OnErr result (block.new ≡ block.old) }
+    {
+        if fields.len() != self.header.len() {
+            return Ok(false);
+        }
+        if !self.read_values(alloc, fields, row)? {
+            return Ok(false);
+        }
+        Ok(block.push(feeder, row))
     }
 
     /// Reads the fields of a record in the order of the columns, and returns whether each is a value.

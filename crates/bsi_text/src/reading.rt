@@ -1,10 +1,11 @@
 //! Readers of records, and their records one after another.
 
-ghost use Rattle.std.specs.Prelude.{◌≡◌, Err, IfErr, IfOk, OnOk, Some, option_map};
+ghost use Rattle.std.specs.Prelude.{◌≡◌, ◌≤◌, Err, IfErr, IfOk, OnOk, Some, option_map};
 ghost use Rattle.csv.specs.Reading.{ReadRecord, error_kind, reader_state, source_of, strip_bom};
 ghost use Rattle.csv.specs.Records.{fields_of};
 ghost use Rattle.csv.specs.declared.parser.State.TheVariants as st;
-ghost use Rattle.bsi_text.specs.Sources.{end_after, IsPlain, IsReadFault};
+ghost use Rattle.bsi_text.specs.RecordTexts.{Stops, TakesRecord};
+ghost use Rattle.bsi_text.specs.Sources.{end_after, max_records, IsPlain, IsReadFault};
 
 use crate::rows::SourceFault;
 use csv::{ByteRecord, Reader, ReaderBuilder};
@@ -38,6 +39,30 @@ pub(crate) fn read_next<R: Read + Drop>(
     ensures fault { IfErr result (λ e. IsReadFault (error_kind e)) }
 {
     input.read_byte_record(fields)
+}
+
+/// Takes the next record, if it is one of the first 1,000,000.
+pub(crate) fn take_record<R: Read + Drop>(
+    input: &mut Reader<R>,
+    fields: &mut ByteRecord,
+    taken: &mut u64,
+) -> Result<bool, SourceFault>
+    requires plain { IsPlain input.old }
+    requires few { taken.old ≤ max_records }
+    ensures taken { IfOk result
+        (TakesRecord R.remaining input.old input.new taken.old taken.new (fields_of fields.new)) }
+    ensures stopped { IfErr result (Stops R.remaining input.old taken.old taken.new) }
+    ensures few { taken.new ≤ max_records }
+    ensures plain { OnOk result (IsPlain input.new) }
+{
+    if !read_next(input, fields)? {
+        return Ok(false);
+    }
+    if *taken == MAX_RECORDS {
+        return Err(SourceFault::TooLong);
+    }
+    *taken += 1;
+    Ok(true)
 }
 
 /// Returns how a source stands after a call: it has ended if no record was found, or by a fault.

@@ -3,16 +3,18 @@
 //! The room of a row is asked for before a record is taken, so a bad record takes none. An ended source has no rows
 //! left because it has ended: no clause of `csv` says that its reader is over.
 
-ghost use Rattle.std.specs.Prelude.{◌≡◌, ◌≢◌, ◌≤◌, Option, Some, None, Ok, Err, true, false, is_some, IfOk, IfErr, IfSome, IsTrue, OnOk};
+ghost use Rattle.std.specs.Prelude.{◌≡◌, ◌≢◌, ◌<◌, ◌≤◌, Option, Some, None, Ok, Err, true, false, is_some, length, IfOk, IfErr, IfSome, IsTrue, OnOk};
 ghost use Rattle.csv.specs.Reading.{reader_state, source_of, strip_bom};
 ghost use Rattle.csv.specs.declared.parser.State.TheVariants as st;
 ghost use Rattle.bsi_table.specs.Columns.{fits};
+ghost use Rattle.bsi_table.specs.RowBlocks.{no_block_rows, AreAlike};
 ghost use Rattle.bsi_text.specs.RowFiles.{given, is_header};
-ghost use Rattle.bsi_text.specs.Sources.{end_after, max_records, tally_of, GivesFirst, HasGiven, HasNoHeader, HasStopped, IsPlain, IsTally, StandsAfter};
+ghost use Rattle.bsi_text.specs.Sources.{end_after, end_of, max_records, tally_of, Fills, GivesFirst, HasGiven, HasNoHeader, HasStopped, IsPlain, IsTally, PutsRows, StandsAfter};
 
+use crate::NoMemory;
 use crate::layout::Layout;
-use crate::reading::{MAX_RECORDS, end_after, plain_reader, read_next};
-use bsi_table::{Row, Schema};
+use crate::reading::{MAX_RECORDS, end_after, plain_reader, read_next, take_record};
+use bsi_table::{Block, MAX_BLOCK_ROWS, Row, Schema};
 use csv::{ByteRecord, Reader};
 use std::alloc::{AllocError, Global};
 use std::error::Error;
@@ -205,6 +207,57 @@ impl<R: Read + Drop> RowSource<R> {
         found
     }
 
+    /// Makes a block of no rows for the rows of this source, each from one of so many feeders.
+    pub fn block(&self, feeders: u32) -> Result<Block, NoMemory>
+        ensures { IfOk result (λ block. block ≡ no_block_rows self.now.layout.schema feeders) }
+    {
+        self.layout.block(self.alloc, feeders)
+    }
+
+    /// Adds the rows of the next good records to a block, each as one of this feeder, until the block has 64 rows or no
+    /// record is left. It works as so many calls of `next_row` do, but it allocates memory for one row alone. A fault
+    /// that is met once a row was added is left to the next call.
+    pub fn fill(&mut self, feeder: u32, block: &mut Block) -> Result<(), SourceFault>
+        requires alike { AreAlike block.old.schema self.old.layout.schema }
+        requires room { length block.old.rows < 64 }
+        requires feeder { feeder < block.old.feeders }
+        ensures failed { (fault : SourceFault) → self.old.end ≡ Some (Err fault) →
+            (result ≡ Err fault) × (self.new ≡ self.old) }
+        ensures ended { self.old.end ≡ Some (Ok tt) → (result ≡ Ok tt) × (self.new ≡ self.old)
+            × (block.new ≡ block.old) }
+
+        // The rows that stand in the block now are the next ones that the source still had; they fit. Unless the block
+        // is full, the source has ended. No more records are taken than may be.
+        ensures filled { self.old.end ≡ None →
+            Fills R.remaining self.old self.new feeder block.old block.new }
+        ensures stopped { IfErr result (λ fault. (self.new.end ≡ Some (Err fault))
+            × (block.new ≡ block.old)) }
+        ensures later { OnOk result ((fault : SourceFault) → self.new.end ≡ Some (Err fault) →
+            length block.old.rows < length block.new.rows) }
+        ensures same { self.new.layout ≡ self.old.layout }
+        ensures few { self.new.tally.taken ≤ max_records }
+    {
+        if let Some(end) = self.end {
+            return end;
+        }
+        let before = block.len();
+        let full = put_rows(
+            self.alloc,
+            &self.layout,
+            &mut self.input,
+            &mut self.fields,
+            feeder,
+            block,
+            &mut self.taken,
+            &mut self.bad,
+        );
+        self.end = end_after(full);
+        if block.len() == before {
+            full?;
+        }
+        Ok(())
+    }
+
     /// Returns how many bad records were passed over so far, at most 1,000,000.
     pub fn bad(&self) -> u64
         ensures bad { result ≡ self.now.tally.bad }
@@ -279,4 +332,43 @@ fn take_row<R: Read + Drop>(
         return Err(SourceFault::TooLong);
     }
     Ok(false)
+}
+
+/// Takes records and puts the rows of the good ones into a block until it is full, and returns whether it is. It asks
+/// first for the room of one row, and reads each record into this.
+fn put_rows<R: Read + Drop>(
+    alloc: Global,
+    layout: &Layout,
+    input: &mut Reader<R>,
+    fields: &mut ByteRecord,
+    feeder: u32,
+    block: &mut Block,
+    taken: &mut u64,
+    bad: &mut u64,
+) -> Result<bool, SourceFault>
+    requires plain { IsPlain input.old }
+    requires tally { IsTally (tally_of taken.old bad.old) }
+    requires alike { AreAlike block.old.schema layout.now.schema }
+    requires room { length block.old.rows < 64 }
+    requires feeder { feeder < block.old.feeders }
+    ensures puts { PutsRows R.remaining layout.now input.old input.new (tally_of taken.old bad.old)
+        (tally_of taken.new bad.new) feeder block.old block.new (end_of result) }
+    ensures plain { OnOk result (IsPlain input.new) }
+    ensures tally { IsTally (tally_of taken.new bad.new) }
+{
+    let mut row = Row::new(Vec::new(alloc));
+    layout.make_room(alloc, &mut row)?;
+    'records: while block.len() < MAX_BLOCK_ROWS {
+        // A record counts once its fields have been read.
+        let mut count = *taken;
+        if !take_record(input, fields, &mut count)? {
+            return Ok(false);
+        }
+        let good = layout.add(alloc, fields, &mut row, feeder, block)?;
+        *taken = count;
+        if !good {
+            *bad += 1;
+        }
+    }
+    Ok(true)
 }

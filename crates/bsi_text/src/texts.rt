@@ -1,13 +1,13 @@
 //! The records of a text, one after another.
 
-ghost use Rattle.std.specs.Prelude.{◌≡◌, ◌≤◌, Some, None, Ok, Err, false, option_map, IfErr, IfOk, OnOk};
+ghost use Rattle.std.specs.Prelude.{◌≡◌, ◌≤◌, Some, None, Ok, Err, false, option_map, IfErr, IfOk};
 ghost use Rattle.csv.specs.Reading.{reader_state, source_of, strip_bom};
 ghost use Rattle.csv.specs.Records.{fields_of};
 ghost use Rattle.csv.specs.declared.parser.State.TheVariants as st;
-ghost use Rattle.bsi_text.specs.RecordTexts.{Stops, StopsAt, TakesNext, TakesRecord};
-ghost use Rattle.bsi_text.specs.Sources.{max_records, IsPlain};
+ghost use Rattle.bsi_text.specs.RecordTexts.{StopsAt, TakesNext};
+ghost use Rattle.bsi_text.specs.Sources.{max_records};
 
-use crate::reading::{MAX_RECORDS, end_after, plain_reader, read_next};
+use crate::reading::{end_after, plain_reader, take_record};
 use crate::rows::SourceFault;
 use csv::{ByteRecord, Reader};
 use std::alloc::Global;
@@ -71,28 +71,4 @@ impl<R: Read + Drop> RecordSource<R> {
         self.end = end_after(found);
         found
     }
-}
-
-/// Takes the next record, if it is one of the first 1,000,000.
-fn take_record<R: Read + Drop>(
-    input: &mut Reader<R>,
-    fields: &mut ByteRecord,
-    taken: &mut u64,
-) -> Result<bool, SourceFault>
-    requires plain { IsPlain input.old }
-    requires few { taken.old ≤ max_records }
-    ensures taken { IfOk result
-        (TakesRecord R.remaining input.old input.new taken.old taken.new (fields_of fields.new)) }
-    ensures stopped { IfErr result (Stops R.remaining input.old taken.old taken.new) }
-    ensures few { taken.new ≤ max_records }
-    ensures plain { OnOk result (IsPlain input.new) }
-{
-    if !read_next(input, fields)? {
-        return Ok(false);
-    }
-    if *taken == MAX_RECORDS {
-        return Err(SourceFault::TooLong);
-    }
-    *taken += 1;
-    Ok(true)
 }

@@ -2,7 +2,7 @@ use Rattle.std.proofs.Common.{true, refl, rules}
 use Rattle.csv.specs.Reading.{ReadRecord}
 use Rattle.csv.specs.Records.{fields_of}
 use Rattle.bsi_text.proofs.Taking.{one_read}
-use Rattle.bsi_text.proofs.texts.take_record.Goals as goal
+use Rattle.bsi_text.proofs.reading.take_record.Goals as goal
 
 pub returns-clause-taken : goal.returns-clause-taken
 returns-clause-taken g c =

@@ -1,14 +1,14 @@
 -- What a feeder that reads a row file sends.
-use Rattle.std.specs.Prelude.{◌≡◌, ◌≤◌, ℕ, ◌+◌, false, List, [], ◌∷◌, ◌++◌, Option, Some, None, Err, IfSome, length, MatchOption}
+use Rattle.std.specs.Prelude.{◌≡◌, ◌≤◌, ℕ, ◌+◌, false, List, ◌++◌, Option, None, Ok, Err, IfSome, length, MatchOption}
 use Rattle.csv.specs.declared.reader.Reader.{Reader}
 use mathlib.Core.List.{IsPrefix}
-use Rattle.bsi_rings.specs.Rings.{with_sent, Sending}
+use Rattle.bsi_rings.specs.Rings.{with_sent_rows, Sending}
 use Rattle.bsi_table.specs.Rows.{Entries}
-use Rattle.bsi_text.specs.Sources.{GivesFirst, HasEnded, HasStopped, HasTaken, IsOver, Source, StillHas, Tally}
+use Rattle.bsi_text.specs.Sources.{GivesFirst, GivesFirstRows, HasEnded, HasGivenRows, HasStopped, HasTaken, IsOver, Source, StillHas, Tally}
 use Rattle.bsi_text.specs.declared.rows.SourceFault.{SourceFault}
-use Rattle.bsi_files.specs.declared.feeding.FeedEnd.{FeedEnd}
-use Rattle.bsi_files.specs.declared.feeding.Turn.{Turn}
-use Rattle.bsi_files.specs.declared.feeding.Turn.TheVariants as turn
+use Rattle.bsi_feeding.specs.declared.feeding.FeedEnd.{FeedEnd}
+use Rattle.bsi_feeding.specs.declared.feeding.Turn.{Turn}
+use Rattle.bsi_feeding.specs.declared.feeding.Turn.TheVariants as turn
 
 -- the rows are the first good ones that a source still had
 abbrev pub BeginsWith : {R : Type 0} → (R → Option (List ℕ)) → Source R → List Entries → Type 0
@@ -63,31 +63,32 @@ pub record StopsAfter {R : Type 0} (rem : R → Option (List ℕ)) (source : Sou
 abbrev pub HasFailed : {R : Type 0} → (R → Option (List ℕ)) → Source R → ℕ → SourceFault → Type 0
 HasFailed rem source many fault = MatchOption source.end (StopsAfter rem source many fault) (λ end. end ≡ Err fault)
 
--- a source of which more was to be read gave the row, and more may be read
-pub record GivesNext {R : Type 0} (rem : R → Option (List ℕ)) (old new : Source R) (row : Entries) : Type 0 where
+-- a source of which more was to be read gave these rows, the next ones
+pub record GivesNext {R : Type 0} (rem : R → Option (List ℕ)) (old new : Source R) (rows : List Entries) : Type 0 where
   pub before : old.end ≡ None
-  pub after : new.end ≡ None
   pub layout : new.layout ≡ old.layout
-  pub taken : HasTaken rem old.layout old.input new.input old.tally new.tally (row ∷ [])
+  pub given : HasGivenRows rem old.layout old.input new.input old.tally new.tally rows new.end
+  pub first : GivesFirstRows rem old new rows
   pub few : new.tally.taken ≤ 1000000
 
--- the fault is that by which a source had ended, or at which it stopped without giving a row
+-- the fault is that by which a source had ended, or at which it stopped without giving a row more
 abbrev pub FailsNow : {R : Type 0} → (R → Option (List ℕ)) → Source R → SourceFault → Type 0
 FailsNow rem source fault =
     MatchOption source.end ((end : Tally) × HasStopped rem source.layout source.input source.tally end fault)
     (λ end. end ≡ Err fault)
 
--- a source of which more was to be read gave no row more: all records that were left are bad
+-- a source gave no row more: all records that were left are bad, or it had ended with all that there is
 pub record GivesNone {R : Type 0} (rem : R → Option (List ℕ)) (old new : Source R) : Type 0 where
-  pub ended : old.end ≡ None → HasEnded rem old.layout old.input old.tally new.tally
+  pub ended : MatchOption old.end (HasEnded rem old.layout old.input old.tally new.tally)
+      (λ end. (end ≡ Ok tt) × (new ≡ old))
   pub few : new.tally.taken ≤ 1000000
 
--- what came of one turn: the first row that the source still had was sent, or nothing was, and there is then none left
--- where the turn says so
+-- what came of one turn: the first rows that the source still had were sent, at most 64, or nothing was, and there is
+-- then none left where the turn says so
 abbrev pub IsFeederTurn : {R : Type 0} → (R → Option (List ℕ)) → Sending → Source R → Turn → Sending → Source R → Type 0
-IsFeederTurn rem feeder source turn.Sent after rest =
-    (row : Entries) × (after ≡ with_sent feeder row) × GivesFirst rem source rest (Some row)
-    × GivesNext rem source rest row
+IsFeederTurn rem feeder source (turn.Sent many) after rest =
+    (rows : List Entries) × (length rows ≡ many) × (many ≤ 64) × (after ≡ with_sent_rows feeder rows)
+    × GivesNext rem source rest rows
 IsFeederTurn rem feeder source turn.Over after rest = (after ≡ feeder) × GivesFirst rem source rest None
     × GivesNone rem source rest
 IsFeederTurn rem feeder source turn.Stopped after rest = after ≡ feeder

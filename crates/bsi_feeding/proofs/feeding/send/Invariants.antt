@@ -1,5 +1,5 @@
 use Rattle.std.proofs.Common.{◌≡◌}
-use Rattle.bsi_files.proofs.feeding.send.Given as goal
+use Rattle.bsi_feeding.proofs.feeding.send.Given as goal
 
 -- the row was not sent yet
 abbrev pub invariant-tries : goal.invariant-tries

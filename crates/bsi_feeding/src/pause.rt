@@ -17,18 +17,18 @@ const SLEEP_MICROS: u64 = 100;
 /// How long one thread has waited since it last had something to do. Its calls have no clauses, because nothing is
 /// proved of how long a thread waits.
 #[derive(Clone, Copy)]
-pub(crate) struct Pause {
+pub struct Pause {
     yields: u32,
 }
 
 impl Pause {
     /// Makes the state of a thread that has not waited yet.
-    pub(crate) fn new() -> Pause {
+    pub fn new() -> Pause {
         Pause { yields: 0 }
     }
 
     /// Yields the processor or, once it has yielded 16 times, sleeps for 100 microseconds.
-    pub(crate) fn wait<R: Wait>(&mut self, rt: &R) {
+    pub fn wait<R: Wait>(&mut self, rt: &R) {
         if self.yields < MAX_YIELDS {
             self.yields += 1;
             thread::yield_now();

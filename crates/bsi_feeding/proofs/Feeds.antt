@@ -1,0 +1,245 @@
+-- What a feeder has sent so far of a source.
+use Rattle.std.proofs.Common.{◌≡◌, ℕ, ◌+◌, ◌≤◌, false, List, [], ◌++◌, Option, Some, None, IfSome, length, refl, sym, ap, ◌∙◌, subst, arith, length-append}
+use Rattle.std.specs.Prelude.{Ok, Err, MatchOption}
+use Rattle.std.proofs.lemmas.List.{append_assoc, append-nil}
+use Rattle.bsi_rings.specs.Rings.{with_sent_rows, Sending}
+use Rattle.bsi_table.specs.Rows.{Entries}
+use Rattle.csv.specs.declared.reader.Reader.{Reader}
+use Rattle.bsi_text.specs.Sources.{End, GivesFirst, GivesFirstRows, HasEnded, HasEndedBy, HasGivenRows, HasStopped, HasTaken, IsWithoutFault, Layout, Source, Tally}
+use Rattle.bsi_text.specs.declared.rows.SourceFault.{SourceFault}
+use Rattle.bsi_feeding.specs.declared.feeding.FeedEnd.{FeedEnd}
+use Rattle.bsi_feeding.specs.Feeding.{FailsNow, GivesNext, GivesNone, GivesRows, HasFailed, HasFed, HasOnly, IsReadOut, StopsAfter}
+
+-- what follows for each value follows for one that is there
+pub of_some : {A : Type 0} {P Q : A → Type 0} (found : Option A) → IfSome found P → ((x : A) → P x → Q x) → IfSome found Q
+of_some None is follows = tt
+of_some (Some x) is follows = follows x is
+
+module _ {R : Type 0} (rem : R → Option (List ℕ)) where
+  -- what several calls took is taken as by one
+  abbrev pub JoinsTaken : Type 0
+  JoinsTaken = (layout : Layout) → (a b c : Reader R) → (start middle end : Tally) → (xs ys : List Entries)
+      → HasTaken rem layout a b start middle xs → HasTaken rem layout b c middle end ys → HasTaken rem layout a c start end (xs ++ ys)
+
+  -- where a source stands behind the rows that it gave
+  abbrev pub Behind : Layout → Reader R → Reader R → Tally → Tally → End → Type 0
+  Behind layout at new middle after end = MatchOption end ((at ≡ new) × (middle ≡ after)) (HasEndedBy rem layout at middle after)
+
+  -- no record is counted twice
+  counts_up : (layout : Layout) (at new : Reader R) (middle after : Tally) (end : End) → Behind layout at new middle after end → middle.taken ≤ after.taken
+  counts_up layout at new middle after None behind = subst (λ (tally : Tally). middle.taken ≤ tally.taken) behind.1 (omega arith)
+  counts_up layout at new middle after (Some (Ok done)) behind = omega (arith, behind.taken.taken)
+  counts_up layout at new middle after (Some (Err fault)) behind = omega (arith, behind.taken.taken)
+
+  -- rows that were taken, and then others
+  give_on : JoinsTaken → (layout : Layout) (a b c : Reader R) (start middle after : Tally) (xs ys : List Entries) (end : End)
+      → HasTaken rem layout a b start middle xs → HasGivenRows rem layout b c middle after ys end → HasGivenRows rem layout a c start after (xs ++ ys) end
+  give_on join layout a b c start middle after xs ys end taken gave = record {
+    at = gave.at;
+    middle = gave.middle;
+    taken = join layout a b gave.at start middle gave.middle xs ys taken gave.taken;
+    behind = gave.behind;
+  }
+
+  -- a source has given these rows, and may go on or has ended
+  pub record HasGone (old new : Source R) (rows : List Entries) : Type 0 where
+    pub layout : new.layout ≡ old.layout
+    pub given : MatchOption old.end (HasGivenRows rem old.layout old.input new.input old.tally new.tally rows new.end) (λ end. (rows ≡ []) × (new ≡ old))
+    pub few : old.tally.taken ≤ 1000000 → new.tally.taken ≤ 1000000
+
+  module _ (old new : Source R) (rows : List Entries) (gone : HasGone old new rows) where
+    -- one that had not ended
+    was_open : old.end ≡ None → HasGivenRows rem old.layout old.input new.input old.tally new.tally rows new.end
+    was_open going =
+        subst (λ end. MatchOption end (HasGivenRows rem old.layout old.input new.input old.tally new.tally rows new.end) (λ e. (rows ≡ []) × (new ≡ old))) going gone.given
+
+    -- one that may go on
+    is_open : new.end ≡ None → (old.end ≡ None) × HasTaken rem old.layout old.input new.input old.tally new.tally rows
+    is_open going = by old.end refl
+      where
+        by : (end : End) → old.end ≡ end → (old.end ≡ None) × HasTaken rem old.layout old.input new.input old.tally new.tally rows
+        by None is =
+            let gave = was_open is in
+            let behind = subst (Behind old.layout gave.at new.input gave.middle new.tally) going gave.behind in (
+              is,
+              subst (λ (at : Reader R). HasTaken rem old.layout old.input at old.tally new.tally rows) behind.0
+                  (subst (λ (tally : Tally). HasTaken rem old.layout old.input gave.at old.tally tally rows) behind.1 gave.taken),
+            )
+        by (Some e) is =
+            let same = subst (λ end. MatchOption end (HasGivenRows rem old.layout old.input new.input old.tally new.tally rows new.end) (λ e. (rows ≡ []) × (new ≡ old))) is gone.given in
+            absurd (cc (is, going, ap (λ (s : Source R). s.end) same.1))
+
+    -- a source that goes on gave rows more
+    gone_on : JoinsTaken → (next : Source R) (more : List Entries) → GivesNext rem new next more → HasGone old next (rows ++ more)
+    gone_on join next more gives =
+        let open_ = is_open gives.before in
+        let gave = give_on join old.layout old.input new.input next.input old.tally new.tally next.tally rows more next.end open_.1
+        (subst (λ (l : Layout). HasGivenRows rem l new.input next.input new.tally next.tally more next.end) gone.layout gives.given) in
+        record {
+          layout = gives.layout ∙ gone.layout;
+          given = subst (λ end. MatchOption end (HasGivenRows rem old.layout old.input next.input old.tally next.tally (rows ++ more) next.end) (λ e. (rows ++ more ≡ []) × (next ≡ old)))
+              (sym open_.0) gave;
+          few = λ le. gives.few;
+        }
+
+    -- it gave rows of few records
+    gave_few : old.end ≡ None → GivesRows rem old rows
+    gave_few going =
+        let gave = was_open going in
+        record { at = gave.at; end = gave.middle; taken = gave.taken; few = λ le. omega (arith, gone.few le, counts_up old.layout gave.at new.input gave.middle new.tally new.end gave.behind) }
+
+  -- so many rows were sent of a source, the first ones that it still had
+  pub record HasSent (feeder : Sending) (source : Source R) (n : ℕ) (now : Sending) (after : Source R) : Type 0 where
+    pub rows : List Entries
+    pub number : now.number ≡ feeder.number
+    pub channel : now.channel ≡ feeder.channel
+    pub sent : now.sent ≡ feeder.sent ++ rows
+    pub many : length rows ≡ n
+    pub gives : GivesFirstRows rem source after rows
+    pub gone : HasGone source after rows
+
+  module _ (feeder : Sending) (source : Source R) where
+    gone_none : HasTaken rem source.layout source.input source.input source.tally source.tally [] → HasGone source source []
+    gone_none none = record { layout = refl; given = by source.end refl; few = λ le. le }
+      where
+        by : (end : End) → source.end ≡ end
+            → MatchOption end (HasGivenRows rem source.layout source.input source.input source.tally source.tally [] source.end) (λ e. (◌≡◌ {A = List Entries} [] []) × (source ≡ source))
+        by None is = record {
+          at = source.input;
+          middle = source.tally;
+          taken = none;
+          behind = subst (Behind source.layout source.input source.input source.tally source.tally) (sym is) (refl, refl);
+        }
+        by (Some e) is = (refl, refl)
+
+    pub sent_none : HasTaken rem source.layout source.input source.input source.tally source.tally [] → HasSent feeder source 0 feeder source
+    sent_none none = record {
+      rows = [];
+      number = refl;
+      channel = refl;
+      sent = sym (append-nil feeder.sent);
+      many = refl;
+      gives = λ all others still. (all, refl, λ fine. record { left = others; still = still; count = refl });
+      gone = gone_none none;
+    }
+
+    module _ (n : ℕ) (now : Sending) (after : Source R) (has : HasSent feeder source n now after) where
+      pub sent_more : JoinsTaken → (many : ℕ) (next : Sending) (then_ : Source R) (more : List Entries) → length more ≡ many
+          → next ≡ with_sent_rows now more → GivesNext rem after then_ more → HasSent feeder source (n + many) next then_
+      sent_more join many next then_ more long is gives = record {
+        rows = has.rows ++ more;
+        number = ap (λ (s : Sending). s.number) is ∙ has.number;
+        channel = ap (λ (s : Sending). s.channel) is ∙ has.channel;
+        sent = ap (λ (s : Sending). s.sent) is ∙ (ap (λ xs. xs ++ more) has.sent ∙ append_assoc feeder.sent has.rows more);
+        many = omega (arith, length-append has.rows more, has.many, long);
+        gives = λ all others still.
+            let was = has.gives all others still in
+            let left = was.2 (λ fault is. absurd (cc (gives.before, is))) in
+            let now_ = gives.first was.0 left.left left.still in (
+              now_.0,
+              was.1 ∙ (ap (λ xs. has.rows ++ xs) now_.1 ∙ sym (append_assoc has.rows more now_.0)),
+              λ fine. (let rest = now_.2 fine in record { left = rest.left; still = rest.still; count = rest.count ∙ left.count }),
+            );
+        gone = gone_on source after has.rows has.gone join then_ more gives;
+      }
+
+      -- a fault that is met after so many rows is that of the source
+      pub failed_after : (many : ℕ) (fault : SourceFault) → many ≡ n → FailsNow rem after fault → HasFailed rem source many fault
+      failed_after many fault is fails = by source.end refl
+        where
+          stops : source.end ≡ None → (end : End) → after.end ≡ end → StopsAfter rem source many fault
+          stops going None ends =
+              let failed = subst (λ end. MatchOption end ((t : Tally) × HasStopped rem after.layout after.input after.tally t fault) (λ e. e ≡ Err fault)) ends fails in
+              record {
+                rows = has.rows;
+                number = has.many ∙ sym is;
+                at = after.input;
+                middle = after.tally;
+                end = failed.0;
+                taken = (is_open source after has.rows has.gone ends).1;
+                stopped = subst (λ (l : Layout). HasStopped rem l after.input after.tally failed.0 fault) has.gone.layout failed.1;
+              }
+          stops going (Some e) ends =
+              let failed = subst (λ end. MatchOption end ((t : Tally) × HasStopped rem after.layout after.input after.tally t fault) (λ e. e ≡ Err fault)) ends fails in
+              let gave = was_open source after has.rows has.gone going in
+              record {
+                rows = has.rows;
+                number = has.many ∙ sym is;
+                at = gave.at;
+                middle = gave.middle;
+                end = after.tally;
+                taken = gave.taken;
+                stopped = subst (Behind source.layout gave.at after.input gave.middle after.tally) (ends ∙ ap (λ r. Some r) failed) gave.behind;
+              }
+
+          by : (end : End) → source.end ≡ end → HasFailed rem source many fault
+          by None going = subst (λ end. MatchOption end (StopsAfter rem source many fault) (λ e. e ≡ Err fault)) (sym going) (stops going after.end refl)
+          by (Some e) ended =
+              let same = subst (λ end. MatchOption end (HasGivenRows rem source.layout source.input after.input source.tally after.tally has.rows after.end) (λ e. (has.rows ≡ []) × (after ≡ source)))
+              ended has.gone.given in
+              let failed = subst (λ end. MatchOption end ((t : Tally) × HasStopped rem after.layout after.input after.tally t fault) (λ e. e ≡ Err fault))
+              (ap (λ (s : Source R). s.end) same.1 ∙ ended) fails in
+              subst (λ end. MatchOption end (StopsAfter rem source many fault) (λ e. e ≡ Err fault)) (sym ended) failed
+
+      -- a source that gives no row more was read out
+      read_out : JoinsTaken → (rest : Source R) (bad : ℕ) → GivesNone rem after rest → bad ≡ rest.tally.bad → source.end ≡ None → IsReadOut rem source has.rows bad
+      read_out join rest bad none is going = by after.end refl
+        where
+          out : (at over_at : Reader R) (middle end : Tally) → HasTaken rem source.layout source.input at source.tally middle has.rows
+              → HasTaken rem source.layout at over_at middle end [] → HasTaken rem source.layout source.input over_at source.tally end has.rows
+          out at over_at middle end taken last =
+              subst (λ rows. HasTaken rem source.layout source.input over_at source.tally end rows) (append-nil has.rows)
+              (join source.layout source.input at over_at source.tally middle end has.rows [] taken last)
+
+          by : (end : End) → after.end ≡ end → IsReadOut rem source has.rows bad
+          by None ends =
+              let ended = subst (λ end. MatchOption end (HasEnded rem after.layout after.input after.tally rest.tally) (λ e. (e ≡ Ok tt) × (rest ≡ after))) ends none.ended in
+              let last = subst (λ (l : Layout). HasTaken rem l after.input ended.at after.tally rest.tally []) has.gone.layout ended.taken in
+              record {
+                at = ended.at;
+                end = rest.tally;
+                taken = out after.input ended.at after.tally rest.tally (is_open source after has.rows has.gone ends).1 last;
+                over = ended.over;
+                few = none.few;
+                bad_is = is;
+              }
+          by (Some e) ends =
+              let ended = subst (λ end. MatchOption end (HasEnded rem after.layout after.input after.tally rest.tally) (λ e. (e ≡ Ok tt) × (rest ≡ after))) ends none.ended in
+              let gave = was_open source after has.rows has.gone going in
+              let behind = subst (Behind source.layout gave.at after.input gave.middle after.tally) (ends ∙ ap (λ r. Some r) ended.0) gave.behind in
+              record {
+                at = behind.at;
+                end = after.tally;
+                taken = out gave.at behind.at gave.middle after.tally gave.taken behind.taken;
+                over = behind.over;
+                few = subst (λ (s : Source R). s.tally.taken ≤ 1000000) ended.1 none.few;
+                bad_is = is ∙ ap (λ (s : Source R). s.tally.bad) ended.1;
+              }
+
+      -- all rows were sent
+      sent_all : (rest : Source R) (bad : ℕ) → GivesFirst rem after rest None → GivesNone rem after rest → bad ≡ rest.tally.bad → HasOnly rem source has.rows bad
+      sent_all rest bad gives none is = λ all others still.
+          let was = has.gives all others still in
+          let left = was.2 (fine after.end refl) in
+          let over = gives was.0 left.left left.still in
+          (sym (was.1 ∙ ap (λ xs. has.rows ++ xs) over.0 ∙ append-nil has.rows), is ∙ over.1 ∙ left.count)
+        where
+          fine : (end : End) → after.end ≡ end → IsWithoutFault after
+          fine None ends = λ fault failed. absurd (cc (ends, failed))
+          fine (Some e) ends = λ fault failed.
+              let ended = subst (λ end. MatchOption end (HasEnded rem after.layout after.input after.tally rest.tally) (λ e. (e ≡ Ok tt) × (rest ≡ after))) ends none.ended in
+              absurd (cc (ends, failed, ended.0))
+
+      -- a feeder that sends no more has sent the first rows, and all of them where the source gives none more
+      pub fed_first : JoinsTaken → (end : FeedEnd) → IfSome end.closing (λ closing. closing.rows ≡ now.sent) → end.accepted ≡ n
+          → (end.stopped ≡ false → end.fault ≡ None → (rest : Source R) × GivesFirst rem after rest None × GivesNone rem after rest × (end.bad ≡ rest.tally.bad))
+          → HasFed rem source feeder.sent end
+      fed_first join end sent many over = record {
+        rows = has.rows;
+        sent = of_some end.closing sent (λ closing is. is ∙ has.sent);
+        many = has.many ∙ sym many;
+        first = λ all others still. (let was = has.gives all others still in (was.0, sym was.1));
+        given = gave_few source after has.rows has.gone;
+        all = λ going fine. (let none = over going fine in sent_all none.0 end.bad none.1 none.2 none.3);
+        out = λ going fine. (let none = over going fine in read_out join none.0 end.bad none.2 none.3);
+      }

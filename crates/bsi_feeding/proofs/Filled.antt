@@ -1,0 +1,143 @@
+-- What a source gives in one turn of its feeder: a row, or the rows of a block.
+use Rattle.std.proofs.Common.{◌≡◌, ℕ, ◌<◌, ◌≤◌, List, [], ◌∷◌, ◌++◌, Option, Some, None, OnOk, IfErr, length, refl, sym, ap, ap₂, ◌∙◌, subst, arith}
+use Rattle.std.specs.Prelude.{◌≢◌, Result, Ok, Err, MatchOption}
+use Rattle.std.proofs.lemmas.List.{length-map}
+use Rattle.bsi_table.specs.RowBlocks.{entries_of, fed_as, RowBlock}
+use Rattle.bsi_table.specs.Rows.{Entries}
+use Rattle.bsi_text.specs.Sources.{End, Fills, GivesFirst, HasEnded, HasLeft, HasStopped, HasTaken, Source, Tally}
+use Rattle.bsi_text.specs.declared.rows.SourceFault.{SourceFault}
+use Rattle.bsi_feeding.specs.Feeding.{FailsNow, GivesNext, GivesNone}
+use Rattle.bsi_feeding.proofs.Feeds.{Behind, JoinsTaken}
+
+-- the entries of rows, each of which is a feeder's
+entries_fed : (feeder : ℕ) (rows : List Entries) → entries_of (fed_as feeder rows) ≡ rows
+entries_fed feeder [] = refl
+entries_fed feeder (row ∷ rows) = ap (λ xs. row ∷ xs) (entries_fed feeder rows)
+
+module _ {R : Type 0} (rem : R → Option (List ℕ)) (old new : Source R) where
+  -- one row
+  pub one_next : (row : Entries) → ((fault : SourceFault) → old.end ≡ Some (Err fault) → (◌≡◌ {A = Result (Option Entries) SourceFault} (Ok (Some row)) (Err fault)) × (new ≡ old))
+      → (old.end ≡ Some (Ok tt) → (◌≡◌ {A = Result (Option Entries) SourceFault} (Ok (Some row)) (Ok None)) × (new ≡ old))
+      → (old.end ≡ None → HasTaken rem old.layout old.input new.input old.tally new.tally (row ∷ []))
+      → (old.end ≡ None → new.end ≡ None) → new.layout ≡ old.layout → GivesFirst rem old new (Some row) → new.tally.taken ≤ 1000000
+      → GivesNext rem old new (row ∷ [])
+  one_next row failed ended given goes_on same first few = by old.end refl
+    where
+      by : (end : End) → old.end ≡ end → GivesNext rem old new (row ∷ [])
+      by None is = record {
+        before = is;
+        layout = same;
+        given = record {
+          at = new.input;
+          middle = new.tally;
+          taken = given is;
+          behind = subst (Behind rem old.layout new.input new.input new.tally new.tally) (sym (goes_on is)) (refl, refl);
+        };
+        first = λ all others still. (let one = first all others still in (one.0, one.2, λ fine. record { left = one.1; still = one.3; count = one.4 }));
+        few = few;
+      }
+      by (Some (Ok done)) is = absurd (cc (ended is).0)
+      by (Some (Err fault)) is = absurd (cc (failed fault is).0)
+
+  -- the rows of a block that had none
+  module _ (feeder : ℕ) (start full : RowBlock) (empty : start.rows ≡ []) (r : Result (Unit {0}) SourceFault)
+      (failed : (fault : SourceFault) → old.end ≡ Some (Err fault) → (r ≡ Err fault) × (new ≡ old))
+      (ended : old.end ≡ Some (Ok tt) → (r ≡ Ok tt) × (new ≡ old) × (full ≡ start))
+      (filled : old.end ≡ None → Fills rem old new feeder start full) where
+    all_fed : (going : old.end ≡ None) → full.rows ≡ fed_as feeder (filled going).puts.rows
+    all_fed going =
+        let fills = filled going in
+        ap (λ (block : RowBlock). block.rows) fills.puts.added ∙ ap (λ xs. xs ++ fed_as feeder fills.puts.rows) empty
+
+    all_rows : (going : old.end ≡ None) → entries_of full.rows ≡ (filled going).puts.rows
+    all_rows going = ap entries_of (all_fed going) ∙ entries_fed feeder (filled going).puts.rows
+
+    as_many : (going : old.end ≡ None) → length (filled going).puts.rows ≡ length full.rows
+    as_many going = ap length (sym (all_rows going)) ∙ length-map full.rows (λ row. row.1)
+
+    -- a block that got none
+    no_rows : (going : old.end ≡ None) → length full.rows ≡ 0 → (filled going).puts.rows ≡ []
+    no_rows going none = by (filled going).puts.rows (as_many going ∙ none)
+      where
+        by : (rows : List Entries) → length rows ≡ 0 → rows ≡ []
+        by [] is = refl
+        by (row ∷ rows) is = absurd (omega (arith, is))
+
+    -- a call that answers a fault met it before any row
+    pub fill_fails : JoinsTaken rem → IfErr r (λ fault. (new.end ≡ Some (Err fault)) × (full ≡ start)) → (fault : SourceFault) → r ≡ Err fault → FailsNow rem old fault
+    fill_fails join stopped fault is = by old.end refl
+      where
+        by : (end : End) → old.end ≡ end → FailsNow rem old fault
+        by None going =
+            let stops = subst (λ r. IfErr r (λ fault. (new.end ≡ Some (Err fault)) × (full ≡ start))) is stopped in
+            let gave = (filled going).puts.given in
+            let none = no_rows going (ap (λ (block : RowBlock). length block.rows) stops.1 ∙ ap length empty) in
+            let behind = subst (Behind rem old.layout gave.at new.input gave.middle new.tally) stops.0 gave.behind in
+            let taken = join old.layout old.input gave.at behind.at old.tally gave.middle new.tally [] [] (subst (HasTaken rem old.layout old.input gave.at old.tally gave.middle) none gave.taken) behind.taken in
+            subst (λ end. MatchOption end ((t : Tally) × HasStopped rem old.layout old.input old.tally t fault) (λ e. e ≡ Err fault)) (sym going)
+            (new.tally, record { at = behind.at; taken = taken; later = behind.later; too_long = behind.too_long })
+        by (Some (Ok done)) going = absurd (cc (is, (ended going).0))
+        by (Some (Err e)) going =
+            subst (λ end. MatchOption end ((t : Tally) × HasStopped rem old.layout old.input old.tally t fault) (λ e. e ≡ Err fault)) (sym going) (cc (is, (failed e going).0))
+
+    module _ (later : OnOk r ((fault : SourceFault) → new.end ≡ Some (Err fault) → length start.rows < length full.rows)) (done : r ≡ Ok tt) where
+      -- a call that puts no row there finds none
+      pub fill_over : JoinsTaken rem → new.tally.taken ≤ 1000000 → length full.rows ≡ 0 → GivesFirst rem old new None × GivesNone rem old new
+      fill_over join few none = by old.end refl
+        where
+          going_on : old.end ≡ None → (end : End) → new.end ≡ end → end ≡ Some (Ok tt)
+          going_on going None is = absurd (omega (arith, none, (filled going).puts.goes_on.0 is))
+          going_on going (Some (Ok tt)) is = refl
+          going_on going (Some (Err fault)) is =
+              let less = subst (λ r. OnOk r ((fault : SourceFault) → new.end ≡ Some (Err fault) → length start.rows < length full.rows)) done later in
+              absurd (omega (arith, none, less fault is))
+
+          over : old.end ≡ None → new.end ≡ Some (Ok tt)
+          over going = going_on going new.end refl
+
+          by : (end : End) → old.end ≡ end → GivesFirst rem old new None × GivesNone rem old new
+          by None going =
+              let gave = (filled going).puts.given in
+              let behind = subst (Behind rem old.layout gave.at new.input gave.middle new.tally) (over going) gave.behind in
+              let taken = join old.layout old.input gave.at behind.at old.tally gave.middle new.tally [] []
+              (subst (HasTaken rem old.layout old.input gave.at old.tally gave.middle) (no_rows going none) gave.taken) behind.taken in (
+                λ all others still.
+                    let first = (filled going).first all others still in
+                    let rest = first.2 (λ fault is. absurd (cc (is, over going))) in
+                    let nothing = subst (λ end. MatchOption end (HasLeft rem new.layout new.input first.0 rest.left) (λ e. (first.0 ≡ []) × (rest.left ≡ 0))) (over going) rest.still in
+                    (first.1 ∙ ap₂ (λ xs ys. xs ++ ys) (no_rows going none) nothing.0, omega (arith, rest.count, nothing.1)),
+                record {
+                  ended = subst (λ end. MatchOption end (HasEnded rem old.layout old.input old.tally new.tally) (λ e. (e ≡ Ok tt) × (new ≡ old))) (sym going)
+                      (record { at = behind.at; taken = taken; over = behind.over });
+                  few = few;
+                },
+              )
+          by (Some (Ok tt)) going =
+              let same = (ended going).1 in (
+                λ all others still.
+                    let nothing = subst (λ end. MatchOption end (HasLeft rem old.layout old.input all others) (λ e. (all ≡ []) × (others ≡ 0))) going still in
+                    (nothing.0, omega (arith, nothing.1, ap (λ (s : Source R). s.tally.bad) same)),
+                record {
+                  ended = subst (λ end. MatchOption end (HasEnded rem old.layout old.input old.tally new.tally) (λ e. (e ≡ Ok tt) × (new ≡ old))) (sym going) (refl, same);
+                  few = few;
+                },
+              )
+          by (Some (Err fault)) going = absurd (cc (done, (failed fault going).0))
+
+      -- one that puts some there gives the next ones
+      pub fill_next : new.layout ≡ old.layout → new.tally.taken ≤ 1000000 → length full.rows ≢ 0
+          → (length (entries_of full.rows) ≡ length full.rows) × GivesNext rem old new (entries_of full.rows)
+      fill_next same few some = (length-map full.rows (λ row. row.1), by old.end refl)
+        where
+          by : (end : End) → old.end ≡ end → GivesNext rem old new (entries_of full.rows)
+          by None going =
+              let fills = filled going in
+              subst (GivesNext rem old new) (sym (all_rows going)) (record {
+                before = going;
+                layout = same;
+                given = fills.puts.given;
+                first = fills.first;
+                few = few;
+              })
+          by (Some (Ok tt)) going = absurd (some (ap (λ (block : RowBlock). length block.rows) (ended going).2 ∙ ap length empty))
+          by (Some (Err fault)) going = absurd (cc (done, (failed fault going).0))

@@ -1,0 +1,12 @@
+use Rattle.std.proofs.Common.{◌-◌}
+use Rattle.bsi_text.specs.Sources.{tally_of}
+use Rattle.bsi_text.proofs.Filling.{ArePut}
+use Rattle.bsi_text.proofs.rows.put_rows.Given as goal
+
+-- the rows of the good records so far stand in the block
+abbrev pub invariant-records : goal.invariant-records
+invariant-records g l =
+    ArePut (g.R.Read.remaining) l.fn.layout l.initial.input l.input (tally_of l.initial.taken l.initial.bad) (tally_of l.taken l.bad) l.feeder l.initial.block l.block
+
+abbrev pub decreases-records : goal.decreases-records
+decreases-records g l = 1000000 - l.taken
