@@ -13,8 +13,8 @@ ghost use Rattle.bsi_table.specs.Table.{AreFitting, AreFrom};
 use crate::{NoMemory, Row, Schema};
 use bsi_schema::{Limits, are_same, take_each};
 use std::alloc::Global;
-use std::marker::{Model, Send};
-use std::snapshot::Snapshot;
+use std::marker::Model;
+use std::sync::Arc;
 
 /// The most rows of a block that can be appended at once.
 pub const MAX_BLOCK_ROWS: usize = 64;
@@ -23,16 +23,13 @@ pub const MAX_BLOCK_ROWS: usize = 64;
 /// the block again takes no memory. It takes 16 bytes for each of the 64 rows and each column.
 #[derive(Drop)]
 pub struct Block {
-    schema: Snapshot<Schema>,
+    schema: Arc<Schema, Global>,
     limits: Vec<Limits>,
     feeders: u32,
     // The feeder of each row.
     sources: Vec<u32>,
     places: Vec<Option<i64>>,
 }
-
-// A block may go to another thread: its snapshot has no bytes.
-unsafe impl Send for Block {}
 
 // Clauses see the schema, the number of feeders, and the rows, each with its feeder.
 impl Model for Block {
@@ -49,14 +46,15 @@ impl Model for Block {
 
 impl Block {
     /// Makes a block of no rows, with room for 64 rows of a schema, each from one of so many feeders.
-    pub fn new(alloc: Global, schema: &Schema, feeders: u32) -> Result<Block, NoMemory>
-        ensures { IfOk result (λ block. block ≡ no_block_rows schema.now feeders) }
+    pub fn new(alloc: Global, schema: &Arc<Schema, Global>, feeders: u32) -> Result<Block, NoMemory>
+        ensures { IfOk result (λ block. block ≡ no_block_rows schema.now.value feeders) }
     {
+        let shared = Arc::try_clone(schema)?;
         let limits = Vec::from_slice(alloc, schema.limits())?;
         let sources = Vec::with_capacity(alloc, MAX_BLOCK_ROWS)?;
         let places = vec![in alloc; None; MAX_BLOCK_ROWS * schema.columns() as usize]?;
         Ok(Block {
-            schema: Snapshot::of(schema),
+            schema: shared,
             limits,
             feeders,
             sources,
@@ -126,20 +124,20 @@ impl Block {
     /// all places at once.
     pub(crate) fn copy_as(
         &self,
-        schema: &Schema,
+        schema: &Arc<Schema, Global>,
         feeders: u32,
         feeder: u32,
     ) -> Result<Block, NoMemory>
-        requires alike { AreAlike self.now.schema schema.now }
+        requires alike { AreAlike self.now.schema schema.now.value }
         requires feeder { feeder < feeders }
         ensures { IfOk result (λ block. block
-            ≡ fed_block schema.now feeders feeder (entries_of self.now.rows)) }
+            ≡ fed_block schema.now.value feeders feeder (entries_of self.now.rows)) }
     {
         let alloc = *self.places.allocator();
         let mut sources = Vec::with_capacity(alloc, MAX_BLOCK_ROWS)?;
         sources.resize(self.sources.len(), feeder)?;
         Ok(Block {
-            schema: Snapshot::of(schema),
+            schema: Arc::try_clone(schema)?,
             limits: Vec::from_slice(alloc, schema.limits())?,
             feeders,
             sources,

@@ -22,6 +22,7 @@ use bsi_origins::Origins;
 use bsi_shift::Shifted;
 use std::alloc::Global;
 use std::marker::Model;
+use std::sync::Arc;
 
 /// The most rows of an index.
 pub const MAX_ROWS: u64 = 1 << 32;
@@ -31,7 +32,7 @@ pub const MAX_ROWS: u64 = 1 << 32;
 /// stretch of 512 rows has a count of 4 bytes for each feeder.
 #[derive(Drop)]
 pub struct Index {
-    schema: Schema,
+    schema: Arc<Schema, Global>,
     columns: Vec<Shifted>,
     origins: Origins,
     limit: u64,
@@ -43,10 +44,10 @@ impl Model for Index {
 
     ghost Value = { Table };
 
-    ghost view = { λ i. table i.schema i.origins.feeders i.limit
+    ghost view = { λ i. table i.schema.value i.origins.feeders i.limit
         (fed_rows i.origins.rows i.columns.items) };
 
-    ghost invariant = { λ i. IsTable i.schema.columns i.origins.feeders i.limit i.origins.rows
+    ghost invariant = { λ i. IsTable i.schema.value.columns i.origins.feeders i.limit i.origins.rows
         i.columns.items };
 }
 
@@ -61,6 +62,7 @@ impl Index {
     {
         Index::check(&schema, limit)?;
         let columns = make_each(alloc, &schema)?;
+        let schema = share(alloc, schema)?;
         Ok(Index {
             schema,
             columns,
@@ -232,7 +234,7 @@ impl Index {
     pub fn copy(&self) -> Result<Index, NoMemory>
         ensures { IfOk result (λ index. index ≡ self.now) }
     {
-        let schema = self.schema.copy()?;
+        let schema = Arc::try_clone(&self.schema)?;
         let columns = copy_each(*self.columns.allocator(), &self.columns)?;
         let origins = self.origins.copy()?;
         Ok(Index {
@@ -267,4 +269,11 @@ impl Index {
     {
         self.limit
     }
+}
+
+/// Makes a schema one that several owners may have.
+fn share(alloc: Global, schema: Schema) -> Result<Arc<Schema, Global>, NoMemory>
+    ensures { IfOk result (λ shared. shared.value ≡ schema) }
+{
+    Ok(Arc::new(alloc, schema)?)
 }

@@ -5,7 +5,7 @@ use bsi_system::{Analyst, BlockRefused, Feeder, LoadRefused, Loader, Naming, NoM
 use bsi_table::{Block, ColumnSpec, Schema};
 use std::alloc::Global;
 use std::process::Abort;
-use std::sync::Wait;
+use std::sync::{Arc, Wait};
 use std::test::Fail;
 
 /// Makes a block of rows of one number each, for a column of so many binary places.
@@ -14,6 +14,7 @@ fn new_block(alloc: Global, width: u32, numbers: &[i128]) -> Result<Block, NoMem
     if schema.add("number", ColumnSpec::Slices(width)).is_err() {
         return Err(NoMemory);
     }
+    let schema = Arc::new(alloc, schema).map_err(|_| NoMemory)?;
     let mut block = Block::new(alloc, &schema, 1)?;
     for number in numbers {
         if block.len() < 64 && block.feeders() > 0 {

@@ -1,6 +1,7 @@
 -- Records that a row source takes, one after another.
 use Rattle.std.proofs.Common.{◌≡◌, ℕ, ◌+◌, ◌<◌, ◌≤◌, Bool, true, false, if◌then◌else◌, List, [], ◌∷◌, ◌++◌, Option, Some, None, IsSome, IfSome, MatchOption, Result, Ok, Err, option_map, refl, sym, ap, ap₂, subst, ◌∙◌, arith, cond}
-use Rattle.std.specs.Prelude.{IfErr, IsErrAnd}
+use Rattle.std.specs.Prelude.{IfErr, IfOk, IsErrAnd}
+use Rattle.std.specs.Result.{result_ok}
 use Rattle.std.specs.List.{cons_option}
 use Rattle.std.specs.Option.{is_none}
 use Rattle.std.proofs.lemmas.List.{length-append}
@@ -180,6 +181,19 @@ module _ {R : Type 0} (rem : R → Option (List ℕ)) (a b : Reader R) (fields :
           let read = first_read text e next in
           subst (λ o. MatchOption o ⊥ (λ r. (layout.header ≡ r.0) × (reader_state b ≡ r.1) × (source_of rem b ≡ Some r.2))) (sym read.1)
           (is ∙ read.2, read.3, read.4)
+
+  -- it is a header, of which a layout was made
+  pub layout_behind : (schema : Declared) (made : Option Layout) (r : Result Layout SourceFault)
+      → made ≡ (if is_header schema fields then Some (record { schema = schema; header = fields }) else None) → made ≡ result_ok r → ReadRecord rem a b true fields
+      → IfOk r (λ layout. IfSome (source_of rem a) (StandsAfter rem layout b))
+  layout_behind schema made (Err fault) is ok next = tt
+  layout_behind schema made (Ok layout) is ok next = stands_after layout (by (is_header schema fields) is) next
+    where
+      by : (good : Bool) → made ≡ (if good then Some (record { schema = schema; header = fields }) else None) → layout.header ≡ fields
+      by true e =
+          let same : layout ≡ record { schema = schema; header = fields } = cc (ok, e) in
+          ap (λ (l : Layout). l.header) same
+      by false e = absurd (cc (ok, e))
 
   -- it is no header
   pub no_header : (schema : Declared) → is_header schema fields ≡ false → ReadRecord rem a b true fields → IfSome (source_of rem a) (HasNoHeader schema)

@@ -18,11 +18,12 @@ use csv::ByteRecord;
 use std::alloc::Global;
 use std::marker::Model;
 use std::mem;
+use std::sync::Arc;
 
 /// The columns of a row file, with, for each column, the place of its field in a record.
 #[derive(Drop)]
 pub(crate) struct Layout {
-    schema: Schema,
+    schema: Arc<Schema, Global>,
     header: ByteRecord,
     places: Vec<usize>,
 }
@@ -36,10 +37,10 @@ impl Model for Layout {
 
     ghost Value = { Layout };
 
-    ghost view = { λ l. record { schema = l.schema; header = fields_of l.header } };
+    ghost view = { λ l. record { schema = l.schema.value; header = fields_of l.header } };
 
     ghost invariant = { λ l. l.places.items
-        ≡ map (λ column. place_of (fields_of l.header) column.name) l.schema.columns };
+        ≡ map (λ column. place_of (fields_of l.header) column.name) l.schema.value.columns };
 }
 
 impl Layout {
@@ -57,7 +58,7 @@ impl Layout {
             return Ok(None);
         }
         let places = places_of(alloc, schema, &header)?;
-        let schema = schema.copy()?;
+        let schema = Arc::new(alloc, schema.copy()?)?;
         Ok(Some(Layout {
             schema,
             header,

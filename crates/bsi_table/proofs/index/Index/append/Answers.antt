@@ -28,7 +28,7 @@ pub returns-in_err-reserve_rows-clause-kept : goal.returns-in_err-reserve_rows-c
 returns-in_err-reserve_rows-clause-kept c =
     let i = c.self.inside in
     let e = c.in_err-reserve_rows.ensures in
-    let table : ℕ → List FedRow → Table = λ feeders rows. record { schema = i.schema; feeders = feeders; limit = i.limit; rows = rows } in
+    let table : ℕ → List FedRow → Table = λ feeders rows. record { schema = i.schema.value; feeders = feeders; limit = i.limit; rows = rows } in
     let same = ap (λ xs. fed_rows xs c.reserve_rows.new.columns.items) e.rows
     ∙ fed_rows-same i.origins.rows i.columns.items c.reserve_rows.new.columns.items e.long (λ k within. (e.same k within).entries) in
     on_err c.from_residual.result (ap₂ table e.feeders same ∙ c.self.view_is)
@@ -44,24 +44,24 @@ push_row-requires-clause-range c =
     let i = c.self.inside in
     let e = c.in_ok-reserve_rows.ensures in
     let n = length i.origins.rows in
-    let grown = are_kept_same i.schema.columns i.columns.items n c.self.invariant.columns_are c.reserve_rows.new.columns.items e.long e.same in
-    let fit = ap (fits i.schema.columns) c.values.ensures ∙ ap (λ t. fits t.schema.columns c.args.row.now) c.self.view_is ∙ c.requires.fits in
-    row_in_range i.schema.columns c.reserve_rows.new.columns.items n grown c.values.result.now fit
+    let grown = are_kept_same i.schema.value.columns i.columns.items n c.self.invariant.columns_are c.reserve_rows.new.columns.items e.long e.same in
+    let fit = ap (fits i.schema.value.columns) c.values.ensures ∙ ap (λ t. fits t.schema.columns c.args.row.now) c.self.view_is ∙ c.requires.fits in
+    row_in_range i.schema.value.columns c.reserve_rows.new.columns.items n grown c.values.result.now fit
 
 pub push_row-requires-clause-small : goal.push_row-requires-clause-small
 push_row-requires-clause-small c =
     let i = c.self.inside in
     let e = c.in_ok-reserve_rows.ensures in
     let n = length i.origins.rows in
-    let grown = are_kept_same i.schema.columns i.columns.items n c.self.invariant.columns_are c.reserve_rows.new.columns.items e.long e.same in
-    let fit = ap (fits i.schema.columns) c.values.ensures ∙ ap (λ t. fits t.schema.columns c.args.row.now) c.self.view_is ∙ c.requires.fits in
-    row_small i.schema.columns c.reserve_rows.new.columns.items n grown c.values.result.now fit
+    let grown = are_kept_same i.schema.value.columns i.columns.items n c.self.invariant.columns_are c.reserve_rows.new.columns.items e.long e.same in
+    let fit = ap (fits i.schema.value.columns) c.values.ensures ∙ ap (λ t. fits t.schema.columns c.args.row.now) c.self.view_is ∙ c.requires.fits in
+    row_small i.schema.value.columns c.reserve_rows.new.columns.items n grown c.values.result.now fit
 
 pub invariant_of-self-2 : goal.invariant_of-self-2
 invariant_of-self-2 c =
     let i = c.self.inside in
     let e = c.in_ok-reserve_rows.ensures in
-    let columns = i.schema.columns in
+    let columns = i.schema.value.columns in
     let n = length i.origins.rows in
     let grown = are_kept_same columns i.columns.items n c.self.invariant.columns_are c.reserve_rows.new.columns.items e.long e.same in
     let sources = c.push_row.ensures.rows ∙ ap (λ xs. xs ++ c.args.feeder ∷ []) e.rows in
@@ -91,7 +91,7 @@ returns-clause-appended c =
     let grown = c.reserve_rows.new.columns.items in
     let pushed = c.push_row.new.columns.items in
     let sources = c.push_row.ensures.rows ∙ ap (λ xs. xs ++ c.args.feeder ∷ []) e.rows in
-    let kept = are_kept_same i.schema.columns old (length i.origins.rows) c.self.invariant.columns_are grown e.long e.same in
+    let kept = are_kept_same i.schema.value.columns old (length i.origins.rows) c.self.invariant.columns_are grown e.long e.same in
     let columns = ap (λ t. length t.schema.columns) c.self.view_is in
     let wide = ap length c.values.ensures ∙ fits-length c.args.self.now.schema.columns c.args.row.now c.requires.fits ∙ sym columns ∙ sym kept.long in
     let row : FedRow = (c.args.feeder, c.values.result.now) in
@@ -99,6 +99,6 @@ returns-clause-appended c =
     (λ k within. (kept.each k (omega (arith, within, kept.long))).rows) c.push_row.ensures.more in
     let last : List FedRow → Entries → List FedRow = λ rows row. rows ++ (c.args.feeder, row) ∷ [] in
     let same = fed_rows-same i.origins.rows old grown e.long (λ k within. (e.same k within).entries) in
-    let table : ℕ → List FedRow → Table = λ feeders rows. record { schema = i.schema; feeders = feeders; limit = i.limit; rows = rows } in
+    let table : ℕ → List FedRow → Table = λ feeders rows. record { schema = i.schema.value; feeders = feeders; limit = i.limit; rows = rows } in
     ap₂ table (c.push_row.ensures.feeders ∙ e.feeders) (ap (λ xs. fed_rows xs pushed) sources ∙ more ∙ ap₂ last same c.values.ensures)
     ∙ ap (λ t. with_row t c.args.feeder c.args.row.now) c.self.view_is

@@ -26,7 +26,7 @@ pub returns-in_err-reserve_rows-clause-kept : goal.returns-in_err-reserve_rows-c
 returns-in_err-reserve_rows-clause-kept c =
     let i = c.self.inside in
     let e = c.in_err-reserve_rows.ensures in
-    let table : ℕ → List FedRow → Table = λ feeders rows. record { schema = i.schema; feeders = feeders; limit = i.limit; rows = rows } in
+    let table : ℕ → List FedRow → Table = λ feeders rows. record { schema = i.schema.value; feeders = feeders; limit = i.limit; rows = rows } in
     let same = ap (λ xs. fed_rows xs c.reserve_rows.new.columns.items) e.rows
     ∙ fed_rows-same i.origins.rows i.columns.items c.reserve_rows.new.columns.items e.long (λ k within. (e.same k within).entries) in
     on_err c.from_residual.result (ap₂ table e.feeders same ∙ c.self.view_is)
@@ -40,15 +40,15 @@ push_rows-requires-clause-taken c =
     let i = c.self.inside in
     let e = c.in_ok-reserve_rows.ensures in
     let n = length i.origins.rows in
-    let grown = are_kept_same i.schema.columns i.columns.items n c.self.invariant.columns_are c.reserve_rows.new.columns.items e.long e.same in
-    let fit : AreFitting i.schema.columns c.args.block.now.rows = subst (λ (t : Table). AreFitting t.schema.columns c.args.block.now.rows) (sym c.self.view_is) c.requires.fits in
-    rows_taken i.schema.columns c.reserve_rows.new.columns.items n grown c.args.block.now.rows fit
+    let grown = are_kept_same i.schema.value.columns i.columns.items n c.self.invariant.columns_are c.reserve_rows.new.columns.items e.long e.same in
+    let fit : AreFitting i.schema.value.columns c.args.block.now.rows = subst (λ (t : Table). AreFitting t.schema.columns c.args.block.now.rows) (sym c.self.view_is) c.requires.fits in
+    rows_taken i.schema.value.columns c.reserve_rows.new.columns.items n grown c.args.block.now.rows fit
 
 pub invariant_of-self-2 : goal.invariant_of-self-2
 invariant_of-self-2 c =
     let i = c.self.inside in
     let e = c.in_ok-reserve_rows.ensures in
-    let columns = i.schema.columns in
+    let columns = i.schema.value.columns in
     let rows = c.args.block.now.rows in
     let n = length i.origins.rows in
     let reserved = c.reserve_rows.new.columns.items in
@@ -81,12 +81,12 @@ returns-clause-appended c =
     let grown = c.reserve_rows.new.columns.items in
     let pushed = c.push_rows.new.columns.items in
     let sources = c.push_rows.ensures.rows ∙ ap (λ xs. xs ++ feeders_of rows) e.rows in
-    let kept = are_kept_same i.schema.columns old (length i.origins.rows) c.self.invariant.columns_are grown e.long e.same in
-    let fit : AreFitting i.schema.columns rows = subst (λ (t : Table). AreFitting t.schema.columns rows) (sym c.self.view_is) c.requires.fits in
-    let wide = All-weaker (λ row. TakesRow grown row.1) (λ row. length row.1 ≡ length grown) (λ row takes. takes.wide) rows (rows_taken i.schema.columns grown (length i.origins.rows) kept rows fit) in
+    let kept = are_kept_same i.schema.value.columns old (length i.origins.rows) c.self.invariant.columns_are grown e.long e.same in
+    let fit : AreFitting i.schema.value.columns rows = subst (λ (t : Table). AreFitting t.schema.columns rows) (sym c.self.view_is) c.requires.fits in
+    let wide = All-weaker (λ row. TakesRow grown row.1) (λ row. length row.1 ≡ length grown) (λ row takes. takes.wide) rows (rows_taken i.schema.value.columns grown (length i.origins.rows) kept rows fit) in
     let more = fed_rows-more i.origins.rows grown pushed rows c.push_rows.ensures.long wide
     (λ k within. (kept.each k (omega (arith, within, kept.long))).rows) c.push_rows.ensures.more in
     let same = fed_rows-same i.origins.rows old grown e.long (λ k within. (e.same k within).entries) in
-    let table : ℕ → List FedRow → Table = λ feeders rows. record { schema = i.schema; feeders = feeders; limit = i.limit; rows = rows } in
+    let table : ℕ → List FedRow → Table = λ feeders rows. record { schema = i.schema.value; feeders = feeders; limit = i.limit; rows = rows } in
     ap₂ table (c.push_rows.ensures.feeders ∙ e.feeders) (ap (λ xs. fed_rows xs pushed) sources ∙ more ∙ ap (λ xs. xs ++ rows) same)
     ∙ ap (λ t. with_rows t rows) c.self.view_is

@@ -9,7 +9,7 @@ returns-clause-entries c =
     let kept = c.self.inside.columns.items in
     let invariant = c.self.invariant.columns_are in
     let columns = ap (λ t. length t.schema.columns) c.self.view_is in
-    let there : c.args.c < length c.self.inside.schema.columns = omega (arith, c.requires, columns) in
+    let there : c.args.c < length c.self.inside.schema.value.columns = omega (arith, c.requires, columns) in
     let within : c.args.c < length kept = omega (arith, there, invariant.long) in
     ap shifted_entries (sym (kept_read kept c.args.c c.index.result.now within c.index.ensures))
     ∙ sym (column-fed_rows c.self.inside.origins.rows kept c.args.c within (invariant.each c.args.c there).rows)

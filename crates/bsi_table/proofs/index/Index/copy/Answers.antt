@@ -17,16 +17,16 @@ invariant_of-result c =
     let long = c.in_ok-columns.ensures.long ∙ ap length c.deref.ensures.value in
     let same : (k : ℕ) → k < length old → IsSameColumn (kept_at old k) (kept_at new k) =
     subst (λ (columns : List OffsetColumn). (k : ℕ) → k < length columns → IsSameColumn (kept_at columns k) (kept_at new k)) c.deref.ensures.value c.in_ok-columns.ensures.same in
-    let table : IsTable i.schema.columns i.origins.feeders i.limit i.origins.rows new = record {
-      columns_are = are_kept_same i.schema.columns old (length i.origins.rows) c.self.invariant.columns_are new long same;
+    let table : IsTable i.schema.value.columns i.origins.feeders i.limit i.origins.rows new = record {
+      columns_are = are_kept_same i.schema.value.columns old (length i.origins.rows) c.self.invariant.columns_are new long same;
       few = c.self.invariant.few;
       from = c.self.invariant.from;
       within = c.self.invariant.within;
       small = c.self.invariant.small;
     } in
     subst (λ (schema : Declared). IsTable schema.columns c.in_ok-origins.origins.feeders i.limit c.in_ok-origins.origins.rows new) (sym c.in_ok-schema.ensures)
-    (subst (λ n. IsTable i.schema.columns n i.limit c.in_ok-origins.origins.rows new) (sym feeders)
-    (subst (λ xs. IsTable i.schema.columns i.origins.feeders i.limit xs new) (sym sources) table))
+    (subst (λ n. IsTable i.schema.value.columns n i.limit c.in_ok-origins.origins.rows new) (sym feeders)
+    (subst (λ xs. IsTable i.schema.value.columns i.origins.feeders i.limit xs new) (sym sources) table))
 
 pub returns : goal.returns
 returns c =
@@ -40,4 +40,4 @@ returns c =
     subst (λ (columns : List OffsetColumn). (k : ℕ) → k < length columns → IsSameColumn (kept_at columns k) (kept_at new k)) c.deref.ensures.value c.in_ok-columns.ensures.same in
     let rows = ap (λ xs. fed_rows xs new) sources ∙ fed_rows-same i.origins.rows old new long (λ k within. (same k within).entries) in
     let table : Declared → ℕ → List FedRow → Table = λ schema n rows. record { schema = schema; feeders = n; limit = i.limit; rows = rows } in
-    ap (λ n. table c.in_ok-schema.schema n (fed_rows c.in_ok-origins.origins.rows new)) feeders ∙ ap₂ (λ schema rows. table schema i.origins.feeders rows) c.in_ok-schema.ensures rows ∙ c.self.view_is
+    ap (λ n. table c.in_ok-schema.schema.value n (fed_rows c.in_ok-origins.origins.rows new)) feeders ∙ ap₂ (λ schema rows. table schema i.origins.feeders rows) c.in_ok-schema.ensures rows ∙ c.self.view_is

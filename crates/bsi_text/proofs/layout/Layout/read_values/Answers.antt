@@ -1,4 +1,5 @@
 use Rattle.std.proofs.Common.{◌≡◌, ◌+◌, ◌++◌, ◌∷◌, [], rules, Some, ap, ap₂, sym, subst, ◌∙◌}
+use Rattle.bsi_table.specs.Columns.{Declared}
 use Rattle.csv.specs.Records.{fields_of}
 use Rattle.bsi_records.specs.Numbers.{value_in, values_in}
 use Rattle.bsi_text.specs.RowFiles.{in_order}
@@ -10,9 +11,9 @@ returns-in_default c =
     let fields = fields_of c.args.fields.now in
     let inside = c.self.inside in
     let places = c.deref-place-items.ensures.value ∙ c.self.invariant in
-    let order = ordered inside.schema (fields_of inside.header) fields c.deref-place-items.result.now places
+    let order = ordered inside.schema.value (fields_of inside.header) fields c.deref-place-items.result.now places
     ∙ ap (λ l. in_order l.schema l.header fields) c.self.view_is in
-    let signed = c.signed-signed.ensures ∙ ap (λ l. l.schema.signed) c.self.view_is in
+    let signed = c.signed-signed.ensures ∙ ap (λ (d : Declared). d.signed) c.deref.ensures ∙ ap (λ l. l.schema.signed) c.self.view_is in
     let missing = ap (value_in c.signed-signed.result) (sym c.field.ensures.value) ∙ sym c.read_value.ensures ∙ c.in_default.is in
     value_stop _ _ _ _ _ c.places.invariant c.places-test.true missing ∙ ap₂ values_in signed order
 
@@ -29,7 +30,7 @@ returns c =
     let fields = fields_of c.args.fields.now in
     let inside = c.self.inside in
     let places = c.deref-place-items.ensures.value ∙ c.self.invariant in
-    let order = ordered inside.schema (fields_of inside.header) fields c.deref-place-items.result.now places
+    let order = ordered inside.schema.value (fields_of inside.header) fields c.deref-place-items.result.now places
     ∙ ap (λ l. in_order l.schema l.header fields) c.self.view_is in
-    let signed = c.signed-signed.ensures ∙ ap (λ l. l.schema.signed) c.self.view_is in
+    let signed = c.signed-signed.ensures ∙ ap (λ (d : Declared). d.signed) c.deref.ensures ∙ ap (λ l. l.schema.signed) c.self.view_is in
     ap Some c.new-3.ensures ∙ value_done _ _ _ _ _ c.places.invariant c.places-test.false ∙ ap₂ values_in signed order
