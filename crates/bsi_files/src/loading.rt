@@ -1,8 +1,8 @@
 //! The loader's part of a run: beside the feeders, and for what is left when they have ended.
 //!
-//! It takes at most 256 rows of a feeder before the next one's turn, so that no ring stays full because another is
-//! long, and publishes from 4,096 held rows on, so that few stand beside the two copies of the table. Such a publish
-//! may be refused memory: the rows stay held. Nobody asks before the last one.
+//! It takes blocks of a feeder until these have 256 rows before the next one's turn, so that no ring stays full because
+//! another is long, and publishes from 4,096 held rows on, so that few stand beside the two copies of the table. Such a
+//! publish may be refused memory: the rows stay held. Nobody asks before the last one.
 
 ghost use Rattle.std.specs.Prelude.{◌≡◌, ◌≢◌, ◌<◌, ◌≤◌, ℕ, [], All, Err, IfErr, IfOk, IfSome, None, OnErr, OnOk, Ok, Some, false, length, true};
 ghost use Rattle.bsi_system.specs.Running.{published_all, taking_at, AlwaysHolds, IsClosingOf};
@@ -19,8 +19,8 @@ use bsi_system::{Closing, LoadRefused, Loader, Naming, Told};
 use bsi_text::SourceFault;
 use std::sync::Wait;
 
-/// The most rows of one feeder that are taken before the next feeder's turn.
-const MAX_IN_TURN: u32 = 256;
+/// Once so many rows of one feeder were taken, the next feeder has its turn.
+const ROWS_IN_TURN: usize = 256;
 
 /// The fewest held rows that are published.
 const MIN_HELD_TO_PUBLISH: u64 = 4_096;
@@ -102,27 +102,30 @@ fn load_some<B: Naming>(loader: &mut Loader<B>, feeder: u32) -> Result<bool, Fil
     ensures system { loader.new.system ≡ loader.old.system }
     ensures early { IfErr result (λ fault. is_early fault ≡ true) }
 {
-    'rows: for taken in 0..MAX_IN_TURN {
-        if !load_one(loader, feeder)? {
-            return Ok(taken > 0);
+    let mut taken = 0usize;
+    'rows: while taken < ROWS_IN_TURN {
+        let rows = load_next(loader, feeder)?;
+        if rows == 0 {
+            break;
         }
+        taken = taken.saturating_add(rows);
     }
-    Ok(true)
+    Ok(taken > 0)
 }
 
-/// Takes the next row of a feeder, and returns whether there was one.
-fn load_one<B: Naming>(loader: &mut Loader<B>, feeder: u32) -> Result<bool, FilesFault>
+/// Takes a block of a feeder or one row, and returns how many rows there were.
+fn load_next<B: Naming>(loader: &mut Loader<B>, feeder: u32) -> Result<usize, FilesFault>
     ensures system { loader.new.system ≡ loader.old.system }
     ensures takes { TakesOnlyOf feeder loader.old.takings loader.new.takings }
-    ensures drained { result ≡ Ok false → IsDrained feeder loader.new.takings }
+    ensures drained { result ≡ Ok 0 → IsDrained feeder loader.new.takings }
     ensures early { IfErr result (λ fault. is_early fault ≡ true) }
     ensures full { result ≡ Err FilesFault.IndexFull → IsFullAt feeder loader.new }
 {
-    match loader.load(feeder) {
-        Ok(()) => Ok(true),
+    match loader.load_block(feeder) {
+        Ok(rows) => Ok(rows),
         Err(LoadRefused::IndexFull) => Err(FilesFault::IndexFull),
         Err(LoadRefused::NoMemory) => Err(FilesFault::NoMemory),
-        Err(LoadRefused::UnknownFeeder | LoadRefused::Ended | LoadRefused::Empty) => Ok(false),
+        Err(LoadRefused::UnknownFeeder | LoadRefused::Ended | LoadRefused::Empty) => Ok(0),
     }
 }
 
@@ -273,7 +276,7 @@ fn drain<B: Naming, R: Wait>(rt: &R, loader: &mut Loader<B>, feeder: u32) -> Res
     ensures full { result ≡ Err FilesFault.IndexFull → IsFullAt feeder loader.new }
 {
     'rows: for _ in rt.forever() {
-        if !load_one(loader, feeder)? {
+        if load_next(loader, feeder)? == 0 {
             return Ok(());
         }
         publish_many(rt, loader);
