@@ -1,5 +1,5 @@
 -- A bit appended to packed words.
-use Rattle.std.proofs.Common.{◌≡◌, ◌≢◌, ℕ, ◌+◌, ◌*◌, ◌/◌, ◌%◌, ◌^◌, ◌<◌, ◌≤◌, Bool, true, false, List, [], ◌∷◌, ◌++◌, length, get_or, set, inl, inr, ap, ap₂, sym, ◌∙◌, refl, arith, length-append, length-set}
+use Rattle.std.proofs.Common.{◌≡◌, ◌≢◌, ℕ, ◌+◌, ◌-◌, ◌*◌, ◌/◌, ◌%◌, ◌^◌, ◌<◌, ◌≤◌, Bool, true, false, List, [], ◌∷◌, ◌++◌, length, get_or, set, inl, inr, ap, ap₂, sym, ◌∙◌, refl, arith, length-append, length-set}
 use Rattle.std.specs.Prelude.{◌==◌, bit_or, max}
 use Rattle.std.specs.Int.{bit_at}
 use mir.Val.{bool_byte}
@@ -9,7 +9,9 @@ use Rattle.std.proofs.lemmas.Bool.Decides.{nat_tests}
 use Rattle.std.proofs.lemmas.Grind.{get_or_default_zero}
 use Rattle.std.proofs.lemmas.Bool.{cases_eq}
 use Rattle.bsi_bits.specs.Packed.{bit_of, bits_of, IsPacked}
-use Rattle.bsi_bits.proofs.Reading.{same_bits, bits_of_more}
+use Rattle.std.proofs.lemmas.List.{get_or_append_left}
+use Rattle.std.proofs.Math.Seq.{get_or-append_seam}
+use Rattle.bsi_bits.proofs.Reading.{same_bits, bits_of_more, bits_are, get_or-bits_of, length-bits_of}
 use Rattle.bsi_bits.proofs.Places.{bit_past, bit_in_written, bit_in_other, bit_before, bit_in_last}
 
 -- the new words have the bit at place n, the old bits before it and nothing after it
@@ -51,6 +53,9 @@ max_zero x = omega arith
 
 zero_max : (x : ℕ) → max 0 x ≡ x
 zero_max x = omega arith
+
+max_one : (x : ℕ) → x < 2 → (max x 1 == 1) ≡ true
+max_one x below = grind (arith, nat_tests)
 
 off_from_false : (b : ℕ) → b < 2 → (b == 1) ≡ false → b ≡ 0
 off_from_false b below off = grind (arith, nat_tests)
@@ -101,3 +106,54 @@ module _ (n : ℕ) (bit : Bool) (words : List ℕ) (packed : IsPacked n words) w
           | inr apart ↦ bit_in_other words (n / 64) (bit_or x moved) i apart ∙ packed.clear i (omega arith)
         ];
       }
+
+-- a 0 in the last word, which is there already
+pub pushes_nothing : (n : ℕ) (words : List ℕ) → IsPacked n words → n % 64 ≢ 0 → Pushes n false words words
+pushes_nothing n words packed partial = record {
+  few = packed.few ∙ omega arith;
+  kept = λ i below. refl;
+  pushed = packed.clear n (omega arith);
+  clear = λ i past. packed.clear i (omega arith);
+}
+
+-- packed words whose last bit is set
+module _ (n : ℕ) (words : List ℕ) (some : 0 < n) (packed : IsPacked n words) (x : ℕ) (read : x ≡ get_or words ((n - 1) / 64) x) where
+  abbrev pub last_set : List ℕ
+  last_set = set words ((n - 1) / 64) (bit_or x (1 * 2 ^ ((n - 1) % 64) % 2 ^ 64))
+
+  set_inside : (n - 1) / 64 < length words
+  set_inside = omega (arith, packed.few, some)
+
+  set_at : bit_of last_set (n - 1) ≡ true
+  set_at =
+      bit_in_written words ((n - 1) / 64) (bit_or x (1 * 2 ^ ((n - 1) % 64) % 2 ^ 64)) set_inside (n - 1) refl
+      ∙ ap (λ b. b == 1) (bit_at_or x (1 * 2 ^ ((n - 1) % 64) % 2 ^ 64) ((n - 1) % 64) ∙ ap (max (bit_at x ((n - 1) % 64))) (moved_same true ((n - 1) % 64) (omega arith)))
+      ∙ max_one (bit_at x ((n - 1) % 64)) (bit_at-lt x ((n - 1) % 64))
+
+  set_other : (i : ℕ) → i ≢ n - 1 → bit_of last_set i ≡ bit_of words i
+  set_other i apart = elim (cases_eq (i / 64) ((n - 1) / 64)) [
+    | inl same ↦
+        bit_in_written words ((n - 1) / 64) (bit_or x (1 * 2 ^ ((n - 1) % 64) % 2 ^ 64)) set_inside i same
+        ∙ ap (λ b. b == 1) (bit_at_or x (1 * 2 ^ ((n - 1) % 64) % 2 ^ 64) (i % 64) ∙ ap (max (bit_at x (i % 64))) (moved_other true ((n - 1) % 64) (i % 64) (omega arith) (omega arith)) ∙ max_zero (bit_at x (i % 64)))
+        ∙ ap (λ w. bit_at w (i % 64) == 1) (read ∙ get_or_default_zero words ((n - 1) / 64) x set_inside ∙ ap (λ k. get_or words k 0) (sym same))
+    | inr elsewhere ↦ bit_in_other words ((n - 1) / 64) (bit_or x (1 * 2 ^ ((n - 1) % 64) % 2 ^ 64)) i elsewhere
+  ]
+
+  pub set_packed : IsPacked n last_set
+  set_packed = record {
+    within = packed.within;
+    few = length-set words ((n - 1) / 64) (bit_or x (1 * 2 ^ ((n - 1) % 64) % 2 ^ 64)) ∙ packed.few;
+    clear = λ i past. set_other i (omega arith) ∙ packed.clear i past;
+  }
+
+  pub set_bits : (front : List Bool) (bit : Bool) → bits_of n words ≡ front ++ bit ∷ [] → bits_of n last_set ≡ front ++ true ∷ []
+  set_bits front bit before =
+      let long : length front ≡ n - 1 = omega (arith, some, sym (length-bits_of n words), ap length before, length-append front (bit ∷ [])) in
+      sym (bits_are n last_set (front ++ true ∷ []) (length-append front (true ∷ []) ∙ omega (arith, long, some)) (λ i within.
+      elim (cases_eq i (n - 1)) [
+        | inl last ↦ ap (λ k. get_or (front ++ true ∷ []) k false) (last ∙ sym long) ∙ get_or-append_seam front true [] false ∙ sym set_at ∙ ap (bit_of last_set) (sym last)
+        | inr other ↦
+            let inside : i < length front = omega (arith, long, within, other) in
+            get_or_append_left front (true ∷ []) false i inside ∙ sym (get_or_append_left front (bit ∷ []) false i inside)
+            ∙ ap (λ bits. get_or bits i false) (sym before) ∙ get_or-bits_of n words i false within ∙ sym (set_other i other)
+      ]))

@@ -1,6 +1,6 @@
 //! Vectors of one length that grow together.
 
-ghost use Rattle.std.specs.Prelude.{◌≡◌, ℕ, ◌+◌, ◌^◌, ◌≤◌, ◌<◌, Bool, [], ◌∷◌, ◌++◌, ◌-◌, length, min, slice_index, IfOk, IsOk, OnErr, OnOk};
+ghost use Rattle.std.specs.Prelude.{◌≡◌, ◌≢◌, ℕ, ◌+◌, ◌%◌, ◌^◌, ◌≤◌, ◌<◌, Bool, List, false, true, [], ◌∷◌, ◌++◌, ◌-◌, length, min, slice_index, IfOk, IsOk, OnErr, OnOk};
 ghost use Rattle.bsi_bits.specs.BitLists.{bits_at, room_at, AreSame, Says};
 ghost use Rattle.bsi_bits.specs.Packed.{bits_of};
 
@@ -120,6 +120,61 @@ impl Bitmaps {
             self.vectors[j].push_reserved(bit_of(j));
         }
         self.room -= 1;
+    }
+
+    /// Appends a 0 to each vector, into room that is already there. Unless a word begins, it writes no word.
+    pub fn push_zeros(&mut self)
+        requires room { 0 < self.old.room }
+        ensures count { length self.new.vectors ≡ length self.old.vectors }
+        ensures bits { (j : ℕ) → j < length self.old.vectors →
+            bits_at self.new.vectors j ≡ bits_at self.old.vectors j ++ false ∷ [] }
+        ensures room { self.new.room + 1 ≡ self.old.room }
+    {
+        if self.len() % 64 == 0 {
+            self.push_each(
+                |_: usize| -> bool
+                    ensures { result ≡ false }
+                { false },
+            );
+        } else {
+            self.lengthen();
+        }
+    }
+
+    /// Appends a 0 to each vector, in the last word.
+    fn lengthen(&mut self)
+        requires room { 0 < self.old.room }
+        requires partial { length (bits_at self.old.vectors 0) % 64 ≢ 0 }
+        ensures count { length self.new.vectors ≡ length self.old.vectors }
+        ensures bits { (j : ℕ) → j < length self.old.vectors →
+            bits_at self.new.vectors j ≡ bits_at self.old.vectors j ++ false ∷ [] }
+        ensures room { self.new.room + 1 ≡ self.old.room }
+    {
+        'vectors: for j in 0..self.vectors.len() {
+            self.vectors[j].lengthen();
+        }
+        self.room -= 1;
+    }
+
+    /// Sets the last bit, which is 0, of each vector from place `from` on and below `to`.
+    pub fn raise_last(&mut self, from: usize, to: usize)
+        requires some { 0 < length (bits_at self.old.vectors 0) }
+        requires within { (from ≤ to) × (to ≤ length self.old.vectors) }
+        ensures count { length self.new.vectors ≡ length self.old.vectors }
+        ensures lengths { (j : ℕ) →
+            length (bits_at self.new.vectors j) ≡ length (bits_at self.old.vectors j) }
+        ensures raised { (j : ℕ) (front : List Bool) → from ≤ j → j < to →
+            bits_at self.old.vectors j ≡ front ++ false ∷ [] →
+            bits_at self.new.vectors j ≡ front ++ true ∷ [] }
+        ensures before { (j : ℕ) → j < from →
+            bits_at self.new.vectors j ≡ bits_at self.old.vectors j }
+        ensures behind { (j : ℕ) → to ≤ j →
+            bits_at self.new.vectors j ≡ bits_at self.old.vectors j }
+        ensures room { self.new.room ≡ self.old.room }
+    {
+        'vectors: for j in from..to {
+            self.vectors[j].raise_last();
+        }
     }
 
     /// Appends the first `count` binary places of its word to each vector, least significant first, into room that is

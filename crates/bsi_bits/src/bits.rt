@@ -1,12 +1,12 @@
 //! The packed vector of bits.
 
-ghost use Rattle.std.specs.Prelude.{◌≡◌, ◌↔◌, ℕ, ◌+◌, ◌-◌, ◌^◌, ◌≤◌, ◌<◌, Some, [], ◌∷◌, ◌++◌, length, min, nat_lt, slice_get, slice_index_or, false, replicate, IsTrue, IsOk, IfOk, OnOk, OnErr};
+ghost use Rattle.std.specs.Prelude.{◌≡◌, ◌≢◌, ◌↔◌, ℕ, Bool, List, ◌+◌, ◌-◌, ◌%◌, ◌^◌, ◌≤◌, ◌<◌, Some, [], ◌∷◌, ◌++◌, length, min, nat_lt, slice_get, slice_index_or, false, true, replicate, IsTrue, IsOk, IfOk, OnOk, OnErr};
 ghost use Rattle.bsi_bits.specs.BitList.{set_places, word_count};
 ghost use Rattle.bsi_bits.specs.Packed.{bit_of, bits_of, IsPacked};
 
 use crate::NoMemory;
 use crate::ones::Ones;
-use crate::packing::{push_bit, push_word, trim};
+use crate::packing::{push_bit, push_word, set_last, trim};
 use std::alloc::Global;
 use std::marker::Model;
 
@@ -190,6 +190,27 @@ impl Bits {
     {
         push_bit(&mut self.words, self.len, bit);
         self.len += 1;
+    }
+
+    /// Appends a 0 in the last word, into room that is already there.
+    pub(crate) fn lengthen(&mut self)
+        requires room { 0 < self.old.room }
+        requires partial { length self.old.bits % 64 ≢ 0 }
+        ensures bits { self.new.bits ≡ self.old.bits ++ false ∷ [] }
+        ensures room { self.new.room + 1 ≡ self.old.room }
+    {
+        self.len += 1;
+    }
+
+    /// Sets the last bit, which is 0.
+    pub(crate) fn raise_last(&mut self)
+        requires { 0 < length self.old.bits }
+        ensures bits { (front : List Bool) → self.old.bits ≡ front ++ false ∷ [] →
+            self.new.bits ≡ front ++ true ∷ [] }
+        ensures len { length self.new.bits ≡ length self.old.bits }
+        ensures room { self.new.room ≡ self.old.room }
+    {
+        set_last(&mut self.words, self.len);
     }
 
     /// Appends the first `count` binary places of a word, least significant first, into room that is already there. The

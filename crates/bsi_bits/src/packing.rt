@@ -1,6 +1,6 @@
 //! Writes of bits and words at the end of packed words.
 
-ghost use Rattle.std.specs.Prelude.{◌≡◌, ℕ, ◌+◌, ◌*◌, ◌%◌, ◌^◌, ◌≤◌, ◌<◌, [], ◌∷◌, ◌++◌, length, slice_index, vec_len, vec_capacity};
+ghost use Rattle.std.specs.Prelude.{◌≡◌, ℕ, List, Bool, true, ◌+◌, ◌*◌, ◌%◌, ◌^◌, ◌≤◌, ◌<◌, [], ◌∷◌, ◌++◌, length, slice_index, vec_len, vec_capacity};
 ghost use Rattle.bsi_bits.specs.BitList.{word_count};
 ghost use Rattle.bsi_bits.specs.Packed.{bits_of, IsPacked};
 
@@ -36,6 +36,19 @@ pub fn push_bit(words: &mut Vec<u64>, n: u64, bit: bool)
         let last = (n / 64) as usize;
         words[last] |= (bit as u64) << place;
     }
+}
+
+/// Sets the last of `n` packed bits.
+pub fn set_last(words: &mut Vec<u64>, n: u64)
+    requires some { 0 < n }
+    requires packed { IsPacked n words.old.items }
+    ensures packed { IsPacked n words.new.items }
+    ensures bits { (front : List Bool) (bit : Bool) → bits_of n words.old.items ≡ front ++ bit ∷ [] →
+        bits_of n words.new.items ≡ front ++ true ∷ [] }
+    ensures capacity { vec_capacity words.new ≡ vec_capacity words.old }
+{
+    let place = n - 1;
+    words[(place / 64) as usize] |= 1 << (place % 64);
 }
 
 /// Appends the first `count` binary places of a word to `n` packed bits, least significant first. They end in the last

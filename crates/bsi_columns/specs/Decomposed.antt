@@ -1,5 +1,5 @@
 -- A column of numbers that keeps the digits of each number under its bases.
-use Rattle.std.specs.Prelude.{◌≡◌, ℕ, ◌+◌, ◌^◌, ◌<◌, ◌≤◌, Bool, false, List, [], Option, Some, None, length, map, is_some, slice_index, slice_index_or, All, if◌then◌else◌}
+use Rattle.std.specs.Prelude.{◌≡◌, ℕ, ◌+◌, ◌/◌, ◌^◌, ◌<◌, ◌≤◌, Bool, false, List, [], Option, Some, None, length, map, is_some, slice_index, slice_index_or, All, if◌then◌else◌}
 use Rattle.std.specs.List.{range_with_len}
 use Rattle.bsi_digits.specs.Digits.{product, digit_of, components, weighted_sum}
 use Rattle.bsi_columns.specs.Rows.{number_or_zero}
@@ -39,3 +39,7 @@ pub record IsRoomy (rows room present : ℕ) (rooms : List ℕ) : Type 0 where
   pub within : rows + room ≤ 2 ^ 32
   pub bitmap : room ≤ present
   pub each : (i : ℕ) → i < length rooms → room ≤ slice_index rooms i
+
+-- the first rests are the quotients of these numbers
+pub record AreQuotients (numbers : List ℕ) (divisor : ℕ) (rests : List ℕ) : Type 0 where
+  pub each : (r : ℕ) → r < length numbers → slice_index rests r ≡ slice_index numbers r / divisor

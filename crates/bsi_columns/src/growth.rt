@@ -1,7 +1,8 @@
 //! Components that grow together: each gets its digits of the numbers that are appended.
 
 ghost use Rattle.std.specs.Prelude.{◌≡◌, ℕ, ◌+◌, ◌^◌, ◌≤◌, ◌<◌, [], ◌∷◌, ◌++◌, All, length, map, slice_index, slice_index_or, OnOk};
-ghost use Rattle.bsi_digits.specs.Digits.{digit_of, product};
+ghost use Rattle.bsi_digits.specs.Digits.{digit_of, product, weight};
+ghost use Rattle.bsi_columns.specs.Decomposed.{AreQuotients};
 
 use crate::{Encoding, NoMemory};
 use bsi_digits::Bases;
@@ -61,40 +62,58 @@ pub(crate) fn push_blocks<E: Encoding>(components: &mut Vec<E>, bases: &Bases, n
         slice_index (map E.room_of components.old.items) i
         ≤ slice_index (map E.room_of components.new.items) i + length numbers.now }
 {
+    // Of each number what is left above the digits that were appended.
+    let mut rests = [0; 64];
+    rests[..numbers.len()].copy_from_slice(numbers);
     for i in 0..bases.len() {
-        push_block(&mut components[i as usize], bases, i, numbers);
+        let component = &mut components[i as usize];
+        push_block(component, bases, i, numbers, &mut rests);
     }
 }
 
-/// Appends to a component its digits of a block of at most 64 numbers, into room that is already there.
-fn push_block<E: Encoding>(component: &mut E, bases: &Bases, i: u32, numbers: &[u64])
+/// Appends to a component its digits of a block of at most 64 numbers, into room that is already there. The rests are
+/// the quotients of the numbers by the weight of that component, and become those by the weight of the next one.
+fn push_block<E: Encoding>(
+    component: &mut E,
+    bases: &Bases,
+    i: u32,
+    numbers: &[u64],
+    rests: &mut [u64; 64],
+)
     requires within { i < length bases.now }
     requires base { E.base_of component.old ≡ slice_index bases.now i }
     requires few { length numbers.now ≤ 64 }
     requires room { length numbers.now ≤ E.room_of component.old }
     requires below { (r : ℕ) → r < length numbers.now →
         slice_index numbers.now r < product bases.now }
+    requires rests { AreQuotients numbers.now (weight bases.now i) rests.old }
     ensures digits { E.digits component.new
         ≡ E.digits component.old ++ map (λ n. digit_of bases.now n i) numbers.now }
     ensures base { E.base_of component.new ≡ E.base_of component.old }
     ensures room { E.room_of component.old ≤ E.room_of component.new + length numbers.now }
+    ensures rests { AreQuotients numbers.now (weight bases.now (i + 1)) rests.new }
 {
     let mut digits = [0; 64];
-    write_digits(bases, i, numbers, &mut digits[..numbers.len()]);
+    write_digits(bases, i, numbers, rests, &mut digits[..numbers.len()]);
     component.push_block_reserved(&digits[..numbers.len()]);
 }
 
-/// Writes for each number its digit of component `i`.
-fn write_digits(bases: &Bases, i: u32, numbers: &[u64], digits: &mut [u32])
+/// Writes for each number its digit of component `i`. The rests are as `push_block` has them.
+fn write_digits(bases: &Bases, i: u32, numbers: &[u64], rests: &mut [u64; 64], digits: &mut [u32])
     requires within { i < length bases.now }
+    requires few { length numbers.now ≤ 64 }
     requires same { length digits.old ≡ length numbers.now }
     requires below { (r : ℕ) → r < length numbers.now →
         slice_index numbers.now r < product bases.now }
+    requires rests { AreQuotients numbers.now (weight bases.now i) rests.old }
     ensures digits { digits.new ≡ map (λ n. digit_of bases.now n i) numbers.now }
     ensures below { (r : ℕ) → r < length numbers.now →
         slice_index digits.new r < slice_index bases.now i }
+    ensures rests { AreQuotients numbers.now (weight bases.now (i + 1)) rests.new }
 {
     for r in 0..numbers.len() {
-        digits[r] = bases.digit(numbers[r], i);
+        let (digit, above) = bases.next_digit(numbers[r], i, rests[r]);
+        digits[r] = digit;
+        rests[r] = above;
     }
 }

@@ -1,7 +1,11 @@
-//! Which binary places of its digits a component keeps.
+//! Which binary places of its digits a component keeps, and how a row's bits are appended.
 
-ghost use Rattle.std.specs.Prelude.{◌≡◌, ◌<◌, ◌≤◌, ◌^◌, ◌==◌};
+ghost use Rattle.std.specs.Prelude.{◌≡◌, ℕ, ◌+◌, ◌-◌, ◌<◌, ◌≤◌, ◌^◌, ◌==◌, ◌&&◌, Bool, List, false, [], ◌∷◌, ◌++◌, length, nat_le, nat_lt};
 ghost use Rattle.std.specs.Int.{bit_at};
+ghost use Rattle.bsi_bits.specs.BitLists.{bits_at};
+ghost use Rattle.bsi_words.specs.Places.{has_place, then_places};
+
+use bsi_bits::Bitmaps;
 
 /// The least base for which binary places are kept. Below it the bitmaps of an encoding are as few, and tell the sum.
 const MIN_BASE_WITH_PLACES: u32 = 4;
@@ -25,4 +29,43 @@ pub(crate) fn is_place_set(digit: u32, place: usize) -> bool
     ensures { place < 32 → result ≡ (bit_at digit place == 1) }
 {
     place < 32 && digit >> place & 1 == 1
+}
+
+/// Appends the bits of a digit, into room that is already there: of the first `own` vectors those from place `from` on
+/// and below `to` get a 1, and those behind them the digit's binary places. It writes the ones alone.
+pub(crate) fn push_digit(bitmaps: &mut Bitmaps, own: usize, from: usize, to: usize, digit: u32)
+    requires room { 0 < bitmaps.old.room }
+    requires ones { (from ≤ to) × (to ≤ own) }
+    requires within { (0 < own) × (own ≤ length bitmaps.old.vectors)
+        × (length bitmaps.old.vectors ≤ own + 10) }
+    ensures count { length bitmaps.new.vectors ≡ length bitmaps.old.vectors }
+    ensures bits { (holds : ℕ → ℕ → Bool) →
+        ((i : ℕ) → i < own → holds i digit ≡ (nat_le from i && nat_lt i to)) →
+        (j : ℕ) → j < length bitmaps.old.vectors →
+        bits_at bitmaps.new.vectors j
+        ≡ bits_at bitmaps.old.vectors j ++ then_places own holds j digit ∷ [] }
+    ensures room { bitmaps.new.room + 1 ≡ bitmaps.old.room }
+{
+    bitmaps.push_zeros();
+    bitmaps.raise_last(from, to);
+    raise_places(bitmaps, own, digit);
+}
+
+/// Sets, behind the first `own` vectors, the last bit of each binary place of a digit that is 1.
+fn raise_places(bitmaps: &mut Bitmaps, own: usize, digit: u32)
+    requires some { 0 < length (bits_at bitmaps.old.vectors 0) }
+    requires within { length bitmaps.old.vectors ≤ own + 10 }
+    ensures count { length bitmaps.new.vectors ≡ length bitmaps.old.vectors }
+    ensures own { (j : ℕ) → j < own →
+        bits_at bitmaps.new.vectors j ≡ bits_at bitmaps.old.vectors j }
+    ensures places { (j : ℕ) (front : List Bool) → own ≤ j → j < length bitmaps.old.vectors →
+        bits_at bitmaps.old.vectors j ≡ front ++ false ∷ [] →
+        bits_at bitmaps.new.vectors j ≡ front ++ has_place (j - own) digit ∷ [] }
+    ensures room { bitmaps.new.room ≡ bitmaps.old.room }
+{
+    'places: for j in own..bitmaps.as_slice().len() {
+        if is_place_set(digit, j - own) {
+            bitmaps.raise_last(j, j + 1);
+        }
+    }
 }

@@ -1,6 +1,6 @@
 //! A list of bases, under which a number has its digits.
 
-ghost use Rattle.std.specs.Prelude.{◌≡◌, ℕ, ◌^◌, ◌<◌, ◌≤◌, ◌↔◌, length, slice_index, position, sum, reverse, replicate, EachIndex, IsNone, IfNone, IfOk, IfErr, IfSome, IsErrOf};
+ghost use Rattle.std.specs.Prelude.{◌≡◌, ℕ, ◌+◌, ◌/◌, ◌^◌, ◌<◌, ◌≤◌, ◌↔◌, length, slice_index, position, sum, reverse, replicate, EachIndex, IsNone, IfNone, IfOk, IfErr, IfSome, IsErrOf};
 ghost use Rattle.std.specs.Result.{result_err};
 ghost use Rattle.bsi_digits.specs.Digits.{product, weight, digit_of, IsBase, IsBaseList};
 ghost use Rattle.bsi_digits.specs.Refusal.{refusal, is_bad_base, IsFirstOr};
@@ -134,8 +134,22 @@ impl Bases {
         ensures below { result < slice_index self.now i }
     {
         let from_here = self.divisor(i as usize).quotient(v);
+        self.next_digit(v, i, from_here).0
+    }
+
+    /// Returns the digit of component `i` of `v`, where `from_here` is the quotient of `v` by the weight of that
+    /// component, and then the quotient by the weight of the next one. It costs one multiplication less than `digit`.
+    pub fn next_digit(&self, v: u64, i: u32, from_here: u64) -> (u32, u64)
+        requires within { i < length self.now }
+        requires below { v < product self.now }
+        requires from { from_here ≡ v / weight self.now i }
+        ensures digit { result.0 ≡ digit_of self.now v i }
+        ensures below { result.0 < slice_index self.now i }
+        ensures above { result.1 ≡ v / weight self.now (i + 1) }
+    {
         let above = self.divisor(i as usize + 1).quotient(v);
-        (from_here - above * u64::from(self.base(i))) as u32
+        let digit = from_here - above * u64::from(self.base(i));
+        (digit as u32, above)
     }
 
     /// Returns the weight of a digit of component `i`: the product of the bases below it.

@@ -4,6 +4,7 @@ ghost use Rattle.std.specs.Prelude.{◌≡◌, [], length};
 ghost use Rattle.bsi_table.specs.Table.{no_rows};
 ghost use Rattle.bsi_system.specs.Running.{IsFeederOf};
 
+use crate::blocks::send_blocks;
 use crate::calls::{ask, capacity, count_of, load, opened, publish, quantities, row, sum_of};
 use bsi_system::{
     Analyst, AnalystRefused, Feeder, History, LoadRefused, Loader, Naming, SubmitRefused, System,
@@ -22,6 +23,7 @@ enum Worked {
     DroppedFeeder,
     Told,
     RefusedMemory,
+    Blocks,
 }
 
 /// Sends two rows, and one that does not fit.
@@ -218,6 +220,7 @@ fn play<B: Naming, R: Wait + Abort>(
         Worked::DroppedFeeder => dropped_feeder(rt, alloc, feeder, loader, &mut first),
         Worked::Told => told(rt, alloc, feeder, loader, &mut first),
         Worked::RefusedMemory => refused_memory(rt, alloc, feeder, loader, &mut first),
+        Worked::Blocks => send_blocks(rt, alloc, feeder, loader, &mut first),
     }
 }
 
@@ -281,4 +284,9 @@ fn told_versions(rt: HostRuntime) -> Result<(), Fail> {
 #[test]
 fn publish_refused_memory(rt: HostRuntime) -> Result<(), Fail> {
     worked_twice(&rt, rt.alloc(), Worked::RefusedMemory)
+}
+
+#[test]
+fn blocks_of_rows(rt: HostRuntime) -> Result<(), Fail> {
+    worked_twice(&rt, rt.alloc(), Worked::Blocks)
 }

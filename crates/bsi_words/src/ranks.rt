@@ -12,7 +12,7 @@ ghost use Rattle.bsi_words.specs.Places.{has_place, IsEncoded};
 ghost use Rattle.bsi_words.specs.Ranks.{word_kept, IsRankedRows};
 
 use crate::sums::is_empty;
-use bsi_bits::{Bits, know_fits};
+use bsi_bits::{Bits, know_fits, lanes};
 use std::simd::u64x4;
 
 /// The number of words in a block that is narrowed. It is small, since narrowing leaves more and more blocks with no
@@ -49,7 +49,7 @@ pub fn rows_of_rank(places: &[Bits], rank: u64, found: Bits) -> RankedRows
 {
     let len = found.len();
     let mut last = places.len() - 1;
-    let mut choice = choose(rank, found.count_and_not(&places[last]));
+    let mut choice = choose(rank, count_clear(&found, &places[last]));
     let mut number = 0;
     let mut rows = found.into_words();
     'places: while last > 0 {
@@ -90,6 +90,48 @@ fn choose(rank: u64, clear: u64) -> Choice
             rank: rank - clear,
         }
     }
+}
+
+/// Returns how many rows of a found set are clear in a slice.
+fn count_clear(found: &Bits, slice: &Bits) -> u64
+    requires { length found.now.bits ≡ length slice.now.bits }
+    ensures { result ≡ count_by (λ b. b) (zip2 without found.now.bits slice.now.bits) }
+{
+    // The proof takes from this that there are at most 2^32 rows.
+    prove!(found.len() <= 1 << 32);
+    let (words, others) = (found.words(), slice.words());
+    know_fits(words);
+    know_fits(others);
+    count_words(words, others)
+}
+
+/// Counts in words as `count_clear` does, block by block.
+fn count_words(words: &[u64], others: &[u64]) -> u64
+    requires few { length words.now ≤ 2 ^ 26 }
+    requires same { length others.now ≡ length words.now }
+    ensures { result ≡ sum_by count_ones (zip2 (word_kept false) words.now others.now) }
+{
+    let len = words.len();
+    let mut clear = 0;
+    'blocks: for k in 0..len.div_ceil(BLOCK_WORDS) {
+        let at = BLOCK_WORDS * k;
+        let end = len.min(at + BLOCK_WORDS);
+        clear += count_block(&words[at..end], &others[at..end]);
+    }
+    clear
+}
+
+/// Counts in the words of a block as `count_clear` does. If they have no row, it reads nothing else.
+fn count_block(words: &[u64], others: &[u64]) -> u64
+    requires few { length words.now ≤ BLOCK_WORDS }
+    requires same { length others.now ≡ length words.now }
+    ensures clear { result ≡ sum_by count_ones (zip2 (word_kept false) words.now others.now) }
+    ensures few { result ≤ 64 * BLOCK_WORDS }
+{
+    if is_empty(words) {
+        return 0;
+    }
+    lanes::count_and_not(words, others) as u64
 }
 
 /// Keeps those of the chosen rows that are set in a slice or, as wanted, those that are clear there. Returns how many

@@ -13,7 +13,7 @@ use crate::NoMemory;
 use crate::answers::EndDigit;
 use crate::encoding::Encoding;
 use crate::equality::{EqualityComponent, first_stored, push_block};
-use crate::places::{is_place_set, place_count};
+use crate::places::{place_count, push_digit};
 use bsi_bits::{Bitmaps, Bits};
 use bsi_words::blocks::{add_missing, copy_in, drop_in, keep_in};
 use bsi_words::{RankedRows, rows_of_rank, sum_by_places};
@@ -57,18 +57,9 @@ impl Encoding for EqualityComponent {
     fn push_reserved(&mut self, digit: u32) {
         let first = first_stored(self.base);
         let own = (self.base - first) as usize;
-        self.bitmaps.push_each(
-            |j: usize| -> bool
-                ensures { j < own + 32 →
-                    result ≡ then_places own (λ i v. v == first + i) j digit }
-            {
-                if j < own {
-                    digit >= first && (digit - first) as usize == j
-                } else {
-                    is_place_set(digit, j - own)
-                }
-            },
-        );
+        // Under base 2 the digit 0 has no bitmap.
+        let to = (digit + 1 - first) as usize;
+        push_digit(&mut self.bitmaps, own, to.saturating_sub(1), to, digit);
     }
 
     fn push_block_reserved(&mut self, block: &[u32]) {

@@ -12,7 +12,7 @@ ghost use Rattle.bsi_components.specs.EndDigits.{AnswersGreatest, AnswersLeast};
 use crate::NoMemory;
 use crate::answers::EndDigit;
 use crate::encoding::Encoding;
-use crate::places::{is_place_set, place_count};
+use crate::places::{place_count, push_digit};
 use crate::range::{RangeComponent, push_block};
 use bsi_bits::{Bitmaps, Bits};
 use bsi_words::blocks::{add_in, copy_in, drop_in, keep_and_add, keep_but_drop, keep_in};
@@ -51,17 +51,7 @@ impl Encoding for RangeComponent {
 
     fn push_reserved(&mut self, digit: u32) {
         let own = self.base as usize - 1;
-        self.bitmaps.push_each(
-            |j: usize| -> bool
-                ensures { j < own + 32 → result ≡ then_places own (λ i v. nat_le v i) j digit }
-            {
-                if j < own {
-                    digit as usize <= j
-                } else {
-                    is_place_set(digit, j - own)
-                }
-            },
-        );
+        push_digit(&mut self.bitmaps, own, digit as usize, own, digit);
     }
 
     fn push_block_reserved(&mut self, block: &[u32]) {

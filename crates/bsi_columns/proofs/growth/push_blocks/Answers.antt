@@ -1,10 +1,15 @@
-use Rattle.std.proofs.Common.{◌≡◌, ◌<◌, ℕ, List, length, map, ◌∙◌, refl, arith}
+use Rattle.std.proofs.Common.{◌≡◌, ◌<◌, ℕ, List, length, map, get_or, ap, ◌∙◌, refl, arith}
+use Rattle.std.proofs.lemmas.List.{get_or_append_left}
 use Rattle.bsi_digits.specs.Digits.{digit_of}
 use Rattle.bsi_columns.proofs.ComponentLists.{map_kept, digits_more, rest_after, room_of_old, room_spent, room_after, length-map_is}
 use Rattle.bsi_columns.proofs.growth.push_blocks.Goals as goal
 
 pub loop-i-init : goal.loop-i-init
 loop-i-init g c = record {
+  quotients = record {
+    each = λ r below. get_or_append_left c.copy_from_slice.new.self _ 0 r (omega (arith, below, ap length c.copy_from_slice.ensures.after))
+        ∙ ap (λ xs. get_or xs r 0) c.copy_from_slice.ensures.after ∙ omega arith;
+  };
   bases = c.requires.bases;
   done = λ k below. absurd (omega arith);
   rest = λ k from. refl;
@@ -18,7 +23,7 @@ push_block-requires-clause-room g c =
     let at = c.loop-i.i in
     let count : length items ≡ length c.args.bases.now = length-map_is g.E.Encoding.base_of items c.args.bases.now c.loop-i.invariant.bases in
     let first : length c.args.components.now.items ≡ length c.args.bases.now = length-map_is g.E.Encoding.base_of c.args.components.now.items c.args.bases.now c.requires.bases in
-    let here = room_of_old g.E.Encoding.room_of items at c.index_mut.result.now c.index_mut.result.now (omega arith) c.index_mut.ensures.value in
+    let here = room_of_old g.E.Encoding.room_of items at c.index_mut-component.result.now c.index_mut-component.result.now (omega arith) c.index_mut-component.ensures.value in
     omega (arith, here, c.loop-i.invariant.room at (omega arith), c.requires.room at (omega arith))
 
 pub loop-i-preserved : goal.loop-i-preserved
@@ -26,16 +31,17 @@ loop-i-preserved g c =
     let items = c.loop-i.components.items in
     let old = c.args.components.now.items in
     let at = c.loop-i.i in
-    let read = c.index_mut.result.now in
+    let read = c.index_mut-component.result.now in
     let new = c.push_block.new.component in
     let count : length items ≡ length c.args.bases.now = length-map_is g.E.Encoding.base_of items c.args.bases.now c.loop-i.invariant.bases in
     let within : at < length items = omega arith in
     let added : ℕ → List ℕ = λ k. map (λ n. digit_of c.args.bases.now n k) c.args.numbers.now in
     record {
-      bases = map_kept g.E.Encoding.base_of items at read new within c.index_mut.ensures.value c.push_block.ensures.base ∙ c.loop-i.invariant.bases;
-      done = digits_more g.E.Encoding.digits items old at read new added within c.index_mut.ensures.value
+      quotients = c.push_block.ensures.rests;
+      bases = map_kept g.E.Encoding.base_of items at read new within c.index_mut-component.ensures.value c.push_block.ensures.base ∙ c.loop-i.invariant.bases;
+      done = digits_more g.E.Encoding.digits items old at read new added within c.index_mut-component.ensures.value
           c.push_block.ensures.digits c.loop-i.invariant.done c.loop-i.invariant.rest;
       rest = rest_after g.E.Encoding.digits items old at read new added within c.loop-i.invariant.rest;
-      spent = room_spent g.E.Encoding.room_of items at read new within c.index_mut.ensures.value old (length c.args.numbers.now) c.push_block.ensures.room c.loop-i.invariant.spent c.loop-i.invariant.room;
-      room = room_after g.E.Encoding.room_of items at read new within c.index_mut.ensures.value old c.loop-i.invariant.room;
+      spent = room_spent g.E.Encoding.room_of items at read new within c.index_mut-component.ensures.value old (length c.args.numbers.now) c.push_block.ensures.room c.loop-i.invariant.spent c.loop-i.invariant.room;
+      room = room_after g.E.Encoding.room_of items at read new within c.index_mut-component.ensures.value old c.loop-i.invariant.room;
     }

@@ -39,8 +39,8 @@ places-init c =
       ranked = λ numbers encoded below same.
           let start : IsRankedAbove (top + 1) c.args.rank found numbers 0 c.args.rank found =
           subst (λ (n : ℕ). IsRankedAbove n c.args.rank found numbers 0 c.args.rank found) above (ranked_start c.args.rank found numbers (length c.args.places.now) same below c.requires.there) in
-          let step = ranked_step c.args.rank found numbers top 0 c.args.rank c.count_and_not.result c.choose-choice.result.rank c.choose-choice.result.is_set found place start
-          (place_is ∙ encoded.each top within) (ap length place_is ∙ c.requires.same top within) c.count_and_not.ensures c.choose-choice.ensures.rank c.choose-choice.ensures.clear in
+          let step = ranked_step c.args.rank found numbers top 0 c.args.rank c.count_clear.result c.choose-choice.result.rank c.choose-choice.result.is_set found place start
+          (place_is ∙ encoded.each top within) (ap length place_is ∙ c.requires.same top within) c.count_clear.ensures c.choose-choice.ensures.rank c.choose-choice.ensures.clear in
           subst (λ (rows : List Bool). IsRankedAbove top c.args.rank found numbers (0 + cond c.choose-choice.result.is_set 1 0) c.choose-choice.result.rank rows)
           (ap₂ (zip2 (λ f b. f && (if c.choose-choice.result.is_set then b else not b))) all place_is) step;
     }

@@ -1,34 +1,5 @@
-use Rattle.std.proofs.Common.{◌≡◌, ◌+◌, ◌*◌, ◌/◌, ◌<◌, slice_index, ap, ◌∙◌, arith}
-use Rattle.bsi_digits.specs.Digits.{digit_of}
-use Rattle.bsi_digits.proofs.Parts.{high_parts, digit_below}
+use Rattle.std.proofs.Common.{◌/◌, ap, ◌∙◌}
 use Rattle.bsi_digits.proofs.bases.Bases.digit.Goals as goal
-use Rattle.bsi_digits.proofs.bases.Bases.digit.Goals.{After-from}
 
--- the part from the component on is that above it, times the base, and the digit
-parts : (c : After-from) → c.quotient-from_here.result ≡ c.quotient-above.result * c.from.result + digit_of c.args.self.now c.args.v c.args.i
-parts c =
-    high_parts c.divisor.ensures.valid c.args.v c.args.i c.quotient-from_here.result c.quotient-above.result c.from.result
-    c.requires.within (c.quotient-from_here.ensures ∙ ap (λ w. c.args.v / w) c.divisor.ensures.weight)
-    (c.quotient-above.ensures ∙ ap (λ w. c.args.v / w) c.divisor-2.ensures.weight) (c.from.ensures ∙ c.base.ensures.base)
-
-below : (c : After-from) → digit_of c.args.self.now c.args.v c.args.i < slice_index c.args.self.now c.args.i
-below c = digit_below c.divisor.ensures.valid c.args.v c.args.i c.requires.within
-
-pub overflow_mul-result : goal.overflow_mul-result
-overflow_mul-result c = omega (arith, parts (goal.at.overflow_mul-result c).After-from)
-
-pub overflow_sub-result : goal.overflow_sub-result
-overflow_sub-result c = omega (arith, parts (goal.at.overflow_sub-result c).After-from)
-
-pub overflow_cast-result : goal.overflow_cast-result
-overflow_cast-result c =
-    let at = (goal.at.overflow_cast-result c).After-from in
-    omega (arith, parts at, below at)
-
-pub returns-clause-digit : goal.returns-clause-digit
-returns-clause-digit c = omega (arith, parts (goal.at.returns-clause-digit c).After-from)
-
-pub returns-clause-below : goal.returns-clause-below
-returns-clause-below c =
-    let at = (goal.at.returns-clause-below c).After-from in
-    omega (arith, parts at, below at)
+pub next_digit-requires-clause-from : goal.next_digit-requires-clause-from
+next_digit-requires-clause-from c = c.quotient-from_here.ensures ∙ ap (λ w. c.args.v / w) c.divisor.ensures.weight

@@ -45,7 +45,7 @@ invariant_of-self-2 g c =
     let held = ap (λ w. length w.held) c.self.view_is in
     let limit = ap (λ w. w.table.limit) c.self.view_is in
     let long : length own.rows ≡ c.len.result = ap (λ (b : RowBlock). length b.rows) c.in_ok-own.ensures
-    ∙ length-map (entries_of c.args.block.now.rows) (λ row. (c.args.feeder, row)) ∙ length-map c.args.block.now.rows (λ row. row.1) ∙ sym c.len.ensures.len in
+    ∙ length-map (entries_of c.args.block.now.rows) _ ∙ length-map c.args.block.now.rows _ ∙ sym c.len.ensures.len in
     let free = free_places shown.table.rows (rows_of pending) p.stage.rows shown.table.limit p.free _ _ _ c.len.result rows held limit c.self.invariant.0.places (omega (arith, c.requires.room, c.len.ensures.len)) in
     let many : less + length own.rows ≡ p.free = ap (λ n. less + n) long ∙ free in
     let writing = staged_writing book about shown pending p.stage.rows p.history p.free c.self.invariant.0 more left staged in
