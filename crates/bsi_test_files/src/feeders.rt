@@ -6,7 +6,7 @@ ghost use Rattle.bsi_table.specs.Table.{no_rows};
 ghost use Rattle.bsi_system.specs.Running.{IsFeederOf};
 
 use crate::gates::{Meeting, Patience};
-use crate::inputs::{Input, broken, text};
+use crate::inputs::{Input, broken, long, text};
 use bsi_files::{FeedEnd, Gate, Go, feed};
 use bsi_system::{Feeder, History, LoadRefused, Loader, Naming, OpenRefused, System, open};
 use bsi_table::{ColumnSpec, Schema};
@@ -26,6 +26,16 @@ enum Tried {
     BrokenReader,
     StoppedByTheGate,
     AnotherSchema,
+    StoppedAtABlock,
+    AnotherSchemaOfManyPlaces,
+}
+
+/// How many places each ring has.
+fn places(tried: Tried) -> u32 {
+    match tried {
+        Tried::StoppedAtABlock | Tried::AnotherSchemaOfManyPlaces => 64,
+        _ => 2,
+    }
 }
 
 fn quantities(alloc: Global, size: u32) -> Result<Schema, AllocError> {
@@ -130,6 +140,26 @@ fn stopped_by_the_gate<R: Wait + Abort>(rt: &R, alloc: Global, feeder: Feeder) -
     Some(())
 }
 
+/// Feeds a file of 70 rows to a ring of 64 places. Asserts that one block is accepted, and that the gate stops the feeder
+/// at the next.
+fn stopped_at_a_block<R: Wait + Abort>(rt: &R, alloc: Global, feeder: Feeder) -> Option<()> {
+    let gate = Patience::new(3);
+    let end = feed(
+        rt,
+        feeder,
+        source(alloc, 3, long("qty\n", "1\n", 70))?,
+        &gate,
+    );
+    if end.fault == Some(SourceFault::NoMemory) || end.accepted != 64 {
+        return None;
+    }
+    assert!(rt; end.bad == 0 && end.stopped);
+    assert!(rt; end.fault.is_none() && end.closing.is_some());
+    assert_eq!(rt; gate.passes(), 71);
+    assert_eq!(rt; gate.tries(), 4);
+    Some(())
+}
+
 /// Feeds from a source of another schema. Asserts that the feeder stops at a row that does not fit.
 fn another_schema<R: Wait + Abort>(rt: &R, alloc: Global, feeder: Feeder) -> Option<()> {
     let gate = Patience::new(3);
@@ -158,7 +188,8 @@ fn play<B: Naming, R: Threads + Wait + Abort + Sync>(
         Tried::SideBySide => side_by_side(rt, alloc, first, second),
         Tried::BrokenReader => broken_reader(rt, alloc, loader, second),
         Tried::StoppedByTheGate => stopped_by_the_gate(rt, alloc, first),
-        Tried::AnotherSchema => another_schema(rt, alloc, first),
+        Tried::StoppedAtABlock => stopped_at_a_block(rt, alloc, first),
+        Tried::AnotherSchema | Tried::AnotherSchemaOfManyPlaces => another_schema(rt, alloc, first),
     }
 }
 
@@ -198,7 +229,7 @@ fn try_in<B: Naming, R: Threads + Wait + Abort + Sync>(
 
 fn try_once<R: Threads + Wait + Abort + Sync>(rt: &R, alloc: Global, tried: Tried) -> Option<()> {
     let schema = quantities(alloc, 3).ok()?;
-    let capacities = two(alloc, 2).ok()?;
+    let capacities = two(alloc, places(tried)).ok()?;
     try_in::<Brand, R>(rt, alloc, tried, History::new(), schema, capacities)
 }
 
@@ -232,4 +263,14 @@ fn a_feeder_stops_where_the_gate_says(rt: HostRuntime) -> Result<(), Fail> {
 #[test]
 fn a_feeder_stops_at_a_row_that_does_not_fit(rt: HostRuntime) -> Result<(), Fail> {
     try_twice(&rt, rt.alloc(), Tried::AnotherSchema)
+}
+
+#[test]
+fn a_feeder_sends_blocks(rt: HostRuntime) -> Result<(), Fail> {
+    try_twice(&rt, rt.alloc(), Tried::StoppedAtABlock)
+}
+
+#[test]
+fn a_feeder_tests_each_row_of_another_schema(rt: HostRuntime) -> Result<(), Fail> {
+    try_twice(&rt, rt.alloc(), Tried::AnotherSchemaOfManyPlaces)
 }
