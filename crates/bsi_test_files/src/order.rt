@@ -33,6 +33,7 @@ fn the_first_row_file_that_fails_is_told(rt: HostRuntime) -> Result<(), Fail> {
 }
 
 // Follows the calls of feeder 1: one for each row that it tries, in order, and one at its end. Feeder 0 has no row.
+// Counts as a stop where the end names the first row of a block that was not accepted.
 #[derive(Drop)]
 struct Follower {
     passes: AtomicU64,
@@ -60,14 +61,18 @@ fn calls(counted: &AtomicU64) -> u64 {
     counted.load(Ordering::SeqCst)
 }
 
+// Whether the row is one of the last 64 of so many.
+fn is_in_block(point: u64, passes: u64) -> bool {
+    point < passes && passes - point <= 64
+}
+
 impl Gate for Follower {
     fn pass<R: Wait>(&self, _rt: &R, who: u32, point: u64) {
         let before = if who == 1 { calls(&self.passes) } else { 0 };
         if who == 1 {
             count(&self.passes);
         }
-        // A row that was not accepted is passed once more at the end.
-        if point.saturating_add(1) == before {
+        if is_in_block(point, before) {
             count(&self.stops);
         } else if point != before {
             count(&self.strange);
@@ -76,7 +81,7 @@ impl Gate for Follower {
 
     fn again<R: Wait>(&self, _rt: &R, who: u32, point: u64) -> bool {
         count(&self.tries);
-        if who != 1 || point.saturating_add(1) != calls(&self.passes) {
+        if who != 1 || !is_in_block(point, calls(&self.passes)) {
             count(&self.strange);
         }
         true
@@ -91,7 +96,7 @@ impl Stopping for Follower {
     ghost STOPS = { false };
 }
 
-// Of 1,100 rows the table takes 10 and the ring 1,024 more.
+// Of 1,100 rows the ring takes 16 blocks of 64, and the table 10 rows of these. The next block finds no room.
 #[test]
 fn a_feeder_that_stops_names_its_row(rt: HostRuntime) -> Result<(), Fail> {
     let files = Files {
@@ -101,13 +106,13 @@ fn a_feeder_that_stops_names_its_row(rt: HostRuntime) -> Result<(), Fail> {
     };
     let mut gate = Follower::new();
     let mut ended = end_once(&rt, files, &gate);
-    if wants_memory(&ended) || calls(&gate.passes) != 1_036 {
+    if wants_memory(&ended) || calls(&gate.passes) != 1_089 {
         gate = Follower::new();
         ended = end_once(&rt, files, &gate);
     }
     assert_eq!(&rt; ended?.run, Err(FilesFault::IndexFull));
     assert!(&rt; calls(&gate.tries) > 0);
-    assert_eq!(&rt; calls(&gate.passes), 1_036);
+    assert_eq!(&rt; calls(&gate.passes), 1_089);
     assert_eq!(&rt; calls(&gate.stops), 1);
     assert_eq!(&rt; calls(&gate.strange), 0);
     Ok(())
