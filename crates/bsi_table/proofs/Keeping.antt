@@ -31,7 +31,7 @@ unfolding shifted_entries
 shifted_nothing c stored is nothing = ap (λ es. map (option_map (number_of c.offset)) es) (ap any_entries is ∙ nothing)
 
 -- a form has the size of the form that a column of it is kept in
-size-kept_form : (form : Form) → size_in_form (kept_form form) ≡ size_in form
+pub size-kept_form : (form : Form) → size_in_form (kept_form form) ≡ size_in form
 size-kept_form (Slices w) = refl
 size-kept_form (Equality bs) = refl
 size-kept_form (Range bs) = refl
@@ -154,48 +154,3 @@ module _ (columns : List NamedColumn) (kept : List OffsetColumn) (n : ℕ) (are 
       (λ c within.
       ap (is_taken_by (column_at columns c)) (entry-row_in kept c r (omega (arith, within, are.long)))
       ∙ taken_at (column_at columns c) (kept_at kept c) n (are.each c within) r below)
-
--- two lists of columns that are kept alike
-module _ (columns others : List NamedColumn) (kept other_kept : List OffsetColumn) (n m : ℕ) (are : AreKept columns kept n) (other_are : AreKept others other_kept m) where
-  -- each column has the form and the offset of the other list's
-  pub alike_columns : map kept_as columns ≡ map kept_as others → AreAlikeColumns kept other_kept
-  alike_columns alike k within =
-      let here : k < length columns = omega (arith, within, are.long) in
-      let there : k < length others = omega (arith, here, ap length alike, length-map columns kept_as, length-map others kept_as) in
-      let same : kept_as (column_at columns k) ≡ kept_as (column_at others k) =
-      sym (get_or-map kept_as columns k no_column (kept_as no_column) here)
-      ∙ ap (λ xs. slice_index_or xs k (kept_as no_column)) alike
-      ∙ get_or-map kept_as others k no_column (kept_as no_column) there in
-      record {
-        offset = (other_are.each k there).offset ∙ sym (ap (λ p. p.1) same) ∙ sym (are.each k here).offset;
-        form = (other_are.each k there).form ∙ sym (ap (λ p. p.0) same) ∙ sym (are.each k here).form;
-      }
-
-  -- and so are the columns of their schemas
-  pub alike_schemas : length other_kept ≡ length kept → AreAlikeColumns kept other_kept → map kept_as columns ≡ map kept_as others
-  alike_schemas long alike =
-      ext_get_or (kept_as no_column) (map kept_as columns) (map kept_as others)
-      (length-map columns kept_as ∙ sym are.long ∙ sym long ∙ other_are.long ∙ sym (length-map others kept_as))
-      (λ k below.
-      let here : k < length columns = omega (arith, below, length-map columns kept_as) in
-      let there : k < length others = omega (arith, here, long, are.long, other_are.long) in
-      let same = alike k (omega (arith, here, are.long)) in
-      get_or-map kept_as columns k no_column (kept_as no_column) here
-      ∙ ap₂ (λ (form : AnyForm) (offset : ℤ). (form, offset))
-      (sym (are.each k here).form ∙ sym same.form ∙ (other_are.each k there).form)
-      (sym (are.each k here).offset ∙ sym same.offset ∙ (other_are.each k there).offset)
-      ∙ sym (get_or-map kept_as others k no_column (kept_as no_column) there))
-
--- columns that are kept alike take the same numbers
-limits_kept : AnyForm × ℤ → Limits
-limits_kept kept = record { least = kept.1; size = size_in_form kept.0 }
-
-limits-kept_as : (column : NamedColumn) → limits_kept (kept_as column) ≡ limits_of column
-limits-kept_as column = ap (λ (size : ℕ). record { least = column.offset; size = size }) (size-kept_form column.form)
-
-limits-columns : (columns : List NamedColumn) → map limits_of columns ≡ map limits_kept (map kept_as columns)
-limits-columns [] = refl
-limits-columns (column ∷ columns) = ap₂ (λ (x : Limits) (xs : List Limits). x ∷ xs) (sym (limits-kept_as column)) (limits-columns columns)
-
-pub alike-kept : (first second : Declared) → AreKeptAlike first second → AreAlike first second
-alike-kept first second alike = limits-columns first.columns ∙ ap (map limits_kept) alike ∙ sym (limits-columns second.columns)
