@@ -134,6 +134,18 @@ impl Column for AnyColumn {
         }
     }
 
+    fn push_all_reserved(&mut self, other: &Self) {
+        match (self, other) {
+            (AnyColumn::Slices(column), AnyColumn::Slices(more)) => column.push_all_reserved(more),
+            (AnyColumn::Equality(column), AnyColumn::Equality(more)) => {
+                column.push_all_reserved(more)
+            }
+            (AnyColumn::Range(column), AnyColumn::Range(more)) => column.push_all_reserved(more),
+            // The two are of one form.
+            _ => unreachable!(),
+        }
+    }
+
     fn compare(&self, op: Op, constant: u64) -> Result<Bits, NoMemory> {
         match self {
             AnyColumn::Slices(column) => column.compare(op, constant),
