@@ -1,7 +1,7 @@
 //! The number of a rank at the rows of a found set, by its binary places from the most significant down.
 //!
-//! A step narrows the rows by the place of the step before, and at once counts those that are clear in its own. It skips
-//! blocks of 32 words that have no row any more.
+//! A step narrows the rows by the place of the step before, and at once counts those that are clear in its own. It passes
+//! over lines of a cache that have no row any more, and reads nothing else there.
 
 ghost use Rattle.std.specs.Prelude.{◌≡◌, ℕ, List, ◌+◌, ◌*◌, ◌^◌, ◌≤◌, ◌<◌, ◌&&◌, false, if◌then◌else◌, length, not, slice_index, sum_by, count_by, count_ones};
 ghost use Rattle.std.specs.Simd.Lanes.{zip2};
@@ -11,16 +11,9 @@ ghost use Rattle.bsi_bits.specs.Packed.{bits_of, IsPacked};
 ghost use Rattle.bsi_words.specs.Places.{has_place, IsEncoded};
 ghost use Rattle.bsi_words.specs.Ranks.{word_kept, IsRankedRows};
 
-use crate::sums::is_empty;
-use bsi_bits::{Bits, know_fits, lanes};
-use std::simd::u64x4;
-
-/// The number of words in a block that is narrowed. It is small, since narrowing leaves more and more blocks with no
-/// row.
-const BLOCK_WORDS: usize = 32;
-
-/// The number of words that are narrowed at a time.
-const LANES: usize = 4;
+use crate::sums::{LINE_WORDS, is_empty};
+use bsi_bits::{Bits, know_fits};
+use std::simd::u64x8;
 
 /// The rows that have the number of a rank, that number, and the rank of its row among them.
 #[derive(Drop)]
@@ -105,33 +98,26 @@ fn count_clear(found: &Bits, slice: &Bits) -> u64
     count_words(words, others)
 }
 
-/// Counts in words as `count_clear` does, block by block.
+/// Counts in words as `count_clear` does. It passes over lines that have no row.
 fn count_words(words: &[u64], others: &[u64]) -> u64
     requires few { length words.now ≤ 2 ^ 26 }
     requires same { length others.now ≡ length words.now }
     ensures { result ≡ sum_by count_ones (zip2 (word_kept false) words.now others.now) }
 {
-    let len = words.len();
-    let mut clear = 0;
-    'blocks: for k in 0..len.div_ceil(BLOCK_WORDS) {
-        let at = BLOCK_WORDS * k;
-        let end = len.min(at + BLOCK_WORDS);
-        clear += count_block(&words[at..end], &others[at..end]);
+    let whole = words.len() / LINE_WORDS;
+    let mut clear = 0u64;
+    'lines: for k in 0..whole {
+        let at = LINE_WORDS * k;
+        let rows = u64x8::from_slice(&words[at..]);
+        if is_empty(rows.as_array()) {
+            continue;
+        }
+        clear += ones_in(words_without(rows, u64x8::from_slice(&others[at..])));
+    }
+    'words: for i in LINE_WORDS * whole..words.len() {
+        clear += u64::from((words[i] & !others[i]).count_ones());
     }
     clear
-}
-
-/// Counts in the words of a block as `count_clear` does. If they have no row, it reads nothing else.
-fn count_block(words: &[u64], others: &[u64]) -> u64
-    requires few { length words.now ≤ BLOCK_WORDS }
-    requires same { length others.now ≡ length words.now }
-    ensures clear { result ≡ sum_by count_ones (zip2 (word_kept false) words.now others.now) }
-    ensures few { result ≤ 64 * BLOCK_WORDS }
-{
-    if is_empty(words) {
-        return 0;
-    }
-    lanes::count_and_not(words, others) as u64
 }
 
 /// Keeps those of the chosen rows that are set in a slice or, as wanted, those that are clear there. Returns how many
@@ -152,7 +138,7 @@ fn narrow(chosen: &mut [u64], slice: &Bits, is_set: bool, next: &Bits) -> u64
     narrow_words(chosen, words, is_set, others)
 }
 
-/// Narrows words as `narrow` does, block by block.
+/// Narrows words as `narrow` does. It passes over lines that have no chosen row any more.
 fn narrow_words(chosen: &mut [u64], words: &[u64], is_set: bool, next: &[u64]) -> u64
     requires few { length chosen.old ≤ 2 ^ 26 }
     requires same { length words.now ≡ length chosen.old }
@@ -160,43 +146,19 @@ fn narrow_words(chosen: &mut [u64], words: &[u64], is_set: bool, next: &[u64]) -
     ensures chosen { chosen.new ≡ zip2 (word_kept is_set) chosen.old words.now }
     ensures clear { result ≡ sum_by count_ones (zip2 (word_kept false) chosen.new next.now) }
 {
-    let len = chosen.len();
-    let mut clear = 0;
-    'blocks: for k in 0..len.div_ceil(BLOCK_WORDS) {
-        let at = BLOCK_WORDS * k;
-        let end = len.min(at + BLOCK_WORDS);
-        clear += narrow_block(
-            &mut chosen[at..end],
-            &words[at..end],
-            is_set,
-            &next[at..end],
-        );
-    }
-    clear
-}
-
-/// Narrows the words of a block as `narrow` does. If no row of them is chosen any more, it reads nothing else.
-fn narrow_block(chosen: &mut [u64], words: &[u64], is_set: bool, next: &[u64]) -> u64
-    requires few { length chosen.old ≤ BLOCK_WORDS }
-    requires same { length words.now ≡ length chosen.old }
-    requires same_next { length next.now ≡ length chosen.old }
-    ensures chosen { chosen.new ≡ zip2 (word_kept is_set) chosen.old words.now }
-    ensures clear { result ≡ sum_by count_ones (zip2 (word_kept false) chosen.new next.now) }
-    ensures few { result ≤ 64 * BLOCK_WORDS }
-{
-    if is_empty(chosen) {
-        return 0;
-    }
-    let whole = chosen.len() / LANES;
+    let whole = chosen.len() / LINE_WORDS;
     let mut clear = 0u64;
-    'fours: for k in 0..whole {
-        let other = u64x4::from_slice(&words[LANES * k..]);
-        let kept = kept_words(u64x4::from_slice(&chosen[LANES * k..]), other, is_set);
-        kept.copy_to_slice(&mut chosen[LANES * k..]);
-        let left = words_without(kept, u64x4::from_slice(&next[LANES * k..]));
-        clear += ones_in(left);
+    'lines: for k in 0..whole {
+        let at = LINE_WORDS * k;
+        let rows = u64x8::from_slice(&chosen[at..]);
+        if is_empty(rows.as_array()) {
+            continue;
+        }
+        let kept = kept_words(rows, u64x8::from_slice(&words[at..]), is_set);
+        kept.copy_to_slice(&mut chosen[at..]);
+        clear += ones_in(words_without(kept, u64x8::from_slice(&next[at..])));
     }
-    'words: for i in LANES * whole..chosen.len() {
+    'words: for i in LINE_WORDS * whole..chosen.len() {
         let kept = kept_word(chosen[i], words[i], is_set);
         chosen[i] = kept;
         clear += u64::from((kept & !next[i]).count_ones());
@@ -211,8 +173,8 @@ fn kept_word(word: u64, other: u64, is_set: bool) -> u64
     if is_set { word & other } else { word & !other }
 }
 
-/// Returns the rows of four words that are set in four others or, as wanted, those that are clear there.
-fn kept_words(words: u64x4, others: u64x4, is_set: bool) -> u64x4
+/// Returns the rows of a line that are set in another one or, as wanted, those that are clear there.
+fn kept_words(words: u64x8, others: u64x8, is_set: bool) -> u64x8
     ensures { result ≡ zip2 (word_kept is_set) words others }
 {
     if is_set {
@@ -221,18 +183,20 @@ fn kept_words(words: u64x4, others: u64x4, is_set: bool) -> u64x4
     words_without(words, others)
 }
 
-/// Returns the rows of four words that are clear in four others.
-fn words_without(words: u64x4, others: u64x4) -> u64x4
+/// Returns the rows of a line that are clear in another one.
+fn words_without(words: u64x8, others: u64x8) -> u64x8
     ensures { result ≡ zip2 (word_kept false) words others }
 {
     words & !others
 }
 
-/// Returns the number of ones in four words. It counts each word by one instruction.
-fn ones_in(words: u64x4) -> u64
+/// Returns the number of ones in a line. It counts each word by one instruction.
+fn ones_in(words: u64x8) -> u64
     ensures ones { result ≡ sum_by count_ones words }
-    ensures few { result ≤ 256 }
+    ensures few { result ≤ 512 }
 {
-    let [a, b, c, d] = words.to_array();
-    (a.count_ones() + b.count_ones() + c.count_ones() + d.count_ones()) as u64
+    let [a, b, c, d, e, f, g, h] = words.to_array();
+    let first = a.count_ones() + b.count_ones() + c.count_ones() + d.count_ones();
+    let last = e.count_ones() + f.count_ones() + g.count_ones() + h.count_ones();
+    (first + last) as u64
 }

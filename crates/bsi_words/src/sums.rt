@@ -13,7 +13,7 @@ ghost use Rattle.bsi_words.specs.Places.{has_place, IsEncoded};
 use bsi_bits::Bits;
 
 /// The number of words in a line of a cache.
-const LINE_WORDS: usize = 8;
+pub(crate) const LINE_WORDS: usize = 8;
 
 /// The greatest number of words of a stretch. They take 8 KiB, so they stay in the first cache while they are counted
 /// with one place after the other.

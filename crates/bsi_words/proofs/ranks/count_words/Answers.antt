@@ -1,27 +1,64 @@
-use Rattle.std.proofs.Common.{◌≡◌, ℕ, ◌+◌, ◌-◌, ◌*◌, ◌≤◌, false, length, take, ap, sym, subst, ◌∙◌, arith}
-use Rattle.std.specs.Prelude.{min, sum_by, count_ones}
+use Rattle.std.proofs.Common.{◌≡◌, ℕ, ◌+◌, ◌*◌, ◌<◌, ◌≤◌, false, length, get_or, sym, ap, refl, ◌∙◌, arith}
+use Rattle.std.specs.Prelude.{sum_by, count_ones}
 use Rattle.std.specs.Simd.Lanes.{zip2, chunk}
-use Rattle.std.proofs.lemmas.Simd.{length-zip2}
+use Rattle.std.proofs.lemmas.Nat.{ones-le}
+use Rattle.std.proofs.lemmas.Simd.{length-chunk, length-zip2, get_or-zip2}
 use Rattle.bsi_bits.proofs.Pairs.{chunk-zip2}
-use Rattle.bsi_bits.proofs.Summing.{summed_block, summed_all}
+use Rattle.bsi_bits.proofs.Summing.{summed_block, summed_word, summed_all}
 use Rattle.bsi_words.specs.Ranks.{word_kept}
+use Rattle.bsi_words.proofs.Narrowing.{empty_kept, empty_ones, kept_less}
 use Rattle.bsi_words.proofs.ranks.count_words.Goals as goal
 
--- one block more
-pub blocks-2-preserved : goal.blocks-2-preserved
-blocks-2-preserved c =
+-- a line with no row
+pub lines-preserved-then-is_empty : goal.lines-preserved-then-is_empty
+lines-preserved-then-is_empty c =
     let words = c.args.words.now in
-    let made = zip2 (word_kept false) words c.args.others.now in
-    let at : ℕ = 32 * c.blocks-2.k in
-    let n : ℕ = c.min-end.result - at in
-    let from : min (32 * c.blocks-2.k) (length words) ≡ at = omega (arith, c.blocks-2-test.true, c.div_ceil-k-end.ensures) in
-    let to : min (32 * (c.blocks-2.k + 1)) (length words) ≡ at + n = omega (arith, c.min-end.ensures, c.blocks-2-test.true, c.div_ceil-k-end.ensures) in
-    let Counted : ℕ → Type 0 = λ i. c.blocks-2.clear ≡ sum_by count_ones (take i made) in
-    let more : c.count_block-clear.result ≡ sum_by count_ones (chunk at n made) =
-    c.count_block-clear.ensures.clear ∙ ap (sum_by count_ones) (sym (chunk-zip2 (word_kept false) at n words c.args.others.now (sym c.requires.same))) in
+    let others = c.args.others.now in
+    let made = zip2 (word_kept false) words others in
+    let at : ℕ = 8 * c.lines.k in
+    let within : at + 8 ≤ length words = omega (arith, c.lines-test.true) in
+    let line = chunk at 8 words in
+    let none : (k : ℕ) → get_or line k 0 ≡ 0 = λ k. ap (λ xs. get_or xs k 0) (sym c.as_array.ensures) ∙ c.if-is_empty.ensures.0 refl k in
+    let left : line ≡ chunk at 8 made =
+    empty_kept false line (chunk at 8 others) (length-chunk at 8 others (omega (arith, within, c.requires.same)) ∙ sym (length-chunk at 8 words within)) none
+    ∙ sym (chunk-zip2 (word_kept false) at 8 words others (sym c.requires.same)) in
+    let block : 0 ≡ sum_by count_ones (chunk at 8 made) = sym (empty_ones line none) ∙ ap (sum_by count_ones) left in
+    let counted = summed_block count_ones made at c.lines.clear c.lines.invariant.counted 8 (8 * (c.lines.k + 1)) 0 (omega arith) block in
     record {
-      counted = summed_block count_ones made at c.blocks-2.clear (subst Counted from c.blocks-2.invariant.counted) n (min (32 * (c.blocks-2.k + 1)) (length words)) c.count_block-clear.result to more;
-      few = omega (arith, c.blocks-2.invariant.few, c.count_block-clear.ensures.few);
+      counted = omega (arith, counted);
+      few = omega (arith, c.lines.invariant.few);
+    }
+
+-- one line more
+pub lines-preserved : goal.lines-preserved
+lines-preserved c =
+    let words = c.args.words.now in
+    let others = c.args.others.now in
+    let made = zip2 (word_kept false) words others in
+    let at : ℕ = 8 * c.lines.k in
+    let block : c.ones_in-clear.result ≡ sum_by count_ones (chunk at 8 made) =
+    c.ones_in-clear.ensures.ones ∙ ap (sum_by count_ones) (c.words_without.ensures ∙ sym (chunk-zip2 (word_kept false) at 8 words others (sym c.requires.same))) in
+    record {
+      counted = summed_block count_ones made at c.lines.clear c.lines.invariant.counted 8 (8 * (c.lines.k + 1)) c.ones_in-clear.result (omega arith) block;
+      few = omega (arith, c.lines.invariant.few, c.ones_in-clear.ensures.few);
+    }
+
+-- one word more
+pub words-preserved : goal.words-preserved
+words-preserved c =
+    let words = c.args.words.now in
+    let others = c.args.others.now in
+    let made = zip2 (word_kept false) words others in
+    let i = c.words.i in
+    let within : i < length words = omega (arith, c.words-test.true) in
+    let same : length words ≡ length others = sym c.requires.same in
+    let word = get_or words i 0 in
+    let left = word_kept false word (get_or others i 0) in
+    let is : left ≡ get_or made i 0 = sym (get_or-zip2 (word_kept false) words others i 0 0 0 within (omega (arith, same))) in
+    let more = summed_word count_ones made i c.words.clear c.words.invariant.counted left (omega (arith, length-zip2 (word_kept false) words others same)) is in
+    record {
+      counted = ap (λ n. c.words.clear + n) c.from-clear.ensures ∙ more;
+      few = omega (arith, c.words.invariant.few, c.from-clear.ensures, ones-le 64 left (omega (arith, kept_less false word (get_or others i 0), c.type_inv.words i)));
     }
 
 -- no word is left
@@ -29,6 +66,5 @@ pub returns : goal.returns
 returns c =
     let words = c.args.words.now in
     let made = zip2 (word_kept false) words c.args.others.now in
-    let past : length words ≤ min (32 * c.blocks-2.k) (length words) = omega (arith, c.blocks-2-test.false, c.div_ceil-k-end.ensures) in
-    summed_all count_ones made (min (32 * c.blocks-2.k) (length words)) c.blocks-2.clear c.blocks-2.invariant.counted
-    (omega (arith, past, length-zip2 (word_kept false) words c.args.others.now (sym c.requires.same)))
+    summed_all count_ones made c.words.i c.words.clear c.words.invariant.counted
+    (omega (arith, c.words-test.false, length-zip2 (word_kept false) words c.args.others.now (sym c.requires.same)))

@@ -1,11 +1,17 @@
 use Rattle.std.proofs.Common.{◌≡◌, ◌*◌, ◌≤◌, false, take}
-use Rattle.std.specs.Prelude.{min, sum_by, count_ones}
+use Rattle.std.specs.Prelude.{sum_by, count_ones}
 use Rattle.std.specs.Simd.Lanes.{zip2}
 use Rattle.bsi_words.specs.Ranks.{word_kept}
 use Rattle.bsi_words.proofs.ranks.count_words.Given as goal
 
-abbrev pub invariant-blocks-2 : goal.invariant-blocks-2
-invariant-blocks-2 l = record {
-  counted : l.clear ≡ sum_by count_ones (take (min (32 * l.k) l.len) (zip2 (word_kept false) l.words l.others));
-  few : l.clear ≤ 2048 * l.k;
+abbrev pub invariant-lines : goal.invariant-lines
+invariant-lines l = record {
+  counted : l.clear ≡ sum_by count_ones (take (8 * l.k) (zip2 (word_kept false) l.words l.others));
+  few : l.clear ≤ 512 * l.k;
+}
+
+abbrev pub invariant-words : goal.invariant-words
+invariant-words l = record {
+  counted : l.clear ≡ sum_by count_ones (take l.i (zip2 (word_kept false) l.words l.others));
+  few : l.clear ≤ 64 * l.i;
 }

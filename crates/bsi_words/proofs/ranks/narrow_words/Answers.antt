@@ -1,59 +1,147 @@
-use Rattle.std.proofs.Common.{◌≡◌, ℕ, ◌+◌, ◌-◌, ◌*◌, ◌≤◌, false, length, take, sym, ap, subst, ◌∙◌, arith}
-use Rattle.std.specs.Prelude.{min, sum_by, count_ones}
+use Rattle.std.proofs.Common.{◌≡◌, ℕ, ◌+◌, ◌-◌, ◌*◌, ◌<◌, ◌≤◌, false, List, length, get_or, inl, inr, sym, ap, refl, ◌∙◌, arith}
+use Rattle.std.specs.Prelude.{sum_by, count_ones, slice_set}
 use Rattle.std.specs.Simd.Lanes.{zip2, chunk}
-use Rattle.std.proofs.lemmas.Simd.{length-zip2, length-chunk}
+use Rattle.std.proofs.lemmas.Bool.{cases_lt}
+use Rattle.std.proofs.lemmas.List.{get_or-set_same, get_or-set_other, length-set}
+use Rattle.std.proofs.lemmas.Nat.{ones-le}
+use Rattle.std.proofs.lemmas.Simd.{length-chunk, length-zip2, get_or-chunk, get_or-zip2}
+use Rattle.std.proofs.lemmas.Grind.{same_number_lists}
 use Rattle.bsi_bits.proofs.Pairs.{chunk-zip2}
-use Rattle.bsi_bits.proofs.Summing.{summed_block, summed_all}
+use Rattle.bsi_bits.proofs.Filling.{IsFilled, paired, filled_block, filled_pairs}
+use Rattle.bsi_bits.proofs.Summing.{summed_block, summed_word, summed_all}
 use Rattle.bsi_words.specs.Ranks.{word_kept}
-use Rattle.bsi_words.proofs.Narrowing.{IsPart, part_more, part_all, narrowed_part}
+use Rattle.bsi_words.proofs.Narrowing.{empty_kept, empty_ones, kept_less}
 use Rattle.bsi_words.proofs.ranks.narrow_words.Goals as goal
 
--- one block more
-pub blocks-2-preserved : goal.blocks-2-preserved
-blocks-2-preserved c =
+-- one word is written
+stored : (f : ℕ → ℕ → ℕ) (i x : ℕ) (old now : List ℕ) → IsFilled f i old now → i < length old → x ≡ f i (get_or now i 0) → IsFilled f (i + 1) old (slice_set now i x)
+stored f i x old now filled within is = record {
+  long = length-set now i x ∙ filled.long;
+  done = λ k below. elim (cases_lt k i) [
+    | inl before ↦ get_or-set_other now i k x 0 (omega arith) ∙ filled.done k before
+    | inr from ↦
+        let here : k ≡ i = omega arith in
+        ap (λ j. get_or (slice_set now i x) j 0) here ∙ get_or-set_same now i x 0 (omega (arith, filled.long)) ∙ is
+        ∙ ap (f i) (filled.rest i (omega arith)) ∙ ap (λ j. f j (get_or old j 0)) (sym here)
+  ];
+  rest = λ k past. get_or-set_other now i k x 0 (omega arith) ∙ filled.rest k (omega arith);
+}
+
+-- the words that are not written yet
+unwritten : (f : ℕ → ℕ → ℕ) (i n : ℕ) (old now : List ℕ) → IsFilled f i old now → i + n ≤ length old → chunk i n now ≡ chunk i n old
+unwritten f i n old now filled within =
+    same_number_lists (chunk i n now) (chunk i n old) (length-chunk i n now (omega (arith, filled.long)) ∙ sym (length-chunk i n old within)) (λ k below.
+    let inside : k < n = omega (arith, below, length-chunk i n now (omega (arith, filled.long))) in
+    get_or-chunk i n now k 0 inside ∙ filled.rest (i + k) (omega arith) ∙ sym (get_or-chunk i n old k 0 inside))
+
+-- words that stay are passed over
+passed : (f : ℕ → ℕ → ℕ) (i n m : ℕ) (old now : List ℕ) → IsFilled f i old now → m ≡ i + n → ((k : ℕ) → k < n → f (i + k) (get_or old (i + k) 0) ≡ get_or old (i + k) 0)
+    → IsFilled f m old now
+passed f i n m old now filled next stay = record {
+  long = filled.long;
+  done = λ k below. elim (cases_lt k i) [
+    | inl before ↦ filled.done k before
+    | inr from ↦
+        let place : i + (k - i) ≡ k = omega arith in
+        filled.rest k from ∙ sym (ap (λ j. f j (get_or old j 0)) (sym place) ∙ stay (k - i) (omega arith) ∙ ap (λ j. get_or old j 0) place)
+  ];
+  rest = λ k past. filled.rest k (omega arith);
+}
+
+-- a line with no row
+pub lines-preserved-then-is_empty : goal.lines-preserved-then-is_empty
+lines-preserved-then-is_empty c =
+    let old = c.args.chosen.now in
+    let words = c.args.words.now in
+    let next = c.args.next.now in
+    let f = word_kept c.args.is_set in
+    let target = zip2 f old words in
+    let made = zip2 (word_kept false) target next in
+    let at : ℕ = 8 * c.lines.k in
+    let same : length old ≡ length words = sym c.requires.same in
+    let long : length target ≡ length old = length-zip2 f old words same in
+    let within : at + 8 ≤ length old = omega (arith, c.lines-test.true) in
+    let line = chunk at 8 old in
+    let line_long : length line ≡ 8 = length-chunk at 8 old within in
+    let line_is = c.as_array.ensures ∙ unwritten (paired f words) at 8 old c.lines.chosen c.lines.invariant.filled within in
+    let none : (k : ℕ) → get_or line k 0 ≡ 0 = λ k. ap (λ xs. get_or xs k 0) (sym line_is) ∙ c.if-is_empty.ensures.0 refl k in
+    let kept : line ≡ chunk at 8 target = empty_kept c.args.is_set line (chunk at 8 words) (length-chunk at 8 words (omega (arith, within, same)) ∙ sym line_long) none ∙ sym (chunk-zip2 f at 8 old words same) in
+    let left : line ≡ chunk at 8 made =
+    empty_kept false line (chunk at 8 next) (length-chunk at 8 next (omega (arith, within, c.requires.same_next)) ∙ sym line_long) none
+    ∙ ap (λ xs. zip2 (word_kept false) xs (chunk at 8 next)) kept ∙ sym (chunk-zip2 (word_kept false) at 8 target next (long ∙ sym c.requires.same_next)) in
+    let block : 0 ≡ sum_by count_ones (chunk at 8 made) = sym (empty_ones line none) ∙ ap (sum_by count_ones) left in
+    let counted = summed_block count_ones made at c.lines.clear c.lines.invariant.counted 8 (8 * (c.lines.k + 1)) 0 (omega arith) block in
+    record {
+      filled = passed (paired f words) at 8 (8 * (c.lines.k + 1)) old c.lines.chosen c.lines.invariant.filled (omega arith) (λ k below.
+          let zero : get_or old (at + k) 0 ≡ 0 = sym (get_or-chunk at 8 old k 0 below) ∙ none k in
+          omega (arith, zero, kept_less c.args.is_set (get_or old (at + k) 0) (get_or words (at + k) 0)));
+      counted = omega (arith, counted);
+      few = omega (arith, c.lines.invariant.few);
+    }
+
+-- one line more
+pub lines-preserved : goal.lines-preserved
+lines-preserved c =
     let old = c.args.chosen.now in
     let f = word_kept c.args.is_set in
     let target = zip2 f old c.args.words.now in
     let made = zip2 (word_kept false) target c.args.next.now in
-    let at : ℕ = 32 * c.blocks-2.k in
-    let n : ℕ = c.min-end.result - at in
-    let now = c.blocks-2.chosen in
-    let block = c.narrow_block-clear.new.chosen in
-    let from : min (32 * c.blocks-2.k) (length old) ≡ at = omega (arith, c.blocks-2-test.true, c.div_ceil-k-end.ensures) in
-    let to : min (32 * (c.blocks-2.k + 1)) (length old) ≡ at + n = omega (arith, c.min-end.ensures, c.blocks-2-test.true, c.div_ceil-k-end.ensures) in
-    let AtPlace : ℕ → Type 0 = λ i. IsPart target old i now in
-    let Counted : ℕ → Type 0 = λ i. c.blocks-2.clear ≡ sum_by count_ones (take i made) in
-    let part = subst AtPlace from c.blocks-2.invariant.part in
-    let counted = subst Counted from c.blocks-2.invariant.counted in
+    let at : ℕ = 8 * c.lines.k in
     let same : length old ≡ length c.args.words.now = sym c.requires.same in
     let long : length target ≡ length old = length-zip2 f old c.args.words.now same in
-    let block_is : block ≡ chunk at n target = narrowed_part f old c.args.words.now same at n now block part c.narrow_block-clear.ensures.chosen in
-    let block_long : length block ≡ n = ap length block_is ∙ length-chunk at n target (omega (arith, long, to)) in
-    let more : c.narrow_block-clear.result ≡ sum_by count_ones (chunk at n made) =
-    c.narrow_block-clear.ensures.clear ∙ ap (λ rows. sum_by count_ones (zip2 (word_kept false) rows (chunk at n c.args.next.now))) block_is
-    ∙ ap (sum_by count_ones) (sym (chunk-zip2 (word_kept false) at n target c.args.next.now (long ∙ sym c.requires.same_next))) in
+    let within : at + 8 ≤ length old = omega (arith, c.lines-test.true) in
+    let kept_is : c.kept_words-kept.result ≡ chunk at 8 target =
+    c.kept_words-kept.ensures ∙ ap (λ xs. zip2 f xs (chunk at 8 c.args.words.now)) (unwritten (paired f c.args.words.now) at 8 old c.lines.chosen c.lines.invariant.filled within)
+    ∙ sym (chunk-zip2 f at 8 old c.args.words.now same) in
+    let block : c.ones_in-clear.result ≡ sum_by count_ones (chunk at 8 made) =
+    c.ones_in-clear.ensures.ones ∙ ap (sum_by count_ones) c.words_without.ensures ∙ ap (λ xs. sum_by count_ones (zip2 (word_kept false) xs (chunk at 8 c.args.next.now))) kept_is
+    ∙ ap (sum_by count_ones) (sym (chunk-zip2 (word_kept false) at 8 target c.args.next.now (long ∙ sym c.requires.same_next))) in
+    let filled = filled_block f at old c.args.words.now c.lines.chosen same c.lines.invariant.filled 8 (8 * (c.lines.k + 1)) (omega arith) (omega (arith, within)) in
+    rw c.kept_words-kept.ensures (record {
+      filled = filled;
+      counted = summed_block count_ones made at c.lines.clear c.lines.invariant.counted 8 (8 * (c.lines.k + 1)) c.ones_in-clear.result (omega arith) block;
+      few = omega (arith, c.lines.invariant.few, c.ones_in-clear.ensures.few);
+    })
+
+pub words-preserved : goal.words-preserved
+words-preserved c =
+    let old = c.args.chosen.now in
+    let f = word_kept c.args.is_set in
+    let target = zip2 f old c.args.words.now in
+    let made = zip2 (word_kept false) target c.args.next.now in
+    let i = c.words.i in
+    let within : i < length old = omega (arith, c.words-test.true, c.lines.invariant.filled.long) in
+    let same : length old ≡ length c.args.words.now = sym c.requires.same in
+    let long : length target ≡ length old = length-zip2 f old c.args.words.now same in
+    let made_long : length made ≡ length old = length-zip2 (word_kept false) target c.args.next.now (long ∙ sym c.requires.same_next) ∙ long in
+    let word = c.kept_word-kept.result in
+    let word_is : word ≡ get_or target i 0 =
+    c.kept_word-kept.ensures ∙ ap (λ x. f x (get_or c.args.words.now i 0)) (c.words.invariant.filled.rest i (omega arith))
+    ∙ sym (get_or-zip2 f old c.args.words.now i 0 0 0 within (omega (arith, same))) in
+    let next = get_or c.args.next.now i 0 in
+    let is : word_kept false word next ≡ get_or made i 0 =
+    ap (λ x. word_kept false x next) word_is
+    ∙ sym (get_or-zip2 (word_kept false) target c.args.next.now i 0 0 0 (omega (arith, long)) (omega (arith, c.requires.same_next))) in
+    let more = summed_word count_ones made i c.words.clear c.words.invariant.counted (word_kept false word next) (omega (arith, made_long)) is in
     record {
-      part = part_more target old at now part n (min (32 * (c.blocks-2.k + 1)) (length old)) block to (omega arith) block_long block_is;
-      counted = summed_block count_ones made at c.blocks-2.clear counted n (min (32 * (c.blocks-2.k + 1)) (length old)) c.narrow_block-clear.result to more;
-      few = omega (arith, c.blocks-2.invariant.few, c.narrow_block-clear.ensures.few);
+      filled = stored (paired f c.args.words.now) i word old c.words.chosen c.words.invariant.filled within c.kept_word-kept.ensures;
+      counted = ap (λ n. c.words.clear + n) c.from-clear.ensures ∙ more;
+      few = omega (arith, c.words.invariant.few, c.from-clear.ensures, ones-le 64 (word_kept false word next) (omega (arith, kept_less false word next, c.kept_word-kept.type_inv)));
     }
 
 -- no word is left
 pub returns-clause-chosen : goal.returns-clause-chosen
 returns-clause-chosen c =
-    let old = c.args.chosen.now in
-    let target = zip2 (word_kept c.args.is_set) old c.args.words.now in
-    part_all target old (min (32 * c.blocks-2.k) (length old)) c.blocks-2.chosen c.blocks-2.invariant.part (omega (arith, c.blocks-2-test.false, c.div_ceil-k-end.ensures))
-    (length-zip2 (word_kept c.args.is_set) old c.args.words.now (sym c.requires.same))
+    filled_pairs (word_kept c.args.is_set) c.words.i c.args.chosen.now c.args.words.now c.words.chosen (sym c.requires.same) c.words.invariant.filled (omega (arith, c.words-test.false))
 
 pub returns-clause-clear : goal.returns-clause-clear
 returns-clause-clear c =
     let old = c.args.chosen.now in
-    let target = zip2 (word_kept c.args.is_set) old c.args.words.now in
+    let f = word_kept c.args.is_set in
+    let target = zip2 f old c.args.words.now in
     let made = zip2 (word_kept false) target c.args.next.now in
-    let past : length old ≤ min (32 * c.blocks-2.k) (length old) = omega (arith, c.blocks-2-test.false, c.div_ceil-k-end.ensures) in
-    let long : length target ≡ length old = length-zip2 (word_kept c.args.is_set) old c.args.words.now (sym c.requires.same) in
+    let long : length target ≡ length old = length-zip2 f old c.args.words.now (sym c.requires.same) in
     let made_long : length made ≡ length old = length-zip2 (word_kept false) target c.args.next.now (long ∙ sym c.requires.same_next) ∙ long in
-    let all = part_all target old (min (32 * c.blocks-2.k) (length old)) c.blocks-2.chosen c.blocks-2.invariant.part past long in
-    summed_all count_ones made (min (32 * c.blocks-2.k) (length old)) c.blocks-2.clear c.blocks-2.invariant.counted (omega (arith, past, made_long))
+    let all = filled_pairs f c.words.i old c.args.words.now c.words.chosen (sym c.requires.same) c.words.invariant.filled (omega (arith, c.words-test.false)) in
+    summed_all count_ones made c.words.i c.words.clear c.words.invariant.counted (omega (arith, c.words-test.false, made_long))
     ∙ ap (λ rows. sum_by count_ones (zip2 (word_kept false) rows c.args.next.now)) (sym all)

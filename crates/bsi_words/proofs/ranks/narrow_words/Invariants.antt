@@ -1,13 +1,20 @@
 use Rattle.std.proofs.Common.{◌≡◌, ◌*◌, ◌≤◌, false, take}
-use Rattle.std.specs.Prelude.{min, sum_by, count_ones}
+use Rattle.std.specs.Prelude.{sum_by, count_ones}
 use Rattle.std.specs.Simd.Lanes.{zip2}
+use Rattle.bsi_bits.proofs.Filling.{IsFilled, paired}
 use Rattle.bsi_words.specs.Ranks.{word_kept}
-use Rattle.bsi_words.proofs.Narrowing.{IsPart}
 use Rattle.bsi_words.proofs.ranks.narrow_words.Given as goal
 
-abbrev pub invariant-blocks-2 : goal.invariant-blocks-2
-invariant-blocks-2 l = record {
-  part : IsPart (zip2 (word_kept l.is_set) l.fn.chosen l.words) l.fn.chosen (min (32 * l.k) l.len) l.chosen;
-  counted : l.clear ≡ sum_by count_ones (take (min (32 * l.k) l.len) (zip2 (word_kept false) (zip2 (word_kept l.is_set) l.fn.chosen l.words) l.next));
-  few : l.clear ≤ 2048 * l.k;
+abbrev pub invariant-lines : goal.invariant-lines
+invariant-lines l = record {
+  filled : IsFilled (paired (word_kept l.is_set) l.words) (8 * l.k) l.fn.chosen l.chosen;
+  counted : l.clear ≡ sum_by count_ones (take (8 * l.k) (zip2 (word_kept false) (zip2 (word_kept l.is_set) l.fn.chosen l.words) l.next));
+  few : l.clear ≤ 512 * l.k;
+}
+
+abbrev pub invariant-words : goal.invariant-words
+invariant-words l = record {
+  filled : IsFilled (paired (word_kept l.is_set) l.words) l.i l.fn.chosen l.chosen;
+  counted : l.clear ≡ sum_by count_ones (take l.i (zip2 (word_kept false) (zip2 (word_kept l.is_set) l.fn.chosen l.words) l.next));
+  few : l.clear ≤ 64 * l.i;
 }
