@@ -189,8 +189,8 @@ impl Index {
         Ok(Index {
             schema,
             columns,
-            origins: Origins::new(alloc, self.origins.feeders()),
-            limit: self.limit,
+            origins: Origins::new(alloc, self.feeders()),
+            limit: self.limit(),
         })
     }
 
