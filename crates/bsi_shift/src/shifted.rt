@@ -156,6 +156,20 @@ impl Shifted {
         self.stored.push_block_reserved(&stored[..block.len()]);
     }
 
+    /// Appends all entries of another column of the same offset and form, in their order, into room that is already
+    /// there.
+    pub fn push_all_reserved(&mut self, other: &Shifted)
+        requires alike { IsAlike self.old other.now }
+        requires room { length (shifted_entries other.now) ≤ shifted_room self.old }
+        ensures entries { shifted_entries self.new
+            ≡ shifted_entries self.old ++ shifted_entries other.now }
+        ensures alike { IsAlike self.old self.new }
+        ensures room { shifted_room self.old
+            ≤ shifted_room self.new + length (shifted_entries other.now) }
+    {
+        self.stored.push_all_reserved(&other.stored);
+    }
+
     /// Returns whether another column has the same offset and the same form.
     pub fn is_alike(&self, other: &Shifted) -> bool
         ensures { result ≡ true → IsAlike self.now other.now }

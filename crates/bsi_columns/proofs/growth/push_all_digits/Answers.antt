@@ -1,15 +1,6 @@
-use Rattle.std.proofs.Common.{◌≡◌, ◌<◌, ℕ, List, [], ◌++◌, length, map, get_or, ap, sym, ◌∙◌, refl, arith}
+use Rattle.std.proofs.Common.{◌≡◌, ◌<◌, ℕ, List, [], ◌++◌, length, map, get_or, ap, sym, ◌∙◌, arith}
 use Rattle.bsi_columns.proofs.ComponentLists.{read_map, map_kept, digits_more, rest_after, room_of_old, room_spent, room_after, length-same_map}
 use Rattle.bsi_columns.proofs.growth.push_all_digits.Goals as goal
-
-pub loop-i-init : goal.loop-i-init
-loop-i-init g c = record {
-  bases = refl;
-  done = λ k below. absurd (omega arith);
-  rest = λ k from. refl;
-  spent = λ k. omega arith;
-  room = λ k from. refl;
-}
 
 pub push_all_reserved-requires-clause-base : goal.push_all_reserved-requires-clause-base
 push_all_reserved-requires-clause-base g c =

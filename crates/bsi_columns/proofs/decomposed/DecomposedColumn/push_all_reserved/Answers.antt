@@ -5,36 +5,6 @@ use Rattle.bsi_columns.proofs.EntriesFrom.{all_entries, digits_at_most, entries_
 use Rattle.bsi_columns.proofs.ComponentLists.{length-map_is}
 use Rattle.bsi_columns.proofs.decomposed.DecomposedColumn.push_all_reserved.Goals as goal
 
-pub push_all_digits-requires-clause-bases : goal.push_all_digits-requires-clause-bases
-push_all_digits-requires-clause-bases g c =
-    let same_bases = ap (λ v. v.bases) c.other.view_is ∙ c.requires.form ∙ ap (λ v. v.bases) (sym c.self.view_is) in
-    ap (map g.E.Encoding.base_of) c.deref.ensures.value ∙ c.other.invariant.1 ∙ same_bases ∙ sym c.self.invariant.1
-
--- each component has a digit for each entry, and room for as many entries as the column
-pub push_all_digits-requires-clause-room : goal.push_all_digits-requires-clause-room
-push_all_digits-requires-clause-room g c = λ i within.
-    let others = c.other.inside in
-    let ds = map g.E.Encoding.digits others.components.items in
-    let added = entries_of others.bases others.present.bits ds in
-    let digits = ap (λ items. length (get_or (map g.E.Encoding.digits items) i [])) c.deref.ensures.value in
-    let few = digits_at_most others.bases others.present.bits ds added c.other.invariant.0 i in
-    let rows = ap (λ v. length v.entries) c.other.view_is in
-    let room = ap (λ v. v.room) c.self.view_is in
-    let enough = c.self.invariant.2.each i (omega (arith, within, length-map c.self.inside.components.items g.E.Encoding.room_of)) in
-    omega (arith, digits, few, rows, room, enough, c.requires.room)
-
-pub push_all_reserved-requires : goal.push_all_reserved-requires
-push_all_reserved-requires g c =
-    let others = c.other.inside in
-    let ds = map g.E.Encoding.digits others.components.items in
-    let marks = rows_of others.bases others.present.bits ds (entries_of others.bases others.present.bits ds) c.other.invariant.0 in
-    let rows = ap (λ v. length v.entries) c.other.view_is in
-    let room = ap (λ v. v.room) c.self.view_is in
-    omega (arith, marks, rows, room, c.self.invariant.2.bitmap, c.requires.room)
-
-pub returns-clause-room : goal.returns-clause-room
-returns-clause-room g c = omega (arith, c.len.ensures.len, ap (λ v. v.room) c.self.view_is)
-
 pub invariant_of-self : goal.invariant_of-self
 invariant_of-self g c =
     let old = c.self.inside in

@@ -3,9 +3,6 @@ use Rattle.bsi_slices.proofs.SliceEntries.{length-entries_in}
 use Rattle.bsi_slices.proofs.SliceGrowth.{entries_all, sliced_all}
 use Rattle.bsi_slices.proofs.slices.SlicesColumn.push_all_reserved.Goals as goal
 
-pub push_all_reserved-requires-clause-long : goal.push_all_reserved-requires-clause-long
-push_all_reserved-requires-clause-long c = ap (λ e. e.width) c.other.view_is ∙ c.requires.form ∙ ap (λ e. e.width) (sym c.self.view_is)
-
 -- there are as many marks as entries, and as many bits in each slice
 pub push_all_reserved-requires-clause-room : goal.push_all_reserved-requires-clause-room
 push_all_reserved-requires-clause-room c =
