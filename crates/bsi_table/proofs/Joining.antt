@@ -47,7 +47,7 @@ module _ (columns others : List NamedColumn) (kept other_kept : List OffsetColum
       ∙ sym (get_or-map kept_as others k no_column (kept_as no_column) there))
 
 -- columns that are kept alike take the same numbers
-limits_kept : AnyForm × ℤ → Limits
+abbrev limits_kept : AnyForm × ℤ → Limits
 limits_kept kept = record { least = kept.1; size = size_in_form kept.0 }
 
 limits-kept_as : (column : NamedColumn) → limits_kept (kept_as column) ≡ limits_of column

@@ -9,7 +9,7 @@ use Rattle.bsi_table.specs.Table.{with_rows, Table}
 use Rattle.bsi_versions.specs.Pages.{with_list, Edition, Known, Rows}
 use Rattle.bsi_versions.specs.Editions.{after, published_all, rows_of, written, HasStaged, IsFor, IsMarked, IsWriting, Stands, Written}
 use Rattle.bsi_versions.specs.declared.operation.Operation.{Operation}
-use Rattle.bsi_versions.specs.declared.operation.Operation.TheVariants.{Rows as rows_operation, Mark}
+use Rattle.bsi_versions.specs.declared.operation.Operation.TheVariants.{Rows as rows_operation, Batch, Mark}
 use Rattle.bsi_versions.proofs.Growing.{prefix_self, prefix_trans, prefix_whole}
 
 -- ---- pending operations
@@ -18,6 +18,8 @@ pub rows_of-append : (xs ys : List Operation) → rows_of (xs ++ ys) ≡ rows_of
 rows_of-append [] ys = refl
 rows_of-append (rows_operation block ∷ xs) ys =
     ap (λ (all : Rows). block.rows ++ all) (rows_of-append xs ys) ∙ sym (append_assoc block.rows (rows_of xs) (rows_of ys))
+rows_of-append (Batch batch ∷ xs) ys =
+    ap (λ (all : Rows). batch.rows ++ all) (rows_of-append xs ys) ∙ sym (append_assoc batch.rows (rows_of xs) (rows_of ys))
 rows_of-append (Mark known ∷ xs) ys = rows_of-append xs ys
 
 -- a mark is no row
@@ -30,6 +32,9 @@ table_after e [] = ap (λ (rows : Rows). record e.table { rows = rows }) (sym (a
 table_after e (rows_operation block ∷ pending) =
     table_after (after e (rows_operation block)) pending
     ∙ ap (λ (all : Rows). record e.table { rows = all }) (append_assoc e.table.rows block.rows (rows_of pending))
+table_after e (Batch batch ∷ pending) =
+    table_after (after e (Batch batch)) pending
+    ∙ ap (λ (all : Rows). record e.table { rows = all }) (append_assoc e.table.rows batch.rows (rows_of pending))
 table_after e (Mark known ∷ pending) = table_after (after e (Mark known)) pending
 
 fold-push : (e : Edition) (pending : List Operation) (x : Operation) → fold after e (pending ++ x ∷ []) ≡ after (fold after e pending) x
@@ -65,11 +70,13 @@ staged_all pending more stage left known rows none = record {
   known = known;
 }
 
--- a block went there
-pub staged_block : (pending more : List Operation) (block : RowBlock) → more ≡ pending ++ rows_operation block ∷ [] → HasStaged pending block.rows more []
-staged_block pending more block is =
-    staged_all pending more block.rows [] (λ e. known_after e pending more (rows_operation block) is (λ d. refl))
-    (ap rows_of is ∙ rows_of-append pending (rows_operation block ∷ []) ∙ ap (λ (xs : Rows). rows_of pending ++ xs) (append-nil block.rows)) refl
+-- the rows behind those that may have gone there stay
+pub staged_behind : (pending more : List Operation) (stage left behind : Rows) → HasStaged pending stage more left → HasStaged pending (stage ++ behind) more (left ++ behind)
+staged_behind pending more stage left behind staged = record {
+  held = sym (append_assoc (rows_of more) left behind) ∙ ap (λ (xs : Rows). xs ++ behind) staged.held ∙ append_assoc (rows_of pending) stage behind;
+  begins = staged.begins;
+  known = staged.known;
+}
 
 -- a prefix of the front begins the whole
 front_begins : (front short long : Rows) → IsPrefix short long → IsPrefix (front ++ short) (front ++ long)

@@ -9,11 +9,12 @@ use Rattle.bsi_table.specs.Rows.{Entries}
 use Rattle.bsi_table.specs.Table.{no_rows, with_rows, Table}
 use Rattle.bsi_versions.specs.Pages.{Edition, Known, Rows}
 use Rattle.bsi_versions.specs.declared.operation.Operation.{Operation}
-use Rattle.bsi_versions.specs.declared.operation.Operation.TheVariants.{Rows as rows_operation, Mark}
+use Rattle.bsi_versions.specs.declared.operation.Operation.TheVariants.{Rows as rows_operation, Batch, Mark}
 
 -- the edition after a pending operation
 abbrev pub after : Edition → Operation → Edition
 after e (rows_operation block) = record e { table = with_rows e.table block.rows }
+after e (Batch batch) = record e { table = with_rows e.table batch.rows }
 after e (Mark known) = record e { known = known }
 
 -- the same table with no row
@@ -34,12 +35,17 @@ pending w = drop w.behind w.log.items
 abbrev pub rows_of : List Operation → Rows
 rows_of [] = []
 rows_of (rows_operation block ∷ pending) = block.rows ++ rows_of pending
+rows_of (Batch batch ∷ pending) = batch.rows ++ rows_of pending
 rows_of (Mark known ∷ pending) = rows_of pending
 
 -- a block of rows that this table takes
 pub record IsFor (table : Table) (block : RowBlock) : Type 0 where
   pub schema : block.schema ≡ table.schema
   pub feeders : block.feeders ≡ table.feeders
+
+-- these rows stand last in the stage
+abbrev pub with_staged_rows : RowBlock → Rows → RowBlock
+with_staged_rows stage rows = record stage { rows = stage.rows ++ rows }
 
 -- what contracts see of the writing end: the table that is published, and the rows that are held, in the order taken
 pub record Written : Type 0 where

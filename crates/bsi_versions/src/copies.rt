@@ -11,7 +11,7 @@ use crate::naming::Covers;
 use crate::operation::Operation;
 use crate::version::Version;
 use crate::{Naming, NoMemory};
-use bsi_table::{Block, MAX_BLOCK_ROWS};
+use bsi_table::{Block, Index};
 use core::mem::{replace, replace_with};
 use left_right::writer::Writer;
 use logbook::Plain;
@@ -32,72 +32,57 @@ impl<B: Naming> Plain<Copies<B>, Page, u64> for Next {
     ghost state = { λ w. None };
 }
 
-/// Makes a place for one more row in the stage. If the block is full, it goes to the pending operations.
-pub(crate) fn make_place<B: Naming>(
+/// Appends the rows of a block to the pending operations, unless it has none. It replaces the block by another one, so
+/// it asks for memory before it changes anything.
+pub(crate) fn append_block<B: Naming>(
     copies: &mut Copies<B>,
-    stage: &mut Block,
+    block: &mut Block,
 ) -> Result<(), NoMemory>
-    requires kind { IsFor copies.old.desk.shown.value.table stage.old }
+    requires kind { IsFor copies.old.desk.shown.value.table block.old }
     ensures desk { copies.new.desk ≡ copies.old.desk }
-    ensures staged { HasStaged (pending copies.old) stage.old.rows
-        (pending copies.new) stage.new.rows }
-    ensures kind { IsFor copies.new.desk.shown.value.table stage.new }
-    ensures ok { OnOk result (length stage.new.rows < 64) }
+    ensures staged { HasStaged (pending copies.old) block.old.rows
+        (pending copies.new) block.new.rows }
+    ensures kind { IsFor copies.new.desk.shown.value.table block.new }
+    ensures ok { OnOk result (block.new.rows ≡ []) }
 {
-    if stage.len() < MAX_BLOCK_ROWS {
+    if block.len() == 0 {
         return Ok(());
     }
-    append_stage(copies, stage)
-}
-
-/// Empties the stage: its rows go to the pending operations, as one block.
-pub(crate) fn empty_stage<B: Naming>(
-    copies: &mut Copies<B>,
-    stage: &mut Block,
-) -> Result<(), NoMemory>
-    requires kind { IsFor copies.old.desk.shown.value.table stage.old }
-    ensures desk { copies.new.desk ≡ copies.old.desk }
-    ensures staged { HasStaged (pending copies.old) stage.old.rows
-        (pending copies.new) stage.new.rows }
-    ensures kind { IsFor copies.new.desk.shown.value.table stage.new }
-    ensures ok { OnOk result (stage.new.rows ≡ []) }
-{
-    if stage.len() == 0 {
-        return Ok(());
-    }
-    append_stage(copies, stage)
-}
-
-/// Appends the rows of the stage to the pending operations. It replaces the stage by another block, so it asks for
-/// memory before it changes anything.
-fn append_stage<B: Naming>(copies: &mut Copies<B>, stage: &mut Block) -> Result<(), NoMemory>
-    requires kind { IsFor copies.old.desk.shown.value.table stage.old }
-    ensures desk { copies.new.desk ≡ copies.old.desk }
-    ensures staged { HasStaged (pending copies.old) stage.old.rows
-        (pending copies.new) stage.new.rows }
-    ensures kind { IsFor copies.new.desk.shown.value.table stage.new }
-    ensures ok { OnOk result (stage.new.rows ≡ []) }
-{
     let next = copies.published().index().new_block()?;
-    match copies.append(Operation::Rows(replace(stage, next))) {
+    match copies.append(Operation::Rows(replace(block, next))) {
         Ok(()) => Ok(()),
-        Err(Operation::Rows(block)) => {
-            *stage = block;
+        Err(Operation::Rows(back)) => {
+            *block = back;
             Err(NoMemory)
         }
         // A refused operation comes back as it was given, so this is none.
-        Err(Operation::Mark(_)) => Err(NoMemory),
+        Err(Operation::Batch(_) | Operation::Mark(_)) => Err(NoMemory),
     }
 }
 
-/// Appends a block of rows to the pending operations.
-pub(crate) fn append_block<B: Naming>(copies: &mut Copies<B>, block: Block) -> Result<(), NoMemory>
+/// Appends the rows of a batch to the pending operations. It replaces the batch by another one, so it asks for memory
+/// before it changes anything.
+pub(crate) fn append_batch<B: Naming>(
+    copies: &mut Copies<B>,
+    batch: &mut Index,
+) -> Result<(), NoMemory>
     ensures desk { copies.new.desk ≡ copies.old.desk }
-    ensures ok { OnOk result (pending copies.new
-        ≡ pending copies.old ++ Operation.Rows block ∷ []) }
-    ensures err { OnErr result (pending copies.new ≡ pending copies.old) }
+    ensures staged { HasStaged (pending copies.old) batch.old.rows
+        (pending copies.new) batch.new.rows }
+    ensures schema { batch.new.schema ≡ batch.old.schema }
+    ensures feeders { batch.new.feeders ≡ batch.old.feeders }
+    ensures ok { OnOk result (batch.new.rows ≡ []) }
 {
-    copies.append(Operation::Rows(block)).map_err(|_| NoMemory)
+    let next = batch.new_like()?;
+    match copies.append(Operation::Batch(replace(batch, next))) {
+        Ok(()) => Ok(()),
+        Err(Operation::Batch(back)) => {
+            *batch = back;
+            Err(NoMemory)
+        }
+        // A refused operation comes back as it was given, so this is none.
+        Err(Operation::Rows(_) | Operation::Mark(_)) => Err(NoMemory),
+    }
 }
 
 /// Marks the list that is to be shown, unless a publish that was refused has marked it, or it is shown already.

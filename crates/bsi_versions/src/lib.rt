@@ -8,6 +8,7 @@ mod history;
 mod naming;
 mod operation;
 mod publisher;
+mod stage;
 mod told;
 mod version;
 

@@ -1,9 +1,9 @@
-//! What waits to be published: blocks of rows, and marks in the history.
+//! What waits to be published: rows, and marks in the history.
 
 use crate::NoMemory;
 use crate::history::Reached;
 use crate::version::Version;
-use bsi_table::Block;
+use bsi_table::{Block, Index};
 use left_right::Absorb;
 
 /// A pending operation of the writing end.
@@ -11,6 +11,8 @@ use left_right::Absorb;
 pub enum Operation {
     /// A block of rows, each with its feeder.
     Rows(Block),
+    /// The rows of a batch, each with its feeder.
+    Batch(Index),
     /// The list in the history that the rows make at this point.
     Mark(Reached),
 }
@@ -27,6 +29,7 @@ impl Absorb<Operation> for Version {
     fn absorb_first(&mut self, operation: &Operation, _other: &Version) -> Result<(), NoMemory> {
         match operation {
             Operation::Rows(block) => self.append(block),
+            Operation::Batch(batch) => self.append_batch(batch),
             Operation::Mark(known) => {
                 self.mark(known);
                 Ok(())

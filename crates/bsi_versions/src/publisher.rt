@@ -1,17 +1,17 @@
 //! The writing end: it holds rows back, and makes them visible at one step.
 //!
-//! A pending operation is a block of rows or a mark, which says which list of the history the rows then are. A publish
-//! that is tried again, or has nothing to show, adds no mark. The entries of a held row go into the stage, a block of 64;
-//! a full stage becomes one operation before the next row is held. A held block is an operation of its own, and the rows
-//! of the stage go before it. A stage in each copy would be part of what is shown.
+//! A pending operation is a list of rows or a mark, which says which list of the history the rows then are. A publish
+//! that is tried again, or has nothing to show, adds no mark. Held rows go into the stage, and become an operation once
+//! there are some thousand, or at a publish. A stage in each copy would be part of what is shown.
 
 ghost use Rattle.std.specs.Prelude.{◌≡◌, ◌+◌, ◌<◌, ◌≤◌, [], IfOk, IsTrue, OnErr, OnOk, length, ◌↔◌};
 ghost use Rattle.bsi_table.specs.Columns.{fits};
 ghost use Rattle.bsi_table.specs.RowBlocks.{entries_of, AreAlike};
 ghost use Rattle.bsi_versions.specs.Editions.{published_all, with_held, with_held_rows};
 
-use crate::copies::{Copies, append_block, empty_stage, make_place, mark_all, show};
+use crate::copies::{Copies, mark_all, show};
 use crate::history::History;
+use crate::stage::Stage;
 use crate::version::Version;
 use crate::{Analyst, Naming, NoMemory, Told};
 use bsi_table::{Block, Index, Row};
@@ -24,8 +24,7 @@ use std::sync::Wait;
 pub struct Publisher<B: Naming> {
     copies: Copies<B>,
     history: History,
-    /// Held rows that are not yet a pending operation: a block that is being filled.
-    stage: Block,
+    stage: Stage,
     /// This many more rows may be held.
     free: u64,
     /// The last list that is marked, or shown where none is pending, has so many rows.
@@ -61,7 +60,7 @@ impl<B: Naming> Publisher<B> {
         ensures { IfOk result (λ publisher. publisher ≡ record { table = index; held = [] }) }
     {
         let free = index.limit();
-        let stage = index.new_block()?;
+        let stage = Stage::new(&index)?;
         let first = Version::new(index, history.known());
         let second = first.copy()?;
         let copies = Writer::new(alloc, first, second, (analysts as usize).max(1))?;
@@ -109,9 +108,8 @@ impl<B: Naming> Publisher<B> {
         ensures ok { OnOk result (self.new ≡ with_held self.old feeder row.now) }
         ensures err { OnErr result (self.new ≡ self.old) }
     {
-        make_place(&mut self.copies, &mut self.stage)?;
-        // The row fits the table, and the stage is for its rows, so it is added.
-        let _ = self.stage.push(feeder, row);
+        self.stage.make_place(&mut self.copies)?;
+        self.stage.push(feeder, row)?;
         self.free -= 1;
         Ok(())
     }
@@ -127,9 +125,8 @@ impl<B: Naming> Publisher<B> {
             ≡ with_held_rows self.old feeder (entries_of block.now.rows)) }
         ensures err { OnErr result (self.new ≡ self.old) }
     {
-        let own = self.published().block_of(feeder, block)?;
-        empty_stage(&mut self.copies, &mut self.stage)?;
-        append_block(&mut self.copies, own)?;
+        self.stage.make_place(&mut self.copies)?;
+        self.stage.push_block(feeder, block)?;
         self.free -= block.len() as u64;
         Ok(())
     }
@@ -143,7 +140,7 @@ impl<B: Naming> Publisher<B> {
         ensures err { OnErr result (self.new ≡ self.old) }
     {
         let len = self.copies.published().index().limit() - self.free;
-        empty_stage(&mut self.copies, &mut self.stage)?;
+        self.stage.empty(&mut self.copies)?;
         mark_all(&mut self.copies, &mut self.history, &mut self.marked, len)?;
         show(&mut self.copies, rt)?;
         Ok(len)

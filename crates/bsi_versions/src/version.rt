@@ -76,4 +76,18 @@ impl Version {
         self.index.append_block(block).map_err(|_| NoMemory)?;
         Ok(())
     }
+
+    /// Appends all rows of a batch, by words. It refuses a batch that is kept otherwise than this index as if memory were
+    /// refused. No pending operation is such a batch.
+    pub(crate) fn append_batch(&mut self, batch: &Index) -> Result<(), NoMemory>
+        ensures ok { OnOk result (self.new
+            ≡ record self.old { table = with_rows self.old.table batch.now.rows }) }
+        ensures err { OnErr result (self.new ≡ self.old) }
+    {
+        if !self.index.is_like(batch) {
+            return Err(NoMemory);
+        }
+        self.index.append_index(batch).map_err(|_| NoMemory)?;
+        Ok(())
+    }
 }

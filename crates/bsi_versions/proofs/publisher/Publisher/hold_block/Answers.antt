@@ -1,77 +1,85 @@
-use Rattle.std.proofs.Common.{◌+◌, ◌-◌, ◌≡◌, [], drop, length, refl, ap, sym, ◌∙◌, subst, arith}
+use Rattle.std.proofs.Common.{◌+◌, ◌-◌, ◌≡◌, drop, length, ap, sym, ◌∙◌, subst, arith}
 use Rattle.std.proofs.lemmas.List.{length-map}
-use Rattle.bsi_table.specs.RowBlocks.{entries_of, RowBlock}
-use Rattle.bsi_versions.specs.Editions.{rows_of, written, HasStaged, IsFor, IsWriting}
-use Rattle.bsi_versions.proofs.Writing.{free_places, held_view, held_writing, staged_block, staged_kept, staged_marked, staged_view, staged_writing, with_more}
+use Rattle.bsi_table.specs.RowBlocks.{entries_of, fed_as, RowBlock}
+use Rattle.bsi_versions.specs.Editions.{rows_of, written, IsFor, IsMarked, IsWriting}
+use Rattle.bsi_versions.specs.Pages.{Rows}
+use Rattle.bsi_versions.proofs.Writing.{free_places, held_view, held_writing, on_err, staged_kept, staged_marked, staged_view, staged_writing, with_more}
 use Rattle.bsi_versions.proofs.publisher.Publisher.hold_block.Goals as goal
 
 -- the rows that are held stay, wherever they stand
 pub invariant_of-self : goal.invariant_of-self
 invariant_of-self g c =
     let p = c.self.inside in
-    let more = drop c.empty_stage.new.copies.behind c.empty_stage.new.copies.log.items in
+    let o = c.make_place.new in
     staged_kept g.B.Naming.book g.B.Naming.about p.copies.desk.shown.value (drop p.copies.behind p.copies.log.items) p.stage.rows p.history p.free p.marked
-    c.self.invariant.0 c.self.invariant.2 c.empty_stage.new.copies.desk.shown.value more c.empty_stage.new.stage
-    (ap (λ d. d.shown.value) c.empty_stage.ensures.desk) c.empty_stage.ensures.staged c.empty_stage.ensures.kind
+    c.self.invariant.0 c.self.invariant.2 o.copies.desk.shown.value (drop o.copies.behind o.copies.log.items) o.self
+    (ap (λ d. d.shown.value) c.make_place.ensures.desk) c.make_place.ensures.staged c.make_place.ensures.kind
 
-pub invariant_of-self-in_err-append_block : goal.invariant_of-self-in_err-append_block
-invariant_of-self-in_err-append_block g c =
+pub returns-in_err-make_place-clause-err : goal.returns-in_err-make_place-clause-err
+returns-in_err-make_place-clause-err g c =
     let p = c.self.inside in
-    let pending = drop p.copies.behind p.copies.log.items in
-    let grown = drop c.append_block.new.copies.behind c.append_block.new.copies.log.items in
-    let desk = c.append_block.ensures.desk in
-    staged_kept g.B.Naming.book g.B.Naming.about p.copies.desk.shown.value pending p.stage.rows p.history p.free p.marked
-    c.self.invariant.0 c.self.invariant.2 c.append_block.new.copies.desk.shown.value grown c.empty_stage.new.stage
-    (ap (λ d. d.shown.value) (desk ∙ c.empty_stage.ensures.desk))
-    (subst (λ xs. HasStaged pending p.stage.rows xs c.empty_stage.new.stage.rows) (sym c.in_err-append_block.ensures.err) c.empty_stage.ensures.staged)
-    (subst (λ d. IsFor d.shown.value.table c.empty_stage.new.stage) (sym desk) c.empty_stage.ensures.kind)
+    let o = c.make_place.new in
+    on_err c.from_residual.result
+    (staged_view p.copies.desk.shown.value (drop p.copies.behind p.copies.log.items) p.stage.rows o.copies.desk.shown.value (drop o.copies.behind o.copies.log.items) o.self.rows
+    (ap (λ d. d.shown.value) c.make_place.ensures.desk) c.make_place.ensures.staged ∙ c.self.view_is)
 
--- the block stands last among the pending operations, as if its rows had been in the stage
+pub invariant_of-self-in_err-push_block : goal.invariant_of-self-in_err-push_block
+invariant_of-self-in_err-push_block g c =
+    let p = c.self.inside in
+    let o = c.make_place.new in
+    let next = o.copies.desk.shown.value in
+    let more = drop o.copies.behind o.copies.log.items in
+    let kept = staged_kept g.B.Naming.book g.B.Naming.about p.copies.desk.shown.value (drop p.copies.behind p.copies.log.items) p.stage.rows p.history p.free p.marked
+    c.self.invariant.0 c.self.invariant.2 next more o.self (ap (λ d. d.shown.value) c.make_place.ensures.desk) c.make_place.ensures.staged c.make_place.ensures.kind in
+    subst (λ (s : RowBlock). IsWriting g.B.Naming.book g.B.Naming.about next more s.rows p.history p.free × IsFor next.table s × IsMarked g.B.Naming.book next more p.marked)
+    (sym c.in_err-push_block.ensures.err) kept
+
+pub returns-in_err-push_block-clause-err : goal.returns-in_err-push_block-clause-err
+returns-in_err-push_block-clause-err g c =
+    let p = c.self.inside in
+    let o = c.make_place.new in
+    let next = o.copies.desk.shown.value in
+    let more = drop o.copies.behind o.copies.log.items in
+    on_err c.from_residual-in_err-push_block.result
+    (ap (λ (s : RowBlock). written next more s.rows) c.in_err-push_block.ensures.err
+    ∙ staged_view p.copies.desk.shown.value (drop p.copies.behind p.copies.log.items) p.stage.rows next more o.self.rows
+    (ap (λ d. d.shown.value) c.make_place.ensures.desk) c.make_place.ensures.staged ∙ c.self.view_is)
+
+-- and those behind them are held
 pub invariant_of-self-2 : goal.invariant_of-self-2
 invariant_of-self-2 g c =
-    let p = c.self.inside in
     let book = g.B.Naming.book in
     let about = g.B.Naming.about in
+    let p = c.self.inside in
+    let o = c.make_place.new in
     let shown = p.copies.desk.shown.value in
     let pending = drop p.copies.behind p.copies.log.items in
-    let more = drop c.empty_stage.new.copies.behind c.empty_stage.new.copies.log.items in
-    let grown = drop c.append_block.new.copies.behind c.append_block.new.copies.log.items in
-    let left = c.empty_stage.new.stage.rows in
-    let own = c.in_ok-own.own in
-    let none = c.in_ok-empty_stage.ensures.ok in
-    let staged = c.empty_stage.ensures.staged in
-    let less = p.free - c.len.result in
+    let more = drop o.copies.behind o.copies.log.items in
+    let same = ap (λ d. d.shown.value) c.make_place.ensures.desk in
+    let added : Rows = fed_as c.args.feeder (entries_of c.args.block.now.rows) in
+    let grown = c.push_block.new.self in
+    let grows = c.in_ok-push_block.ensures.ok in
     let rows = ap (λ w. length w.table.rows) c.self.view_is in
     let held = ap (λ w. length w.held) c.self.view_is in
     let limit = ap (λ w. w.table.limit) c.self.view_is in
-    let long : length own.rows ≡ c.len.result = ap (λ (b : RowBlock). length b.rows) c.in_ok-own.ensures
-    ∙ length-map (entries_of c.args.block.now.rows) _ ∙ length-map c.args.block.now.rows _ ∙ sym c.len.ensures.len in
     let free = free_places shown.table.rows (rows_of pending) p.stage.rows shown.table.limit p.free _ _ _ c.len.result rows held limit c.self.invariant.0.places (omega (arith, c.requires.room, c.len.ensures.len)) in
-    let many : less + length own.rows ≡ p.free = ap (λ n. less + n) long ∙ free in
-    let writing = staged_writing book about shown pending p.stage.rows p.history p.free c.self.invariant.0 more left staged in
-    let emptied : IsWriting book about shown more [] p.history p.free = subst (λ xs. IsWriting book about shown more xs p.history p.free) none writing in
-    let grows = held_writing book about shown more [] p.history p.free emptied own.rows own.rows less refl many in
-    let marked = staged_marked book shown pending p.marked c.self.invariant.2 more p.stage.rows left staged in
-    staged_kept book about shown more own.rows p.history less p.marked grows marked
-    c.append_block.new.copies.desk.shown.value grown c.empty_stage.new.stage
-    (ap (λ d. d.shown.value) (c.append_block.ensures.desk ∙ c.empty_stage.ensures.desk))
-    (subst (λ xs. HasStaged more own.rows grown xs) (sym none) (staged_block more grown own c.in_ok-append_block.ensures.ok))
-    (subst (λ d. IsFor d.shown.value.table c.empty_stage.new.stage) (sym c.append_block.ensures.desk) c.empty_stage.ensures.kind)
+    let many : (p.free - c.len.result) + length added ≡ p.free = ap (λ n. (p.free - c.len.result) + n) (length-map (entries_of c.args.block.now.rows) _ ∙ length-map c.args.block.now.rows _ ∙ sym c.len.ensures.len) ∙ free in
+    let writing = staged_writing book about shown pending p.stage.rows p.history p.free c.self.invariant.0 more o.self.rows c.make_place.ensures.staged in (
+      subst (λ e. IsWriting book about e more grown.rows p.history (p.free - c.len.result)) (sym same)
+          (held_writing book about shown more o.self.rows p.history p.free writing added grown.rows (p.free - c.len.result) (ap (λ b. b.rows) grows) many),
+      record { schema = ap (λ b. b.schema) grows ∙ c.make_place.ensures.kind.schema; feeders = ap (λ b. b.feeders) grows ∙ c.make_place.ensures.kind.feeders },
+      subst (λ e. IsMarked book e more p.marked) (sym same)
+          (staged_marked book shown pending p.marked c.self.invariant.2 more p.stage.rows o.self.rows c.make_place.ensures.staged),
+    )
 
 pub returns-clause-ok : goal.returns-clause-ok
 returns-clause-ok g c =
     let p = c.self.inside in
-    let shown = p.copies.desk.shown.value in
-    let pending = drop p.copies.behind p.copies.log.items in
-    let more = drop c.empty_stage.new.copies.behind c.empty_stage.new.copies.log.items in
-    let grown = drop c.append_block.new.copies.behind c.append_block.new.copies.log.items in
-    let next = c.append_block.new.copies.desk.shown.value in
-    let left = c.empty_stage.new.stage.rows in
-    let own = c.in_ok-own.own in
-    let none = c.in_ok-empty_stage.ensures.ok in
-    staged_view shown more own.rows next grown left (ap (λ d. d.shown.value) (c.append_block.ensures.desk ∙ c.empty_stage.ensures.desk))
-    (subst (λ xs. HasStaged more own.rows grown xs) (sym none) (staged_block more grown own c.in_ok-append_block.ensures.ok))
-    ∙ held_view shown more [] own.rows own.rows refl
-    ∙ ap (λ xs. with_more (written shown more xs) own.rows) (sym none)
-    ∙ ap (λ w. with_more w own.rows) (staged_view shown pending p.stage.rows shown more left refl c.empty_stage.ensures.staged ∙ c.self.view_is)
-    ∙ ap (λ (b : RowBlock). with_more c.args.self.now b.rows) c.in_ok-own.ensures
+    let o = c.make_place.new in
+    let next = o.copies.desk.shown.value in
+    let more = drop o.copies.behind o.copies.log.items in
+    let added : Rows = fed_as c.args.feeder (entries_of c.args.block.now.rows) in
+    held_view next more o.self.rows c.push_block.new.self.rows added (ap (λ b. b.rows) c.in_ok-push_block.ensures.ok)
+    ∙ ap (λ w. with_more w added)
+    (staged_view p.copies.desk.shown.value (drop p.copies.behind p.copies.log.items) p.stage.rows next more o.self.rows
+    (ap (λ d. d.shown.value) c.make_place.ensures.desk) c.make_place.ensures.staged ∙ c.self.view_is)
