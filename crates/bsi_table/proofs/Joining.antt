@@ -1,19 +1,19 @@
 -- Two tables whose columns are kept alike.
-use Rattle.std.proofs.Common.{◌≡◌, ℕ, ◌+◌, ◌<◌, ◌≤◌, List, [], ◌∷◌, All, length, map, true, ℤ, refl, ap, ap₂, sym, subst, ◌∙◌, arith}
-use Rattle.std.specs.Prelude.{slice_index_or, IsTrue}
+use Rattle.std.proofs.Common.{◌≡◌, ℕ, ◌<◌, ◌≤◌, List, [], ◌∷◌, length, map, true, ℤ, refl, ap, ap₂, sym, subst, ◌∙◌, arith}
+use Rattle.std.specs.Prelude.{slice_index_or}
 use Rattle.std.proofs.lemmas.List.{ext_get_or, get_or-map, length-map}
-use Rattle.std.proofs.lemmas.List.Elements.{All-get_or, All-weaker}
+use Rattle.std.proofs.lemmas.List.Elements.{All-get_or}
 use Rattle.bsi_columns.specs.AnyRows.{size_in_form, AnyForm}
 use Rattle.bsi_schema.specs.Columns.{column_at, fits, no_column, Declared, NamedColumn}
 use Rattle.bsi_schema.specs.Limits.{limits_of}
 use Rattle.bsi_schema.specs.declared.limits.Limits.{Limits}
-use Rattle.bsi_shift.specs.Shifted.{OffsetColumn}
+use Rattle.bsi_shift.specs.Shifted.{shifted_entries, OffsetColumn}
 use Rattle.bsi_table.specs.RowBlocks.{AreAlike}
 use Rattle.bsi_table.specs.Rows.{FedRow}
-use Rattle.bsi_table.specs.Table.{fed_rows, kept_as, kept_at, AreAlikeColumns, AreFitting, AreFrom, AreKept, AreKeptAlike, IsTable}
+use Rattle.bsi_table.specs.Table.{fed_rows, kept_as, kept_at, AreAlikeColumns, AreFitting, AreFrom, AreKept, AreKeptAlike, HasMore, HaveMore, HaveRows, IsTable}
 use Rattle.bsi_table.proofs.CallerLemmas.{fitting-alike}
 use Rattle.bsi_table.proofs.Keeping.{row_in-fits, size-kept_form}
-use Rattle.bsi_table.proofs.TableRows.{All-fed_rows}
+use Rattle.bsi_table.proofs.TableRows.{All-fed_rows, column-fed_rows}
 
 -- two lists of columns that are kept alike
 module _ (columns others : List NamedColumn) (kept other_kept : List OffsetColumn) (n m : ℕ) (are : AreKept columns kept n) (other_are : AreKept others other_kept m) where
@@ -76,3 +76,10 @@ pub from_feeders : (columns : List NamedColumn) (feeders limit more : ℕ) (sour
 from_feeders columns feeders limit more sources kept is few =
     All-fed_rows sources kept (λ row. row.0 < more)
     (λ r below. omega (arith, few, All-get_or (λ source. source < feeders) sources r 0 below is.from))
+
+-- columns that got the entries of others have their rows more
+pub have_more : (old new others : List OffsetColumn) (sources : List ℕ) → length others ≡ length old → HaveRows others (length sources)
+    → ((k : ℕ) → k < length old → HasMore (kept_at old k) (kept_at new k) (shifted_entries (kept_at others k))) → HaveMore old new (fed_rows sources others)
+have_more old new others sources long even each = λ k within.
+    let there : k < length others = omega (arith, within, long) in
+    subst (HasMore (kept_at old k) (kept_at new k)) (sym (column-fed_rows sources others k there (even k there))) (each k within)

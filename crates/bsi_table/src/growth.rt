@@ -3,7 +3,7 @@
 ghost use Rattle.std.specs.Prelude.{◌≡◌, ℕ, ◌+◌, ◌<◌, ◌≤◌, ◌^◌, ◌++◌, ◌∷◌, [], All, length, OnOk};
 ghost use Rattle.bsi_shift.specs.Shifted.{shifted_entries};
 ghost use Rattle.bsi_table.specs.Rows.{feeders_of};
-ghost use Rattle.bsi_table.specs.Table.{fed_rows, kept_at, AreAlikeColumns, AreFrom, AreI64, AreInRange, AreSameColumns, HaveMore, HaveOneMore, HaveRoom, HaveRows, TakesRow};
+ghost use Rattle.bsi_table.specs.Table.{kept_at, AreAlikeColumns, AreFrom, AreI64, AreInRange, AreSameColumns, HasMore, HaveMore, HaveOneMore, HaveRoom, HaveRows, TakesRow};
 
 use crate::columns::{push_all_each, push_block_each, push_each, reserve_each};
 use crate::{Block, NoMemory};
@@ -86,8 +86,9 @@ pub(crate) fn push_all(
     requires reserved { length sources.now.rows ≤ origins.old.room }
     requires feeders { sources.now.feeders ≤ origins.old.feeders }
     ensures long { length columns.new.items ≡ length columns.old.items }
-    ensures more { HaveMore columns.old.items columns.new.items
-        (fed_rows sources.now.rows others.now) }
+    ensures more { (k : ℕ) → k < length columns.old.items →
+        HasMore (kept_at columns.old.items k) (kept_at columns.new.items k)
+        (shifted_entries (kept_at others.now k)) }
     ensures rows { origins.new.rows ≡ origins.old.rows ++ sources.now.rows }
     ensures feeders { origins.new.feeders ≡ origins.old.feeders }
 {

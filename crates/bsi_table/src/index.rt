@@ -160,12 +160,8 @@ impl Index {
             return Err(AppendError::IndexFull);
         }
         reserve_rows(&mut self.columns, &mut self.origins, more)?;
-        push_all(
-            &mut self.columns,
-            &mut self.origins,
-            &other.columns,
-            &other.origins,
-        );
+        let (columns, origins) = (&other.columns, &other.origins);
+        push_all(&mut self.columns, &mut self.origins, columns, origins);
         Ok(first)
     }
 

@@ -5,4 +5,4 @@ use Rattle.bsi_table.proofs.columns.are_alike.Given as goal
 
 -- the columns so far are kept alike
 abbrev pub invariant-columns : goal.invariant-columns
-invariant-columns l = record { alike : (k : ℕ) → k < l.c → IsAlike (kept_at l.columns k) (kept_at l.others k); }
+invariant-columns l = record { alike : (k : ℕ) → k < l.c → IsAlike (kept_at l.columns k) (kept_at l.others k) }

@@ -3,9 +3,9 @@ use Rattle.std.proofs.lemmas.List.{length-map}
 use Rattle.bsi_schema.specs.Columns.{NamedColumn}
 use Rattle.bsi_shift.specs.Shifted.{shifted_entries}
 use Rattle.bsi_table.specs.Rows.{feeders_of, FedRow}
-use Rattle.bsi_table.specs.Table.{fed_rows, kept_as, kept_at, with_rows, AreAlikeColumns, AreFitting, AreFrom, AreKeptAlike, HaveMore, IsTable, Table}
+use Rattle.bsi_table.specs.Table.{fed_rows, kept_as, kept_at, with_rows, AreAlikeColumns, AreFitting, AreFrom, AreKeptAlike, HasMore, HaveMore, HaveRows, IsTable, Table}
 use Rattle.bsi_table.proofs.Growing.{grown_rows, grown_table}
-use Rattle.bsi_table.proofs.Joining.{alike_columns, fitting_others, fitting_rows, from_feeders}
+use Rattle.bsi_table.proofs.Joining.{alike_columns, fitting_others, fitting_rows, from_feeders, have_more}
 use Rattle.bsi_table.proofs.Keeping.{are_kept_same, on_err}
 use Rattle.bsi_table.proofs.TableRows.{fed_rows-same, feeders-fed_rows, length-fed_rows}
 use Rattle.bsi_table.proofs.index.Index.append_index.Goals as goal
@@ -40,8 +40,16 @@ push_all-requires-clause-long c =
     let i = c.self.inside in
     let o = c.other.inside in
     let schemas = ap (λ t. map kept_as t.schema.columns) c.self.view_is ∙ c.requires.alike ∙ sym (ap (λ t. map kept_as t.schema.columns) c.other.view_is) in
-    omega (arith, ap length c.deref.ensures.value, c.other.invariant.columns_are.long, c.self.invariant.columns_are.long, c.in_ok-reserve_rows.ensures.long,
-    ap length schemas, length-map i.schema.value.columns kept_as, length-map o.schema.value.columns kept_as)
+    omega (
+      arith,
+      ap length c.deref.ensures.value,
+      c.other.invariant.columns_are.long,
+      c.self.invariant.columns_are.long,
+      c.in_ok-reserve_rows.ensures.long,
+      ap length schemas,
+      length-map i.schema.value.columns kept_as,
+      length-map o.schema.value.columns kept_as,
+    )
 
 pub push_all-requires-clause-alike : goal.push_all-requires-clause-alike
 push_all-requires-clause-alike c =
@@ -92,8 +100,21 @@ invariant_of-self-2 c =
     let rows = c.args.other.now.rows in
     let reserved = c.reserve_rows.new.columns.items in
     let pushed = c.push_all.new.columns.items in
-    let rows_are : fed_rows o.origins.rows c.deref.result.now ≡ rows = ap (fed_rows o.origins.rows) c.deref.ensures.value ∙ ap (λ t. t.rows) c.other.view_is in
-    let more = subst (HaveMore reserved pushed) rows_are c.push_all.ensures.more in
+    let others = o.columns.items in
+    let schemas = ap (λ t. map kept_as t.schema.columns) c.self.view_is ∙ c.requires.alike ∙ sym (ap (λ t. map kept_as t.schema.columns) c.other.view_is) in
+    let long : length others ≡ length reserved = omega (
+      arith,
+      c.other.invariant.columns_are.long,
+      c.self.invariant.columns_are.long,
+      e.long,
+      ap length schemas,
+      length-map i.schema.value.columns kept_as,
+      length-map o.schema.value.columns kept_as,
+    ) in
+    let each : (k : ℕ) → k < length reserved → HasMore (kept_at reserved k) (kept_at pushed k) (shifted_entries (kept_at others k)) =
+    subst (λ xs. (k : ℕ) → k < length reserved → HasMore (kept_at reserved k) (kept_at pushed k) (shifted_entries (kept_at xs k))) c.deref.ensures.value c.push_all.ensures.more in
+    let even : HaveRows others (length o.origins.rows) = λ k within. (c.other.invariant.columns_are.each k (omega (arith, within, c.other.invariant.columns_are.long))).rows in
+    let more : HaveMore reserved pushed rows = subst (λ (t : Table). HaveMore reserved pushed t.rows) c.other.view_is (have_more reserved pushed others o.origins.rows long even each) in
     let sources = c.push_all.ensures.rows
     ∙ ap₂ (λ (xs ys : List ℕ). xs ++ ys) e.rows (sym (feeders-fed_rows o.origins.rows o.columns.items) ∙ ap (λ t. feeders_of t.rows) c.other.view_is) in
     let fitting = subst (λ (t : Table). AreFitting t.schema.columns t.rows) c.other.view_is
@@ -118,8 +139,21 @@ returns-clause-appended c =
     let rows = c.args.other.now.rows in
     let reserved = c.reserve_rows.new.columns.items in
     let pushed = c.push_all.new.columns.items in
-    let rows_are : fed_rows o.origins.rows c.deref.result.now ≡ rows = ap (fed_rows o.origins.rows) c.deref.ensures.value ∙ ap (λ t. t.rows) c.other.view_is in
-    let more = subst (HaveMore reserved pushed) rows_are c.push_all.ensures.more in
+    let others = o.columns.items in
+    let schemas = ap (λ t. map kept_as t.schema.columns) c.self.view_is ∙ c.requires.alike ∙ sym (ap (λ t. map kept_as t.schema.columns) c.other.view_is) in
+    let long : length others ≡ length reserved = omega (
+      arith,
+      c.other.invariant.columns_are.long,
+      c.self.invariant.columns_are.long,
+      e.long,
+      ap length schemas,
+      length-map i.schema.value.columns kept_as,
+      length-map o.schema.value.columns kept_as,
+    ) in
+    let each : (k : ℕ) → k < length reserved → HasMore (kept_at reserved k) (kept_at pushed k) (shifted_entries (kept_at others k)) =
+    subst (λ xs. (k : ℕ) → k < length reserved → HasMore (kept_at reserved k) (kept_at pushed k) (shifted_entries (kept_at xs k))) c.deref.ensures.value c.push_all.ensures.more in
+    let even : HaveRows others (length o.origins.rows) = λ k within. (c.other.invariant.columns_are.each k (omega (arith, within, c.other.invariant.columns_are.long))).rows in
+    let more : HaveMore reserved pushed rows = subst (λ (t : Table). HaveMore reserved pushed t.rows) c.other.view_is (have_more reserved pushed others o.origins.rows long even each) in
     let sources = c.push_all.ensures.rows
     ∙ ap₂ (λ (xs ys : List ℕ). xs ++ ys) e.rows (sym (feeders-fed_rows o.origins.rows o.columns.items) ∙ ap (λ t. feeders_of t.rows) c.other.view_is) in
     let fitting = subst (λ (t : Table). AreFitting t.schema.columns t.rows) c.other.view_is

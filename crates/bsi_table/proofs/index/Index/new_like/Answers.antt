@@ -1,4 +1,4 @@
-use Rattle.std.proofs.Common.{◌≡◌, ◌<◌, [], All, List, ℕ, length, ap, ap₂, arith, subst, sym, ◌∙◌}
+use Rattle.std.proofs.Common.{◌<◌, All, List, ℕ, length, ap, ap₂, arith, subst, sym, ◌∙◌}
 use Rattle.std.proofs.lemmas.List.Elements.{All-nil}
 use Rattle.bsi_schema.specs.Columns.{Declared}
 use Rattle.bsi_table.specs.Rows.{FedRow}

@@ -1,4 +1,4 @@
-use Rattle.std.proofs.Common.{◌≡◌, ◌<◌, ◌+◌, ℕ, List, length, ap, ap₂, sym, arith, ◌∙◌}
+use Rattle.std.proofs.Common.{ℕ, List, length, ap, ap₂, sym, arith, ◌∙◌}
 use Rattle.bsi_table.specs.Rows.{FedRow}
 use Rattle.bsi_table.specs.Table.{fed_rows, Table}
 use Rattle.bsi_table.proofs.TableRows.{fed_rows-same, length-fed_rows}
