@@ -97,7 +97,7 @@ max_zero x = omega arith
 zero_max : (x : ℕ) → max 0 x ≡ x
 zero_max x = omega arith
 
-pub zero_from_off : (b : ℕ) → b < 2 → (b == 1) ≡ false → b ≡ 0
+zero_from_off : (b : ℕ) → b < 2 → (b == 1) ≡ false → b ≡ 0
 zero_from_off b below is_off = grind (arith, nat_tests)
 
 module _ (n count word : ℕ) (words : List ℕ) (few : count ≤ 64) (clear : word < 2 ^ count) (packed : IsPacked n words) where

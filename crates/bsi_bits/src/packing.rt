@@ -79,7 +79,7 @@ pub fn push_word(words: &mut Vec<u64>, n: u64, word: u64, count: u64)
 }
 
 /// Appends the `count` packed bits of `more` to `n` packed bits. Where a word begins after the `n` bits, it copies the
-/// words at once.
+/// words at once. Else it carries the upper places of each word on to the next.
 pub fn push_all(words: &mut Vec<u64>, n: u64, more: &[u64], count: u64)
     requires within { n + count ≤ 2 ^ 32 }
     requires packed { IsPacked n words.old.items }
@@ -90,13 +90,18 @@ pub fn push_all(words: &mut Vec<u64>, n: u64, more: &[u64], count: u64)
         ≡ bits_of n words.old.items ++ bits_of count more.now }
     ensures capacity { vec_capacity words.old ≤ vec_capacity words.new }
 {
-    if n % 64 == 0 {
+    let place = n % 64;
+    if place == 0 {
         words.extend_from_slice(more).unwrap();
         return;
     }
-    'words: for k in 0..more.len() {
-        let at = 64 * k as u64;
-        push_word(words, n + at, more[k], (count - at).min(64));
+    let mut carried = words.pop().unwrap();
+    'words: for word in more {
+        words.push_reserved(carried | *word << place);
+        carried = *word >> (64 - place);
+    }
+    if words.len() < (n + count).div_ceil(64) as usize {
+        words.push_reserved(carried);
     }
 }
 
