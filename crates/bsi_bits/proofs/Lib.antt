@@ -3,6 +3,7 @@ pub mod CountingPairs
 pub mod Filling
 pub mod InWords
 pub mod Logic
+pub mod Lowest
 pub mod Marked
 pub mod Reading
 pub mod Skipping

@@ -201,7 +201,7 @@ impl Bitmaps {
         'ones: while left != 0 {
             let place = left.trailing_zeros() as usize;
             self.raise_last(place, place + 1);
-            left &= !(1 << place);
+            left &= left - 1;
         }
     }
 

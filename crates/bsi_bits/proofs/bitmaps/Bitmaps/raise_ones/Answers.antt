@@ -1,35 +1,12 @@
-use Rattle.std.proofs.Common.{◌≡◌, ◌≢◌, ◌==◌, ℕ, ◌*◌, ◌%◌, ◌^◌, ◌<◌, ◌≤◌, Bool, true, false, [], ◌∷◌, ◌++◌, length, inl, inr, refl, ap, ap₂, sym, ◌∙◌, arith}
+use Rattle.std.proofs.Common.{◌≡◌, ◌≢◌, ◌==◌, ℕ, ◌-◌, ◌^◌, ◌<◌, Bool, true, false, [], ◌∷◌, ◌++◌, length, inl, inr, refl, ap, ap₂, sym, ◌∙◌, arith}
 use Rattle.std.specs.Prelude.{not, ◌&&◌, bit_and}
-use Rattle.std.specs.Int.{bit_at, bit_not, trailing_zeros, w64}
+use Rattle.std.specs.Int.{bit_at, trailing_zeros, w64}
 use Rattle.std.proofs.Math.Bool.{and-true, and-false}
 use Rattle.std.proofs.lemmas.Bool.{cases_lt, cases_eq}
-use Rattle.std.proofs.lemmas.Nat.{and_le_l}
-use Rattle.std.proofs.lemmas.Nat.Bits.{bit_at-zero, bit_at_above, bit_at-trailing_zeros, bit_at_clear_same, bit_at_clear_other}
+use Rattle.std.proofs.lemmas.Nat.Bits.{bit_at-zero, bit_at_above, bit_at-trailing_zeros}
 use Rattle.bsi_bits.specs.BitLists.{bits_at}
+use Rattle.bsi_bits.proofs.Lowest.{lowest_gone, others_stay, lowest_less}
 use Rattle.bsi_bits.proofs.bitmaps.Bitmaps.raise_ones.Goals as goal
-
--- a word with place k cleared
-abbrev cleared : ℕ → ℕ → ℕ
-cleared x k = bit_and x (bit_not w64 (1 * 2 ^ k % 2 ^ 64))
-
-cleared_less : (x k : ℕ) → cleared x k ≤ x
-cleared_less x k = and_le_l x (bit_not w64 (1 * 2 ^ k % 2 ^ 64))
-
-cleared_other : (x k i : ℕ) → x < 2 ^ 64 → k < 64 → i ≢ k → bit_at (cleared x k) i ≡ bit_at x i
-cleared_other x k i fits within apart = elim (cases_lt i 64) [
-  | inl below ↦ bit_at_clear_other w64 x k within i below apart
-  | inr past ↦ bit_at_above (cleared x k) 64 i (omega (arith, fits, cleared_less x k)) past ∙ sym (bit_at_above x 64 i fits past)
-]
-
--- a word that has the place is more
-cleared_smaller : (x k : ℕ) → k < 64 → bit_at x k ≡ 1 → cleared x k < x
-cleared_smaller x k within there = elim (cases_eq (cleared x k) x) [
-  | inl same ↦
-      let one : bit_at (cleared x k) k ≡ 1 = ap (λ y. bit_at y k) same ∙ there in
-      let none : bit_at (cleared x k) k ≡ 0 = bit_at_clear_same w64 x k within in
-      absurd (omega (arith, one, none))
-  | inr apart ↦ omega (arith, apart, cleared_less x k)
-]
 
 none_left : (b : Bool) → (b && not b) ≡ false
 none_left true = refl
@@ -45,10 +22,10 @@ ones-init c = record {
 }
 
 -- the lowest place that is left
-lowest : (left : ℕ) → (left ≡ 0 → ⊥) → left < 2 ^ 64 → (trailing_zeros w64 left < 64) × (bit_at left (trailing_zeros w64 left) ≡ 1)
+lowest : (left : ℕ) → (left ≡ 0 → ⊥) → left < 2 ^ 64 → (bit_at left (trailing_zeros w64 left) ≡ 1) × ((i : ℕ) → i < trailing_zeros w64 left → bit_at left i ≡ 0)
 lowest left some fits =
     let all = bit_at-trailing_zeros w64 left (omega (arith, some)) fits in
-    (all.0, all.1)
+    (all.1, all.2)
 
 -- a place of the number has a vector
 placed : (number count k : ℕ) → number < 2 ^ count → bit_at number k ≡ 1 → k < count
@@ -60,19 +37,19 @@ placed number count k below there = elim (cases_lt k count) [
 pub raise_last-requires-clause-some : goal.raise_last-requires-clause-some
 raise_last-requires-clause-some c =
     let first = lowest c.ones.left c.ones-test.true (omega (arith, c.ones.auto.left-fits)) in
-    let within = placed c.args.number (length c.args.self.now.vectors) (trailing_zeros w64 c.ones.left) c.requires.below (c.ones.invariant.among (trailing_zeros w64 c.ones.left) first.1) in
+    let within = placed c.args.number (length c.args.self.now.vectors) (trailing_zeros w64 c.ones.left) c.requires.below (c.ones.invariant.among (trailing_zeros w64 c.ones.left) first.0) in
     c.ones.invariant.some 0 (omega (arith, within))
 
 pub raise_last-requires-clause-within : goal.raise_last-requires-clause-within
 raise_last-requires-clause-within c =
     let first = lowest c.ones.left c.ones-test.true (omega (arith, c.ones.auto.left-fits)) in
-    let within = placed c.args.number (length c.args.self.now.vectors) (trailing_zeros w64 c.ones.left) c.requires.below (c.ones.invariant.among (trailing_zeros w64 c.ones.left) first.1) in
+    let within = placed c.args.number (length c.args.self.now.vectors) (trailing_zeros w64 c.ones.left) c.requires.below (c.ones.invariant.among (trailing_zeros w64 c.ones.left) first.0) in
     (omega arith, omega (arith, within, c.ones.invariant.count))
 
 pub ones-smaller : goal.ones-smaller
 ones-smaller c =
     let first = lowest c.ones.left c.ones-test.true (omega (arith, c.ones.auto.left-fits)) in
-    cleared_smaller c.ones.left (trailing_zeros w64 c.ones.left) first.0 first.1
+    lowest_less c.ones.left (trailing_zeros w64 c.ones.left) first.0 first.1
 
 -- one place more
 pub ones-preserved : goal.ones-preserved
@@ -82,24 +59,25 @@ ones-preserved c =
     let p = trailing_zeros w64 left in
     let first = lowest left c.ones-test.true (omega (arith, c.ones.auto.left-fits)) in
     let was = c.ones.invariant in
-    let gone : bit_at (cleared left p) p ≡ 0 = bit_at_clear_same w64 left p first.0 in
-    let other : (k : ℕ) → k ≢ p → bit_at (cleared left p) k ≡ bit_at left k = λ k apart. cleared_other left p k (omega (arith, c.ones.auto.left-fits)) first.0 apart in
+    let rest = bit_and left (left - 1) in
+    let gone : bit_at rest p ≡ 0 = lowest_gone left p first.0 first.1 in
+    let other : (k : ℕ) → k ≢ p → bit_at rest k ≡ bit_at left k = others_stay left p first.0 first.1 in
     record {
       count = c.raise_last.ensures.count ∙ was.count;
       room = c.raise_last.ensures.room ∙ was.room;
       some = λ k within. omega (arith, was.some k within, c.raise_last.ensures.lengths k);
       among = λ k there. elim (cases_eq k p) [
-        | inl same ↦ absurd (omega (arith, gone, sym (ap (bit_at (cleared left p)) same) ∙ there))
+        | inl same ↦ absurd (omega (arith, gone, sym (ap (bit_at rest) same) ∙ there))
         | inr apart ↦ was.among k (sym (other k apart) ∙ there)
       ];
       raised = λ k front within is. elim (cases_eq k p) [
         | inl same ↦
-            let there : bit_at left k ≡ 1 = ap (bit_at left) same ∙ first.1 in
+            let there : bit_at left k ≡ 1 = ap (bit_at left) same ∙ first.0 in
             let before : bits_at c.ones.self.vectors k ≡ front ++ false ∷ [] =
             was.raised k front within is
             ∙ ap (λ b. front ++ ((bit_at number k == 1) && not (b == 1)) ∷ []) there ∙ ap (λ b. front ++ b ∷ []) (and-false (bit_at number k == 1)) in
             c.raise_last.ensures.raised k front (omega (arith, same)) (omega (arith, same)) before
-            ∙ ap₂ (λ a b. front ++ ((a == 1) && not (b == 1)) ∷ []) (sym (was.among k there)) (sym (ap (bit_at (cleared left p)) same ∙ gone))
+            ∙ ap₂ (λ a b. front ++ ((a == 1) && not (b == 1)) ∷ []) (sym (was.among k there)) (sym (ap (bit_at rest) same ∙ gone))
         | inr apart ↦
             let kept : bits_at c.raise_last.new.self.vectors k ≡ bits_at c.ones.self.vectors k = elim (cases_lt k p) [
               | inl early ↦ c.raise_last.ensures.before k early
