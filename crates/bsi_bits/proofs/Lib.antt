@@ -2,6 +2,7 @@ pub mod Counting
 pub mod CountingPairs
 pub mod Filling
 pub mod InWords
+pub mod Joining
 pub mod Logic
 pub mod Lowest
 pub mod Marked

@@ -223,6 +223,23 @@ impl Bitmaps {
         }
         self.room -= count;
     }
+
+    /// Appends to each vector all bits of the other list's vector at its place, in their order, into room that is
+    /// already there.
+    pub fn push_all_reserved(&mut self, other: &Bitmaps)
+        requires long { length other.now.vectors ≡ length self.old.vectors }
+        requires room { length (bits_at other.now.vectors 0) ≤ self.old.room }
+        ensures count { length self.new.vectors ≡ length self.old.vectors }
+        ensures bits { (j : ℕ) → j < length self.old.vectors →
+            bits_at self.new.vectors j
+            ≡ bits_at self.old.vectors j ++ bits_at other.now.vectors j }
+        ensures room { self.new.room + length (bits_at other.now.vectors 0) ≡ self.old.room }
+    {
+        'vectors: for j in 0..self.vectors.len() {
+            self.vectors[j].push_all_reserved(&other.vectors[j]);
+        }
+        self.room -= other.len();
+    }
 }
 
 /// Makes `count` empty vectors.

@@ -6,7 +6,7 @@ ghost use Rattle.bsi_bits.specs.Packed.{bit_of, bits_of, IsPacked};
 
 use crate::NoMemory;
 use crate::ones::Ones;
-use crate::packing::{push_bit, push_word, set_last, trim};
+use crate::packing::{push_all, push_bit, push_word, set_last, trim};
 use std::alloc::Global;
 use std::marker::Model;
 
@@ -224,6 +224,16 @@ impl Bits {
     {
         push_word(&mut self.words, self.len, word, count);
         self.len += count;
+    }
+
+    /// Appends all bits of another vector, in their order, into room that is already there.
+    pub fn push_all_reserved(&mut self, other: &Bits)
+        requires { length other.now.bits ≤ self.old.room }
+        ensures bits { self.new.bits ≡ self.old.bits ++ other.now.bits }
+        ensures room { self.old.room ≤ self.new.room + length other.now.bits }
+    {
+        push_all(&mut self.words, self.len, &other.words, other.len);
+        self.len += other.len;
     }
 }
 

@@ -78,6 +78,33 @@ pub fn push_word(words: &mut Vec<u64>, n: u64, word: u64, count: u64)
     }
 }
 
+/// Appends the `count` packed bits of `more` to `n` packed bits. Where a word begins after the `n` bits, it copies the
+/// words at once. Else it carries the upper places of each word on to the next.
+pub fn push_all(words: &mut Vec<u64>, n: u64, more: &[u64], count: u64)
+    requires within { n + count ≤ 2 ^ 32 }
+    requires packed { IsPacked n words.old.items }
+    requires more_packed { IsPacked count more.now }
+    requires room { n + count ≤ 64 * vec_capacity words.old }
+    ensures packed { IsPacked (n + count) words.new.items }
+    ensures bits { bits_of (n + count) words.new.items
+        ≡ bits_of n words.old.items ++ bits_of count more.now }
+    ensures capacity { vec_capacity words.old ≤ vec_capacity words.new }
+{
+    let place = n % 64;
+    if place == 0 {
+        words.extend_from_slice(more).unwrap();
+        return;
+    }
+    let mut carried = words.pop().unwrap();
+    'words: for word in more {
+        words.push_reserved(carried | *word << place);
+        carried = *word >> (64 - place);
+    }
+    if words.len() < (n + count).div_ceil(64) as usize {
+        words.push_reserved(carried);
+    }
+}
+
 /// Does nothing when the program runs. Its clause tells a proof that each word is below 2^64, which the words behind a
 /// shared reference do not tell by themselves; it is public for the proofs of the crates above.
 #[doc(hidden)]

@@ -89,14 +89,14 @@ module _ {E : Type 0} (room : E → ℕ) (cs : List E) (i : ℕ) (c new : E) (wi
   ]
 
   -- those up to it have no less than so many fewer, and the others what they had
-  pub room_spent : (old : List E) (used : ℕ) → room c ≤ room new + used
-      → ((k : ℕ) → get_or (map room old) k 0 ≤ get_or (map room cs) k 0 + used) → ((k : ℕ) → i ≤ k → get_or (map room cs) k 0 ≡ get_or (map room old) k 0)
-      → (k : ℕ) → get_or (map room old) k 0 ≤ get_or (map room (set cs i new)) k 0 + used
+  pub room_spent : (old : List E) (used : ℕ → ℕ) → room c ≤ room new + used i
+      → ((k : ℕ) → get_or (map room old) k 0 ≤ get_or (map room cs) k 0 + used k) → ((k : ℕ) → i ≤ k → get_or (map room cs) k 0 ≡ get_or (map room old) k 0)
+      → (k : ℕ) → get_or (map room old) k 0 ≤ get_or (map room (set cs i new)) k 0 + used k
   room_spent old used spent before rest k = elim (cases_eq k i) [
     | inl same ↦
         let here : get_or (map room old) k 0 ≡ room c = ap (λ j. get_or (map room old) j 0) same ∙ sym (rest i (omega arith)) ∙ room_of_old in
         let there : get_or (map room (set cs i new)) k 0 ≡ room new = ap (λ j. get_or (map room (set cs i new)) j 0) same ∙ room_of_new in
-        omega (arith, here, there, spent)
+        omega (arith, here, there, spent, ap used same)
     | inr apart ↦ omega (arith, map_unwritten room cs i k new 0 apart, before k)
   ]
 

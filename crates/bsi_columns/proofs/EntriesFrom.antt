@@ -1,7 +1,8 @@
 -- The entries that a not-null bitmap and digits stand for, once the digits are known to be those of entries.
-use Rattle.std.proofs.Common.{◌≡◌, ℕ, ◌+◌, ◌-◌, ◌<◌, ◌≤◌, Bool, false, List, [], ◌++◌, length, get_or, take, map, replicate, refl, sym, ap, ap₂, ◌∙◌, subst, arith}
+use Rattle.std.proofs.Common.{◌≡◌, ℕ, ◌+◌, ◌-◌, ◌<◌, ◌≤◌, Bool, false, List, [], ◌++◌, length, get_or, take, map, replicate, refl, sym, ap, ap₂, ◌∙◌, subst, inl, inr, arith}
 use Rattle.std.specs.Prelude.{All, Option, Some, None, is_some, cond}
-use Rattle.std.proofs.lemmas.List.{length-map, length-take-le, get_or-take, same_lists, get_or-map, map-append, length-replicate, get_or-replicate}
+use Rattle.std.proofs.lemmas.Bool.{cases_lt}
+use Rattle.std.proofs.lemmas.List.{length-map, length-take-le, get_or-take, get_or_past, same_lists, get_or-map, map-append, length-replicate, get_or-replicate}
 use Rattle.std.proofs.lemmas.List.Elements.{All-nil, All-append}
 use Rattle.std.proofs.lemmas.List.FromFn.{fill_by_all}
 use Rattle.bsi_digits.specs.Digits.{product, digit_of, digits_of, components, weighted_sum}
@@ -45,6 +46,13 @@ module _ (bs : List ℕ) (present : List Bool) (ds : List (List ℕ)) (entries :
   pub kept_itself : Decomposes bs present ds (entries_of bs present ds)
   kept_itself = subst (λ es. Decomposes bs present ds es) (sym entries_from) kept
 
+  -- no component has more digits than there are entries
+  pub digits_at_most : (k : ℕ) → length (get_or ds k []) ≤ length entries
+  digits_at_most k = elim (cases_lt k (length bs)) [
+    | inl below ↦ omega (arith, ap length (kept.digits_are k below), length-map entries (λ (e : Option ℕ). digit_of bs (number_or_zero e) k))
+    | inr past ↦ omega (arith, ap length (get_or_past ds k [] (omega (arith, past, kept.count))))
+  ]
+
 -- a column of no entries
 pub no_entries : (bs : List ℕ) (present : List Bool) (ds : List (List ℕ)) → present ≡ [] → ds ≡ replicate (length bs) [] → Decomposes bs present ds []
 no_entries bs present ds none empty = record {
@@ -68,6 +76,17 @@ more_entries bs present ds entries block bits more kept bits_are long each small
   below = All-append (λ (x : Option ℕ). number_or_zero x < product bs) entries block kept.below small;
 }
 
+-- all entries of another column under the same bases
+pub all_entries : (bs others_bs : List ℕ) (present others bits : List Bool) (ds more all : List (List ℕ)) (entries added : List (Option ℕ)) → Decomposes bs present ds entries → Decomposes others_bs others more added
+    → others_bs ≡ bs → bits ≡ present ++ others → length all ≡ length bs
+    → ((i : ℕ) → i < length bs → get_or all i [] ≡ get_or ds i [] ++ get_or more i [])
+    → Decomposes bs bits all (entries ++ added)
+all_entries bs others_bs present others bits ds more all entries added kept of_others same bits_are long each =
+    let other : Decomposes bs others more added = subst (λ b. Decomposes b others more added) same of_others in
+    more_entries bs present ds entries added bits all kept
+    (bits_are ∙ ap (λ ps. present ++ ps) other.present_is) long
+    (λ i below. each i below ∙ ap (λ xs. get_or ds i [] ++ xs) (other.digits_are i below)) other.below
+
 -- each component has as many digits as there are entries
 pub component_rows : {E : Type 0} (digits : E → List ℕ) (cs : List E) (bs : List ℕ) (present : List Bool) (entries : List (Option ℕ)) →
     Decomposes bs present (map digits cs) entries → (k : ℕ) (d : E) → k < length cs → length (digits (get_or cs k d)) ≡ length entries
@@ -88,7 +107,7 @@ block_digits digit block numbers read enough =
     ∙ sym (get_or-map (λ e. digit (number_or_zero e)) block r None d below))
 
 -- room that is used
-pub roomy_less : (rows room present used rows' present' : ℕ) (rooms rooms' : List ℕ) → IsRoomy rows room present rooms → used ≤ room → rows' ≡ rows + used → present' + used ≡ present
+pub roomy_less : (rows room present used rows' present' : ℕ) (rooms rooms' : List ℕ) → IsRoomy rows room present rooms → used ≤ room → rows' ≡ rows + used → present ≤ present' + used
     → length rooms' ≡ length rooms → ((k : ℕ) → get_or rooms k 0 ≤ get_or rooms' k 0 + used) → IsRoomy rows' (room - used) present' rooms'
 roomy_less rows room present used rows' present' rooms rooms' roomy enough more marks long spent = record {
   within = omega (arith, roomy.within);

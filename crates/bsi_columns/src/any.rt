@@ -1,6 +1,6 @@
 //! A column of whichever form, chosen when the program runs.
 
-ghost use Rattle.std.specs.Prelude.{◌≡◌, ◌+◌, ◌≤◌, is_none, length, IsOk, OnOk, OnErr};
+ghost use Rattle.std.specs.Prelude.{◌≡◌, ◌+◌, ◌≤◌, is_none, length, true, IsOk, OnOk, OnErr};
 ghost use Rattle.bsi_bits.specs.BitList.{word_count};
 ghost use Rattle.bsi_slices.specs.Blocks.{KeepsRows};
 ghost use Rattle.bsi_columns.specs.AnyRows.{any_entries, any_form, any_room, size_in_form, AnyForm};
@@ -46,6 +46,22 @@ impl AnyColumn {
             }
             AnyColumn::Equality(column) => column.keep_selected(op, constant, at, block),
             AnyColumn::Range(column) => column.keep_selected(op, constant, at, block),
+        }
+    }
+
+    /// Returns whether another column has the same form: as many slices, or the same encoding under the same bases.
+    pub fn has_form_of(&self, other: &AnyColumn) -> bool
+        ensures { result ≡ true → any_form other.now ≡ any_form self.now }
+    {
+        match (self, other) {
+            (AnyColumn::Slices(own), AnyColumn::Slices(others)) => own.width() == others.width(),
+            (AnyColumn::Equality(own), AnyColumn::Equality(others)) => {
+                own.bases().is_same(others.bases())
+            }
+            (AnyColumn::Range(own), AnyColumn::Range(others)) => {
+                own.bases().is_same(others.bases())
+            }
+            _ => false,
         }
     }
 
@@ -115,6 +131,18 @@ impl Column for AnyColumn {
             AnyColumn::Slices(column) => column.push_block_reserved(block),
             AnyColumn::Equality(column) => column.push_block_reserved(block),
             AnyColumn::Range(column) => column.push_block_reserved(block),
+        }
+    }
+
+    fn push_all_reserved(&mut self, other: &Self) {
+        match (self, other) {
+            (AnyColumn::Slices(column), AnyColumn::Slices(more)) => column.push_all_reserved(more),
+            (AnyColumn::Equality(column), AnyColumn::Equality(more)) => {
+                column.push_all_reserved(more)
+            }
+            (AnyColumn::Range(column), AnyColumn::Range(more)) => column.push_all_reserved(more),
+            // The two are of one form.
+            _ => unreachable!(),
         }
     }
 

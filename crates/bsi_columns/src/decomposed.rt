@@ -4,7 +4,7 @@ ghost use Rattle.std.specs.Prelude.{◌≡◌, ℕ, ◌<◌, List, [], All, leng
 ghost use Rattle.bsi_digits.specs.Digits.{digit_of, product};
 ghost use Rattle.bsi_columns.specs.Rows.{number_or_zero};
 
-use crate::growth::{push_blocks, push_digits, reserve_each};
+use crate::growth::{push_all_digits, push_blocks, push_digits, reserve_each};
 use crate::{Column, Encoding, NoMemory, Op, Rank};
 use bsi_bits::{Bits, room_to_make};
 use bsi_digits::Bases;
@@ -129,6 +129,12 @@ impl<E: Encoding> Column for Decomposed<E> {
         let count = block.len() as u64;
         self.present.push_word_reserved(mark_present(block), count);
         self.room -= count;
+    }
+
+    fn push_all_reserved(&mut self, other: &Self) {
+        push_all_digits(&mut self.components, &other.components);
+        self.present.push_all_reserved(&other.present);
+        self.room -= other.len();
     }
 
     fn compare(&self, op: Op, constant: u64) -> Result<Bits, NoMemory> {

@@ -71,6 +71,28 @@ pub(crate) fn push_blocks<E: Encoding>(components: &mut Vec<E>, bases: &Bases, n
     }
 }
 
+/// Appends to each component all digits of the component at its place in another list, in their order, into room that
+/// is already there.
+pub(crate) fn push_all_digits<E: Encoding>(components: &mut Vec<E>, others: &[E])
+    requires bases { map E.base_of others.now ≡ map E.base_of components.old.items }
+    requires room { (i : ℕ) → i < length components.old.items →
+        length (slice_index_or (map E.digits others.now) i [])
+        ≤ slice_index (map E.room_of components.old.items) i }
+    ensures digits { (i : ℕ) → i < length components.old.items →
+        slice_index_or (map E.digits components.new.items) i []
+        ≡ slice_index_or (map E.digits components.old.items) i []
+        ++ slice_index_or (map E.digits others.now) i [] }
+    ensures bases { map E.base_of components.new.items ≡ map E.base_of components.old.items }
+    ensures room { (i : ℕ) →
+        slice_index (map E.room_of components.old.items) i
+        ≤ slice_index (map E.room_of components.new.items) i
+        + length (slice_index_or (map E.digits others.now) i []) }
+{
+    for i in 0..components.len() {
+        components[i].push_all_reserved(&others[i]);
+    }
+}
+
 /// Appends to a component its digits of a block of at most 64 numbers, into room that is already there. The rests are
 /// the quotients of the numbers by the weight of that component, and become those by the weight of the next one.
 fn push_block<E: Encoding>(

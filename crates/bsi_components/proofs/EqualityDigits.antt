@@ -8,7 +8,7 @@ use Rattle.std.proofs.lemmas.Nat.Bits.{bit_at-zero}
 use Rattle.bsi_bits.specs.BitList.{BitList}
 use Rattle.bsi_bits.specs.BitLists.{bits_at}
 use Rattle.bsi_words.specs.Places.{has_place, then_places, IsCount}
-use Rattle.bsi_components.specs.Bitmaps.{row, first_set}
+use Rattle.bsi_components.specs.Bitmaps.{row, first_set, kept_places}
 use Rattle.bsi_components.specs.Equality.{equality_digits, first_digit, IsEquality}
 use Rattle.bsi_components.proofs.BitmapDigits.{first_set_is, none_set_is, length-bits_at, row_bits, digits_are, encoded_none, encoded_more, encoded_same, below_more, AreTests}
 use Rattle.bsi_words.proofs.PlaceBitmaps.{own_test, place_test, moved_equal, count_same}
@@ -63,9 +63,10 @@ itself_equality base rs ds equality =
     subst (λ (xs : List ℕ). IsEquality base rs xs) (equality_digits_are base rs ds equality) equality
 
 -- no digits in empty bitmaps
-pub equality_made : (base : ℕ) (rs : List BitList) → 2 ≤ base → base ≤ 1024 → IsCount base (base - first_digit base) (length rs) → ((j : ℕ) → bits_at rs j ≡ []) → IsEquality base rs []
-equality_made base rs least most count empty = record {
+pub equality_made : (base : ℕ) (rs : List BitList) → 2 ≤ base → base ≤ 1024 → IsCount base (base - first_digit base) (length rs) → length rs ≡ base - first_digit base + kept_places base → ((j : ℕ) → bits_at rs j ≡ []) → IsEquality base rs []
+equality_made base rs least most count many empty = record {
   count = count;
+  many = many;
   least = least;
   most = most;
   below = λ k. omega arith;
@@ -77,11 +78,22 @@ pub equality_more : (base : ℕ) (old new : List BitList) (ds block : List ℕ) 
     → ((j : ℕ) → j < length old → bits_at new j ≡ bits_at old j ++ map (then_places (base - first_digit base) (λ j v. v == first_digit base + j) j) block) → IsEquality base new (ds ++ block)
 equality_more base old new ds block equality below same pushed = record {
   count = count_same base (base - first_digit base) (length old) (length new) same equality.count;
+  many = same ∙ equality.many;
   least = equality.least;
   most = equality.most;
   below = below_more ds block base below equality.below;
   encoded = encoded_more (then_places (base - first_digit base) (λ j v. v == first_digit base + j)) old new ds block equality.encoded same pushed;
 }
+
+-- as many bitmaps for the same base, and the digits of one component behind those of another
+module _ (base other_base : ℕ) (old others new : List BitList) (ds more : List ℕ) (equality : IsEquality base old ds) (others_equality : IsEquality other_base others more) (same_base : other_base ≡ base) where
+  pub equality_count : length others ≡ length old
+  equality_count = others_equality.many ∙ ap (λ b. b - first_digit b + kept_places b) same_base ∙ sym equality.many
+
+  pub equality_joined : length new ≡ length old → ((j : ℕ) → j < length old → bits_at new j ≡ bits_at old j ++ bits_at others j) → IsEquality base new (ds ++ more)
+  equality_joined same joined =
+      equality_more base old new ds more equality (λ k within. omega (arith, others_equality.below k, same_base)) same (λ j below.
+      joined j below ∙ ap (λ bits. bits_at old j ++ bits) (others_equality.encoded.each j (omega (arith, equality_count)) ∙ ap (λ b. map (then_places (b - first_digit b) (λ i v. v == first_digit b + i) j) more) same_base))
 
 pub one_below : (d base : ℕ) → d < base → (k : ℕ) → k < 1 → get_or (d ∷ []) k 0 < base
 one_below d base below zero within = below
@@ -91,6 +103,7 @@ one_below d base below (suc k) within = absurd (omega arith)
 pub equality_same : (base : ℕ) (old new : List BitList) (ds : List ℕ) → IsEquality base old ds → length new ≡ length old → ((j : ℕ) → bits_at new j ≡ bits_at old j) → IsEquality base new ds
 equality_same base old new ds equality same bits = record {
   count = count_same base (base - first_digit base) (length old) (length new) same equality.count;
+  many = same ∙ equality.many;
   least = equality.least;
   most = equality.most;
   below = equality.below;

@@ -1,5 +1,5 @@
 -- The digits of a range encoded component.
-use Rattle.std.proofs.Common.{◌≡◌, ℕ, zero, suc, ◌+◌, ◌-◌, ◌<◌, ◌≤◌, Bool, true, false, List, [], ◌∷◌, ◌++◌, length, map, get_or, inl, inr, ap, ◌∙◌, arith, subst}
+use Rattle.std.proofs.Common.{◌≡◌, ℕ, zero, suc, ◌+◌, ◌-◌, ◌<◌, ◌≤◌, Bool, true, false, List, [], ◌∷◌, ◌++◌, length, map, get_or, inl, inr, ap, sym, ◌∙◌, arith, subst}
 use Rattle.std.specs.Prelude.{min, nat_le}
 use Rattle.std.proofs.lemmas.Bool.{cases_lt}
 use Rattle.std.proofs.lemmas.List.{length-map}
@@ -7,7 +7,7 @@ use Rattle.std.proofs.lemmas.Bool.Decides.{nat_tests}
 use Rattle.bsi_bits.specs.BitList.{BitList}
 use Rattle.bsi_bits.specs.BitLists.{bits_at}
 use Rattle.bsi_words.specs.Places.{then_places, IsCount}
-use Rattle.bsi_components.specs.Bitmaps.{row, first_set}
+use Rattle.bsi_components.specs.Bitmaps.{row, first_set, kept_places}
 use Rattle.bsi_components.specs.Range.{range_digits, IsRange}
 use Rattle.bsi_components.proofs.BitmapDigits.{first_set_is, first_set_from, length-bits_at, row_bits, digits_are, encoded_none, encoded_more, encoded_same, below_more, AreTests}
 use Rattle.bsi_words.proofs.PlaceBitmaps.{own_test, count_same}
@@ -48,9 +48,10 @@ pub itself_range : (base : ℕ) (rs : List BitList) (ds : List ℕ) → IsRange 
 itself_range base rs ds range = subst (λ (xs : List ℕ). IsRange base rs xs) (range_digits_are base rs ds range) range
 
 -- no digits in empty bitmaps
-pub range_made : (base : ℕ) (rs : List BitList) → 2 ≤ base → base ≤ 1024 → IsCount base (base - 1) (length rs) → ((j : ℕ) → bits_at rs j ≡ []) → IsRange base rs []
-range_made base rs least most count empty = record {
+pub range_made : (base : ℕ) (rs : List BitList) → 2 ≤ base → base ≤ 1024 → IsCount base (base - 1) (length rs) → length rs ≡ base - 1 + kept_places base → ((j : ℕ) → bits_at rs j ≡ []) → IsRange base rs []
+range_made base rs least most count many empty = record {
   count = count;
+  many = many;
   least = least;
   most = most;
   below = λ k. omega arith;
@@ -62,11 +63,22 @@ pub range_more : (base : ℕ) (old new : List BitList) (ds block : List ℕ) →
     → ((j : ℕ) → j < length old → bits_at new j ≡ bits_at old j ++ map (then_places (base - 1) (λ i v. nat_le v i) j) block) → IsRange base new (ds ++ block)
 range_more base old new ds block range below same pushed = record {
   count = count_same base (base - 1) (length old) (length new) same range.count;
+  many = same ∙ range.many;
   least = range.least;
   most = range.most;
   below = below_more ds block base below range.below;
   encoded = encoded_more (then_places (base - 1) (λ i v. nat_le v i)) old new ds block range.encoded same pushed;
 }
+
+-- as many bitmaps for the same base, and the digits of one component behind those of another
+module _ (base other_base : ℕ) (old others new : List BitList) (ds more : List ℕ) (range : IsRange base old ds) (others_range : IsRange other_base others more) (same_base : other_base ≡ base) where
+  pub range_count : length others ≡ length old
+  range_count = others_range.many ∙ ap (λ b. b - 1 + kept_places b) same_base ∙ sym range.many
+
+  pub range_joined : length new ≡ length old → ((j : ℕ) → j < length old → bits_at new j ≡ bits_at old j ++ bits_at others j) → IsRange base new (ds ++ more)
+  range_joined same joined =
+      range_more base old new ds more range (λ k within. omega (arith, others_range.below k, same_base)) same (λ j below.
+      joined j below ∙ ap (λ bits. bits_at old j ++ bits) (others_range.encoded.each j (omega (arith, range_count)) ∙ ap (λ b. map (then_places (b - 1) (λ i v. nat_le v i) j) more) same_base))
 
 pub one_below : (d base : ℕ) → d < base → (k : ℕ) → k < 1 → get_or (d ∷ []) k 0 < base
 one_below d base below zero within = below
@@ -76,6 +88,7 @@ one_below d base below (suc k) within = absurd (omega arith)
 pub range_same : (base : ℕ) (old new : List BitList) (ds : List ℕ) → IsRange base old ds → length new ≡ length old → ((j : ℕ) → bits_at new j ≡ bits_at old j) → IsRange base new ds
 range_same base old new ds range same bits = record {
   count = count_same base (base - 1) (length old) (length new) same range.count;
+  many = same ∙ range.many;
   least = range.least;
   most = range.most;
   below = range.below;

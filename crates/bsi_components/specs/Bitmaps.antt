@@ -1,5 +1,6 @@
 -- The bitmaps of a component as a list of digits.
-use Rattle.std.specs.Prelude.{ℕ, ◌+◌, Bool, false, List, [], ◌∷◌, length, map, slice_index_or, if◌then◌else◌}
+use Rattle.std.specs.Prelude.{ℕ, ◌+◌, ◌-◌, Bool, false, List, [], ◌∷◌, length, map, nat_lt, slice_index_or, if◌then◌else◌}
+use Rattle.std.specs.Int.Count.{count_leading_zeros}
 use Rattle.std.specs.List.{range_with_len}
 use Rattle.bsi_bits.specs.BitList.{BitList}
 use Rattle.bsi_bits.specs.BitLists.{bits_at}
@@ -16,3 +17,7 @@ first_set none at (bit ∷ bits) = if bit then at else first_set none (at + 1) b
 -- the digit of each row, by its bits
 unfoldable pub digits_by : (List Bool → ℕ) → List BitList → List ℕ
 digits_by digit bitmaps = map (λ k. digit (row bitmaps k)) (range_with_len 0 (length (bits_at bitmaps 0)))
+
+-- how many binary places of its digits a component of a base keeps: none below base 4, and else as many as they take
+abbrev pub kept_places : ℕ → ℕ
+kept_places base = if nat_lt base 4 then 0 else 32 - count_leading_zeros 32 (base - 1)

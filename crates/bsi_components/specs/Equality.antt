@@ -1,8 +1,8 @@
 -- Equality encoding: a bitmap for each digit says which rows have it.
-use Rattle.std.specs.Prelude.{ℕ, ◌+◌, ◌-◌, ◌<◌, ◌≤◌, ◌==◌, ◌&&◌, Bool, nat_le, nat_lt, List, length, slice_index, if◌then◌else◌}
+use Rattle.std.specs.Prelude.{◌≡◌, ℕ, ◌+◌, ◌-◌, ◌<◌, ◌≤◌, ◌==◌, ◌&&◌, Bool, nat_le, nat_lt, List, length, slice_index, if◌then◌else◌}
 use Rattle.bsi_bits.specs.BitList.{BitList}
 use Rattle.bsi_words.specs.Places.{IsCount, IsEncoded, then_places}
-use Rattle.bsi_components.specs.Bitmaps.{digits_by, first_set}
+use Rattle.bsi_components.specs.Bitmaps.{digits_by, first_set, kept_places}
 
 -- the first digit that has a bitmap: base 2 stores that of digit 1 alone
 abbrev pub first_digit : ℕ → ℕ
@@ -15,6 +15,7 @@ equality_digits base bitmaps = digits_by (first_set 0 (first_digit base)) bitmap
 -- the bitmaps are those of the digits below the base, from the first that has one, and then those of the binary places
 pub record IsEquality (base : ℕ) (bitmaps : List BitList) (digits : List ℕ) : Type 0 where
   pub count : IsCount base (base - first_digit base) (length bitmaps)
+  pub many : length bitmaps ≡ base - first_digit base + kept_places base
   pub least : 2 ≤ base
   pub most : base ≤ 1024
   pub below : (k : ℕ) → slice_index digits k < base

@@ -86,6 +86,14 @@ pub trait Encoding: Drop {
         }
     }
 
+    /// Appends all digits of another component of the same base, in their order, into room that is already there.
+    fn push_all_reserved(&mut self, other: &Self)
+        requires base { base_of other.now ≡ base_of self.old }
+        requires room { length (digits other.now) ≤ room_of self.old }
+        ensures digits { digits self.new ≡ digits self.old ++ digits other.now }
+        ensures base { base_of self.new ≡ base_of self.old }
+        ensures room { room_of self.old ≤ room_of self.new + length (digits other.now) };
+
     /// Returns whether one more digit can be appended with no memory.
     fn has_room(&self) -> bool
         ensures { result ≡ nat_lt 0 (room_of self.now) }

@@ -4,6 +4,7 @@ ghost use Rattle.std.specs.Prelude.{◌≡◌, ℕ, ◌+◌, ◌-◌, ◌<◌, �
 ghost use Rattle.std.specs.Int.{bit_at};
 ghost use Rattle.bsi_bits.specs.BitLists.{bits_at};
 ghost use Rattle.bsi_words.specs.Places.{has_place, then_places};
+ghost use Rattle.bsi_components.specs.Bitmaps.{kept_places};
 
 use bsi_bits::Bitmaps;
 
@@ -13,6 +14,7 @@ const MIN_BASE_WITH_PLACES: u32 = 4;
 /// Returns how many binary places of its digits a component of a base keeps: as many as they take, or none.
 pub(crate) fn place_count(base: u32) -> usize
     requires { (2 ≤ base) × (base ≤ 1024) }
+    ensures kept { result ≡ kept_places base }
     ensures few { result ≤ 10 }
     ensures enough { 0 < result → base ≤ 2 ^ result }
     ensures some { 4 ≤ base → 0 < result }

@@ -1,6 +1,6 @@
 //! A list of bases, under which a number has its digits.
 
-ghost use Rattle.std.specs.Prelude.{◌≡◌, ℕ, ◌+◌, ◌/◌, ◌^◌, ◌<◌, ◌≤◌, ◌↔◌, length, slice_index, position, sum, reverse, replicate, EachIndex, IsNone, IfNone, IfOk, IfErr, IfSome, IsErrOf};
+ghost use Rattle.std.specs.Prelude.{◌≡◌, ℕ, ◌+◌, ◌/◌, ◌^◌, ◌<◌, ◌≤◌, ◌↔◌, length, slice_index, position, sum, reverse, replicate, EachIndex, IsNone, IfNone, IfOk, IfErr, IfSome, IsErrOf, IsTrue};
 ghost use Rattle.std.specs.Result.{result_err};
 ghost use Rattle.bsi_digits.specs.Digits.{product, weight, digit_of, IsBase, IsBaseList};
 ghost use Rattle.bsi_digits.specs.Refusal.{refusal, is_bad_base, IsFirstOr};
@@ -97,6 +97,13 @@ impl Bases {
             bases,
             weights: self.weights,
         })
+    }
+
+    /// Returns whether another list has the same bases in the same order.
+    pub fn is_same(&self, other: &Bases) -> bool
+        ensures { IsTrue result ↔ (self.now ≡ other.now) }
+    {
+        self.bases.as_slice() == other.bases.as_slice()
     }
 
     /// Returns how many values the bases tell apart, at most 2^63: the product of all bases.

@@ -1,7 +1,8 @@
 //! How a thread waits that has nothing to do: it yields at first, and then it sleeps for short times.
 //!
-//! A thread yields sixteen times and then sleeps for 100 microseconds at a time (`AtomicU64::park_timeout`, which needs
-//! `Wait` alone, where `thread::sleep` needs a clock). Waking the feeders would cost the loader a system call a row.
+//! A ring of 1,024 rows fills or empties in some 100 microseconds, so a thread yields for about as long before it sleeps
+//! (`AtomicU64::park_timeout`, which needs `Wait` alone, where `thread::sleep` needs a clock). A thread that slept after
+//! a few yields would let its ring stand full or empty for most of the time.
 
 use std::sync::Wait;
 use std::sync::atomic::AtomicU64;
@@ -9,7 +10,7 @@ use std::thread;
 use std::time::Duration;
 
 /// How often a thread yields before it sleeps.
-const MAX_YIELDS: u32 = 16;
+const MAX_YIELDS: u32 = 256;
 
 /// How long a thread sleeps each time, in microseconds.
 const SLEEP_MICROS: u64 = 100;
@@ -27,7 +28,7 @@ impl Pause {
         Pause { yields: 0 }
     }
 
-    /// Yields the processor or, once it has yielded 16 times, sleeps for 100 microseconds.
+    /// Yields the processor or, once it has yielded 256 times, sleeps for 100 microseconds.
     pub fn wait<R: Wait>(&mut self, rt: &R) {
         if self.yields < MAX_YIELDS {
             self.yields += 1;

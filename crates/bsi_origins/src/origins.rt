@@ -132,6 +132,20 @@ impl Origins {
         self.room -= 1;
     }
 
+    /// Appends all rows of another list, in their order, into room that is already there. The other list has no more
+    /// feeders.
+    pub fn push_all_reserved(&mut self, other: &Origins)
+        requires feeders { other.now.feeders ≤ self.old.feeders }
+        requires room { length other.now.rows ≤ self.old.room }
+        ensures rows { self.new.rows ≡ self.old.rows ++ other.now.rows }
+        ensures feeders { self.new.feeders ≡ self.old.feeders }
+        ensures room { self.new.room + length other.now.rows ≡ self.old.room }
+    {
+        'rows: for r in 0..other.row_feeders.len() {
+            self.push_reserved(other.row_feeders[r]);
+        }
+    }
+
     /// Writes how many of the rows before stretch `k` came from each feeder. It requires several feeders.
     pub(crate) fn read_tally(&self, k: u64, counts: &mut Counts)
         requires several { 1 < self.now.feeders }

@@ -71,6 +71,10 @@ impl<E: Encoding> Encoding for WholeVectors<E> {
         self.inner.push_reserved(digit);
     }
 
+    fn push_all_reserved(&mut self, other: &Self) {
+        self.inner.push_all_reserved(&other.inner);
+    }
+
     fn eq_into(&self, d: u32, out: &mut Bits) {
         self.count();
         self.inner.eq_into(d, out);

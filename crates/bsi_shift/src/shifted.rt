@@ -4,7 +4,7 @@
 //! stored column for `< 0` and the others for `>= 0`; past 64 bits the greatest constant stands for it, because each
 //! stored number is below 2^63.
 
-ghost use Rattle.std.specs.Prelude.{◌≡◌, ℕ, pos, ◌+ℤ◌, ◌≤ℤ◌, ◌+◌, ◌<◌, ◌≤◌, ◌^◌, [], ◌∷◌, ◌++◌, All, length, map, None, slice_index_or, is_some, nat_lt, IsOk, IfOk, OnOk, OnErr};
+ghost use Rattle.std.specs.Prelude.{◌≡◌, ℕ, pos, ◌+ℤ◌, ◌≤ℤ◌, ◌+◌, ◌<◌, ◌≤◌, ◌^◌, [], ◌∷◌, ◌++◌, All, length, map, None, slice_index_or, is_some, nat_lt, true, IsOk, IfOk, OnOk, OnErr};
 ghost use Rattle.std.specs.Option.{option_map};
 ghost use Rattle.bsi_columns.specs.AnyRows.{any_entries, any_size};
 ghost use Rattle.bsi_shift.specs.Shifted.{shifted_entries, shifted_size, shifted_room, number_of, IsAlike, IsInRange};
@@ -154,6 +154,27 @@ impl Shifted {
         let mut stored = [None; 64];
         store_block(self.offset, block, &mut stored);
         self.stored.push_block_reserved(&stored[..block.len()]);
+    }
+
+    /// Appends all entries of another column of the same offset and form, in their order, into room that is already
+    /// there.
+    pub fn push_all_reserved(&mut self, other: &Shifted)
+        requires alike { IsAlike self.old other.now }
+        requires room { length (shifted_entries other.now) ≤ shifted_room self.old }
+        ensures entries { shifted_entries self.new
+            ≡ shifted_entries self.old ++ shifted_entries other.now }
+        ensures alike { IsAlike self.old self.new }
+        ensures room { shifted_room self.old
+            ≤ shifted_room self.new + length (shifted_entries other.now) }
+    {
+        self.stored.push_all_reserved(&other.stored);
+    }
+
+    /// Returns whether another column has the same offset and the same form.
+    pub fn is_alike(&self, other: &Shifted) -> bool
+        ensures { result ≡ true → IsAlike self.now other.now }
+    {
+        self.offset == other.offset && self.stored.has_form_of(&other.stored)
     }
 
     /// Returns the not-null bitmap.

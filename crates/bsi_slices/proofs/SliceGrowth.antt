@@ -5,13 +5,14 @@ use Rattle.std.specs.Int.{bit_at}
 use Rattle.std.proofs.Math.Nat.{mod-eq_of_lt}
 use Rattle.std.proofs.lemmas.Bool.{cases_lt}
 use Rattle.std.proofs.lemmas.List.{get_or_append_left, get_or-append_right, take_all, length-map, get_or-map}
+use Rattle.std.proofs.lemmas.List.Elements.{All-get_or}
 use Rattle.std.proofs.lemmas.List.FromFn.{fill_by_all}
 use Rattle.bsi_bits.specs.BitList.{BitList}
 use Rattle.bsi_slices.specs.Rows.{number_or_zero}
 use Rattle.bsi_bits.specs.BitLists.{bits_at}
 use Rattle.bsi_slices.specs.Slices.{bit_value, number, sliced_entry, entries_in, IsSliced}
 use Rattle.bsi_slices.proofs.SliceNumbers.{number_more, number_none, places_more}
-use Rattle.bsi_slices.proofs.SliceEntries.{number_same, length-entries_in, get_or-entries_in}
+use Rattle.bsi_slices.proofs.SliceEntries.{number_same, length-entries_in, get_or-entries_in, entries_below, present_of, slice_of}
 
 -- the number of a row whose bit in each slice is the binary place of x
 module _ (slices : List BitList) (x r : ℕ) (placed : (k : ℕ) → k < length slices → get_or (bits_at slices k) r false ≡ (bit_at x k == 1)) where
@@ -102,3 +103,23 @@ module _ (present now : List Bool) (old new : List BitList) (block : List (Optio
       | inr from ↦ number_of r from within ∙ null_zero (get_or block (r - length present) None) (sym (mark_of r from within) ∙ null)
     ];
   }
+
+-- the rows of another column of the same width
+module _ (present others now : List Bool) (old more new : List BitList) (sliced : IsSliced present old) (other : IsSliced others more) (width : length more ≡ length old)
+    (marks : now ≡ present ++ others) (long : length new ≡ length old)
+    (pushed : (k : ℕ) → k < length old → bits_at new k ≡ bits_at old k ++ bits_at more k) where
+  added_fit : (i : ℕ) → i < length (entries_in others more) → number_or_zero (get_or (entries_in others more) i None) < 2 ^ length old
+  added_fit i within = rw (← width) (All-get_or (λ e. number_or_zero e < 2 ^ length more) (entries_in others more) i None within (entries_below others more))
+
+  added_marks : now ≡ present ++ map is_some (entries_in others more)
+  added_marks = marks ∙ ap (λ bits. present ++ bits) (present_of others more)
+
+  added_places : (k : ℕ) → k < length old → bits_at new k ≡ bits_at old k ++ map (λ e. bit_at (number_or_zero e) k == 1) (entries_in others more)
+  added_places k within = pushed k within ∙ ap (λ bits. bits_at old k ++ bits) (slice_of others more other k (omega (arith, width, within)))
+
+  -- come after the old ones
+  pub entries_all : entries_in now new ≡ entries_in present old ++ entries_in others more
+  entries_all = entries_more present now old new (entries_in others more) sliced added_fit added_marks long added_places
+
+  pub sliced_all : length now ≤ 2 ^ 32 → IsSliced now new
+  sliced_all = sliced_more present now old new (entries_in others more) sliced added_fit added_marks long added_places

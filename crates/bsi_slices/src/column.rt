@@ -105,6 +105,14 @@ pub trait Column: Drop {
         }
     }
 
+    /// Appends all entries of another column of the same form, in their order, into room that is already there.
+    fn push_all_reserved(&mut self, other: &Self)
+        requires form { form_of other.now ≡ form_of self.old }
+        requires room { length (entries other.now) ≤ room_of self.old }
+        ensures entries { entries self.new ≡ entries self.old ++ entries other.now }
+        ensures form { form_of self.new ≡ form_of self.old }
+        ensures room { room_of self.old ≤ room_of self.new + length (entries other.now) };
+
     /// Returns whether one more entry can be appended without allocating memory.
     fn has_room(&self) -> bool
         ensures { result ≡ nat_lt 0 (room_of self.now) }

@@ -107,6 +107,16 @@ impl NotNull {
         }
     }
 
+    /// Appends all rows of another bitmap, in their order, into room that is already there.
+    pub fn push_all_reserved(&mut self, other: &NotNull)
+        requires { length other.now.bits ≤ self.old.room }
+        ensures bits { self.new.bits ≡ self.old.bits ++ other.now.bits }
+        ensures room { self.old.room ≤ self.new.room + length other.now.bits }
+    {
+        self.bits.push_all_reserved(&other.bits);
+        self.has_null |= other.has_null;
+    }
+
     /// Makes a second bitmap of the same rows.
     pub fn copy(&self) -> Result<NotNull, NoMemory>
         ensures { IfOk result (λ n. n.bits ≡ self.now.bits) }

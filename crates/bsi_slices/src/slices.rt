@@ -131,6 +131,13 @@ impl Column for Slices {
         push_rows(&mut self.slices, &mut self.present, block);
     }
 
+    fn push_all_reserved(&mut self, other: &Slices) {
+        self.slices.push_all_reserved(&other.slices);
+        self.present.push_all_reserved(&other.present);
+        // The proof takes from this that there are at most 2^32 rows.
+        prove!(self.present.len() <= 1 << 32);
+    }
+
     fn compare(&self, op: Op, constant: u64) -> Result<Bits, NoMemory> {
         select(
             *self.slices.allocator(),

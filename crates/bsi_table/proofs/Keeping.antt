@@ -31,7 +31,7 @@ unfolding shifted_entries
 shifted_nothing c stored is nothing = ap (λ es. map (option_map (number_of c.offset)) es) (ap any_entries is ∙ nothing)
 
 -- a form has the size of the form that a column of it is kept in
-size-kept_form : (form : Form) → size_in_form (kept_form form) ≡ size_in form
+pub size-kept_form : (form : Form) → size_in_form (kept_form form) ≡ size_in form
 size-kept_form (Slices w) = refl
 size-kept_form (Equality bs) = refl
 size-kept_form (Range bs) = refl

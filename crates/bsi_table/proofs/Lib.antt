@@ -1,6 +1,8 @@
 pub mod BlockRows
 pub mod CallerLemmas
 pub mod Counting
+pub mod Growing
+pub mod Joining
 pub mod Keeping
 pub mod Missing
 pub mod Parts

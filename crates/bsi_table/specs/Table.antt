@@ -49,6 +49,14 @@ kept_form (Range bs) = range_under bs
 abbrev pub IsInForm : Form → AnyColumn → Type 0
 IsInForm form column = any_form column ≡ kept_form form
 
+-- how a column is kept: in which form, and from which number on
+abbrev pub kept_as : NamedColumn → AnyForm × ℤ
+kept_as column = (kept_form column.form, column.offset)
+
+-- the columns of two schemas are kept alike
+abbrev pub AreKeptAlike : Declared → Declared → Type 0
+AreKeptAlike first second = map kept_as first.columns ≡ map kept_as second.columns
+
 -- what a list of kept columns has past its end
 abbrev pub no_entries : OffsetColumn
 no_entries = record { stored = kept_slices (record { width = 0; entries = []; room = 0 }); offset = pos 0 }
@@ -135,6 +143,10 @@ pub record TakesRow (kept : List OffsetColumn) (row : Entries) : Type 0 where
 -- each column has the entries, the offset and the form that it had
 abbrev pub AreSameColumns : List OffsetColumn → List OffsetColumn → Type 0
 AreSameColumns old new = (k : ℕ) → k < length old → IsSameColumn (kept_at old k) (kept_at new k)
+
+-- each column has the offset and the form of the other list's
+abbrev pub AreAlikeColumns : List OffsetColumn → List OffsetColumn → Type 0
+AreAlikeColumns kept others = (k : ℕ) → k < length kept → IsAlike (kept_at kept k) (kept_at others k)
 
 -- each column has its entry of a row more
 abbrev pub HaveOneMore : List OffsetColumn → List OffsetColumn → Entries → Type 0

@@ -2,12 +2,12 @@
 //!
 //! A block of rows goes in column by column. All columns and the list of feeders grow before the first is changed.
 
-ghost use Rattle.std.specs.Prelude.{◌≡◌, ℕ, ◌+◌, ◌<◌, ◌≤◌, ◌^◌, [], All, length, IfOk, OnOk};
+ghost use Rattle.std.specs.Prelude.{◌≡◌, ℕ, ◌+◌, ◌<◌, ◌≤◌, ◌^◌, [], All, length, true, IfOk, OnOk};
 ghost use Rattle.bsi_columns.specs.AnyRows.{any_entries};
-ghost use Rattle.bsi_shift.specs.Shifted.{shifted_entries};
+ghost use Rattle.bsi_shift.specs.Shifted.{shifted_entries, shifted_room};
 ghost use Rattle.bsi_schema.specs.Columns.{column_at, IsForm};
 ghost use Rattle.bsi_table.specs.Rows.{column_of, entry_at};
-ghost use Rattle.bsi_table.specs.Table.{kept_at, AreInRange, AreKept, AreI64, AreSameColumns, HaveMore, HaveOneMore, HaveRoom, IsInForm, IsI64, Keeps, TakesRow};
+ghost use Rattle.bsi_table.specs.Table.{kept_at, AreAlikeColumns, AreInRange, AreKept, AreI64, AreSameColumns, HasMore, HaveMore, HaveOneMore, HaveRoom, IsInForm, IsI64, Keeps, TakesRow};
 
 use crate::{Block, Form, NoMemory, Schema};
 use bsi_columns::{AnyColumn, Decomposed, Slices};
@@ -85,6 +85,38 @@ pub(crate) fn push_block_each(columns: &mut [Shifted], block: &Block)
     'columns: for c in 0..columns.len() {
         columns[c].push_block_reserved(block.column(c));
     }
+}
+
+/// Appends to each column all entries of another one, which is kept alike, into room that is already there.
+pub(crate) fn push_all_each(columns: &mut [Shifted], others: &[Shifted])
+    requires long { length others.now ≡ length columns.old }
+    requires alike { AreAlikeColumns columns.old others.now }
+    requires room { (k : ℕ) → k < length columns.old →
+        length (shifted_entries (kept_at others.now k)) ≤ shifted_room (kept_at columns.old k) }
+    ensures long { length columns.new ≡ length columns.old }
+    ensures more { (k : ℕ) → k < length columns.old →
+        HasMore (kept_at columns.old k) (kept_at columns.new k)
+        (shifted_entries (kept_at others.now k)) }
+{
+    'columns: for c in 0..columns.len() {
+        columns[c].push_all_reserved(&others[c]);
+    }
+}
+
+/// Returns whether two lists have as many columns, each kept like the other list's.
+pub(crate) fn are_alike(columns: &[Shifted], others: &[Shifted]) -> bool
+    ensures long { result ≡ true → length others.now ≡ length columns.now }
+    ensures alike { result ≡ true → AreAlikeColumns columns.now others.now }
+{
+    if others.len() != columns.len() {
+        return false;
+    }
+    'columns: for c in 0..columns.len() {
+        if !columns[c].is_alike(&others[c]) {
+            return false;
+        }
+    }
+    true
 }
 
 /// Returns the same entry, as a number of 64 bits.

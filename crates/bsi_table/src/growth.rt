@@ -3,9 +3,9 @@
 ghost use Rattle.std.specs.Prelude.{◌≡◌, ℕ, ◌+◌, ◌<◌, ◌≤◌, ◌^◌, ◌++◌, ◌∷◌, [], All, length, OnOk};
 ghost use Rattle.bsi_shift.specs.Shifted.{shifted_entries};
 ghost use Rattle.bsi_table.specs.Rows.{feeders_of};
-ghost use Rattle.bsi_table.specs.Table.{kept_at, AreFrom, AreI64, AreInRange, AreSameColumns, HaveMore, HaveOneMore, HaveRoom, TakesRow};
+ghost use Rattle.bsi_table.specs.Table.{fed_rows, kept_at, AreAlikeColumns, AreFrom, AreI64, AreInRange, AreSameColumns, HaveMore, HaveOneMore, HaveRoom, HaveRows, TakesRow};
 
-use crate::columns::{push_block_each, push_each, reserve_each};
+use crate::columns::{push_all_each, push_block_each, push_each, reserve_each};
 use crate::{Block, NoMemory};
 use bsi_origins::Origins;
 use bsi_shift::Shifted;
@@ -68,6 +68,31 @@ pub(crate) fn push_rows(columns: &mut Vec<Shifted>, origins: &mut Origins, block
 {
     push_block_each(columns, block);
     push_feeders(origins, block.sources());
+}
+
+/// Appends all rows of other columns, which are kept alike, and of the list of their feeders, into room that is already
+/// there.
+pub(crate) fn push_all(
+    columns: &mut Vec<Shifted>,
+    origins: &mut Origins,
+    others: &[Shifted],
+    sources: &Origins,
+)
+    requires long { length others.now ≡ length columns.old.items }
+    requires alike { AreAlikeColumns columns.old.items others.now }
+    requires even { HaveRows others.now (length sources.now.rows) }
+    requires room { HaveRoom columns.old.items (length columns.old.items)
+        (length sources.now.rows) }
+    requires reserved { length sources.now.rows ≤ origins.old.room }
+    requires feeders { sources.now.feeders ≤ origins.old.feeders }
+    ensures long { length columns.new.items ≡ length columns.old.items }
+    ensures more { HaveMore columns.old.items columns.new.items
+        (fed_rows sources.now.rows others.now) }
+    ensures rows { origins.new.rows ≡ origins.old.rows ++ sources.now.rows }
+    ensures feeders { origins.new.feeders ≡ origins.old.feeders }
+{
+    push_all_each(columns, others);
+    origins.push_all_reserved(sources);
 }
 
 /// Appends the feeder of each row, into room that is already there.

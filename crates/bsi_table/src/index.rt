@@ -1,6 +1,6 @@
 //! The index: rows from feeders, stored column by column, and the answers to queries over them.
 
-ghost use Rattle.std.specs.Prelude.{◌≡◌, ◌≢◌, ◌<◌, ◌≤◌, ◌^◌, None, length, map, IfErr, IfOk, IsOk, IsTrue, true, OnErr, OnOk};
+ghost use Rattle.std.specs.Prelude.{◌≡◌, ◌≢◌, ◌+◌, ◌<◌, ◌≤◌, ◌^◌, None, length, map, IfErr, IfOk, IsOk, IsTrue, true, OnErr, OnOk};
 ghost use Rattle.std.specs.Result.{result_err};
 ghost use Rattle.bsi_shift.specs.Shifted.{shifted_entries};
 ghost use Rattle.bsi_table.specs.Answers.{missing_column, CountsConjunction, IsAnswer, IsReply, IsSelection, ReadsAmong};
@@ -8,11 +8,11 @@ ghost use Rattle.bsi_schema.specs.Columns.{column_at, fits};
 ghost use Rattle.bsi_table.specs.Refusals.{index_refusal, row_refusal, rows_refusal, IsFirstOr};
 ghost use Rattle.bsi_table.specs.RowBlocks.{entries_of, fed_block, no_block_rows, AreAlike};
 ghost use Rattle.bsi_table.specs.Rows.{column_of, holds};
-ghost use Rattle.bsi_table.specs.Table.{no_rows, with_row, with_rows, AreFitting, AreFrom, IsInForm};
+ghost use Rattle.bsi_table.specs.Table.{no_rows, with_row, with_rows, AreFitting, AreFrom, AreKeptAlike, IsInForm};
 
-use crate::columns::{copy_each, make_each};
+use crate::columns::{are_alike, copy_each, make_each};
 use crate::found::{count_selected, find_rows};
-use crate::growth::{push_row, push_rows, reserve_rows};
+use crate::growth::{push_all, push_row, push_rows, reserve_rows};
 use crate::totals::answer_total;
 use crate::{
     Answer, AppendError, AskError, Block, IndexError, NoMemory, Pred, Query, Row, Schema, Total,
@@ -139,6 +139,67 @@ impl Index {
         reserve_rows(&mut self.columns, &mut self.origins, more)?;
         push_rows(&mut self.columns, &mut self.origins, block);
         Ok(first)
+    }
+
+    /// Appends all rows of another index, in their order, and returns the row position of the first: the length before.
+    /// Either all rows are appended or none is. Each bitmap takes that of the other by words. It makes room for all rows
+    /// first, so a refused growth leaves the index as it was.
+    pub fn append_index(&mut self, other: &Index) -> Result<u64, AppendError>
+        requires alike { AreKeptAlike self.old.schema other.now.schema }
+        requires feeders { other.now.feeders ≤ self.old.feeders }
+        ensures appended { OnOk result (self.new ≡ with_rows self.old other.now.rows) }
+        ensures position { IfOk result (λ position. position ≡ length self.old.rows) }
+        ensures taken { OnOk result (rows_refusal self.old (length other.now.rows) ≡ None) }
+        ensures refused { IfErr result
+            (IsFirstOr AppendError.NoMemory (rows_refusal self.old (length other.now.rows))) }
+        ensures kept { OnErr result (self.new ≡ self.old) }
+    {
+        let first = self.len();
+        let more = other.len();
+        if more > self.limit() - first {
+            return Err(AppendError::IndexFull);
+        }
+        reserve_rows(&mut self.columns, &mut self.origins, more)?;
+        push_all(
+            &mut self.columns,
+            &mut self.origins,
+            &other.columns,
+            &other.origins,
+        );
+        Ok(first)
+    }
+
+    /// Returns whether another index keeps its columns as this one does, each in the same form and from the same number
+    /// on, and has as many feeders or fewer. Then `append_index` takes its rows.
+    pub fn is_like(&self, other: &Index) -> bool
+        ensures alike { result ≡ true → AreKeptAlike self.now.schema other.now.schema }
+        ensures feeders { result ≡ true → other.now.feeders ≤ self.now.feeders }
+    {
+        other.feeders() <= self.feeders() && are_alike(&self.columns, &other.columns)
+    }
+
+    /// Makes an index of no rows yet that keeps its columns as this one does, with as many feeders and the same limit.
+    pub fn new_like(&self) -> Result<Index, NoMemory>
+        ensures { IfOk result (λ index. index
+            ≡ no_rows self.now.schema self.now.feeders self.now.limit) }
+    {
+        let alloc = *self.columns.allocator();
+        let columns = make_each(alloc, &self.schema)?;
+        let schema = Arc::try_clone(&self.schema)?;
+        Ok(Index {
+            schema,
+            columns,
+            origins: Origins::new(alloc, self.feeders()),
+            limit: self.limit(),
+        })
+    }
+
+    /// Makes room for `more` further rows, so that they are appended with no memory. Whatever the result, the rows stay.
+    pub fn reserve(&mut self, more: u64) -> Result<(), NoMemory>
+        requires { length self.old.rows + more ≤ self.old.limit }
+        ensures { self.new ≡ self.old }
+    {
+        reserve_rows(&mut self.columns, &mut self.origins, more)
     }
 
     /// Makes a block of no rows yet, for rows that this index takes.

@@ -3,7 +3,7 @@
 ghost use Rattle.std.specs.Prelude.{◌≡◌, true, IfOk, map, sum};
 ghost use Rattle.bsi_library.specs.ColumnRows.{selects};
 ghost use Rattle.bsi_library.specs.Totals.{numbers_at};
-ghost use Rattle.bsi_uses.specs.Encodings.{kept_base, kept_digits, kept_room};
+ghost use Rattle.bsi_uses.specs.Encodings.{kept_base, kept_digits, kept_room, Suits};
 
 use crate::refused::Refused;
 use bsi_library::NoMemory;
@@ -15,104 +15,125 @@ use std::alloc::Global;
 /// Past this base a component is equality encoded, so that `=` reads one bitmap of it.
 const MAX_RANGE_BASE: u32 = 16;
 
-/// A component that is range encoded under a small base, and equality encoded under a large one.
+/// A component in one of two encodings.
 #[derive(Drop)]
-pub enum ByBase {
+enum Form {
     Range(RangeComponent),
     Equality(EqualityComponent),
 }
 
+/// A component that is range encoded under a small base, and equality encoded under a large one.
+#[derive(Drop)]
+pub struct ByBase {
+    form: Form,
+    ghost suits: { Suits form },
+}
+
 impl Encoding for ByBase {
-    ghost base_of = { kept_base };
+    ghost base_of = { λ c. kept_base c.form };
 
-    ghost digits = { kept_digits };
+    ghost digits = { λ c. kept_digits c.form };
 
-    ghost room_of = { kept_room };
+    ghost room_of = { λ c. kept_room c.form };
 
     ghost works_on_blocks = { true };
 
     fn make(alloc: Global, base: u32) -> Result<Self, NoMemory> {
-        if base <= MAX_RANGE_BASE {
-            return Ok(ByBase::Range(RangeComponent::make(alloc, base)?));
-        }
-        Ok(ByBase::Equality(EqualityComponent::make(alloc, base)?))
+        let form = if base <= MAX_RANGE_BASE {
+            Form::Range(RangeComponent::make(alloc, base)?)
+        } else {
+            Form::Equality(EqualityComponent::make(alloc, base)?)
+        };
+        Ok(ByBase { form })
     }
 
     fn base(&self) -> u32 {
-        match self {
-            ByBase::Range(component) => component.base(),
-            ByBase::Equality(component) => component.base(),
+        match &self.form {
+            Form::Range(component) => component.base(),
+            Form::Equality(component) => component.base(),
         }
     }
 
     fn len(&self) -> u64 {
-        match self {
-            ByBase::Range(component) => component.len(),
-            ByBase::Equality(component) => component.len(),
+        match &self.form {
+            Form::Range(component) => component.len(),
+            Form::Equality(component) => component.len(),
         }
     }
 
     fn room(&self) -> u64 {
-        match self {
-            ByBase::Range(component) => component.room(),
-            ByBase::Equality(component) => component.room(),
+        match &self.form {
+            Form::Range(component) => component.room(),
+            Form::Equality(component) => component.room(),
         }
     }
 
     fn reserve(&mut self, more: u64) -> Result<(), NoMemory> {
-        match self {
-            ByBase::Range(component) => component.reserve(more),
-            ByBase::Equality(component) => component.reserve(more),
+        match &mut self.form {
+            Form::Range(component) => component.reserve(more),
+            Form::Equality(component) => component.reserve(more),
         }
     }
 
     fn push_reserved(&mut self, digit: u32) {
-        match self {
-            ByBase::Range(component) => component.push_reserved(digit),
-            ByBase::Equality(component) => component.push_reserved(digit),
+        match &mut self.form {
+            Form::Range(component) => component.push_reserved(digit),
+            Form::Equality(component) => component.push_reserved(digit),
+        }
+    }
+
+    fn push_all_reserved(&mut self, other: &Self) {
+        match (&mut self.form, &other.form) {
+            (Form::Range(component), Form::Range(others)) => component.push_all_reserved(others),
+            (Form::Equality(component), Form::Equality(others)) => {
+                component.push_all_reserved(others);
+            }
+            // Components of one base are in one encoding.
+            _ => unreachable!(),
         }
     }
 
     fn eq_into(&self, d: u32, out: &mut Bits) {
-        match self {
-            ByBase::Range(component) => component.eq_into(d, out),
-            ByBase::Equality(component) => component.eq_into(d, out),
+        match &self.form {
+            Form::Range(component) => component.eq_into(d, out),
+            Form::Equality(component) => component.eq_into(d, out),
         }
     }
 
     fn le_into(&self, d: u32, out: &mut Bits) {
-        match self {
-            ByBase::Range(component) => component.le_into(d, out),
-            ByBase::Equality(component) => component.le_into(d, out),
+        match &self.form {
+            Form::Range(component) => component.le_into(d, out),
+            Form::Equality(component) => component.le_into(d, out),
         }
     }
 
     fn eq_block(&self, d: u32, at: usize, block: &mut [u64]) -> bool {
-        match self {
-            ByBase::Range(component) => component.eq_block(d, at, block),
-            ByBase::Equality(component) => component.eq_block(d, at, block),
+        match &self.form {
+            Form::Range(component) => component.eq_block(d, at, block),
+            Form::Equality(component) => component.eq_block(d, at, block),
         }
     }
 
     fn le_block(&self, d: u32, at: usize, block: &mut [u64]) -> bool {
-        match self {
-            ByBase::Range(component) => component.le_block(d, at, block),
-            ByBase::Equality(component) => component.le_block(d, at, block),
+        match &self.form {
+            Form::Range(component) => component.le_block(d, at, block),
+            Form::Equality(component) => component.le_block(d, at, block),
         }
     }
 
     fn digit_sum(&self, found: &Bits) -> u128 {
-        match self {
-            ByBase::Range(component) => component.digit_sum(found),
-            ByBase::Equality(component) => component.digit_sum(found),
+        match &self.form {
+            Form::Range(component) => component.digit_sum(found),
+            Form::Equality(component) => component.digit_sum(found),
         }
     }
 
     fn copy(&self) -> Result<Self, NoMemory> {
-        match self {
-            ByBase::Range(component) => Ok(ByBase::Range(component.copy()?)),
-            ByBase::Equality(component) => Ok(ByBase::Equality(component.copy()?)),
-        }
+        let form = match &self.form {
+            Form::Range(component) => Form::Range(component.copy()?),
+            Form::Equality(component) => Form::Equality(component.copy()?),
+        };
+        Ok(ByBase { form })
     }
 }
 

@@ -66,6 +66,10 @@ impl Encoding for EqualityComponent {
         push_block(&mut self.bitmaps, first_stored(self.base), self.base, block);
     }
 
+    fn push_all_reserved(&mut self, other: &Self) {
+        self.bitmaps.push_all_reserved(&other.bitmaps);
+    }
+
     fn eq_into(&self, d: u32, out: &mut Bits) {
         if d == 0 && self.base() == 2 {
             out.copy_from(self.bitmap(1));

@@ -58,6 +58,10 @@ impl Encoding for RangeComponent {
         push_block(&mut self.bitmaps, self.base, block);
     }
 
+    fn push_all_reserved(&mut self, other: &Self) {
+        self.bitmaps.push_all_reserved(&other.bitmaps);
+    }
+
     fn eq_into(&self, d: u32, out: &mut Bits) {
         if d == self.top() {
             out.copy_from(self.bitmap(d - 1));

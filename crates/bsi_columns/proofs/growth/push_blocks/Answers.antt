@@ -42,6 +42,6 @@ loop-i-preserved g c =
       done = digits_more g.E.Encoding.digits items old at read new added within c.index_mut-component.ensures.value
           c.push_block.ensures.digits c.loop-i.invariant.done c.loop-i.invariant.rest;
       rest = rest_after g.E.Encoding.digits items old at read new added within c.loop-i.invariant.rest;
-      spent = room_spent g.E.Encoding.room_of items at read new within c.index_mut-component.ensures.value old (length c.args.numbers.now) c.push_block.ensures.room c.loop-i.invariant.spent c.loop-i.invariant.room;
+      spent = room_spent g.E.Encoding.room_of items at read new within c.index_mut-component.ensures.value old (λ j. length c.args.numbers.now) c.push_block.ensures.room c.loop-i.invariant.spent c.loop-i.invariant.room;
       room = room_after g.E.Encoding.room_of items at read new within c.index_mut-component.ensures.value old c.loop-i.invariant.room;
     }

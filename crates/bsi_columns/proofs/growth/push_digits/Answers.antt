@@ -36,6 +36,6 @@ loop-i-preserved g c =
       done = digits_more g.E.Encoding.digits items old at read new added within c.index_mut.ensures.value
           (c.push_reserved.ensures.digits ∙ ap (λ d. g.E.Encoding.digits read ++ d ∷ []) c.digit.ensures.digit) c.loop-i.invariant.done c.loop-i.invariant.rest;
       rest = rest_after g.E.Encoding.digits items old at read new added within c.loop-i.invariant.rest;
-      spent = room_spent g.E.Encoding.room_of items at read new within c.index_mut.ensures.value old 1 c.push_reserved.ensures.room c.loop-i.invariant.spent c.loop-i.invariant.room;
+      spent = room_spent g.E.Encoding.room_of items at read new within c.index_mut.ensures.value old (λ j. 1) c.push_reserved.ensures.room c.loop-i.invariant.spent c.loop-i.invariant.room;
       room = room_after g.E.Encoding.room_of items at read new within c.index_mut.ensures.value old c.loop-i.invariant.room;
     }

@@ -31,7 +31,7 @@ invariant_of-self g c =
     let rows : length bits ≡ length present + length c.args.block.now = ap length bits_are ∙ length-append present (map is_some (c.args.block.now)) ∙ ap (λ n. length present + n) (length-map (c.args.block.now) is_some) in (
       kept_itself bs bits more (entries ++ c.args.block.now) kept,
       c.push_blocks.ensures.bases,
-      roomy_less (length present) c.self.inside.room c.self.inside.present.room (length c.args.block.now) (length bits) c.push_word_reserved.new.self.room rooms rooms' c.self.invariant.2 enough rows c.push_word_reserved.ensures.room same
+      roomy_less (length present) c.self.inside.room c.self.inside.present.room (length c.args.block.now) (length bits) c.push_word_reserved.new.self.room rooms rooms' c.self.invariant.2 enough rows (omega (arith, c.push_word_reserved.ensures.room)) same
           (λ k. omega (arith, c.push_blocks.ensures.room k, length-take-le (length c.args.block.now) c.place_numbers.new.numbers (omega (arith, c.requires.few, c.place_numbers.ensures.long)))),
     )
 

@@ -1,4 +1,4 @@
-use Rattle.std.proofs.Common.{◌≡◌, ◌+◌, ◌<◌, ◌≤◌, ◌∷◌, ◌++◌, [], ℕ, length, map, get_or, is_some, ap, ◌∙◌, sym, length-append}
+use Rattle.std.proofs.Common.{◌≡◌, ◌+◌, ◌<◌, ◌≤◌, ◌∷◌, ◌++◌, [], ℕ, length, map, get_or, is_some, ap, ◌∙◌, sym, arith, length-append}
 use Rattle.std.specs.Prelude.{All}
 use Rattle.std.proofs.lemmas.List.{length-map}
 use Rattle.std.proofs.lemmas.List.Elements.{All-nil, All-push}
@@ -32,7 +32,7 @@ invariant_of-self g c =
     let rows : length bits ≡ length present + 1 = ap length bits_are ∙ length-append present (map is_some (c.args.entry ∷ [])) ∙ ap (λ n. length present + n) (length-map (c.args.entry ∷ []) is_some) in (
       kept_itself bs bits more (entries ++ c.args.entry ∷ []) kept,
       c.push_digits.ensures.bases,
-      roomy_less (length present) c.self.inside.room c.self.inside.present.room (1) (length bits) c.push_reserved.new.self.room rooms rooms' c.self.invariant.2 enough rows c.push_reserved.ensures.room same c.push_digits.ensures.room,
+      roomy_less (length present) c.self.inside.room c.self.inside.present.room (1) (length bits) c.push_reserved.new.self.room rooms rooms' c.self.invariant.2 enough rows (omega (arith, c.push_reserved.ensures.room)) same c.push_digits.ensures.room,
     )
 
 pub returns-clause-entries : goal.returns-clause-entries

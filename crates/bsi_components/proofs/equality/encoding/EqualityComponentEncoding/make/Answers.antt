@@ -11,7 +11,7 @@ invariant_of-result c =
     let rs = c.in_ok-bitmaps.bitmaps.vectors in
     let many = c.in_ok-bitmaps.ensures.count ∙ ap (λ f. base - f + c.place_count.result) c.first_stored.ensures in
     let count = count_made base (base - first_digit base) c.place_count.result (length rs) many c.place_count.ensures.few c.place_count.ensures.enough c.place_count.ensures.some in
-    itself_equality base rs [] (equality_made base rs c.requires.0 c.requires.1 count c.in_ok-bitmaps.ensures.empty)
+    itself_equality base rs [] (equality_made base rs c.requires.0 c.requires.1 count (many ∙ ap (λ places. base - first_digit base + places) c.place_count.ensures.kept) c.in_ok-bitmaps.ensures.empty)
 
 pub returns : goal.returns
 returns c =
@@ -19,4 +19,4 @@ returns c =
     let rs = c.in_ok-bitmaps.bitmaps.vectors in
     let many = c.in_ok-bitmaps.ensures.count ∙ ap (λ f. base - f + c.place_count.result) c.first_stored.ensures in
     let count = count_made base (base - first_digit base) c.place_count.result (length rs) many c.place_count.ensures.few c.place_count.ensures.enough c.place_count.ensures.some in
-    (sym (equality_digits_are base rs [] (equality_made base rs c.requires.0 c.requires.1 count c.in_ok-bitmaps.ensures.empty)), refl)
+    (sym (equality_digits_are base rs [] (equality_made base rs c.requires.0 c.requires.1 count (many ∙ ap (λ places. base - first_digit base + places) c.place_count.ensures.kept) c.in_ok-bitmaps.ensures.empty)), refl)

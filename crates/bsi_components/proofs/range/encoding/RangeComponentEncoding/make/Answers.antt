@@ -1,4 +1,4 @@
-use Rattle.std.proofs.Common.{◌-◌, [], length, refl, sym}
+use Rattle.std.proofs.Common.{◌+◌, ◌-◌, [], length, ap, refl, sym, ◌∙◌}
 use Rattle.bsi_words.proofs.PlaceBitmaps.{count_made}
 use Rattle.bsi_components.proofs.RangeDigits.{range_made, range_digits_are, itself_range}
 use Rattle.bsi_components.proofs.range.encoding.RangeComponentEncoding.make.Goals as goal
@@ -8,12 +8,14 @@ pub invariant_of-result : goal.invariant_of-result
 invariant_of-result c =
     let base = c.args.base in
     let rs = c.in_ok-bitmaps.bitmaps.vectors in
+    let many = c.in_ok-bitmaps.ensures.count ∙ ap (λ places. base - 1 + places) c.place_count.ensures.kept in
     let count = count_made base (base - 1) c.place_count.result (length rs) c.in_ok-bitmaps.ensures.count c.place_count.ensures.few c.place_count.ensures.enough c.place_count.ensures.some in
-    itself_range base rs [] (range_made base rs c.requires.0 c.requires.1 count c.in_ok-bitmaps.ensures.empty)
+    itself_range base rs [] (range_made base rs c.requires.0 c.requires.1 count many c.in_ok-bitmaps.ensures.empty)
 
 pub returns : goal.returns
 returns c =
     let base = c.args.base in
     let rs = c.in_ok-bitmaps.bitmaps.vectors in
+    let many = c.in_ok-bitmaps.ensures.count ∙ ap (λ places. base - 1 + places) c.place_count.ensures.kept in
     let count = count_made base (base - 1) c.place_count.result (length rs) c.in_ok-bitmaps.ensures.count c.place_count.ensures.few c.place_count.ensures.enough c.place_count.ensures.some in
-    (sym (range_digits_are base rs [] (range_made base rs c.requires.0 c.requires.1 count c.in_ok-bitmaps.ensures.empty)), refl)
+    (sym (range_digits_are base rs [] (range_made base rs c.requires.0 c.requires.1 count many c.in_ok-bitmaps.ensures.empty)), refl)

@@ -1,0 +1,78 @@
+-- Two tables whose columns are kept alike.
+use Rattle.std.proofs.Common.{◌≡◌, ℕ, ◌+◌, ◌<◌, ◌≤◌, List, [], ◌∷◌, All, length, map, true, ℤ, refl, ap, ap₂, sym, subst, ◌∙◌, arith}
+use Rattle.std.specs.Prelude.{slice_index_or, IsTrue}
+use Rattle.std.proofs.lemmas.List.{ext_get_or, get_or-map, length-map}
+use Rattle.std.proofs.lemmas.List.Elements.{All-get_or, All-weaker}
+use Rattle.bsi_columns.specs.AnyRows.{size_in_form, AnyForm}
+use Rattle.bsi_schema.specs.Columns.{column_at, fits, no_column, Declared, NamedColumn}
+use Rattle.bsi_schema.specs.Limits.{limits_of}
+use Rattle.bsi_schema.specs.declared.limits.Limits.{Limits}
+use Rattle.bsi_shift.specs.Shifted.{OffsetColumn}
+use Rattle.bsi_table.specs.RowBlocks.{AreAlike}
+use Rattle.bsi_table.specs.Rows.{FedRow}
+use Rattle.bsi_table.specs.Table.{fed_rows, kept_as, kept_at, AreAlikeColumns, AreFitting, AreFrom, AreKept, AreKeptAlike, IsTable}
+use Rattle.bsi_table.proofs.CallerLemmas.{fitting-alike}
+use Rattle.bsi_table.proofs.Keeping.{row_in-fits, size-kept_form}
+use Rattle.bsi_table.proofs.TableRows.{All-fed_rows}
+
+-- two lists of columns that are kept alike
+module _ (columns others : List NamedColumn) (kept other_kept : List OffsetColumn) (n m : ℕ) (are : AreKept columns kept n) (other_are : AreKept others other_kept m) where
+  -- each column has the form and the offset of the other list's
+  pub alike_columns : map kept_as columns ≡ map kept_as others → AreAlikeColumns kept other_kept
+  alike_columns alike k within =
+      let here : k < length columns = omega (arith, within, are.long) in
+      let there : k < length others = omega (arith, here, ap length alike, length-map columns kept_as, length-map others kept_as) in
+      let same : kept_as (column_at columns k) ≡ kept_as (column_at others k) =
+      sym (get_or-map kept_as columns k no_column (kept_as no_column) here)
+      ∙ ap (λ xs. slice_index_or xs k (kept_as no_column)) alike
+      ∙ get_or-map kept_as others k no_column (kept_as no_column) there in
+      record {
+        offset = (other_are.each k there).offset ∙ sym (ap (λ p. p.1) same) ∙ sym (are.each k here).offset;
+        form = (other_are.each k there).form ∙ sym (ap (λ p. p.0) same) ∙ sym (are.each k here).form;
+      }
+
+  -- and so are the columns of their schemas
+  pub alike_schemas : length other_kept ≡ length kept → AreAlikeColumns kept other_kept → map kept_as columns ≡ map kept_as others
+  alike_schemas long alike =
+      ext_get_or (kept_as no_column) (map kept_as columns) (map kept_as others)
+      (length-map columns kept_as ∙ sym are.long ∙ sym long ∙ other_are.long ∙ sym (length-map others kept_as))
+      (λ k below.
+      let here : k < length columns = omega (arith, below, length-map columns kept_as) in
+      let there : k < length others = omega (arith, here, long, are.long, other_are.long) in
+      let same = alike k (omega (arith, here, are.long)) in
+      get_or-map kept_as columns k no_column (kept_as no_column) here
+      ∙ ap₂ (λ (form : AnyForm) (offset : ℤ). (form, offset))
+      (sym (are.each k here).form ∙ sym same.form ∙ (other_are.each k there).form)
+      (sym (are.each k here).offset ∙ sym same.offset ∙ (other_are.each k there).offset)
+      ∙ sym (get_or-map kept_as others k no_column (kept_as no_column) there))
+
+-- columns that are kept alike take the same numbers
+limits_kept : AnyForm × ℤ → Limits
+limits_kept kept = record { least = kept.1; size = size_in_form kept.0 }
+
+limits-kept_as : (column : NamedColumn) → limits_kept (kept_as column) ≡ limits_of column
+limits-kept_as column = ap (λ (size : ℕ). record { least = column.offset; size = size }) (size-kept_form column.form)
+
+limits-columns : (columns : List NamedColumn) → map limits_of columns ≡ map limits_kept (map kept_as columns)
+limits-columns [] = refl
+limits-columns (column ∷ columns) = ap₂ (λ (x : Limits) (xs : List Limits). x ∷ xs) (sym (limits-kept_as column)) (limits-columns columns)
+
+pub alike-kept : (first second : Declared) → AreKeptAlike first second → AreAlike first second
+alike-kept first second alike = limits-columns first.columns ∙ ap (map limits_kept) alike ∙ sym (limits-columns second.columns)
+
+-- the rows of a table fit its columns
+pub fitting_rows : (columns : List NamedColumn) (feeders limit : ℕ) (sources : List ℕ) (kept : List OffsetColumn) → IsTable columns feeders limit sources kept
+    → AreFitting columns (fed_rows sources kept)
+fitting_rows columns feeders limit sources kept is =
+    All-fed_rows sources kept (λ row. fits columns row.1 ≡ true) (λ r below. row_in-fits columns kept (length sources) is.columns_are r below)
+
+-- and those of one that is kept alike
+pub fitting_others : (first second : Declared) → AreKeptAlike first second → (rows : List FedRow) → AreFitting second.columns rows → AreFitting first.columns rows
+fitting_others first second alike rows fitting = fitting-alike second first (sym (alike-kept first second alike)) rows fitting
+
+-- they came from its feeders
+pub from_feeders : (columns : List NamedColumn) (feeders limit more : ℕ) (sources : List ℕ) (kept : List OffsetColumn) → IsTable columns feeders limit sources kept
+    → feeders ≤ more → AreFrom more (fed_rows sources kept)
+from_feeders columns feeders limit more sources kept is few =
+    All-fed_rows sources kept (λ row. row.0 < more)
+    (λ r below. omega (arith, few, All-get_or (λ source. source < feeders) sources r 0 below is.from))
