@@ -4,6 +4,7 @@ pub mod Filling
 pub mod InWords
 pub mod Joining
 pub mod Logic
+pub mod Lowest
 pub mod Marked
 pub mod Reading
 pub mod Skipping

@@ -29,7 +29,3 @@ pub record AreEven (vectors : List BitList) (room : ℕ) : Type 0 where
 pub record AreSame (old new : List BitList) : Type 0 where
   pub count : length new ≡ length old
   pub bits : (j : ℕ) → bits_at new j ≡ bits_at old j
-
--- what is said of each of the first so many places is its bit
-abbrev pub Says : (ℕ → Bool → Type 0) → ℕ → (ℕ → Bool) → Type 0
-Says said count bit = (j : ℕ) (b : Bool) → j < count → said j b → b ≡ bit j

@@ -1,7 +1,8 @@
 //! Vectors of one length that grow together.
 
-ghost use Rattle.std.specs.Prelude.{◌≡◌, ◌≢◌, ℕ, ◌+◌, ◌%◌, ◌^◌, ◌≤◌, ◌<◌, Bool, List, false, true, [], ◌∷◌, ◌++◌, ◌-◌, length, min, slice_index, IfOk, IsOk, OnErr, OnOk};
-ghost use Rattle.bsi_bits.specs.BitLists.{bits_at, room_at, AreSame, Says};
+ghost use Rattle.std.specs.Prelude.{◌≡◌, ◌≢◌, ◌==◌, ℕ, ◌+◌, ◌%◌, ◌^◌, ◌≤◌, ◌<◌, Bool, List, false, true, [], ◌∷◌, ◌++◌, ◌-◌, length, min, slice_index, IfOk, IsOk, OnErr, OnOk};
+ghost use Rattle.std.specs.Int.{bit_at};
+ghost use Rattle.bsi_bits.specs.BitLists.{bits_at, room_at, AreSame};
 ghost use Rattle.bsi_bits.specs.Packed.{bits_of};
 
 use crate::NoMemory;
@@ -105,21 +106,19 @@ impl Bitmaps {
         Ok(())
     }
 
-    /// Appends a bit to each vector, into room that is already there: the bit that `bit_of` gives for the place of the
-    /// vector.
-    pub fn push_each<F: Fn(usize) -> bool>(&mut self, bit_of: F)
+    /// Appends to each vector the binary place of the number that has the vector's place, into room that is already
+    /// there. Unless a word begins, it writes the ones alone.
+    pub fn push_places(&mut self, number: u64)
         requires room { 0 < self.old.room }
-        requires callable { F.IsAlwaysCallable bit_of }
+        requires below { number < 2 ^ length self.old.vectors }
         ensures count { length self.new.vectors ≡ length self.old.vectors }
-        ensures bits { (bit : ℕ → Bool) → Says (F.post bit_of) (length self.old.vectors) bit →
-            (j : ℕ) → j < length self.old.vectors →
-            bits_at self.new.vectors j ≡ bits_at self.old.vectors j ++ bit j ∷ [] }
+        ensures bits { (j : ℕ) → j < length self.old.vectors →
+            bits_at self.new.vectors j
+            ≡ bits_at self.old.vectors j ++ (bit_at number j == 1) ∷ [] }
         ensures room { self.new.room + 1 ≡ self.old.room }
     {
-        'vectors: for j in 0..self.vectors.len() {
-            self.vectors[j].push_reserved(bit_of(j));
-        }
-        self.room -= 1;
+        self.push_zeros();
+        self.raise_ones(number);
     }
 
     /// Appends a 0 to each vector, into room that is already there. Unless a word begins, it writes no word.
@@ -131,14 +130,24 @@ impl Bitmaps {
         ensures room { self.new.room + 1 ≡ self.old.room }
     {
         if self.len() % 64 == 0 {
-            self.push_each(
-                |_: usize| -> bool
-                    ensures { result ≡ false }
-                { false },
-            );
+            self.begin_word();
         } else {
             self.lengthen();
         }
+    }
+
+    /// Appends a 0 to each vector, in a further word if the last one is full.
+    fn begin_word(&mut self)
+        requires room { 0 < self.old.room }
+        ensures count { length self.new.vectors ≡ length self.old.vectors }
+        ensures bits { (j : ℕ) → j < length self.old.vectors →
+            bits_at self.new.vectors j ≡ bits_at self.old.vectors j ++ false ∷ [] }
+        ensures room { self.new.room + 1 ≡ self.old.room }
+    {
+        'vectors: for j in 0..self.vectors.len() {
+            self.vectors[j].push_reserved(false);
+        }
+        self.room -= 1;
     }
 
     /// Appends a 0 to each vector, in the last word.
@@ -174,6 +183,25 @@ impl Bitmaps {
     {
         'vectors: for j in from..to {
             self.vectors[j].raise_last();
+        }
+    }
+
+    /// Sets the last bit, which is 0, of each vector whose place is a binary place of the number that is 1.
+    fn raise_ones(&mut self, number: u64)
+        requires some { (j : ℕ) → j < length self.old.vectors →
+            0 < length (bits_at self.old.vectors j) }
+        requires below { number < 2 ^ length self.old.vectors }
+        ensures count { length self.new.vectors ≡ length self.old.vectors }
+        ensures raised { (j : ℕ) (front : List Bool) → j < length self.old.vectors →
+            bits_at self.old.vectors j ≡ front ++ false ∷ [] →
+            bits_at self.new.vectors j ≡ front ++ (bit_at number j == 1) ∷ [] }
+        ensures room { self.new.room ≡ self.old.room }
+    {
+        let mut left = number;
+        'ones: while left != 0 {
+            let place = left.trailing_zeros() as usize;
+            self.raise_last(place, place + 1);
+            left &= left - 1;
         }
     }
 

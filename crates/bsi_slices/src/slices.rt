@@ -230,11 +230,7 @@ fn push_row(slices: &mut Bitmaps, present: &mut NotNull, entry: Option<u64>)
     ensures room { min slices.old.room present.old.room ≤ min slices.new.room present.new.room + 1 }
 {
     let number = entry.unwrap_or(0);
-    slices.push_each(
-        |place: usize| -> bool
-            ensures { place < 64 → result ≡ (bit_at number place == 1) }
-        { place < 64 && number >> place & 1 == 1 },
-    );
+    slices.push_places(number);
     present.push_reserved(entry.is_some());
     // The proof takes from this that there are at most 2^32 rows.
     prove!(present.len() <= 1 << 32);

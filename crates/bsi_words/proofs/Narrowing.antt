@@ -8,6 +8,10 @@ use Rattle.std.proofs.lemmas.Nat.{and_le_l}
 use Rattle.bsi_bits.proofs.Logic.{IsBitwise, and_bitwise, and_not_bitwise}
 use Rattle.bsi_words.specs.Ranks.{word_kept}
 
+-- the words of a line, which are narrowed at a time
+abbrev pub line_words : ℕ
+line_words = 8
+
 -- what is kept of a word is at most the word
 pub kept_less : (wanted : Bool) (x y : ℕ) → word_kept wanted x y ≤ x
 kept_less true x y = and_le_l x y

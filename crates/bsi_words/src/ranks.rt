@@ -193,7 +193,7 @@ fn words_without(words: u64x8, others: u64x8) -> u64x8
 /// Returns the number of ones in a line. It counts each word by one instruction.
 fn ones_in(words: u64x8) -> u64
     ensures ones { result ≡ sum_by count_ones words }
-    ensures few { result ≤ 512 }
+    ensures few { result ≤ 64 * LINE_WORDS }
 {
     let [a, b, c, d, e, f, g, h] = words.to_array();
     let first = a.count_ones() + b.count_ones() + c.count_ones() + d.count_ones();

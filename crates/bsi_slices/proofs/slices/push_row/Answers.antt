@@ -15,16 +15,16 @@ pub returns-clause-sliced : goal.returns-clause-sliced
 returns-clause-sliced c =
     let marks : c.push_reserved.new.self.bits ≡ c.args.present.now.bits ++ is_some c.args.entry ∷ [] =
     c.push_reserved.ensures.bits ∙ (λ i. c.args.present.now.bits ++ c.is_some.ensures i ∷ []) in
-    let pushed : (k : ℕ) → k < length c.args.slices.now.vectors → bits_at c.push_each.new.self.vectors k ≡ bits_at c.args.slices.now.vectors k ++ (bit_at (number_or_zero c.args.entry) k == 1) ∷ [] =
-    c.push_each.ensures.bits (λ k. bit_at (number_or_zero c.args.entry) k == 1) (λ k b within said. said (omega (arith, within, c.requires.sliced.few)) ∙ ap (λ n. bit_at n k == 1) c.unwrap_or-number.ensures) in
-    sliced_more c.args.present.now.bits c.push_reserved.new.self.bits c.args.slices.now.vectors c.push_each.new.self.vectors (c.args.entry ∷ []) c.requires.sliced (one_fits c.args.entry _ c.requires.below)
-    marks c.push_each.ensures.count pushed (omega (arith, c.len.ensures))
+    let pushed : (k : ℕ) → k < length c.args.slices.now.vectors → bits_at c.push_places.new.self.vectors k ≡ bits_at c.args.slices.now.vectors k ++ (bit_at (number_or_zero c.args.entry) k == 1) ∷ [] =
+    λ k within. c.push_places.ensures.bits k within ∙ ap (λ n. bits_at c.args.slices.now.vectors k ++ (bit_at n k == 1) ∷ []) c.unwrap_or-number.ensures in
+    sliced_more c.args.present.now.bits c.push_reserved.new.self.bits c.args.slices.now.vectors c.push_places.new.self.vectors (c.args.entry ∷ []) c.requires.sliced (one_fits c.args.entry _ c.requires.below)
+    marks c.push_places.ensures.count pushed (omega (arith, c.len.ensures))
 
 pub returns-clause-entries : goal.returns-clause-entries
 returns-clause-entries c =
     let marks : c.push_reserved.new.self.bits ≡ c.args.present.now.bits ++ is_some c.args.entry ∷ [] =
     c.push_reserved.ensures.bits ∙ (λ i. c.args.present.now.bits ++ c.is_some.ensures i ∷ []) in
-    let pushed : (k : ℕ) → k < length c.args.slices.now.vectors → bits_at c.push_each.new.self.vectors k ≡ bits_at c.args.slices.now.vectors k ++ (bit_at (number_or_zero c.args.entry) k == 1) ∷ [] =
-    c.push_each.ensures.bits (λ k. bit_at (number_or_zero c.args.entry) k == 1) (λ k b within said. said (omega (arith, within, c.requires.sliced.few)) ∙ ap (λ n. bit_at n k == 1) c.unwrap_or-number.ensures) in
-    entries_more c.args.present.now.bits c.push_reserved.new.self.bits c.args.slices.now.vectors c.push_each.new.self.vectors (c.args.entry ∷ []) c.requires.sliced (one_fits c.args.entry _ c.requires.below)
-    marks c.push_each.ensures.count pushed
+    let pushed : (k : ℕ) → k < length c.args.slices.now.vectors → bits_at c.push_places.new.self.vectors k ≡ bits_at c.args.slices.now.vectors k ++ (bit_at (number_or_zero c.args.entry) k == 1) ∷ [] =
+    λ k within. c.push_places.ensures.bits k within ∙ ap (λ n. bits_at c.args.slices.now.vectors k ++ (bit_at n k == 1) ∷ []) c.unwrap_or-number.ensures in
+    entries_more c.args.present.now.bits c.push_reserved.new.self.bits c.args.slices.now.vectors c.push_places.new.self.vectors (c.args.entry ∷ []) c.requires.sliced (one_fits c.args.entry _ c.requires.below)
+    marks c.push_places.ensures.count pushed

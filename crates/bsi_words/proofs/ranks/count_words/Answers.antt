@@ -6,7 +6,7 @@ use Rattle.std.proofs.lemmas.Simd.{length-chunk, length-zip2, get_or-zip2}
 use Rattle.bsi_bits.proofs.Pairs.{chunk-zip2}
 use Rattle.bsi_bits.proofs.Summing.{summed_block, summed_word, summed_all}
 use Rattle.bsi_words.specs.Ranks.{word_kept}
-use Rattle.bsi_words.proofs.Narrowing.{empty_kept, empty_ones, kept_less}
+use Rattle.bsi_words.proofs.Narrowing.{line_words, empty_kept, empty_ones, kept_less}
 use Rattle.bsi_words.proofs.ranks.count_words.Goals as goal
 
 -- a line with no row
@@ -15,15 +15,15 @@ lines-preserved-then-is_empty c =
     let words = c.args.words.now in
     let others = c.args.others.now in
     let made = zip2 (word_kept false) words others in
-    let at : ℕ = 8 * c.lines.k in
-    let within : at + 8 ≤ length words = omega (arith, c.lines-test.true) in
-    let line = chunk at 8 words in
+    let at : ℕ = line_words * c.lines.k in
+    let within : at + line_words ≤ length words = omega (arith, c.lines-test.true) in
+    let line = chunk at line_words words in
     let none : (k : ℕ) → get_or line k 0 ≡ 0 = λ k. ap (λ xs. get_or xs k 0) (sym c.as_array.ensures) ∙ c.if-is_empty.ensures.0 refl k in
-    let left : line ≡ chunk at 8 made =
-    empty_kept false line (chunk at 8 others) (length-chunk at 8 others (omega (arith, within, c.requires.same)) ∙ sym (length-chunk at 8 words within)) none
-    ∙ sym (chunk-zip2 (word_kept false) at 8 words others (sym c.requires.same)) in
-    let block : 0 ≡ sum_by count_ones (chunk at 8 made) = sym (empty_ones line none) ∙ ap (sum_by count_ones) left in
-    let counted = summed_block count_ones made at c.lines.clear c.lines.invariant.counted 8 (8 * (c.lines.k + 1)) 0 (omega arith) block in
+    let left : line ≡ chunk at line_words made =
+    empty_kept false line (chunk at line_words others) (length-chunk at line_words others (omega (arith, within, c.requires.same)) ∙ sym (length-chunk at line_words words within)) none
+    ∙ sym (chunk-zip2 (word_kept false) at line_words words others (sym c.requires.same)) in
+    let block : 0 ≡ sum_by count_ones (chunk at line_words made) = sym (empty_ones line none) ∙ ap (sum_by count_ones) left in
+    let counted = summed_block count_ones made at c.lines.clear c.lines.invariant.counted line_words (line_words * (c.lines.k + 1)) 0 (omega arith) block in
     record {
       counted = omega (arith, counted);
       few = omega (arith, c.lines.invariant.few);
@@ -35,11 +35,11 @@ lines-preserved c =
     let words = c.args.words.now in
     let others = c.args.others.now in
     let made = zip2 (word_kept false) words others in
-    let at : ℕ = 8 * c.lines.k in
-    let block : c.ones_in-clear.result ≡ sum_by count_ones (chunk at 8 made) =
-    c.ones_in-clear.ensures.ones ∙ ap (sum_by count_ones) (c.words_without.ensures ∙ sym (chunk-zip2 (word_kept false) at 8 words others (sym c.requires.same))) in
+    let at : ℕ = line_words * c.lines.k in
+    let block : c.ones_in-clear.result ≡ sum_by count_ones (chunk at line_words made) =
+    c.ones_in-clear.ensures.ones ∙ ap (sum_by count_ones) (c.words_without.ensures ∙ sym (chunk-zip2 (word_kept false) at line_words words others (sym c.requires.same))) in
     record {
-      counted = summed_block count_ones made at c.lines.clear c.lines.invariant.counted 8 (8 * (c.lines.k + 1)) c.ones_in-clear.result (omega arith) block;
+      counted = summed_block count_ones made at c.lines.clear c.lines.invariant.counted line_words (line_words * (c.lines.k + 1)) c.ones_in-clear.result (omega arith) block;
       few = omega (arith, c.lines.invariant.few, c.ones_in-clear.ensures.few);
     }
 

@@ -10,7 +10,7 @@ use Rattle.bsi_bits.proofs.Pairs.{chunk-zip2}
 use Rattle.bsi_bits.proofs.Filling.{IsFilled, paired, filled_block, filled_pairs}
 use Rattle.bsi_bits.proofs.Summing.{summed_block, summed_word, summed_all}
 use Rattle.bsi_words.specs.Ranks.{word_kept}
-use Rattle.bsi_words.proofs.Narrowing.{empty_kept, empty_ones, kept_less}
+use Rattle.bsi_words.proofs.Narrowing.{line_words, empty_kept, empty_ones, kept_less}
 use Rattle.bsi_words.proofs.ranks.narrow_words.Goals as goal
 
 -- one word is written
@@ -57,23 +57,23 @@ lines-preserved-then-is_empty c =
     let f = word_kept c.args.is_set in
     let target = zip2 f old words in
     let made = zip2 (word_kept false) target next in
-    let at : ℕ = 8 * c.lines.k in
+    let at : ℕ = line_words * c.lines.k in
     let same : length old ≡ length words = sym c.requires.same in
     let long : length target ≡ length old = length-zip2 f old words same in
-    let within : at + 8 ≤ length old = omega (arith, c.lines-test.true) in
-    let line = chunk at 8 old in
-    let line_long : length line ≡ 8 = length-chunk at 8 old within in
-    let line_is = c.as_array.ensures ∙ unwritten (paired f words) at 8 old c.lines.chosen c.lines.invariant.filled within in
+    let within : at + line_words ≤ length old = omega (arith, c.lines-test.true) in
+    let line = chunk at line_words old in
+    let line_long : length line ≡ line_words = length-chunk at line_words old within in
+    let line_is = c.as_array.ensures ∙ unwritten (paired f words) at line_words old c.lines.chosen c.lines.invariant.filled within in
     let none : (k : ℕ) → get_or line k 0 ≡ 0 = λ k. ap (λ xs. get_or xs k 0) (sym line_is) ∙ c.if-is_empty.ensures.0 refl k in
-    let kept : line ≡ chunk at 8 target = empty_kept c.args.is_set line (chunk at 8 words) (length-chunk at 8 words (omega (arith, within, same)) ∙ sym line_long) none ∙ sym (chunk-zip2 f at 8 old words same) in
-    let left : line ≡ chunk at 8 made =
-    empty_kept false line (chunk at 8 next) (length-chunk at 8 next (omega (arith, within, c.requires.same_next)) ∙ sym line_long) none
-    ∙ ap (λ xs. zip2 (word_kept false) xs (chunk at 8 next)) kept ∙ sym (chunk-zip2 (word_kept false) at 8 target next (long ∙ sym c.requires.same_next)) in
-    let block : 0 ≡ sum_by count_ones (chunk at 8 made) = sym (empty_ones line none) ∙ ap (sum_by count_ones) left in
-    let counted = summed_block count_ones made at c.lines.clear c.lines.invariant.counted 8 (8 * (c.lines.k + 1)) 0 (omega arith) block in
+    let kept : line ≡ chunk at line_words target = empty_kept c.args.is_set line (chunk at line_words words) (length-chunk at line_words words (omega (arith, within, same)) ∙ sym line_long) none ∙ sym (chunk-zip2 f at line_words old words same) in
+    let left : line ≡ chunk at line_words made =
+    empty_kept false line (chunk at line_words next) (length-chunk at line_words next (omega (arith, within, c.requires.same_next)) ∙ sym line_long) none
+    ∙ ap (λ xs. zip2 (word_kept false) xs (chunk at line_words next)) kept ∙ sym (chunk-zip2 (word_kept false) at line_words target next (long ∙ sym c.requires.same_next)) in
+    let block : 0 ≡ sum_by count_ones (chunk at line_words made) = sym (empty_ones line none) ∙ ap (sum_by count_ones) left in
+    let counted = summed_block count_ones made at c.lines.clear c.lines.invariant.counted line_words (line_words * (c.lines.k + 1)) 0 (omega arith) block in
     record {
-      filled = passed (paired f words) at 8 (8 * (c.lines.k + 1)) old c.lines.chosen c.lines.invariant.filled (omega arith) (λ k below.
-          let zero : get_or old (at + k) 0 ≡ 0 = sym (get_or-chunk at 8 old k 0 below) ∙ none k in
+      filled = passed (paired f words) at line_words (line_words * (c.lines.k + 1)) old c.lines.chosen c.lines.invariant.filled (omega arith) (λ k below.
+          let zero : get_or old (at + k) 0 ≡ 0 = sym (get_or-chunk at line_words old k 0 below) ∙ none k in
           omega (arith, zero, kept_less c.args.is_set (get_or old (at + k) 0) (get_or words (at + k) 0)));
       counted = omega (arith, counted);
       few = omega (arith, c.lines.invariant.few);
@@ -86,20 +86,20 @@ lines-preserved c =
     let f = word_kept c.args.is_set in
     let target = zip2 f old c.args.words.now in
     let made = zip2 (word_kept false) target c.args.next.now in
-    let at : ℕ = 8 * c.lines.k in
+    let at : ℕ = line_words * c.lines.k in
     let same : length old ≡ length c.args.words.now = sym c.requires.same in
     let long : length target ≡ length old = length-zip2 f old c.args.words.now same in
-    let within : at + 8 ≤ length old = omega (arith, c.lines-test.true) in
-    let kept_is : c.kept_words-kept.result ≡ chunk at 8 target =
-    c.kept_words-kept.ensures ∙ ap (λ xs. zip2 f xs (chunk at 8 c.args.words.now)) (unwritten (paired f c.args.words.now) at 8 old c.lines.chosen c.lines.invariant.filled within)
-    ∙ sym (chunk-zip2 f at 8 old c.args.words.now same) in
-    let block : c.ones_in-clear.result ≡ sum_by count_ones (chunk at 8 made) =
-    c.ones_in-clear.ensures.ones ∙ ap (sum_by count_ones) c.words_without.ensures ∙ ap (λ xs. sum_by count_ones (zip2 (word_kept false) xs (chunk at 8 c.args.next.now))) kept_is
-    ∙ ap (sum_by count_ones) (sym (chunk-zip2 (word_kept false) at 8 target c.args.next.now (long ∙ sym c.requires.same_next))) in
-    let filled = filled_block f at old c.args.words.now c.lines.chosen same c.lines.invariant.filled 8 (8 * (c.lines.k + 1)) (omega arith) (omega (arith, within)) in
+    let within : at + line_words ≤ length old = omega (arith, c.lines-test.true) in
+    let kept_is : c.kept_words-kept.result ≡ chunk at line_words target =
+    c.kept_words-kept.ensures ∙ ap (λ xs. zip2 f xs (chunk at line_words c.args.words.now)) (unwritten (paired f c.args.words.now) at line_words old c.lines.chosen c.lines.invariant.filled within)
+    ∙ sym (chunk-zip2 f at line_words old c.args.words.now same) in
+    let block : c.ones_in-clear.result ≡ sum_by count_ones (chunk at line_words made) =
+    c.ones_in-clear.ensures.ones ∙ ap (sum_by count_ones) c.words_without.ensures ∙ ap (λ xs. sum_by count_ones (zip2 (word_kept false) xs (chunk at line_words c.args.next.now))) kept_is
+    ∙ ap (sum_by count_ones) (sym (chunk-zip2 (word_kept false) at line_words target c.args.next.now (long ∙ sym c.requires.same_next))) in
+    let filled = filled_block f at old c.args.words.now c.lines.chosen same c.lines.invariant.filled line_words (line_words * (c.lines.k + 1)) (omega arith) (omega (arith, within)) in
     rw c.kept_words-kept.ensures (record {
       filled = filled;
-      counted = summed_block count_ones made at c.lines.clear c.lines.invariant.counted 8 (8 * (c.lines.k + 1)) c.ones_in-clear.result (omega arith) block;
+      counted = summed_block count_ones made at c.lines.clear c.lines.invariant.counted line_words (line_words * (c.lines.k + 1)) c.ones_in-clear.result (omega arith) block;
       few = omega (arith, c.lines.invariant.few, c.ones_in-clear.ensures.few);
     })
 

@@ -1,10 +1,10 @@
 use Rattle.std.proofs.Common.{◌≡◌, ℕ, ◌+◌, ◌<◌, length, arith}
 use Rattle.bsi_bits.specs.BitLists.{bits_at}
-use Rattle.bsi_bits.proofs.bitmaps.Bitmaps.push_each.Goals as goal
+use Rattle.bsi_bits.proofs.bitmaps.Bitmaps.begin_word.Goals as goal
 
 -- each vector has one bit more, and room for one less
 pub invariant_of-self : goal.invariant_of-self
-invariant_of-self g c =
+invariant_of-self c =
     let all = c.vectors.invariant in
     let room : 0 < c.self.inside.room = rw (← c.self.view_is) at c.requires.room in
     let last : (j : ℕ) → j < length c.vectors.self-inside.vectors.items → j < c.vectors.j = λ j below. omega (arith, below, all.long, c.len-j-end.ensures, c.vectors-test.false, c.self.inside.vectors.ok.0) in
