@@ -9,7 +9,7 @@ use std::process::Abort;
 use std::test::Fail;
 
 // Where memory is refused, it makes the same call again.
-fn block_of(index: &Index) -> Result<Block, NoMemory> {
+pub(crate) fn block_of(index: &Index) -> Result<Block, NoMemory> {
     match index.new_block() {
         Err(_) => index.new_block(),
         made => made,
@@ -26,7 +26,12 @@ fn add(alloc: Global, block: &mut Block, feeder: u32, number: i128) -> Result<bo
 }
 
 // So many rows of two feeders by turns, whose numbers are 5.
-fn fill(rt: &impl Abort, alloc: Global, block: &mut Block, rows: u32) -> Result<(), NoMemory> {
+pub(crate) fn fill(
+    rt: &impl Abort,
+    alloc: Global,
+    block: &mut Block,
+    rows: u32,
+) -> Result<(), NoMemory> {
     block.clear();
     for row in 0..rows {
         let added = add(alloc, block, row % 2, 5)?;
@@ -36,7 +41,7 @@ fn fill(rt: &impl Abort, alloc: Global, block: &mut Block, rows: u32) -> Result<
 }
 
 // A refused growth changes nothing, and the same call is made again.
-fn append(index: &mut Index, block: &Block) -> Option<Result<u64, AppendError>> {
+pub(crate) fn append(index: &mut Index, block: &Block) -> Option<Result<u64, AppendError>> {
     if !index.takes(block) {
         return None;
     }
