@@ -1,7 +1,6 @@
 //! Which binary places of its digits a component keeps, and how a row's bits are appended.
 
 ghost use Rattle.std.specs.Prelude.{◌≡◌, ℕ, ◌+◌, ◌-◌, ◌<◌, ◌≤◌, ◌^◌, ◌==◌, ◌&&◌, Bool, List, false, [], ◌∷◌, ◌++◌, length, nat_le, nat_lt};
-ghost use Rattle.std.specs.Int.{bit_at};
 ghost use Rattle.bsi_bits.specs.BitLists.{bits_at};
 ghost use Rattle.bsi_words.specs.Places.{has_place, then_places};
 ghost use Rattle.bsi_components.specs.Bitmaps.{kept_places};
@@ -24,13 +23,6 @@ pub(crate) fn place_count(base: u32) -> usize
     } else {
         (u32::BITS - (base - 1).leading_zeros()) as usize
     }
-}
-
-/// Returns whether a binary place of a digit is 1.
-pub(crate) fn is_place_set(digit: u32, place: usize) -> bool
-    ensures { place < 32 → result ≡ (bit_at digit place == 1) }
-{
-    place < 32 && digit >> place & 1 == 1
 }
 
 /// Appends the bits of a digit, into room that is already there: of the first `own` vectors those from place `from` on
@@ -65,9 +57,13 @@ fn raise_places(bitmaps: &mut Bitmaps, own: usize, digit: u32)
         bits_at bitmaps.new.vectors j ≡ front ++ has_place (j - own) digit ∷ [] }
     ensures room { bitmaps.new.room ≡ bitmaps.old.room }
 {
-    'places: for j in own..bitmaps.as_slice().len() {
-        if is_place_set(digit, j - own) {
-            bitmaps.raise_last(j, j + 1);
+    let count = bitmaps.as_slice().len().saturating_sub(own);
+    let mut left = digit;
+    'ones: while left != 0 {
+        let place = left.trailing_zeros() as usize;
+        left &= left - 1;
+        if place < count {
+            bitmaps.raise_last(own + place, own + place + 1);
         }
     }
 }
