@@ -1,5 +1,6 @@
 pub mod AskLines
 pub mod Begun
+pub mod ByFeeder
 pub mod Ends
 pub mod FaultTexts
 pub mod Faults

@@ -18,6 +18,7 @@ ghost use Rattle.bsi_files.specs.Matching.{AreMatched};
 ghost use Rattle.bsi_files.specs.Runs.{fed_lines, AreLines};
 ghost use Rattle.bsi_files.specs.Writing.{AreOut, WritesAll, WritesPart};
 
+use crate::arranging::arrange;
 use crate::headers::file_number;
 use crate::loading::Fed;
 use crate::writing::write_bytes;
@@ -146,13 +147,14 @@ fn answer<B: Naming>(
         write_bad(line)?;
         return Ok(());
     };
-    let reply = ask(analyst, told, &query)?;
+    let reply = ask(alloc, analyst, told, &query)?;
     write_reply(&Reply::Answered(reply), line)?;
     Ok(())
 }
 
 /// Asks the analyst. It answers rows in order of feeder, and then of their numbers.
 fn ask<B: Naming>(
+    alloc: Global,
     analyst: &mut Analyst<B>,
     told: &Told<B>,
     query: &Query,
@@ -161,20 +163,20 @@ fn ask<B: Naming>(
     ensures reply { IfOk result (IsShownReply B.about.schema told.now query.now) }
 {
     match analyst.ask_told(told, query) {
-        Ok(answer) => Ok(Ok(arranged(answer))),
+        Ok(answer) => Ok(Ok(arranged(alloc, answer))),
         Err(AnalystRefused::Ask(refused)) => Ok(Err(refused)),
         Err(AnalystRefused::Gone) => Err(FilesFault::Readers),
     }
 }
 
 /// Arranges the rows of an answer in order of feeder, and then of their numbers.
-fn arranged(answer: Answer) -> Answer
+fn arranged(alloc: Global, answer: Answer) -> Answer
     ensures { (query : Query) → (rows : List FedRow) → IsAnswer query rows answer →
         IsShownAnswer query rows result }
 {
     match answer {
         Answer::Rows(mut rows) => {
-            rows.sort_unstable();
+            arrange(alloc, &mut rows);
             Answer::Rows(rows)
         }
         other => other,
