@@ -15,6 +15,9 @@ use std::sync::Wait;
 /// The most turns of a feeder, each of at most 64 rows. No text has so many records.
 const MAX_TURNS: u64 = u64::MAX / 64;
 
+/// How often a feeder whose ring is full yields before it sleeps.
+const MAX_YIELDS: u32 = 16;
+
 /// How a feeder that read a row file ended.
 #[derive(Drop)]
 pub struct FeedEnd {
@@ -172,7 +175,7 @@ fn send<R: Wait, G: Gate>(rt: &R, feeder: &mut Feeder, mut row: Row, gate: &G, p
     ensures kept { result ≡ false → feeder.new ≡ feeder.old }
 {
     let who = feeder.number();
-    let mut pause = Pause::new();
+    let mut pause = Pause::new(MAX_YIELDS);
     gate.pass(rt, who, point);
     'tries: for _ in rt.forever() {
         match feeder.submit(row) {
@@ -202,7 +205,7 @@ fn send_block<R: Wait, G: Gate>(
     ensures kept { result ≡ false → feeder.new ≡ feeder.old }
 {
     let who = feeder.number();
-    let mut pause = Pause::new();
+    let mut pause = Pause::new(MAX_YIELDS);
     pass_all(rt, gate, who, point, block.len());
     'tries: for _ in rt.forever() {
         match feeder.submit_block(block) {

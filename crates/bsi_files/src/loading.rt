@@ -22,6 +22,9 @@ use std::sync::Wait;
 /// Once so many rows of one feeder were taken, the next feeder has its turn.
 const ROWS_IN_TURN: usize = 256;
 
+/// How often a loader that sees no row yields before it sleeps.
+const MAX_YIELDS: u32 = 256;
+
 /// The fewest held rows that are published.
 const MIN_HELD_TO_PUBLISH: u64 = 4_096;
 
@@ -48,13 +51,13 @@ pub(crate) fn load_beside<B: Naming, R: Wait, G: Gate>(
     ensures early { IfErr result (λ fault. is_early fault ≡ true) }
     ensures room { IfErr result (λ fault. fault ≢ FilesFault.IndexFull) }
 {
-    let mut pause = Pause::new();
+    let mut pause = Pause::new(MAX_YIELDS);
     'rounds: for _ in rt.forever() {
         if watch.ended() >= u64::from(feeders) {
             return Ok(());
         }
         match load_round(rt, loader, feeders) {
-            Ok(true) => pause = Pause::new(),
+            Ok(true) => pause = Pause::new(MAX_YIELDS),
             Ok(false) => pause.wait(rt),
             Err(fault) => {
                 watch.refuse();
