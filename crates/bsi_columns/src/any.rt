@@ -1,6 +1,6 @@
 //! A column of whichever form, chosen when the program runs.
 
-ghost use Rattle.std.specs.Prelude.{◌≡◌, ◌+◌, ◌≤◌, is_none, length, true, IsOk, OnOk, OnErr};
+ghost use Rattle.std.specs.Prelude.{◌≡◌, ◌↔◌, ◌+◌, ◌≤◌, is_none, length, IsOk, IsTrue, OnOk, OnErr};
 ghost use Rattle.bsi_bits.specs.BitList.{word_count};
 ghost use Rattle.bsi_slices.specs.Blocks.{KeepsRows};
 ghost use Rattle.bsi_columns.specs.AnyRows.{any_entries, any_form, any_room, size_in_form, AnyForm};
@@ -51,7 +51,7 @@ impl AnyColumn {
 
     /// Returns whether another column has the same form: as many slices, or the same encoding under the same bases.
     pub fn has_form_of(&self, other: &AnyColumn) -> bool
-        ensures { result ≡ true → any_form other.now ≡ any_form self.now }
+        ensures { IsTrue result ↔ (any_form other.now ≡ any_form self.now) }
     {
         match (self, other) {
             (AnyColumn::Slices(own), AnyColumn::Slices(others)) => own.width() == others.width(),

@@ -1,6 +1,6 @@
 //! Which binary places of its digits a component keeps, and how a row's bits are appended.
 
-ghost use Rattle.std.specs.Prelude.{◌≡◌, ℕ, ◌+◌, ◌-◌, ◌<◌, ◌≤◌, ◌^◌, ◌==◌, ◌&&◌, Bool, List, false, [], ◌∷◌, ◌++◌, length, nat_le, nat_lt};
+ghost use Rattle.std.specs.Prelude.{◌≡◌, ℕ, ◌+◌, ◌-◌, ◌<◌, ◌≤◌, ◌^◌, ◌&&◌, Bool, List, false, [], ◌∷◌, ◌++◌, length, nat_le, nat_lt};
 ghost use Rattle.bsi_bits.specs.BitLists.{bits_at};
 ghost use Rattle.bsi_words.specs.Places.{has_place, then_places};
 ghost use Rattle.bsi_components.specs.Bitmaps.{kept_places};

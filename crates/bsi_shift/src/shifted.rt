@@ -4,7 +4,7 @@
 //! stored column for `< 0` and the others for `>= 0`; past 64 bits the greatest constant stands for it, because each
 //! stored number is below 2^63.
 
-ghost use Rattle.std.specs.Prelude.{◌≡◌, ℕ, pos, ◌+ℤ◌, ◌≤ℤ◌, ◌+◌, ◌<◌, ◌≤◌, ◌^◌, [], ◌∷◌, ◌++◌, All, length, map, None, slice_index_or, is_some, nat_lt, true, IsOk, IfOk, OnOk, OnErr};
+ghost use Rattle.std.specs.Prelude.{◌≡◌, ℕ, pos, ◌+ℤ◌, ◌≤ℤ◌, ◌+◌, ◌<◌, ◌≤◌, ◌^◌, [], ◌∷◌, ◌++◌, All, length, map, None, slice_index_or, is_some, nat_lt, ◌↔◌, IsOk, IsTrue, IfOk, OnOk, OnErr};
 ghost use Rattle.std.specs.Option.{option_map};
 ghost use Rattle.bsi_columns.specs.AnyRows.{any_entries, any_size};
 ghost use Rattle.bsi_shift.specs.Shifted.{shifted_entries, shifted_size, shifted_room, number_of, IsAlike, IsInRange};
@@ -172,7 +172,7 @@ impl Shifted {
 
     /// Returns whether another column has the same offset and the same form.
     pub fn is_alike(&self, other: &Shifted) -> bool
-        ensures { result ≡ true → IsAlike self.now other.now }
+        ensures { IsTrue result ↔ IsAlike self.now other.now }
     {
         self.offset == other.offset && self.stored.has_form_of(&other.stored)
     }

@@ -107,6 +107,8 @@ pub(crate) fn push_all_each(columns: &mut [Shifted], others: &[Shifted])
 pub(crate) fn are_alike(columns: &[Shifted], others: &[Shifted]) -> bool
     ensures long { result ≡ true → length others.now ≡ length columns.now }
     ensures alike { result ≡ true → AreAlikeColumns columns.now others.now }
+    ensures all { length others.now ≡ length columns.now → AreAlikeColumns columns.now others.now →
+        result ≡ true }
 {
     if others.len() != columns.len() {
         return false;

@@ -170,6 +170,8 @@ impl Index {
     pub fn is_like(&self, other: &Index) -> bool
         ensures alike { result ≡ true → AreKeptAlike self.now.schema other.now.schema }
         ensures feeders { result ≡ true → other.now.feeders ≤ self.now.feeders }
+        ensures all { other.now.feeders ≤ self.now.feeders →
+            AreKeptAlike self.now.schema other.now.schema → result ≡ true }
     {
         other.feeders() <= self.feeders() && are_alike(&self.columns, &other.columns)
     }

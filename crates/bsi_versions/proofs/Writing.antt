@@ -53,14 +53,6 @@ known_after e pending more x is keeps = ap (λ (xs : List Operation). (fold afte
 
 -- ---- the stage
 
--- nothing went into the pending operations
-pub staged_none : (pending more : List Operation) (stage left : Rows) → more ≡ pending → left ≡ stage → HasStaged pending stage more left
-staged_none pending more stage left kept same = record {
-  held = ap (λ (xs : List Operation). rows_of xs ++ left) kept ∙ ap (λ (xs : Rows). rows_of pending ++ xs) same;
-  begins = subst (λ (xs : List Operation). IsPrefix (rows_of pending) (rows_of xs)) (sym kept) (prefix_self (rows_of pending));
-  known = λ e. ap (λ (xs : List Operation). (fold after e xs).known) kept;
-}
-
 -- all rows of the stage did
 pub staged_all : (pending more : List Operation) (stage left : Rows) (known : (e : Edition) → (fold after e more).known ≡ (fold after e pending).known)
     → rows_of more ≡ rows_of pending ++ stage → left ≡ [] → HasStaged pending stage more left
@@ -68,14 +60,6 @@ staged_all pending more stage left known rows none = record {
   held = ap (λ (xs : Rows). rows_of more ++ xs) none ∙ append-nil (rows_of more) ∙ rows;
   begins = (stage, sym rows);
   known = known;
-}
-
--- the rows behind those that may have gone there stay
-pub staged_behind : (pending more : List Operation) (stage left behind : Rows) → HasStaged pending stage more left → HasStaged pending (stage ++ behind) more (left ++ behind)
-staged_behind pending more stage left behind staged = record {
-  held = sym (append_assoc (rows_of more) left behind) ∙ ap (λ (xs : Rows). xs ++ behind) staged.held ∙ append_assoc (rows_of pending) stage behind;
-  begins = staged.begins;
-  known = staged.known;
 }
 
 -- a prefix of the front begins the whole

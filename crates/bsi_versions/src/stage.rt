@@ -77,9 +77,10 @@ impl Stage {
             ≡ with_staged_rows self.old (fed_as feeder (entries_of block.now.rows))) }
         ensures err { OnErr result (self.new ≡ self.old) }
     {
-        let mut own = self.batch.block_of(feeder, block)?;
+        let own = self.batch.block_of(feeder, block)?;
         gather(&mut self.batch, &mut self.block)?;
-        gather(&mut self.batch, &mut own)
+        self.block = own;
+        Ok(())
     }
 
     /// Appends the batch to the pending operations, if a further block might make it too large.
@@ -90,7 +91,8 @@ impl Stage {
             (pending copies.new) self.new.rows }
         ensures kind { IsFor copies.new.desk.shown.value.table self.new }
     {
-        if self.batch.len() <= MAX_BATCH_ROWS - MAX_BLOCK_ROWS as u64 {
+        let more = (self.block.len() + MAX_BLOCK_ROWS) as u64;
+        if self.batch.len() <= MAX_BATCH_ROWS - more {
             return Ok(());
         }
         append_batch(copies, &mut self.batch)
