@@ -1,9 +1,9 @@
 //! How a thread waits that has nothing to do: it yields at first, and then it sleeps for short times.
 //!
-//! A ring of 1,024 rows fills in some 100 microseconds, so a loader yields for about as long before it sleeps: one that
-//! sleeps after a few yields finds its rings full, and the feeders asleep. A feeder whose ring is full has longer to wait
-//! and sleeps sooner, since feeders that go on yielding take the processor from the loader some 100,000 times a second.
-//! A sleep is `AtomicU64::park_timeout`, which needs `Wait` alone, where `thread::sleep` needs a clock.
+//! A ring fills in about the time of one sleep, so a loader yields for as long before it sleeps: one that sleeps after a
+//! few yields finds its rings full, and the feeders asleep. A feeder whose ring is full has longer to wait and sleeps
+//! sooner, since feeders that go on yielding take the processor from the loader again and again. A sleep is
+//! `AtomicU64::park_timeout`, which needs `Wait` alone, where `thread::sleep` needs a clock.
 
 use std::sync::Wait;
 use std::sync::atomic::AtomicU64;

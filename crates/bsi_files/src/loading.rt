@@ -1,8 +1,9 @@
 //! The loader's part of a run: beside the feeders, and for what is left when they have ended.
 //!
 //! It takes blocks of a feeder until these have 256 rows before the next one's turn, so that no ring stays full because
-//! another is long, and publishes from 4,096 held rows on, so that few stand beside the two copies of the table. Such a
-//! publish may be refused memory: the rows stay held. Nobody asks before the last one.
+//! another is long, and publishes from 3,584 held rows on, so that few stand beside the two copies of the table, and
+//! those of one turn more are still one batch. Such a publish may be refused memory: the rows stay held. Nobody asks
+//! before the last one.
 
 ghost use Rattle.std.specs.Prelude.{◌≡◌, ◌≢◌, ◌<◌, ◌≤◌, ℕ, [], All, Err, IfErr, IfOk, IfSome, None, OnErr, OnOk, Ok, Some, false, length, true};
 ghost use Rattle.bsi_system.specs.Running.{published_all, taking_at, AlwaysHolds, IsClosingOf};
@@ -26,7 +27,7 @@ const ROWS_IN_TURN: usize = 256;
 const MAX_YIELDS: u32 = 256;
 
 /// The fewest held rows that are published.
-const MIN_HELD_TO_PUBLISH: u64 = 4_096;
+const MIN_HELD_TO_PUBLISH: u64 = 3_584;
 
 /// What a feeder that read a file leaves, except for its closing.
 #[derive(Drop)]

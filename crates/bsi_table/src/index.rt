@@ -167,7 +167,7 @@ impl Index {
 
     /// Returns whether another index keeps its columns as this one does, each in the same form and from the same number
     /// on, and has as many feeders or fewer. Then `append_index` takes its rows.
-    pub fn is_like(&self, other: &Index) -> bool
+    pub fn is_kept_like(&self, other: &Index) -> bool
         ensures alike { result ≡ true → AreKeptAlike self.now.schema other.now.schema }
         ensures feeders { result ≡ true → other.now.feeders ≤ self.now.feeders }
         ensures all { other.now.feeders ≤ self.now.feeders →
@@ -192,7 +192,7 @@ impl Index {
         })
     }
 
-    /// Makes room for `more` further rows, so that they are appended with no memory. Whatever the result, the rows stay.
+    /// Makes room for `more` further rows, so that each column grows once for them. Whatever the result, the rows stay.
     pub fn reserve(&mut self, more: u64) -> Result<(), NoMemory>
         requires { length self.old.rows + more ≤ self.old.limit }
         ensures { self.new ≡ self.old }

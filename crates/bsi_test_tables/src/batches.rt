@@ -26,7 +26,7 @@ fn batch_for(rt: &impl Abort, alloc: Global, index: &Index) -> Result<Index, NoM
 
 // A refused growth changes nothing, and the same call is made again.
 fn join(index: &mut Index, batch: &Index) -> Option<Result<u64, AppendError>> {
-    if !index.is_like(batch) {
+    if !index.is_kept_like(batch) {
         return None;
     }
     let before = index.len();
@@ -70,7 +70,7 @@ fn an_index_kept_otherwise_is_told_apart(rt: HostRuntime) -> Result<(), Fail> {
         let index = index_of(rt.alloc(), &[column], 2, 64).expect(&rt, "a column");
         let column = DeclaredColumn { form: other, ..QTY };
         let second = index_of(rt.alloc(), &[column], feeders, 64).expect(&rt, "another column");
-        assert_eq!(rt; index.is_like(&second), alike);
+        assert_eq!(rt; index.is_kept_like(&second), alike);
     }
     Ok(())
 }

@@ -38,7 +38,7 @@ rows_of (rows_operation block ∷ pending) = block.rows ++ rows_of pending
 rows_of (Batch batch ∷ pending) = batch.rows ++ rows_of pending
 rows_of (Mark known ∷ pending) = rows_of pending
 
--- a block of rows that this table takes
+-- rows of a block, or of the stage, that this table takes
 pub record IsFor (table : Table) (block : RowBlock) : Type 0 where
   pub schema : block.schema ≡ table.schema
   pub feeders : block.feeders ≡ table.feeders

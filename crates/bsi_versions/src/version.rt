@@ -84,7 +84,7 @@ impl Version {
             ≡ record self.old { table = with_rows self.old.table batch.now.rows }) }
         ensures err { OnErr result (self.new ≡ self.old) }
     {
-        if !self.index.is_like(batch) {
+        if !self.index.is_kept_like(batch) {
             return Err(NoMemory);
         }
         self.index.append_index(batch).map_err(|_| NoMemory)?;
