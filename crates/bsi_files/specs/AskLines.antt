@@ -1,11 +1,10 @@
 -- The line that answers a record of the asks text.
 use Rattle.std.specs.Prelude.{◌≡◌, ◌≢◌, ◌⊎◌, ℕ, List, None, Result, Ok, Err, length}
 use Rattle.std.specs.List.Sorted.{IsPermutation, IsSorted}
-use Rattle.std.specs.Ordering.{nat_cmp, ordering_then}
-use Rattle.std.specs.declared.cmp.Ordering.{Ordering}
 use Rattle.bsi_records.specs.Events.{IsQuery}
 use Rattle.bsi_records.specs.Lines.{ask_line, bad_line}
 use Rattle.bsi_records.specs.Numbers.{Field}
+use Rattle.bsi_origins.specs.ByFeeder.{by_place}
 use Rattle.bsi_origins.specs.Numbering.{numbered_at}
 use Rattle.bsi_table.specs.Answers.{missing_column, CountsConjunction, IsAnswer, IsReply}
 use Rattle.bsi_table.specs.Columns.{Declared}
@@ -16,10 +15,6 @@ use Rattle.bsi_table.specs.declared.query.Answer.{Answer}
 use Rattle.bsi_table.specs.declared.query.Answer.TheVariants.{Rows as rows_answer}
 use Rattle.bsi_table.specs.declared.query.Query.{Query}
 use Rattle.bsi_table.specs.declared.query.Total.TheVariants as total
-
--- rows by feeder, and those of one feeder by number
-abbrev pub by_place : ℕ × ℕ → ℕ × ℕ → Ordering
-by_place x y = ordering_then (nat_cmp x.0 y.0) (nat_cmp x.1 y.1)
 
 -- the answer to a query as its line shows it: rows stand by feeder and number
 abbrev pub IsShownAnswer : Query → List FedRow → Answer → Type 0

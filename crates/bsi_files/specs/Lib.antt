@@ -1,6 +1,5 @@
 pub mod AskLines
 pub mod Begun
-pub mod ByFeeder
 pub mod Ends
 pub mod FaultTexts
 pub mod Faults

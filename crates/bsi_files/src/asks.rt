@@ -18,12 +18,12 @@ ghost use Rattle.bsi_files.specs.Matching.{AreMatched};
 ghost use Rattle.bsi_files.specs.Runs.{fed_lines, AreLines};
 ghost use Rattle.bsi_files.specs.Writing.{AreOut, WritesAll, WritesPart};
 
-use crate::arranging::arrange;
 use crate::headers::file_number;
 use crate::loading::Fed;
 use crate::writing::write_bytes;
 use crate::{FilesFault, NoMemory, Which};
 use bsi_load::Reply;
+use bsi_origins::arrange;
 use bsi_system::{Analyst, AnalystRefused, Naming, Told};
 use bsi_table::{Answer, AskError, Query, Schema};
 use bsi_text::{RecordSource, read_query, write_bad, write_fed, write_reply};

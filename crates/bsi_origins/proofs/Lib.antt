@@ -1,2 +1,4 @@
-pub mod Tallying
+mod ByFeeder
 pub mod Numbers
+pub mod Rising
+pub mod Tallying

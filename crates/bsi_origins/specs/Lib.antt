@@ -1,2 +1,3 @@
+pub mod ByFeeder
 pub mod Numbering
 pub mod Origins
