@@ -3,7 +3,7 @@
 //! The entries of column `c` stand in 64 places from place `64 * c` on, so a row is written without moving another, and
 //! each column is lent as one slice.
 
-ghost use Rattle.std.specs.Prelude.{◌≡◌, ◌≢◌, ◌↔◌, ℕ, ◌+◌, ◌*◌, ◌<◌, ◌≤◌, ◌^◌, ◌+ℤ◌, ◌≤ℤ◌, All, List, None, Some, IfOk, IsTrue, length, pos, slice_get, slice_index_or, true, false};
+ghost use Rattle.std.specs.Prelude.{◌≡◌, ◌≢◌, ◌↔◌, [], ℕ, ◌+◌, ◌*◌, ◌<◌, ◌≤◌, ◌^◌, ◌+ℤ◌, ◌≤ℤ◌, All, List, None, Some, IfOk, IsTrue, length, pos, slice_get, slice_index_or, true, false};
 ghost use Rattle.bsi_schema.specs.Columns.{entry_at, fits, is_between};
 ghost use Rattle.bsi_schema.specs.declared.limits.Limits.{Limits};
 ghost use Rattle.bsi_table.specs.RowBlocks.{emptied_block, entries_of, fed_block, no_block_rows, placed_row, with_block_row, AreAlike};
@@ -70,6 +70,13 @@ impl Block {
         ensures from { AreFrom self.now.feeders self.now.rows }
     {
         self.sources.len()
+    }
+
+    /// Returns whether there is no row.
+    pub fn is_empty(&self) -> bool
+        ensures { IsTrue result ↔ (self.now.rows ≡ []) }
+    {
+        self.len() == 0
     }
 
     /// Returns how many feeders there are.
