@@ -48,9 +48,10 @@ uninstall:
 	rm -f "$(LIB)/libbsi.a" "$(LIB)/libbsi.so.0" "$(LIB)/libbsi.so"
 
 # For machines without the kit: unpacked anywhere, or copied over a prefix. In its pages, what lies in the repository alone has no link.
-dist: build lib
+dist: build lib wheel
 	rm -rf out/dist
 	$(MAKE) -s -o build -o lib install DESTDIR=out/dist/ PREFIX=$(NAME)
+	for wheel in out/wheel/*.whl; do [ ! -e "$$wheel" ] || install -D -m 644 -t out/dist/$(NAME)/wheel "$$wheel"; done
 	cp -r README.md CHANGELOG.md LICENSE-APACHE LICENSE-MIT docs examples out/dist/$(NAME)
 	sed -Ezi 's@\[([^]]*)\]\((\.\./)?(CONTRIBUTING|bench|cases|crates|python|tests|tools)[^)]*\)@\1@g' \
 	    out/dist/$(NAME)/*.md out/dist/$(NAME)/docs/*.md out/dist/$(NAME)/examples/*.md

@@ -5,7 +5,8 @@
 - The version in VERSION is that of the manual page, whose date is that of the newest heading of CHANGELOG.md, of that
   heading, and of README.md.
 - The lines of a block ```rust stand so, one below the other, in a file of crates/bsi_uses/src.
-- examples/README.md names each file and folder of examples/, and docs/ARCHITECTURE.md lists the crates of crates.txt, in its order.
+- examples/README.md names each file and folder of examples/. docs/ARCHITECTURE.md lists the crates of crates.txt, in its order, each by
+  the idea with which its root file begins. Each wrong body that docs/PROMISES.md names is there.
 - A line `$ COMMAND` of a block ```console, run in examples/ with the program of the tarball of `make dist` on the path and no kit, prints
   the lines below it.
 """
@@ -26,7 +27,7 @@ HEADING = re.compile(r"^#+ (.*)$", re.MULTILINE)
 VERSION = re.compile(r"\d+\.\d+\.\d+")
 # How many bytes a page may have, and how many those may have that are named.
 MAX_SIZE = 12_288
-MAX_SIZES = {"docs/PROMISES.md": 25_600, "docs/ARCHITECTURE.md": 17_000, "README.md": 13_000, "docs/TOOLS.md": 7_000}
+MAX_SIZES = {"docs/PROMISES.md": 25_000, "docs/ARCHITECTURE.md": 17_000, "README.md": 13_000, "docs/TOOLS.md": 6_144}
 # What the program of the tarball finds on a machine without the kit.
 PATH = "/usr/local/bin:/usr/bin:/bin"
 
@@ -48,9 +49,6 @@ def blocks(top, language):
         for found, text in BLOCK.findall(text_of(os.path.join(top, document))):
             if found == language:
                 yield document, text
-
-
-# ---- Sizes and links ----
 
 
 def fault_in_sizes(top):
@@ -90,9 +88,6 @@ def fault_in_links(top):
     return None
 
 
-# ---- The version ----
-
-
 def fault_in_version(top):
     """Returns which file tells another version or date, or None."""
     version = text_of(os.path.join(top, "VERSION")).strip()
@@ -108,9 +103,6 @@ def fault_in_version(top):
     if f"bsi {version}" not in text_of(os.path.join(top, "README.md")):
         return f"README.md does not say bsi {version}"
     return None
-
-
-# ---- Lines of Rattle ----
 
 
 def stand_in(lines, source):
@@ -134,9 +126,6 @@ def fault_in_rattle(top):
     return None
 
 
-# ---- The examples ----
-
-
 def fault_in_names(top):
     """Returns which example is not named in their README, or None."""
     folder = os.path.join(top, "examples")
@@ -148,10 +137,26 @@ def fault_in_names(top):
 
 
 def fault_in_crates(top):
-    """Returns what differs between crates.txt and the list of crates in docs/ARCHITECTURE.md, or None."""
+    """Returns what differs between crates.txt, or the head of a crate's root file, and the list of crates in docs/ARCHITECTURE.md, or None."""
     listed = re.findall(r"^(\w+)[^:#\n]*:", text_of(os.path.join(top, "crates.txt")), re.MULTILINE)
-    rows = re.findall(r"^\| `(\w+)` \|", text_of(os.path.join(top, "docs", "ARCHITECTURE.md")), re.MULTILINE)
-    return None if rows == listed else f"crates.txt and docs/ARCHITECTURE.md list other crates: {set(rows) ^ set(listed)}"
+    rows = re.findall(r"^\| `(\w+)` \| ([^|;(]*)", text_of(os.path.join(top, "docs", "ARCHITECTURE.md")), re.MULTILINE)
+    if [crate for crate, _ in rows] != listed:
+        return f"crates.txt and docs/ARCHITECTURE.md list other crates: {dict(rows).keys() ^ set(listed)}"
+    for crate, idea in rows:
+        (root,) = [path for name in ("lib", "main") for path in glob.glob(os.path.join(top, "crates", crate, "src", f"{name}.rt"))]
+        head = " ".join(re.findall(r"^//! ?(.*)$", text_of(root), re.MULTILINE)).removeprefix("Tests of ")
+        if not head.lower().startswith(idea.strip().lower()):
+            return f"{crate}: docs/ARCHITECTURE.md has {idea.strip()!r}, and the crate begins with {head[:80]!r}"
+    return None
+
+
+def fault_in_wrong_bodies(top):
+    """Returns which wrong body docs/PROMISES.md names that is not there, or None."""
+    there = {os.path.basename(path)[:-5] for path in glob.glob(os.path.join(top, "crates", "*", "must-fail", "*.edit"))}
+    page = text_of(os.path.join(top, "docs", "PROMISES.md"))
+    named = re.findall(r"(?m)^\|[^|]*\|[^|]*\| (`[^|]*) \|$|wrong bod(?:y|ies): (`[^)]*)\)", page)
+    names = re.findall(r"`(\w+)`", " ".join(map("".join, named)))
+    return next((f"docs/PROMISES.md names the wrong body {name}, which is not there" for name in names if name not in there), None)
 
 
 def runs_of(text):
@@ -186,7 +191,7 @@ def fault_in_runs(top, program="bin/bsi"):
 def fault_in_tarball(top):
     """Returns what is wrong with the tarball of `make dist`, or which command of a document prints something else by its program, or None."""
     with tempfile.TemporaryDirectory(prefix="bsi-dist-") as room:
-        line = f"make -s -o build -o lib dist && cd out/dist && sha256sum --check --quiet SHA256SUMS && tar -xzf *.tar.gz -C {room}"
+        line = f"make -s -o build -o lib -o wheel dist && cd out/dist && sha256sum --check --quiet SHA256SUMS && tar -xzf *.tar.gz -C {room}"
         ran = workspace.run(["sh", "-c", line], folder=top)
         if ran.status:
             return f"make dist: {workspace.ending(ran.status)}: {ran.err.decode(errors='replace').strip()}"
@@ -200,6 +205,7 @@ CHECKS = (
     ("lines of Rattle", fault_in_rattle),
     ("names of examples", fault_in_names),
     ("the list of crates", fault_in_crates),
+    ("wrong bodies", fault_in_wrong_bodies),
     ("runs of examples by the tarball's program", fault_in_tarball),
 )
 

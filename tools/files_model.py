@@ -31,9 +31,6 @@ class Fault(Exception):
         self.line = b"bsi: " + text + b"\n"
 
 
-# ---- The files ----
-
-
 def read_schema(data):
     """Returns the machine that the schema file declares, with no feeder yet."""
     machine, found = Machine(), records(data)
@@ -64,9 +61,6 @@ def read_row(machine, places, record):
         return None
     row = [value for _, value in sorted(zip(places, values), key=lambda pair: pair[0])]
     return row if machine.fits(row) else None
-
-
-# ---- A run ----
 
 
 def fed(machine, files):
@@ -109,8 +103,6 @@ def run(schema, asks, files):
         return Written(text_of(lines), fault.line, 1)
     return Written(text_of(lines), b"", 0)
 
-
-# ---- Runs of the program ----
 
 # What standard error may say where memory was refused.
 WANTS_MEMORY = re.compile(rb"bsi: (file \d+: )?no memory\n|bsi: no reader\n")

@@ -40,9 +40,6 @@ Step = namedtuple("Step", "line may_lack_memory change")
 Column = namedtuple("Column", "name least size")
 
 
-# ---- Bytes to records ----
-
-
 # A field: what stands in quotes, what stands behind or without them, and what ends it.
 FIELD = re.compile(rb'(?:"([^"]*(?:""[^"]*)*)(?:"|\Z))?([^,\r\n]*)(,|[\r\n]|\Z)')
 
@@ -63,9 +60,6 @@ def records(data):
             found.append(fields)
             fields = []
     return found
-
-
-# ---- Fields to values ----
 
 
 def read_number(field):
@@ -113,8 +107,6 @@ def read_values(fields, read):
     spelled = all(field == b"" or value is not None for field, value in zip(fields, values))
     return values if spelled else None
 
-
-# ---- The machine ----
 
 SIGNS = {b"=": operator.eq, b"!=": operator.ne, b"<": operator.lt, b"<=": operator.le, b">": operator.gt, b">=": operator.ge}
 JOINS = {b"and": all, b"or": any}
@@ -355,9 +347,6 @@ RUNNING = {
     b"greatest": run_total(value_line(lambda count: count - 1)),
     b"median": run_total(value_line(lambda count: (count - 1) // 2)),
 }
-
-
-# ---- Whole scripts ----
 
 
 def text_of(lines):

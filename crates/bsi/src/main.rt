@@ -1,4 +1,4 @@
-//! The program: it hands its words and the standard streams to the shell, and ends with the status that the shell
+//! `main` alone: it hands its words and the standard streams to the shell, and ends with the status that the shell
 //! returns.
 #![tactic(auto)]
 

@@ -1,4 +1,4 @@
-//! Packed vectors of bits: appending, Boolean operations in place, population counts, and the kernels for them.
+//! A packed list of bits: appending, Boolean operations in place, population counts, and the kernels for them.
 #![tactic(auto)]
 
 mod bitmaps;

@@ -1,4 +1,4 @@
-//! The index for callers in C: the exports alone. Each call takes a handle, and returns 0 or the number of a refusal.
+//! The exports of the C library alone: each call takes a handle, and returns 0 or the number of a refusal.
 #![tactic(auto)]
 
 ghost use Rattle.std.specs.Prelude.{◌≡◌, ◌≢◌, None, map};

@@ -1,5 +1,5 @@
-//! Columns of optional numbers, stored as bit vectors: components under a list of bases, or bit slices. Every
-//! comparison and total works over them.
+//! A list of optional numbers in each form: components under a list of bases, or bit slices. Every comparison and total
+//! works over them.
 #![tactic(auto)]
 
 mod any;

@@ -1,4 +1,4 @@
-//! Components: each stores one digit of the numbers of a column, row by row, as bitmaps, equality or range encoded.
+//! A list of digits, kept as bitmaps, equality or range encoded: one digit of each number of a column.
 #![tactic(auto)]
 
 mod answers;

@@ -1,4 +1,4 @@
-//! Digits of a number under a list of bases.
+//! A number as digits under a list of bases.
 #![tactic(auto)]
 
 mod bases;

@@ -1,5 +1,5 @@
-//! The face of the library: one crate to list, with all that a caller names. The modules are the layers below an index
-//! and above it. CALLING.md shows a proved caller, and what each clause gives.
+//! The face: what a caller names, from one crate. The modules are the layers below an index and above it. CALLING.md
+//! shows a proved caller, and what each clause gives.
 #![tactic(auto)]
 
 pub use bsi_bits as bits;

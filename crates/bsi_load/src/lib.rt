@@ -1,4 +1,4 @@
-//! The step machine: rows of feeders wait in bounded queues until they are loaded into a table, and nothing is lost.
+//! The step machine that loses nothing: rows of feeders wait in bounded queues until they are loaded into an index.
 #![tactic(auto)]
 
 mod event;

@@ -1,4 +1,4 @@
-//! The feeder of each row of a table, and the rows of a found set by their feeders and numbers.
+//! The feeder of each row, and a row's number among its feeder's: the rows of a found set by both, and in their order.
 #![tactic(auto)]
 
 mod arranging;

@@ -1,4 +1,4 @@
-//! Records and lines: from fields to events, rows and setups, and from replies to lines.
+//! From fields to events, rows and setups, and from replies to lines.
 #![tactic(auto)]
 
 mod columns;

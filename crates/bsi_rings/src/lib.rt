@@ -1,4 +1,4 @@
-//! Rings of rows, one for each feeder: the feeder's end, the loader's end, and the closing that joins them.
+//! A bounded ring, by its two ends: the feeder's, the loader's, and the closing that joins them.
 #![tactic(auto)]
 
 mod channel;

@@ -1,4 +1,4 @@
-//! The program's shell: the command line, and the names of the running system.
+//! The command line, and the names of the running system that its callers need.
 #![tactic(auto)]
 
 mod files;

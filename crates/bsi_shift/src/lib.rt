@@ -1,4 +1,4 @@
-//! Columns of optional whole numbers, negative ones too: a column of `bsi_columns` and an offset.
+//! A list of optional whole numbers, from an offset on: a column of `bsi_columns`, and the offset.
 #![tactic(auto)]
 
 mod shifted;

@@ -1,4 +1,5 @@
-//! A column of optional numbers: what it is to a table, and its form as bit slices, with every comparison and total.
+//! A list of optional numbers, kept as a bit vector for each binary place, with every comparison and total; and what a
+//! column is to an index.
 #![tactic(auto)]
 
 mod column;

@@ -1,4 +1,4 @@
-//! A running system: feeders and analysts on threads of their own, and one loader that loses nothing.
+//! Feeders and analysts on threads, and one loader that loses nothing.
 #![tactic(auto)]
 
 mod channels;

@@ -1,4 +1,4 @@
-//! A table of rows from feeders: its schema, its rows, and the queries that it answers.
+//! Rows from feeders, asked by predicate and total: the schema, the rows, and the queries that an index answers.
 #![tactic(auto)]
 
 mod block;

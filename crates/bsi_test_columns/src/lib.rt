@@ -1,4 +1,5 @@
-//! Tests of columns of every form: what they answer on worked rows, what they store, and how they grow. No crate uses it.
+//! Tests of columns of every form, on worked rows: what they answer, what they store, and how they grow. No crate uses
+//! it.
 #![tactic(auto)]
 
 #[cfg(test)]

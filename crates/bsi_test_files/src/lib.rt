@@ -1,4 +1,4 @@
-//! Tests of feeders that read row files, of whole runs over row files, and of command lines. No crate uses it.
+//! Tests of feeders that read row files, runs over them, their faults in order, and command lines. No crate uses it.
 #![tactic(auto)]
 
 #[cfg(test)]

@@ -1,4 +1,4 @@
-//! Tests of a running system, on worked rows and with real threads.
+//! Tests of the running system, on worked rows and on threads.
 #![tactic(auto)]
 
 #[cfg(test)]

@@ -1,4 +1,4 @@
-//! Tests of tables and of the step machine, on worked rows and runs. No crate uses it.
+//! Tests of indexes, blocks, batches and the step machine, on worked rows and runs. No crate uses it.
 #![tactic(auto)]
 
 #[cfg(test)]

@@ -1,4 +1,4 @@
-//! Tests of calls on texts, of row files, and of readers and writers that fail. No crate uses it.
+//! Tests of calls on texts, row files and their faults, and scripts that come in parts. No crate uses it.
 #![tactic(auto)]
 
 #[cfg(test)]

@@ -1,4 +1,4 @@
-//! Scripts and row files: from bytes to events and rows, and from replies to lines.
+//! From bytes to lines and to rows: scripts and row files.
 #![tactic(auto)]
 
 pub mod laws;
