@@ -5,6 +5,10 @@ use Rattle.std.specs.List.{range_with_len}
 use Rattle.bsi_bits.specs.BitList.{BitList}
 use Rattle.bsi_bits.specs.BitLists.{bits_at}
 
+-- the greatest base
+abbrev pub max_base : ℕ
+max_base = 1024
+
 -- the bits of row k, a bitmap each
 abbrev pub row : List BitList → ℕ → List Bool
 row bitmaps k = map (λ b. slice_index_or b.bits k false) bitmaps

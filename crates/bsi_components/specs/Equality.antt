@@ -2,7 +2,7 @@
 use Rattle.std.specs.Prelude.{◌≡◌, ℕ, ◌+◌, ◌-◌, ◌<◌, ◌≤◌, ◌==◌, ◌&&◌, Bool, nat_le, nat_lt, List, length, slice_index, if◌then◌else◌}
 use Rattle.bsi_bits.specs.BitList.{BitList}
 use Rattle.bsi_words.specs.Places.{IsCount, IsEncoded, then_places}
-use Rattle.bsi_components.specs.Bitmaps.{digits_by, first_set, kept_places}
+use Rattle.bsi_components.specs.Bitmaps.{digits_by, first_set, kept_places, max_base}
 
 -- the first digit that has a bitmap: base 2 stores that of digit 1 alone
 abbrev pub first_digit : ℕ → ℕ
@@ -17,7 +17,7 @@ pub record IsEquality (base : ℕ) (bitmaps : List BitList) (digits : List ℕ) 
   pub count : IsCount base (base - first_digit base) (length bitmaps)
   pub many : length bitmaps ≡ base - first_digit base + kept_places base
   pub least : 2 ≤ base
-  pub most : base ≤ 1024
+  pub most : base ≤ max_base
   pub below : (k : ℕ) → slice_index digits k < base
   pub encoded : IsEncoded (then_places (base - first_digit base) (λ j v. v == first_digit base + j)) bitmaps digits
 

@@ -2,7 +2,7 @@
 use Rattle.std.specs.Prelude.{◌≡◌, ℕ, ◌+◌, ◌-◌, ◌<◌, ◌≤◌, List, length, min, slice_index, nat_le}
 use Rattle.bsi_bits.specs.BitList.{BitList}
 use Rattle.bsi_words.specs.Places.{IsCount, IsEncoded, then_places}
-use Rattle.bsi_components.specs.Bitmaps.{digits_by, first_set, kept_places}
+use Rattle.bsi_components.specs.Bitmaps.{digits_by, first_set, kept_places, max_base}
 
 -- the digits: the first bitmap before the binary places that has the row, and the greatest digit where none has
 abbrev pub range_digits : ℕ → List BitList → List ℕ
@@ -14,6 +14,6 @@ pub record IsRange (base : ℕ) (bitmaps : List BitList) (digits : List ℕ) : T
   pub count : IsCount base (base - 1) (length bitmaps)
   pub many : length bitmaps ≡ base - 1 + kept_places base
   pub least : 2 ≤ base
-  pub most : base ≤ 1024
+  pub most : base ≤ max_base
   pub below : (k : ℕ) → slice_index digits k < base
   pub encoded : IsEncoded (then_places (base - 1) (λ j v. nat_le v j)) bitmaps digits

@@ -5,6 +5,7 @@ ghost use Rattle.std.specs.List.{items_where_true};
 ghost use Rattle.std.specs.Bool.{OnTrue, OnFalse};
 ghost use Rattle.bsi_bits.specs.BitList.{word_count};
 ghost use Rattle.bsi_bits.specs.Packed.{bit_of};
+ghost use Rattle.bsi_components.specs.Bitmaps.{max_base};
 ghost use Rattle.bsi_components.specs.Component.{at_most_from, count_where};
 ghost use Rattle.bsi_words.specs.Ranks.{IsRankedRows};
 ghost use Rattle.bsi_bits.specs.Marked.{HasMarked};
@@ -32,13 +33,13 @@ pub trait Encoding: Drop {
 
     /// Makes an empty component of a base from 2 to 1,024.
     fn make(alloc: Global, base: u32) -> Result<Self, NoMemory>
-        requires { (2 ≤ base) × (base ≤ 1024) }
+        requires { (2 ≤ base) × (base ≤ max_base) }
         ensures { IfOk result (λ c. (digits c ≡ []) × (base_of c ≡ base)) };
 
     /// Returns the base, from 2 to 1,024.
     fn base(&self) -> u32
         ensures base { result ≡ base_of self.now }
-        ensures within { (2 ≤ result) × (result ≤ 1024) }
+        ensures within { (2 ≤ result) × (result ≤ max_base) }
         ensures below { (k : ℕ) → slice_index (digits self.now) k < base_of self.now };
 
     /// Returns the number of rows, at most 2^32.
@@ -81,8 +82,8 @@ pub trait Encoding: Drop {
         ensures base { base_of self.new ≡ base_of self.old }
         ensures room { room_of self.old ≤ room_of self.new + length block.now }
     {
-        'digits: for k in 0..block.len() {
-            self.push_reserved(block[k]);
+        'digits: for digit in block {
+            self.push_reserved(*digit);
         }
     }
 

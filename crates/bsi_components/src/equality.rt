@@ -10,6 +10,7 @@ ghost use Rattle.bsi_bits.specs.BitLists.{bits_at};
 ghost use Rattle.bsi_bits.specs.Packed.{bit_of};
 ghost use Rattle.bsi_bits.specs.Marked.{HasMarked};
 ghost use Rattle.bsi_words.specs.Places.{has_place, then_places, IsCount, IsEncoded};
+ghost use Rattle.bsi_components.specs.Bitmaps.{max_base};
 ghost use Rattle.bsi_components.specs.Equality.{first_digit, is_among};
 
 use crate::encoding::Encoding;
@@ -75,7 +76,7 @@ fn push_marked(bitmaps: &mut Bitmaps, first: u32, base: u32, block: &[u32], word
 /// Appends a block of digits below a base to the bitmaps, of which the first is that of digit `first`.
 fn push_block(bitmaps: &mut Bitmaps, first: u32, base: u32, block: &[u32])
     requires within { first ≤ base }
-    requires small { base ≤ 1024 }
+    requires small { base ≤ max_base }
     requires places { IsCount base (base - first) (length bitmaps.old.vectors) }
     requires few { length block.now ≤ 64 }
     requires room { length block.now ≤ bitmaps.old.room }
@@ -112,6 +113,7 @@ impl EqualityComponent {
         ensures few { length result.now ≤ 10 }
         ensures below { 0 < length result.now → (k : ℕ) →
             slice_index self.now.digits k < 2 ^ length result.now }
+        ensures digits { (k : ℕ) → slice_index self.now.digits k < self.now.base }
     {
         &self.bitmaps.as_slice()[(self.base - first_stored(self.base)) as usize..]
     }

@@ -3,7 +3,7 @@
 ghost use Rattle.std.specs.Prelude.{◌≡◌, ℕ, ◌+◌, ◌-◌, ◌<◌, ◌≤◌, ◌^◌, ◌&&◌, Bool, List, false, [], ◌∷◌, ◌++◌, length, nat_le, nat_lt};
 ghost use Rattle.bsi_bits.specs.BitLists.{bits_at};
 ghost use Rattle.bsi_words.specs.Places.{has_place, then_places};
-ghost use Rattle.bsi_components.specs.Bitmaps.{kept_places};
+ghost use Rattle.bsi_components.specs.Bitmaps.{kept_places, max_base};
 
 use bsi_bits::Bitmaps;
 
@@ -12,7 +12,7 @@ const MIN_BASE_WITH_PLACES: u32 = 4;
 
 /// Returns how many binary places of its digits a component of a base keeps: as many as they take, or none.
 pub(crate) fn place_count(base: u32) -> usize
-    requires { (2 ≤ base) × (base ≤ 1024) }
+    requires { (2 ≤ base) × (base ≤ max_base) }
     ensures kept { result ≡ kept_places base }
     ensures few { result ≤ 10 }
     ensures enough { 0 < result → base ≤ 2 ^ result }

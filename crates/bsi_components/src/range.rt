@@ -10,6 +10,7 @@ ghost use Rattle.bsi_bits.specs.BitLists.{bits_at};
 ghost use Rattle.bsi_bits.specs.Packed.{bit_of};
 ghost use Rattle.bsi_bits.specs.Marked.{HasMarked};
 ghost use Rattle.bsi_words.specs.Places.{has_place, then_places, IsCount, IsEncoded};
+ghost use Rattle.bsi_components.specs.Bitmaps.{max_base};
 
 use bsi_bits::{Bitmaps, Bits};
 use bsi_words::blocks::{exceeds, meets};
@@ -64,7 +65,7 @@ fn push_marked(bitmaps: &mut Bitmaps, base: u32, block: &[u32], words: &mut [u64
 /// Appends a block of digits below a base to the bitmaps.
 fn push_block(bitmaps: &mut Bitmaps, base: u32, block: &[u32])
     requires least { 2 ≤ base }
-    requires small { base ≤ 1024 }
+    requires small { base ≤ max_base }
     requires places { IsCount base (base - 1) (length bitmaps.old.vectors) }
     requires few { length block.now ≤ 64 }
     requires room { length block.now ≤ bitmaps.old.room }

@@ -5,6 +5,7 @@ ghost use Rattle.std.specs.Bool.{OnTrue, OnFalse};
 ghost use Rattle.bsi_bits.specs.BitList.{word_count};
 ghost use Rattle.bsi_bits.specs.Packed.{bit_of};
 ghost use Rattle.bsi_words.specs.Places.{then_places};
+ghost use Rattle.bsi_components.specs.Bitmaps.{max_base};
 ghost use Rattle.bsi_components.specs.Component.{at_most_from};
 ghost use Rattle.bsi_bits.specs.Marked.{HasMarked};
 ghost use Rattle.bsi_components.specs.EndDigits.{AnswersGreatest, AnswersLeast};
@@ -36,7 +37,7 @@ impl Encoding for EqualityComponent {
 
     fn base(&self) -> u32
         ensures base { result ≡ self.now.base }
-        ensures within { (2 ≤ result) × (result ≤ 1024) }
+        ensures within { (2 ≤ result) × (result ≤ max_base) }
         ensures below { (k : ℕ) → slice_index self.now.digits k < result }
     {
         self.base
@@ -115,8 +116,6 @@ impl Encoding for EqualityComponent {
 
     // It goes down the binary places of the digits, which are fewer than their bitmaps.
     fn rows_of_rank(&self, rank: u64, found: Bits) -> Result<RankedRows, NoMemory> {
-        // The proof takes from this call that each digit is below the base.
-        let _base = self.base();
         let places = self.places();
         if places.is_empty() {
             return Ok(self.rows_by_counts(rank, found));
@@ -219,9 +218,7 @@ impl Encoding for EqualityComponent {
         ensures answer { AnswersLeast limit (bit_of block.now)
             (λ p. slice_index self.now.digits (64 * at + p)) (64 * length block.now) result }
     {
-        // The proof takes from this call that the base is at most 1,024, so `limit + 1` is a number of 32 bits.
-        let _base = self.base();
-        'digits: for digit in 0..limit + 1 {
+        'digits: for digit in 0..=limit {
             if self.has_digit(digit, at, block) {
                 return EndDigit::Digit(digit);
             }

@@ -137,7 +137,7 @@ impl RangeComponent {
     {
         let stride = found.words().len() / SAMPLE_BLOCKS;
         let mut count = 0u64;
-        'blocks: for k in 0..SAMPLE_BLOCKS {
+        for k in 0..SAMPLE_BLOCKS {
             let start = stride * k;
             let rows = found.count_and_in(self.bitmap(d), start, start + SAMPLE_BLOCK_WORDS);
             count = count.saturating_add(rows);

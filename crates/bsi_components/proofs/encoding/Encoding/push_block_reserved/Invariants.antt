@@ -4,7 +4,7 @@ use Rattle.bsi_components.proofs.encoding.Encoding.push_block_reserved.Given as 
 
 abbrev pub invariant-digits : goal.invariant-digits
 invariant-digits g l = record {
-  digits : g.Self.Encoding.digits l.self ≡ g.Self.Encoding.digits l.fn.self ++ take l.k l.block;
+  digits : g.Self.Encoding.digits l.self ≡ g.Self.Encoding.digits l.fn.self ++ take l.digit-index l.block;
   base : g.Self.Encoding.base_of l.self ≡ g.Self.Encoding.base_of l.fn.self;
-  room : g.Self.Encoding.room_of l.fn.self ≤ g.Self.Encoding.room_of l.self + l.k;
+  room : g.Self.Encoding.room_of l.fn.self ≤ g.Self.Encoding.room_of l.self + l.digit-index;
 }

@@ -12,5 +12,5 @@ returns-clause-digit c =
     let some : 0 < length c.places-places.result.now = grind (arith, nat_tests, c.is_empty.ensures, c.if-is_empty.false) in
     let ranked = c.rows_of_rank.ensures.ranked digits c.places-places.ensures.places (c.places-places.ensures.below some) c.requires.same in
     let rows = ap (count_by (λ b. b)) ranked.rows_are in
-    digit_below c.rows_of_rank.result.number c.args.self.now.base found digits (λ k. let below = c.base-base.ensures.below k in omega (arith, below, c.base-base.ensures.base))
+    digit_below c.rows_of_rank.result.number c.args.self.now.base found digits c.places-places.ensures.digits
     (omega (arith, ranked.there, rows))
