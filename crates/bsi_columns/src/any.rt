@@ -6,7 +6,9 @@ ghost use Rattle.bsi_slices.specs.Blocks.{KeepsRows};
 ghost use Rattle.bsi_columns.specs.AnyRows.{any_entries, any_form, any_room, size_in_form, AnyForm};
 ghost use Rattle.bsi_columns.specs.Rows.{selects};
 
-use crate::{Column, Decomposed, EqualityComponent, NoMemory, Op, RangeComponent, Slices};
+use crate::{
+    Column, Decomposed, EqualityComponent, MAX_BLOCK_WORDS, NoMemory, Op, RangeComponent, Slices,
+};
 use bsi_bits::Bits;
 use bsi_words::blocks::drop_in;
 
@@ -32,7 +34,7 @@ impl AnyColumn {
         at: usize,
         block: &mut [u64],
     ) -> Result<(), NoMemory>
-        requires few { length block.old ≤ 1024 }
+        requires few { length block.old ≤ MAX_BLOCK_WORDS }
         requires within { at + length block.old ≤ word_count (length (any_entries self.now)) }
         ensures kept { OnErr result (block.new ≡ block.old) }
         ensures rows { OnOk result

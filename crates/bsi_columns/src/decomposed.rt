@@ -8,7 +8,7 @@ use crate::growth::{push_all_digits, push_blocks, push_digits, reserve_each};
 use crate::{Column, Encoding, NoMemory, Op, Rank};
 use bsi_bits::{Bits, room_to_make};
 use bsi_digits::Bases;
-use bsi_slices::stage::{mark_present, place_numbers};
+use bsi_slices::transposing::{mark_present, place_numbers};
 use bsi_slices::{End, NotNull};
 use std::alloc::Global;
 use std::marker::Model;
@@ -18,6 +18,8 @@ mod ends;
 mod narrowing;
 mod totals;
 mod vectors;
+
+pub use compare::MAX_BLOCK_WORDS;
 
 /// A column of numbers below the product of its bases, which keeps a component for each base.
 #[derive(Drop)]

@@ -9,5 +9,5 @@ mod growth;
 pub use any::AnyColumn;
 pub use bsi_components::{Encoding, EndDigit, EqualityComponent, RangeComponent, RankedRows};
 pub use bsi_slices::{Column, Op, Rank, Slices};
-pub use decomposed::Decomposed;
+pub use decomposed::{Decomposed, MAX_BLOCK_WORDS};
 pub use std::alloc::AllocError as NoMemory;

@@ -3,13 +3,13 @@ pub mod CallerLemmas
 pub mod EndBlocks
 pub mod EndRows
 pub mod Exchanging
+pub mod Gathering
 pub mod Ranking
 pub mod SliceBlocks
 pub mod SliceEntries
 pub mod SliceGrowth
 pub mod SliceNumbers
 pub mod SliceSelections
-pub mod StageBits
 pub mod Turning
 pub mod WholeRanks
 pub mod WordBlocks

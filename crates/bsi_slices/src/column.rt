@@ -100,8 +100,8 @@ pub trait Column: Drop {
         ensures form { form_of self.new ≡ form_of self.old }
         ensures room { room_of self.old ≤ room_of self.new + length block.now }
     {
-        'entries: for k in 0..block.len() {
-            self.push_reserved(block[k]);
+        'entries: for entry in block {
+            self.push_reserved(*entry);
         }
     }
 

@@ -7,7 +7,7 @@ mod decision;
 mod not_null;
 mod slices;
 #[doc(hidden)]
-pub mod stage;
+pub mod transposing;
 
 pub use column::{Column, Op, Rank};
 pub use decision::{Decision, Relation, Test, decide};

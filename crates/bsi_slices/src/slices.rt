@@ -11,7 +11,7 @@ ghost use Rattle.bsi_slices.specs.Totals.{numbers_at, IsLeastOf, IsGreatestOf};
 use crate::NoMemory;
 use crate::column::{Column, Op};
 use crate::not_null::NotNull;
-use crate::stage::{mark_present, place_numbers, transpose};
+use crate::transposing::{mark_present, place_numbers, transpose};
 use bsi_bits::{Bitmaps, Bits};
 use compare::{keep_selected, select};
 use std::alloc::Global;

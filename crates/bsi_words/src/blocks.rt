@@ -88,7 +88,7 @@ pub fn keep_but_drop(kept: &Bits, dropped: &Bits, at: usize, block: &mut [u64])
 }
 
 /// Inverts the bit of each row of the block.
-pub fn turn(block: &mut [u64])
+pub fn flip(block: &mut [u64])
     ensures len { length block.new ≡ length block.old }
     ensures bits { (p : ℕ) → p < 64 * length block.old →
         bit_of block.new p ≡ not (bit_of block.old p) }

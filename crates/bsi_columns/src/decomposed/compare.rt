@@ -23,10 +23,11 @@ use crate::decomposed::narrowing::narrow_digit;
 use crate::{Encoding, NoMemory, Op};
 use bsi_bits::{Bits, know_fits, lanes};
 use bsi_slices::{Decision, Test, decide};
-use bsi_words::blocks::{keep_in, turn};
+use bsi_words::blocks::{flip, keep_in};
 
-/// The most words of a block, which stays in the first cache while each component narrows it.
-const BLOCK_WORDS: usize = 1024;
+/// The most words of a block in which a column keeps rows. They stay in the first cache while each component narrows
+/// them.
+pub const MAX_BLOCK_WORDS: usize = 1024;
 
 impl<E: Encoding> Decomposed<E> {
     /// Returns the rows whose number satisfies the comparison `op` with `constant`. It reads no component if the answer
@@ -54,7 +55,7 @@ impl<E: Encoding> Decomposed<E> {
         at: usize,
         block: &mut [u64],
     ) -> Result<(), NoMemory>
-        requires few { length block.old ≤ 1024 }
+        requires few { length block.old ≤ MAX_BLOCK_WORDS }
         requires within { at + length block.old ≤ word_count (length self.now.entries) }
         ensures kept { OnErr result (block.new ≡ block.old) }
         ensures rows { OnOk result
@@ -77,14 +78,14 @@ impl<E: Encoding> Decomposed<E> {
     /// Keeps in a block the rows that a test wants, whose constant is below the size.
     fn keep_tested(&self, test: Test, at: usize, block: &mut [u64]) -> Result<(), NoMemory>
         requires below { test.constant < product self.now.bases }
-        requires few { length block.old ≤ 1024 }
+        requires few { length block.old ≤ MAX_BLOCK_WORDS }
         requires within { at + length block.old ≤ word_count (length self.now.entries) }
         ensures kept { OnErr result (block.new ≡ block.old) }
         ensures rows { OnOk result
             (KeepsRows (wants test) self.now.entries at block.old block.new) }
         ensures succeeds { IsTrue E.works_on_blocks → IsOk result }
     {
-        let mut buffer = [0; BLOCK_WORDS];
+        let mut buffer = [0; MAX_BLOCK_WORDS];
         let found = &mut buffer[..block.len()];
         if self.find_block(test, at, found) {
             keep_wanted(found, test.wanted, block);
@@ -137,10 +138,10 @@ impl<E: Encoding> Decomposed<E> {
             bit_of words.new.items p
             ≡ slice_index_or (map (wants test) self.now.entries) p false)) }
     {
-        let mut buffer = [0; BLOCK_WORDS];
-        for k in 0..len.div_ceil(BLOCK_WORDS) {
-            let at = BLOCK_WORDS * k;
-            let block = &mut buffer[..BLOCK_WORDS.min(len - at)];
+        let mut buffer = [0; MAX_BLOCK_WORDS];
+        for k in 0..len.div_ceil(MAX_BLOCK_WORDS) {
+            let at = MAX_BLOCK_WORDS * k;
+            let block = &mut buffer[..MAX_BLOCK_WORDS.min(len - at)];
             if !self.select_block(test, at, block) {
                 return Ok(false);
             }
@@ -162,7 +163,7 @@ impl<E: Encoding> Decomposed<E> {
             return false;
         }
         if !test.wanted {
-            turn(block);
+            flip(block);
         }
         self.present.keep_in(at, block);
         true

@@ -21,8 +21,8 @@ use bsi_bits::Bits;
 use bsi_slices::End;
 use bsi_words::blocks::{keep_in, meets};
 
-/// The number of words in a block.
-const BLOCK_WORDS: usize = 32;
+/// The number of words that the search goes over at once.
+const SEARCH_WORDS: usize = 32;
 
 impl<E: Encoding> Decomposed<E> {
     /// Returns the number at an end of those at the rows of a found set, or `Some(None)` if there is no number. It
@@ -34,11 +34,11 @@ impl<E: Encoding> Decomposed<E> {
         // The proof takes from this that there are at most 2^32 rows, so at most 2^26 words.
         prove!(found.len() <= 1 << 32);
         let len = found.words().len();
-        let mut buffer = [0; BLOCK_WORDS];
+        let mut buffer = [0; SEARCH_WORDS];
         let mut best = None;
-        'block: for k in 0..len.div_ceil(BLOCK_WORDS) {
-            let at = BLOCK_WORDS * k;
-            let block = &mut buffer[..BLOCK_WORDS.min(len - at)];
+        'block: for k in 0..len.div_ceil(SEARCH_WORDS) {
+            let at = SEARCH_WORDS * k;
+            let block = &mut buffer[..SEARCH_WORDS.min(len - at)];
             rows_into(found, self.present(), at, block);
             let better = self.better_in_block(end, best, at, block)?;
             best = better.or(best);

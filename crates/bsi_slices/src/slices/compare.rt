@@ -25,8 +25,8 @@ use bsi_bits::{Bits, know_fits};
 use std::alloc::Global;
 use std::simd::Simd;
 
-/// The number of words in a block. A block of this length fills half of a processor's 16 registers of two words.
-const BLOCK_WORDS: usize = 16;
+/// The number of words that go through all slices at once: they fill half of a processor's 16 registers of two words.
+pub(crate) const REGISTER_WORDS: usize = 16;
 
 /// Returns for each row whether it is a number that satisfies the comparison `op` with `constant`. It reads no slice if
 /// the answer is already known.
@@ -88,8 +88,8 @@ fn keep(slices: &[Bits], test: Test, start: usize, words: &mut [u64])
     ensures { IsKept (λ r. passes test (number slices.now (64 * start + r))) 0 (length words.old)
         words.old words.new }
 {
-    let whole = words.len() / BLOCK_WORDS * BLOCK_WORDS;
-    keep_blocks::<BLOCK_WORDS>(slices, test, start, 0, words);
+    let whole = words.len() / REGISTER_WORDS * REGISTER_WORDS;
+    keep_blocks::<REGISTER_WORDS>(slices, test, start, 0, words);
     keep_blocks::<1>(slices, test, start, whole, words);
 }
 

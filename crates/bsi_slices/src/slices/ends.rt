@@ -16,13 +16,10 @@ ghost use Rattle.bsi_slices.specs.Totals.{numbers_at};
 
 use crate::Column;
 use crate::slices::Slices;
-use crate::slices::compare::cut;
+use crate::slices::compare::{REGISTER_WORDS, cut};
 use bsi_bits::{Bits, know_fits};
 use bsi_words::is_empty;
 use std::simd::Simd;
-
-/// The number of words in a block. A block of this length fills half of a processor's 16 registers of two words.
-const BLOCK_WORDS: usize = 16;
 
 /// An end of some numbers in order.
 #[derive(Clone, Copy, Debug, PartialEq, Eq)]
@@ -58,8 +55,8 @@ impl Slices {
         requires { length self.now.entries ≡ length found.now.bits }
         ensures { IsEndOf end (numbers_at found.now.bits self.now.entries) result }
     {
-        let whole = found.words().len() / BLOCK_WORDS * BLOCK_WORDS;
-        let best = self.end_upto::<BLOCK_WORDS>(found, end, 0, None);
+        let whole = found.words().len() / REGISTER_WORDS * REGISTER_WORDS;
+        let best = self.end_upto::<REGISTER_WORDS>(found, end, 0, None);
         self.end_upto::<1>(found, end, whole, best)
     }
 

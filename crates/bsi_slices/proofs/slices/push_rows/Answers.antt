@@ -8,7 +8,7 @@ use Rattle.std.proofs.lemmas.List.Elements.{All-get_or}
 use Rattle.bsi_bits.specs.Packed.{bits_of}
 use Rattle.bsi_slices.specs.Rows.{number_or_zero}
 use Rattle.bsi_bits.specs.BitLists.{bits_at}
-use Rattle.bsi_slices.proofs.StageBits.{word_is, word_clear}
+use Rattle.bsi_slices.proofs.Gathering.{word_is, word_clear}
 use Rattle.bsi_slices.proofs.SliceGrowth.{entries_more, sliced_more}
 use Rattle.bsi_slices.proofs.slices.push_rows.Goals as goal
 

@@ -22,7 +22,7 @@ returns g c = λ p below row.
     elim c.if-not-test.branch [
       | then-not-test w ↦
           answer_turned c.args.test.wanted (bit_of c.if-not-test.block p) (test number) w.if-not-test.true
-          (ap (λ ws. bit_of ws p) w.block-is ∙ w.turn.ensures.bits p (omega (arith, c.find_block.auto.block)) ∙ ap not narrowed)
+          (ap (λ ws. bit_of ws p) w.block-is ∙ w.flip.ensures.bits p (omega (arith, c.find_block.auto.block)) ∙ ap not narrowed)
       | else-not-test w ↦
           answer_kept c.args.test.wanted (bit_of c.if-not-test.block p) (test number) w.if-not-test.false
           (ap (λ ws. bit_of ws p) w.block-is ∙ narrowed)

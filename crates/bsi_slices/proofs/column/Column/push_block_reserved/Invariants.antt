@@ -4,7 +4,7 @@ use Rattle.bsi_slices.proofs.column.Column.push_block_reserved.Given as goal
 
 abbrev pub invariant-entries : goal.invariant-entries
 invariant-entries g l = record {
-  entries : g.Self.Column.entries l.self ≡ g.Self.Column.entries l.fn.self ++ take l.k l.block;
+  entries : g.Self.Column.entries l.self ≡ g.Self.Column.entries l.fn.self ++ take l.entry-index l.block;
   form : g.Self.Column.form_of l.self ≡ g.Self.Column.form_of l.fn.self;
-  room : g.Self.Column.room_of l.fn.self ≤ g.Self.Column.room_of l.self + l.k;
+  room : g.Self.Column.room_of l.fn.self ≤ g.Self.Column.room_of l.self + l.entry-index;
 }

@@ -1,6 +1,6 @@
 use Rattle.std.proofs.Common.{arith}
 use Rattle.bsi_slices.proofs.Exchanging.{runs_none, runs_more}
-use Rattle.bsi_slices.proofs.stage.exchange.Goals as goal
+use Rattle.bsi_slices.proofs.transposing.exchange.Goals as goal
 
 pub runs-init : goal.runs-init
 runs-init c = runs_none c.args.s c.args.words.now c.told-words

@@ -1,5 +1,5 @@
 use Rattle.bsi_slices.proofs.Exchanging.{run_none, run_more}
-use Rattle.bsi_slices.proofs.stage.exchange_run.Goals as goal
+use Rattle.bsi_slices.proofs.transposing.exchange_run.Goals as goal
 
 pub rows-init : goal.rows-init
 rows-init c = run_none c.args.s c.args.from c.args.words.now c.told-words

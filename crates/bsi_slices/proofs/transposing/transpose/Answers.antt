@@ -1,5 +1,5 @@
 use Rattle.bsi_slices.proofs.Turning.{low_1, low_2, low_4, low_8, low_16, low_32, turned_by_six}
-use Rattle.bsi_slices.proofs.stage.transpose.Goals as goal
+use Rattle.bsi_slices.proofs.transposing.transpose.Goals as goal
 
 pub exchange-requires-clause-low : goal.exchange-requires-clause-low
 exchange-requires-clause-low c = low_32

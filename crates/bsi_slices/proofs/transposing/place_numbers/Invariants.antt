@@ -1,6 +1,6 @@
 use Rattle.std.proofs.Common.{◌≡◌, ℕ, ◌<◌, ◌≤◌, length, get_or, None}
 use Rattle.bsi_slices.specs.Rows.{number_or_zero}
-use Rattle.bsi_slices.proofs.stage.place_numbers.Given as goal
+use Rattle.bsi_slices.proofs.transposing.place_numbers.Given as goal
 
 abbrev pub invariant-entries : goal.invariant-entries
 invariant-entries l = record {
