@@ -10,7 +10,7 @@ ghost use Rattle.bsi_shift.specs.WholeNumbers.{whole_order, signed_selects};
 
 use crate::{NoMemory, Shifted};
 use bsi_bits::Bits;
-use bsi_columns::{Column, Op};
+use bsi_columns::{Column, MAX_BLOCK_WORDS, Op};
 
 impl Shifted {
     /// Returns for each row whether it is a number that satisfies the comparison `op` with `constant`, which may be any
@@ -42,7 +42,7 @@ impl Shifted {
         at: usize,
         block: &mut [u64],
     ) -> Result<(), NoMemory>
-        requires few { length block.old ≤ 1024 }
+        requires few { length block.old ≤ MAX_BLOCK_WORDS }
         requires within { at + length block.old ≤ word_count (length (shifted_entries self.now)) }
         ensures kept { OnErr result (block.new ≡ block.old) }
         ensures rows { OnOk result (KeepsRows
