@@ -141,8 +141,8 @@ impl Origins {
         ensures feeders { self.new.feeders ≡ self.old.feeders }
         ensures room { self.new.room + length other.now.rows ≡ self.old.room }
     {
-        'rows: for r in 0..other.row_feeders.len() {
-            self.push_reserved(other.row_feeders[r]);
+        'rows: for feeder in &other.row_feeders {
+            self.push_reserved(*feeder);
         }
     }
 
@@ -190,7 +190,7 @@ fn push_tally(tallies: &mut Vec<u32>, counts: &[u64])
     ensures items { tallies.new.items ≡ tallies.old.items ++ counts.now }
     ensures capacity { vec_capacity tallies.new ≡ vec_capacity tallies.old }
 {
-    'counts: for f in 0..counts.len() {
-        tallies.push_reserved(counts[f] as u32);
+    'counts: for count in counts {
+        tallies.push_reserved(*count as u32);
     }
 }

@@ -12,7 +12,7 @@ pub counts-preserved : goal.counts-preserved
 counts-preserved c =
     let tallies = c.args.tallies.now.items in
     let counts = c.args.counts.now in
-    let f = c.counts.f in
+    let f = c.counts.count-index in
     record {
       items = c.push_reserved.ensures.items ∙ ap (λ xs. xs ++ get_or counts f 0 ∷ []) c.counts.invariant.items
           ∙ append_assoc tallies _ (get_or counts f 0 ∷ [])
@@ -23,7 +23,7 @@ counts-preserved c =
 
 pub returns-clause-items : goal.returns-clause-items
 returns-clause-items c =
-    c.counts.invariant.items ∙ ap (λ xs. c.args.tallies.now.items ++ xs) (take_all c.counts.f c.args.counts.now (omega arith))
+    c.counts.invariant.items ∙ ap (λ xs. c.args.tallies.now.items ++ xs) (take_all c.counts.count-index c.args.counts.now (omega arith))
 
 pub returns-clause-capacity : goal.returns-clause-capacity
 returns-clause-capacity c = c.counts.invariant.capacity

@@ -3,7 +3,7 @@ use Rattle.bsi_origins.proofs.origins.Origins.push_all_reserved.Given as goal
 
 abbrev pub invariant-rows : goal.invariant-rows
 invariant-rows l = record {
-  rows : l.self.rows ≡ l.fn.self.rows ++ take l.r l.other.rows;
+  rows : l.self.rows ≡ l.fn.self.rows ++ take l.feeder-index l.other.rows;
   feeders : l.self.feeders ≡ l.fn.self.feeders;
-  room : l.self.room + l.r ≡ l.fn.self.room;
+  room : l.self.room + l.feeder-index ≡ l.fn.self.room;
 }
