@@ -5,10 +5,9 @@ use Rattle.std.proofs.lemmas.List.{append-nil, length-map, take-append-le}
 use Rattle.std.proofs.lemmas.List.Elements.{All-append, All-cons, All-head, All-map, All-nil, All-push, All-tail}
 use mathlib.Core.List.{IsPrefix}
 use Rattle.bsi_table.specs.Columns.{fits, Declared}
-use Rattle.bsi_table.specs.RowBlocks.{entries_of, AreAlike}
+use Rattle.bsi_table.specs.RowBlocks.{entries_of}
 use Rattle.bsi_table.specs.Rows.{FedRow}
 use Rattle.bsi_table.specs.Table.{AreFitting}
-use Rattle.bsi_table.proofs.CallerLemmas.{fitting-alike}
 use Rattle.bsi_rings.specs.declared.parcel.Parcel.{Parcel}
 use Rattle.bsi_rings.specs.declared.parcel.Parcel.TheVariants as parcel
 use Rattle.bsi_rings.specs.Rings.{all_rows, first_rows, rows_of, with_sent_rows, AllFit, IsParcel, Ring, Sending}
@@ -39,10 +38,9 @@ pub parcel_fits : (schema : Declared) (p : Parcel) → IsParcel schema p → All
 parcel_fits schema (parcel.Row row) is = All-cons (λ r. IsTrue (fits schema.columns r)) row [] is (All-nil (λ r. IsTrue (fits schema.columns r)))
 parcel_fits schema (parcel.Block batch) is = is.1
 
--- the rows of a block fit each schema that is alike
-pub block_fits : (first schema : Declared) (rows : List FedRow) → AreAlike first schema → AreFitting first.columns rows → AllFit schema (entries_of rows)
-block_fits first schema rows alike fitting =
-    All-map (λ row. IsTrue (fits schema.columns row)) (λ (row : FedRow). row.1) rows (fitting-alike first schema alike rows fitting)
+-- rows of feeders that fit do so without their feeders
+pub block_fits : (schema : Declared) (rows : List FedRow) → AreFitting schema.columns rows → AllFit schema (entries_of rows)
+block_fits schema rows fitting = All-map (λ row. IsTrue (fits schema.columns row)) (λ (row : FedRow). row.1) rows fitting
 
 -- each row that a feeder of a schema sends fits it
 pub rows_fit : (schema : Declared) (ps : List Parcel) → All (IsParcel schema) ps → AllFit schema (all_rows ps)

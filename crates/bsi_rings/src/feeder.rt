@@ -106,7 +106,7 @@ impl Feeder {
     pub fn takes(&self, block: &Block) -> bool
         ensures { IsTrue result ↔ AreAlike block.now.schema self.now.channel.schema }
     {
-        block.is_like(&self.schema)
+        block.has_limits_of(&self.schema)
     }
 
     /// Sends a row. It allocates no memory and never waits.
@@ -133,7 +133,7 @@ impl Feeder {
         ensures sent { OnOk result (self.new ≡ with_sent_rows self.old (entries_of block.rows)) }
         ensures kept { OnErr result (self.new ≡ self.old) }
     {
-        if !block.is_like(&self.schema) {
+        if !block.has_limits_of(&self.schema) {
             return Err(BlockRefused::Misfit(block));
         }
         let rows = block.len();

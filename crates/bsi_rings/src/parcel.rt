@@ -59,8 +59,6 @@ impl Batch {
     pub(crate) fn is_for(&self, schema: &Schema) -> bool
         ensures { IsTrue result ↔ IsParcel schema.now (Parcel.Block self.now) }
     {
-        // The proof takes from this that the rows of the block fit the columns that it was made for.
-        let _ = self.block.len();
-        self.block.is_like(schema)
+        self.block.has_limits_of(schema)
     }
 }

@@ -79,9 +79,10 @@ impl Block {
         self.len() == 0
     }
 
-    /// Returns how many feeders there are.
+    /// Returns how many feeders there are, of which each row is from one.
     pub fn feeders(&self) -> u32
-        ensures { result ≡ self.now.feeders }
+        ensures feeders { result ≡ self.now.feeders }
+        ensures from { AreFrom self.now.feeders self.now.rows }
     {
         self.feeders
     }
@@ -112,8 +113,9 @@ impl Block {
 
     /// Returns whether the columns of a schema take the same numbers as those that the block was made for. It takes no
     /// memory.
-    pub fn is_like(&self, schema: &Schema) -> bool
-        ensures { IsTrue result ↔ AreAlike self.now.schema schema.now }
+    pub fn has_limits_of(&self, schema: &Schema) -> bool
+        ensures alike { IsTrue result ↔ AreAlike self.now.schema schema.now }
+        ensures fits { IsTrue result → AreFitting schema.now.columns self.now.rows }
     {
         are_same(&self.limits, schema.limits())
     }
@@ -162,7 +164,8 @@ impl Block {
     /// Lends the entries of column `c`, in order of the rows.
     pub(crate) fn column(&self, c: usize) -> &[Option<i64>]
         requires { c < length self.now.schema.columns }
-        ensures { result.now ≡ column_of self.now.rows c }
+        ensures entries { result.now ≡ column_of self.now.rows c }
+        ensures few { length result.now ≤ 64 }
     {
         let rows = self.sources.len();
         let first = MAX_BLOCK_ROWS * c;

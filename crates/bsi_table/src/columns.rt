@@ -80,8 +80,6 @@ pub(crate) fn push_block_each(columns: &mut [Shifted], block: &Block)
     requires taken { All (λ row. TakesRow columns.old row.1) block.now.rows }
     ensures { HaveMore columns.old columns.new block.now.rows }
 {
-    // The proof takes from this that a column of the block has at most 64 entries.
-    let _ = block.len();
     'columns: for c in 0..columns.len() {
         columns[c].push_block_reserved(block.column(c));
     }
@@ -136,8 +134,8 @@ pub(crate) fn copy_each(alloc: Global, columns: &[Shifted]) -> Result<Vec<Shifte
     ensures same { IfOk result (λ copied. AreSameColumns columns.now copied.items) }
 {
     let mut copied = Vec::with_capacity(alloc, columns.len())?;
-    'columns: for c in 0..columns.len() {
-        copied.push(columns[c].copy()?)?;
+    'columns: for column in columns {
+        copied.push(column.copy()?)?;
     }
     Ok(copied)
 }

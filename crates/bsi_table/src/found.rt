@@ -16,14 +16,11 @@ ghost use Rattle.bsi_table.specs.Blocks.{AreFound, AreNarrowed};
 
 use crate::{NoMemory, Pred};
 use bsi_bits::{Bits, know_fits, lanes};
-use bsi_shift::Shifted;
+use bsi_shift::{MAX_BLOCK_WORDS, Shifted};
 use std::alloc::Global;
 
-/// The number of words in a block. They stay in the first cache while a predicate goes over them.
-const BLOCK_WORDS: usize = 1024;
-
-/// The rows of a block.
-const BLOCK_ROWS: u64 = 65_536;
+/// The rows of a block. Its words, as many as a column takes, stay in the first cache while a predicate goes over them.
+const BLOCK_ROWS: u64 = 64 * MAX_BLOCK_WORDS as u64;
 
 /// Returns for each of `count` rows whether the predicate holds of it. Each column that it reads is there. It goes over
 /// the rows in blocks of 65,536, each by the whole predicate. It keeps one or two blocks for each `or` and `not` around
@@ -60,7 +57,7 @@ pub(crate) fn count_selected(
     ensures succeeds { IsConjunction pred.now → IsOk result }
 {
     let mut spare = Vec::new(alloc);
-    let mut words = [u64::MAX; BLOCK_WORDS];
+    let mut words = [u64::MAX; MAX_BLOCK_WORDS];
     let mut selected = 0;
     'blocks: for k in 0..count.div_ceil(BLOCK_ROWS) {
         let rows = BLOCK_ROWS.min(count - BLOCK_ROWS * k);
@@ -69,7 +66,7 @@ pub(crate) fn count_selected(
             columns,
             count,
             pred,
-            BLOCK_WORDS * k as usize,
+            MAX_BLOCK_WORDS * k as usize,
             block,
             &mut spare,
         )?;
@@ -81,7 +78,7 @@ pub(crate) fn count_selected(
 /// Returns how many of the first `rows` places of a block are set. Its words are as few as hold them; it clears the
 /// places behind.
 fn count_block(block: &mut [u64], rows: u64) -> u64
-    requires within { rows ≤ 65536 }
+    requires within { rows ≤ BLOCK_ROWS }
     requires few { length block.old ≡ word_count rows }
     ensures { result ≡ count_by (λ b. b) (bits_of rows block.old) }
 {
@@ -92,7 +89,7 @@ fn count_block(block: &mut [u64], rows: u64) -> u64
 
 /// Clears the places of a block past the first `rows`.
 fn trim(block: &mut [u64], rows: u64)
-    requires within { rows ≤ 65536 }
+    requires within { rows ≤ BLOCK_ROWS }
     requires few { length block.old ≡ word_count rows }
     ensures packed { IsPacked rows block.new }
     ensures bits { bits_of rows block.new ≡ bits_of rows block.old }
@@ -120,9 +117,9 @@ fn narrow_each(
 {
     let mut spare = Vec::new(alloc);
     let len = words.len();
-    'blocks: for k in 0..len.div_ceil(BLOCK_WORDS) {
-        let at = BLOCK_WORDS * k;
-        let block = &mut words[at..len.min(at + BLOCK_WORDS)];
+    'blocks: for k in 0..len.div_ceil(MAX_BLOCK_WORDS) {
+        let at = MAX_BLOCK_WORDS * k;
+        let block = &mut words[at..len.min(at + MAX_BLOCK_WORDS)];
         narrow(columns, count, pred, at, block, &mut spare)?;
     }
     Ok(())
@@ -137,7 +134,7 @@ fn find_block(
     block: &mut [u64],
     spare: &mut Vec<u64>,
 ) -> Result<(), NoMemory>
-    requires few { length block.old ≤ 1024 }
+    requires few { length block.old ≤ MAX_BLOCK_WORDS }
     requires within { at + length block.old ≤ word_count count }
     requires even { HaveRows columns.now count }
     requires there { ReadsAmong (length columns.now) pred.now }
@@ -159,7 +156,7 @@ fn narrow(
     block: &mut [u64],
     spare: &mut Vec<u64>,
 ) -> Result<(), NoMemory>
-    requires few { length block.old ≤ 1024 }
+    requires few { length block.old ≤ MAX_BLOCK_WORDS }
     requires within { at + length block.old ≤ word_count count }
     requires even { HaveRows columns.now count }
     requires there { ReadsAmong (length columns.now) pred.now }
@@ -189,7 +186,7 @@ fn narrow(
         Pred::Not(pred) => {
             spare.extend_from_slice(block)?;
             narrow(columns, count, pred, at, block, spare)?;
-            turn_among_last(block, spare);
+            flip_among_last(block, spare);
         }
     }
     Ok(())
@@ -227,7 +224,7 @@ fn add_last(block: &mut [u64], spare: &mut Vec<u64>)
 }
 
 /// Takes as many words as the block has from the end of `spare`, and inverts, in the block, the rows that they have.
-fn turn_among_last(block: &mut [u64], spare: &mut Vec<u64>)
+fn flip_among_last(block: &mut [u64], spare: &mut Vec<u64>)
     requires { length block.old ≤ length spare.old.items }
     ensures block { block.new
         ≡ zip2 bit_xor block.old

@@ -104,7 +104,7 @@ fn push_feeders(origins: &mut Origins, sources: &[u32])
     ensures rows { origins.new.rows ≡ origins.old.rows ++ sources.now }
     ensures feeders { origins.new.feeders ≡ origins.old.feeders }
 {
-    'rows: for r in 0..sources.len() {
-        origins.push_reserved(sources[r] as u8);
+    'rows: for source in sources {
+        origins.push_reserved(*source as u8);
     }
 }

@@ -222,9 +222,7 @@ impl Index {
         ensures fits { result ≡ true → AreFitting self.now.schema.columns block.now.rows }
         ensures feeders { result ≡ true → AreFrom self.now.feeders block.now.rows }
     {
-        // The proof takes from this that the rows of the block fit the columns that it was made for.
-        let _ = block.len();
-        block.feeders() <= self.feeders() && block.is_like(&self.schema)
+        block.feeders() <= self.feeders() && block.has_limits_of(&self.schema)
     }
 
     /// Makes a block of the same rows for this index, each from `feeder`. The feeders of the block count for nothing.

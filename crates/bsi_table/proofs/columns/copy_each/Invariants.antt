@@ -5,6 +5,6 @@ use Rattle.bsi_table.proofs.columns.copy_each.Given as goal
 -- the columns so far are copied
 abbrev pub invariant-columns : goal.invariant-columns
 invariant-columns l = record {
-  long : length l.copied.items ≡ l.c;
-  same : (k : ℕ) → k < l.c → IsSameColumn (kept_at l.columns k) (kept_at l.copied.items k);
+  long : length l.copied.items ≡ l.column-index;
+  same : (k : ℕ) → k < l.column-index → IsSameColumn (kept_at l.columns k) (kept_at l.copied.items k);
 }

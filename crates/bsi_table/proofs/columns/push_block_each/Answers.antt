@@ -23,5 +23,5 @@ push_block_reserved-requires-clause-range c =
     let column = get_or now at c.index-columns-c.result in
     let read : column ≡ kept_at old at = sym c.index-columns-c.is ∙ sym (kept_read now at c.index-columns-c.result within c.index-columns-c.is) ∙ c.columns.invariant.others at (omega arith) in
     let all = column_in_range old rows at c.columns-test.true c.requires.taken in
-    subst (All (IsInRange column.offset (shifted_size column))) (sym c.column.ensures)
+    subst (All (IsInRange column.offset (shifted_size column))) (sym c.column.ensures.entries)
     (subst (λ (column : OffsetColumn). All (IsInRange column.offset (shifted_size column)) (column_of rows at)) (sym read) all)

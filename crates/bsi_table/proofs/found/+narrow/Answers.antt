@@ -90,7 +90,7 @@ returns-in_ok-narrow-in-Not-clause-rows t c = λ p below row.
     let kept = c.narrow-in-Not.new.block in
     let long : length kept ≡ length block = c.narrow-in-Not.auto.block in
     let saved : c.narrow-in-Not.new.spare.items ≡ s ++ block = c.in_ok-narrow-in-Not.ensures.spare ∙ c.in_ok-extend_from_slice-in-Not.ensures.items in
-    ap (λ ws. bit_of ws p) c.turn_among_last.ensures.block
+    ap (λ ws. bit_of ws p) c.flip_among_last.ensures.block
     ∙ ap (λ ws. bit_of (zip2 bit_xor kept ws) p) (saved_last s block c.narrow-in-Not.new.spare.items (length kept) saved long)
     ∙ turned_bit block kept p (holds c.deref-in-Not.result.now entries) long (omega (arith, below, long)) (c.in_ok-narrow-in-Not.ensures.rows p below row)
     ∙ ap (λ q. bit_of block p && not (holds q entries)) c.deref-in-Not.ensures

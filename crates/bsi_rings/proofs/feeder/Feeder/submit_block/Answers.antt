@@ -3,6 +3,7 @@ use Rattle.std.proofs.lemmas.List.{length-map}
 use Rattle.rtrb.specs.Ring.{sent}
 use Rattle.bsi_table.specs.RowBlocks.{entries_of, AreAlike}
 use Rattle.bsi_table.specs.Rows.{FedRow}
+use Rattle.bsi_table.specs.Table.{AreFitting}
 use Rattle.bsi_rings.specs.declared.parcel.Parcel.TheVariants.{Block}
 use Rattle.bsi_rings.specs.Rings.{all_rows, ring_of, rows_of, with_sent_rows, IsParcel}
 use Rattle.bsi_rings.proofs.Parcels.{block_fits, one_sent, sends}
@@ -14,9 +15,9 @@ invariant_of-self-2 c =
     let l = c.self.inside in
     let block = c.args.block in
     let p = Block c.new-batch.result in
-    let alike : AreAlike block.schema l.schema.value = subst (λ s. AreAlike block.schema s) c.deref.ensures (c.is_like.ensures.0 c.if-not-is_like.false) in
+    let alike : AreAlike block.schema l.schema.value = subst (λ s. AreAlike block.schema s) c.deref.ensures (c.has_limits_of.ensures.alike.0 c.if-not-has_limits_of.false) in
     let is : IsParcel l.schema.value p = subst (λ b. AreAlike b.schema l.schema.value × Rattle.bsi_rings.specs.Rings.AllFit l.schema.value (entries_of b.rows)) (sym c.new-batch.ensures)
-    (alike, block_fits block.schema l.schema.value block.rows alike c.len-rows.ensures.fitting) in
+    (alike, block_fits l.schema.value block.rows (subst (λ s. AreFitting s.columns block.rows) c.deref.ensures (c.has_limits_of.ensures.fits c.if-not-has_limits_of.false))) in
     let many : length (rows_of p) ≡ length block.rows = ap (λ b. length (entries_of b.rows)) c.new-batch.ensures ∙ length-map block.rows (λ (row : FedRow). row.1) in
     let now : sent c.push_reserved.new.self ≡ sent l.ring ++ p ∷ [] = c.push_reserved.ensures.sent.0 ∙ ap (λ ps. ps ++ p ∷ []) c.has_place.ensures.looked.1 in
     let counted = one_sent l.schema.value (sent l.ring) p l.places.count c.fill.new.self.count c.self.invariant.0 is c.self.invariant.1

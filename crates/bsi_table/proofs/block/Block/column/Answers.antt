@@ -9,8 +9,8 @@ overflow_mul-first c =
     let within : c.args.c < length i.schema.value.columns = omega (arith, c.requires, ap (λ b. length b.schema.columns) c.self.view_is) in
     omega (arith, within, c.self.invariant.0.long)
 
-pub returns : goal.returns
-returns c =
+pub returns-clause-entries : goal.returns-clause-entries
+returns-clause-entries c =
     let i = c.self.inside in
     let within : c.args.c < length i.schema.value.columns = omega (arith, c.requires, ap (λ b. length b.schema.columns) c.self.view_is) in
     let many : 64 * c.args.c + c.len-rows.result - 64 * c.args.c ≡ length i.sources.items = omega (arith, c.len-rows.ensures) in
