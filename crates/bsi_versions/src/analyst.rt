@@ -65,9 +65,7 @@ impl<B: Naming> Analyst<B> {
         let Some((reply, known)) = replace_with(&mut self.reader, query, read::<B>) else {
             return Err(AnalystRefused::Gone);
         };
-        // The proof takes from this that the longer of the two lists begins with the shorter.
-        self.known.meet(&known);
-        if known.len() < self.known.len() {
+        if !known.follows(&self.known) {
             return Err(AnalystRefused::Gone);
         }
         let answer = reply.map_err(AnalystRefused::Ask)?;
@@ -96,9 +94,7 @@ impl<B: Naming> Analyst<B> {
         ensures { IsTrue result → self.now ≡ told.now }
     {
         let told = told.known();
-        // The proof takes from this that, of two lists of one length, each begins with the other.
-        self.known.meet(told);
-        self.known.len() == told.len()
+        self.known.follows(told) && told.follows(&self.known)
     }
 
     /// Learns of a list: each later answer is over a list that begins with it. It allocates no memory.
@@ -108,9 +104,7 @@ impl<B: Naming> Analyst<B> {
         ensures told { IsPrefix told self.new }
     {
         let told = told.into_known();
-        // The proof takes from this that the longer of the two lists begins with the shorter.
-        self.known.meet(&told);
-        if self.known.len() < told.len() {
+        if !self.known.follows(&told) {
             self.known = told;
         }
     }

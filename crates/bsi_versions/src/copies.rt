@@ -149,11 +149,11 @@ pub(crate) fn show<B: Naming, R: Wait>(copies: &mut Copies<B>, rt: &R) -> Result
     ensures kept { OnErr result (copies.new.desk.shown.value ≡ copies.old.desk.shown.value) }
     ensures pending { OnErr result (pending copies.new ≡ pending copies.old) }
 {
-    replace_with(copies, rt, turn::<B, R>)
+    replace_with(copies, rt, show_owned::<B, R>)
 }
 
 /// Shows the copy that has every pending operation, of copies that are handed over, and hands them back.
-fn turn<B: Naming, R: Wait>(copies: Copies<B>, rt: &R) -> (Copies<B>, Result<(), NoMemory>)
+fn show_owned<B: Naming, R: Wait>(copies: Copies<B>, rt: &R) -> (Copies<B>, Result<(), NoMemory>)
     requires { Stands B.book B.about
         (fold after copies.desk.shown.value (pending copies)) }
     ensures shown { OnOk result.1 (result.0.desk.shown.value

@@ -70,7 +70,7 @@ impl Model for Reached {
 }
 
 impl Reached {
-    ghost use Rattle.std.specs.Prelude.{◌≡◌, ◌≤◌, IfSome, None, length};
+    ghost use Rattle.std.specs.Prelude.{◌≡◌, IfSome, IsFalse, IsTrue, None, length};
     ghost use mathlib.Core.List.{IsPrefix};
     ghost use Rattle.bsi_versions.specs.Pages.{head_of, with_list};
 
@@ -91,16 +91,17 @@ impl Reached {
         }
     }
 
-    /// Shows that, of two lists of one history, the longer begins with the shorter. It changes neither.
-    pub(crate) fn meet(&self, other: &Reached)
+    /// Returns whether the list begins with the other one, of the same history: the longer of two such lists begins with
+    /// the shorter.
+    pub(crate) fn follows(&self, other: &Reached) -> bool
         requires { other.now.book ≡ self.now.book }
-        ensures this { length self.now.list ≤ length other.now.list →
-            IsPrefix self.now.list other.now.list }
-        ensures that { length other.now.list ≤ length self.now.list →
-            IsPrefix other.now.list self.now.list }
+        ensures behind { IsTrue result → IsPrefix other.now.list self.now.list }
+        ensures before { IsFalse result → IsPrefix self.now.list other.now.list }
     {
+        // What knows both lists tells the proof that one begins with the other.
         let mut both = self.seen.again();
         both.learn(&other.seen);
+        other.len <= self.len
     }
 
     /// Adds a list to the history, by the word that the history shares, and returns a value that knows that list, if it
