@@ -55,9 +55,10 @@ fn first_stored(base: u32) -> u32
 }
 
 /// Appends a block of digits below a base to the bitmaps, of which the first is that of digit `first`. There is a word
-/// for each bitmap, and one for each digit before `first`.
+/// for each bitmap, and one for each digit before `first`, all 0.
 fn push_marked(bitmaps: &mut Bitmaps, first: u32, base: u32, block: &[u32], words: &mut [u64])
     requires long { length words.old ≡ first + length bitmaps.old.vectors }
+    requires clear { (j : ℕ) → slice_index words.old j ≡ 0 }
     requires within { first ≤ base }
     requires places { IsCount base (base - first) (length bitmaps.old.vectors) }
     requires few { length block.now ≤ 64 }

@@ -43,9 +43,10 @@ impl Model for RangeComponent {
         (range_digits c.base c.bitmaps.vectors) };
 }
 
-/// Appends a block of digits below a base to the bitmaps. There is a word for each bitmap, and one before them.
+/// Appends a block of digits below a base to the bitmaps. There is a word for each bitmap, and one before them, all 0.
 fn push_marked(bitmaps: &mut Bitmaps, base: u32, block: &[u32], words: &mut [u64])
     requires long { length words.old ≡ 1 + length bitmaps.old.vectors }
+    requires clear { (j : ℕ) → slice_index words.old j ≡ 0 }
     requires least { 2 ≤ base }
     requires places { IsCount base (base - 1) (length bitmaps.old.vectors) }
     requires few { length block.now ≤ 64 }

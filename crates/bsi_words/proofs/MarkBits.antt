@@ -1,15 +1,25 @@
 -- The bits of words that digits mark.
-use Rattle.std.proofs.Common.{◌≡◌, ◌≢◌, ℕ, zero, suc, ◌+◌, ◌*◌, ◌%◌, ◌^◌, ◌<◌, ◌≤◌, Bool, true, false, List, [], ◌∷◌, length, map, get_or, set, inl, inr, ap, ap₂, sym, ◌∙◌, refl, arith, length-set}
+use Rattle.std.proofs.Common.{◌≡◌, ◌≢◌, ℕ, zero, suc, ◌+◌, ◌*◌, ◌%◌, ◌^◌, ◌<◌, ◌≤◌, Bool, true, false, List, [], ◌∷◌, length, map, get_or, replicate, set, take, inl, inr, ap, ap₂, sym, ◌∙◌, refl, arith, length-set}
 use Rattle.std.specs.Prelude.{◌==◌, ◌&&◌, ◌||◌, bit_or, max, nat_le, nat_lt}
 use Rattle.std.specs.Int.{bit_at, w64}
 use Rattle.std.proofs.lemmas.Nat.{pow_pos}
 use Rattle.std.proofs.lemmas.Nat.Bits.{bit_at-zero, bit_at-lt, bit_at_or, bit_at_above, bit_at_set_same, bit_at_set_other}
-use Rattle.std.proofs.lemmas.List.{length-map, get_or-map, get_or_past, get_or-set_same, get_or-set_other}
+use Rattle.std.proofs.lemmas.List.{length-map, length-replicate, get_or-map, get_or-replicate, get_or_past, get_or-set_same, get_or-set_other, take-replicate}
 use Rattle.std.proofs.lemmas.Bool.{cases_eq, cases_lt}
 use Rattle.std.proofs.lemmas.Bool.Decides.{nat_tests}
 use Rattle.bsi_bits.proofs.Reading.{bits_are, get_or-bits_of}
 use Rattle.bsi_bits.proofs.Splicing.{below_power, one_word}
 use Rattle.bsi_words.specs.Marks.{union_of, AreDigitMarks}
+
+-- words that are 0, and the first of them
+pub zeros : (n k : ℕ) → get_or {A = ℕ} (replicate n 0) k 0 ≡ 0
+zeros n k = elim (cases_lt k n) [
+  | inl inside ↦ get_or-replicate n k 0 0 inside
+  | inr past ↦ get_or_past (replicate n 0) k 0 (omega (arith, length-replicate {A = ℕ} n 0))
+]
+
+pub first_zeros : (n count k : ℕ) → count ≤ n → get_or {A = ℕ} (take count (replicate n 0)) k 0 ≡ 0
+first_zeros n count k within = ap (λ ws. get_or ws k 0) (take-replicate count n 0 within) ∙ zeros count k
 
 -- bit p of word j says of each of the first n digits whether it holds there; the bits after them are off
 pub record Marked (holds : ℕ → ℕ → Bool) (n : ℕ) (block words : List ℕ) : Type 0 where

@@ -14,14 +14,14 @@ pub const MAX_SMALL_WORDS: usize = 70;
 /// The most words of a block, those of a base of 1,024. `bsi_digits` allows no greater base in a list.
 pub const MAX_WORDS: usize = 1034;
 
-/// Sets in word `j` the bit of each digit that is `j`, and no other bit. For each digit it looks at one word.
+/// Sets in word `j`, of words that are 0, the bit of each digit that is `j`. For each digit it looks at one word.
 fn mark(block: &[u32], words: &mut [u64])
     requires few { length block.now ≤ 64 }
+    requires clear { (j : ℕ) → slice_index words.old j ≡ 0 }
     requires below { (k : ℕ) → k < length block.now → slice_index block.now k < length words.old }
     ensures long { length words.new ≡ length words.old }
     ensures marks { AreDigitMarks (λ j v. v == j) block.now words.new }
 {
-    words.fill(0);
     'digits: for k in 0..block.len() {
         words[block[k] as usize] |= 1 << k;
     }
@@ -67,10 +67,11 @@ fn mark_places(words: &mut [u64], base: usize, folded: &mut [u64])
     }
 }
 
-/// Writes the words of a block of digits below a base: one for each digit below it, and then one for each binary place
-/// for which there is a word left.
+/// Writes the words of a block of digits below a base, which are 0 before: one for each digit below it, and then one for
+/// each binary place for which there is a word left.
 pub fn mark_digits(block: &[u32], base: usize, words: &mut [u64])
     requires few { length block.now ≤ 64 }
+    requires clear { (j : ℕ) → slice_index words.old j ≡ 0 }
     requires count { IsCount base base (length words.old) }
     requires below { (k : ℕ) → k < length block.now → slice_index block.now k < base }
     ensures long { length words.new ≡ length words.old }
@@ -81,8 +82,11 @@ pub fn mark_digits(block: &[u32], base: usize, words: &mut [u64])
     if places > 6 {
         let mut folded = [0; 1024];
         mark_places(words, base, &mut folded);
-    } else if places > 0 {
+    } else if places == 6 {
         let mut folded = [0; 64];
+        mark_places(words, base, &mut folded);
+    } else if places > 0 {
+        let mut folded = [0; 32];
         mark_places(words, base, &mut folded);
     }
 }

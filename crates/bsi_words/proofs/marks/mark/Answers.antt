@@ -1,7 +1,10 @@
 use Rattle.std.proofs.Common.{◌<◌, length, get_or, length-set, ◌∙◌, refl, arith}
-use Rattle.bsi_words.proofs.MarkBits.{marked_more, marks_of}
+use Rattle.bsi_words.proofs.MarkBits.{marked_more, marked_none, marks_of}
 use Rattle.std.specs.Prelude.{◌==◌}
 use Rattle.bsi_words.proofs.marks.mark.Goals as goal
+
+pub digits-init : goal.digits-init
+digits-init c = record { long = refl; marked = marked_none c.args.block.now c.args.words.now c.requires.clear; }
 
 pub digits-preserved : goal.digits-preserved
 digits-preserved c =
