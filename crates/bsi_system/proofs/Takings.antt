@@ -1,6 +1,6 @@
 -- What a loader keeps to, from call to call.
 use Rattle.std.proofs.Common.{◌≡◌, ◌≢◌, ℕ, zero, suc, ◌<◌, ◌≤◌, Bool, true, false, cond, List, [], ◌∷◌, ◌++◌, Option, None, Some, All, length, map, set, get_or, drop, take, refl, sym, ◌∙◌, subst, ap, ap₂, arith, append_assoc, length-append, inl, inr}
-use Rattle.std.specs.Prelude.{nat_eq, slice_get, option_map, IfSome, IsTrue, Err, ◌⊎◌}
+use Rattle.std.specs.Prelude.{nat_eq, slice_get, option_map, IfSome, IsTrue, OnErr, OnOk, Result, Ok, Err, ◌⊎◌}
 use Rattle.std.proofs.Math.Seq.{drop-append_seam, take-append_seam}
 use Rattle.std.proofs.lemmas.Bool.Decides.{nat_tests}
 use Rattle.std.proofs.lemmas.List.{append-nil, get_or-set_other, get_or-set_same, length-map, length-set, map-set, set-get_or, set-set}
@@ -15,9 +15,9 @@ use Rattle.bsi_load.specs.Runs.{rows_from}
 use Rattle.bsi_rings.specs.declared.channel.Front.{Front}
 use Rattle.bsi_rings.specs.declared.channel.Front.TheVariants as front
 use Rattle.bsi_rings.specs.Rings.{channels_of, with_more_taken, with_seen, AllFit, ChannelName, Intake, IsWhole, Sent}
-use Rattle.bsi_versions.specs.Editions.{Written}
+use Rattle.bsi_versions.specs.Editions.{published_all, Written}
 use Rattle.bsi_system.specs.Channels.{AreFirstAt, AreUntaken, HasFirst, HoldsFirst, IsBlockAt, IsFirstAt, IsFirstReply, LooksAt, SettlesAt, TakesAt}
-use Rattle.bsi_system.specs.Running.{loading, no_taking, seen, seen_at, seen_of, settled_as, taken, taking, taking_at, takings_of, told, with_taken_rows, Balanced, IsLoader, Loading, LoadsMany, LoadsOne, LoadsRows, Looks, MayLoad, Taking, WithinTold}
+use Rattle.bsi_system.specs.Running.{loading, no_taking, seen, seen_at, seen_of, settled_as, taken, taking, taking_at, takings_of, told, with_taken_rows, AlwaysHolds, Balanced, IsLoader, Loading, LoadsMany, LoadsOne, LoadsRows, Looks, MayLoad, Taking, WithinTold}
 
 -- ---- one place of a list
 
@@ -118,8 +118,8 @@ rows_from-fed f g (row ∷ rows) false is =
 -- ---- the loader
 
 module _ (intakes : List Intake) (w : Written) (is : IsLoader intakes w) where
-  -- what always holds of what is seen
-  pub within_told : WithinTold (loading intakes w)
+  -- what was taken is within what was told
+  within_told : WithinTold (loading intakes w)
   within_told f = by (slice_get_cases intakes f).1
     where
       prefix_of : (i : Intake) (o : Option (List Entries)) → i.told ≡ o → IsWhole i → IfSome o (λ sent. IsPrefix i.taken sent)
@@ -132,6 +132,24 @@ module _ (intakes : List Intake) (w : Written) (is : IsLoader intakes w) where
           let whole : IsWhole at.0 = subst IsWhole at.3 (All-get_or IsWhole intakes f at.0 at.1 is.whole) in
           subst (λ (t : Taking). IfSome t.told (λ sent. IsPrefix t.taken sent)) (sym (taking_at-of intakes f at.0 at.2)) (prefix_of at.0 at.0.told refl whole)
       by (inr past) = subst (λ (t : Taking). IfSome t.told (λ sent. IsPrefix t.taken sent)) (sym (taking_at-past intakes f past.0)) tt
+
+  -- all that always holds
+  pub always_holds : AlwaysHolds (loading intakes w)
+  always_holds = record {
+    balanced = is.balanced;
+    within = within_told;
+    many = length-map intakes taking ∙ sym (length-map intakes (λ (i : Intake). i.channel));
+  }
+
+  -- the held rows are published, or all stays
+  pub published_loader : {E : Type 0} (new : Written) (r : Result ℕ E) → OnOk r (new ≡ published_all w) → OnErr r (new ≡ w) → IsLoader intakes new
+  published_loader new (Ok len) ok err = subst (IsLoader intakes) (sym ok) (record {
+    balanced = λ f. ap (rows_from f) (append-nil (w.table.rows ++ w.held)) ∙ is.balanced f;
+    whole = is.whole;
+    alike = is.alike;
+    many = is.many;
+  })
+  published_loader new (Err e) ok err = subst (IsLoader intakes) (sym err) is
 
   module _ (f : ℕ) (new : List Intake) (same : AreUntaken intakes f new) where
     pub looks_loading : Looks (loading intakes w) f (loading new w)

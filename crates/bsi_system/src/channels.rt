@@ -1,6 +1,6 @@
 //! The loader's ends of all rings.
 
-ghost use Rattle.std.specs.Prelude.{◌≡◌, ◌<◌, ◌≤◌, Some, IfErr, IfOk, IfSome, OnOk, length, slice_get};
+ghost use Rattle.std.specs.Prelude.{◌≡◌, ◌≢◌, ◌<◌, ◌≤◌, Some, IfErr, IfOk, IfSome, OnErr, OnOk, length, slice_get};
 ghost use Rattle.std.specs.Option.{option_copied};
 ghost use Rattle.bsi_rings.specs.Rings.{channels_of};
 ghost use Rattle.bsi_system.specs.Running.{seen_at, seen_of, takings_of, IsSeenWhere};
@@ -10,6 +10,13 @@ use crate::NoMemory;
 use bsi_load::LoadRefused;
 use bsi_rings::{Channel, Closing, Front};
 use bsi_table::{Block, Row};
+
+/// Why a closing is not accepted.
+#[derive(Drop)]
+pub enum SettleRefused {
+    /// There is no such feeder, or the closing is another feeder's. The closing is handed back.
+    WrongClosing(Closing),
+}
 
 /// Looks for the row of a feeder that is to be taken next. The row stays in the ring.
 pub(crate) fn find_first(
@@ -80,11 +87,23 @@ pub(crate) fn take_of(channels: &mut Vec<Channel>, feeder: u32, rows: usize)
     channel.take(rows);
 }
 
-/// Learns from the closing of a feeder what it sent.
-pub(crate) fn settle_of(channels: &mut Vec<Channel>, feeder: u32, closing: Closing)
-    requires { slice_get (channels_of channels.old.items) feeder ≡ Some closing.channel }
-    ensures { SettlesAt channels.old.items feeder closing channels.new.items }
+/// Learns from the closing of a feeder what it sent, if the closing is this feeder's.
+pub(crate) fn settle_of(
+    channels: &mut Vec<Channel>,
+    feeder: u32,
+    closing: Closing,
+) -> Result<(), SettleRefused>
+    requires { slice_get (channels_of channels.old.items) closing.number ≡ Some closing.channel }
+    ensures ok { OnOk result ((closing.number ≡ feeder)
+        × SettlesAt channels.old.items feeder closing channels.new.items) }
+    ensures wrong { IfErr result (λ e. (e ≡ SettleRefused.WrongClosing closing)
+        × (closing.number ≢ feeder)) }
+    ensures kept { OnErr result (channels.new ≡ channels.old) }
 {
+    if closing.feeder() != feeder {
+        return Err(SettleRefused::WrongClosing(closing));
+    }
     let channel = &mut channels[feeder as usize];
     channel.settle(closing);
+    Ok(())
 }

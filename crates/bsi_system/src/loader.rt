@@ -7,20 +7,13 @@ ghost use Rattle.std.specs.Prelude.{◌≡◌, ◌≢◌, ◌+◌, ◌≤◌, If
 ghost use Rattle.bsi_system.specs.Running.{published_all, seen, settled_as, told, AlwaysHolds, IsBlockLoadReply, IsClosingOf, IsLoaderReply, IsSeenWhere, LoadsMany, LoadsOne, Looks};
 
 use crate::NoMemory;
-use crate::channels::{find_first, settle_of, take_of};
+use crate::channels::{SettleRefused, find_first, settle_of, take_of};
 use crate::holding::{hold_first, hold_next};
 use bsi_load::LoadRefused;
 use bsi_rings::{Channel, Closing};
 use bsi_versions::{Analyst, Naming, Publisher, Told};
 use std::marker::Model;
 use std::sync::Wait;
-
-/// Why a closing is not accepted.
-#[derive(Drop)]
-pub enum SettleRefused {
-    /// There is no such feeder, or the closing is another feeder's. The closing is handed back.
-    WrongClosing(Closing),
-}
 
 /// Loads the rows of all feeders into the table that analysts read. It is not `Drop`: end it by `end`.
 pub struct Loader<B: Naming> {
@@ -51,19 +44,6 @@ impl<B: Naming> Loader<B> {
         ensures system { self.new.system ≡ self.old.system }
         ensures always { AlwaysHolds self.new }
     {
-        let loaded = self.load_row(feeder);
-        self.show();
-        loaded
-    }
-
-    /// Takes the next row out of a feeder's ring, and holds it. If it is refused, the row stays in the ring. It is a
-    /// call of its own, so that `load` can then show what always holds.
-    fn load_row(&mut self, feeder: u32) -> Result<(), LoadRefused>
-        ensures reply { IsLoaderReply self.old feeder result }
-        ensures seen { IfErr result (IsSeenWhere (seen self.new feeder)) }
-        ensures loaded { OnOk result (LoadsOne self.old feeder self.new) }
-        ensures kept { OnErr result (Looks self.old feeder self.new) }
-    {
         let full = self.publisher.is_full();
         find_first(&mut self.channels, feeder, full)?;
         hold_first(&mut self.publisher, &self.channels, feeder).map_err(|_| LoadRefused::NoMemory)?;
@@ -81,19 +61,6 @@ impl<B: Naming> Loader<B> {
         ensures kept { OnErr result (Looks self.old feeder self.new) }
         ensures system { self.new.system ≡ self.old.system }
         ensures always { AlwaysHolds self.new }
-    {
-        let loaded = self.load_next(feeder);
-        self.show();
-        loaded
-    }
-
-    /// Takes a block, or else one row, out of a feeder's ring, and holds its rows. It is a call of its own, so that
-    /// `load_block` can then show what always holds.
-    fn load_next(&mut self, feeder: u32) -> Result<usize, LoadRefused>
-        ensures reply { IsBlockLoadReply self.old feeder result }
-        ensures seen { IfErr result (IsSeenWhere (seen self.new feeder)) }
-        ensures loaded { IfOk result (λ many. LoadsMany self.old feeder many self.new) }
-        ensures kept { OnErr result (Looks self.old feeder self.new) }
     {
         let full = self.publisher.is_full();
         find_first(&mut self.channels, feeder, full)?;
@@ -117,24 +84,8 @@ impl<B: Naming> Loader<B> {
         ensures system { self.new.system ≡ self.old.system }
         ensures always { AlwaysHolds self.new }
     {
-        if closing.feeder() != feeder {
-            self.show();
-            return Err(SettleRefused::WrongClosing(closing));
-        }
-        self.settle_channel(feeder, closing);
-        self.show();
+        settle_of(&mut self.channels, feeder, closing)?;
         Ok(())
-    }
-
-    /// Learns of a closing that is this feeder's. It is a call of its own, so that `settle` can then show what always
-    /// holds.
-    fn settle_channel(&mut self, feeder: u32, closing: Closing)
-        requires closing { IsClosingOf closing self.old.system }
-        requires feeder { closing.number ≡ feeder }
-        ensures settled { self.new ≡ settled_as self.old feeder closing.rows }
-        ensures once { IfSome (told self.old feeder) (λ sent. closing.rows ≡ sent) }
-    {
-        settle_of(&mut self.channels, feeder, closing);
     }
 
     /// Makes all held rows visible to analysts at one step, and returns how many rows are then published. If it is
@@ -146,17 +97,6 @@ impl<B: Naming> Loader<B> {
         ensures system { self.new.system ≡ self.old.system }
         ensures always { AlwaysHolds self.new }
     {
-        let published = self.publish_held(rt);
-        self.show();
-        published
-    }
-
-    /// Publishes the held rows. It is a call of its own, so that `publish` can then show what always holds.
-    fn publish_held<R: Wait>(&mut self, rt: &R) -> Result<u64, NoMemory>
-        ensures len { IfOk result (λ len. len ≡ length self.new.published) }
-        ensures ok { OnOk result (self.new ≡ published_all self.old) }
-        ensures err { OnErr result (self.new ≡ self.old) }
-    {
         self.publisher.publish(rt)
     }
 
@@ -167,7 +107,6 @@ impl<B: Naming> Loader<B> {
         ensures limit { length self.now.published + length self.now.held ≤ self.now.system.limit }
         ensures always { AlwaysHolds self.now }
     {
-        self.show();
         self.publisher.counts()
     }
 
@@ -177,7 +116,6 @@ impl<B: Naming> Loader<B> {
         ensures same { self.new ≡ self.old }
         ensures always { AlwaysHolds self.new }
     {
-        self.show();
         self.publisher.tell()
     }
 
@@ -197,13 +135,5 @@ impl<B: Naming> Loader<B> {
         } = self;
         drop(channels);
         publisher.end(rt);
-    }
-
-    /// Does nothing when the program runs. Its clauses tell a proof what always holds of the loader.
-    fn show(&self)
-        ensures { AlwaysHolds self.now }
-    {
-        // Reading a field makes the loader's invariant known to the proof.
-        let _ = &self.channels;
     }
 }
