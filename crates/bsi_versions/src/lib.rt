@@ -1,5 +1,5 @@
-//! A table that grows by publishing: a writing end whose held rows become visible at one step, and readers who never go
-//! back.
+//! An index that grows by publishing: a writing end whose held rows become visible at one step, and readers who never
+//! go back.
 #![tactic(auto)]
 
 mod analyst;
