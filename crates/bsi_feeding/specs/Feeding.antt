@@ -4,7 +4,7 @@ use Rattle.csv.specs.declared.reader.Reader.{Reader}
 use mathlib.Core.List.{IsPrefix}
 use Rattle.bsi_rings.specs.Rings.{with_sent_rows, Sending}
 use Rattle.bsi_table.specs.Rows.{Entries}
-use Rattle.bsi_text.specs.Sources.{GivesFirst, GivesFirstRows, HasEnded, HasGivenRows, HasStopped, HasTaken, IsOver, Source, StillHas, Tally}
+use Rattle.bsi_text.specs.Sources.{max_records, GivesFirst, GivesFirstRows, HasEnded, HasGivenRows, HasStopped, HasTaken, IsOver, Source, StillHas, Tally}
 use Rattle.bsi_text.specs.declared.rows.SourceFault.{SourceFault}
 use Rattle.bsi_feeding.specs.declared.feeding.FeedEnd.{FeedEnd}
 use Rattle.bsi_feeding.specs.declared.feeding.Turn.{Turn}
@@ -27,7 +27,7 @@ pub record IsReadOut {R : Type 0} (rem : R → Option (List ℕ)) (source : Sour
   pub end : Tally
   pub taken : HasTaken rem source.layout source.input at source.tally end rows
   pub over : IsOver rem at
-  pub few : end.taken ≤ 1000000
+  pub few : end.taken ≤ max_records
   pub bad_is : bad ≡ end.bad
 
 -- a source gave these rows, the good ones of the records that were taken of it, at most 1,000,000 with those before
@@ -35,7 +35,7 @@ pub record GivesRows {R : Type 0} (rem : R → Option (List ℕ)) (source : Sour
   pub at : Reader R
   pub end : Tally
   pub taken : HasTaken rem source.layout source.input at source.tally end rows
-  pub few : source.tally.taken ≤ 1000000 → end.taken ≤ 1000000
+  pub few : source.tally.taken ≤ max_records → end.taken ≤ max_records
 
 -- the rows that a feeder read of a source and sent after others, and how it says that it ended. A closing carries them
 pub record HasFed {R : Type 0} (rem : R → Option (List ℕ)) (source : Source R) (before : List Entries) (end : FeedEnd)
@@ -69,7 +69,7 @@ pub record GivesNext {R : Type 0} (rem : R → Option (List ℕ)) (old new : Sou
   pub layout : new.layout ≡ old.layout
   pub given : HasGivenRows rem old.layout old.input new.input old.tally new.tally rows new.end
   pub first : GivesFirstRows rem old new rows
-  pub few : new.tally.taken ≤ 1000000
+  pub few : new.tally.taken ≤ max_records
 
 -- the fault is that by which a source had ended, or at which it stopped without giving a row more
 abbrev pub FailsNow : {R : Type 0} → (R → Option (List ℕ)) → Source R → SourceFault → Type 0
@@ -81,7 +81,7 @@ FailsNow rem source fault =
 pub record GivesNone {R : Type 0} (rem : R → Option (List ℕ)) (old new : Source R) : Type 0 where
   pub ended : MatchOption old.end (HasEnded rem old.layout old.input old.tally new.tally)
       (λ end. (end ≡ Ok tt) × (new ≡ old))
-  pub few : new.tally.taken ≤ 1000000
+  pub few : new.tally.taken ≤ max_records
 
 -- what came of one turn: the first rows that the source still had were sent, at most 64, or nothing was, and there is
 -- then none left where the turn says so

@@ -68,9 +68,6 @@ pub fn feed<R: Wait, I: Read + Drop, G: Gate>(
     // A fault is the one that the source answered once it had given so many rows.
     ensures fault { IfSome result.fault (HasFailed I.remaining source result.accepted) }
 {
-    // The proof takes from these that the rows of all turns are taken as by one call.
-    bsi_text::laws::none_taken::<I>();
-    bsi_text::laws::taken_in_turn::<I>();
     let mut accepted = 0;
     'turns: for _ in 0..MAX_TURNS {
         let (stopped, fault) = match feed_next(rt, &mut feeder, &mut source, gate, accepted) {
@@ -131,8 +128,6 @@ fn feed_block<R: Wait, I: Read + Drop, G: Gate>(
     requires { block ≡ no_block_rows source.old.layout.schema 1 }
     ensures { IsFeederTurn I.remaining feeder.old source.old result feeder.new source.new }
 {
-    // The proof takes from this that records which give no row come before the end.
-    bsi_text::laws::taken_in_turn::<I>();
     if let Err(fault) = source.fill(0, &mut block) {
         return Turn::Failed(fault);
     }

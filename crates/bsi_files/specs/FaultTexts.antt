@@ -23,7 +23,3 @@ fault_text (NotClosed file) = codes "bsi: file " ++ decimal file ++ codes ": not
 fault_text Readers = codes "bsi: no reader"
 fault_text NoMemory = codes "bsi: no memory"
 fault_text Write = codes "bsi: write failed"
-
--- the line of a fault
-abbrev pub fault_line : FilesFault → List ℕ
-fault_line fault = fault_text fault ++ codes "\n"

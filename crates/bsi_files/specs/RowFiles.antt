@@ -4,6 +4,7 @@ use Rattle.bsi_records.specs.Numbers.{Field}
 use Rattle.bsi_table.specs.Columns.{Declared}
 use Rattle.bsi_table.specs.Rows.{Entries}
 use Rattle.bsi_text.specs.RowFiles.{bad_count, good_rows, is_header}
+use Rattle.bsi_text.specs.Sources.{max_records}
 use Rattle.bsi_text.specs.Texts.{AreAllRecords}
 
 -- what a row file gives: the rows of its good records, in their order, and how many records are bad
@@ -16,7 +17,7 @@ pub record IsRowFile (schema : Declared) (bytes : List ℕ) (file : RowFile) : T
   pub header : List Field
   pub records : List (List Field)
   pub all : AreAllRecords bytes (header ∷ records)
-  pub few : length records ≤ 1000000
+  pub few : length records ≤ max_records
   pub header_is : is_header schema header ≡ true
   pub rows_are : file.rows ≡ good_rows schema header records
   pub bad_is : file.bad ≡ bad_count schema header records

@@ -6,7 +6,7 @@ use Rattle.bsi_records.specs.Numbers.{Field}
 use Rattle.bsi_table.specs.Columns.{Declared}
 use Rattle.bsi_table.specs.Rows.{Entries}
 use Rattle.bsi_text.specs.RowFiles.{good_rows, is_header}
-use Rattle.bsi_text.specs.Sources.{Source}
+use Rattle.bsi_text.specs.Sources.{max_records, Source}
 use Rattle.bsi_text.specs.Texts.{AreFirstRecords}
 use Rattle.bsi_text.specs.declared.rows.SourceFault.{SourceFault}
 use Rattle.bsi_text.specs.declared.rows.SourceFault.TheVariants as source
@@ -76,7 +76,7 @@ pub record HasFirstRows (schema : Declared) (bytes : List ℕ) (rows : List Entr
   pub state : State
   pub rest : List ℕ
   pub first : AreFirstRecords bytes (header ∷ records) state rest
-  pub few : length records ≤ 1000000
+  pub few : length records ≤ max_records
   pub header_is : is_header schema header ≡ true
   pub rows_are : rows ≡ good_rows schema header records
 

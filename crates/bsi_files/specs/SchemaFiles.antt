@@ -4,6 +4,7 @@ use Rattle.csv.specs.declared.parser.State.{State}
 use Rattle.bsi_records.specs.Numbers.{Field}
 use Rattle.bsi_records.specs.Setups.{table_after}
 use Rattle.bsi_table.specs.Columns.{no_columns, Declared}
+use Rattle.bsi_text.specs.Sources.{max_records}
 use Rattle.bsi_text.specs.Texts.{AreAllRecords, AreFirstRecords}
 use Rattle.bsi_files.specs.declared.faults.FilesFault.{FilesFault}
 use Rattle.bsi_files.specs.declared.faults.FilesFault.TheVariants.{BadSchema, NoColumns, TooLong}
@@ -20,7 +21,7 @@ table_declared before (fields ∷ records) =
 pub record Declares (bytes : List ℕ) (before after : Declared × ℕ) : Type 0 where
   pub records : List (List Field)
   pub all : AreAllRecords bytes records
-  pub few : length records ≤ 1000000
+  pub few : length records ≤ max_records
   pub declared : table_declared before records ≡ Some after
 
 -- no column, and the greatest limit there is
@@ -42,7 +43,7 @@ pub record IsBadRecord (bytes : List ℕ) (before : Declared × ℕ) (number : �
   pub rest : List ℕ
   pub first : AreFirstRecords bytes (records ++ fields ∷ []) state rest
   pub number_is : number ≡ length records + 1
-  pub few : number ≤ 1000000
+  pub few : number ≤ max_records
   pub bad : MatchOption (table_declared before records) ⊥ (λ now. table_after now.0 now.1 fields ≡ None)
 
 -- the first 1,000,000 records declare something, and there is one more

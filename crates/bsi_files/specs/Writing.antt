@@ -6,6 +6,7 @@ use Rattle.csv.specs.Machine.{next_record}
 use Rattle.csv.specs.Reading.{default_config}
 use Rattle.csv.specs.declared.parser.State.{State}
 use Rattle.bsi_records.specs.Numbers.{Field}
+use Rattle.bsi_text.specs.Sources.{max_records}
 use Rattle.bsi_text.specs.Texts.{AreAllRecords, AreFirstRecords}
 use Rattle.bsi_text.specs.Waiting.{IsCut}
 use Rattle.bsi_files.specs.declared.faults.FilesFault.{FilesFault}
@@ -18,7 +19,7 @@ pub record WritesAll (IsOf : List (List Field) → List (List ℕ) → Type 0) (
   pub records : List (List Field)
   pub lines : List (List ℕ)
   pub all : AreAllRecords asked records
-  pub few : length records ≤ 1000000
+  pub few : length records ≤ max_records
   pub are : IsOf records lines
   pub written : Appends before after (concat lines)
 
@@ -31,7 +32,7 @@ AreOut fault lines before after = (n : ℕ) × Appends before after (concat (tak
 
 -- these are 1,000,000 records, and the text has one more
 abbrev pub AreTooMany : List (List Field) → State → List ℕ → Type 0
-AreTooMany records state rest = (length records ≡ 1000000) × IsSome (next_record default_config state [] [] rest)
+AreTooMany records state rest = (length records ≡ max_records) × IsSome (next_record default_config state [] [] rest)
 
 -- lines for some first records of the asks text went out before a fault
 pub record WritesPart (IsOf : List (List Field) → List (List ℕ) → Type 0) (asked : List ℕ) (fault : FilesFault)
@@ -41,7 +42,7 @@ pub record WritesPart (IsOf : List (List Field) → List (List ℕ) → Type 0) 
   pub state : State
   pub rest : List ℕ
   pub first : AreFirstRecords asked records state rest
-  pub few : length records ≤ 1000000
+  pub few : length records ≤ max_records
   pub too_long : fault ≡ TooLong AsksFile → AreTooMany records state rest
   pub are : IsOf records lines
   pub out : AreOut fault lines before after

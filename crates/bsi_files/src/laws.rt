@@ -25,7 +25,4 @@ pub fn determined()
     ensures { (declared : List ℕ) → (texts : List (List ℕ)) → (records : List (List Field)) →
         (a b : List (List ℕ)) → IsRun declared texts records a → IsRun declared texts records b →
         FindMemory a → FindMemory b → a ≡ b }
-{
-    // The proof takes this law of texts.
-    bsi_text::laws::one_reading();
-}
+{}

@@ -17,7 +17,7 @@ use crate::threads::{Watch, join_all, start_all};
 use crate::{FilesFault, Gate, Stopping};
 use bsi_system::{Analyst, Feeder, History, Loader, Naming, OpenRefused, System, Told, open};
 use bsi_table::{MAX_FEEDERS, Schema};
-use bsi_text::{RowSource, laws};
+use bsi_text::RowSource;
 use std::alloc::Global;
 use std::io::{Read, Write};
 use std::marker::Brand;
@@ -69,8 +69,6 @@ pub fn run_files<
     if sources.len() > MAX_FEEDERS as usize {
         return Err(FilesFault::TooManyFiles);
     }
-    // The proof takes this law of row files.
-    laws::rows_of_a_file::<I>();
     let alloc = rt.alloc();
     let (schema, limit) = read_table(alloc, schema)?;
     let sources = begin_all(alloc, &schema, sources)?;

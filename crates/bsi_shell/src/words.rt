@@ -55,8 +55,6 @@ pub fn run_words<
     ensures wrong { result ≡ 2 → O.contents output.new ≡ O.contents output.old }
     ensures usage { result ≡ 2 → IsCut (F.contents faults.old) (F.contents faults.new) usage_line }
 {
-    // The proof takes from this that what answers the whole input has also begun to.
-    bsi_text::laws::begun();
     match read_request(rt.alloc(), &words) {
         Request::Script => match run_to_end(rt.alloc(), input, output) {
             Ok(()) => 0,
@@ -84,8 +82,6 @@ fn run_to_end<I: Read + Drop, O: Write>(
     ensures left { IfErr result (λ fault.
         LeavesScript (I.remaining input) fault (O.contents output.old) (O.contents output.new)) }
 {
-    // The proof takes from this that what answers the whole input has also begun to.
-    bsi_text::laws::begun();
     let run = run_script(alloc, input, output);
     let flushed = output.flush().map_err(|_| ScriptFault::Write);
     run.and(flushed)

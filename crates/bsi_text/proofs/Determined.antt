@@ -32,7 +32,7 @@ use Rattle.bsi_records.specs.Lines.{answer_line, ask_line, bad_line, done_line, 
 use Rattle.bsi_records.specs.Numbers.{Field, feeder_of, values_in}
 use Rattle.bsi_text.specs.Pasts.{FindMemory}
 use Rattle.bsi_records.specs.Predicates.{IsPredicate}
-use Rattle.bsi_text.specs.Scripts.{AreTurns, Declaring, IsTurn, Running, Stage, set_up}
+use Rattle.bsi_text.specs.Scripts.{AreTurns, Declaring, IsTurn, Running, Phase, set_up}
 use Rattle.bsi_records.specs.Setups.{nothing_declared}
 use Rattle.bsi_text.proofs.Named.{HasNames, turn_named}
 use Rattle.bsi_table.specs.Columns.{AreNamed}
@@ -100,7 +100,7 @@ answered s query (Err (ask.BadColumn c)) there is found = none_is_some c (sym th
 answered s query (Err ask.NoMemory) there is found = absurd (found refl)
 
 -- what a machine comes to by a query, whatever the query
-abbrev after_ask : Shown → Query → Result Answer AskError → Stage
+abbrev after_ask : Shown → Query → Result Answer AskError → Phase
 after_ask s query r = Running (shown_after s ((Ask query, Answered r) ∷ []))
 
 asked_alike : (s : Shown) (a b : Query) (x y : Result Answer AskError) → after_ask s a x ≡ after_ask s b y
@@ -187,7 +187,7 @@ not_both schema fields e query is asked =
 -- ---- a turn
 
 -- what a turn of a machine gave
-abbrev Same : List ℕ → List ℕ → Stage → Stage → Type 0
+abbrev Same : List ℕ → List ℕ → Phase → Phase → Type 0
 Same a b next_a next_b = (a ≡ b) × (next_a ≡ next_b)
 
 -- an event is a query or another one
@@ -245,7 +245,7 @@ module _ (s : Shown) (named : AreNamed s.index.schema.columns) (fields : List Fi
       let replies : a ≡ b = first ∙ ap (usual s) same ∙ sym second in
       (ap reply_line replies, ap₂ (λ x r. Running (shown_after s ((x, r) ∷ []))) same replies)
 
-  both_turns : (a b : List ℕ) (next_a next_b : Stage) → IsTurn (Running s) fields a next_a → IsTurn (Running s) fields b next_b
+  both_turns : (a b : List ℕ) (next_a next_b : Phase) → IsTurn (Running s) fields a next_a → IsTurn (Running s) fields b next_b
       → a ≢ no_memory_line → b ≢ no_memory_line → Same a b next_a next_b
   both_turns a b next_a next_b (inl x) (inl y) found_a found_b = (x.line_is ∙ sym y.line_is, x.same ∙ sym y.same)
   both_turns a b next_a next_b (inl x) (inr y) found_a found_b = absurd (x.none y.event y.asked)
@@ -255,13 +255,13 @@ module _ (s : Shown) (named : AreNamed s.index.schema.columns) (fields : List Fi
       (λ line. found_a (x.line_is ∙ line)) (λ line. found_b (y.line_is ∙ line)) in
       (x.line_is ∙ same.0 ∙ sym y.line_is, x.after ∙ same.1 ∙ sym y.after)
 
-both_set : (before : Stage) (set : Option Stage) (a b : List ℕ) (next_a next_b : Stage)
+both_set : (before : Phase) (set : Option Phase) (a b : List ℕ) (next_a next_b : Phase)
     → MatchOption set ((a ≡ bad_line) × (next_a ≡ before)) (λ after. (a ≡ done_line) × (next_a ≡ after))
     → MatchOption set ((b ≡ bad_line) × (next_b ≡ before)) (λ after. (b ≡ done_line) × (next_b ≡ after)) → Same a b next_a next_b
 both_set before None a b next_a next_b x y = (x.0 ∙ sym y.0, x.1 ∙ sym y.1)
 both_set before (Some after) a b next_a next_b x y = (x.0 ∙ sym y.0, x.1 ∙ sym y.1)
 
-one_turn : (stage : Stage) (fields : List Field) (a b : List ℕ) (next_a next_b : Stage) → HasNames stage → IsTurn stage fields a next_a → IsTurn stage fields b next_b
+one_turn : (phase : Phase) (fields : List Field) (a b : List ℕ) (next_a next_b : Phase) → HasNames phase → IsTurn phase fields a next_a → IsTurn phase fields b next_b
     → a ≢ no_memory_line → b ≢ no_memory_line → Same a b next_a next_b
 one_turn (Declaring setup) fields a b next_a next_b named x y found_a found_b = both_set (Declaring setup) (set_up setup fields) a b next_a next_b x y
 one_turn (Running s) fields a b next_a next_b named x y found_a found_b = both_turns s named fields a b next_a next_b x y found_a found_b
@@ -271,20 +271,20 @@ one_turn (Running s) fields a b next_a next_b named x y found_a found_b = both_t
 abbrev IsFound : List ℕ → Type 0
 IsFound line = line ≢ no_memory_line
 
-one_run : (stage : Stage) (records : List (List Field)) (a b : List (List ℕ)) (last_a last_b : Stage) → HasNames stage
-    → AreTurns stage records a last_a → AreTurns stage records b last_b → FindMemory a → FindMemory b → a ≡ b
+one_run : (phase : Phase) (records : List (List Field)) (a b : List (List ℕ)) (last_a last_b : Phase) → HasNames phase
+    → AreTurns phase records a last_a → AreTurns phase records b last_b → FindMemory a → FindMemory b → a ≡ b
 unfolding AreTurns
-one_run stage [] [] [] last_a last_b named x y found_a found_b = refl
-one_run stage [] (line ∷ a) b last_a last_b named x y found_a found_b = absurd x
-one_run stage [] [] (line ∷ b) last_a last_b named x y found_a found_b = absurd y
-one_run stage (fields ∷ records) [] b last_a last_b named x y found_a found_b = absurd x
-one_run stage (fields ∷ records) (line ∷ a) [] last_a last_b named x y found_a found_b = absurd y
-one_run stage (fields ∷ records) (one ∷ a) (two ∷ b) last_a last_b named x y found_a found_b =
-    let first = one_turn stage fields one two x.0 y.0 named x.1 y.1 (All-head IsFound one a found_a) (All-head IsFound two b found_b) in
+one_run phase [] [] [] last_a last_b named x y found_a found_b = refl
+one_run phase [] (line ∷ a) b last_a last_b named x y found_a found_b = absurd x
+one_run phase [] [] (line ∷ b) last_a last_b named x y found_a found_b = absurd y
+one_run phase (fields ∷ records) [] b last_a last_b named x y found_a found_b = absurd x
+one_run phase (fields ∷ records) (line ∷ a) [] last_a last_b named x y found_a found_b = absurd y
+one_run phase (fields ∷ records) (one ∷ a) (two ∷ b) last_a last_b named x y found_a found_b =
+    let first = one_turn phase fields one two x.0 y.0 named x.1 y.1 (All-head IsFound one a found_a) (All-head IsFound two b found_b) in
     let others = subst (λ next. AreTurns next records b last_b) (sym first.1) y.2 in
-    let rest = one_run x.0 records a b last_a last_b (turn_named stage fields one x.0 named x.1) x.2 others (All-tail IsFound one a found_a) (All-tail IsFound two b found_b) in
+    let rest = one_run x.0 records a b last_a last_b (turn_named phase fields one x.0 named x.1) x.2 others (All-tail IsFound one a found_a) (All-tail IsFound two b found_b) in
     ap₂ (λ line lines. line ∷ lines) first.0 rest
 
-pub determined : (records : List (List Field)) (a b : List (List ℕ)) (last_a last_b : Stage)
+pub determined : (records : List (List Field)) (a b : List (List ℕ)) (last_a last_b : Phase)
     → AreTurns (Declaring nothing_declared) records a last_a → AreTurns (Declaring nothing_declared) records b last_b → FindMemory a → FindMemory b → a ≡ b
 determined records a b last_a last_b = one_run (Declaring nothing_declared) records a b last_a last_b (All-nil _)

@@ -1,13 +1,13 @@
-mod AllRecords
+pub mod AllRecords
 pub mod Determined
 mod Filling
-mod Joining
+pub mod Joining
 mod Layouts
 mod Left
 pub mod Named
 mod Pasts
-mod Standing
-mod Taking
+pub mod Standing
+pub mod Taking
 mod Turns
 mod Unique
 pub mod Waiting

@@ -12,7 +12,7 @@ use Rattle.bsi_table.specs.Refusals.{name_refusal}
 use Rattle.bsi_schema.specs.declared.form.Form.{Form}
 use Rattle.bsi_records.specs.Lines.{bad_line, done_line}
 use Rattle.bsi_records.specs.Numbers.{Field, offset_of}
-use Rattle.bsi_text.specs.Scripts.{Stage, Declaring, Running, set_up, IsTurn, AreTurns}
+use Rattle.bsi_text.specs.Scripts.{Phase, Declaring, Running, set_up, IsTurn, AreTurns}
 use Rattle.bsi_records.specs.Setups.{Setup, can_begin, capacities_after, column_after, declared_after, form_in, is_begin, limit_of, one_more, table_after}
 use Rattle.bsi_table.specs.Columns.{AreNamed}
 
@@ -88,9 +88,9 @@ declared_named before (word ∷ fields) named =
     (IfSome-map IsNamedSetup (λ capacities. record before { capacities = capacities }) (capacities_after before.capacities fields) (IfSome-all (λ after. IsNamedSetup before) (capacities_after before.capacities fields) (λ after. named)))
     (IfSome-map IsNamedSetup (λ after. record before { schema = after.0; limit = after.1 }) (table_after before.schema before.limit (word ∷ fields)) (table_named before.schema before.limit (word ∷ fields) named))
 
--- ---- a stage
+-- ---- a phase
 
-abbrev pub HasNames : Stage → Type 0
+abbrev pub HasNames : Phase → Type 0
 HasNames (Declaring setup) = AreNamed setup.schema.columns
 HasNames (Running shown) = AreNamed shown.index.schema.columns
 
@@ -105,18 +105,18 @@ pub same_schema : (shown : Shown) (past : List (Done)) → (shown_after shown pa
 unfolding shown_after
 same_schema shown past = refl
 
-named_by : (before : Stage) (set : Option Stage) (line : List ℕ) (next : Stage) → HasNames before → IfSome set HasNames
+named_by : (before : Phase) (set : Option Phase) (line : List ℕ) (next : Phase) → HasNames before → IfSome set HasNames
     → MatchOption set ((line ≡ bad_line) × (next ≡ before)) (λ after. (line ≡ done_line) × (next ≡ after)) → HasNames next
 named_by before None line next named after turn = subst HasNames (sym turn.1) named
-named_by before (Some stage) line next named after turn = subst HasNames (sym turn.1) after
+named_by before (Some phase) line next named after turn = subst HasNames (sym turn.1) after
 
-pub turn_named : (stage : Stage) (fields : List Field) (line : List ℕ) (next : Stage) → HasNames stage → IsTurn stage fields line next → HasNames next
+pub turn_named : (phase : Phase) (fields : List Field) (line : List ℕ) (next : Phase) → HasNames phase → IsTurn phase fields line next → HasNames next
 turn_named (Declaring setup) fields line next named turn = named_by (Declaring setup) (set_up setup fields) line next named (set_up_named setup fields named) turn
 turn_named (Running shown) fields line next named (inl bad) = subst HasNames (sym bad.same) named
 turn_named (Running shown) fields line next named (inr done) =
     subst HasNames (sym done.after) (subst AreNamed (ap (λ schema. schema.columns) (sym (same_schema shown ((done.event, done.reply) ∷ [])))) named)
 
-pub turns_named : (first : Stage) (records : List (List Field)) (lines : List (List ℕ)) (last : Stage) → HasNames first → AreTurns first records lines last → HasNames last
+pub turns_named : (first : Phase) (records : List (List Field)) (lines : List (List ℕ)) (last : Phase) → HasNames first → AreTurns first records lines last → HasNames last
 unfolding AreTurns
 turns_named first [] [] last named turns = subst HasNames (sym turns) named
 turns_named first [] (line ∷ lines) last named turns = absurd turns

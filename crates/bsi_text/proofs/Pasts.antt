@@ -10,7 +10,7 @@ use Rattle.bsi_records.specs.Events.{IsEvent}
 use Rattle.bsi_records.specs.Lines.{bad_line, done_line}
 use Rattle.bsi_records.specs.Numbers.{Field}
 use Rattle.bsi_text.specs.Pasts.{AreAddedBy, HasPast, IsAddedBy}
-use Rattle.bsi_text.specs.Scripts.{AreTurns, Declaring, IsTurn, Running, Stage, set_up}
+use Rattle.bsi_text.specs.Scripts.{AreTurns, Declaring, IsTurn, Running, Phase, set_up}
 use Rattle.bsi_records.specs.Setups.{Setup, can_begin, declared_after, is_begin, machine_of, nothing_declared}
 use Rattle.bsi_text.proofs.Named.{same_schema}
 use Rattle.bsi_text.proofs.Turns.{no_turn, one_turn, turns_behind}
@@ -18,7 +18,7 @@ use Rattle.bsi_text.proofs.Turns.{no_turn, one_turn, turns_behind}
 -- ---- from `begin` on
 
 -- what records add to a past
-pub record Adds (new : Shown) (past : List Done) (records : List (List Field)) (lines : List (List ℕ)) (last : Stage) : Type 0 where
+pub record Adds (new : Shown) (past : List Done) (records : List (List Field)) (lines : List (List ℕ)) (last : Phase) : Type 0 where
   pub after : List Done
   pub added : AreAddedBy new.index.schema records lines past after
   pub lawful : AreLawful new after
@@ -30,13 +30,13 @@ unfolding AreLawful
 lawful_more new past e r before next = (before, next)
 
 -- one record from `begin` on
-pub record AddsOne (new : Shown) (past : List Done) (fields : List Field) (line : List ℕ) (next : Stage) : Type 0 where
+pub record AddsOne (new : Shown) (past : List Done) (fields : List Field) (line : List ℕ) (next : Phase) : Type 0 where
   pub middle : List Done
   pub added : IsAddedBy new.index.schema fields line past middle
   pub lawful : AreLawful new middle
   pub shows : next ≡ Running (shown_after new middle)
 
-adds_one : (new : Shown) (past : List Done) (fields : List Field) (line : List ℕ) (next : Stage)
+adds_one : (new : Shown) (past : List Done) (fields : List Field) (line : List ℕ) (next : Phase)
     → AreLawful new past → IsTurn (Running (shown_after new past)) fields line next → AddsOne new past fields line next
 adds_one new past fields line next lawful (inl bad) = record {
   middle = past;
@@ -61,13 +61,13 @@ adds_one new past fields line next lawful (inr done) = record {
   shows = done.after ∙ ap Running (shown_step new past lawful done.event done.reply done.lawful);
 }
 
-pub adds : (new : Shown) (past : List Done) (stage : Stage) (records : List (List Field)) (lines : List (List ℕ)) (last : Stage)
-    → stage ≡ Running (shown_after new past) → AreLawful new past → AreTurns stage records lines last → Adds new past records lines last
+pub adds : (new : Shown) (past : List Done) (phase : Phase) (records : List (List Field)) (lines : List (List ℕ)) (last : Phase)
+    → phase ≡ Running (shown_after new past) → AreLawful new past → AreTurns phase records lines last → Adds new past records lines last
 unfolding AreTurns AreAddedBy
-adds new past stage [] [] last is lawful turns = record { after = past; added = refl; lawful = lawful; shows = turns ∙ is }
-adds new past stage [] (line ∷ lines) last is lawful turns = absurd turns
-adds new past stage (fields ∷ records) [] last is lawful turns = absurd turns
-adds new past stage (fields ∷ records) (line ∷ lines) last is lawful turns =
+adds new past phase [] [] last is lawful turns = record { after = past; added = refl; lawful = lawful; shows = turns ∙ is }
+adds new past phase [] (line ∷ lines) last is lawful turns = absurd turns
+adds new past phase (fields ∷ records) [] last is lawful turns = absurd turns
+adds new past phase (fields ∷ records) (line ∷ lines) last is lawful turns =
     let one = adds_one new past fields line turns.0 lawful (subst (λ s. IsTurn s fields line turns.0) is turns.1) in
     let more = adds new one.middle turns.0 records lines last one.shows one.lawful turns.2 in
     record {
@@ -79,7 +79,7 @@ adds new past stage (fields ∷ records) (line ∷ lines) last is lawful turns =
 
 -- ---- up to `begin`
 
-abbrev shown_of : Stage → Shown → Shown
+abbrev shown_of : Phase → Shown → Shown
 shown_of (Declaring setup) other = other
 shown_of (Running shown) other = shown
 
@@ -143,15 +143,15 @@ passes setup [] (line ∷ lines) shown turns = absurd turns
 passes setup (fields ∷ records) [] shown turns = absurd turns
 passes setup (fields ∷ records) (line ∷ lines) shown turns = by (set_up setup fields) refl turns.1 (λ next. passes next records lines shown)
   where
-    by : (o : Option Stage) → set_up setup fields ≡ o
+    by : (o : Option Phase) → set_up setup fields ≡ o
         → MatchOption o ((line ≡ bad_line) × (turns.0 ≡ Declaring setup)) (λ after. (line ≡ done_line) × (turns.0 ≡ after))
         → ((next : Setup) → AreTurns (Declaring next) records lines (Running shown) → Passes next records lines shown) → Passes setup (fields ∷ records) (line ∷ lines) shown
     by None is turn more =
-        let same : IsTurn (Declaring setup) fields line (Declaring setup) = subst (λ stage. IsTurn (Declaring setup) fields line stage) turn.1 turns.1 in
-        pass setup setup fields line records lines shown same (more setup (subst (λ stage. AreTurns stage records lines (Running shown)) turn.1 turns.2))
+        let same : IsTurn (Declaring setup) fields line (Declaring setup) = subst (λ phase. IsTurn (Declaring setup) fields line phase) turn.1 turns.1 in
+        pass setup setup fields line records lines shown same (more setup (subst (λ phase. AreTurns phase records lines (Running shown)) turn.1 turns.2))
     by (Some (Declaring next)) is turn more =
-        let same : IsTurn (Declaring setup) fields line (Declaring next) = subst (λ stage. IsTurn (Declaring setup) fields line stage) turn.1 turns.1 in
-        pass setup next fields line records lines shown same (more next (subst (λ stage. AreTurns stage records lines (Running shown)) turn.1 turns.2))
+        let same : IsTurn (Declaring setup) fields line (Declaring next) = subst (λ phase. IsTurn (Declaring setup) fields line phase) turn.1 turns.1 in
+        pass setup next fields line records lines shown same (more next (subst (λ phase. AreTurns phase records lines (Running shown)) turn.1 turns.2))
     by (Some (Running new)) is turn more =
         let begin = begins setup fields new is in
         record {
@@ -166,7 +166,7 @@ passes setup (fields ∷ records) (line ∷ lines) shown turns = by (set_up setu
           declared = no_turn (Declaring setup);
           word = begin.word;
           can = begin.can;
-          run = subst (λ stage. AreTurns stage records lines (Running shown)) (turn.1 ∙ ap Running begin.shows) turns.2;
+          run = subst (λ phase. AreTurns phase records lines (Running shown)) (turn.1 ∙ ap Running begin.shows) turns.2;
         }
 
 -- ---- the whole run
@@ -199,6 +199,6 @@ has_past records lines shown conserved turns =
       past = added.after;
       added = added.added;
       lawful = added.lawful;
-      shows = ap (λ stage. shown_of stage shown) added.shows;
+      shows = ap (λ phase. shown_of phase shown) added.shows;
       conserved = conserved new added.after added.lawful;
     }

@@ -17,7 +17,7 @@ use Rattle.csv.specs.declared.reader.Reader.{Reader}
 use Rattle.bsi_table.specs.Columns.{NamedColumn}
 use Rattle.bsi_table.specs.Names.{is_name}
 use Rattle.bsi_records.specs.Numbers.{Field}
-use Rattle.bsi_text.specs.Scripts.{Stage, Declaring, IsTurn, AreTurns}
+use Rattle.bsi_text.specs.Scripts.{Phase, Declaring, IsTurn, AreTurns}
 use Rattle.bsi_records.specs.Setups.{nothing_declared}
 use Rattle.bsi_text.specs.Texts.{AreFirstRecords, IsAnswered, IsBegun, IsStopped, IsTooLong}
 use Rattle.bsi_text.specs.Waiting.{IsCut, IsPut, OnceWritten, WhileWritten}
@@ -27,21 +27,21 @@ use Rattle.bsi_text.proofs.Turns.{extended, no_turn, one_turn, turns_behind}
 use Rattle.bsi_text.proofs.Waiting.{put_all, put_cut, put_more, put_written}
 
 -- so many records were read, and of the lines of all of them a first part was written, and the rest waits
-pub record StandsAt (stage : Stage) (bytes : List ℕ) (state : State) (source : Option (List ℕ)) (count : ℕ) (before now : Option (List ℕ)) (waiting : List ℕ) : Type 0 where
+pub record StandsAt (phase : Phase) (bytes : List ℕ) (state : State) (source : Option (List ℕ)) (count : ℕ) (before now : Option (List ℕ)) (waiting : List ℕ) : Type 0 where
   pub rest : List ℕ
   pub records : List (List Field)
   pub lines : List (List ℕ)
   pub left : source ≡ Some rest
   pub first : AreFirstRecords bytes records state rest
   pub many : length records ≡ count
-  pub run : AreTurns (Declaring nothing_declared) records lines stage
+  pub run : AreTurns (Declaring nothing_declared) records lines phase
   pub put : IsPut before now waiting (concat lines)
 
-pub stands_first : (stage : Stage) (bytes : List ℕ) (state : State) (source : Option (List ℕ)) (before : Option (List ℕ)) (waiting : List ℕ)
-    → stage ≡ Declaring nothing_declared → state ≡ st.StartRecord → source ≡ Some (strip_bom bytes) → waiting ≡ []
-    → StandsAt stage bytes state source 0 before before waiting
+pub stands_first : (phase : Phase) (bytes : List ℕ) (state : State) (source : Option (List ℕ)) (before : Option (List ℕ)) (waiting : List ℕ)
+    → phase ≡ Declaring nothing_declared → state ≡ st.StartRecord → source ≡ Some (strip_bom bytes) → waiting ≡ []
+    → StandsAt phase bytes state source 0 before before waiting
 unfolding Reached
-stands_first stage bytes state source before waiting first start left none = record {
+stands_first phase bytes state source before waiting first start left none = record {
   rest = strip_bom bytes;
   records = [];
   lines = [];
@@ -59,13 +59,13 @@ concat_more : (lines : List (List ℕ)) (line : List ℕ) → concat (lines ++ l
 concat_more lines line = concat-append lines (line ∷ []) ∙ ap (λ last. concat lines ++ last) (concat_one line)
 
 -- a part of the lines of the first records is one of those of all records
-begun : (stage : Stage) (bytes : List ℕ) (state : State) (rest : List ℕ) (records : List (List Field)) (lines : List (List ℕ)) (n : ℕ) (before after : Option (List ℕ))
-    → AreFirstRecords bytes records state rest → AreTurns (Declaring nothing_declared) records lines stage → n ≤ length (concat lines)
+begun : (phase : Phase) (bytes : List ℕ) (state : State) (rest : List ℕ) (records : List (List Field)) (lines : List (List ℕ)) (n : ℕ) (before after : Option (List ℕ))
+    → AreFirstRecords bytes records state rest → AreTurns (Declaring nothing_declared) records lines phase → n ≤ length (concat lines)
     → Appends before after (take n (concat lines)) → IsBegun bytes before after
-begun stage bytes state rest records lines n before after first run within written =
+begun phase bytes state rest records lines n before after first run within written =
     let more = all_records default_config state rest in
-    let named = turns_named (Declaring nothing_declared) records lines stage (All-nil (λ (column : NamedColumn). IsTrue (is_name column.name))) run in
-    let others = extended stage more.records named in
+    let named = turns_named (Declaring nothing_declared) records lines phase (All-nil (λ (column : NamedColumn). IsTrue (is_name column.name))) run in
+    let others = extended phase more.records named in
     let part : take n (concat lines) ≡ take n (concat (lines ++ others.0)) =
     sym (ap (take n) (concat-append lines others.0) ∙ take-append-le n (concat lines) (concat others.0) within) in
     record {
@@ -74,25 +74,25 @@ begun stage bytes state rest records lines n before after first run within writt
       written = (
         lines ++ others.0,
         n,
-        (others.1, turns_behind (Declaring nothing_declared) stage others.1 records more.records lines others.0 run others.2),
+        (others.1, turns_behind (Declaring nothing_declared) phase others.1 records more.records lines others.0 run others.2),
         subst (Appends before after) part written,
       );
     }
 
 -- the same of any first part
-begun_by : (stage : Stage) (bytes : List ℕ) (state : State) (rest : List ℕ) (records : List (List Field)) (lines : List (List ℕ)) (before after : Option (List ℕ))
-    → AreFirstRecords bytes records state rest → AreTurns (Declaring nothing_declared) records lines stage → IsCut before after (concat lines) → IsBegun bytes before after
-begun_by stage bytes state rest records lines before after first run cut =
+begun_by : (phase : Phase) (bytes : List ℕ) (state : State) (rest : List ℕ) (records : List (List Field)) (lines : List (List ℕ)) (before after : Option (List ℕ))
+    → AreFirstRecords bytes records state rest → AreTurns (Declaring nothing_declared) records lines phase → IsCut before after (concat lines) → IsBegun bytes before after
+begun_by phase bytes state rest records lines before after first run cut =
     let m : ℕ = min cut.0 (length (concat lines)) in
-    begun stage bytes state rest records lines m before after first run (omega arith)
+    begun phase bytes state rest records lines m before after first run (omega arith)
     (subst (Appends before after) (sym (take_min cut.0 (concat lines))) cut.1)
 
-module _ (stage : Stage) (bytes : List ℕ) (state : State) (source : Option (List ℕ)) (count : ℕ) (before now : Option (List ℕ)) (waiting : List ℕ)
-    (stands : StandsAt stage bytes state source count before now waiting) where
+module _ (phase : Phase) (bytes : List ℕ) (state : State) (source : Option (List ℕ)) (count : ℕ) (before now : Option (List ℕ)) (waiting : List ℕ)
+    (stands : StandsAt phase bytes state source count before now waiting) where
   -- whatever part of the lines that wait is written
   pub stands_cut : WhileWritten now waiting (IsBegun bytes before)
   stands_cut after cut =
-      begun_by stage bytes state stands.rest stands.records stands.lines before after stands.first stands.run
+      begun_by phase bytes state stands.rest stands.records stands.lines before after stands.first stands.run
       (subst (IsCut before after) (append-nil (concat stands.lines))
       (put_cut before now after waiting (concat stands.lines) stands.put [] (subst (IsCut now after) (sym (append-nil waiting)) cut)))
 
@@ -103,11 +103,11 @@ module _ (stage : Stage) (bytes : List ℕ) (state : State) (source : Option (Li
     state = state;
     rest = stands.rest;
     first = stands.first;
-    written = (stands.lines, (stage, stands.run), put_written before now after waiting (concat stands.lines) stands.put written);
+    written = (stands.lines, (phase, stands.run), put_written before now after waiting (concat stands.lines) stands.put written);
   }
 
   -- some of them were written
-  pub stands_way : (after : Option (List ℕ)) (rest : List ℕ) → IsPut now after rest waiting → StandsAt stage bytes state source count before after rest
+  pub stands_way : (after : Option (List ℕ)) (rest : List ℕ) → IsPut now after rest waiting → StandsAt phase bytes state source count before after rest
   stands_way after rest put = record {
     rest = stands.rest;
     records = stands.records;
@@ -151,10 +151,10 @@ nothing_begun bytes before =
     begun (Declaring nothing_declared) bytes st.StartRecord (strip_bom bytes) [] [] 0 before before (refl, refl) (no_turn (Declaring nothing_declared)) (omega arith)
     (appends-none before)
 
-module _ {R : Type 0} (rem : R → Option (List ℕ)) (a b : Reader R) (fields : List Field) (stage : Stage) (bytes : List ℕ) (count : ℕ) (before now : Option (List ℕ)) (waiting : List ℕ)
-    (stands : StandsAt stage bytes (reader_state a) (source_of rem a) count before now waiting) (config : reader_config a ≡ default_config) where
+module _ {R : Type 0} (rem : R → Option (List ℕ)) (a b : Reader R) (fields : List Field) (phase : Phase) (bytes : List ℕ) (count : ℕ) (before now : Option (List ℕ)) (waiting : List ℕ)
+    (stands : StandsAt phase bytes (reader_state a) (source_of rem a) count before now waiting) (config : reader_config a ≡ default_config) where
   -- one more record, whose line waits or was written
-  pub stands_next : (next : Stage) (line : List ℕ) (after : Option (List ℕ)) (rest : List ℕ) → ReadRecord rem a b true fields → IsTurn stage fields line next
+  pub stands_next : (next : Phase) (line : List ℕ) (after : Option (List ℕ)) (rest : List ℕ) → ReadRecord rem a b true fields → IsTurn phase fields line next
       → IsPut now after rest (waiting ++ line) → StandsAt next bytes (reader_state b) (source_of rem b) (count + 1) before after rest
   stands_next next line after rest reads turn put =
       let more = rows-more rem a b fields default_config st.StartRecord (strip_bom bytes) stands.rest stands.records config stands.left stands.first reads in
@@ -165,17 +165,17 @@ module _ {R : Type 0} (rem : R → Option (List ℕ)) (a b : Reader R) (fields :
         left = more.1;
         first = more.2;
         many = length-append stands.records (fields ∷ []) ∙ ap (λ n. n + 1) stands.many;
-        run = turns_behind (Declaring nothing_declared) stage next stands.records (fields ∷ []) stands.lines (line ∷ []) stands.run (one_turn stage fields line next turn);
+        run = turns_behind (Declaring nothing_declared) phase next stands.records (fields ∷ []) stands.lines (line ∷ []) stands.run (one_turn phase fields line next turn);
         put = subst (IsPut before after rest) (sym (concat_more stands.lines line)) (put_more before now after waiting (concat stands.lines) stands.put rest line put);
       }
 
   -- one more record, and a first part of what waited and of its line was written
-  pub stands_part : (next : Stage) (line : List ℕ) (after : Option (List ℕ)) → ReadRecord rem a b true fields → IsTurn stage fields line next → IsCut now after (waiting ++ line)
+  pub stands_part : (next : Phase) (line : List ℕ) (after : Option (List ℕ)) → ReadRecord rem a b true fields → IsTurn phase fields line next → IsCut now after (waiting ++ line)
       → IsBegun bytes before after
   stands_part next line after reads turn cut =
       let more = rows-more rem a b fields default_config st.StartRecord (strip_bom bytes) stands.rest stands.records config stands.left stands.first reads in
       begun_by next bytes (reader_state b) more.0 (stands.records ++ fields ∷ []) (stands.lines ++ line ∷ []) before after more.2
-      (turns_behind (Declaring nothing_declared) stage next stands.records (fields ∷ []) stands.lines (line ∷ []) stands.run (one_turn stage fields line next turn))
+      (turns_behind (Declaring nothing_declared) phase next stands.records (fields ∷ []) stands.lines (line ∷ []) stands.run (one_turn phase fields line next turn))
       (subst (IsCut before after) (sym (concat_more stands.lines line)) (put_cut before now after waiting (concat stands.lines) stands.put line cut))
 
   -- there is no more
@@ -184,7 +184,7 @@ module _ {R : Type 0} (rem : R → Option (List ℕ)) (a b : Reader R) (fields :
     records = stands.records;
     all = records_end default_config st.StartRecord (reader_state a) (strip_bom bytes) stands.rest stands.records stands.first (rows-end rem a b fields default_config stands.rest config stands.left reads);
     few = omega (arith, stands.many, small);
-    written = (stands.lines, (stage, stands.run), put_written before now after waiting (concat stands.lines) stands.put written);
+    written = (stands.lines, (phase, stands.run), put_written before now after waiting (concat stands.lines) stands.put written);
   }
 
   -- there is one more than may be
@@ -196,7 +196,7 @@ module _ {R : Type 0} (rem : R → Option (List ℕ)) (a b : Reader R) (fields :
     first = stands.first;
     many = stands.many ∙ many;
     more = there_is default_config (reader_state a) stands.rest _ fields (reader_state b) (rw (config, stands.left) at reads.0);
-    written = (stands.lines, (stage, stands.run), put_written before now after waiting (concat stands.lines) stands.put written);
+    written = (stands.lines, (phase, stands.run), put_written before now after waiting (concat stands.lines) stands.put written);
   }
 
 -- a fact that holds anyway

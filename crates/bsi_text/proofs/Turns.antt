@@ -16,29 +16,29 @@ use Rattle.bsi_table.specs.declared.query.Query.{Query}
 use Rattle.bsi_records.specs.Events.{IsEvent, IsQuery, feeder_event, plain_event}
 use Rattle.bsi_records.specs.Lines.{bad_line, done_line, reply_line}
 use Rattle.bsi_records.specs.Numbers.{Field, feeder_of, values_in}
-use Rattle.bsi_text.specs.Scripts.{Stage, Declaring, Running, set_up, IsTurn, AreTurns}
+use Rattle.bsi_text.specs.Scripts.{Phase, Declaring, Running, set_up, IsTurn, AreTurns}
 use Rattle.bsi_text.proofs.Named.{HasNames, IfSome-choice, IfSome-map, IfSome-then, turn_named}
 use Rattle.bsi_table.specs.Columns.{AreNamed}
 use Rattle.bsi_records.proofs.Spelling.{query_is_there, query_or_not}
 
 -- ---- runs after one another
 
-pub turns_behind : (first middle last : Stage) (records more : List (List Field)) (lines others : List (List ℕ))
+pub turns_behind : (first middle last : Phase) (records more : List (List Field)) (lines others : List (List ℕ))
     → AreTurns first records lines middle → AreTurns middle more others last → AreTurns first (records ++ more) (lines ++ others) last
 unfolding AreTurns
-turns_behind first middle last [] more [] others turns others_are = subst (λ stage. AreTurns stage more others last) turns others_are
+turns_behind first middle last [] more [] others turns others_are = subst (λ phase. AreTurns phase more others last) turns others_are
 turns_behind first middle last [] more (line ∷ lines) others turns others_are = absurd turns
 turns_behind first middle last (fields ∷ records) more [] others turns others_are = absurd turns
 turns_behind first middle last (fields ∷ records) more (line ∷ lines) others turns others_are =
     (turns.0, turns.1, turns_behind turns.0 middle last records more lines others turns.2 others_are)
 
-pub one_turn : (stage : Stage) (fields : List Field) (line : List ℕ) (next : Stage) → IsTurn stage fields line next → AreTurns stage (fields ∷ []) (line ∷ []) next
+pub one_turn : (phase : Phase) (fields : List Field) (line : List ℕ) (next : Phase) → IsTurn phase fields line next → AreTurns phase (fields ∷ []) (line ∷ []) next
 unfolding AreTurns
-one_turn stage fields line next turn = (next, turn, refl)
+one_turn phase fields line next turn = (next, turn, refl)
 
-pub no_turn : (stage : Stage) → AreTurns stage [] [] stage
+pub no_turn : (phase : Phase) → AreTurns phase [] [] phase
 unfolding AreTurns
-no_turn stage = refl
+no_turn phase = refl
 
 -- ---- a record that is no query asks for one event at most, and for no query
 
@@ -67,13 +67,13 @@ plain schema (word ∷ feeder ∷ rest) = IfSome-then IsPlain (λ f. feeder_even
 -- ---- a turn of each record
 
 -- a turn, and what the script comes to by it
-pub record HasTurn (stage : Stage) (fields : List Field) : Type 0 where
+pub record HasTurn (phase : Phase) (fields : List Field) : Type 0 where
   pub line : List ℕ
-  pub next : Stage
-  pub turn : IsTurn stage fields line next
+  pub next : Phase
+  pub turn : IsTurn phase fields line next
 
-setting_up : (before : Stage) (set : Option Stage)
-    → (line : List ℕ) × (next : Stage) × MatchOption set ((line ≡ bad_line) × (next ≡ before)) (λ after. (line ≡ done_line) × (next ≡ after))
+setting_up : (before : Phase) (set : Option Phase)
+    → (line : List ℕ) × (next : Phase) × MatchOption set ((line ≡ bad_line) × (next ≡ before)) (λ after. (line ≡ done_line) × (next ≡ after))
 setting_up before None = (bad_line, before, (refl, refl))
 setting_up before (Some after) = (done_line, after, (refl, refl))
 
@@ -117,17 +117,17 @@ running_turn shown fields named = by (plain_event shown.index.schema fields) ref
     by (Some (Close feeder)) is only = event_turn shown fields (Close feeder) (Closed (close_reply shown feeder)) is refl
     by (Some (Ask query)) is only = absurd only
 
-pub has_turn : (stage : Stage) (fields : List Field) → HasNames stage → HasTurn stage fields
+pub has_turn : (phase : Phase) (fields : List Field) → HasNames phase → HasTurn phase fields
 has_turn (Declaring setup) fields named =
     let turn = setting_up (Declaring setup) (set_up setup fields) in record { line = turn.0; next = turn.1; turn = turn.2 }
 has_turn (Running shown) fields named = running_turn shown fields named
 
 -- ---- turns of all records
 
-pub extended : (stage : Stage) (records : List (List Field)) → HasNames stage → (lines : List (List ℕ)) × (last : Stage) × AreTurns stage records lines last
+pub extended : (phase : Phase) (records : List (List Field)) → HasNames phase → (lines : List (List ℕ)) × (last : Phase) × AreTurns phase records lines last
 unfolding AreTurns
-extended stage [] named = ([], stage, refl)
-extended stage (fields ∷ records) named =
-    let first = has_turn stage fields named in
-    let more = extended first.next records (turn_named stage fields first.line first.next named first.turn) in
+extended phase [] named = ([], phase, refl)
+extended phase (fields ∷ records) named =
+    let first = has_turn phase fields named in
+    let more = extended first.next records (turn_named phase fields first.line first.next named first.turn) in
     (first.line ∷ more.0, more.1, (first.next, first.turn, more.2))

@@ -10,25 +10,25 @@ use Rattle.bsi_records.specs.Numbers.{Field}
 use Rattle.bsi_records.specs.Setups.{Setup, can_begin, declared_after, is_begin, machine_of, nothing_declared}
 
 -- what a script has come to: its setup, and from `begin` on its machine
-pub data Stage : Type 0 where
-  Declaring : Setup → Stage
-  Running : Shown → Stage
+pub data Phase : Type 0 where
+  Declaring : Setup → Phase
+  Running : Shown → Phase
 
 -- what a record of the setup leads to, none where it can't be done
-abbrev pub stage_begun : Setup → Option Stage
-stage_begun setup = if can_begin setup then Some (Running (machine_of setup)) else None
+abbrev pub phase_begun : Setup → Option Phase
+phase_begun setup = if can_begin setup then Some (Running (machine_of setup)) else None
 
-abbrev pub set_up : Setup → List Field → Option Stage
-set_up setup fields = if is_begin fields then stage_begun setup else option_map Declaring (declared_after setup fields)
+abbrev pub set_up : Setup → List Field → Option Phase
+set_up setup fields = if is_begin fields then phase_begun setup else option_map Declaring (declared_after setup fields)
 
 -- a record that asks for nothing is bad, and does nothing
-pub record IsBad (shown : Shown) (fields : List Field) (line : List ℕ) (next : Stage) : Type 0 where
+pub record IsBad (shown : Shown) (fields : List Field) (line : List ℕ) (next : Phase) : Type 0 where
   pub none : (event : Event) → IsEvent shown.index.schema fields event → ⊥
   pub line_is : line ≡ bad_line
   pub same : next ≡ Running shown
 
 -- a record that asks for an event gets the text of a reply that is lawful then
-pub record IsDone (shown : Shown) (fields : List Field) (line : List ℕ) (next : Stage) : Type 0 where
+pub record IsDone (shown : Shown) (fields : List Field) (line : List ℕ) (next : Phase) : Type 0 where
   pub event : Event
   pub reply : Reply
   pub asked : IsEvent shown.index.schema fields event
@@ -37,19 +37,19 @@ pub record IsDone (shown : Shown) (fields : List Field) (line : List ℕ) (next 
   pub after : next ≡ Running (shown_after shown ((event, reply) ∷ []))
 
 -- a record, the line that answers it, and what the script has come to by it
-abbrev pub IsTurn : Stage → List Field → List ℕ → Stage → Type 0
+abbrev pub IsTurn : Phase → List Field → List ℕ → Phase → Type 0
 IsTurn (Declaring setup) fields line next =
     MatchOption (set_up setup fields) ((line ≡ bad_line) × (next ≡ Declaring setup))
     (λ after. (line ≡ done_line) × (next ≡ after))
 IsTurn (Running shown) fields line next = IsBad shown fields line next ⊎ IsDone shown fields line next
 
 -- records, a line for each, and what the script has come to by all of them
-unfoldable pub AreTurns : Stage → List (List Field) → List (List ℕ) → Stage → Type 0
-AreTurns stage [] [] last = last ≡ stage
-AreTurns stage (fields ∷ records) (line ∷ lines) last =
-    (next : Stage) × IsTurn stage fields line next × AreTurns next records lines last
-AreTurns stage records lines last = ⊥
+unfoldable pub AreTurns : Phase → List (List Field) → List (List ℕ) → Phase → Type 0
+AreTurns phase [] [] last = last ≡ phase
+AreTurns phase (fields ∷ records) (line ∷ lines) last =
+    (next : Phase) × IsTurn phase fields line next × AreTurns next records lines last
+AreTurns phase records lines last = ⊥
 
 -- a script run of records
 abbrev pub IsScriptRun : List (List Field) → List (List ℕ) → Type 0
-IsScriptRun records lines = (last : Stage) × AreTurns (Declaring nothing_declared) records lines last
+IsScriptRun records lines = (last : Phase) × AreTurns (Declaring nothing_declared) records lines last

@@ -1,8 +1,8 @@
 -- A session as what its script has come to.
 use Rattle.bsi_text.specs.declared.session.Session.{Session}
 use Rattle.bsi_text.specs.declared.session.Session.TheVariants as session
-use Rattle.bsi_text.specs.Scripts.{Stage, Declaring, Running}
+use Rattle.bsi_text.specs.Scripts.{Phase, Declaring, Running}
 
-abbrev pub stage_of : Session → Stage
-stage_of (session.Declaring setup) = Declaring setup
-stage_of (session.Running shown) = Running shown
+abbrev pub phase_of : Session → Phase
+phase_of (session.Declaring setup) = Declaring setup
+phase_of (session.Running shown) = Running shown

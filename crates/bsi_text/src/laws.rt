@@ -23,10 +23,7 @@ pub fn nothing_is_lost()
     ensures { (records : List (List Field)) → (lines : List (List ℕ)) → (shown : Shown)
         → AreTurns (Declaring nothing_declared) records lines (Running shown) →
         HasPast records lines shown }
-{
-    // The proof takes this law of the machine.
-    bsi_load::laws::nothing_is_lost();
-}
+{}
 
 /// States that two script runs of the same records have the same lines, if neither has a line `no memory`.
 pub fn determined()

@@ -6,7 +6,7 @@ ghost use Rattle.csv.specs.Reading.{reader_state, source_of};
 ghost use Rattle.csv.specs.declared.parser.State.TheVariants as st;
 ghost use Rattle.bsi_records.specs.Setups.{nothing_declared};
 ghost use Rattle.bsi_text.specs.Scripts.{Declaring};
-ghost use Rattle.bsi_text.specs.Sessions.{stage_of};
+ghost use Rattle.bsi_text.specs.Sessions.{phase_of};
 ghost use Rattle.bsi_text.specs.Sources.{IsPlain};
 ghost use Rattle.bsi_text.specs.Texts.{FromText, IfKnown, IsAnswered, IsBegun, IsStopped, IsTooLong, OnceServed};
 ghost use Rattle.bsi_text.specs.Waiting.{IsCut, IsPut, WhileWritten};
@@ -134,7 +134,7 @@ fn serve<R: Read + Drop, W: Write>(
     waiting: &mut Vec<u8>,
     writer: &mut W,
 ) -> Result<(), ScriptFault>
-    requires first { stage_of session.old ≡ Declaring nothing_declared }
+    requires first { phase_of session.old ≡ Declaring nothing_declared }
     requires plain { IsPlain input.old }
     requires start { reader_state input.old ≡ st.StartRecord }
     requires none { waiting.old.items ≡ [] }

@@ -23,11 +23,11 @@ pub(crate) enum Session {
 impl Session {
     ghost use Rattle.bsi_records.specs.Setups.{nothing_declared};
     ghost use Rattle.bsi_text.specs.Scripts.{Declaring};
-    ghost use Rattle.bsi_text.specs.Sessions.{stage_of};
+    ghost use Rattle.bsi_text.specs.Sessions.{phase_of};
 
     /// Makes a script of which no record has been read.
     pub(crate) fn new(alloc: Global) -> Session
-        ensures { stage_of result ≡ Declaring nothing_declared }
+        ensures { phase_of result ≡ Declaring nothing_declared }
     {
         Session::Declaring(Setup::new(alloc))
     }
@@ -40,8 +40,8 @@ impl Session {
         fields: &ByteRecord,
         line: &mut Vec<u8>,
     ) -> Result<(), NoMemory>
-        ensures { OnOk result (IsTurn (stage_of self.old) (fields_of fields.now) line.new.items
-            (stage_of self.new)) }
+        ensures { OnOk result (IsTurn (phase_of self.old) (fields_of fields.now) line.new.items
+            (phase_of self.new)) }
     {
         line.clear();
         match self {

@@ -1,6 +1,8 @@
 use Rattle.std.proofs.Common.{◌≡◌, Bool, true, Option, Some, IfSome, ap, arith, sym, subst, ◌∙◌}
 use Rattle.bsi_rings.specs.Rings.{Sending}
 use Rattle.bsi_text.specs.declared.rows.SourceFault.{SourceFault}
+use Rattle.bsi_text.proofs.Joining.{taken_both}
+use Rattle.bsi_text.proofs.Taking.{taken_none}
 use Rattle.bsi_feeding.specs.Feeding.{HasFailed}
 use Rattle.bsi_feeding.proofs.Feeds.{failed_after, fed_first, of_some, sent_more, sent_none}
 use Rattle.bsi_feeding.proofs.feeding.feed.Goals.{in-Stopped, in-Over, in-Failed}
@@ -8,7 +10,7 @@ use Rattle.bsi_feeding.proofs.feeding.feed.Goals as goal
 
 pub turns-init : goal.turns-init
 turns-init g c = record {
-  sent = sent_none g.I.Read.remaining c.args.feeder c.args.source (c.none_taken.ensures c.args.source.layout c.args.source.input c.args.source.tally);
+  sent = sent_none g.I.Read.remaining c.args.feeder c.args.source (taken_none g.I.Read.remaining c.args.source.layout c.args.source.input c.args.source.tally);
   few = omega arith;
 }
 
@@ -16,7 +18,7 @@ pub turns-preserved : goal.turns-preserved
 turns-preserved g c =
     let turn = c.in-Sent.ensures in
     record {
-      sent = sent_more g.I.Read.remaining c.args.feeder c.args.source c.turns.accepted c.turns.feeder c.turns.source c.turns.invariant.sent c.taken_in_turn.ensures
+      sent = sent_more g.I.Read.remaining c.args.feeder c.args.source c.turns.accepted c.turns.feeder c.turns.source c.turns.invariant.sent (taken_both g.I.Read.remaining)
           c.in-Sent.rows c.feed_next.new.feeder c.feed_next.new.source turn.0 turn.1 turn.3 turn.4;
       few = omega (arith, c.turns.invariant.few, turn.2);
     }
@@ -24,7 +26,7 @@ turns-preserved g c =
 -- the feeder stopped, no row is left, or the source failed
 pub returns-in-turns-clause-fed : goal.returns-in-turns-clause-fed
 returns-in-turns-clause-fed g c =
-    let fed = fed_first g.I.Read.remaining c.args.feeder c.args.source c.turns.accepted c.turns.feeder c.turns.source c.turns.invariant.sent c.taken_in_turn.ensures c.finish.result in
+    let fed = fed_first g.I.Read.remaining c.args.feeder c.args.source c.turns.accepted c.turns.feeder c.turns.source c.turns.invariant.sent (taken_both g.I.Read.remaining) c.finish.result in
     let sent : c.feed_next.new.feeder ≡ c.turns.feeder → IfSome c.finish.result.closing (λ closing. closing.rows ≡ c.turns.feeder.sent) =
     λ same. of_some c.finish.result.closing c.finish.ensures.closing (λ closing closes. closes.rows ∙ ap (λ (s : Sending). s.sent) same) in
     elim c.match-feed_next.branch [
@@ -55,6 +57,6 @@ returns-in-turns-clause-fault g c =
 -- a text of so many records is never met
 pub returns-clause-fed : goal.returns-clause-fed
 returns-clause-fed g c =
-    fed_first g.I.Read.remaining c.args.feeder c.args.source c.turns.accepted c.turns.feeder c.turns.source c.turns.invariant.sent c.taken_in_turn.ensures c.finish-2.result
+    fed_first g.I.Read.remaining c.args.feeder c.args.source c.turns.accepted c.turns.feeder c.turns.source c.turns.invariant.sent (taken_both g.I.Read.remaining) c.finish-2.result
     (of_some c.finish-2.result.closing c.finish-2.ensures.closing (λ closing closes. closes.rows)) c.finish-2.ensures.accepted
     (λ going fine. absurd (cc (c.finish-2.ensures.stopped, going)))

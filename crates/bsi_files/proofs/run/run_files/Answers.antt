@@ -11,6 +11,7 @@ use Rattle.bsi_files.specs.Feds.{HasRun}
 use Rattle.bsi_files.specs.Matching.{AreMatched}
 use Rattle.bsi_files.specs.SchemaFiles.{none_declared, IsSchemaFault, IsSchemaFile}
 use Rattle.bsi_files.specs.Writing.{Leaves, WritesAll}
+use Rattle.bsi_text.proofs.Joining.{is_whole}
 use Rattle.bsi_files.proofs.Asking.{all_follows, leaves_follows}
 use Rattle.bsi_files.proofs.Files.{matched_long, run_of_bytes}
 use Rattle.bsi_files.proofs.Passing.{if_err, if_err_both, on_ok}
@@ -38,7 +39,7 @@ returns-clause-lines g c =
     (λ lines never declared texts asked s i a.
     (let declares : IsSchemaFile declared schema limit = subst (λ (o : Option (List ℕ)). IfSome o (λ bytes. IsSchemaFile bytes schema limit)) s c.in_ok-schema.ensures.declared in
     let schema_is : IsSchemaFile declared columns limit = subst (λ (d : Declared). IsSchemaFile declared d limit) (sym c.in_ok-columns.ensures) declares in
-    all_follows (run_of_bytes rem c.rows_of_a_file.ensures stops never columns limit readers sources declared texts schema_is begin i) asked before after
+    all_follows (run_of_bytes rem (is_whole rem) stops never columns limit readers sources declared texts schema_is begin i) asked before after
     (subst (λ (o : Option (List ℕ)). IfSome o (λ bytes. WritesAll (HasRun rem stops columns limit sources) bytes before after)) a lines)))
     c.run_in.ensures.lines
 
@@ -59,7 +60,7 @@ returns-clause-part g c =
     (λ fault leaves never declared texts asked s i a.
     (let declares : IsSchemaFile declared schema limit = subst (λ (o : Option (List ℕ)). IfSome o (λ bytes. IsSchemaFile bytes schema limit)) s c.in_ok-schema.ensures.declared in
     let schema_is : IsSchemaFile declared columns limit = subst (λ (d : Declared). IsSchemaFile declared d limit) (sym c.in_ok-columns.ensures) declares in
-    leaves_follows (run_of_bytes rem c.rows_of_a_file.ensures stops never columns limit readers sources declared texts schema_is begin i) asked fault before after
+    leaves_follows (run_of_bytes rem (is_whole rem) stops never columns limit readers sources declared texts schema_is begin i) asked fault before after
     (subst (λ (o : Option (List ℕ)). IfSome o (λ bytes. Leaves (HasRun rem stops columns limit sources) bytes fault before after)) a leaves)))
     c.run_in.ensures.part
 
@@ -106,4 +107,4 @@ returns-clause-fault g c =
     if_err c.run_in.result (λ fault met declared texts s i.
     (let declares : IsSchemaFile declared schema limit = subst (λ (o : Option (List ℕ)). IfSome o (λ bytes. IsSchemaFile bytes schema limit)) s c.in_ok-schema.ensures.declared in
     let schema_is : IsSchemaFile declared columns limit = subst (λ (d : Declared). IsSchemaFile declared d limit) (sym c.in_ok-columns.ensures) declares in
-    run_fault_of rem c.rows_of_a_file.ensures g.G.Stopping.STOPS declared columns limit readers sources texts schema_is begin i fault met)) c.run_in.ensures.fault
+    run_fault_of rem (is_whole rem) g.G.Stopping.STOPS declared columns limit readers sources texts schema_is begin i fault met)) c.run_in.ensures.fault

@@ -1,6 +1,7 @@
 use Rattle.std.proofs.Common.{rules}
 use Rattle.std.specs.Prelude.{IfSome}
 use Rattle.bsi_text.specs.Texts.{IsAnswered, IsBegun}
+use Rattle.bsi_text.proofs.Standing.{answered_begun}
 use Rattle.bsi_shell.proofs.Runs.{answered_kept, begun_kept, if_some, of_each, on_both, on_err}
 use Rattle.bsi_shell.proofs.Scripts.{script_left}
 use Rattle.bsi_shell.proofs.words.run_to_end.Goals as goal
@@ -21,7 +22,7 @@ returns-clause-fault g c =
     let before = g.O.Write.contents c.args.output.now in
     let after = g.O.Write.contents c.run_script-run.new.writer in
     let run : IfSome known (λ bytes. IsBegun bytes before after) =
-    of_each {P = λ bytes. IsAnswered bytes before after} known c.run_script-run.result (λ bytes answered. c.begun.ensures.answered bytes before after answered)
+    of_each {P = λ bytes. IsAnswered bytes before after} known c.run_script-run.result (λ bytes answered. answered_begun bytes before after answered)
     c.run_script-run.ensures.ok c.run_script-run.ensures.fault in
     let flushed = if_some known (begun_kept before after (g.O.Write.contents c.flush.new.self) c.flush.ensures.bytes) run in
     on_err c.and.result flushed
@@ -33,5 +34,5 @@ returns-clause-left g c =
     script_left before middle (g.O.Write.contents c.flush.new.self) c.flush.ensures.bytes (g.I.Read.remaining c.args.input)
     c.run_script-run.result c.map_err-flushed.result c.and.result c.and.ensures
     c.run_script-run.ensures.ok c.run_script-run.ensures.too_long c.run_script-run.ensures.fault c.run_script-run.ensures.whole
-    (λ bytes answered. c.begun.ensures.answered bytes before middle answered)
+    (λ bytes answered. answered_begun bytes before middle answered)
     (search rules)

@@ -2,6 +2,7 @@ use Rattle.std.proofs.Common.{inl, refl, subst, sym}
 use Rattle.bsi_files.specs.declared.faults.FilesFault.TheVariants.{NoMemory}
 use Rattle.bsi_shell.specs.Commands.{BeginsWithFiles}
 use Rattle.bsi_shell.specs.declared.files.Failure.TheVariants.{Run}
+use Rattle.bsi_text.proofs.Standing.{nothing_begun}
 use Rattle.bsi_shell.proofs.Runs.{keeps_same, of_any}
 use Rattle.bsi_shell.proofs.words.run_words.Goals as goal
 
@@ -26,7 +27,7 @@ returns-in-Wrong-clause-wrong g c = λ two. refl
 
 -- no memory for the words: nothing was written
 pub returns-clause-begun : goal.returns-clause-begun
-returns-clause-begun g c = λ one other. of_any (g.I.Read.remaining c.args.input) (λ bytes. c.begun.ensures.nothing bytes (g.O.Write.contents c.args.output.now))
+returns-clause-begun g c = λ one other. of_any (g.I.Read.remaining c.args.input) (λ bytes. nothing_begun bytes (g.O.Write.contents c.args.output.now))
 
 pub returns-clause-told : goal.returns-clause-told
 returns-clause-told g c = λ one files.

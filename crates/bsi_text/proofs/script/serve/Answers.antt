@@ -2,7 +2,7 @@ use Rattle.std.proofs.Common.{true, false, ◌++◌, rules}
 use Rattle.csv.specs.Reading.{ReadRecord, source_of}
 use Rattle.csv.specs.Records.{fields_of}
 use Rattle.bsi_text.specs.Scripts.{IsTurn}
-use Rattle.bsi_text.specs.Sessions.{stage_of}
+use Rattle.bsi_text.specs.Sessions.{phase_of}
 use Rattle.bsi_text.specs.Texts.{FromText, IsStopped}
 use Rattle.bsi_text.specs.Waiting.{IsPut, OnceWritten}
 use Rattle.bsi_text.specs.declared.script.ScriptFault.TheVariants as fault
@@ -62,7 +62,7 @@ pub returns-then-not-branch-clause-ok : goal.returns-then-not-branch-clause-ok
 returns-then-not-branch-clause-ok g c =
     let none : ReadRecord (λ w. g.R.Read.remaining w.inner) c.records.input c.read_next.new.input false (fields_of c.read_next.new.fields) = search rules in
     λ bytes left.
-    stands_answered (λ (w : Watched g.row.R.Denot). g.R.Read.remaining w.inner) c.records.input c.read_next.new.input (fields_of c.read_next.new.fields) (stage_of c.records.session) bytes _ _ _ _ (stands_way _ bytes _ _ _ _ _ _ (c.records.invariant.stands bytes left) (g.W.Write.contents c.make_way.new.writer) c.make_way.new.waiting.items c.in_ok-make_way.ensures.ok) c.records.invariant.plain.config none (search rules)
+    stands_answered (λ (w : Watched g.row.R.Denot). g.R.Read.remaining w.inner) c.records.input c.read_next.new.input (fields_of c.read_next.new.fields) (phase_of c.records.session) bytes _ _ _ _ (stands_way _ bytes _ _ _ _ _ _ (c.records.invariant.stands bytes left) (g.W.Write.contents c.make_way.new.writer) c.make_way.new.waiting.items c.in_ok-make_way.ensures.ok) c.records.invariant.plain.config none (search rules)
 
 -- of all lines a first part is written
 pub returns-then-not-branch-clause-part : goal.returns-then-not-branch-clause-part
@@ -85,25 +85,25 @@ returns-in_err-answer-clause-part g c =
 pub returns-in_err-gather-clause-part : goal.returns-in_err-gather-clause-part
 returns-in_err-gather-clause-part g c =
     let found : ReadRecord (λ w. g.R.Read.remaining w.inner) c.records.input c.read_next.new.input true (fields_of c.read_next.new.fields) = search rules in
-    let turn : IsTurn (stage_of c.records.session) (fields_of c.read_next.new.fields) c.answer.new.line.items (stage_of c.answer.new.self) = search rules in
+    let turn : IsTurn (phase_of c.records.session) (fields_of c.read_next.new.fields) c.answer.new.line.items (phase_of c.answer.new.self) = search rules in
     λ bytes left after cut.
-    stands_part (λ w. g.R.Read.remaining w.inner) c.records.input c.read_next.new.input (fields_of c.read_next.new.fields) (stage_of c.records.session) bytes _ _ _ _
+    stands_part (λ w. g.R.Read.remaining w.inner) c.records.input c.read_next.new.input (fields_of c.read_next.new.fields) (phase_of c.records.session) bytes _ _ _ _
     (stands_way _ bytes _ _ _ _ _ _ (c.records.invariant.stands bytes left) (g.W.Write.contents c.make_way.new.writer) c.make_way.new.waiting.items c.in_ok-make_way.ensures.ok) c.records.invariant.plain.config
-    (stage_of c.answer.new.self) c.answer.new.line.items after found turn
+    (phase_of c.answer.new.self) c.answer.new.line.items after found turn
     (cut_end _ (g.W.Write.contents c.gather.new.writer) after _ c.gather.new.waiting.items (search rules) c.in_err-gather.ensures.none cut)
 
 -- one more record was read, and its line waits or was written
 pub records-preserved : goal.records-preserved
 records-preserved g c =
     let found : ReadRecord (λ w. g.R.Read.remaining w.inner) c.records.input c.read_next.new.input true (fields_of c.read_next.new.fields) = search rules in
-    let turn : IsTurn (stage_of c.records.session) (fields_of c.read_next.new.fields) c.answer.new.line.items (stage_of c.answer.new.self) = search rules in
+    let turn : IsTurn (phase_of c.records.session) (fields_of c.read_next.new.fields) c.answer.new.line.items (phase_of c.answer.new.self) = search rules in
     let put : IsPut (g.W.Write.contents c.make_way.new.writer) (g.W.Write.contents c.gather.new.writer) c.gather.new.waiting.items (c.make_way.new.waiting.items ++ c.answer.new.line.items) = search rules in
     record {
       plain = search rules;
       stands = λ bytes left.
-          stands_next (λ w. g.R.Read.remaining w.inner) c.records.input c.read_next.new.input (fields_of c.read_next.new.fields) (stage_of c.records.session) bytes _ _ _ _
+          stands_next (λ w. g.R.Read.remaining w.inner) c.records.input c.read_next.new.input (fields_of c.read_next.new.fields) (phase_of c.records.session) bytes _ _ _ _
           (stands_way _ bytes _ _ _ _ _ _ (c.records.invariant.stands bytes left) (g.W.Write.contents c.make_way.new.writer) c.make_way.new.waiting.items c.in_ok-make_way.ensures.ok) c.records.invariant.plain.config
-          (stage_of c.answer.new.self) c.answer.new.line.items (g.W.Write.contents c.gather.new.writer) c.gather.new.waiting.items found turn put;
+          (phase_of c.answer.new.self) c.answer.new.line.items (g.W.Write.contents c.gather.new.writer) c.gather.new.waiting.items found turn put;
     }
 
 -- there is one more than may be
@@ -111,7 +111,7 @@ pub returns-then-branch-clause-too_long : goal.returns-then-branch-clause-too_lo
 returns-then-branch-clause-too_long g c =
     let found : ReadRecord (λ w. g.R.Read.remaining w.inner) c.records.input c.read_next-2.new.input true (fields_of c.read_next-2.new.fields) = search rules in
     λ same bytes left.
-    stands_long (λ (w : Watched g.row.R.Denot). g.R.Read.remaining w.inner) c.records.input c.read_next-2.new.input (fields_of c.read_next-2.new.fields) (stage_of c.records.session) bytes _ _ _ _ (stands_way _ bytes _ _ _ _ _ _ (c.records.invariant.stands bytes left) (g.W.Write.contents c.make_way-2.new.writer) c.make_way-2.new.waiting.items c.in_ok-make_way-2.ensures.ok) c.records.invariant.plain.config found (search rules)
+    stands_long (λ (w : Watched g.row.R.Denot). g.R.Read.remaining w.inner) c.records.input c.read_next-2.new.input (fields_of c.read_next-2.new.fields) (phase_of c.records.session) bytes _ _ _ _ (stands_way _ bytes _ _ _ _ _ _ (c.records.invariant.stands bytes left) (g.W.Write.contents c.make_way-2.new.writer) c.make_way-2.new.waiting.items c.in_ok-make_way-2.ensures.ok) c.records.invariant.plain.config found (search rules)
 
 -- the lines of those before were written, or wait
 pub returns-then-branch-clause-whole : goal.returns-then-branch-clause-whole
@@ -128,7 +128,7 @@ pub returns-clause-ok : goal.returns-clause-ok
 returns-clause-ok g c =
     let none : ReadRecord (λ w. g.R.Read.remaining w.inner) c.records.input c.read_next-2.new.input false (fields_of c.read_next-2.new.fields) = search rules in
     λ bytes left.
-    stands_answered (λ (w : Watched g.row.R.Denot). g.R.Read.remaining w.inner) c.records.input c.read_next-2.new.input (fields_of c.read_next-2.new.fields) (stage_of c.records.session) bytes _ _ _ _ (stands_way _ bytes _ _ _ _ _ _ (c.records.invariant.stands bytes left) (g.W.Write.contents c.make_way-2.new.writer) c.make_way-2.new.waiting.items c.in_ok-make_way-2.ensures.ok) c.records.invariant.plain.config none (search rules)
+    stands_answered (λ (w : Watched g.row.R.Denot). g.R.Read.remaining w.inner) c.records.input c.read_next-2.new.input (fields_of c.read_next-2.new.fields) (phase_of c.records.session) bytes _ _ _ _ (stands_way _ bytes _ _ _ _ _ _ (c.records.invariant.stands bytes left) (g.W.Write.contents c.make_way-2.new.writer) c.make_way-2.new.waiting.items c.in_ok-make_way-2.ensures.ok) c.records.invariant.plain.config none (search rules)
 
 -- of all lines a first part is written
 pub returns-clause-part : goal.returns-clause-part

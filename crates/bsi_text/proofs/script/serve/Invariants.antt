@@ -1,5 +1,5 @@
 use Rattle.csv.specs.Reading.{reader_state, source_of}
-use Rattle.bsi_text.specs.Sessions.{stage_of}
+use Rattle.bsi_text.specs.Sessions.{phase_of}
 use Rattle.bsi_text.specs.Sources.{IsPlain}
 use Rattle.bsi_text.specs.Texts.{FromText}
 use Rattle.bsi_text.proofs.Standing.{StandsAt}
@@ -10,6 +10,6 @@ abbrev pub invariant-records : goal.invariant-records
 invariant-records g l = record {
   plain : IsPlain l.input;
   stands : FromText (source_of (λ w. g.R.Read.remaining w.inner) l.initial.input) (λ bytes.
-      StandsAt (stage_of l.session) bytes (reader_state l.input) (source_of (λ w. g.R.Read.remaining w.inner) l.input) l.count
+      StandsAt (phase_of l.session) bytes (reader_state l.input) (source_of (λ w. g.R.Read.remaining w.inner) l.input) l.count
       (g.W.Write.contents l.initial.writer) (g.W.Write.contents l.writer) l.waiting.items);
 }
