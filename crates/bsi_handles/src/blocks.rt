@@ -28,8 +28,8 @@ fn fill_row(
     let mut entries = mem::replace(row, Row::new(Vec::new(alloc))).into_values();
     entries.clear();
     entries.reserve(columns.len())?;
-    'columns: for c in 0..columns.len() {
-        entries.push_reserved(entry(&columns[c], rows, r));
+    'columns: for column in columns {
+        entries.push_reserved(entry(column, rows, r));
     }
     *row = Row::new(entries);
     Ok(())

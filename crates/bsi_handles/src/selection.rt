@@ -61,8 +61,8 @@ fn count_record(alloc: Global, fields: &[&[u8]]) -> Result<ByteRecord, NoMemory>
 {
     let mut counted = ByteRecord::new(alloc);
     counted.push_field(b"count")?;
-    'fields: for i in 0..fields.len() {
-        counted.push_field(fields[i])?;
+    'fields: for field in fields {
+        counted.push_field(field)?;
     }
     Ok(counted)
 }

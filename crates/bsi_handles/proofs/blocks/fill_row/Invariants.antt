@@ -6,6 +6,6 @@ use Rattle.bsi_handles.proofs.blocks.fill_row.Given as goal
 -- the entries of the columns so far, and room for those of the others
 abbrev pub invariant-columns : goal.invariant-columns
 invariant-columns l = record {
-  entries : l.entries.items ≡ map (entry_of l.r) (take l.c l.columns);
+  entries : l.entries.items ≡ map (entry_of l.r) (take l.column-index l.columns);
   room : length l.columns ≤ vec_capacity l.entries;
 }

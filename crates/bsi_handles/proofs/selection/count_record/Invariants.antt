@@ -6,6 +6,6 @@ use Rattle.bsi_handles.proofs.selection.count_record.Given as goal
 -- the fields so far stand behind the word
 abbrev pub invariant-fields : goal.invariant-fields
 invariant-fields l = record {
-  fields : fields_of l.counted ≡ codes "count" ∷ map (λ f. f.now) (take l.i l.fields);
+  fields : fields_of l.counted ≡ codes "count" ∷ map (λ f. f.now) (take l.field-index l.fields);
   whole : partial_of l.counted ≡ [];
 }
