@@ -130,11 +130,13 @@ fn shows_digits<E: Encoding>(alloc: Global) -> Result<bool, NoMemory> {
     Ok(shows_three_digits::<E>(alloc)? && shows_base_two::<E>(alloc)?)
 }
 
+fn both_show_digits(alloc: Global) -> Result<bool, NoMemory> {
+    Ok(shows_digits::<EqualityComponent>(alloc)? && shows_digits::<RangeComponent>(alloc)?)
+}
+
 #[test]
 fn two_encodings(rt: HostRuntime) {
-    let equality = shows_digits::<EqualityComponent>(rt.alloc());
-    let range = shows_digits::<RangeComponent>(rt.alloc());
-    assert!(rt; matches!((equality, range), (Ok(true), Ok(true))));
+    assert!(rt; matches!(both_show_digits(rt.alloc()), Ok(true)));
 }
 
 // Whether a copy takes a digit more, and the component does not.
@@ -147,11 +149,13 @@ fn is_apart<E: Encoding>(alloc: Global) -> Result<bool, NoMemory> {
     Ok(shown && copy.base() == 3 && component.len() == 2)
 }
 
+fn both_are_apart(alloc: Global) -> Result<bool, NoMemory> {
+    Ok(is_apart::<EqualityComponent>(alloc)? && is_apart::<RangeComponent>(alloc)?)
+}
+
 #[test]
 fn copies_are_apart(rt: HostRuntime) {
-    let equality = is_apart::<EqualityComponent>(rt.alloc());
-    let range = is_apart::<RangeComponent>(rt.alloc());
-    assert!(rt; matches!((equality, range), (Ok(true), Ok(true))));
+    assert!(rt; matches!(both_are_apart(rt.alloc()), Ok(true)));
 }
 
 fn equality_shows(component: &EqualityComponent, j: u32, expected: &[bool]) -> bool {
