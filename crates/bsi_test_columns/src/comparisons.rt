@@ -4,8 +4,6 @@ use bsi_bits::Bits;
 use bsi_columns::{AnyColumn, Column, NoMemory, Op};
 use bsi_plain::{FORMS, Form, MakingError, Wide, append, compared, no_rows, shows};
 use std::alloc::Global;
-use std::process::Abort;
-use std::test::Fail;
 
 /// The comparisons of the entries 3, none and 2.
 const SHOWN: [(Op, u64, [bool; 3]); 7] = [
@@ -18,23 +16,25 @@ const SHOWN: [(Op, u64, [bool; 3]); 7] = [
     (Op::Eq, 15, [false, false, false]),
 ];
 
-fn selects<C: Column>(
-    rt: &impl Abort,
+/// Returns whether a comparison selects just these rows.
+pub(crate) fn selects<C: Column>(
     column: &C,
     op: Op,
     constant: u64,
     wanted: &[bool],
-) -> Result<(), NoMemory> {
+) -> Result<bool, NoMemory> {
     let found = compared(column, op, constant)?;
-    assert!(rt; shows(&found, wanted), "{op:?} {constant}");
-    Ok(())
+    Ok(shows(&found, wanted))
 }
 
-pub(crate) fn selects_shown<C: Column>(rt: &impl Abort, column: &C) -> Result<(), NoMemory> {
+/// Returns whether each of those comparisons selects what it should.
+pub(crate) fn selects_shown<C: Column>(column: &C) -> Result<bool, NoMemory> {
     for (op, constant, wanted) in SHOWN {
-        selects(rt, column, op, constant, &wanted)?;
+        if !selects(column, op, constant, &wanted)? {
+            return Ok(false);
+        }
     }
-    Ok(())
+    Ok(true)
 }
 
 /// The bases 5 and 3, and as many slices as hold their numbers.
@@ -42,6 +42,13 @@ pub(crate) const FIFTEEN: Wide<'static> = Wide {
     width: 4,
     bases: &[5, 3],
 };
+
+/// Makes a column of the entries 3, none and 2.
+pub(crate) fn three_rows(alloc: Global, form: Form) -> Result<AnyColumn, MakingError> {
+    let mut column = no_rows(alloc, form, FIFTEEN)?;
+    append(&mut column, &[Some(3), None, Some(2)])?;
+    Ok(column)
+}
 
 fn nulls_once(column: &AnyColumn) -> Result<Bits, NoMemory> {
     let mut out = column.present().copy()?;
@@ -58,37 +65,21 @@ fn nulls_are(column: &AnyColumn, wanted: &[bool]) -> Result<bool, NoMemory> {
     Ok(shows(&nulls, wanted))
 }
 
-#[test]
-fn comparisons_table(rt: HostRuntime) -> Result<(), Fail> {
-    for form in FORMS {
-        let mut column = no_rows(rt.alloc(), form, FIFTEEN)?;
-        append(&mut column, &[Some(3), None, Some(2)])?;
-        selects_shown(&rt, &column)?;
-        assert!(rt; nulls_are(&column, &[false, true, false])?);
-    }
-    Ok(())
+fn answers_shown(column: &AnyColumn) -> Result<bool, MakingError> {
+    Ok(selects_shown(column)? && nulls_are(column, &[false, true, false])?)
 }
 
-fn selects_the_numbers(
-    rt: &impl Abort,
-    alloc: Global,
-    form: Form,
-    wide: Wide,
-) -> Result<(), MakingError> {
-    let mut column = no_rows(alloc, form, wide)?;
-    append(&mut column, &[Some(5), None, Some(0)])?;
-    assert_eq!(rt; (column.len(), column.size()), (3, 8), "{form:?}");
-    Ok(selects(rt, &column, Op::Ge, 0, &[true, false, true])?)
+fn is_compared(alloc: Global, form: Form) -> Result<bool, MakingError> {
+    let column = three_rows(alloc, form)?;
+    answers_shown(&column)
 }
 
 #[test]
-fn bits_and_columns_select_numbers_and_no_null(rt: HostRuntime) -> Result<(), Fail> {
-    let wide = Wide {
-        width: 3,
-        bases: &[2, 4],
-    };
+fn comparisons_table(rt: HostRuntime) {
     for form in FORMS {
-        selects_the_numbers(&rt, rt.alloc(), form, wide)?;
+        assert!(rt;
+            matches!(is_compared(rt.alloc(), form), Ok(true)),
+            "{form:?}"
+        );
     }
-    Ok(())
 }

@@ -1,10 +1,9 @@
 //! What stays after a refused allocation, and that a copy is independent of its column.
 
-use crate::comparisons::{FIFTEEN, selects_shown};
+use crate::comparisons::{FIFTEEN, selects_shown, three_rows};
 use bsi_columns::{AnyColumn, Column, NoMemory};
-use bsi_plain::{FORMS, MakingError, append, no_rows};
-use std::process::Abort;
-use std::test::Fail;
+use bsi_plain::{FORMS, Form, MakingError, append, no_rows};
+use std::alloc::Global;
 
 // Returns whether a growth succeeds.
 fn grows(column: &mut AnyColumn) -> bool {
@@ -16,63 +15,74 @@ fn shown(column: &AnyColumn) -> (u64, u64, u64) {
     (column.len(), column.size(), column.present().count())
 }
 
-// Appends an entry. A refused growth changes nothing, and is tried again.
-fn push(rt: &impl Abort, column: &mut AnyColumn, entry: Option<u64>) -> Result<(), MakingError> {
+// Appends an entry, and returns whether a refused growth changes nothing. The growth is then tried again.
+fn push(column: &mut AnyColumn, entry: Option<u64>) -> Result<bool, MakingError> {
     let before = shown(column);
-    if !grows(column) {
-        assert_eq!(rt; shown(column), before);
-    }
-    append(column, &[entry])
+    let stayed = grows(column) || shown(column) == before;
+    append(column, &[entry])?;
+    Ok(stayed)
 }
 
-fn grows_by_rows(rt: &impl Abort, mut column: AnyColumn) -> Result<(), MakingError> {
+// Whether 257 rows are appended so.
+fn grows_to_257(column: &mut AnyColumn) -> Result<bool, MakingError> {
+    let mut stayed = true;
     for row in 0..257 {
-        push(rt, &mut column, Some(row % 15))?;
+        stayed &= push(column, Some(row % 15))?;
     }
-    assert_eq!(rt; column.len(), 257);
-    Ok(())
+    Ok(stayed && column.len() == 257)
+}
+
+fn grows_by_rows(alloc: Global, form: Form) -> Result<bool, MakingError> {
+    let mut column = no_rows(alloc, form, FIFTEEN)?;
+    grows_to_257(&mut column)
 }
 
 #[test]
-fn a_refused_growth_changes_nothing(rt: HostRuntime) -> Result<(), Fail> {
+fn a_refused_growth_changes_nothing(rt: HostRuntime) {
     for form in FORMS {
-        grows_by_rows(&rt, no_rows(rt.alloc(), form, FIFTEEN)?)?;
+        assert!(rt;
+            matches!(grows_by_rows(rt.alloc(), form), Ok(true)),
+            "{form:?}"
+        );
     }
-    Ok(())
 }
 
-// A refused copy leaves the column, and is made again.
-fn copied(rt: &impl Abort, column: &AnyColumn) -> Result<AnyColumn, NoMemory> {
+// A refused copy is made again.
+fn copied(column: &AnyColumn) -> Result<AnyColumn, NoMemory> {
     match column.copy() {
-        Err(_) => {
-            selects_shown(rt, column)?;
-            column.copy()
-        }
+        Err(_) => column.copy(),
         copy => copy,
     }
 }
 
-// A row is appended.
-fn grows_to_four(rt: &impl Abort, mut column: AnyColumn) -> Result<(), MakingError> {
-    selects_shown(rt, &column)?;
-    push(rt, &mut column, Some(4))?;
-    assert_eq!(rt; column.len(), 4);
-    Ok(())
+// Whether a copy shows three rows and takes a fourth.
+fn takes_a_fourth(copy: &mut AnyColumn) -> Result<bool, MakingError> {
+    let alike = selects_shown(copy)?;
+    append(copy, &[Some(4)])?;
+    Ok(alike && copy.len() == 4)
 }
 
-// A row is appended to the copy alone.
-fn copy_stands_apart(rt: &impl Abort, column: &AnyColumn) -> Result<(), MakingError> {
-    grows_to_four(rt, copied(rt, column)?)?;
-    assert_eq!(rt; column.len(), 3);
-    Ok(selects_shown(rt, column)?)
+fn is_copied(column: &AnyColumn) -> Result<bool, MakingError> {
+    let mut copy = copied(column)?;
+    takes_a_fourth(&mut copy)
+}
+
+// Whether the column then keeps its three rows.
+fn keeps_its_rows(column: &AnyColumn) -> Result<bool, MakingError> {
+    Ok(is_copied(column)? && column.len() == 3 && selects_shown(column)?)
+}
+
+fn stands_apart(alloc: Global, form: Form) -> Result<bool, MakingError> {
+    let column = three_rows(alloc, form)?;
+    keeps_its_rows(&column)
 }
 
 #[test]
-fn copies_stand_apart_from_their_column(rt: HostRuntime) -> Result<(), Fail> {
+fn copies_stand_apart_from_their_column(rt: HostRuntime) {
     for form in FORMS {
-        let mut column = no_rows(rt.alloc(), form, FIFTEEN)?;
-        append(&mut column, &[Some(3), None, Some(2)])?;
-        copy_stands_apart(&rt, &column)?;
+        assert!(rt;
+            matches!(stands_apart(rt.alloc(), form), Ok(true)),
+            "{form:?}"
+        );
     }
-    Ok(())
 }

@@ -1,19 +1,17 @@
 //! What each form stores of a row, and that a column works by its components.
 
-use crate::comparisons::{FIFTEEN, selects_shown};
+use crate::comparisons::FIFTEEN;
 use bsi_bits::Bits;
 use bsi_columns::{
-    AnyColumn, Column, Decomposed, Encoding, EqualityComponent, NoMemory, Op, RangeComponent,
-    Slices,
+    Column, Decomposed, Encoding, EqualityComponent, NoMemory, Op, RangeComponent, Slices,
 };
-use bsi_plain::{
-    FORMS, Form, MakingError, WholeVectors, append, no_digits, no_rows, no_slices, shows,
-};
+use bsi_plain::{MakingError, WholeVectors, append, no_digits, no_slices, shows};
 use std::alloc::Global;
-use std::process::Abort;
-use std::test::Fail;
 
 const ENTRIES: [Option<u64>; 3] = [Some(3), None, Some(2)];
+
+// Which of the entries are numbers.
+const NUMBERS: [bool; 3] = [true, false, true];
 
 fn digits_of<E: Encoding>(alloc: Global) -> Result<Decomposed<E>, MakingError> {
     let mut column = no_digits::<E>(alloc, FIFTEEN.bases)?;
@@ -29,6 +27,15 @@ fn equality_shows(column: &Decomposed<EqualityComponent>, i: u32, j: u32, wanted
     component.base() > 2 && j < component.base() && shows(component.bitmap(j), wanted)
 }
 
+fn equality_stores(alloc: Global) -> Result<bool, MakingError> {
+    let column = digits_of::<EqualityComponent>(alloc)?;
+    Ok(
+        shows(column.present(), &NUMBERS)
+            && equality_shows(&column, 0, 2, &[false, false, true])
+            && equality_shows(&column, 1, 1, &[true, false, false]),
+    )
+}
+
 fn range_shows(column: &Decomposed<RangeComponent>, i: u32, j: u32, wanted: &[bool]) -> bool {
     if i >= column.bases().len() {
         return false;
@@ -37,71 +44,32 @@ fn range_shows(column: &Decomposed<RangeComponent>, i: u32, j: u32, wanted: &[bo
     j < component.base() - 1 && shows(component.bitmap(j), wanted)
 }
 
-#[test]
-fn an_equality_component_stores_the_rows_of_a_digit(rt: HostRuntime) -> Result<(), Fail> {
-    let column = digits_of::<EqualityComponent>(rt.alloc())?;
-    assert!(rt; shows(column.present(), &[true, false, true]));
-    assert!(rt; equality_shows(&column, 0, 2, &[false, false, true]));
-    assert!(rt; equality_shows(&column, 1, 1, &[true, false, false]));
-    Ok(())
-}
-
-#[test]
-fn a_range_component_stores_the_rows_up_to_a_digit(rt: HostRuntime) -> Result<(), Fail> {
-    let column = digits_of::<RangeComponent>(rt.alloc())?;
-    assert_eq!(rt; column.size(), 15);
-    assert!(rt; shows(column.present(), &[true, false, true]));
-    assert!(rt; range_shows(&column, 0, 0, &[true, true, false]));
-    Ok(())
+fn range_stores(alloc: Global) -> Result<bool, MakingError> {
+    let column = digits_of::<RangeComponent>(alloc)?;
+    Ok(shows(column.present(), &NUMBERS) && range_shows(&column, 0, 0, &[true, true, false]))
 }
 
 fn slice_shows(column: &Slices, i: u32, wanted: &[bool]) -> bool {
     i < column.width() && shows(column.slice(i), wanted)
 }
 
-#[test]
-fn a_slice_stores_a_binary_place(rt: HostRuntime) -> Result<(), Fail> {
-    let mut column = no_slices(rt.alloc(), 2)?;
+fn slices_store(alloc: Global) -> Result<bool, MakingError> {
+    let mut column = no_slices(alloc, 2)?;
     append(&mut column, &ENTRIES)?;
-    assert_eq!(rt; column.width(), 2);
-    assert!(rt; shows(column.present(), &[true, false, true]));
-    assert!(rt; slice_shows(&column, 0, &[true, false, false]));
-    assert!(rt; slice_shows(&column, 1, &[true, false, true]));
-    Ok(())
+    Ok(
+        shows(column.present(), &NUMBERS)
+            && slice_shows(&column, 0, &[true, false, false])
+            && slice_shows(&column, 1, &[true, false, true]),
+    )
 }
 
-// Appends the entries at once, where there is room for them.
-fn push_block(column: &mut AnyColumn) -> bool {
-    if column.room() < 3 || column.size() < 4 {
-        return false;
-    }
-    column.push_block_reserved(&ENTRIES);
-    true
-}
-
-// Makes room for a block in an empty column. A refused growth changes nothing, and the same call is made again.
-fn reserve(rt: &impl Abort, column: &mut AnyColumn) -> Result<(), NoMemory> {
-    assert!(rt; column.len() == 0);
-    if column.reserve(64).is_err() {
-        assert!(rt; column.len() == 0 && column.room() < 64);
-        column.reserve(64)?;
-    }
-    Ok(())
-}
-
-fn takes_a_block(rt: &impl Abort, alloc: Global, form: Form) -> Result<(), MakingError> {
-    let mut column = no_rows(alloc, form, FIFTEEN)?;
-    reserve(rt, &mut column)?;
-    assert!(rt; push_block(&mut column));
-    Ok(selects_shown(rt, &column)?)
+fn bitmaps_are_stored(alloc: Global) -> Result<bool, MakingError> {
+    Ok(equality_stores(alloc)? && range_stores(alloc)? && slices_store(alloc)?)
 }
 
 #[test]
-fn blocks_append_as_single_rows(rt: HostRuntime) -> Result<(), Fail> {
-    for form in FORMS {
-        takes_a_block(&rt, rt.alloc(), form)?;
-    }
-    Ok(())
+fn stored_bits(rt: HostRuntime) {
+    assert!(rt; matches!(bitmaps_are_stored(rt.alloc()), Ok(true)));
 }
 
 type Counted<E> = Decomposed<WholeVectors<E>>;
@@ -115,14 +83,10 @@ fn asked<E: Encoding>(column: &Counted<E>, i: u32) -> (u32, u32) {
     (component.calls(), component.sums())
 }
 
-// The rows at most 2. A refused comparison calls no component.
-fn at_most_two<E: Encoding>(rt: &impl Abort, column: &Counted<E>) -> Result<Bits, NoMemory> {
-    let before = (asked(column, 0), asked(column, 1));
+// The rows at most 2.
+fn at_most_two<E: Encoding>(column: &Counted<E>) -> Result<Bits, NoMemory> {
     match column.compare(Op::Le, 2) {
-        Err(_) => {
-            assert_eq!(rt; (asked(column, 0), asked(column, 1)), before);
-            column.compare(Op::Le, 2)
-        }
+        Err(_) => column.compare(Op::Le, 2),
         found => found,
     }
 }
@@ -131,36 +95,39 @@ fn is_one_to_four(after: (u32, u32), before: (u32, u32)) -> bool {
     after.0 > before.0 && after.0 - before.0 <= 4
 }
 
-/// Asserts that a comparison calls each component one to four times, if its encoding has no calls on blocks.
-fn calls_each_component<E: Encoding>(rt: &impl Abort, alloc: Global) -> Result<(), MakingError> {
+// Whether a comparison calls each component one to four times, if its encoding has no calls on blocks.
+fn compares_by_components<E: Encoding>(column: &Counted<E>) -> Result<bool, NoMemory> {
+    let (first, second) = (asked(column, 0), asked(column, 1));
+    let found = at_most_two(column)?;
+    let called = is_one_to_four(asked(column, 0), first)
+        && is_one_to_four(asked(column, 1), second);
+    Ok(called && shows(&found, &[false, false, true]))
+}
+
+// Whether a sum asks each component.
+fn sums_by_components<E: Encoding>(column: &Counted<E>) -> bool {
+    let (first, second) = (asked(column, 0), asked(column, 1));
+    let sum = column.sum(column.present());
+    sum == 5 && asked(column, 0).1 > first.1 && asked(column, 1).1 > second.1
+}
+
+fn has_components<E: Encoding>(column: &Counted<E>) -> Result<bool, MakingError> {
+    Ok(compares_by_components(column)? && sums_by_components(column))
+}
+
+fn works_by_components<E: Encoding>(alloc: Global) -> Result<bool, MakingError> {
     let column = digits_of::<WholeVectors<E>>(alloc)?;
-    let (first, second) = (asked(&column, 0), asked(&column, 1));
-    let found = at_most_two(rt, &column)?;
-    assert!(rt; shows(&found, &[false, false, true]));
-    assert!(rt; is_one_to_four(asked(&column, 0), first));
-    assert!(rt; is_one_to_four(asked(&column, 1), second));
-    Ok(())
+    has_components(&column)
+}
+
+fn both_work_by_components(alloc: Global) -> Result<bool, MakingError> {
+    Ok(
+        works_by_components::<RangeComponent>(alloc)?
+            && works_by_components::<EqualityComponent>(alloc)?,
+    )
 }
 
 #[test]
-fn a_comparison_calls_each_component_one_to_four_times(rt: HostRuntime) -> Result<(), Fail> {
-    calls_each_component::<RangeComponent>(&rt, rt.alloc())?;
-    calls_each_component::<EqualityComponent>(&rt, rt.alloc())?;
-    Ok(())
-}
-
-/// Asserts that a sum asks each component.
-fn sums_each_component<E: Encoding>(rt: &impl Abort, alloc: Global) -> Result<(), MakingError> {
-    let column = digits_of::<WholeVectors<E>>(alloc)?;
-    let (first, second) = (asked(&column, 0), asked(&column, 1));
-    assert_eq!(rt; column.sum(column.present()), 5);
-    assert!(rt; asked(&column, 0).1 > first.1 && asked(&column, 1).1 > second.1);
-    Ok(())
-}
-
-#[test]
-fn a_sum_asks_each_component(rt: HostRuntime) -> Result<(), Fail> {
-    sums_each_component::<RangeComponent>(&rt, rt.alloc())?;
-    sums_each_component::<EqualityComponent>(&rt, rt.alloc())?;
-    Ok(())
+fn a_column_works_by_its_components(rt: HostRuntime) {
+    assert!(rt; matches!(both_work_by_components(rt.alloc()), Ok(true)));
 }

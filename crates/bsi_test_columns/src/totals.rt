@@ -2,12 +2,11 @@
 
 ghost use Rattle.std.specs.Prelude.{◌≡◌, ◌≤◌, ◌^◌, length};
 
+use crate::comparisons::selects;
 use bsi_bits::Bits;
-use bsi_columns::{AnyColumn, Column, NoMemory};
+use bsi_columns::{AnyColumn, Column, NoMemory, Op};
 use bsi_plain::{FORMS, Form, MakingError, Wide, append, no_rows};
 use std::alloc::Global;
-use std::process::Abort;
-use std::test::Fail;
 
 /// The sum of some numbers, and the least, the greatest and the lower median, where there are numbers.
 type Totals = (u128, [Option<u64>; 3]);
@@ -26,8 +25,10 @@ fn totals_once<C: Column>(column: &C, found: &Bits) -> Result<Totals, NoMemory>
 }
 
 // Returns the totals over the found rows. If memory is refused, it asks for all of them again.
-fn totals_of<C: Column>(rt: &impl Abort, column: &C, found: &Bits) -> Result<Totals, NoMemory> {
-    assert_eq!(rt; column.len(), found.len());
+fn totals_of<C: Column>(column: &C, found: &Bits) -> Result<Totals, NoMemory> {
+    if column.len() != found.len() {
+        return Ok(NOTHING);
+    }
     match totals_once(column, found) {
         Err(_) => totals_once(column, found),
         totals => totals,
@@ -55,32 +56,10 @@ fn found_rows(alloc: Global, word: u64, rows: u64) -> Result<Bits, NoMemory>
 }
 
 // Whether a column comes to these totals over the found rows.
-fn comes_to(
-    rt: &impl Abort,
-    alloc: Global,
-    column: &AnyColumn,
-    found: Found,
-) -> Result<(), NoMemory> {
+fn comes_to(alloc: Global, column: &AnyColumn, found: Found) -> Result<bool, MakingError> {
     let (word, wanted) = found;
     let found = found_rows(alloc, word, column.len())?;
-    assert_eq!(rt; totals_of(rt, column, &found)?, wanted);
-    Ok(())
-}
-
-// Whether entries come to these totals.
-fn works(
-    rt: &impl Abort,
-    alloc: Global,
-    form: Form,
-    entries: &[Option<u64>],
-    wanted: &[Found],
-) -> Result<(), MakingError> {
-    let mut column = no_rows(alloc, form, NARROW)?;
-    append(&mut column, entries)?;
-    for found in wanted {
-        comes_to(rt, alloc, &column, *found)?;
-    }
-    Ok(())
+    Ok(totals_of(column, &found)? == wanted)
 }
 
 const NARROW: Wide<'static> = Wide {
@@ -88,18 +67,64 @@ const NARROW: Wide<'static> = Wide {
     bases: &[2, 4],
 };
 
-#[test]
-fn totals_table(rt: HostRuntime) -> Result<(), Fail> {
-    let pair = [Some(5), None];
-    let of_pair = [(0b11, (5, [Some(5); 3])), (0b10, NOTHING)];
-    let six = [None, None, Some(5), None, Some(2), Some(7)];
-    let of_six = [(0b111111, (14, [Some(2), Some(7), Some(5)]))];
-    let three = [Some(5), None, Some(0)];
-    let of_three = [(0b111, (5, [Some(0), Some(5), Some(0)]))];
-    for form in FORMS {
-        works(&rt, rt.alloc(), form, &pair, &of_pair)?;
-        works(&rt, rt.alloc(), form, &six, &of_six)?;
-        works(&rt, rt.alloc(), form, &three, &of_three)?;
+// Whether entries come to these totals.
+fn works(
+    alloc: Global,
+    form: Form,
+    entries: &[Option<u64>],
+    wanted: Found,
+) -> Result<bool, MakingError> {
+    let mut column = no_rows(alloc, form, NARROW)?;
+    append(&mut column, entries)?;
+    comes_to(alloc, &column, wanted)
+}
+
+/// Entries, and the totals of those rows that the word finds.
+const TABLE: [(&[Option<u64>], Found); 4] = [
+    (&[Some(5), None], (0b11, (5, [Some(5); 3]))),
+    (&[Some(5), None], (0b10, NOTHING)),
+    (
+        &[None, None, Some(5), None, Some(2), Some(7)],
+        (0b111111, (14, [Some(2), Some(7), Some(5)])),
+    ),
+    (
+        &[Some(5), None, Some(0)],
+        (0b111, (5, [Some(0), Some(5), Some(0)])),
+    ),
+];
+
+fn all_work(alloc: Global, form: Form) -> Result<bool, MakingError> {
+    for (entries, wanted) in TABLE {
+        if !works(alloc, form, entries, wanted)? {
+            return Ok(false);
+        }
     }
-    Ok(())
+    Ok(true)
+}
+
+#[test]
+fn totals_table(rt: HostRuntime) {
+    for form in FORMS {
+        assert!(rt; matches!(all_work(rt.alloc(), form), Ok(true)), "{form:?}");
+    }
+}
+
+fn selects_numbers(column: &AnyColumn) -> Result<bool, MakingError> {
+    Ok(selects(column, Op::Ge, 0, &[true, false, true])?)
+}
+
+fn selects_the_numbers(alloc: Global, form: Form) -> Result<bool, MakingError> {
+    let mut column = no_rows(alloc, form, NARROW)?;
+    append(&mut column, &[Some(5), None, Some(0)])?;
+    selects_numbers(&column)
+}
+
+#[test]
+fn bits_and_columns_select_numbers_and_no_null(rt: HostRuntime) {
+    for form in FORMS {
+        assert!(rt;
+            matches!(selects_the_numbers(rt.alloc(), form), Ok(true)),
+            "{form:?}"
+        );
+    }
 }
