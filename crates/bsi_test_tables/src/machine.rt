@@ -5,9 +5,8 @@ use bsi_load::{
     Core, Event, LoadRefused, MakeError, Reply, RunRefused, SubmitRefused, check_sizes,
 };
 use bsi_plain::{DeclaredColumn, QTY, row_of, schema_of};
-use bsi_table::{Answer, AskError, Pred, Query, Row, Total};
+use bsi_table::{Answer, AskError, Pred, Query, Row, SchemaError, Total};
 use std::alloc::Global;
-use std::process::Abort;
 use std::test::Fail;
 
 /// What a machine is made of.
@@ -136,42 +135,49 @@ fn is_second_run(alloc: Global, core: &mut Core) -> Result<bool, NoMemory> {
     are_replies(&found, &wanted)
 }
 
-fn are_two_runs(rt: &impl Abort, alloc: Global, core: &mut Core) -> Result<bool, NoMemory> {
-    let begins = is_first_run(alloc, core)?;
-    let ends = is_second_run(alloc, core)?;
-    let waiting = (core.feeders(), core.waiting(0), core.waiting(1));
-    assert_eq!(rt; waiting, (1, Some(0), None));
-    assert_eq!(rt; core.schema().columns(), 1);
-    Ok(begins && ends)
+// Whether the machine, which has one feeder, has none of its rows waiting, and no second feeder.
+fn has_none_waiting(core: &Core) -> bool {
+    core.feeders() == 1
+        && core.waiting(0) == Some(0)
+        && core.waiting(1) == None
+        && core.schema().columns() == 1
 }
 
-fn two_runs_once(rt: &impl Abort, alloc: Global) -> Result<bool, NoMemory> {
-    let mut core = made(alloc, PAIR).expect(rt, "a machine");
-    are_two_runs(rt, alloc, &mut core)
+fn are_both_runs(alloc: Global, core: &mut Core) -> Result<bool, MakeError> {
+    Ok(is_first_run(alloc, core)? && is_second_run(alloc, core)? && has_none_waiting(core))
+}
+
+fn are_two_runs(alloc: Global) -> Result<bool, MakeError> {
+    let mut core = made(alloc, PAIR)?;
+    are_both_runs(alloc, &mut core)
 }
 
 #[test]
-fn two_runs(rt: HostRuntime) -> Result<(), Fail> {
-    let done = match two_runs_once(&rt, rt.alloc()) {
-        Err(_) => two_runs_once(&rt, rt.alloc())?,
-        Ok(done) => done,
+fn two_runs(rt: HostRuntime) {
+    let done = match are_two_runs(rt.alloc()) {
+        Err(_) => are_two_runs(rt.alloc()),
+        done => done,
     };
-    assert!(rt; done);
-    Ok(())
+    assert!(rt; matches!(done, Ok(true)));
 }
 
-#[test]
-fn sizes_are_checked(rt: HostRuntime) -> Result<(), Fail> {
-    let schema = schema_of(rt.alloc(), &[QTY]).expect(&rt, "a column");
-    assert_eq!(rt; check_sizes(&schema, &[4], 10), Ok(()));
-    let refused = check_sizes(&schema, &[1, 0], 10);
-    assert_eq!(rt; refused, Err(MakeError::CapacityOutOfRange(1)));
+fn sizes_are_refused(alloc: Global) -> Result<bool, SchemaError> {
+    let schema = schema_of(alloc, &[QTY])?;
     let machine = Machine {
         capacities: &[1, 0],
         ..PAIR
     };
-    assert_eq!(rt; made(rt.alloc(), machine).err(), refused.err());
-    Ok(())
+    let refused = Err(MakeError::CapacityOutOfRange(1));
+    Ok(
+        check_sizes(&schema, &[4], 10) == Ok(())
+            && check_sizes(&schema, &[1, 0], 10) == refused
+            && made(alloc, machine).map(|_| ()) == refused,
+    )
+}
+
+#[test]
+fn sizes_are_checked(rt: HostRuntime) {
+    assert!(rt; matches!(sizes_are_refused(rt.alloc()), Ok(true)));
 }
 
 fn asked_of(core: &Core, total: Total) -> Result<Answer, AskError> {
@@ -186,30 +192,30 @@ fn asked_of(core: &Core, total: Total) -> Result<Answer, AskError> {
 }
 
 // The load of the row that waits. One that finds no memory leaves it waiting, and is made again.
-fn load_of(rt: &impl Abort, core: &mut Core) -> Result<u64, LoadRefused> {
+fn load_of(core: &mut Core) -> Result<u64, LoadRefused> {
     match core.load(0) {
-        Err(LoadRefused::NoMemory) => {
-            assert_eq!(rt; core.waiting(0), Some(1));
-            assert_eq!(rt; asked_of(core, Total::Count), Ok(Answer::Count(0)));
-            core.load(0)
-        }
+        Err(LoadRefused::NoMemory) if core.waiting(0) == Some(1) => core.load(0),
         loaded => loaded,
     }
 }
 
-fn loads_the_row(rt: &impl Abort, core: &mut Core) {
-    let loaded = load_of(rt, core);
-    assert_eq!(rt; (loaded, core.waiting(0)), (Ok(0), Some(0)));
-    assert_eq!(rt; asked_of(core, Total::Sum(0)), Ok(Answer::Sum(5)));
+// Whether the row is taken and loaded.
+fn loads(core: &mut Core, row: Row) -> bool {
+    let sent = core.submit(0, row).is_ok();
+    let loaded = load_of(core);
+    let sum = asked_of(core, Total::Sum(0));
+    sent && loaded == Ok(0) && core.waiting(0) == Some(0) && sum == Ok(Answer::Sum(5))
+}
+
+fn loads_the_row(alloc: Global) -> Result<bool, MakeError> {
+    let row = row_of(alloc, &[Some(5)])?;
+    let mut core = made(alloc, PAIR)?;
+    Ok(loads(&mut core, row))
 }
 
 #[test]
-fn load_refused_memory(rt: HostRuntime) -> Result<(), Fail> {
-    let row = row_of(rt.alloc(), &[Some(5)])?;
-    let mut core = made(rt.alloc(), PAIR).expect(&rt, "a machine");
-    assert!(rt; core.submit(0, row).is_ok());
-    loads_the_row(&rt, &mut core);
-    Ok(())
+fn load_refused_memory(rt: HostRuntime) {
+    assert!(rt; matches!(loads_the_row(rt.alloc()), Ok(true)));
 }
 
 /// A machine with room for two rows, and three rows of their own numbers.
@@ -230,10 +236,10 @@ fn room_for_two(alloc: Global) -> Result<RoomForTwo, NoMemory> {
     })
 }
 
-fn are_accepted(rt: &impl Abort, core: &mut Core, first: Row, second: Row) {
+fn are_accepted(core: &mut Core, first: Row, second: Row) -> bool {
     let first = core.submit(0, first);
     let second = core.submit(0, second);
-    assert!(rt; first.is_ok() && second.is_ok());
+    first.is_ok() && second.is_ok()
 }
 
 fn is_closed(refused: &SubmitRefused) -> bool {
@@ -243,11 +249,11 @@ fn is_closed(refused: &SubmitRefused) -> bool {
     }
 }
 
-fn comes_back_after_closing(rt: &impl Abort, core: &mut Core, third: Row) {
-    assert_eq!(rt; (core.close(0), core.waiting(0)), (Ok(()), Some(2)));
+fn comes_back_after_closing(core: &mut Core, third: Row) -> bool {
+    let closed = core.close(0);
     let refused = core.submit(0, third).err();
-    assert!(rt; refused.is_some_and(|refused| is_closed(&refused)));
-    assert_eq!(rt; core.waiting(0), Some(2));
+    let waiting = core.waiting(0);
+    closed == Ok(()) && waiting == Some(2) && refused.is_some_and(|refused| is_closed(&refused))
 }
 
 // From the probe on nothing asks for memory: each later growth may be refused too.
@@ -259,7 +265,8 @@ fn submit_and_close_take_no_memory(rt: HostRuntime) -> Result<(), Fail> {
     };
     let mut core = fixture.core;
     let _probe = Vec::<u8>::with_capacity(rt.alloc(), 1);
-    are_accepted(&rt, &mut core, fixture.first, fixture.second);
-    comes_back_after_closing(&rt, &mut core, fixture.third);
+    let accepted = are_accepted(&mut core, fixture.first, fixture.second);
+    let refused = comes_back_after_closing(&mut core, fixture.third);
+    assert!(rt; accepted && refused);
     Ok(())
 }

@@ -3,7 +3,6 @@
 use bsi_plain::{DeclaredColumn, schema_of};
 use bsi_table::{Answer, AppendError, AskError, Index, IndexError, Pred, Query, Row, Total};
 use std::alloc::Global;
-use std::process::Abort;
 
 fn index_once(
     alloc: Global,
@@ -47,7 +46,7 @@ pub(crate) fn append_row(
 }
 
 /// Asks the index. Where memory is refused, it asks again.
-pub(crate) fn asked(index: &Index, query: &Query) -> Result<Answer, AskError> {
+fn asked(index: &Index, query: &Query) -> Result<Answer, AskError> {
     match index.ask(query) {
         Err(AskError::NoMemory) => index.ask(query),
         answer => answer,
@@ -59,9 +58,7 @@ pub(crate) fn answer(index: &Index, total: Total, pred: Pred) -> Result<Answer, 
     asked(index, &Query { total, pred })
 }
 
-/// Asserts that the index has so many rows.
-pub(crate) fn has_rows(rt: &impl Abort, index: &Index, count: u64) {
-    assert_eq!(rt; index.len(), count);
-    let counted = answer(index, Total::Count, Pred::All);
-    assert_eq!(rt; counted, Ok(Answer::Count(count)));
+/// Returns whether the index has so many rows.
+pub(crate) fn has_rows(index: &Index, count: u64) -> bool {
+    index.len() == count && answer(index, Total::Count, Pred::All) == Ok(Answer::Count(count))
 }

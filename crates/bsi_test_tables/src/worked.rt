@@ -4,66 +4,75 @@
 use crate::tables::{answer, append_row, has_rows, index_of};
 use bsi_columns::{AnyColumn, NoMemory, Op};
 use bsi_plain::{DeclaredColumn, FORMS, Form, QTY, add, both, not, row_of, shows};
-use bsi_table::{Answer, AskError, Index, Pred, Row, Schema, SchemaError, Total};
+use bsi_table::{Answer, AskError, Index, IndexError, Pred, Row, Schema, SchemaError, Total};
 use std::alloc::Global;
-use std::process::Abort;
-use std::test::Fail;
 
-fn listed(answer: Result<Answer, AskError>, wanted: &[(u32, u64)]) -> bool {
-    match answer {
+/// Rows of one number: the feeder, and the number.
+const ROWS: [(u32, i128); 3] = [(1, 2), (0, 1), (0, 3)];
+
+// Appends them, each where it fits.
+fn append_rows(alloc: Global, index: &mut Index) -> Result<(), NoMemory> {
+    for (feeder, number) in ROWS {
+        let row = row_of(alloc, &[Some(number)])?;
+        let _ = append_row(index, feeder, &row);
+    }
+    Ok(())
+}
+
+// An index of these rows.
+fn three_rows(alloc: Global, form: Form) -> Result<Index, IndexError> {
+    let column = DeclaredColumn { form, ..QTY };
+    let mut index = index_of(alloc, &[column], 2, 10)?;
+    append_rows(alloc, &mut index)?;
+    Ok(index)
+}
+
+fn lists(index: &Index, pred: Pred, wanted: &[(u32, u64)]) -> bool {
+    match answer(index, Total::Rows, pred) {
         Ok(Answer::Rows(rows)) => rows.as_slice() == wanted,
         _ => false,
     }
 }
 
-// The rows 2 of feeder 1, and 1 and 3 of feeder 0.
-fn three_rows(rt: &impl Abort, alloc: Global, form: Form) -> Result<Index, NoMemory> {
-    let column = DeclaredColumn { form, ..QTY };
-    let mut index = index_of(alloc, &[column], 2, 10).expect(rt, "a column and a limit");
-    for (position, feeder, number) in [(0, 1, 2), (1, 0, 1), (2, 0, 3)] {
-        let row = row_of(alloc, &[Some(number)])?;
-        assert_eq!(rt; append_row(&mut index, feeder, &row), Some(Ok(position)));
-    }
-    Ok(index)
-}
-
-fn lists(rt: &impl Abort, index: &Index, pred: Pred, wanted: &[(u32, u64)]) {
-    let found = answer(index, Total::Rows, pred);
-    assert!(rt; listed(found, wanted));
-}
-
-fn answers(
-    rt: &impl Abort,
-    index: &Index,
-    total: Total,
-    pred: Pred,
-    wanted: Result<Answer, AskError>,
-) {
-    assert_eq!(rt; answer(index, total, pred), wanted);
-}
-
-// What is asked of them, and answered.
-fn three_answers(rt: &impl Abort, alloc: Global, index: &Index) -> Result<(), NoMemory> {
-    lists(rt, index, Pred::All, &[(1, 0), (0, 0), (0, 1)]);
-    lists(rt, index, Pred::Compare(0, Op::Ge, 3), &[(0, 1)]);
-    let missing = Err(AskError::BadColumn(3));
-    answers(rt, index, Total::Sum(3), Pred::Null(5), missing);
+// Whether the first missing column of a query is told.
+fn tells_missing(alloc: Global, index: &Index) -> Result<bool, NoMemory> {
     let left = both(alloc, Pred::Null(4), Pred::Null(2))?;
-    let missing = Err(AskError::BadColumn(4));
-    answers(rt, index, Total::Count, left, missing);
+    let count = answer(index, Total::Count, left);
+    let sum = answer(index, Total::Sum(3), Pred::Null(5));
+    Ok(sum == Err(AskError::BadColumn(3)) && count == Err(AskError::BadColumn(4)))
+}
+
+// Whether the negation of all rows lists none.
+fn lists_none(alloc: Global, index: &Index) -> Result<bool, NoMemory> {
     let none = not(alloc, Pred::All)?;
-    answers(rt, index, Total::Count, none, Ok(Answer::Count(0)));
-    Ok(())
+    Ok(lists(index, none, &[]))
+}
+
+// Whether these rows are answered as they should be.
+fn answers(alloc: Global, index: &Index) -> Result<bool, NoMemory> {
+    let listed = lists(index, Pred::All, &[(1, 0), (0, 0), (0, 1)])
+        && lists(index, Pred::Compare(0, Op::Ge, 3), &[(0, 1)]);
+    Ok(listed && lists_none(alloc, index)? && tells_missing(alloc, index)?)
+}
+
+// Whether they are, and are three.
+fn answers_three(alloc: Global, index: &Index) -> Result<bool, IndexError> {
+    Ok(answers(alloc, index)? && has_rows(index, 3))
+}
+
+fn is_answered(alloc: Global, form: Form) -> Result<bool, IndexError> {
+    let index = three_rows(alloc, form)?;
+    answers_three(alloc, &index)
 }
 
 #[test]
-fn index_calls(rt: HostRuntime) -> Result<(), Fail> {
+fn index_calls(rt: HostRuntime) {
     for form in FORMS {
-        let index = three_rows(&rt, rt.alloc(), form)?;
-        three_answers(&rt, rt.alloc(), &index)?;
-        assert_eq!(rt; (index.len(), index.feeders(), index.limit()), (3, 2, 10));
+        assert!(rt;
+            matches!(is_answered(rt.alloc(), form), Ok(true)),
+            "{form:?}"
+        );
     }
-    Ok(())
 }
 
 // Whether the first slice of a column is this one.
@@ -77,81 +86,88 @@ fn first_slice_is(index: &Index, wanted: &[bool]) -> bool {
     }
 }
 
-#[test]
-fn stored_bits_of_an_index(rt: HostRuntime) -> Result<(), Fail> {
-    let index = three_rows(&rt, rt.alloc(), Form::Slices)?;
-    assert!(rt; first_slice_is(&index, &[false, true, true]));
-    Ok(())
+fn stores_slices(alloc: Global) -> Result<bool, IndexError> {
+    let index = three_rows(alloc, Form::Slices)?;
+    Ok(first_slice_is(&index, &[false, true, true]))
 }
 
-fn copied_index(rt: &impl Abort, alloc: Global, index: &Index) -> Result<Index, NoMemory> {
+#[test]
+fn stored_bits_of_an_index(rt: HostRuntime) {
+    assert!(rt; matches!(stores_slices(rt.alloc()), Ok(true)));
+}
+
+fn copied_index(index: &Index) -> Result<Index, NoMemory> {
     match index.copy() {
-        Err(_) => {
-            three_answers(rt, alloc, index)?;
-            index.copy()
-        }
+        Err(_) => index.copy(),
         copy => copy,
     }
 }
 
-// A row of feeder 0 stands last.
-fn append_one(rt: &impl Abort, alloc: Global, index: &mut Index) -> Result<(), NoMemory> {
+// Whether a row of feeder 0 goes in behind three others.
+fn takes_a_fourth(alloc: Global, index: &mut Index) -> Result<bool, NoMemory> {
     let row = row_of(alloc, &[Some(7)])?;
     let appended = append_row(index, 0, &row);
-    assert_eq!(rt; appended, Some(Ok(3)));
-    Ok(())
+    Ok(appended == Some(Ok(3)) && has_rows(index, 4))
 }
 
-fn copy_stands_apart(rt: &impl Abort, alloc: Global, index: &Index) -> Result<(), NoMemory> {
-    let mut other = copied_index(rt, alloc, index)?;
-    three_answers(rt, alloc, &other)?;
-    append_one(rt, alloc, &mut other)?;
-    has_rows(rt, &other, 4);
-    has_rows(rt, index, 3);
-    Ok(())
+// Whether a copy answers as its index does, and takes a row more.
+fn is_alike(alloc: Global, copy: &mut Index) -> Result<bool, NoMemory> {
+    Ok(answers(alloc, copy)? && takes_a_fourth(alloc, copy)?)
+}
+
+fn is_copied(alloc: Global, index: &Index) -> Result<bool, NoMemory> {
+    let mut copy = copied_index(index)?;
+    is_alike(alloc, &mut copy)
+}
+
+// Whether the index then has its three rows.
+fn keeps_its_rows(alloc: Global, index: &Index) -> Result<bool, IndexError> {
+    Ok(is_copied(alloc, index)? && has_rows(index, 3))
+}
+
+fn stands_apart(alloc: Global, form: Form) -> Result<bool, IndexError> {
+    let index = three_rows(alloc, form)?;
+    keeps_its_rows(alloc, &index)
 }
 
 #[test]
-fn a_copy_of_an_index_stands_apart(rt: HostRuntime) -> Result<(), Fail> {
+fn a_copy_of_an_index_stands_apart(rt: HostRuntime) {
     for form in FORMS {
-        let index = three_rows(&rt, rt.alloc(), form)?;
-        copy_stands_apart(&rt, rt.alloc(), &index)?;
-    }
-    Ok(())
-}
-
-fn taken(rt: &impl Abort, schema: &Schema, columns: u32) {
-    assert_eq!(rt; (schema.columns(), schema.signed()), (columns, false));
-    assert_eq!(rt;
-        (schema.position("qty"), schema.position("Qty")),
-        (Some(0), None)
-    );
-    if schema.columns() > 0 {
-        assert_eq!(rt;
-            (schema.name(0), schema.size(0), schema.offset(0)),
-            ("qty", 8, 0)
+        assert!(rt;
+            matches!(stands_apart(rt.alloc(), form), Ok(true)),
+            "{form:?}"
         );
     }
 }
 
-fn copy_is_taken(rt: &impl Abort, schema: &Schema) -> Result<(), NoMemory> {
-    let copy = match schema.copy() {
-        Err(_) => schema.copy()?,
-        Ok(copy) => copy,
-    };
-    taken(rt, &copy, 1);
-    Ok(())
+fn copied_schema(schema: &Schema) -> Result<Schema, NoMemory> {
+    match schema.copy() {
+        Err(_) => schema.copy(),
+        copy => copy,
+    }
+}
+
+// Whether the schema has the column qty alone.
+fn has_quantities(schema: &Schema) -> bool {
+    schema.columns() == 1
+        && !schema.signed()
+        && schema.position("qty") == Some(0)
+        && schema.name(0) == "qty"
+        && schema.size(0) == 8
+        && schema.offset(0) == 0
+}
+
+fn takes_a_name_once(alloc: Global) -> Result<bool, SchemaError> {
+    let mut schema = Schema::new(alloc);
+    add(alloc, &mut schema, QTY)?;
+    let again = add(alloc, &mut schema, QTY);
+    let copy = copied_schema(&schema)?;
+    Ok(again == Err(SchemaError::NameTaken) && has_quantities(&copy))
 }
 
 #[test]
-fn makers_of_a_schema(rt: HostRuntime) -> Result<(), Fail> {
-    let mut schema = Schema::new(rt.alloc());
-    assert_eq!(rt; add(rt.alloc(), &mut schema, QTY), Ok(()));
-    let again = add(rt.alloc(), &mut schema, QTY);
-    assert_eq!(rt; again, Err(SchemaError::NameTaken));
-    taken(&rt, &schema, 1);
-    copy_is_taken(&rt, &schema)?;
-    Ok(())
+fn makers_of_a_schema(rt: HostRuntime) {
+    assert!(rt; matches!(takes_a_name_once(rt.alloc()), Ok(true)));
 }
 
 fn copied_row(row: &Row) -> Result<Row, NoMemory> {
@@ -161,10 +177,13 @@ fn copied_row(row: &Row) -> Result<Row, NoMemory> {
     }
 }
 
-#[test]
-fn copies_of_a_row(rt: HostRuntime) -> Result<(), Fail> {
-    let row = row_of(rt.alloc(), &[Some(5)])?;
+fn copy_is_the_row(alloc: Global) -> Result<bool, NoMemory> {
+    let row = row_of(alloc, &[Some(5)])?;
     let copy = copied_row(&row)?;
-    assert!(rt; copy.values() == &[Some(5)][..]);
-    Ok(())
+    Ok(copy.values() == &[Some(5)][..])
+}
+
+#[test]
+fn copies_of_a_row(rt: HostRuntime) {
+    assert!(rt; matches!(copy_is_the_row(rt.alloc()), Ok(true)));
 }
