@@ -43,11 +43,21 @@ pub(crate) const FIFTEEN: Wide<'static> = Wide {
     bases: &[5, 3],
 };
 
+/// Makes a column of these entries.
+pub(crate) fn column_of(
+    alloc: Global,
+    form: Form,
+    wide: Wide,
+    entries: &[Option<u64>],
+) -> Result<AnyColumn, MakingError> {
+    let mut column = no_rows(alloc, form, wide)?;
+    append(&mut column, entries)?;
+    Ok(column)
+}
+
 /// Makes a column of the entries 3, none and 2.
 pub(crate) fn three_rows(alloc: Global, form: Form) -> Result<AnyColumn, MakingError> {
-    let mut column = no_rows(alloc, form, FIFTEEN)?;
-    append(&mut column, &[Some(3), None, Some(2)])?;
-    Ok(column)
+    column_of(alloc, form, FIFTEEN, &[Some(3), None, Some(2)])
 }
 
 fn nulls_once(column: &AnyColumn) -> Result<Bits, NoMemory> {

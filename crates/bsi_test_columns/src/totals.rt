@@ -2,10 +2,10 @@
 
 ghost use Rattle.std.specs.Prelude.{◌≡◌, ◌≤◌, ◌^◌, length};
 
-use crate::comparisons::selects;
+use crate::comparisons::{column_of, selects};
 use bsi_bits::Bits;
 use bsi_columns::{AnyColumn, Column, NoMemory, Op};
-use bsi_plain::{FORMS, Form, MakingError, Wide, append, no_rows};
+use bsi_plain::{FORMS, Form, MakingError, Wide};
 use std::alloc::Global;
 
 /// The sum of some numbers, and the least, the greatest and the lower median, where there are numbers.
@@ -74,8 +74,7 @@ fn works(
     entries: &[Option<u64>],
     wanted: Found,
 ) -> Result<bool, MakingError> {
-    let mut column = no_rows(alloc, form, NARROW)?;
-    append(&mut column, entries)?;
+    let column = column_of(alloc, form, NARROW, entries)?;
     comes_to(alloc, &column, wanted)
 }
 
@@ -114,8 +113,7 @@ fn selects_numbers(column: &AnyColumn) -> Result<bool, MakingError> {
 }
 
 fn selects_the_numbers(alloc: Global, form: Form) -> Result<bool, MakingError> {
-    let mut column = no_rows(alloc, form, NARROW)?;
-    append(&mut column, &[Some(5), None, Some(0)])?;
+    let column = column_of(alloc, form, NARROW, &[Some(5), None, Some(0)])?;
     selects_numbers(&column)
 }
 
