@@ -218,18 +218,16 @@ fn load_refused_memory(rt: HostRuntime) {
     assert!(rt; matches!(loads_the_row(rt.alloc()), Ok(true)));
 }
 
-/// A machine with room for two rows, and three rows of their own numbers.
+/// Rows of their own numbers.
 #[derive(Drop)]
-struct RoomForTwo {
-    core: Core,
+struct ThreeRows {
     first: Row,
     second: Row,
     third: Row,
 }
 
-fn room_for_two(alloc: Global) -> Result<RoomForTwo, NoMemory> {
-    Ok(RoomForTwo {
-        core: made(alloc, PAIR).map_err(|_| NoMemory)?,
+fn three_rows(alloc: Global) -> Result<ThreeRows, NoMemory> {
+    Ok(ThreeRows {
         first: row_of(alloc, &[Some(1)])?,
         second: row_of(alloc, &[Some(2)])?,
         third: row_of(alloc, &[Some(3)])?,
@@ -256,17 +254,21 @@ fn comes_back_after_closing(core: &mut Core, third: Row) -> bool {
     closed == Ok(()) && waiting == Some(2) && refused.is_some_and(|refused| is_closed(&refused))
 }
 
-// From the probe on nothing asks for memory: each later growth may be refused too.
+// Whether a machine with room for two rows takes them, and no third one once it is closed. It gives none where memory for
+// the machine or the rows is refused. From the probe on nothing asks for memory: each later growth may be refused too.
+fn takes_two_and_closes(alloc: Global) -> Option<bool> {
+    let rows = three_rows(alloc).ok()?;
+    let mut core = made(alloc, PAIR).ok()?;
+    let _probe = Vec::<u8>::with_capacity(alloc, 1);
+    let accepted = are_accepted(&mut core, rows.first, rows.second);
+    Some(accepted && comes_back_after_closing(&mut core, rows.third))
+}
+
 #[test]
 fn submit_and_close_take_no_memory(rt: HostRuntime) -> Result<(), Fail> {
-    let Ok(fixture) = room_for_two(rt.alloc()) else {
-        eprintln!(rt; "gave up: no memory for the fixture")?;
-        return Ok(());
-    };
-    let mut core = fixture.core;
-    let _probe = Vec::<u8>::with_capacity(rt.alloc(), 1);
-    let accepted = are_accepted(&mut core, fixture.first, fixture.second);
-    let refused = comes_back_after_closing(&mut core, fixture.third);
-    assert!(rt; accepted && refused);
+    match takes_two_and_closes(rt.alloc()) {
+        Some(right) => assert!(rt; right),
+        None => eprintln!(rt; "gave up: no memory for the fixture")?,
+    }
     Ok(())
 }
