@@ -5,7 +5,7 @@ use bsi_load::{
     Core, Event, LoadRefused, MakeError, Reply, RunRefused, SubmitRefused, check_sizes,
 };
 use bsi_plain::{DeclaredColumn, QTY, row_of, schema_of};
-use bsi_table::{Answer, AskError, Pred, Query, Row, SchemaError, Total};
+use bsi_table::{Answer, AskError, Pred, Query, Row, Schema, SchemaError, Total};
 use std::alloc::Global;
 use std::test::Fail;
 
@@ -161,18 +161,24 @@ fn two_runs(rt: HostRuntime) {
     assert!(rt; matches!(done, Ok(true)));
 }
 
-fn sizes_are_refused(alloc: Global) -> Result<bool, SchemaError> {
-    let schema = schema_of(alloc, &[QTY])?;
+// Whether a feeder of no places is refused where sizes are checked.
+fn is_checked(schema: &Schema) -> bool {
+    check_sizes(schema, &[4], 10) == Ok(())
+        && check_sizes(schema, &[1, 0], 10) == Err(MakeError::CapacityOutOfRange(1))
+}
+
+// Whether it is refused where a machine is made.
+fn is_not_made(alloc: Global) -> bool {
     let machine = Machine {
         capacities: &[1, 0],
         ..PAIR
     };
-    let refused = Err(MakeError::CapacityOutOfRange(1));
-    Ok(
-        check_sizes(&schema, &[4], 10) == Ok(())
-            && check_sizes(&schema, &[1, 0], 10) == refused
-            && made(alloc, machine).map(|_| ()) == refused,
-    )
+    matches!(made(alloc, machine), Err(MakeError::CapacityOutOfRange(1)))
+}
+
+fn sizes_are_refused(alloc: Global) -> Result<bool, SchemaError> {
+    let schema = schema_of(alloc, &[QTY])?;
+    Ok(is_checked(&schema) && is_not_made(alloc))
 }
 
 #[test]

@@ -157,12 +157,21 @@ fn has_quantities(schema: &Schema) -> bool {
         && schema.offset(0) == 0
 }
 
+fn is_copied_whole(schema: &Schema) -> Result<bool, SchemaError> {
+    let copy = copied_schema(schema)?;
+    Ok(has_quantities(&copy))
+}
+
+// Whether the schema takes the column qty, once.
+fn takes_quantities(alloc: Global, schema: &mut Schema) -> Result<bool, SchemaError> {
+    add(alloc, schema, QTY)?;
+    let again = add(alloc, schema, QTY);
+    Ok(again == Err(SchemaError::NameTaken) && is_copied_whole(schema)?)
+}
+
 fn takes_a_name_once(alloc: Global) -> Result<bool, SchemaError> {
     let mut schema = Schema::new(alloc);
-    add(alloc, &mut schema, QTY)?;
-    let again = add(alloc, &mut schema, QTY);
-    let copy = copied_schema(&schema)?;
-    Ok(again == Err(SchemaError::NameTaken) && has_quantities(&copy))
+    takes_quantities(alloc, &mut schema)
 }
 
 #[test]
