@@ -1,13 +1,12 @@
 //! Blocks that are filled from row files.
 
-use crate::ends::{broken, whole};
-use crate::row_files::{narrow_schema, schema_of};
+use crate::ends::broken;
+use crate::row_files::schema_of;
 use bsi_plain::TextReader;
 use bsi_table::{Block, Schema};
 use bsi_text::{NoMemory, RowSource, SourceFault};
 use std::alloc::Global;
 use std::io::Read;
-use std::test::Fail;
 
 // What a test expects of a call: rows of two columns, or a fault.
 type Given<'a> = Result<&'a [[Option<i128>; 2]], SourceFault>;
@@ -38,6 +37,18 @@ fn gives_next<R: Read + Drop>(
     }
 }
 
+fn gives_each<R: Read + Drop>(
+    source: &mut RowSource<R>,
+    want: &[Given<'_>],
+) -> Result<bool, SourceFault> {
+    for given in want {
+        if !gives_next(source, *given)? {
+            return Ok(false);
+        }
+    }
+    Ok(source.bad() == 1)
+}
+
 fn gives_once(
     alloc: Global,
     schema: &Schema,
@@ -45,12 +56,7 @@ fn gives_once(
     want: &[Given<'_>],
 ) -> Result<bool, SourceFault> {
     let mut source = RowSource::begin(alloc, schema, reader)?;
-    for given in want {
-        if !gives_next(&mut source, *given)? {
-            return Ok(false);
-        }
-    }
-    Ok(source.bad() == 1)
+    gives_each(&mut source, want)
 }
 
 // Whether a file gives these block after block, and has one bad record; where memory was refused, whether it then does.
@@ -66,67 +72,18 @@ fn gives(
     }
 }
 
-#[test]
-fn a_block_has_the_good_rows(rt: HostRuntime) -> Result<(), Fail> {
-    let schema = schema_of(rt.alloc())?;
-    let rows = [[Some(15), Some(3)], [None, Some(9)], [Some(0), Some(4)]];
-    let given = gives(
-        rt.alloc(),
-        &schema,
-        whole(b"b,a\n3,15\n9,\n10,2\n4,0\n"),
-        &[Ok(&rows), Ok(&[]), Ok(&[])],
-    );
-    assert_eq!(rt; given, Ok(true));
-    Ok(())
-}
-
-#[test]
-fn a_fault_behind_rows_is_told_next(rt: HostRuntime) -> Result<(), Fail> {
-    let schema = schema_of(rt.alloc())?;
+fn tells_the_fault_next(alloc: Global) -> Result<bool, SourceFault> {
+    let schema = schema_of(alloc).map_err(|_| SourceFault::NoMemory)?;
     let rows = [[Some(1), Some(2)], [Some(3), Some(4)]];
-    let given = gives(
-        rt.alloc(),
-        &schema,
-        broken(b"a,b\n1,2\n16,2\n3,4\n5,"),
-        &[Ok(&rows), Err(SourceFault::Read), Err(SourceFault::Read)],
-    );
-    assert_eq!(rt; given, Ok(true));
-    Ok(())
-}
-
-// A file of 130 good records.
-fn file_of_130(alloc: Global) -> Result<Vec<u8>, NoMemory> {
-    let mut text = Vec::with_capacity(alloc, 262)?;
-    text.extend_from_slice(b"a\n")?;
-    for _ in 0..130 {
-        text.extend_from_slice(b"7\n")?;
-    }
-    Ok(text)
-}
-
-// How many rows each of four blocks has.
-fn lengths_once(alloc: Global, schema: &Schema, text: &[u8]) -> Result<[usize; 4], SourceFault> {
-    let mut source = RowSource::begin(alloc, schema, text)?;
-    let mut lengths = [0; 4];
-    for length in &mut lengths {
-        let mut block = source.block(1)?;
-        source.fill(0, &mut block)?;
-        *length = block.len();
-    }
-    Ok(lengths)
+    let want = [
+        Ok(rows.as_slice()),
+        Err(SourceFault::Read),
+        Err(SourceFault::Read),
+    ];
+    gives(alloc, &schema, broken(b"a,b\n1,2\n16,2\n3,4\n5,"), &want)
 }
 
 #[test]
-fn a_block_has_at_most_64_rows(rt: HostRuntime) -> Result<(), Fail> {
-    let schema = narrow_schema(rt.alloc())?;
-    let text = match file_of_130(rt.alloc()) {
-        Err(_) => file_of_130(rt.alloc())?,
-        Ok(text) => text,
-    };
-    let lengths = match lengths_once(rt.alloc(), &schema, text.as_slice()) {
-        Err(SourceFault::NoMemory) => lengths_once(rt.alloc(), &schema, text.as_slice()),
-        lengths => lengths,
-    };
-    assert_eq!(rt; lengths, Ok([64, 64, 2, 0]));
-    Ok(())
+fn a_fault_behind_rows_is_told_next(rt: HostRuntime) {
+    assert!(rt; matches!(tells_the_fault_next(rt.alloc()), Ok(true)));
 }

@@ -9,7 +9,6 @@ use bsi_text::{
 };
 use csv::ByteRecord;
 use std::alloc::Global;
-use std::test::Fail;
 
 fn split(alloc: Global, line: &str) -> Result<ByteRecord, NoMemory> {
     let mut fields = ByteRecord::new(alloc);
@@ -68,15 +67,18 @@ fn quantities(alloc: Global) -> Result<Schema, NoMemory> {
     Ok(schema)
 }
 
-#[test]
-fn a_setup_record_is_done_or_changes_nothing(rt: HostRuntime) -> Result<(), Fail> {
-    let mut schema = quantities(rt.alloc())?;
+// Whether a setup record is done, and others change nothing.
+fn does_setups(alloc: Global, schema: &mut Schema) -> Result<bool, NoMemory> {
     let mut limit = 1 << 32;
-    for (line, want) in [("limit,1", true), ("limit,0", false), ("begin", false)] {
-        let done = declare(rt.alloc(), &mut schema, &mut limit, line)?;
-        assert_eq!(rt; (done, limit), (want, 1), "at {line}");
-    }
-    Ok(())
+    let one = declare(alloc, schema, &mut limit, "limit,1")?;
+    let zero = declare(alloc, schema, &mut limit, "limit,0")?;
+    let begin = declare(alloc, schema, &mut limit, "begin")?;
+    Ok(one && !zero && !begin && limit == 1)
+}
+
+fn setups_are_read(alloc: Global) -> Result<bool, NoMemory> {
+    let mut schema = quantities(alloc)?;
+    does_setups(alloc, &mut schema)
 }
 
 // Whether a submission's fields from place 2 on are these entries, or none.
@@ -94,17 +96,12 @@ fn is_row(
     })
 }
 
-#[test]
-fn rows_are_read_from_fields(rt: HostRuntime) -> Result<(), Fail> {
-    let schema = quantities(rt.alloc())?;
-    for (line, want) in [
-        ("submit,0,5,", Some([Some(5), None].as_slice())),
-        ("submit,0,x", None),
-    ] {
-        let same = is_row(rt.alloc(), &schema, line, want)?;
-        assert!(rt; same, "at {line}");
-    }
-    Ok(())
+fn rows_are_read(alloc: Global, schema: &Schema) -> Result<bool, NoMemory> {
+    let entries = [Some(5), None];
+    Ok(
+        is_row(alloc, schema, "submit,0,5,", Some(&entries))?
+            && is_row(alloc, schema, "submit,0,x", None)?,
+    )
 }
 
 // What a query asks of the rows that it selects.
@@ -116,30 +113,45 @@ fn total(alloc: Global, schema: &Schema, line: &str) -> Result<Option<Total>, No
     })
 }
 
+fn queries_are_read(alloc: Global, schema: &Schema) -> Result<bool, NoMemory> {
+    let count = total(alloc, schema, "count,all")?;
+    let load = total(alloc, schema, "load,0")?;
+    Ok(count == Some(Total::Count) && load == None)
+}
+
+fn both_are_read(alloc: Global, schema: &Schema) -> Result<bool, NoMemory> {
+    Ok(rows_are_read(alloc, schema)? && queries_are_read(alloc, schema)?)
+}
+
+fn rows_and_queries_are_read(alloc: Global) -> Result<bool, NoMemory> {
+    let schema = quantities(alloc)?;
+    both_are_read(alloc, &schema)
+}
+
 #[test]
-fn queries_are_read_from_fields(rt: HostRuntime) -> Result<(), Fail> {
-    let schema = quantities(rt.alloc())?;
-    for (line, want) in [("count,all", Some(Total::Count)), ("load,0", None)] {
-        let found = total(rt.alloc(), &schema, line)?;
-        assert_eq!(rt; found, want, "at {line}");
-    }
-    Ok(())
+fn records_are_read_from_fields(rt: HostRuntime) {
+    assert!(rt; matches!(setups_are_read(rt.alloc()), Ok(true)));
+    assert!(rt; matches!(rows_and_queries_are_read(rt.alloc()), Ok(true)));
 }
 
 #[test]
 fn numbers_are_read_from_fields(rt: HostRuntime) {
-    assert_eq!(rt; read_number(b"007"), Some(7));
-    assert_eq!(rt; read_signed(b"-7"), Some(-7));
+    assert!(rt; read_number(b"007") == Some(7) && read_signed(b"-7") == Some(-7));
+}
+
+fn write_lines(lines: &mut Vec<u8>) -> Result<(), NoMemory> {
+    write_reply(&Reply::Answered(Ok(Answer::Sum(-12))), lines)?;
+    write_bad(lines)?;
+    write_fed(63, 1_000_000, 7, lines)
+}
+
+fn lines_are_written(alloc: Global) -> Result<bool, NoMemory> {
+    let mut lines = buffer(alloc)?;
+    write_lines(&mut lines)?;
+    Ok(lines.as_slice() == b"sum -12\nbad\nfed 63 1000000 7\n".as_slice())
 }
 
 #[test]
-fn replies_are_written_as_lines(rt: HostRuntime) -> Result<(), Fail> {
-    let mut line = buffer(rt.alloc())?;
-    let reply = Reply::Answered(Ok(Answer::Sum(-12)));
-    write_reply(&reply, &mut line)?;
-    write_bad(&mut line)?;
-    write_fed(63, 1_000_000, 7, &mut line)?;
-    let want = b"sum -12\nbad\nfed 63 1000000 7\n";
-    assert_eq!(rt; line.as_slice(), want.as_slice());
-    Ok(())
+fn replies_are_written_as_lines(rt: HostRuntime) {
+    assert!(rt; matches!(lines_are_written(rt.alloc()), Ok(true)));
 }

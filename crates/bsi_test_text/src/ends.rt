@@ -3,7 +3,6 @@
 use bsi_plain::{EMPTY, NarrowWriter, TextReader};
 use bsi_text::{NoMemory, ScriptFault, run_script};
 use std::alloc::Global;
-use std::test::Fail;
 
 // Gives the text, and then fails.
 pub(crate) fn broken(text: &[u8]) -> TextReader<'_> {
@@ -55,25 +54,33 @@ fn told_of_memory(lines: &[u8]) -> bool {
         .any(|part| part == b"no memory\n".as_slice())
 }
 
-#[test]
-fn a_reader_fails_after_each_byte(rt: HostRuntime) -> Result<(), Fail> {
-    let mut lines = buffer(rt.alloc())?;
-    for count in 0..SCRIPT.len() {
-        let text = &SCRIPT.as_bytes()[..count];
-        let run = read_until(rt.alloc(), text, &mut lines);
-        if told_of_memory(&lines) {
-            continue;
-        }
-        let answered = text.iter().filter(|byte| **byte == b'\n').count();
-        let told = lines.iter().filter(|byte| **byte == b'\n').count();
-        assert_eq!(rt; run, Err(ScriptFault::Read), "after {count}");
-        assert_eq!(rt; told, answered, "after {count}");
-        assert!(rt;
-            LINES.as_bytes().starts_with(lines.as_slice()),
-            "after {count}"
-        );
+fn line_ends(text: &[u8]) -> usize {
+    text.iter().filter(|byte| **byte == b'\n').count()
+}
+
+// Whether the script, whose reader fails after this text, has answered its whole lines, or told that memory was refused.
+fn answers_whole_lines(alloc: Global, text: &[u8], lines: &mut Vec<u8>) -> bool {
+    let run = read_until(alloc, text, lines);
+    if told_of_memory(lines) {
+        return true;
     }
-    Ok(())
+    run == Err(ScriptFault::Read)
+        && line_ends(lines) == line_ends(text)
+        && LINES.as_bytes().starts_with(lines.as_slice())
+}
+
+fn answers_until_each_byte(alloc: Global) -> Result<bool, NoMemory> {
+    let mut lines = buffer(alloc)?;
+    let mut right = true;
+    for count in 0..SCRIPT.len() {
+        right &= answers_whole_lines(alloc, &SCRIPT.as_bytes()[..count], &mut lines);
+    }
+    Ok(right)
+}
+
+#[test]
+fn a_reader_fails_after_each_byte(rt: HostRuntime) {
+    assert!(rt; matches!(answers_until_each_byte(rt.alloc()), Ok(true)));
 }
 
 fn write_once(
@@ -102,27 +109,40 @@ fn write_until(
     run
 }
 
-#[test]
-fn a_writer_fails_at_each_call(rt: HostRuntime) -> Result<(), Fail> {
+// Whether the writer takes just so many bytes of the lines, and the script ends as it should.
+fn takes(
+    alloc: Global,
+    room: usize,
+    fails: bool,
+    writer: &mut NarrowWriter,
+    wanted: Result<(), ScriptFault>,
+) -> bool {
+    let run = write_until(alloc, room, fails, writer);
+    let taken = writer.taken.as_slice();
+    run == wanted && taken.len() == room && LINES.as_bytes().starts_with(taken)
+}
+
+// Whether the script ends with a fault where the writer fails behind so many bytes, or takes no more of them.
+fn is_cut(alloc: Global, room: usize, writer: &mut NarrowWriter) -> bool {
+    let wanted = Err(ScriptFault::Write);
+    takes(alloc, room, true, writer, wanted) && takes(alloc, room, false, writer, wanted)
+}
+
+fn is_cut_at_each_byte(alloc: Global) -> Result<bool, NoMemory> {
     let mut writer = NarrowWriter {
-        taken: buffer(rt.alloc())?,
+        taken: buffer(alloc)?,
         room: 0,
         fails: false,
         flushes: 0,
     };
+    let mut right = takes(alloc, LINES.len(), true, &mut writer, Ok(()));
     for room in 0..LINES.len() {
-        for fails in [true, false] {
-            let run = write_until(rt.alloc(), room, fails, &mut writer);
-            assert_eq!(rt; run, Err(ScriptFault::Write), "at {room}");
-            assert_eq!(rt;
-                writer.taken.as_slice(),
-                &LINES.as_bytes()[..room],
-                "at {room}"
-            );
-        }
+        right &= is_cut(alloc, room, &mut writer);
     }
-    let run = write_until(rt.alloc(), LINES.len(), true, &mut writer);
-    assert_eq!(rt; run, Ok(()));
-    assert_eq!(rt; writer.taken.as_slice(), LINES.as_bytes());
-    Ok(())
+    Ok(right)
+}
+
+#[test]
+fn a_writer_fails_at_each_call(rt: HostRuntime) {
+    assert!(rt; matches!(is_cut_at_each_byte(rt.alloc()), Ok(true)));
 }

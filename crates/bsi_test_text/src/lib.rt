@@ -10,8 +10,6 @@ mod ends;
 #[cfg(test)]
 mod parts;
 #[cfg(test)]
-mod records;
-#[cfg(test)]
 mod row_files;
 #[cfg(test)]
 mod threads;

@@ -5,7 +5,6 @@ use std::alloc::Global;
 use std::io;
 use std::io::{Read, Write};
 use std::sync::atomic::{AtomicU64, Ordering};
-use std::test::Fail;
 
 // A part of a text, and how many lines are to be written once it was given, and before more is asked for.
 type Part = (&'static str, u64);
@@ -118,14 +117,17 @@ fn run_once(alloc: Global, parts: &'static [Part]) -> (Result<(), ScriptFault>, 
     (run, wrong.load(Ordering::SeqCst))
 }
 
-#[test]
-fn each_line_is_written_before_more_is_asked_for(rt: HostRuntime) -> Result<(), Fail> {
-    for (number, parts) in TEXTS.iter().enumerate() {
-        let mut ended = run_once(rt.alloc(), parts);
-        if ended.0 == Err(ScriptFault::NoMemory) {
-            ended = run_once(rt.alloc(), parts);
-        }
-        assert_eq!(rt; ended, (Ok(()), 0), "in text {number}");
+// Whether more is only asked for at the right times; where memory was refused, whether it then is.
+fn is_in_time(alloc: Global, parts: &'static [Part]) -> bool {
+    match run_once(alloc, parts) {
+        (Err(ScriptFault::NoMemory), _) => run_once(alloc, parts) == (Ok(()), 0),
+        ended => ended == (Ok(()), 0),
     }
-    Ok(())
+}
+
+#[test]
+fn each_line_is_written_before_more_is_asked_for(rt: HostRuntime) {
+    for (number, parts) in TEXTS.iter().enumerate() {
+        assert!(rt; is_in_time(rt.alloc(), parts), "in text {number}");
+    }
 }
