@@ -5,39 +5,41 @@ ghost use Rattle.bsi_table.specs.Table.{no_rows};
 ghost use Rattle.bsi_system.specs.Running.{IsFeederOf};
 
 use bsi_system::{
-    Analyst, AnalystRefused, History, LoadRefused, Loader, Naming, NoMemory, OpenRefused, System,
+    Analyst, AnalystRefused, Feeder, History, LoadRefused, Loader, Naming, OpenRefused, System,
     open,
 };
 use bsi_table::{Answer, AskError, ColumnSpec, Pred, Query, Row, Schema, Total};
 use std::alloc::Global;
-use std::process::Abort;
 use std::sync::Wait;
 
-fn one_row(alloc: Global, n: i128) -> Result<Row, NoMemory> {
-    let mut values = Vec::new(alloc);
-    values.push(Some(n))?;
-    Ok(Row::new(values))
+fn one_row(alloc: Global, n: i128) -> Option<Row> {
+    let values = Vec::from_slice(alloc, &[Some(n)]).ok()?;
+    Some(Row::new(values))
 }
 
-pub(crate) fn row(alloc: Global, n: i128) -> Result<Row, NoMemory> {
+/// Makes a row of one number. It returns none if memory is refused twice.
+pub(crate) fn row(alloc: Global, n: i128) -> Option<Row> {
     match one_row(alloc, n) {
-        Err(_) => one_row(alloc, n),
+        None => one_row(alloc, n),
         made => made,
     }
 }
 
-pub(crate) fn quantities(alloc: Global) -> Result<Schema, NoMemory> {
-    let mut schema = Schema::new(alloc);
-    match schema.add("qty", ColumnSpec::Slices(3)) {
-        Ok(()) => Ok(schema),
-        Err(_) => Err(NoMemory),
+/// Sends a row of one number. It returns whether the feeder takes it.
+pub(crate) fn submit(alloc: Global, feeder: &mut Feeder, n: i128) -> bool
+    ensures number { feeder.new.number ≡ feeder.old.number }
+    ensures channel { feeder.new.channel ≡ feeder.old.channel }
+{
+    match row(alloc, n) {
+        Some(row) => feeder.submit(row).is_ok(),
+        None => false,
     }
 }
 
-pub(crate) fn capacity(alloc: Global, n: u32) -> Result<Vec<u32>, NoMemory> {
-    let mut capacities = Vec::with_capacity(alloc, 1)?;
-    capacities.push(n)?;
-    Ok(capacities)
+pub(crate) fn quantities(alloc: Global) -> Option<Schema> {
+    let mut schema = Schema::new(alloc);
+    schema.add("qty", ColumnSpec::Slices(3)).ok()?;
+    Some(schema)
 }
 
 /// Opens a system. It returns none if memory is refused.
@@ -74,16 +76,16 @@ pub(crate) fn load<B: Naming>(loader: &mut Loader<B>, feeder: u32) -> Result<(),
     }
 }
 
-pub(crate) fn publish<B: Naming, R: Wait + Abort>(rt: &R, loader: &mut Loader<B>) -> Option<u64>
+/// Publishes, and returns how many rows are published. It returns none if memory is refused twice, or if a refusal
+/// changes what is held.
+pub(crate) fn publish<B: Naming, R: Wait>(rt: &R, loader: &mut Loader<B>) -> Option<u64>
     ensures { loader.new.system ≡ loader.old.system }
 {
     let before = loader.counts();
     match loader.publish(rt) {
         Ok(len) => Some(len),
-        Err(_) => {
-            assert_eq!(rt; loader.counts(), before);
-            loader.publish(rt).ok()
-        }
+        Err(_) if loader.counts() == before => loader.publish(rt).ok(),
+        Err(_) => None,
     }
 }
 

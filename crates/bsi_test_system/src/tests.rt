@@ -1,18 +1,16 @@
 //! Worked rows on a running system, in one thread. Each test tolerates one refused allocation.
 
-ghost use Rattle.std.specs.Prelude.{◌≡◌, [], length};
+ghost use Rattle.std.specs.Prelude.{◌≡◌, [], All, length};
 ghost use Rattle.bsi_table.specs.Table.{no_rows};
 ghost use Rattle.bsi_system.specs.Running.{IsFeederOf};
 
 use crate::blocks::send_blocks;
-use crate::calls::{ask, capacity, count_of, load, opened, publish, quantities, row, sum_of};
-use bsi_system::{
-    Analyst, AnalystRefused, Feeder, History, LoadRefused, Loader, Naming, SubmitRefused, System,
-};
+use crate::calls::{ask, count_of, load, opened, publish, quantities, submit, sum_of};
+use crate::refusals::{need_none, refuse};
+use bsi_system::{Analyst, AnalystRefused, Feeder, History, LoadRefused, Loader, Naming, System};
 use bsi_table::{Answer, AskError, Schema, Total};
 use std::alloc::Global;
 use std::marker::Brand;
-use std::process::Abort;
 use std::sync::Wait;
 use std::test::Fail;
 
@@ -24,269 +22,316 @@ enum Worked {
     Told,
     RefusedMemory,
     Blocks,
+    Refusals,
+    NoMemory,
 }
 
-/// Sends two rows, and one that does not fit.
-fn send<R: Abort>(rt: &R, alloc: Global, feeder: &mut Feeder) -> Result<(), Fail>
+/// Sends two rows, and one that does not fit. It returns whether just that one comes back.
+fn send(alloc: Global, feeder: &mut Feeder) -> bool
     ensures number { feeder.new.number ≡ feeder.old.number }
     ensures channel { feeder.new.channel ≡ feeder.old.channel }
 {
-    let five = feeder.submit(row(alloc, 5)?);
-    let six = feeder.submit(row(alloc, 6)?);
-    let misfit = match feeder.submit(row(alloc, 8)?) {
-        Err(SubmitRefused::Misfit(back)) => back.values() == &[Some(8)][..],
-        _other => false,
-    };
-    assert!(rt; five.is_ok() && six.is_ok() && misfit);
-    Ok(())
+    let five = submit(alloc, feeder, 5);
+    let six = submit(alloc, feeder, 6);
+    let eight = submit(alloc, feeder, 8);
+    five && six && !eight
 }
 
-/// Holds one row, and asserts that no analyst sees it.
-fn load_first<B: Naming, R: Abort>(rt: &R, loader: &mut Loader<B>, analyst: &mut Analyst<B>)
+/// Holds one row. It returns whether no analyst sees it.
+fn load_first<B: Naming>(loader: &mut Loader<B>, analyst: &mut Analyst<B>) -> bool
     ensures { loader.new.system ≡ loader.old.system }
 {
     let before = count_of(analyst);
     let loaded = load(loader, 0);
     let unknown = load(loader, 9);
-    assert!(rt; loaded == Ok(()) && unknown == Err(LoadRefused::UnknownFeeder));
-    assert!(rt; before == Some(0) && count_of(analyst) == Some(0));
-    assert_eq!(rt; loader.counts(), (0, 1));
+    let counts = loader.counts();
+    let held = loaded == Ok(()) && unknown == Err(LoadRefused::UnknownFeeder) && counts == (0, 1);
+    held && before == Some(0) && count_of(analyst) == Some(0)
 }
 
 /// Closes the feeder, and tells the loader.
-fn settle<B: Naming>(loader: &mut Loader<B>, feeder: Feeder) -> Result<(), Fail>
+fn settle<B: Naming>(loader: &mut Loader<B>, feeder: Feeder) -> Option<()>
     requires { IsFeederOf feeder loader.old.system }
     ensures { loader.new.system ≡ loader.old.system }
 {
-    let closing = feeder.close().ok_or("no closing")?;
-    match loader.settle(0, closing) {
-        Ok(()) => Ok(()),
-        Err(_) => Err(Fail::from("not settled")),
+    let closing = feeder.close()?;
+    loader.settle(0, closing).ok()
+}
+
+/// Loads the last row of a settled feeder. It returns whether there is none behind it.
+fn load_last<B: Naming>(loader: &mut Loader<B>) -> bool {
+    let last = load(loader, 0);
+    let ended = load(loader, 0);
+    last == Ok(()) && ended == Err(LoadRefused::Ended)
+}
+
+/// Returns whether an analyst lists the two rows.
+fn lists_both<B: Naming>(analyst: &mut Analyst<B>) -> bool {
+    match ask(analyst, Total::Rows) {
+        Ok(Answer::Rows(rows)) => rows.as_slice() == &[(0, 0), (0, 1)][..],
+        _other => false,
     }
 }
 
-/// Loads the last row of a settled feeder. Asserts that there is none behind it.
-fn load_last<B: Naming, R: Abort>(rt: &R, loader: &mut Loader<B>) {
-    let last = load(loader, 0);
-    let ended = load(loader, 0);
-    assert!(rt; last == Ok(()) && ended == Err(LoadRefused::Ended));
+/// Returns whether an analyst is told that there is no second column.
+fn lacks_a_column<B: Naming>(analyst: &mut Analyst<B>) -> bool {
+    match ask(analyst, Total::Sum(1)) {
+        Err(AnalystRefused::Ask(AskError::BadColumn(1))) => true,
+        _other => false,
+    }
 }
 
-/// Asserts what an analyst is answered over the two rows.
-fn read<B: Naming, R: Abort>(rt: &R, analyst: &mut Analyst<B>) {
-    let sum = sum_of(analyst);
-    let rows = match ask(analyst, Total::Rows) {
-        Ok(Answer::Rows(rows)) => rows.as_slice() == &[(0, 0), (0, 1)][..],
-        _other => false,
-    };
-    let missing = ask(analyst, Total::Sum(1)).err();
-    assert!(rt; sum == Some(11) && rows);
-    assert_eq!(rt; missing, Some(AnalystRefused::Ask(AskError::BadColumn(1))));
+/// Publishes the two rows, twice, and tells an analyst of them. It returns whether that is so.
+fn publish_both<B: Naming, R: Wait>(
+    rt: &R,
+    loader: &mut Loader<B>,
+    analyst: &mut Analyst<B>,
+) -> bool {
+    let once = publish(rt, loader);
+    let again = publish(rt, loader);
+    analyst.learn(loader.tell());
+    once == Some(2) && again == Some(2)
 }
 
 /// Sends two rows, holds and publishes them, and reads them with an analyst who was told of them.
-fn read_back<B: Naming, R: Wait + Abort>(
+fn read_back<B: Naming, R: Wait>(
     rt: &R,
     alloc: Global,
     feeder: Feeder,
     loader: &mut Loader<B>,
     first: &mut Analyst<B>,
     second: &mut Analyst<B>,
-) -> Result<(), Fail>
+) -> Option<bool>
     requires { IsFeederOf feeder loader.old.system }
 {
     let mut feeder = feeder;
-    send(rt, alloc, &mut feeder)?;
-    load_first(rt, loader, first);
+    let sent = send(alloc, &mut feeder);
+    let held = load_first(loader, first);
     settle(loader, feeder)?;
-    load_last(rt, loader);
-    let once = publish(rt, loader);
-    let again = publish(rt, loader);
-    assert!(rt; once == Some(2) && again == Some(2));
-    second.learn(loader.tell());
-    read(rt, second);
-    Ok(())
+    let loaded = load_last(loader);
+    let published = publish_both(rt, loader, second);
+    let read = sum_of(second) == Some(11) && lists_both(second) && lacks_a_column(second);
+    Some(sent && held && loaded && published && read)
 }
 
-/// Drops a feeder without closing it, and asserts that its rows can be loaded.
-fn dropped_feeder<B: Naming, R: Wait + Abort>(
+/// Sends two rows, and drops the feeder without closing it. It returns whether both are taken.
+fn send_and_drop(alloc: Global, feeder: Feeder) -> bool {
+    let mut feeder = feeder;
+    let one = submit(alloc, &mut feeder, 1);
+    let two = submit(alloc, &mut feeder, 2);
+    one && two
+}
+
+/// Drops a feeder without closing it. It returns whether its rows can be loaded, and read.
+fn dropped_feeder<B: Naming, R: Wait>(
     rt: &R,
     alloc: Global,
     feeder: Feeder,
     loader: &mut Loader<B>,
     analyst: &mut Analyst<B>,
-) -> Result<(), Fail> {
-    let mut feeder = feeder;
-    let one = feeder.submit(row(alloc, 1)?);
-    let two = feeder.submit(row(alloc, 2)?);
-    assert!(rt; one.is_ok() && two.is_ok());
-    drop(feeder);
-    assert_eq!(rt; load(loader, 0), Ok(()));
-    assert_eq!(rt; load(loader, 0), Ok(()));
-    assert_eq!(rt; load(loader, 0), Err(LoadRefused::Empty));
-    assert_eq!(rt; publish(rt, loader), Some(2));
-    assert_eq!(rt; sum_of(analyst), Some(3));
-    Ok(())
+) -> bool {
+    let sent = send_and_drop(alloc, feeder);
+    let one = load(loader, 0);
+    let two = load(loader, 0);
+    let none = load(loader, 0);
+    let loaded = one == Ok(()) && two == Ok(()) && none == Err(LoadRefused::Empty);
+    let published = publish(rt, loader) == Some(2);
+    sent && loaded && published && sum_of(analyst) == Some(3)
 }
 
-/// Tells an analyst of two publishes, the later one first.
-fn told<B: Naming, R: Wait + Abort>(
+/// Sends a row, loads it and publishes it, and returns how many rows are published.
+fn publish_row<B: Naming, R: Wait>(
+    rt: &R,
+    alloc: Global,
+    feeder: &mut Feeder,
+    loader: &mut Loader<B>,
+    number: i128,
+) -> Option<u64> {
+    let sent = submit(alloc, feeder, number);
+    let loaded = load(loader, 0);
+    let published = publish(rt, loader);
+    if sent && loaded == Ok(()) {
+        published
+    } else {
+        None
+    }
+}
+
+/// Tells an analyst of two publishes, the later one first. It returns whether the analyst sees that one twice.
+fn told<B: Naming, R: Wait>(
     rt: &R,
     alloc: Global,
     feeder: Feeder,
     loader: &mut Loader<B>,
     analyst: &mut Analyst<B>,
-) -> Result<(), Fail> {
+) -> bool {
     let mut feeder = feeder;
-    assert!(rt; feeder.submit(row(alloc, 5)?).is_ok());
-    assert_eq!(rt; load(loader, 0), Ok(()));
-    assert_eq!(rt; publish(rt, loader), Some(1));
+    let one = publish_row(rt, alloc, &mut feeder, loader, 5);
     let earlier = loader.tell();
-    assert!(rt; feeder.submit(row(alloc, 6)?).is_ok());
-    assert_eq!(rt; load(loader, 0), Ok(()));
-    assert_eq!(rt; publish(rt, loader), Some(2));
-    let later = loader.tell();
-    analyst.learn(later);
-    assert_eq!(rt; count_of(analyst), Some(2));
+    let two = publish_row(rt, alloc, &mut feeder, loader, 6);
+    analyst.learn(loader.tell());
+    let first = count_of(analyst);
     analyst.learn(earlier);
-    assert_eq!(rt; count_of(analyst), Some(2));
-    assert_eq!(rt; sum_of(analyst), Some(11));
-    Ok(())
+    let second = count_of(analyst);
+    let counted = first == Some(2) && second == Some(2);
+    one == Some(1) && two == Some(2) && counted && sum_of(analyst) == Some(11)
 }
 
-/// Sends three rows.
-fn send_three<R: Abort>(rt: &R, alloc: Global, feeder: &mut Feeder) -> Result<(), Fail>
+/// Sends three rows. It returns whether all are taken.
+fn send_three(alloc: Global, feeder: &mut Feeder) -> bool
     ensures number { feeder.new.number ≡ feeder.old.number }
     ensures channel { feeder.new.channel ≡ feeder.old.channel }
 {
-    let one = feeder.submit(row(alloc, 1)?);
-    let two = feeder.submit(row(alloc, 2)?);
-    let three = feeder.submit(row(alloc, 3)?);
-    assert!(rt; one.is_ok() && two.is_ok() && three.is_ok());
-    Ok(())
+    let one = submit(alloc, feeder, 1);
+    let two = submit(alloc, feeder, 2);
+    let three = submit(alloc, feeder, 3);
+    one && two && three
 }
 
-/// Holds two rows, asserts that they are not seen, and then publishes them.
-fn hold_and_publish<B: Naming, R: Wait + Abort>(
+/// Holds two rows and then publishes them. It returns whether they are not seen before.
+fn hold_and_publish<B: Naming, R: Wait>(
     rt: &R,
     loader: &mut Loader<B>,
     analyst: &mut Analyst<B>,
-)
+) -> bool
     ensures { loader.new.system ≡ loader.old.system }
 {
     let one = load(loader, 0);
     let two = load(loader, 0);
-    assert!(rt; one == Ok(()) && two == Ok(()));
-    assert_eq!(rt; loader.counts(), (0, 2));
-    assert_eq!(rt; count_of(analyst), Some(0));
-    assert_eq!(rt; publish(rt, loader), Some(2));
-    assert_eq!(rt; loader.counts(), (2, 0));
+    let held = loader.counts();
+    let unseen = count_of(analyst);
+    let published = publish(rt, loader);
+    let loaded = one == Ok(()) && two == Ok(()) && held == (0, 2);
+    loaded && unseen == Some(0) && published == Some(2) && loader.counts() == (2, 0)
 }
 
 /// Holds two rows and publishes them, and loads a third once its feeder is settled.
-fn refused_memory<B: Naming, R: Wait + Abort>(
+fn refused_memory<B: Naming, R: Wait>(
     rt: &R,
     alloc: Global,
     feeder: Feeder,
     loader: &mut Loader<B>,
     analyst: &mut Analyst<B>,
-) -> Result<(), Fail>
+) -> Option<bool>
     requires { IsFeederOf feeder loader.old.system }
 {
     let mut feeder = feeder;
-    send_three(rt, alloc, &mut feeder)?;
-    hold_and_publish(rt, loader, analyst);
+    let sent = send_three(alloc, &mut feeder);
+    let published = hold_and_publish(rt, loader, analyst);
     settle(loader, feeder)?;
-    load_last(rt, loader);
-    assert_eq!(rt; loader.counts(), (2, 1));
-    Ok(())
+    let loaded = load_last(loader);
+    Some(sent && published && loaded && loader.counts() == (2, 1))
 }
 
-fn play<B: Naming, R: Wait + Abort>(
+/// Plays a test, and returns whether all went as it should. It returns none if memory is refused for what the test needs.
+fn play<B: Naming, R: Wait>(
     rt: &R,
     alloc: Global,
     worked: Worked,
-    feeder: Feeder,
+    feeders: Vec<Feeder>,
     loader: &mut Loader<B>,
     analysts: Vec<Analyst<B>>,
-) -> Result<(), Fail>
-    requires { IsFeederOf feeder loader.old.system }
+) -> Option<bool>
+    requires { All (λ f. IsFeederOf f loader.old.system) feeders.items }
 {
+    let mut feeders = feeders;
     let mut analysts = analysts;
-    let mut second = analysts.pop().ok_or("no second analyst")?;
-    let mut first = analysts.pop().ok_or("no first analyst")?;
+    let feeder = feeders.pop()?;
+    let mut second = analysts.pop()?;
+    let mut first = analysts.pop()?;
     match worked {
         Worked::ReadBack => read_back(rt, alloc, feeder, loader, &mut first, &mut second),
-        Worked::DroppedFeeder => dropped_feeder(rt, alloc, feeder, loader, &mut first),
-        Worked::Told => told(rt, alloc, feeder, loader, &mut first),
+        Worked::DroppedFeeder => Some(dropped_feeder(rt, alloc, feeder, loader, &mut first)),
+        Worked::Told => Some(told(rt, alloc, feeder, loader, &mut first)),
         Worked::RefusedMemory => refused_memory(rt, alloc, feeder, loader, &mut first),
         Worked::Blocks => send_blocks(rt, alloc, feeder, loader, &mut first),
+        Worked::Refusals => refuse(rt, alloc, feeders.pop()?, feeder, loader),
+        Worked::NoMemory => need_none(rt, alloc, feeder, loader, first),
     }
 }
 
-/// Plays a test on a system of its own. It returns none if the system is refused memory.
-fn work_in<B: Naming, R: Wait + Abort>(
+/// Plays a test on a system of its own.
+fn work_in<B: Naming, R: Wait>(
     rt: &R,
     alloc: Global,
     worked: Worked,
     history: History,
     schema: Schema,
     capacities: Vec<u32>,
-) -> Option<Result<(), Fail>>
+    limit: u64,
+) -> Option<bool>
     requires history { history ≡ record { book = B.book; list = [] } }
-    requires about { B.about ≡ no_rows schema (length capacities.items) 10 }
+    requires about { B.about ≡ no_rows schema (length capacities.items) limit }
 {
     let System {
-        mut feeders,
+        feeders,
         mut loader,
         analysts,
-    } = opened::<B, R>(rt, alloc, history, schema, capacities, 10, 2)?;
-    let played = match feeders.pop() {
-        Some(feeder) => play(rt, alloc, worked, feeder, &mut loader, analysts),
-        None => Err(Fail::from("no feeder")),
-    };
+    } = opened::<B, R>(rt, alloc, history, schema, capacities, limit, 2)?;
+    let played = play(rt, alloc, worked, feeders, &mut loader, analysts);
     loader.end(rt);
-    Some(played)
+    played
 }
 
-fn work<R: Wait + Abort>(rt: &R, alloc: Global, worked: Worked) -> Option<Result<(), Fail>> {
-    let schema = quantities(alloc).ok()?;
-    let capacities = capacity(alloc, 4).ok()?;
-    work_in::<Brand, R>(rt, alloc, worked, History::new(), schema, capacities)
+/// Returns how many places the feeders' rings have, and the limit of rows.
+fn sizes(worked: Worked) -> (&'static [u32], u64) {
+    match worked {
+        Worked::Refusals => (&[1, 2], 1),
+        Worked::NoMemory => (&[2], 10),
+        _other => (&[4], 10),
+    }
 }
 
-/// Plays a test, and plays it once more if the first system was refused memory.
-fn worked_twice<R: Wait + Abort>(rt: &R, alloc: Global, worked: Worked) -> Result<(), Fail> {
+fn work<R: Wait>(rt: &R, alloc: Global, worked: Worked) -> Option<bool> {
+    let schema = quantities(alloc)?;
+    let (places, limit) = sizes(worked);
+    let capacities = Vec::from_slice(alloc, places).ok()?;
+    work_in::<Brand, R>(rt, alloc, worked, History::new(), schema, capacities, limit)
+}
+
+/// Plays a test, and plays it once more if memory was refused. It returns whether all went as it should.
+fn works<R: Wait>(rt: &R, alloc: Global, worked: Worked) -> bool {
     match work(rt, alloc, worked) {
-        Some(played) => played,
-        None => match work(rt, alloc, worked) {
-            Some(played) => played,
-            None => Err(Fail::from("no system")),
-        },
+        Some(right) => right,
+        None => work(rt, alloc, worked) == Some(true),
     }
 }
 
 #[test]
-fn read_a_write_back(rt: HostRuntime) -> Result<(), Fail> {
-    worked_twice(&rt, rt.alloc(), Worked::ReadBack)
+fn read_a_write_back(rt: HostRuntime) {
+    assert!(rt; works(&rt, rt.alloc(), Worked::ReadBack));
 }
 
 #[test]
-fn a_dropped_feeder(rt: HostRuntime) -> Result<(), Fail> {
-    worked_twice(&rt, rt.alloc(), Worked::DroppedFeeder)
+fn a_dropped_feeder(rt: HostRuntime) {
+    assert!(rt; works(&rt, rt.alloc(), Worked::DroppedFeeder));
 }
 
 #[test]
-fn told_versions(rt: HostRuntime) -> Result<(), Fail> {
-    worked_twice(&rt, rt.alloc(), Worked::Told)
+fn told_versions(rt: HostRuntime) {
+    assert!(rt; works(&rt, rt.alloc(), Worked::Told));
 }
 
 #[test]
-fn publish_refused_memory(rt: HostRuntime) -> Result<(), Fail> {
-    worked_twice(&rt, rt.alloc(), Worked::RefusedMemory)
+fn publish_refused_memory(rt: HostRuntime) {
+    assert!(rt; works(&rt, rt.alloc(), Worked::RefusedMemory));
 }
 
 #[test]
-fn blocks_of_rows(rt: HostRuntime) -> Result<(), Fail> {
-    worked_twice(&rt, rt.alloc(), Worked::Blocks)
+fn blocks_of_rows(rt: HostRuntime) {
+    assert!(rt; works(&rt, rt.alloc(), Worked::Blocks));
+}
+
+#[test]
+fn running_refusals(rt: HostRuntime) {
+    assert!(rt; works(&rt, rt.alloc(), Worked::Refusals));
+}
+
+#[test]
+fn ends_take_no_memory(rt: HostRuntime) -> Result<(), Fail> {
+    match work(&rt, rt.alloc(), Worked::NoMemory) {
+        Some(right) => assert!(rt; right),
+        None => eprintln!(rt; "gave up: no memory for the fixture")?,
+    }
+    Ok(())
 }
