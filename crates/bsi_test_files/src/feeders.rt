@@ -1,21 +1,19 @@
 //! Feeders that read row files, on systems of their own. Each test tolerates one refused allocation, and then makes a
 //! new system.
 
-ghost use Rattle.std.specs.Prelude.{◌≡◌, [], length};
+ghost use Rattle.std.specs.Prelude.{◌≡◌, [], IfSome, length};
 ghost use Rattle.bsi_table.specs.Table.{no_rows};
 ghost use Rattle.bsi_system.specs.Running.{IsFeederOf};
 
 use crate::gates::{Meeting, Patience};
-use crate::inputs::{Input, broken, long, text};
+use crate::inputs::{Input, broken, text};
 use bsi_files::{FeedEnd, Gate, Go, feed};
 use bsi_system::{Feeder, History, LoadRefused, Loader, Naming, OpenRefused, System, open};
 use bsi_table::{ColumnSpec, Schema};
 use bsi_text::{RowSource, SourceFault};
-use std::alloc::{AllocError, Global};
+use std::alloc::Global;
 use std::marker::Brand;
-use std::process::Abort;
 use std::sync::Wait;
-use std::test::Fail;
 use std::thread;
 use std::thread::Threads;
 
@@ -26,36 +24,36 @@ enum Tried {
     BrokenReader,
     StoppedByTheGate,
     AnotherSchema,
-    StoppedAtABlock,
-    AnotherSchemaOfManyPlaces,
 }
 
-/// How many places each ring has.
-fn places(tried: Tried) -> u32 {
-    match tried {
-        Tried::StoppedAtABlock | Tried::AnotherSchemaOfManyPlaces => 64,
-        _ => 2,
-    }
-}
-
-fn quantities(alloc: Global, size: u32) -> Result<Schema, AllocError> {
+fn quantities(alloc: Global, size: u32) -> Option<Schema> {
     let mut schema = Schema::new(alloc);
-    match schema.add("qty", ColumnSpec::Slices(size)) {
-        Ok(()) => Ok(schema),
-        Err(_) => Err(AllocError),
-    }
-}
-
-fn two(alloc: Global, capacity: u32) -> Result<Vec<u32>, AllocError> {
-    let mut capacities = Vec::with_capacity(alloc, 2)?;
-    capacities.push(capacity)?;
-    capacities.push(capacity)?;
-    Ok(capacities)
+    schema.add("qty", ColumnSpec::Slices(size)).ok()?;
+    Some(schema)
 }
 
 fn source(alloc: Global, bits: u32, input: Input) -> Option<RowSource<Input>> {
-    let schema = quantities(alloc, bits).ok()?;
+    let schema = quantities(alloc, bits)?;
     RowSource::begin(alloc, &schema, input).ok()
+}
+
+/// Feeds an input of numbers of so many bits. It returns none if memory was refused.
+fn fed<R: Wait, G: Gate>(
+    rt: &R,
+    alloc: Global,
+    feeder: Feeder,
+    bits: u32,
+    input: Input,
+    gate: &G,
+) -> Option<FeedEnd>
+    ensures number { IfSome result (λ end. IfSome end.closing (λ c. c.number ≡ feeder.number)) }
+    ensures channel { IfSome result (λ end. IfSome end.closing (λ c. c.channel ≡ feeder.channel)) }
+{
+    let end = feed(rt, feeder, source(alloc, bits, input)?, gate);
+    if end.fault == Some(SourceFault::NoMemory) {
+        return None;
+    }
+    Some(end)
 }
 
 fn load<B: Naming>(loader: &mut Loader<B>, feeder: u32) -> Result<(), LoadRefused>
@@ -67,141 +65,102 @@ fn load<B: Naming>(loader: &mut Loader<B>, feeder: u32) -> Result<(), LoadRefuse
     }
 }
 
-/// Asserts how a feeder ends that has read two good rows and nothing else.
-fn assert_whole<R: Abort>(rt: &R, end: &FeedEnd) {
-    assert!(rt; end.accepted == 2 && end.bad == 0 && !end.stopped);
-    assert!(rt; end.fault.is_none() && end.closing.is_some());
+/// Returns whether a feeder ends so that has read no bad row and no fault.
+fn ends(end: &FeedEnd, accepted: u64, stopped: bool) -> bool {
+    end.accepted == accepted
+        && end.bad == 0
+        && end.stopped == stopped
+        && end.fault.is_none()
+        && end.closing.is_some()
 }
 
 /// Feeds both files on threads, each of which waits for the other. It returns none if memory was refused, also that of
 /// a second thread, in which case one feeder comes after the other.
-fn side_by_side<R: Threads + Wait + Abort + Sync>(
+fn side_by_side<R: Threads + Wait + Sync>(
     rt: &R,
     alloc: Global,
     first: Feeder,
     second: Feeder,
-) -> Option<()> {
+) -> Option<bool> {
     let gate = Meeting::new();
     let shared = &gate;
-    let one = source(alloc, 3, text("qty\n1\n2\n"))?;
-    let two = source(alloc, 3, text("qty\n1\n2\n"))?;
-    let (a, b) = thread::join(
+    let (one, two) = thread::join(
         rt,
-        move || feed(rt, first, one, shared),
-        move || feed(rt, second, two, shared),
+        move || fed(rt, alloc, first, 3, text("qty\n1\n2\n"), shared),
+        move || fed(rt, alloc, second, 3, text("qty\n1\n2\n"), shared),
     );
-    if a.fault == Some(SourceFault::NoMemory) || b.fault == Some(SourceFault::NoMemory) {
-        return None;
-    }
     if gate.is_late() {
         return None;
     }
-    assert_whole(rt, &a);
-    assert_whole(rt, &b);
-    Some(())
+    Some(ends(&one?, 2, false) && ends(&two?, 2, false))
 }
 
-/// Feeds from a reader that fails behind two good rows and a bad one. Asserts that both good rows are accepted, and can
-/// be loaded.
-fn broken_reader<B: Naming, R: Wait + Abort>(
+/// Returns whether two rows of the second feeder can be loaded, and no more.
+fn loads_two<B: Naming>(loader: &mut Loader<B>) -> bool {
+    let one = load(loader, 1);
+    let two = load(loader, 1);
+    let none = load(loader, 1);
+    one == Ok(()) && two == Ok(()) && none == Err(LoadRefused::Ended)
+}
+
+/// Feeds from a reader that fails behind two good rows and a bad one. It returns whether both good rows are accepted, and
+/// can be loaded.
+fn broken_reader<B: Naming, R: Wait>(
     rt: &R,
     alloc: Global,
     loader: &mut Loader<B>,
     feeder: Feeder,
-) -> Option<()>
+) -> Option<bool>
     requires { IsFeederOf feeder loader.old.system }
 {
-    let end = feed(rt, feeder, source(alloc, 3, broken("qty\n1\n8\n2\n"))?, &Go);
-    if end.fault == Some(SourceFault::NoMemory) {
-        return None;
-    }
-    assert!(rt; end.accepted == 2 && end.bad == 1 && !end.stopped);
-    assert_eq!(rt; end.fault, Some(SourceFault::Read));
-    let closing = end.closing?;
-    let feeder = closing.feeder();
-    assert!(rt; loader.settle(feeder, closing).is_ok());
-    assert_eq!(rt; load(loader, 1), Ok(()));
-    assert_eq!(rt; load(loader, 1), Ok(()));
-    assert_eq!(rt; load(loader, 1), Err(LoadRefused::Ended));
-    Some(())
+    let end = fed(rt, alloc, feeder, 3, broken("qty\n1\n8\n2\n"), &Go)?;
+    let accepted = end.accepted == 2 && end.bad == 1 && !end.stopped;
+    let failed = end.fault == Some(SourceFault::Read);
+    let settled = loader.settle(1, end.closing?).is_ok();
+    Some(accepted && failed && settled && loads_two(loader))
 }
 
-/// Feeds a file whose third row finds no place in the ring. Asserts that the gate stops the feeder there.
-fn stopped_by_the_gate<R: Wait + Abort>(rt: &R, alloc: Global, feeder: Feeder) -> Option<()> {
+/// Feeds a file whose third row finds no place in the ring. It returns whether the gate stops the feeder there.
+fn stopped_by_the_gate<R: Wait>(rt: &R, alloc: Global, feeder: Feeder) -> Option<bool> {
     let gate = Patience::new(3);
-    let end = feed(rt, feeder, source(alloc, 3, text("qty\n1\n2\n3\n"))?, &gate);
-    if end.fault == Some(SourceFault::NoMemory) {
-        return None;
-    }
-    assert!(rt; end.accepted == 2 && end.bad == 0 && end.stopped);
-    assert!(rt; end.fault.is_none() && end.closing.is_some());
-    assert_eq!(rt; gate.passes(), 4);
-    assert_eq!(rt; gate.tries(), 4);
-    Some(())
+    let end = fed(rt, alloc, feeder, 3, text("qty\n1\n2\n3\n"), &gate)?;
+    Some(ends(&end, 2, true) && gate.passes() == 4 && gate.tries() == 4)
 }
 
-/// Feeds a file of 70 rows to a ring of 64 places. Asserts that one block is accepted, and that the gate stops the feeder
-/// at the next.
-fn stopped_at_a_block<R: Wait + Abort>(rt: &R, alloc: Global, feeder: Feeder) -> Option<()> {
+/// Feeds from a source of another schema. It returns whether the feeder stops at a row that does not fit.
+fn another_schema<R: Wait>(rt: &R, alloc: Global, feeder: Feeder) -> Option<bool> {
     let gate = Patience::new(3);
-    let end = feed(
-        rt,
-        feeder,
-        source(alloc, 3, long("qty\n", "1\n", 70))?,
-        &gate,
-    );
-    // Where memory for a block is refused, the feeder sends its rows alone.
-    if end.fault == Some(SourceFault::NoMemory) || end.accepted != 64 || gate.passes() != 71 {
-        return None;
-    }
-    assert!(rt; end.bad == 0 && end.stopped);
-    assert!(rt; end.fault.is_none() && end.closing.is_some());
-    assert_eq!(rt; gate.tries(), 4);
-    Some(())
+    let end = fed(rt, alloc, feeder, 4, text("qty\n7\n8\n1\n"), &gate)?;
+    Some(ends(&end, 1, true) && gate.passes() == 3 && gate.tries() == 0)
 }
 
-/// Feeds from a source of another schema. Asserts that the feeder stops at a row that does not fit.
-fn another_schema<R: Wait + Abort>(rt: &R, alloc: Global, feeder: Feeder) -> Option<()> {
-    let gate = Patience::new(3);
-    let end = feed(rt, feeder, source(alloc, 4, text("qty\n7\n8\n1\n"))?, &gate);
-    if end.fault == Some(SourceFault::NoMemory) {
-        return None;
-    }
-    assert!(rt; end.accepted == 1 && end.bad == 0 && end.stopped);
-    assert!(rt; end.fault.is_none() && end.closing.is_some());
-    assert_eq!(rt; gate.passes(), 3);
-    assert_eq!(rt; gate.tries(), 0);
-    Some(())
-}
-
-fn play<B: Naming, R: Threads + Wait + Abort + Sync>(
+fn play<B: Naming, R: Threads + Wait + Sync>(
     rt: &R,
     alloc: Global,
     tried: Tried,
     loader: &mut Loader<B>,
     first: Feeder,
     second: Feeder,
-) -> Option<()>
+) -> Option<bool>
     requires { IsFeederOf second loader.old.system }
 {
     match tried {
         Tried::SideBySide => side_by_side(rt, alloc, first, second),
         Tried::BrokenReader => broken_reader(rt, alloc, loader, second),
         Tried::StoppedByTheGate => stopped_by_the_gate(rt, alloc, first),
-        Tried::StoppedAtABlock => stopped_at_a_block(rt, alloc, first),
-        Tried::AnotherSchema | Tried::AnotherSchemaOfManyPlaces => another_schema(rt, alloc, first),
+        Tried::AnotherSchema => another_schema(rt, alloc, first),
     }
 }
 
 /// Tries it on a system of its own. It returns none if memory was refused.
-fn try_in<B: Naming, R: Threads + Wait + Abort + Sync>(
+fn try_in<B: Naming, R: Threads + Wait + Sync>(
     rt: &R,
     alloc: Global,
     tried: Tried,
     history: History,
     schema: Schema,
     capacities: Vec<u32>,
-) -> Option<()>
+) -> Option<bool>
     requires history { history ≡ record { book = B.book; list = [] } }
     requires about { B.about ≡ no_rows schema (length capacities.items) 10 }
 {
@@ -227,50 +186,36 @@ fn try_in<B: Naming, R: Threads + Wait + Abort + Sync>(
     }
 }
 
-fn try_once<R: Threads + Wait + Abort + Sync>(rt: &R, alloc: Global, tried: Tried) -> Option<()> {
-    let schema = quantities(alloc, 3).ok()?;
-    let capacities = two(alloc, places(tried)).ok()?;
+fn try_once<R: Threads + Wait + Sync>(rt: &R, alloc: Global, tried: Tried) -> Option<bool> {
+    let schema = quantities(alloc, 3)?;
+    let capacities = Vec::from_slice(alloc, &[2, 2]).ok()?;
     try_in::<Brand, R>(rt, alloc, tried, History::new(), schema, capacities)
 }
 
-/// Tries it, and tries it once more if memory was refused.
-fn try_twice<R: Threads + Wait + Abort + Sync>(
-    rt: &R,
-    alloc: Global,
-    tried: Tried,
-) -> Result<(), Fail> {
-    if try_once(rt, alloc, tried).is_some() || try_once(rt, alloc, tried).is_some() {
-        return Ok(());
+/// Tries it, and tries it once more if memory was refused. It returns whether all went as it should.
+fn works<R: Threads + Wait + Sync>(rt: &R, alloc: Global, tried: Tried) -> bool {
+    match try_once(rt, alloc, tried) {
+        Some(right) => right,
+        None => try_once(rt, alloc, tried) == Some(true),
     }
-    Err(Fail::from("not tried to its end"))
 }
 
 #[test]
-fn two_files_on_two_threads(rt: HostRuntime) -> Result<(), Fail> {
-    try_twice(&rt, rt.alloc(), Tried::SideBySide)
+fn two_files_on_two_threads(rt: HostRuntime) {
+    assert!(rt; works(&rt, rt.alloc(), Tried::SideBySide));
 }
 
 #[test]
-fn rows_before_a_broken_reader(rt: HostRuntime) -> Result<(), Fail> {
-    try_twice(&rt, rt.alloc(), Tried::BrokenReader)
+fn rows_before_a_broken_reader(rt: HostRuntime) {
+    assert!(rt; works(&rt, rt.alloc(), Tried::BrokenReader));
 }
 
 #[test]
-fn a_feeder_stops_where_the_gate_says(rt: HostRuntime) -> Result<(), Fail> {
-    try_twice(&rt, rt.alloc(), Tried::StoppedByTheGate)
+fn a_feeder_stops_where_the_gate_says(rt: HostRuntime) {
+    assert!(rt; works(&rt, rt.alloc(), Tried::StoppedByTheGate));
 }
 
 #[test]
-fn a_feeder_stops_at_a_row_that_does_not_fit(rt: HostRuntime) -> Result<(), Fail> {
-    try_twice(&rt, rt.alloc(), Tried::AnotherSchema)
-}
-
-#[test]
-fn a_feeder_sends_blocks(rt: HostRuntime) -> Result<(), Fail> {
-    try_twice(&rt, rt.alloc(), Tried::StoppedAtABlock)
-}
-
-#[test]
-fn a_feeder_tests_each_row_of_another_schema(rt: HostRuntime) -> Result<(), Fail> {
-    try_twice(&rt, rt.alloc(), Tried::AnotherSchemaOfManyPlaces)
+fn a_feeder_stops_at_a_row_that_does_not_fit(rt: HostRuntime) {
+    assert!(rt; works(&rt, rt.alloc(), Tried::AnotherSchema));
 }

@@ -1,35 +1,32 @@
 //! Which fault of a run is told first, and which rows a run names to its gate.
 
 use crate::inputs::{QUANTITIES, broken, long, text};
-use crate::runs::{Files, end_of, end_once, wants_memory};
+use crate::runs::{Files, end_once, ends};
 use bsi_files::{FilesFault, Gate, Stopping};
 use bsi_text::SourceFault;
 use std::sync::Wait;
 use std::sync::atomic::{AtomicU64, Ordering};
-use std::test::Fail;
+use std::thread::Threads;
 
 #[test]
-fn a_bad_schema_record_comes_before_the_reader_that_fails(rt: HostRuntime) -> Result<(), Fail> {
+fn a_bad_schema_record_comes_before_the_reader_that_fails(rt: HostRuntime) {
     let files = Files {
         schema: broken("column,qty,slices,3\nbegin\n"),
         asks: text(""),
         rows: &[text("qty\n1\n")],
     };
-    let ended = end_of(&rt, files)?;
-    assert_eq!(&rt; ended.run, Err(FilesFault::BadSchema(2)));
-    Ok(())
+    assert!(rt; ends(&rt, files, Err(FilesFault::BadSchema(2)), b""));
 }
 
 #[test]
-fn the_first_row_file_that_fails_is_told(rt: HostRuntime) -> Result<(), Fail> {
+fn the_first_row_file_that_fails_is_told(rt: HostRuntime) {
     let files = Files {
         schema: text(QUANTITIES),
         asks: text(""),
         rows: &[text("qty\n1\n"), broken("qty\n1\n"), broken("qty\n")],
     };
-    let ended = end_of(&rt, files)?;
-    assert_eq!(&rt; ended.run, Err(FilesFault::Source(1, SourceFault::Read)));
-    Ok(())
+    let told = Err(FilesFault::Source(1, SourceFault::Read));
+    assert!(rt; ends(&rt, files, told, b""));
 }
 
 // Follows the calls of feeder 1: one for each row that it tries, in order, and one at its end. Feeder 0 has no row.
@@ -96,44 +93,56 @@ impl Stopping for Follower {
     ghost STOPS = { false };
 }
 
+// Whether a run ends so, behind this output, and its gate was called so often by feeder 1: each time for the next row, but
+// so many times for a row of a block.
+fn is_followed_once<R: Threads + Wait + AllocGlobal + Sync>(
+    rt: &R,
+    files: Files<'_>,
+    run: Result<(), FilesFault>,
+    output: &[u8],
+    (passes, stops): (u64, u64),
+) -> bool {
+    let gate = Follower::new();
+    let ended = match end_once(rt, files, &gate) {
+        Ok(ended) => ended.is(run, output),
+        Err(_) => false,
+    };
+    let tried = stops == 0 || calls(&gate.tries) > 0;
+    let strange = calls(&gate.strange);
+    ended && tried && strange == 0 && calls(&gate.passes) == passes && calls(&gate.stops) == stops
+}
+
+// Where memory was refused, the run is made again.
+fn is_followed<R: Threads + Wait + AllocGlobal + Sync>(
+    rt: &R,
+    files: Files<'_>,
+    run: Result<(), FilesFault>,
+    output: &[u8],
+    counts: (u64, u64),
+) -> bool {
+    is_followed_once(rt, files, run, output, counts)
+        || is_followed_once(rt, files, run, output, counts)
+}
+
 // Of 1,100 rows the ring takes 16 blocks of 64, and the table 10 rows of these. The next block finds no room.
 #[test]
-fn a_feeder_that_stops_names_its_row(rt: HostRuntime) -> Result<(), Fail> {
+fn a_feeder_that_stops_names_its_row(rt: HostRuntime) {
     let files = Files {
         schema: text("column,qty,slices,3\nlimit,10\n"),
         asks: text(""),
         rows: &[text("qty\n"), long("qty\n", "1\n", 1_100)],
     };
-    let mut gate = Follower::new();
-    let mut ended = end_once(&rt, files, &gate);
-    if wants_memory(&ended) || calls(&gate.passes) != 1_089 {
-        gate = Follower::new();
-        ended = end_once(&rt, files, &gate);
-    }
-    assert_eq!(&rt; ended?.run, Err(FilesFault::IndexFull));
-    assert!(&rt; calls(&gate.tries) > 0);
-    assert_eq!(&rt; calls(&gate.passes), 1_089);
-    assert_eq!(&rt; calls(&gate.stops), 1);
-    assert_eq!(&rt; calls(&gate.strange), 0);
-    Ok(())
+    let full = Err(FilesFault::IndexFull);
+    assert!(rt; is_followed(&rt, files, full, b"", (1_089, 1)));
 }
 
 #[test]
-fn a_feeder_at_its_end_names_how_many_it_sent(rt: HostRuntime) -> Result<(), Fail> {
+fn a_feeder_at_its_end_names_how_many_it_sent(rt: HostRuntime) {
     let files = Files {
         schema: text(QUANTITIES),
         asks: text(""),
         rows: &[text("qty\n"), text("qty\n1\n2\n3\n")],
     };
-    let mut gate = Follower::new();
-    let mut ended = end_once(&rt, files, &gate);
-    if wants_memory(&ended) {
-        gate = Follower::new();
-        ended = end_once(&rt, files, &gate);
-    }
-    assert_eq!(&rt; ended?.run, Ok(()));
-    assert_eq!(&rt; calls(&gate.passes), 4);
-    assert_eq!(&rt; calls(&gate.stops), 0);
-    assert_eq!(&rt; calls(&gate.strange), 0);
-    Ok(())
+    let fed = b"fed 0 0 0\nfed 1 3 0\n";
+    assert!(rt; is_followed(&rt, files, Ok(()), fed, (4, 0)));
 }

@@ -4,9 +4,8 @@ use crate::gates::{MAX_TURNS, Meeting, Patience};
 use crate::inputs::{Input, QUANTITIES, long, text};
 use bsi_files::{FilesFault, Gate, Go, Stopping, run_files};
 use bsi_text::SourceFault;
-use std::alloc::{AllocError, Global};
+use std::alloc::AllocError;
 use std::sync::Wait;
-use std::test::Fail;
 use std::thread::Threads;
 
 // What a run reads.
@@ -15,14 +14,6 @@ pub(crate) struct Files<'a> {
     pub(crate) schema: Input,
     pub(crate) asks: Input,
     pub(crate) rows: &'a [Input],
-}
-
-pub(crate) fn copy_of(alloc: Global, rows: &[Input]) -> Result<Vec<Input>, AllocError> {
-    let mut all = Vec::with_capacity(alloc, rows.len())?;
-    for input in rows {
-        all.push(*input)?;
-    }
-    Ok(all)
 }
 
 // How a run ends, and what it wrote.
@@ -38,12 +29,19 @@ pub(crate) fn end_once<R: Threads + Wait + AllocGlobal + Sync, G: Gate + Stoppin
     gate: &G,
 ) -> Result<Ended, AllocError> {
     let mut output = Vec::with_capacity(rt.alloc(), 4096)?;
-    let rows = copy_of(rt.alloc(), files.rows)?;
+    let rows = Vec::from_slice(rt.alloc(), files.rows)?;
     if rows.is_empty() {
         return Err(AllocError);
     }
     let run = run_files(rt, files.schema, files.asks, rows, &mut output, gate);
     Ok(Ended { run, output })
+}
+
+impl Ended {
+    // Whether the run ends so, behind this output.
+    pub(crate) fn is(&self, run: Result<(), FilesFault>, output: &[u8]) -> bool {
+        self.run == run && self.output.as_slice() == output
+    }
 }
 
 // Whether the part stands somewhere in the text.
@@ -64,7 +62,7 @@ pub(crate) fn wants_memory(ended: &Result<Ended, AllocError>) -> bool {
 }
 
 // How a run ends; where memory was wanted, how it ends then.
-pub(crate) fn end_of<R: Threads + Wait + AllocGlobal + Sync>(
+fn end_of<R: Threads + Wait + AllocGlobal + Sync>(
     rt: &R,
     files: Files<'_>,
 ) -> Result<Ended, AllocError> {
@@ -75,56 +73,65 @@ pub(crate) fn end_of<R: Threads + Wait + AllocGlobal + Sync>(
     ended
 }
 
-// How a run through a gate ends; where memory was refused, how one through another ends, and whether it was this one.
-fn end_with<R: Threads + Wait + AllocGlobal + Sync, G: Gate + Stopping + Sync>(
+// Whether a run ends so, behind this output; where memory was wanted, whether it then does.
+pub(crate) fn ends<R: Threads + Wait + AllocGlobal + Sync>(
     rt: &R,
     files: Files<'_>,
-    once: &G,
-    twice: &G,
-) -> Result<(Ended, bool), AllocError> {
-    let ended = end_once(rt, files, once);
-    if wants_memory(&ended) {
-        return Ok((end_once(rt, files, twice)?, true));
+    run: Result<(), FilesFault>,
+    output: &[u8],
+) -> bool {
+    match end_of(rt, files) {
+        Ok(ended) => ended.is(run, output),
+        Err(_) => false,
     }
-    Ok((ended?, false))
 }
 
-#[test]
-fn two_files_are_fed_side_by_side(rt: HostRuntime) -> Result<(), Fail> {
+// Whether two files are fed so that each waits for the other. It gives none where memory was wanted.
+fn is_met<R: Threads + Wait + AllocGlobal + Sync>(rt: &R) -> Option<bool> {
     let files = Files {
         schema: text(QUANTITIES),
         asks: text("count,all\n"),
         rows: &[text("qty\n1\n2\n"), text("qty\n1\n2\n")],
     };
-    let once = Meeting::new();
-    let twice = Meeting::new();
-    let (ended, is_second) = end_with(&rt, files, &once, &twice)?;
-    let gate = if is_second { &twice } else { &once };
-    assert_eq!(&rt; ended.run, Ok(()));
-    assert_eq!(&rt;
-        ended.output.as_slice(),
-        b"fed 0 2 0\nfed 1 2 0\ncount 4\n".as_slice()
-    );
-    assert!(&rt; !gate.is_late());
-    Ok(())
+    let gate = Meeting::new();
+    let ended = end_once(rt, files, &gate);
+    if wants_memory(&ended) {
+        return None;
+    }
+    let fed = ended.ok()?.is(Ok(()), b"fed 0 2 0\nfed 1 2 0\ncount 4\n");
+    Some(fed && !gate.is_late())
 }
 
 #[test]
-fn the_loader_goes_on_beside_the_feeders(rt: HostRuntime) -> Result<(), Fail> {
+fn two_files_are_fed_side_by_side(rt: HostRuntime) {
+    let met = match is_met(&rt) {
+        None => is_met(&rt),
+        met => met,
+    };
+    assert!(rt; met == Some(true));
+}
+
+// Whether a file of more rows than its ring has places is fed. It gives none where memory was wanted.
+fn goes_on<R: Threads + Wait + AllocGlobal + Sync>(rt: &R) -> Option<bool> {
     let files = Files {
         schema: text(QUANTITIES),
         asks: text("count,all\n"),
         rows: &[long("qty\n", "1\n", 3_000)],
     };
-    let once = Patience::new(MAX_TURNS);
-    let twice = Patience::new(MAX_TURNS);
-    let (ended, is_second) = end_with(&rt, files, &once, &twice)?;
-    let gate = if is_second { &twice } else { &once };
-    assert_eq!(&rt; ended.run, Ok(()));
-    assert_eq!(&rt;
-        ended.output.as_slice(),
-        b"fed 0 3000 0\ncount 3000\n".as_slice()
-    );
-    assert_eq!(&rt; gate.passes(), 3_001);
-    Ok(())
+    let gate = Patience::new(MAX_TURNS);
+    let ended = end_once(rt, files, &gate);
+    if wants_memory(&ended) {
+        return None;
+    }
+    let fed = ended.ok()?.is(Ok(()), b"fed 0 3000 0\ncount 3000\n");
+    Some(fed && gate.passes() == 3_001)
+}
+
+#[test]
+fn the_loader_goes_on_beside_the_feeders(rt: HostRuntime) {
+    let done = match goes_on(&rt) {
+        None => goes_on(&rt),
+        done => done,
+    };
+    assert!(rt; done == Some(true));
 }
