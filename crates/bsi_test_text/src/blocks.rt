@@ -3,7 +3,7 @@
 use crate::ends::broken;
 use crate::row_files::schema_of;
 use bsi_plain::TextReader;
-use bsi_table::{Block, Schema};
+use bsi_table::{Block, Row, Schema};
 use bsi_text::{NoMemory, RowSource, SourceFault};
 use std::alloc::Global;
 use std::io::Read;
@@ -11,16 +11,36 @@ use std::io::Read;
 // What a test expects of a call: rows of two columns, or a fault.
 type Given<'a> = Result<&'a [[Option<i128>; 2]], SourceFault>;
 
+// Whether the row has these entries.
+fn is_row(row: &Row, want: Option<&[Option<i128>; 2]>) -> bool {
+    match want {
+        Some(entries) => row.values() == entries.as_slice(),
+        None => false,
+    }
+}
+
 // Whether a block has these rows, and no others.
 fn has_rows(block: &Block, want: &[[Option<i128>; 2]]) -> Result<bool, NoMemory> {
+    let mut right = block.len() == want.len();
     for r in 0..block.len() {
         let row = block.row(r)?;
-        match want.get(r) {
-            Some(entries) if row.values() == entries.as_slice() => {}
-            _ => return Ok(false),
-        }
+        right &= is_row(&row, want.get(r));
     }
-    Ok(block.len() == want.len())
+    Ok(right)
+}
+
+// Whether a call filled a block with these, or told the fault.
+fn is_given(
+    filled: Result<(), SourceFault>,
+    block: &Block,
+    want: Given<'_>,
+) -> Result<bool, SourceFault> {
+    match (filled, want) {
+        (Err(SourceFault::NoMemory), _) => Err(SourceFault::NoMemory),
+        (Err(fault), Err(wanted)) => Ok(fault == wanted),
+        (Ok(()), Ok(rows)) => Ok(has_rows(block, rows)?),
+        _ => Ok(false),
+    }
 }
 
 // Whether a call fills a block with these, or tells the fault.
@@ -29,12 +49,8 @@ fn gives_next<R: Read + Drop>(
     want: Given<'_>,
 ) -> Result<bool, SourceFault> {
     let mut block = source.block(2)?;
-    match (source.fill(1, &mut block), want) {
-        (Err(SourceFault::NoMemory), _) => Err(SourceFault::NoMemory),
-        (Err(fault), Err(wanted)) => Ok(fault == wanted),
-        (Ok(()), Ok(rows)) => Ok(has_rows(&block, rows)?),
-        _ => Ok(false),
-    }
+    let filled = source.fill(1, &mut block);
+    is_given(filled, &block, want)
 }
 
 fn gives_each<R: Read + Drop>(
