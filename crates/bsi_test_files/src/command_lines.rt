@@ -138,12 +138,12 @@ fn pipe_of<R: AllocGlobal + Files>(rt: &R, text: &str) -> io::Result<(PipeReader
     Ok((reader, path))
 }
 
-// How a run over files ends that goes well, and whose flush fails.
-fn unflushed<R: AllocGlobal + Files<File = S> + Threads + Wait + Sync, S: Read + Drop + Send>(
+// How a run over these files ends whose flush fails.
+fn end_over<R: AllocGlobal + Files<File = S> + Threads + Wait + Sync, S: Read + Drop + Send>(
     rt: &R,
+    schema: &str,
+    rows: &str,
 ) -> io::Result<Ended> {
-    let (_schema, schema) = pipe_of(rt, "column,qty,slices,3\n")?;
-    let (_rows, rows) = pipe_of(rt, "qty\n5\n")?;
     let words = format!(in rt.alloc(); "files --schema {schema} --asks /dev/null {rows}")?;
     let line = Line {
         words: words.as_str(),
@@ -151,6 +151,15 @@ fn unflushed<R: AllocGlobal + Files<File = S> + Threads + Wait + Sync, S: Read +
         ..PLAIN
     };
     Ok(end_once(rt, line)?)
+}
+
+// How a run over files ends that goes well, and whose flush fails.
+fn unflushed<R: AllocGlobal + Files<File = S> + Threads + Wait + Sync, S: Read + Drop + Send>(
+    rt: &R,
+) -> io::Result<Ended> {
+    let (_schema, schema) = pipe_of(rt, "column,qty,slices,3\n")?;
+    let (_rows, rows) = pipe_of(rt, "qty\n5\n")?;
+    end_over(rt, schema.as_str(), rows.as_str())
 }
 
 fn is_unflushed<R: AllocGlobal + Files<File = S> + Threads + Wait + Sync, S: Read + Drop + Send>(

@@ -74,6 +74,12 @@ fn ends(end: &FeedEnd, accepted: u64, stopped: bool) -> bool {
         && end.closing.is_some()
 }
 
+/// Returns whether a feeder has sent two rows. It returns none if memory was refused.
+fn is_whole(end: Option<FeedEnd>) -> Option<bool> {
+    let end = end?;
+    Some(ends(&end, 2, false))
+}
+
 /// Feeds both files on threads, each of which waits for the other. It returns none if memory was refused, also that of
 /// a second thread, in which case one feeder comes after the other.
 fn side_by_side<R: Threads + Wait + Sync>(
@@ -92,7 +98,8 @@ fn side_by_side<R: Threads + Wait + Sync>(
     if gate.is_late() {
         return None;
     }
-    Some(ends(&one?, 2, false) && ends(&two?, 2, false))
+    let (one, two) = (is_whole(one), is_whole(two));
+    Some(one? && two?)
 }
 
 /// Returns whether two rows of the second feeder can be loaded, and no more.
@@ -116,7 +123,10 @@ fn broken_reader<B: Naming, R: Wait>(
     let end = fed(rt, alloc, feeder, 3, broken("qty\n1\n8\n2\n"), &Go)?;
     let accepted = end.accepted == 2 && end.bad == 1 && !end.stopped;
     let failed = end.fault == Some(SourceFault::Read);
-    let settled = loader.settle(1, end.closing?).is_ok();
+    let settled = match end.closing {
+        Some(closing) => loader.settle(1, closing).is_ok(),
+        None => false,
+    };
     Some(accepted && failed && settled && loads_two(loader))
 }
 

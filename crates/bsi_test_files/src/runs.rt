@@ -86,6 +86,14 @@ pub(crate) fn ends<R: Threads + Wait + AllocGlobal + Sync>(
     }
 }
 
+// Whether a run ends well, behind this output.
+fn is_fed(ended: &Result<Ended, AllocError>, output: &[u8]) -> bool {
+    match ended {
+        Ok(ended) => ended.is(Ok(()), output),
+        Err(_) => false,
+    }
+}
+
 // Whether two files are fed so that each waits for the other. It gives none where memory was wanted.
 fn is_met<R: Threads + Wait + AllocGlobal + Sync>(rt: &R) -> Option<bool> {
     let files = Files {
@@ -98,8 +106,7 @@ fn is_met<R: Threads + Wait + AllocGlobal + Sync>(rt: &R) -> Option<bool> {
     if wants_memory(&ended) {
         return None;
     }
-    let fed = ended.ok()?.is(Ok(()), b"fed 0 2 0\nfed 1 2 0\ncount 4\n");
-    Some(fed && !gate.is_late())
+    Some(is_fed(&ended, b"fed 0 2 0\nfed 1 2 0\ncount 4\n") && !gate.is_late())
 }
 
 #[test]
@@ -123,8 +130,7 @@ fn goes_on<R: Threads + Wait + AllocGlobal + Sync>(rt: &R) -> Option<bool> {
     if wants_memory(&ended) {
         return None;
     }
-    let fed = ended.ok()?.is(Ok(()), b"fed 0 3000 0\ncount 3000\n");
-    Some(fed && gate.passes() == 3_001)
+    Some(is_fed(&ended, b"fed 0 3000 0\ncount 3000\n") && gate.passes() == 3_001)
 }
 
 #[test]
