@@ -1,7 +1,15 @@
 -- What a contract sees of a 'Bits'.
-use Rattle.std.specs.Prelude.{ℕ, ◌+◌, ◌-◌, ◌*◌, ◌/◌, Bool, false, List, length, filter, slice_index_or, not, ◌&&◌, if◌then◌else◌}
+use Rattle.std.specs.Prelude.{ℕ, ◌+◌, ◌-◌, ◌*◌, ◌/◌, ◌^◌, Bool, false, List, length, filter, slice_index_or, not, ◌&&◌, if◌then◌else◌}
 use Rattle.std.specs.List.{range_with_len}
 use Rattle.std.specs.Simd.Lanes.{chunk}
+
+-- the most bits of a vector
+abbrev pub max_len : ℕ
+max_len = 2 ^ 32
+
+-- the most bits that go in at once as a block: those of a word
+abbrev pub max_block : ℕ
+max_block = 64
 
 -- the bits from place 0 up, and how many more can be appended with no memory
 pub record BitList : Type 0 where

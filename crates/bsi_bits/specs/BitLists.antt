@@ -1,6 +1,6 @@
 -- What a contract sees of vectors that grow together.
-use Rattle.std.specs.Prelude.{◌≡◌, ℕ, ◌+◌, ◌^◌, ◌<◌, ◌≤◌, Bool, List, [], length, slice_index_or}
-use Rattle.bsi_bits.specs.BitList.{BitList}
+use Rattle.std.specs.Prelude.{◌≡◌, ℕ, ◌+◌, ◌<◌, ◌≤◌, Bool, List, [], length, slice_index_or}
+use Rattle.bsi_bits.specs.BitList.{max_len, BitList}
 
 -- the vectors, and how many more bits each can take with no memory
 pub record BitLists : Type 0 where
@@ -21,7 +21,7 @@ room_at vectors j = (slice_index_or vectors j no_bits).room
 -- there are vectors, all of one length, and each has room for so many more bits
 pub record AreEven (vectors : List BitList) (room : ℕ) : Type 0 where
   pub some : 0 < length vectors
-  pub within : length (bits_at vectors 0) + room ≤ 2 ^ 32
+  pub within : length (bits_at vectors 0) + room ≤ max_len
   pub even : (j : ℕ) → j < length vectors → length (bits_at vectors j) ≡ length (bits_at vectors 0)
   pub ample : (j : ℕ) → j < length vectors → room ≤ room_at vectors j
 

@@ -1,8 +1,8 @@
 -- A list of bits kept in words of 64.
-use Rattle.std.specs.Prelude.{◌≡◌, ℕ, ◌-◌, ◌*◌, ◌/◌, ◌%◌, ◌^◌, ◌≤◌, ◌==◌, Bool, false, List, length, map, filter, min, slice_index}
+use Rattle.std.specs.Prelude.{◌≡◌, ℕ, ◌-◌, ◌*◌, ◌/◌, ◌%◌, ◌≤◌, ◌==◌, Bool, false, List, length, map, filter, min, slice_index}
 use Rattle.std.specs.Int.{bit_at}
 use Rattle.std.specs.List.{range_with_len}
-use Rattle.bsi_bits.specs.BitList.{word_count}
+use Rattle.bsi_bits.specs.BitList.{max_len, word_count}
 
 -- the bit at place i of the words: binary digit i % 64 of word i / 64, and off past the last word
 abbrev pub bit_of : List ℕ → ℕ → Bool
@@ -14,7 +14,7 @@ bits_of n words = map (bit_of words) (range_with_len 0 n)
 
 -- the words are as few as hold n bits, and the places past the last bit are off
 pub record IsPacked (n : ℕ) (words : List ℕ) : Type 0 where
-  pub within : n ≤ 2 ^ 32
+  pub within : n ≤ max_len
   pub few : length words ≡ word_count n
   pub clear : (i : ℕ) → n ≤ i → bit_of words i ≡ false
 

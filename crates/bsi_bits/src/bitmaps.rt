@@ -2,6 +2,7 @@
 
 ghost use Rattle.std.specs.Prelude.{◌≡◌, ◌≢◌, ◌==◌, ℕ, ◌+◌, ◌%◌, ◌^◌, ◌≤◌, ◌<◌, Bool, List, false, true, [], ◌∷◌, ◌++◌, ◌-◌, length, min, slice_index, IfOk, IsOk, OnErr, OnOk};
 ghost use Rattle.std.specs.Int.{bit_at};
+ghost use Rattle.bsi_bits.specs.BitList.{max_block, max_len};
 ghost use Rattle.bsi_bits.specs.BitLists.{bits_at, room_at, AreSame};
 ghost use Rattle.bsi_bits.specs.Packed.{bits_of};
 
@@ -64,7 +65,7 @@ impl Bitmaps {
         ensures len { (j : ℕ) → j < length self.now.vectors →
             length (bits_at self.now.vectors j) ≡ result }
         ensures first { result ≡ length (bits_at self.now.vectors 0) }
-        ensures within { result ≤ 2 ^ 32 }
+        ensures within { result ≤ max_len }
     {
         self.vectors[0].len()
     }
@@ -72,7 +73,7 @@ impl Bitmaps {
     /// Returns how many more bits can be appended to each vector without allocating memory.
     pub fn room(&self) -> u64
         ensures room { result ≡ self.now.room }
-        ensures within { length (bits_at self.now.vectors 0) + result ≤ 2 ^ 32 }
+        ensures within { length (bits_at self.now.vectors 0) + result ≤ max_len }
     {
         self.room
     }
@@ -86,11 +87,11 @@ impl Bitmaps {
     /// than before. It allocates memory only if there is not enough room already; then there is room for at least twice
     /// the bits, within 2^32.
     pub fn reserve(&mut self, more: u64) -> Result<(), NoMemory>
-        requires { length (bits_at self.old.vectors 0) + more ≤ 2 ^ 32 }
+        requires { length (bits_at self.old.vectors 0) + more ≤ max_len }
         ensures same { AreSame self.old.vectors self.new.vectors }
         ensures ok { OnOk result (more ≤ self.new.room) }
         ensures doubles { OnOk result (self.old.room < more →
-            min (length (bits_at self.old.vectors 0)) (2 ^ 32 - length (bits_at self.old.vectors 0))
+            min (length (bits_at self.old.vectors 0)) (max_len - length (bits_at self.old.vectors 0))
             ≤ self.new.room) }
         ensures kept { self.old.room ≤ self.new.room }
         ensures err { OnErr result (self.new.room ≡ self.old.room) }
@@ -210,7 +211,7 @@ impl Bitmaps {
     pub fn push_words(&mut self, words: &[u64], count: u64)
         requires long { length words.now ≡ length self.old.vectors }
         requires room { count ≤ self.old.room }
-        requires few { count ≤ 64 }
+        requires few { count ≤ max_block }
         requires clear { (j : ℕ) → slice_index words.now j < 2 ^ count }
         ensures count { length self.new.vectors ≡ length self.old.vectors }
         ensures bits { (j : ℕ) → j < length self.old.vectors →
@@ -257,7 +258,7 @@ fn empty_each(alloc: Global, count: usize) -> Result<Vec<Bits>, NoMemory>
 /// Makes room for `more` further bits in each vector. Whatever the result, the bits stay and no vector has less room
 /// than before.
 fn reserve_each(vectors: &mut [Bits], more: u64) -> Result<(), NoMemory>
-    requires { (j : ℕ) → j < length vectors.old → length (bits_at vectors.old j) + more ≤ 2 ^ 32 }
+    requires { (j : ℕ) → j < length vectors.old → length (bits_at vectors.old j) + more ≤ max_len }
     ensures same { AreSame vectors.old vectors.new }
     ensures kept { (j : ℕ) → room_at vectors.old j ≤ room_at vectors.new j }
     ensures ok { OnOk result ((j : ℕ) → j < length vectors.old → more ≤ room_at vectors.new j) }

@@ -1,7 +1,7 @@
 //! The packed vector of bits.
 
 ghost use Rattle.std.specs.Prelude.{◌≡◌, ◌≢◌, ◌↔◌, ℕ, Bool, List, ◌+◌, ◌-◌, ◌%◌, ◌^◌, ◌≤◌, ◌<◌, Some, [], ◌∷◌, ◌++◌, length, min, nat_lt, slice_get, slice_index_or, false, true, replicate, IsTrue, IsOk, IfOk, OnOk, OnErr};
-ghost use Rattle.bsi_bits.specs.BitList.{set_places, word_count};
+ghost use Rattle.bsi_bits.specs.BitList.{max_block, max_len, set_places, word_count};
 ghost use Rattle.bsi_bits.specs.Packed.{bit_of, bits_of, IsPacked};
 
 use crate::NoMemory;
@@ -55,7 +55,7 @@ impl Bits {
 
     /// Makes a vector of `n` bits, at most 2^32, each of them `bit`.
     pub fn filled(alloc: Global, n: u64, bit: bool) -> Result<Bits, NoMemory>
-        requires { n ≤ 2 ^ 32 }
+        requires { n ≤ max_len }
         ensures { IfOk result (λ b. b.bits ≡ replicate n bit) }
     {
         let word = if bit { u64::MAX } else { 0 };
@@ -66,7 +66,7 @@ impl Bits {
     /// Makes a vector of the first `n` bits of `words`, which are as few as hold them. It clears the places past the
     /// last bit.
     pub fn from_words(mut words: Vec<u64>, n: u64) -> Bits
-        requires within { n ≤ 2 ^ 32 }
+        requires within { n ≤ max_len }
         requires few { length words.items ≡ word_count n }
         ensures { result.bits ≡ bits_of n words.items }
     {
@@ -96,8 +96,8 @@ impl Bits {
     /// Returns the number of bits, at most 2^32. At that length there is no room for one more.
     pub fn len(&self) -> u64
         ensures len { result ≡ length self.now.bits }
-        ensures within { result ≤ 2 ^ 32 }
-        ensures full { length self.now.bits + self.now.room ≤ 2 ^ 32 }
+        ensures within { result ≤ max_len }
+        ensures full { length self.now.bits + self.now.room ≤ max_len }
     {
         self.len
     }
@@ -137,7 +137,7 @@ impl Bits {
     /// all.
     pub fn room(&self) -> u64
         ensures room { result ≡ self.now.room }
-        ensures within { length self.now.bits + result ≤ 2 ^ 32 }
+        ensures within { length self.now.bits + result ≤ max_len }
     {
         64 * MAX_WORDS.min(self.words.capacity() as u64) - self.len
     }
@@ -151,7 +151,7 @@ impl Bits {
 
     /// Makes room for one more bit, as `reserve` does for many.
     pub fn reserve_one(&mut self) -> Result<(), NoMemory>
-        requires { length self.old.bits < 2 ^ 32 }
+        requires { length self.old.bits < max_len }
         ensures bits { self.new.bits ≡ self.old.bits }
         ensures ok { OnOk result (0 < self.new.room) }
         ensures kept { self.old.room ≤ self.new.room }
@@ -165,11 +165,11 @@ impl Bits {
     /// allocates memory only if there is not enough room already; then there is room for at least twice the bits,
     /// within 2^32.
     pub fn reserve(&mut self, more: u64) -> Result<(), NoMemory>
-        requires { length self.old.bits + more ≤ 2 ^ 32 }
+        requires { length self.old.bits + more ≤ max_len }
         ensures bits { self.new.bits ≡ self.old.bits }
         ensures ok { OnOk result (more ≤ self.new.room) }
         ensures doubles { OnOk result (self.old.room < more →
-            min (length self.old.bits) (2 ^ 32 - length self.old.bits) ≤ self.new.room) }
+            min (length self.old.bits) (max_len - length self.old.bits) ≤ self.new.room) }
         ensures kept { self.old.room ≤ self.new.room }
         ensures err { OnErr result (self.new ≡ self.old) }
         ensures succeeds { more ≤ self.old.room → IsOk result }
@@ -217,7 +217,7 @@ impl Bits {
     /// other places of the word are 0.
     pub fn push_word_reserved(&mut self, word: u64, count: u64)
         requires room { count ≤ self.old.room }
-        requires few { count ≤ 64 }
+        requires few { count ≤ max_block }
         requires clear { word < 2 ^ count }
         ensures bits { self.new.bits ≡ self.old.bits ++ bits_of count (word ∷ []) }
         ensures room { self.new.room + count ≡ self.old.room }
@@ -240,10 +240,10 @@ impl Bits {
 /// Returns for how many more bits to make room after `len` bits if `more` are needed: as many as there are bits, so
 /// that they double, or the least room if that is more. There are never more than 2^32 in all.
 pub fn room_to_make(len: u64, more: u64) -> u64
-    requires { len + more ≤ 2 ^ 32 }
+    requires { len + more ≤ max_len }
     ensures enough { more ≤ result }
-    ensures doubles { min len (2 ^ 32 - len) ≤ result }
-    ensures within { len + result ≤ 2 ^ 32 }
+    ensures doubles { min len (max_len - len) ≤ result }
+    ensures within { len + result ≤ max_len }
 {
     more.max(len).max(MIN_ROOM).min(MAX_LEN - len)
 }

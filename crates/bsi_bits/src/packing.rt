@@ -1,12 +1,12 @@
 //! Writes of bits and words at the end of packed words.
 
 ghost use Rattle.std.specs.Prelude.{◌≡◌, ℕ, List, Bool, true, ◌+◌, ◌*◌, ◌%◌, ◌^◌, ◌≤◌, ◌<◌, [], ◌∷◌, ◌++◌, length, slice_index, vec_len, vec_capacity};
-ghost use Rattle.bsi_bits.specs.BitList.{word_count};
+ghost use Rattle.bsi_bits.specs.BitList.{max_block, max_len, word_count};
 ghost use Rattle.bsi_bits.specs.Packed.{bits_of, IsPacked};
 
 /// Clears the places past the first `n` bits.
 pub fn trim(words: &mut Vec<u64>, n: u64)
-    requires within { n ≤ 2 ^ 32 }
+    requires within { n ≤ max_len }
     requires few { length words.old.items ≡ word_count n }
     ensures packed { IsPacked n words.new.items }
     ensures bits { bits_of n words.new.items ≡ bits_of n words.old.items }
@@ -22,7 +22,7 @@ pub fn trim(words: &mut Vec<u64>, n: u64)
 
 /// Appends a bit to `n` packed bits.
 pub fn push_bit(words: &mut Vec<u64>, n: u64, bit: bool)
-    requires below { n < 2 ^ 32 }
+    requires below { n < max_len }
     requires packed { IsPacked n words.old.items }
     requires room { n % 64 ≡ 0 → vec_len words.old < vec_capacity words.old }
     ensures packed { IsPacked (n + 1) words.new.items }
@@ -54,8 +54,8 @@ pub fn set_last(words: &mut Vec<u64>, n: u64)
 /// Appends the first `count` binary places of a word to `n` packed bits, least significant first. They end in the last
 /// word, or in one after it.
 pub fn push_word(words: &mut Vec<u64>, n: u64, word: u64, count: u64)
-    requires within { n + count ≤ 2 ^ 32 }
-    requires few { count ≤ 64 }
+    requires within { n + count ≤ max_len }
+    requires few { count ≤ max_block }
     requires clear { word < 2 ^ count }
     requires packed { IsPacked n words.old.items }
     requires room { n + count ≤ 64 * vec_capacity words.old }
@@ -81,7 +81,7 @@ pub fn push_word(words: &mut Vec<u64>, n: u64, word: u64, count: u64)
 /// Appends the `count` packed bits of `more` to `n` packed bits. Where a word begins after the `n` bits, it copies the
 /// words at once. Else it carries the upper places of each word on to the next.
 pub fn push_all(words: &mut Vec<u64>, n: u64, more: &[u64], count: u64)
-    requires within { n + count ≤ 2 ^ 32 }
+    requires within { n + count ≤ max_len }
     requires packed { IsPacked n words.old.items }
     requires more_packed { IsPacked count more.now }
     requires room { n + count ≤ 64 * vec_capacity words.old }
