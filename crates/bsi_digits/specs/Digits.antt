@@ -32,13 +32,21 @@ digit_of bs v i = v / weight bs i % slice_index bs i
 abbrev pub digits_of : List ℕ → ℕ → List ℕ
 digits_of bs v = map (digit_of bs v) (components bs)
 
+-- the most bases of a list
+abbrev pub max_bases : ℕ
+max_bases = 63
+
+-- the most numbers that bases tell apart, or that a column takes
+abbrev pub max_size : ℕ
+max_size = 2 ^ 63
+
 abbrev pub IsBase : ℕ → Type 0
 IsBase b = (2 ≤ b) × (b ≤ 1024)
 
 -- the lists of bases that are accepted
 pub record IsBaseList (bs : List ℕ) : Type 0 where
   pub some : 0 < length bs
-  pub few : length bs ≤ 63
+  pub few : length bs ≤ max_bases
   pub each : EachIndex bs (λ i. IsBase (slice_index bs i))
   pub narrow : sum bs ≤ 4096
-  pub small : product bs ≤ 2 ^ 63
+  pub small : product bs ≤ max_size

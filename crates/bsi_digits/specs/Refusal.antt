@@ -1,8 +1,8 @@
 -- Which refusal a list of bases meets first.
-use Rattle.std.specs.Prelude.{◌≡◌, ℕ, ◌^◌, Bool, ◌||◌, List, length, Option, Some, None, position, sum, nat_eq, nat_lt, if◌then◌else◌}
+use Rattle.std.specs.Prelude.{◌≡◌, ℕ, Bool, ◌||◌, List, length, Option, Some, None, position, sum, nat_eq, nat_lt, if◌then◌else◌}
 use Rattle.bsi_digits.specs.declared.bases_error.BasesError.{BasesError}
 use Rattle.bsi_digits.specs.declared.bases_error.BasesError.TheVariants.{Empty, TooMany, BaseOutOfRange, TooWide, ProductTooLarge}
-use Rattle.bsi_digits.specs.Digits.{product}
+use Rattle.bsi_digits.specs.Digits.{max_bases, max_size, product}
 
 abbrev pub is_bad_base : ℕ → Bool
 is_bad_base b = nat_lt b 2 || nat_lt 1024 b
@@ -12,14 +12,14 @@ abbrev pub refusal_by_place : Option ℕ → List ℕ → Option BasesError
 refusal_by_place (Some place) bs = Some (BaseOutOfRange place)
 refusal_by_place None bs =
     if nat_lt 4096 (sum bs) then Some TooWide
-    else if nat_lt (2 ^ 63) (product bs) then Some ProductTooLarge
+    else if nat_lt max_size (product bs) then Some ProductTooLarge
     else None
 
 -- the first refusal that applies to a list of bases as written
 abbrev pub refusal : List ℕ → Option BasesError
 refusal bs =
     if nat_eq (length bs) 0 then Some Empty
-    else if nat_lt 63 (length bs) then Some TooMany
+    else if nat_lt max_bases (length bs) then Some TooMany
     else refusal_by_place (position is_bad_base bs) bs
 
 -- the refusal that applies or, if none does, that memory was refused

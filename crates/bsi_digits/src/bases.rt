@@ -1,8 +1,8 @@
 //! A list of bases, under which a number has its digits.
 
-ghost use Rattle.std.specs.Prelude.{◌≡◌, ℕ, ◌+◌, ◌/◌, ◌^◌, ◌<◌, ◌≤◌, ◌↔◌, length, slice_index, position, sum, reverse, replicate, EachIndex, IsNone, IfNone, IfOk, IfErr, IfSome, IsErrOf, IsTrue};
+ghost use Rattle.std.specs.Prelude.{◌≡◌, ℕ, ◌+◌, ◌/◌, ◌<◌, ◌≤◌, ◌↔◌, length, slice_index, position, sum, reverse, replicate, EachIndex, IsNone, IfNone, IfOk, IfErr, IfSome, IsErrOf, IsTrue};
 ghost use Rattle.std.specs.Result.{result_err};
-ghost use Rattle.bsi_digits.specs.Digits.{product, weight, digit_of, IsBase, IsBaseList};
+ghost use Rattle.bsi_digits.specs.Digits.{digit_of, max_bases, max_size, product, weight, IsBase, IsBaseList};
 ghost use Rattle.bsi_digits.specs.Refusal.{refusal, is_bad_base, IsFirstOr};
 ghost use Rattle.bsi_digits.specs.Weights.{HoldsWeights};
 
@@ -109,7 +109,7 @@ impl Bases {
     /// Returns how many values the bases tell apart, at most 2^63: the product of all bases.
     pub fn size(&self) -> u64
         ensures size { result ≡ product self.now }
-        ensures within { result ≤ 2 ^ 63 }
+        ensures within { result ≤ max_size }
         ensures valid { IsBaseList self.now }
     {
         self.divisor(self.bases.len()).value()
@@ -118,7 +118,7 @@ impl Bases {
     /// Returns the number of components, from 1 to 63.
     pub fn len(&self) -> u32
         ensures len { result ≡ length self.now }
-        ensures within { (1 ≤ result) × (result ≤ 63) }
+        ensures within { (1 ≤ result) × (result ≤ max_bases) }
         ensures valid { IsBaseList self.now }
     {
         self.bases.len() as u32
@@ -192,7 +192,7 @@ fn bad_place(bases: &[u32]) -> Option<usize>
 
 /// Returns the sum of the bases.
 fn sum_of(bases: &[u32]) -> u64
-    requires { length bases.now ≤ 63 }
+    requires { length bases.now ≤ max_bases }
     ensures { result ≡ sum bases.now }
 {
     bases.iter().map(|base| u64::from(*base)).sum()
@@ -201,9 +201,9 @@ fn sum_of(bases: &[u32]) -> u64
 /// Returns the weight of each component and, after the last one, the product of all bases. The bases are least
 /// significant first. It returns `None` if the product is over the largest size.
 fn weights(bases: &[u32]) -> Option<[Divisor; 64]>
-    requires few { length bases.now ≤ 63 }
+    requires few { length bases.now ≤ max_bases }
     requires each { EachIndex bases.now (λ i. 1 ≤ slice_index bases.now i) }
-    ensures none { IsNone result ↔ (2 ^ 63 < product bases.now) }
+    ensures none { IsNone result ↔ (max_size < product bases.now) }
     ensures some { IfSome result (HoldsWeights bases.now) }
 {
     let mut kept = [Divisor::new(1); 64];
