@@ -4,6 +4,10 @@ use Rattle.std.specs.Int.{bit_at}
 use Rattle.bsi_bits.specs.BitList.{BitList}
 use Rattle.bsi_bits.specs.BitLists.{bits_at}
 
+-- the most binary places of a number
+abbrev pub max_places : ℕ
+max_places = 63
+
 -- bitmap j says of each number whether it holds there
 pub record IsEncoded (holds : ℕ → ℕ → Bool) (bitmaps : List BitList) (numbers : List ℕ) : Type 0 where
   pub each : (j : ℕ) → j < length bitmaps → bits_at bitmaps j ≡ map (holds j) numbers

@@ -4,6 +4,7 @@
 //! greatest place. The lower half, each word joined with one of the upper half, marks the digits but for that place.
 
 ghost use Rattle.std.specs.Prelude.{◌≡◌, ℕ, List, ◌+◌, ◌-◌, ◌*◌, ◌^◌, ◌<◌, ◌≤◌, ◌==◌, bit_or, length, nat_lt, slice_index};
+ghost use Rattle.bsi_bits.specs.BitList.{max_block};
 ghost use Rattle.bsi_words.specs.Places.{then_places, IsCount};
 ghost use Rattle.bsi_words.specs.Marks.{union_of, AreDigitMarks};
 
@@ -16,7 +17,7 @@ pub const MAX_WORDS: usize = 1034;
 
 /// Sets in word `j`, of words that are 0, the bit of each digit that is `j`. For each digit it looks at one word.
 fn mark(block: &[u32], words: &mut [u64])
-    requires few { length block.now ≤ 64 }
+    requires few { length block.now ≤ max_block }
     requires clear { (j : ℕ) → slice_index words.old j ≡ 0 }
     requires below { (k : ℕ) → k < length block.now → slice_index block.now k < length words.old }
     ensures long { length words.new ≡ length words.old }
@@ -54,7 +55,7 @@ fn mark_places(words: &mut [u64], base: usize, folded: &mut [u64])
     requires ample { 2 ^ (length words.old - base) ≤ length folded.old }
     requires clear { (j : ℕ) → slice_index folded.old j ≡ 0 }
     ensures long { length words.new ≡ length words.old }
-    ensures marks { (block : List ℕ) → length block ≤ 64 →
+    ensures marks { (block : List ℕ) → length block ≤ max_block →
         ((k : ℕ) → k < length block → slice_index block k < base) →
         AreDigitMarks (λ j v. v == j) block words.old →
         AreDigitMarks (then_places base (λ j v. v == j)) block words.new }
@@ -70,7 +71,7 @@ fn mark_places(words: &mut [u64], base: usize, folded: &mut [u64])
 /// Writes the words of a block of digits below a base, which are 0 before: one for each digit below it, and then one for
 /// each binary place for which there is a word left.
 pub fn mark_digits(block: &[u32], base: usize, words: &mut [u64])
-    requires few { length block.now ≤ 64 }
+    requires few { length block.now ≤ max_block }
     requires clear { (j : ℕ) → slice_index words.old j ≡ 0 }
     requires count { IsCount base base (length words.old) }
     requires below { (k : ℕ) → k < length block.now → slice_index block.now k < base }

@@ -8,7 +8,7 @@ ghost use Rattle.std.specs.Simd.Lanes.{zip2};
 ghost use Rattle.bsi_bits.specs.BitList.{without};
 ghost use Rattle.bsi_bits.specs.BitLists.{bits_at};
 ghost use Rattle.bsi_bits.specs.Packed.{bits_of, IsPacked};
-ghost use Rattle.bsi_words.specs.Places.{has_place, IsEncoded};
+ghost use Rattle.bsi_words.specs.Places.{has_place, max_places, IsEncoded};
 ghost use Rattle.bsi_words.specs.Ranks.{word_kept, IsRankedRows};
 
 use crate::sums::{LINE_WORDS, is_empty};
@@ -30,7 +30,7 @@ pub struct RankedRows {
 /// returns the rows that have this number. `places` has a vector for each binary place of the numbers, the least first.
 pub fn rows_of_rank(places: &[Bits], rank: u64, found: Bits) -> RankedRows
     requires some { 0 < length places.now }
-    requires few { length places.now ≤ 63 }
+    requires few { length places.now ≤ max_places }
     requires same { (k : ℕ) → k < length places.now →
         length (bits_at places.now k) ≡ length found.bits }
     requires there { rank < count_by (λ b. b) found.bits }

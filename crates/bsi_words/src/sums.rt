@@ -6,9 +6,9 @@
 
 ghost use Rattle.std.specs.Prelude.{◌≡◌, ℕ, List, ◌+◌, ◌^◌, ◌<◌, ◌≤◌, ◌↔◌, IsTrue, length, slice_index, sum};
 ghost use Rattle.std.specs.List.{items_where_true};
-ghost use Rattle.bsi_bits.specs.BitList.{in_words, word_count};
+ghost use Rattle.bsi_bits.specs.BitList.{in_words, max_len, word_count};
 ghost use Rattle.bsi_bits.specs.BitLists.{bits_at};
-ghost use Rattle.bsi_words.specs.Places.{has_place, IsEncoded};
+ghost use Rattle.bsi_words.specs.Places.{has_place, max_places, IsEncoded};
 
 use bsi_bits::Bits;
 
@@ -22,7 +22,7 @@ const MAX_STRETCH_WORDS: usize = 1024;
 /// Returns the sum of the numbers at the rows of a found set. `places` has a vector for each of their binary places, the
 /// least first.
 pub fn sum_by_places(places: &[Bits], found: &Bits) -> u128
-    requires few { length places.now ≤ 63 }
+    requires few { length places.now ≤ max_places }
     requires same { (k : ℕ) → k < length places.now →
         length (bits_at places.now k) ≡ length found.now.bits }
     ensures { (numbers : List ℕ) → IsEncoded has_place places.now numbers →
@@ -95,8 +95,8 @@ fn is_line_empty(words: &[u64], at: usize) -> bool
 /// Returns the sum of the numbers at the found rows in the words from `start` on and before `end`: for each binary
 /// place, the number of these rows that have it set, times two to the power of the place (O'Neil and Quass, 1997).
 fn sum_in(places: &[Bits], found: &Bits, start: usize, end: usize) -> u128
-    requires few { length places.now ≤ 63 }
-    requires few_rows { length found.now.bits ≤ 2 ^ 32 }
+    requires few { length places.now ≤ max_places }
+    requires few_rows { length found.now.bits ≤ max_len }
     requires same { (k : ℕ) → k < length places.now →
         length (bits_at places.now k) ≡ length found.now.bits }
     requires forward { start ≤ end }
