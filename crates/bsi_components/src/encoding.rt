@@ -3,7 +3,7 @@
 ghost use Rattle.std.specs.Prelude.{◌≡◌, ℕ, ◌+◌, ◌*◌, ◌^◌, ◌≤◌, ◌<◌, ◌==◌, ◌&&◌, Bool, true, List, [], ◌∷◌, ◌++◌, length, map, sum, count_by, slice_index, nat_lt, nat_le, IfOk, OnOk, OnErr, IsOk, IsTrue};
 ghost use Rattle.std.specs.List.{items_where_true};
 ghost use Rattle.std.specs.Bool.{OnTrue, OnFalse};
-ghost use Rattle.bsi_bits.specs.BitList.{word_count};
+ghost use Rattle.bsi_bits.specs.BitList.{max_block, max_len, word_count};
 ghost use Rattle.bsi_bits.specs.Packed.{bit_of};
 ghost use Rattle.bsi_components.specs.Bitmaps.{max_base};
 ghost use Rattle.bsi_components.specs.Component.{at_most_from, count_where};
@@ -45,17 +45,17 @@ pub trait Encoding: Drop {
     /// Returns the number of rows, at most 2^32.
     fn len(&self) -> u64
         ensures len { result ≡ length (digits self.now) }
-        ensures within { result ≤ 2 ^ 32 };
+        ensures within { result ≤ max_len };
 
     /// Returns how many more digits can be appended with no memory.
     fn room(&self) -> u64
         ensures room { result ≡ room_of self.now }
-        ensures within { length (digits self.now) + result ≤ 2 ^ 32 };
+        ensures within { length (digits self.now) + result ≤ max_len };
 
     /// Makes room for `more` further digits. Whatever the result, the digits stay and there is no less room than
     /// before. If it is refused, the room is as it was. It allocates memory only if there is not enough room already.
     fn reserve(&mut self, more: u64) -> Result<(), NoMemory>
-        requires { length (digits self.old) + more ≤ 2 ^ 32 }
+        requires { length (digits self.old) + more ≤ max_len }
         ensures digits { digits self.new ≡ digits self.old }
         ensures base { base_of self.new ≡ base_of self.old }
         ensures ok { OnOk result (more ≤ room_of self.new) }
@@ -74,7 +74,7 @@ pub trait Encoding: Drop {
 
     /// Appends a block of at most 64 digits, into room that is already there. The provided body appends each in turn.
     fn push_block_reserved(&mut self, block: &[u32])
-        requires few { length block.now ≤ 64 }
+        requires few { length block.now ≤ max_block }
         requires room { length block.now ≤ room_of self.old }
         requires below { (k : ℕ) → k < length block.now →
             slice_index block.now k < base_of self.old }
@@ -104,7 +104,7 @@ pub trait Encoding: Drop {
 
     /// Makes room for one further digit, as `reserve` does for many.
     fn reserve_one(&mut self) -> Result<(), NoMemory>
-        requires { length (digits self.old) < 2 ^ 32 }
+        requires { length (digits self.old) < max_len }
         ensures digits { digits self.new ≡ digits self.old }
         ensures base { base_of self.new ≡ base_of self.old }
         ensures ok { OnOk result (0 < room_of self.new) }

@@ -5,7 +5,7 @@
 //! one digit after another.
 
 ghost use Rattle.std.specs.Prelude.{◌≡◌, ◌≢◌, ℕ, ◌+◌, ◌-◌, ◌*◌, ◌^◌, ◌<◌, ◌≤◌, ◌==◌, ◌&&◌, ◌||◌, not, ◌++◌, length, map, true, slice_index, IsTrue, IsFalse};
-ghost use Rattle.bsi_bits.specs.BitList.{word_count};
+ghost use Rattle.bsi_bits.specs.BitList.{max_block, word_count};
 ghost use Rattle.bsi_bits.specs.BitLists.{bits_at};
 ghost use Rattle.bsi_bits.specs.Packed.{bit_of};
 ghost use Rattle.bsi_bits.specs.Marked.{HasMarked};
@@ -61,7 +61,7 @@ fn push_marked(bitmaps: &mut Bitmaps, first: u32, base: u32, block: &[u32], word
     requires clear { (j : ℕ) → slice_index words.old j ≡ 0 }
     requires within { first ≤ base }
     requires places { IsCount base (base - first) (length bitmaps.old.vectors) }
-    requires few { length block.now ≤ 64 }
+    requires few { length block.now ≤ max_block }
     requires room { length block.now ≤ bitmaps.old.room }
     requires below { (k : ℕ) → k < length block.now → slice_index block.now k < base }
     ensures count { length bitmaps.new.vectors ≡ length bitmaps.old.vectors }
@@ -79,7 +79,7 @@ fn push_block(bitmaps: &mut Bitmaps, first: u32, base: u32, block: &[u32])
     requires within { first ≤ base }
     requires small { base ≤ max_base }
     requires places { IsCount base (base - first) (length bitmaps.old.vectors) }
-    requires few { length block.now ≤ 64 }
+    requires few { length block.now ≤ max_block }
     requires room { length block.now ≤ bitmaps.old.room }
     requires below { (k : ℕ) → k < length block.now → slice_index block.now k < base }
     ensures count { length bitmaps.new.vectors ≡ length bitmaps.old.vectors }

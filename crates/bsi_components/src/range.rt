@@ -5,7 +5,7 @@
 
 ghost use Rattle.std.specs.Prelude.{◌≡◌, ℕ, ◌+◌, ◌-◌, ◌*◌, ◌^◌, ◌<◌, ◌≤◌, ◌&&◌, ◌++◌, length, map, nat_le, nat_lt, true, slice_index, sum, IsTrue, IsFalse};
 ghost use Rattle.std.specs.List.{items_where_true};
-ghost use Rattle.bsi_bits.specs.BitList.{word_count};
+ghost use Rattle.bsi_bits.specs.BitList.{max_block, word_count};
 ghost use Rattle.bsi_bits.specs.BitLists.{bits_at};
 ghost use Rattle.bsi_bits.specs.Packed.{bit_of};
 ghost use Rattle.bsi_bits.specs.Marked.{HasMarked};
@@ -49,7 +49,7 @@ fn push_marked(bitmaps: &mut Bitmaps, base: u32, block: &[u32], words: &mut [u64
     requires clear { (j : ℕ) → slice_index words.old j ≡ 0 }
     requires least { 2 ≤ base }
     requires places { IsCount base (base - 1) (length bitmaps.old.vectors) }
-    requires few { length block.now ≤ 64 }
+    requires few { length block.now ≤ max_block }
     requires room { length block.now ≤ bitmaps.old.room }
     requires below { (k : ℕ) → k < length block.now → slice_index block.now k < base }
     ensures count { length bitmaps.new.vectors ≡ length bitmaps.old.vectors }
@@ -68,7 +68,7 @@ fn push_block(bitmaps: &mut Bitmaps, base: u32, block: &[u32])
     requires least { 2 ≤ base }
     requires small { base ≤ max_base }
     requires places { IsCount base (base - 1) (length bitmaps.old.vectors) }
-    requires few { length block.now ≤ 64 }
+    requires few { length block.now ≤ max_block }
     requires room { length block.now ≤ bitmaps.old.room }
     requires below { (k : ℕ) → k < length block.now → slice_index block.now k < base }
     ensures count { length bitmaps.new.vectors ≡ length bitmaps.old.vectors }

@@ -3,7 +3,7 @@
 
 ghost use Rattle.std.specs.Prelude.{◌≡◌, ◌+◌, ◌-◌, ◌^◌, ◌≤◌, ◌<◌, ◌&&◌, length, count_by, nat_eq, IfSome};
 ghost use Rattle.std.specs.Simd.Lanes.{zip2};
-ghost use Rattle.bsi_bits.specs.BitList.{word_count};
+ghost use Rattle.bsi_bits.specs.BitList.{max_len, word_count};
 ghost use Rattle.bsi_components.specs.Component.{IsRankedDigit};
 ghost use Rattle.bsi_components.specs.Ranks.{IsBetween};
 
@@ -106,7 +106,7 @@ impl RangeComponent {
     /// Returns the digit that the row of a rank would have if all rows were as those of a sample, or none if they are few.
     fn likely_digit(&self, rank: u64, found: &Bits) -> Option<u32>
         requires same { length self.now.digits ≡ length found.now.bits }
-        requires few { rank ≤ 2 ^ 32 }
+        requires few { rank ≤ max_len }
         ensures { IfSome result (λ d. d < self.now.base) }
     {
         let words = found.words().len();
