@@ -1,7 +1,8 @@
 -- A column as slices: bit r of slice k is binary place k of the number of row r.
 use Rattle.std.specs.Prelude.{◌≡◌, ℕ, ◌+◌, ◌*◌, ◌^◌, ◌<◌, ◌≤◌, Bool, false, if◌then◌else◌, List, [], ◌∷◌, length, map, Option, Some, None, slice_index_or}
 use Rattle.std.specs.List.{range_with_len}
-use Rattle.bsi_bits.specs.BitList.{BitList}
+use Rattle.bsi_words.specs.Places.{max_places}
+use Rattle.bsi_bits.specs.BitList.{max_len, BitList}
 use Rattle.bsi_bits.specs.BitLists.{bits_at}
 
 -- what a contract sees of a column of slices: how many there are, its rows, and how many more can be appended with no
@@ -31,7 +32,7 @@ entries_in present slices = map (sliced_entry present slices) (range_with_len 0 
 -- there are 1 to 63 slices, each with a bit for each row, which is off where the row is null
 pub record IsSliced (present : List Bool) (slices : List BitList) : Type 0 where
   pub some : 1 ≤ length slices
-  pub few : length slices ≤ 63
-  pub small : length present ≤ 2 ^ 32
+  pub few : length slices ≤ max_places
+  pub small : length present ≤ max_len
   pub even : (k : ℕ) → k < length slices → length (bits_at slices k) ≡ length present
   pub clear : (r : ℕ) → r < length present → slice_index_or present r false ≡ false → number slices r ≡ 0

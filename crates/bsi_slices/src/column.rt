@@ -1,6 +1,8 @@
 //! What a column is to a table: a list of optional numbers below its size.
 
 ghost use Rattle.std.specs.Prelude.{◌≡◌, ℕ, ◌^◌, ◌+◌, ◌≤◌, ◌<◌, List, Option, [], ◌∷◌, ◌++◌, All, length, map, is_some, is_none, nat_lt, sum, IfOk, OnOk, OnErr, IsOk};
+ghost use Rattle.bsi_digits.specs.Digits.{max_size};
+ghost use Rattle.bsi_bits.specs.BitList.{max_block, max_len};
 ghost use Rattle.bsi_slices.specs.Rows.{number_or_zero, selects};
 ghost use Rattle.bsi_slices.specs.Totals.{numbers_at, IsRanked, IsLeastOf, IsGreatestOf, IsMedianOf};
 ghost use Rattle.bsi_slices.specs.Ranks.{IsOfRank};
@@ -56,24 +58,24 @@ pub trait Column: Drop {
     /// Returns the size, at most 2^63. Each number is below it.
     fn size(&self) -> u64
         ensures size { result ≡ size_of (form_of self.now) }
-        ensures within { (2 ≤ result) × (result ≤ 2 ^ 63) }
+        ensures within { (2 ≤ result) × (result ≤ max_size) }
         ensures below { All (λ e. number_or_zero e < size_of (form_of self.now))
             (entries self.now) };
 
     /// Returns the number of rows, at most 2^32.
     fn len(&self) -> u64
         ensures len { result ≡ length (entries self.now) }
-        ensures within { result ≤ 2 ^ 32 };
+        ensures within { result ≤ max_len };
 
     /// Returns how many more entries can be appended without allocating memory.
     fn room(&self) -> u64
         ensures room { result ≡ room_of self.now }
-        ensures within { length (entries self.now) + result ≤ 2 ^ 32 };
+        ensures within { length (entries self.now) + result ≤ max_len };
 
     /// Makes room for `more` further entries. Whatever the result, the entries stay and there is no less room than
     /// before. If it is refused, the room is as it was. It allocates memory only if there is not enough room already.
     fn reserve(&mut self, more: u64) -> Result<(), NoMemory>
-        requires { length (entries self.old) + more ≤ 2 ^ 32 }
+        requires { length (entries self.old) + more ≤ max_len }
         ensures entries { entries self.new ≡ entries self.old }
         ensures form { form_of self.new ≡ form_of self.old }
         ensures ok { OnOk result (more ≤ room_of self.new) }
@@ -93,7 +95,7 @@ pub trait Column: Drop {
     /// Appends a block of at most 64 entries, numbers below the size and nulls, into room that is already there. The
     /// provided body appends them one by one.
     fn push_block_reserved(&mut self, block: &[Option<u64>])
-        requires few { length block.now ≤ 64 }
+        requires few { length block.now ≤ max_block }
         requires room { length block.now ≤ room_of self.old }
         requires below { All (λ e. number_or_zero e < size_of (form_of self.old)) block.now }
         ensures entries { entries self.new ≡ entries self.old ++ block.now }
@@ -122,7 +124,7 @@ pub trait Column: Drop {
 
     /// Makes room for one more entry, as `reserve` does for many.
     fn reserve_one(&mut self) -> Result<(), NoMemory>
-        requires { length (entries self.old) < 2 ^ 32 }
+        requires { length (entries self.old) < max_len }
         ensures entries { entries self.new ≡ entries self.old }
         ensures form { form_of self.new ≡ form_of self.old }
         ensures ok { OnOk result (0 < room_of self.new) }

@@ -5,7 +5,7 @@
 
 ghost use Rattle.std.specs.Prelude.{◌≡◌, ℕ, ◌+◌, ◌*◌, ◌^◌, ◌≤◌, ◌<◌, ◌&&◌, [], ◌∷◌, ◌++◌, length, false, slice_index_or, IsTrue, IfOk, IsOk, OnOk, OnErr};
 ghost use Rattle.std.specs.Int.{bit_at};
-ghost use Rattle.bsi_bits.specs.BitList.{word_count};
+ghost use Rattle.bsi_bits.specs.BitList.{max_block, max_len, word_count};
 ghost use Rattle.bsi_bits.specs.Packed.{bit_of, bits_of};
 
 use crate::NoMemory;
@@ -54,8 +54,8 @@ impl NotNull {
     /// Returns the number of rows, at most 2^32. At that length there is no room for one more.
     pub fn len(&self) -> u64
         ensures len { result ≡ length self.now.bits }
-        ensures within { result ≤ 2 ^ 32 }
-        ensures full { length self.now.bits + self.now.room ≤ 2 ^ 32 }
+        ensures within { result ≤ max_len }
+        ensures full { length self.now.bits + self.now.room ≤ max_len }
     {
         self.bits.len()
     }
@@ -63,14 +63,14 @@ impl NotNull {
     /// Returns how many more rows can be appended without allocating memory. There are never more than 2^32 in all.
     pub fn room(&self) -> u64
         ensures room { result ≡ self.now.room }
-        ensures within { length self.now.bits + result ≤ 2 ^ 32 }
+        ensures within { length self.now.bits + result ≤ max_len }
     {
         self.bits.room()
     }
 
     /// Makes room for `more` further rows, as `Bits::reserve` does for bits.
     pub fn reserve(&mut self, more: u64) -> Result<(), NoMemory>
-        requires { length self.old.bits + more ≤ 2 ^ 32 }
+        requires { length self.old.bits + more ≤ max_len }
         ensures bits { self.new.bits ≡ self.old.bits }
         ensures ok { OnOk result (more ≤ self.new.room) }
         ensures kept { self.old.room ≤ self.new.room }
@@ -96,7 +96,7 @@ impl NotNull {
     /// already there. The other places are 0.
     pub fn push_word_reserved(&mut self, word: u64, count: u64)
         requires room { count ≤ self.old.room }
-        requires few { count ≤ 64 }
+        requires few { count ≤ max_block }
         requires clear { word < 2 ^ count }
         ensures bits { self.new.bits ≡ self.old.bits ++ bits_of count (word ∷ []) }
         ensures room { self.new.room + count ≡ self.old.room }
@@ -148,7 +148,7 @@ impl NotNull {
 
 /// Returns true only if the first `count` binary places of a word are all 1.
 fn begins_with_ones(word: u64, count: u64) -> bool
-    requires { count ≤ 64 }
+    requires { count ≤ max_block }
     ensures { IsTrue result → (i : ℕ) → i < count → bit_at word i ≡ 1 }
 {
     word == u64::MAX || word.trailing_ones() as u64 >= count

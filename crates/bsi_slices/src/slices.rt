@@ -2,7 +2,8 @@
 
 ghost use Rattle.std.specs.Prelude.{◌≡◌, ℕ, ◌++◌, ◌∷◌, [], All, ◌<◌, ◌≤◌, ◌^◌, ◌+◌, ◌==◌, length, map, min, IfOk, IsOk, OnOk, OnErr};
 ghost use Rattle.std.specs.Int.{bit_at};
-ghost use Rattle.bsi_bits.specs.BitList.{word_count};
+ghost use Rattle.bsi_words.specs.Places.{max_places};
+ghost use Rattle.bsi_bits.specs.BitList.{max_block, max_len, word_count};
 ghost use Rattle.bsi_slices.specs.Blocks.{KeepsRows};
 ghost use Rattle.bsi_slices.specs.Rows.{number_or_zero, selects};
 ghost use Rattle.bsi_slices.specs.Slices.{entries_in, IsSliced};
@@ -50,7 +51,7 @@ impl Model for Slices {
 impl Slices {
     /// Makes an empty column of numbers below two to the power of `w`, which is from 1 to 63.
     pub fn new(alloc: Global, w: u32) -> Result<Slices, NoMemory>
-        requires { (1 ≤ w) × (w ≤ 63) }
+        requires { (1 ≤ w) × (w ≤ max_places) }
         ensures entries { IfOk result (λ c. c.entries ≡ []) }
         ensures width { IfOk result (λ c. c.width ≡ w) }
     {
@@ -64,7 +65,7 @@ impl Slices {
     /// Returns the number of slices, from 1 to 63. Each number is below two to this power.
     pub fn width(&self) -> u32
         ensures width { result ≡ self.now.width }
-        ensures within { (1 ≤ result) × (result ≤ 63) }
+        ensures within { (1 ≤ result) × (result ≤ max_places) }
         ensures below { All (λ e. number_or_zero e < 2 ^ self.now.width) self.now.entries }
     {
         self.slices.as_slice().len() as u32
@@ -196,7 +197,7 @@ impl Column for Slices {
 /// which has less room grows last, so a refused growth leaves the room as it was.
 fn reserve_rows(slices: &mut Bitmaps, present: &mut NotNull, more: u64) -> Result<(), NoMemory>
     requires sliced { IsSliced present.old.bits slices.old.vectors }
-    requires below { length present.old.bits + more ≤ 2 ^ 32 }
+    requires below { length present.old.bits + more ≤ max_len }
     ensures sliced { IsSliced present.new.bits slices.new.vectors }
     ensures width { length slices.new.vectors ≡ length slices.old.vectors }
     ensures entries { entries_in present.new.bits slices.new.vectors
@@ -240,7 +241,7 @@ fn push_row(slices: &mut Bitmaps, present: &mut NotNull, entry: Option<u64>)
 /// numbers.
 fn push_rows(slices: &mut Bitmaps, present: &mut NotNull, block: &[Option<u64>])
     requires sliced { IsSliced present.old.bits slices.old.vectors }
-    requires few { length block.now ≤ 64 }
+    requires few { length block.now ≤ max_block }
     requires room { length block.now ≤ min slices.old.room present.old.room }
     requires below { All (λ e. number_or_zero e < 2 ^ length slices.old.vectors) block.now }
     ensures sliced { IsSliced present.new.bits slices.new.vectors }

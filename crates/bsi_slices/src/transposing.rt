@@ -2,6 +2,7 @@
 
 ghost use Rattle.std.specs.Prelude.{◌≡◌, ℕ, ◌+◌, ◌-◌, ◌*◌, ◌/◌, ◌%◌, ◌<◌, ◌≤◌, ◌^◌, [], ◌∷◌, length, map, is_some, None, slice_index, slice_index_or};
 ghost use Rattle.std.specs.Int.{bit_at};
+ghost use Rattle.bsi_bits.specs.BitList.{max_block};
 ghost use Rattle.bsi_bits.specs.Packed.{bits_of};
 ghost use Rattle.bsi_slices.specs.Exchanges.{across, IsLow};
 ghost use Rattle.bsi_slices.specs.Rows.{number_or_zero};
@@ -10,7 +11,7 @@ use bsi_bits::know_fits;
 
 /// Writes the numbers of a block of entries, with a 0 for each null and for each place after the last entry.
 pub fn place_numbers(block: &[Option<u64>], numbers: &mut [u64; 64])
-    requires { length block.now ≤ 64 }
+    requires { length block.now ≤ max_block }
     ensures long { length numbers.new ≡ 64 }
     ensures numbers { (r : ℕ) →
         slice_index numbers.new r ≡ number_or_zero (slice_index_or block.now r None) }
@@ -23,7 +24,7 @@ pub fn place_numbers(block: &[Option<u64>], numbers: &mut [u64; 64])
 
 /// Returns the word whose bit `r` tells whether entry `r` of a block is a number.
 pub fn mark_present(block: &[Option<u64>]) -> u64
-    requires { length block.now ≤ 64 }
+    requires { length block.now ≤ max_block }
     ensures marks { bits_of (length block.now) (result ∷ []) ≡ map is_some block.now }
     ensures clear { result < 2 ^ length block.now }
 {

@@ -9,6 +9,7 @@
 ghost use Rattle.std.specs.Prelude.{◌≡◌, ℕ, ◌+◌, ◌*◌, ◌-◌, ◌/◌, ◌<◌, ◌≤◌, ◌^◌, ◌==◌, ◌&&◌, if◌then◌else◌, length, map, nat_lt, slice_index, slice_index_or, false, IfOk, bit_and, bit_or};
 ghost use Rattle.std.specs.Int.{bit_not, w64};
 ghost use Rattle.std.specs.Simd.Lanes.{zip2};
+ghost use Rattle.bsi_words.specs.Places.{max_places};
 ghost use Rattle.bsi_bits.specs.BitList.{word_count};
 ghost use Rattle.bsi_bits.specs.BitLists.{bits_at};
 ghost use Rattle.bsi_bits.specs.Packed.{bit_of};
@@ -80,7 +81,7 @@ pub fn keep_selected(
 /// Keeps in `words` the rows whose numbers pass the test. The first word stands for the 64 rows from row `64 * start`
 /// on. It works on whole blocks first, and on single words after them.
 fn keep(slices: &[Bits], test: Test, start: usize, words: &mut [u64])
-    requires few { length slices.now ≤ 63 }
+    requires few { length slices.now ≤ max_places }
     requires below { test.constant < 2 ^ length slices.now }
     requires small { start + length words.old ≤ 2 ^ 26 }
     requires long { (i : ℕ) → i < length slices.now →
@@ -102,7 +103,7 @@ fn keep_blocks<const N: usize>(
     words: &mut [u64],
 )
     requires blocks { (1 ≤ N) × (N ≤ 64) }
-    requires few { length slices.now ≤ 63 }
+    requires few { length slices.now ≤ max_places }
     requires below { test.constant < 2 ^ length slices.now }
     requires within { from ≤ length words.old }
     requires small { start + length words.old ≤ 2 ^ 26 }
@@ -127,7 +128,7 @@ fn kept_block<const N: usize>(
     block: Simd<u64, N>,
 ) -> Simd<u64, N>
     requires blocks { (1 ≤ N) × (N ≤ 64) }
-    requires few { length slices.now ≤ 63 }
+    requires few { length slices.now ≤ max_places }
     requires below { test.constant < 2 ^ length slices.now }
     requires long { (i : ℕ) → i < length slices.now →
         at + N ≤ word_count (length (bits_at slices.now i)) }
@@ -146,7 +147,7 @@ fn kept_block<const N: usize>(
 /// place that is 0 in the constant, each row whose slice is 1 is above.
 fn above_block<const N: usize>(slices: &[Bits], constant: u64, at: usize) -> Simd<u64, N>
     requires blocks { (1 ≤ N) × (N ≤ 64) }
-    requires few { length slices.now ≤ 63 }
+    requires few { length slices.now ≤ max_places }
     requires below { constant < 2 ^ length slices.now }
     requires long { (i : ℕ) → i < length slices.now →
         at + N ≤ word_count (length (bits_at slices.now i)) }
@@ -167,7 +168,7 @@ fn above_block<const N: usize>(slices: &[Bits], constant: u64, at: usize) -> Sim
 /// Returns for the rows of a block whether their numbers equal the constant.
 fn equal_block<const N: usize>(slices: &[Bits], constant: u64, at: usize) -> Simd<u64, N>
     requires blocks { (1 ≤ N) × (N ≤ 64) }
-    requires few { length slices.now ≤ 63 }
+    requires few { length slices.now ≤ max_places }
     requires below { constant < 2 ^ length slices.now }
     requires long { (i : ℕ) → i < length slices.now →
         at + N ≤ word_count (length (bits_at slices.now i)) }

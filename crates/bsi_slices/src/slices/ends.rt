@@ -8,6 +8,7 @@
 //! copied, so no memory is taken.
 
 ghost use Rattle.std.specs.Prelude.{◌≡◌, ℕ, ◌+◌, ◌*◌, ◌-◌, ◌/◌, ◌^◌, ◌<◌, ◌≤◌, false, if◌then◌else◌, length, slice_index, slice_index_or, IsTrue, IsFalse};
+ghost use Rattle.bsi_digits.specs.Digits.{max_size};
 ghost use Rattle.bsi_bits.specs.BitList.{word_count};
 ghost use Rattle.bsi_bits.specs.Packed.{bit_of};
 ghost use Rattle.bsi_bits.specs.Marked.{HasMarked};
@@ -35,7 +36,7 @@ impl End {
     /// `number` or comes after `number`. If it returns false at weight 1, `number` comes before or equals the best
     /// number so far.
     pub fn leads_all(self, best: Option<u64>, number: u64, weight: u64) -> bool
-        requires small { number * weight + weight ≤ 2 ^ 63 }
+        requires small { number * weight + weight ≤ max_size }
         requires some { 1 ≤ weight }
         ensures leads { IsTrue result → (x : ℕ) → comes_first self number (x / weight) →
             leads self best x }
