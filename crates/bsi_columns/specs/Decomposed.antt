@@ -1,6 +1,7 @@
 -- A column of numbers that keeps the digits of each number under its bases.
 use Rattle.std.specs.Prelude.{◌≡◌, ℕ, ◌+◌, ◌/◌, ◌^◌, ◌<◌, ◌≤◌, Bool, false, List, [], Option, Some, None, length, map, is_some, slice_index, slice_index_or, All, if◌then◌else◌}
 use Rattle.std.specs.List.{range_with_len}
+use Rattle.bsi_bits.specs.BitList.{max_len}
 use Rattle.bsi_digits.specs.Digits.{product, digit_of, components, weighted_sum}
 use Rattle.bsi_columns.specs.Rows.{number_or_zero}
 
@@ -36,7 +37,7 @@ pub record Decomposes (bs : List ℕ) (present : List Bool) (ds : List (List ℕ
 
 -- after so many rows the not-null bitmap and each component have room for so many more
 pub record IsRoomy (rows room present : ℕ) (rooms : List ℕ) : Type 0 where
-  pub within : rows + room ≤ 2 ^ 32
+  pub within : rows + room ≤ max_len
   pub bitmap : room ≤ present
   pub each : (i : ℕ) → i < length rooms → room ≤ slice_index rooms i
 

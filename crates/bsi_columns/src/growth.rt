@@ -1,6 +1,7 @@
 //! Components that grow together: each gets its digits of the numbers that are appended.
 
 ghost use Rattle.std.specs.Prelude.{◌≡◌, ℕ, ◌+◌, ◌^◌, ◌≤◌, ◌<◌, [], ◌∷◌, ◌++◌, All, length, map, slice_index, slice_index_or, OnOk};
+ghost use Rattle.bsi_bits.specs.BitList.{max_block, max_len};
 ghost use Rattle.bsi_digits.specs.Digits.{digit_of, product, weight};
 ghost use Rattle.bsi_columns.specs.Decomposed.{AreQuotients};
 
@@ -10,7 +11,7 @@ use bsi_digits::Bases;
 /// Makes room for `more` further digits in each component. Whatever the result, the digits stay and no component has
 /// less room than before.
 pub(crate) fn reserve_each<E: Encoding>(components: &mut Vec<E>, more: u64) -> Result<(), NoMemory>
-    requires { All (λ c. length (E.digits c) + more ≤ 2 ^ 32) components.old.items }
+    requires { All (λ c. length (E.digits c) + more ≤ max_len) components.old.items }
     ensures digits { map E.digits components.new.items ≡ map E.digits components.old.items }
     ensures bases { map E.base_of components.new.items ≡ map E.base_of components.old.items }
     ensures kept { (i : ℕ) →
@@ -48,7 +49,7 @@ pub(crate) fn push_digits<E: Encoding>(components: &mut Vec<E>, bases: &Bases, n
 /// Appends to each component its digits of a block of at most 64 numbers, into room that is already there.
 pub(crate) fn push_blocks<E: Encoding>(components: &mut Vec<E>, bases: &Bases, numbers: &[u64])
     requires bases { map E.base_of components.old.items ≡ bases.now }
-    requires few { length numbers.now ≤ 64 }
+    requires few { length numbers.now ≤ max_block }
     requires room { (i : ℕ) → i < length components.old.items →
         length numbers.now ≤ slice_index (map E.room_of components.old.items) i }
     requires below { (r : ℕ) → r < length numbers.now →
@@ -104,7 +105,7 @@ fn push_block<E: Encoding>(
 )
     requires within { i < length bases.now }
     requires base { E.base_of component.old ≡ slice_index bases.now i }
-    requires few { length numbers.now ≤ 64 }
+    requires few { length numbers.now ≤ max_block }
     requires room { length numbers.now ≤ E.room_of component.old }
     requires below { (r : ℕ) → r < length numbers.now →
         slice_index numbers.now r < product bases.now }
@@ -123,7 +124,7 @@ fn push_block<E: Encoding>(
 /// Writes for each number its digit of component `i`. The rests are as `push_block` has them.
 fn write_digits(bases: &Bases, i: u32, numbers: &[u64], rests: &mut [u64; 64], digits: &mut [u32])
     requires within { i < length bases.now }
-    requires few { length numbers.now ≤ 64 }
+    requires few { length numbers.now ≤ max_block }
     requires same { length digits.old ≡ length numbers.now }
     requires below { (r : ℕ) → r < length numbers.now →
         slice_index numbers.now r < product bases.now }

@@ -2,7 +2,7 @@
 
 ghost use Rattle.std.specs.Prelude.{◌≡◌, ℕ, ◌+◌, ◌*◌, ◌^◌, ◌≤◌, ◌<◌, ◌||◌, length, slice_index, IsTrue};
 ghost use Rattle.std.specs.Bool.{OnTrue};
-ghost use Rattle.bsi_bits.specs.BitList.{word_count};
+ghost use Rattle.bsi_bits.specs.BitList.{max_len, word_count};
 ghost use Rattle.bsi_bits.specs.Packed.{bit_of};
 ghost use Rattle.bsi_columns.specs.DigitTests.{relates_from};
 
@@ -45,7 +45,7 @@ pub(crate) fn narrow_digit<E: Encoding>(
 
 /// Does nothing when the program runs. Its clause tells a proof that a component has at most 2^32 rows.
 fn know_rows<E: Encoding>(component: &E)
-    ensures { length (E.digits component.now) ≤ 2 ^ 32 }
+    ensures { length (E.digits component.now) ≤ max_len }
 {
     let _rows = component.len();
 }
