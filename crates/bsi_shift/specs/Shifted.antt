@@ -1,6 +1,7 @@
 -- A column of whole numbers, each of which is stored less an offset.
 use Rattle.std.specs.Prelude.{◌≡◌, ℕ, ◌<◌, ◌≤◌, ◌^◌, All, ℤ, pos, ◌+ℤ◌, ◌≤ℤ◌, ◌<ℤ◌, List, Option, IfSome, map}
 use Rattle.std.specs.Option.{option_map}
+use Rattle.bsi_digits.specs.Digits.{max_size}
 use Rattle.bsi_columns.specs.declared.any.AnyColumn.{AnyColumn}
 use Rattle.bsi_columns.specs.AnyRows.{any_entries, any_form, any_room, any_size}
 use Rattle.bsi_slices.specs.Rows.{number_or_zero}
@@ -38,7 +39,7 @@ IsInRange offset size entry = IfSome entry (λ x. (offset ≤ℤ x) × (x <ℤ (
 -- the numbers are as many as the size, all below 2^63, and those of the entries are among them
 pub record IsShifted (stored : AnyColumn) (offset : ℤ) (size : ℕ) : Type 0 where
   pub size_is : size ≡ any_size stored
-  pub small : size ≤ 2 ^ 63
+  pub small : size ≤ max_size
   pub some : 2 ≤ size
   pub within : (offset +ℤ pos size) ≤ℤ pos (2 ^ 63)
   pub below : All (λ e. number_or_zero e < size) (any_entries stored)

@@ -6,6 +6,8 @@
 
 ghost use Rattle.std.specs.Prelude.{◌≡◌, ℕ, pos, ◌+ℤ◌, ◌≤ℤ◌, ◌+◌, ◌<◌, ◌≤◌, ◌^◌, [], ◌∷◌, ◌++◌, All, length, map, None, slice_index_or, is_some, nat_lt, ◌↔◌, IsOk, IsTrue, IfOk, OnOk, OnErr};
 ghost use Rattle.std.specs.Option.{option_map};
+ghost use Rattle.bsi_digits.specs.Digits.{max_size};
+ghost use Rattle.bsi_bits.specs.BitList.{max_block, max_len};
 ghost use Rattle.bsi_columns.specs.AnyRows.{any_entries, any_size};
 ghost use Rattle.bsi_shift.specs.Shifted.{shifted_entries, shifted_size, shifted_room, number_of, IsAlike, IsInRange};
 
@@ -70,7 +72,7 @@ impl Shifted {
     /// Returns how many numbers an entry may be, from the offset on, at most 2^63.
     pub fn size(&self) -> u64
         ensures size { result ≡ shifted_size self.now }
-        ensures within { (2 ≤ result) × (result ≤ 2 ^ 63) }
+        ensures within { (2 ≤ result) × (result ≤ max_size) }
         ensures range { All (IsInRange self.now.offset (shifted_size self.now))
             (shifted_entries self.now) }
     {
@@ -80,7 +82,7 @@ impl Shifted {
     /// Returns the number of rows, at most 2^32.
     pub fn len(&self) -> u64
         ensures len { result ≡ length (shifted_entries self.now) }
-        ensures within { result ≤ 2 ^ 32 }
+        ensures within { result ≤ max_len }
     {
         self.stored.len()
     }
@@ -88,7 +90,7 @@ impl Shifted {
     /// Returns how many more entries can be appended without allocating memory.
     pub fn room(&self) -> u64
         ensures room { result ≡ shifted_room self.now }
-        ensures within { length (shifted_entries self.now) + result ≤ 2 ^ 32 }
+        ensures within { length (shifted_entries self.now) + result ≤ max_len }
     {
         self.stored.room()
     }
@@ -96,7 +98,7 @@ impl Shifted {
     /// Makes room for `more` further entries. Whatever the result, the entries stay and there is no less room than
     /// before. If it is refused, the room is as it was. It allocates memory only if there is not enough room already.
     pub fn reserve(&mut self, more: u64) -> Result<(), NoMemory>
-        requires { length (shifted_entries self.old) + more ≤ 2 ^ 32 }
+        requires { length (shifted_entries self.old) + more ≤ max_len }
         ensures entries { shifted_entries self.new ≡ shifted_entries self.old }
         ensures alike { IsAlike self.old self.new }
         ensures ok { OnOk result (more ≤ shifted_room self.new) }
@@ -117,7 +119,7 @@ impl Shifted {
 
     /// Makes room for one more entry, as `reserve` does for many.
     pub fn reserve_one(&mut self) -> Result<(), NoMemory>
-        requires { length (shifted_entries self.old) < 2 ^ 32 }
+        requires { length (shifted_entries self.old) < max_len }
         ensures entries { shifted_entries self.new ≡ shifted_entries self.old }
         ensures alike { IsAlike self.old self.new }
         ensures ok { OnOk result (0 < shifted_room self.new) }
@@ -144,7 +146,7 @@ impl Shifted {
     /// Appends a block of at most 64 entries, nulls and numbers as `push_reserved` takes them, into room that is
     /// already there.
     pub fn push_block_reserved(&mut self, block: &[Option<i64>])
-        requires few { length block.now ≤ 64 }
+        requires few { length block.now ≤ max_block }
         requires room { length block.now ≤ shifted_room self.old }
         requires range { All (IsInRange self.old.offset (shifted_size self.old)) block.now }
         ensures entries { shifted_entries self.new ≡ shifted_entries self.old ++ block.now }
@@ -199,7 +201,7 @@ impl Shifted {
 
 /// Returns what is stored of an entry that is not below the offset: its number less the offset, or a null.
 fn stored_from(offset: i64, entry: Option<i64>) -> Option<u64>
-    requires { IsInRange offset (2 ^ 63) entry }
+    requires { IsInRange offset max_size entry }
     ensures { option_map (number_of offset) result ≡ entry }
 {
     let number = entry?;
@@ -208,8 +210,8 @@ fn stored_from(offset: i64, entry: Option<i64>) -> Option<u64>
 
 /// Writes what is stored of each entry of a block.
 fn store_block(offset: i64, block: &[Option<i64>], stored: &mut [Option<u64>; 64])
-    requires few { length block.now ≤ 64 }
-    requires range { All (IsInRange offset (2 ^ 63)) block.now }
+    requires few { length block.now ≤ max_block }
+    requires range { All (IsInRange offset max_size) block.now }
     ensures long { length stored.new ≡ 64 }
     ensures each { (r : ℕ) → r < length block.now →
         option_map (number_of offset) (slice_index_or stored.new r None)

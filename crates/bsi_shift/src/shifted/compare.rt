@@ -1,6 +1,7 @@
 //! Comparisons of whole numbers with a constant, as comparisons of the stored numbers.
 
 ghost use Rattle.std.specs.Prelude.{◌≡◌, ℕ, ℤ, ◌<ℤ◌, ◌+◌, ◌<◌, ◌≤◌, ◌^◌, length, map, is_none, IfOk, IsOk, OnOk, OnErr};
+ghost use Rattle.bsi_digits.specs.Digits.{max_size};
 ghost use Rattle.bsi_bits.specs.BitList.{word_count};
 ghost use Rattle.bsi_slices.specs.Blocks.{KeepsRows};
 ghost use Rattle.bsi_slices.specs.Orders.{compares_by};
@@ -67,7 +68,7 @@ impl Shifted {
 /// less the offset. Each stored number is below 2^63, so the greatest constant of 64 bits stands for each constant past
 /// it.
 fn stored_comparison(op: Op, constant: i128, offset: i64) -> (Op, u64)
-    ensures { (n : ℕ) → n < 2 ^ 63 →
+    ensures { (n : ℕ) → n < max_size →
         compares_by number_order result.0 n result.1
         ≡ compares_by whole_order op (number_of offset n) constant }
 {

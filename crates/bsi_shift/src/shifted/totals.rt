@@ -2,6 +2,8 @@
 
 ghost use Rattle.std.specs.Prelude.{◌≡◌, pos, neg_ℤ, ◌+ℤ◌, ◌*ℤ◌, ◌≤ℤ◌, ◌<ℤ◌, ◌<◌, ◌≤◌, ◌^◌, length, IfOk, IfSome};
 ghost use Rattle.std.specs.Option.{option_map};
+ghost use Rattle.bsi_digits.specs.Digits.{max_size};
+ghost use Rattle.bsi_bits.specs.BitList.{max_len};
 ghost use Rattle.bsi_columns.specs.AnyRows.{any_entries};
 ghost use Rattle.bsi_slices.specs.Orders.{values_at};
 ghost use Rattle.bsi_slices.specs.Ranks.{IsOfRank};
@@ -80,7 +82,7 @@ fn stored_of_rank(stored: &AnyColumn, found: &Bits, rank: Rank) -> Result<Option
 
 /// Returns the number that a stored number stands for, or none for a null.
 fn number_from(offset: i64, stored: Option<u64>) -> Option<i64>
-    requires { IfSome stored (λ n. (n < 2 ^ 63) × (number_of offset n <ℤ pos (2 ^ 63))) }
+    requires { IfSome stored (λ n. (n < max_size) × (number_of offset n <ℤ pos (2 ^ 63))) }
     ensures { result ≡ option_map (number_of offset) stored }
 {
     let number = stored?;
@@ -90,7 +92,7 @@ fn number_from(offset: i64, stored: Option<u64>) -> Option<i64>
 /// Returns the sum of `numbers` numbers, where `stored` is the sum of their stored numbers: each number is the offset
 /// plus its stored number.
 fn sum_from(stored: u128, offset: i64, numbers: u64) -> i128
-    requires { (stored < 2 ^ 95) × (numbers ≤ 2 ^ 32) }
+    requires { (stored < 2 ^ 95) × (numbers ≤ max_len) }
     ensures { result ≡ pos stored +ℤ (offset *ℤ pos numbers) }
 {
     stored as i128 + i128::from(offset) * i128::from(numbers)
