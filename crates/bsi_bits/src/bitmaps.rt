@@ -1,6 +1,6 @@
 //! Vectors of one length that grow together.
 
-ghost use Rattle.std.specs.Prelude.{◌≡◌, ◌≢◌, ◌==◌, ℕ, ◌+◌, ◌%◌, ◌^◌, ◌≤◌, ◌<◌, Bool, List, false, true, [], ◌∷◌, ◌++◌, ◌-◌, length, min, slice_index, IfOk, IsOk, OnErr, OnOk};
+ghost use Rattle.std.specs.Prelude.{◌≡◌, ◌≢◌, ◌↔◌, ◌==◌, ℕ, ◌+◌, ◌%◌, ◌^◌, ◌≤◌, ◌<◌, Bool, List, false, true, [], ◌∷◌, ◌++◌, ◌-◌, length, min, slice_index, IfOk, IsOk, IsTrue, OnErr, OnOk};
 ghost use Rattle.std.specs.Int.{bit_at};
 ghost use Rattle.bsi_bits.specs.BitList.{max_block, max_len};
 ghost use Rattle.bsi_bits.specs.BitLists.{bits_at, room_at, AreSame};
@@ -68,6 +68,13 @@ impl Bitmaps {
         ensures within { result ≤ max_len }
     {
         self.vectors[0].len()
+    }
+
+    /// Returns whether the vectors have no bit.
+    pub fn is_empty(&self) -> bool
+        ensures { IsTrue result ↔ (bits_at self.now.vectors 0 ≡ []) }
+    {
+        self.vectors[0].is_empty()
     }
 
     /// Returns how many more bits can be appended to each vector without allocating memory.
@@ -263,8 +270,8 @@ fn reserve_each(vectors: &mut [Bits], more: u64) -> Result<(), NoMemory>
     ensures kept { (j : ℕ) → room_at vectors.old j ≤ room_at vectors.new j }
     ensures ok { OnOk result ((j : ℕ) → j < length vectors.old → more ≤ room_at vectors.new j) }
 {
-    'vectors: for j in 0..vectors.len() {
-        vectors[j].reserve(more)?;
+    'vectors: for vector in vectors.iter_mut() {
+        vector.reserve(more)?;
     }
     Ok(())
 }
