@@ -23,8 +23,8 @@ fn mark(block: &[u32], words: &mut [u64])
     ensures long { length words.new ≡ length words.old }
     ensures marks { AreDigitMarks (λ j v. v == j) block.now words.new }
 {
-    'digits: for k in 0..block.len() {
-        words[block[k] as usize] |= 1 << k;
+    'digits: for (k, digit) in block.iter().enumerate() {
+        words[*digit as usize] |= 1 << k;
     }
 }
 

@@ -183,7 +183,7 @@ fn kept_words(words: u64x8, others: u64x8, is_set: bool) -> u64x8
     words_without(words, others)
 }
 
-/// Returns the rows of a line that are clear in another one.
+/// Returns the rows of a line that are clear in another one. Three proofs take from its clause what each word keeps.
 fn words_without(words: u64x8, others: u64x8) -> u64x8
     ensures { result ≡ zip2 (word_kept false) words others }
 {

@@ -108,8 +108,8 @@ fn sum_in(places: &[Bits], found: &Bits, start: usize, end: usize) -> u128
     ensures few { result ≤ 2 ^ 95 }
 {
     let mut sum = 0u128;
-    'places: for k in 0..places.len() {
-        sum += u128::from(found.count_and_in(&places[k], start, end)) << k;
+    'places: for (k, place) in places.iter().enumerate() {
+        sum += u128::from(found.count_and_in(place, start, end)) << k;
     }
     sum
 }
@@ -119,8 +119,8 @@ pub fn is_empty(words: &[u64]) -> bool
     ensures { IsTrue result ↔ ((k : ℕ) → slice_index words.now k ≡ 0) }
 {
     let mut seen = 0;
-    'words: for i in 0..words.len() {
-        seen |= words[i];
+    'words: for word in words {
+        seen |= *word;
     }
     seen == 0
 }

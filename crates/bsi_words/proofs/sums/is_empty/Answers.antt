@@ -9,16 +9,16 @@ use Rattle.bsi_words.proofs.sums.is_empty.Goals as goal
 -- neither what was seen nor this word has a bit
 pub words-preserved : goal.words-preserved
 words-preserved c =
-    let word = get_or c.args.words.now c.words.i 0 in
+    let word = get_or c.args.words.now c.words.word-index 0 in
     record {
       none = λ zero k below.
           let before : c.words.seen ≡ 0 = omega (arith, zero, le_or_l c.words.seen word) in
           let here : word ≡ 0 = omega (arith, zero, le_or_r c.words.seen word) in
-          elim (cases_lt k c.words.i) [
+          elim (cases_lt k c.words.word-index) [
             | inl first ↦ c.words.invariant.none before k first
-            | inr last ↦ let same : k ≡ c.words.i = omega arith in ap (λ i. get_or c.args.words.now i 0) same ∙ here
+            | inr last ↦ let same : k ≡ c.words.word-index = omega arith in ap (λ i. get_or c.args.words.now i 0) same ∙ here
           ];
-      empty = λ each. ap₂ bit_or (c.words.invariant.empty each) (each c.words.i);
+      empty = λ each. ap₂ bit_or (c.words.invariant.empty each) (each c.words.word-index);
     }
 
 zero_from : (n : ℕ) → (n == 0) ≡ true → n ≡ 0
