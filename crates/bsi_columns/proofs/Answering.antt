@@ -134,11 +134,11 @@ cut_past test wanted was found None past = and_false found ∙ sym (and_false wa
 cut_past test wanted was found (Some x) past = absurd (grind (arith, ap is_some past))
 
 -- so where it was written for each row, and cut with the not-null bitmap
-pub cut_answers : (test : ℕ → Bool) (wanted : Bool) (es : List (Option ℕ)) (found present : List Bool)
-    → found ≡ map (λ e. test (number_or_zero e)) es → present ≡ map is_some es
-    → zip2 (λ answer there. as_wanted wanted answer && there) found present ≡ map (answers test wanted) es
-cut_answers test wanted es found present found_is present_is =
-    zip2_of_maps (λ (answer : Bool) (there : Bool). as_wanted wanted answer && there) (λ (e : Option ℕ). test (number_or_zero e)) is_some es found_is present_is
+pub cut_answers : (test : ℕ → Bool) (wanted : Bool) (es : List (Option ℕ)) (found not_null : List Bool)
+    → found ≡ map (λ e. test (number_or_zero e)) es → not_null ≡ map is_some es
+    → zip2 (λ answer there. as_wanted wanted answer && there) found not_null ≡ map (answers test wanted) es
+cut_answers test wanted es found not_null found_is not_null_is =
+    zip2_of_maps (λ (answer : Bool) (there : Bool). as_wanted wanted answer && there) (λ (e : Option ℕ). test (number_or_zero e)) is_some es found_is not_null_is
     ∙ map_alike (λ (e : Option ℕ). as_wanted wanted (test (number_or_zero e)) && is_some e) (answers test wanted) (λ e. Unit {0}) (λ e u. cut_answer test wanted e) es (λ k d h. tt)
 
 pub past_equal : (wanted : Bool) (x n size : ℕ) → size ≤ n → x < size → as_wanted (not wanted) true ≡ as_wanted wanted (nat_eq x n)

@@ -83,16 +83,16 @@ end_first Greatest limit marked digit n d is = is.first
 
 -- a row that is kept by its digit and is there
 pub kept_inside : (old there same new : Bool) → new ≡ ((old && same) && there) → (old ≡ true → there ≡ true) → new ≡ (old && same)
-kept_inside true there same new is present = is ∙ ap (λ t. same && t) (present refl) ∙ always same
+kept_inside true there same new is not_null = is ∙ ap (λ t. same && t) (not_null refl) ∙ always same
   where
     always : (b : Bool) → (b && true) ≡ b
     always true = refl
     always false = refl
-kept_inside false there same new is present = is
+kept_inside false there same new is not_null = is
 
 pub kept_outside : (old there same new before : Bool) → new ≡ (before && there) → there ≡ false → (old ≡ true → there ≡ true) → new ≡ (old && same)
-kept_outside true there same new before is off present = absurd (let on = present refl in cc)
-kept_outside false there same new before is off present = is ∙ ap (λ t. before && t) off ∙ never before
+kept_outside true there same new before is off not_null = absurd (let on = not_null refl in cc)
+kept_outside false there same new before is off not_null = is ∙ ap (λ t. before && t) off ∙ never before
   where
     never : (b : Bool) → (b && false) ≡ false
     never true = refl
@@ -135,8 +135,8 @@ module _ (end : End) (marked : ℕ → Bool) (number : ℕ → ℕ) (n weight ba
       (λ p within there. rw (← digits p) (step.first p within there))
 
 -- a row with a number is there
-pub present_row : (entries : List (Option ℕ)) (r : ℕ) → is_some (get_or entries r None) ≡ true → get_or (map is_some entries) r false ≡ true
-present_row entries r there = elim (cases_lt r (length entries)) [
+pub not_null_row : (entries : List (Option ℕ)) (r : ℕ) → is_some (get_or entries r None) ≡ true → get_or (map is_some entries) r false ≡ true
+not_null_row entries r there = elim (cases_lt r (length entries)) [
   | inl within ↦ get_or-map is_some entries r None false within ∙ there
   | inr past ↦ absurd (none_there (get_or entries r None) (get_or_past entries r None past) there)
 ]

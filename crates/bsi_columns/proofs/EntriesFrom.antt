@@ -15,9 +15,9 @@ entry_of_number : (e : Option ℕ) → cond (is_some e) (Some (number_or_zero e)
 entry_of_number None = refl
 entry_of_number (Some x) = refl
 
-module _ (bs : List ℕ) (present : List Bool) (ds : List (List ℕ)) (entries : List (Option ℕ)) (kept : Decomposes bs present ds entries) where
-  pub rows_of : length present ≡ length entries
-  rows_of = ap length kept.present_is ∙ length-map entries is_some
+module _ (bs : List ℕ) (not_null : List Bool) (ds : List (List ℕ)) (entries : List (Option ℕ)) (kept : Decomposes bs not_null ds entries) where
+  pub rows_of : length not_null ≡ length entries
+  rows_of = ap length kept.not_null_is ∙ length-map entries is_some
 
   -- the digits of a row are those of its entry's number
   digits_at_row : (r : ℕ) → r < length entries → digits_at ds r ≡ digits_of bs (number_or_zero (get_or entries r None))
@@ -33,18 +33,18 @@ module _ (bs : List ℕ) (present : List Bool) (ds : List (List ℕ)) (entries :
       same_digits_by xs bs v long each = fill_by_all (digit_of bs v) xs (length bs) 0 long each
 
   -- so the entries are those
-  pub entries_from : entries_of bs present ds ≡ entries
+  pub entries_from : entries_of bs not_null ds ≡ entries
   unfolding entries_of
-  entries_from = sym (fill_by_all (weighed_entry bs present ds) entries (length present) None (sym rows_of) (λ r below.
+  entries_from = sym (fill_by_all (weighed_entry bs not_null ds) entries (length not_null) None (sym rows_of) (λ r below.
       let within : r < length entries = omega (arith, rows_of) in
       let e : Option ℕ = get_or entries r None in
-      let is_there : get_or present r false ≡ is_some e = ap (λ bits. get_or bits r false) kept.present_is ∙ get_or-map is_some entries r None false within in
+      let is_there : get_or not_null r false ≡ is_some e = ap (λ bits. get_or bits r false) kept.not_null_is ∙ get_or-map is_some entries r None false within in
       let number : weighted_sum bs (digits_at ds r) (components bs) ≡ number_or_zero e =
       ap (λ xs. weighted_sum bs xs (components bs)) (digits_at_row r within) ∙ weighted_sum-digits_of bs (number_or_zero e) (kept.below r None within) in
       sym (ap₂ (λ b n. cond b (Some n) None) is_there number ∙ entry_of_number e)))
 
-  pub kept_itself : Decomposes bs present ds (entries_of bs present ds)
-  kept_itself = subst (λ es. Decomposes bs present ds es) (sym entries_from) kept
+  pub kept_itself : Decomposes bs not_null ds (entries_of bs not_null ds)
+  kept_itself = subst (λ es. Decomposes bs not_null ds es) (sym entries_from) kept
 
   -- no component has more digits than there are entries
   pub digits_at_most : (k : ℕ) → length (get_or ds k []) ≤ length entries
@@ -54,22 +54,22 @@ module _ (bs : List ℕ) (present : List Bool) (ds : List (List ℕ)) (entries :
   ]
 
 -- a column of no entries
-pub no_entries : (bs : List ℕ) (present : List Bool) (ds : List (List ℕ)) → present ≡ [] → ds ≡ replicate (length bs) [] → Decomposes bs present ds []
-no_entries bs present ds none empty = record {
+pub no_entries : (bs : List ℕ) (not_null : List Bool) (ds : List (List ℕ)) → not_null ≡ [] → ds ≡ replicate (length bs) [] → Decomposes bs not_null ds []
+no_entries bs not_null ds none empty = record {
   count = ap length empty ∙ length-replicate (length bs) [];
-  present_is = none;
+  not_null_is = none;
   digits_are = λ i below. ap (λ xs. get_or xs i []) empty ∙ get_or-replicate (length bs) i [] [] below;
   below = All-nil (λ (e : Option ℕ). number_or_zero e < product bs);
 }
 
 -- more entries, once each component has its digits of their numbers
-pub more_entries : (bs : List ℕ) (present : List Bool) (ds : List (List ℕ)) (entries block : List (Option ℕ)) (bits : List Bool) (more : List (List ℕ)) → Decomposes bs present ds entries
-    → bits ≡ present ++ map is_some block → length more ≡ length bs
+pub more_entries : (bs : List ℕ) (not_null : List Bool) (ds : List (List ℕ)) (entries block : List (Option ℕ)) (bits : List Bool) (more : List (List ℕ)) → Decomposes bs not_null ds entries
+    → bits ≡ not_null ++ map is_some block → length more ≡ length bs
     → ((i : ℕ) → i < length bs → get_or more i [] ≡ get_or ds i [] ++ map (λ e. digit_of bs (number_or_zero e) i) block)
     → All (λ e. number_or_zero e < product bs) block → Decomposes bs bits more (entries ++ block)
-more_entries bs present ds entries block bits more kept bits_are long each small = record {
+more_entries bs not_null ds entries block bits more kept bits_are long each small = record {
   count = long;
-  present_is = bits_are ∙ ap (λ ps. ps ++ map is_some block) kept.present_is ∙ sym (map-append is_some entries block);
+  not_null_is = bits_are ∙ ap (λ ps. ps ++ map is_some block) kept.not_null_is ∙ sym (map-append is_some entries block);
   digits_are = λ i below.
       each i below ∙ ap (λ xs. xs ++ map (λ e. digit_of bs (number_or_zero e) i) block) (kept.digits_are i below)
       ∙ sym (map-append (λ (x : Option ℕ). digit_of bs (number_or_zero x) i) entries block);
@@ -77,20 +77,20 @@ more_entries bs present ds entries block bits more kept bits_are long each small
 }
 
 -- all entries of another column under the same bases
-pub all_entries : (bs others_bs : List ℕ) (present others bits : List Bool) (ds more all : List (List ℕ)) (entries added : List (Option ℕ)) → Decomposes bs present ds entries → Decomposes others_bs others more added
-    → others_bs ≡ bs → bits ≡ present ++ others → length all ≡ length bs
+pub all_entries : (bs others_bs : List ℕ) (not_null others bits : List Bool) (ds more all : List (List ℕ)) (entries added : List (Option ℕ)) → Decomposes bs not_null ds entries → Decomposes others_bs others more added
+    → others_bs ≡ bs → bits ≡ not_null ++ others → length all ≡ length bs
     → ((i : ℕ) → i < length bs → get_or all i [] ≡ get_or ds i [] ++ get_or more i [])
     → Decomposes bs bits all (entries ++ added)
-all_entries bs others_bs present others bits ds more all entries added kept of_others same bits_are long each =
+all_entries bs others_bs not_null others bits ds more all entries added kept of_others same bits_are long each =
     let other : Decomposes bs others more added = subst (λ b. Decomposes b others more added) same of_others in
-    more_entries bs present ds entries added bits all kept
-    (bits_are ∙ ap (λ ps. present ++ ps) other.present_is) long
+    more_entries bs not_null ds entries added bits all kept
+    (bits_are ∙ ap (λ ps. not_null ++ ps) other.not_null_is) long
     (λ i below. each i below ∙ ap (λ xs. get_or ds i [] ++ xs) (other.digits_are i below)) other.below
 
 -- each component has as many digits as there are entries
-pub component_rows : {E : Type 0} (digits : E → List ℕ) (cs : List E) (bs : List ℕ) (present : List Bool) (entries : List (Option ℕ)) →
-    Decomposes bs present (map digits cs) entries → (k : ℕ) (d : E) → k < length cs → length (digits (get_or cs k d)) ≡ length entries
-component_rows digits cs bs present entries kept k d within =
+pub component_rows : {E : Type 0} (digits : E → List ℕ) (cs : List E) (bs : List ℕ) (not_null : List Bool) (entries : List (Option ℕ)) →
+    Decomposes bs not_null (map digits cs) entries → (k : ℕ) (d : E) → k < length cs → length (digits (get_or cs k d)) ≡ length entries
+component_rows digits cs bs not_null entries kept k d within =
     ap length (sym (get_or-map digits cs k d [] within) ∙ kept.digits_are k (omega (arith, kept.count, length-map cs digits)))
     ∙ length-map entries (λ (e : Option ℕ). digit_of bs (number_or_zero e) k)
 
@@ -107,9 +107,9 @@ block_digits digit block numbers read enough =
     ∙ sym (get_or-map (λ e. digit (number_or_zero e)) block r None d below))
 
 -- room that is used
-pub roomy_less : (rows room present used rows' present' : ℕ) (rooms rooms' : List ℕ) → IsRoomy rows room present rooms → used ≤ room → rows' ≡ rows + used → present ≤ present' + used
-    → length rooms' ≡ length rooms → ((k : ℕ) → get_or rooms k 0 ≤ get_or rooms' k 0 + used) → IsRoomy rows' (room - used) present' rooms'
-roomy_less rows room present used rows' present' rooms rooms' roomy enough more marks long spent = record {
+pub roomy_less : (rows room not_null used rows' not_null' : ℕ) (rooms rooms' : List ℕ) → IsRoomy rows room not_null rooms → used ≤ room → rows' ≡ rows + used → not_null ≤ not_null' + used
+    → length rooms' ≡ length rooms → ((k : ℕ) → get_or rooms k 0 ≤ get_or rooms' k 0 + used) → IsRoomy rows' (room - used) not_null' rooms'
+roomy_less rows room not_null used rows' not_null' rooms rooms' roomy enough more marks long spent = record {
   within = omega (arith, roomy.within);
   bitmap = omega (arith, roomy.bitmap);
   each = λ k within. omega (arith, roomy.each k (omega (arith, long, within)), spent k);

@@ -73,7 +73,7 @@ impl AnyColumn {
         requires within { at + length block.old ≤ word_count (length (any_entries self.now)) }
         ensures { KeepsRows is_none (any_entries self.now) at block.old block.new }
     {
-        drop_in(self.present(), at, block);
+        drop_in(self.not_null(), at, block);
     }
 }
 
@@ -196,11 +196,11 @@ impl Column for AnyColumn {
         }
     }
 
-    fn present(&self) -> &Bits {
+    fn not_null(&self) -> &Bits {
         match self {
-            AnyColumn::Slices(column) => column.present(),
-            AnyColumn::Equality(column) => column.present(),
-            AnyColumn::Range(column) => column.present(),
+            AnyColumn::Slices(column) => column.not_null(),
+            AnyColumn::Equality(column) => column.not_null(),
+            AnyColumn::Range(column) => column.not_null(),
         }
     }
 

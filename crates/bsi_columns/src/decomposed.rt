@@ -8,7 +8,7 @@ use crate::growth::{push_all_digits, push_blocks, push_digits, reserve_each};
 use crate::{Column, Encoding, NoMemory, Op, Rank};
 use bsi_bits::{Bits, room_to_make};
 use bsi_digits::Bases;
-use bsi_slices::transposing::{mark_present, place_numbers};
+use bsi_slices::transposing::{mark_not_null, place_numbers};
 use bsi_slices::{End, NotNull};
 use std::alloc::Global;
 use std::marker::Model;
@@ -26,7 +26,7 @@ pub use compare::MAX_BLOCK_WORDS;
 pub struct Decomposed<E: Encoding> {
     bases: Bases,
     components: Vec<E>,
-    present: NotNull,
+    not_null: NotNull,
     // Neither the bitmap nor a component has less.
     room: u64,
 }
@@ -40,14 +40,14 @@ impl<E: Encoding> Model for Decomposed<E> {
 
     ghost view = { λ c. record {
       bases = c.bases;
-      entries = entries_of c.bases c.present.bits (map E.digits c.components.items);
+      entries = entries_of c.bases c.not_null.bits (map E.digits c.components.items);
       room = c.room;
     } };
 
-    ghost invariant = { λ c. Decomposes c.bases c.present.bits (map E.digits c.components.items)
-        (entries_of c.bases c.present.bits (map E.digits c.components.items))
+    ghost invariant = { λ c. Decomposes c.bases c.not_null.bits (map E.digits c.components.items)
+        (entries_of c.bases c.not_null.bits (map E.digits c.components.items))
         × (map E.base_of c.components.items ≡ c.bases)
-        × IsRoomy (length c.present.bits) c.room c.present.room
+        × IsRoomy (length c.not_null.bits) c.room c.not_null.room
         (map E.room_of c.components.items) };
 }
 
@@ -60,7 +60,7 @@ impl<E: Encoding> Decomposed<E> {
         Ok(Decomposed {
             bases,
             components,
-            present: NotNull::new(alloc),
+            not_null: NotNull::new(alloc),
             room: 0,
         })
     }
@@ -100,7 +100,7 @@ impl<E: Encoding> Column for Decomposed<E> {
     }
 
     fn len(&self) -> u64 {
-        self.present.len()
+        self.not_null.len()
     }
 
     fn room(&self) -> u64 {
@@ -111,8 +111,8 @@ impl<E: Encoding> Column for Decomposed<E> {
         if more <= self.room {
             return Ok(());
         }
-        let wanted = room_to_make(self.present.len(), more);
-        self.present.reserve(wanted)?;
+        let wanted = room_to_make(self.not_null.len(), more);
+        self.not_null.reserve(wanted)?;
         reserve_each(&mut self.components, wanted)?;
         self.room = wanted;
         Ok(())
@@ -120,7 +120,7 @@ impl<E: Encoding> Column for Decomposed<E> {
 
     fn push_reserved(&mut self, entry: Option<u64>) {
         push_digits(&mut self.components, &self.bases, entry.unwrap_or(0));
-        self.present.push_reserved(entry.is_some());
+        self.not_null.push_reserved(entry.is_some());
         self.room -= 1;
     }
 
@@ -129,13 +129,14 @@ impl<E: Encoding> Column for Decomposed<E> {
         place_numbers(block, &mut numbers);
         push_blocks(&mut self.components, &self.bases, &numbers[..block.len()]);
         let count = block.len() as u64;
-        self.present.push_word_reserved(mark_present(block), count);
+        self.not_null
+            .push_word_reserved(mark_not_null(block), count);
         self.room -= count;
     }
 
     fn push_all_reserved(&mut self, other: &Self) {
         push_all_digits(&mut self.components, &other.components);
-        self.present.push_all_reserved(&other.present);
+        self.not_null.push_all_reserved(&other.not_null);
         self.room -= other.len();
     }
 
@@ -168,19 +169,19 @@ impl<E: Encoding> Column for Decomposed<E> {
     }
 
     fn nulls_into(&self, out: &mut Bits) {
-        out.copy_from(self.present.bits());
+        out.copy_from(self.not_null.bits());
         out.flip();
     }
 
-    fn present(&self) -> &Bits {
-        self.present.bits()
+    fn not_null(&self) -> &Bits {
+        self.not_null.bits()
     }
 
     fn copy(&self) -> Result<Self, NoMemory> {
         Ok(Decomposed {
             bases: self.bases.copy()?,
             components: copy_each(&self.components)?,
-            present: self.present.copy()?,
+            not_null: self.not_null.copy()?,
             room: 0,
         })
     }

@@ -27,10 +27,10 @@ nulls_from offset [] = refl
 nulls_from offset (None ∷ stored) = ap (λ bits. true ∷ bits) (nulls_from offset stored)
 nulls_from offset (Some n ∷ stored) = ap (λ bits. false ∷ bits) (nulls_from offset stored)
 
-pub present_from : (offset : ℤ) (stored : List (Option ℕ)) → map is_some (entries_from offset stored) ≡ map is_some stored
-present_from offset [] = refl
-present_from offset (None ∷ stored) = ap (λ bits. false ∷ bits) (present_from offset stored)
-present_from offset (Some n ∷ stored) = ap (λ bits. true ∷ bits) (present_from offset stored)
+pub not_null_from : (offset : ℤ) (stored : List (Option ℕ)) → map is_some (entries_from offset stored) ≡ map is_some stored
+not_null_from offset [] = refl
+not_null_from offset (None ∷ stored) = ap (λ bits. false ∷ bits) (not_null_from offset stored)
+not_null_from offset (Some n ∷ stored) = ap (λ bits. true ∷ bits) (not_null_from offset stored)
 
 -- the numbers that a found set has are those of the stored ones
 pub values_from : (offset : ℤ) (found : List Bool) (stored : List (Option ℕ)) → values_at found (entries_from offset stored) ≡ map (number_of offset) (numbers_at found stored)

@@ -87,6 +87,13 @@ impl Shifted {
         self.stored.len()
     }
 
+    /// Returns whether there is no row.
+    pub fn is_empty(&self) -> bool
+        ensures { IsTrue result ↔ (shifted_entries self.now ≡ []) }
+    {
+        self.len() == 0
+    }
+
     /// Returns how many more entries can be appended without allocating memory.
     pub fn room(&self) -> u64
         ensures room { result ≡ shifted_room self.now }
@@ -180,10 +187,10 @@ impl Shifted {
     }
 
     /// Returns the not-null bitmap.
-    pub fn present(&self) -> &Bits
+    pub fn not_null(&self) -> &Bits
         ensures { result.now.bits ≡ map is_some (shifted_entries self.now) }
     {
-        self.stored.present()
+        self.stored.not_null()
     }
 
     /// Makes a second column of the same entries, in the same form.

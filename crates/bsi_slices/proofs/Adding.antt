@@ -89,9 +89,9 @@ sum_below w found entries narrow few below =
     omega (arith, sum_whole (2 ^ w) found entries below, sum_small (2 ^ w) found entries (pow_pos w) small few)
 
 -- slices hold the binary places of the numbers, where a null counts as 0
-pub places_of : (present : List Bool) (slices : List BitList) → IsSliced present slices → IsEncoded has_place slices (map number_or_zero (entries_in present slices))
-places_of present slices sliced = record {
-  each = λ k within. slice_of present slices sliced k within ∙ mapped (has_place k) (entries_in present slices);
+pub places_of : (not_null : List Bool) (slices : List BitList) → IsSliced not_null slices → IsEncoded has_place slices (map number_or_zero (entries_in not_null slices))
+places_of not_null slices sliced = record {
+  each = λ k within. slice_of not_null slices sliced k within ∙ mapped (has_place k) (entries_in not_null slices);
 }
   where
     mapped : (f : ℕ → Bool) (entries : List (Option ℕ)) → map (λ e. f (number_or_zero e)) entries ≡ map f (map number_or_zero entries)

@@ -27,26 +27,26 @@ chunk_fits at n words fits enough k = elim (cases_lt k n) [
 ]
 
 -- one block stepped by another
-module _ (n : ℕ) (above lanes : List ℕ) (long : length above ≡ n) (same : length lanes ≡ n) where
-  pub stepped_bit : (one : Bool) (p : ℕ) → p < 64 * n → bit_of (if one then zip2 bit_and above lanes else zip2 bit_or above lanes) p ≡ (if one then bit_of above p && bit_of lanes p else (bit_of above p || bit_of lanes p))
-  stepped_bit true p within = and_bit above lanes (long ∙ sym same) p (omega arith)
-  stepped_bit false p within = or_bit above lanes (long ∙ sym same) p (omega arith)
+module _ (n : ℕ) (above slice : List ℕ) (long : length above ≡ n) (same : length slice ≡ n) where
+  pub stepped_bit : (one : Bool) (p : ℕ) → p < 64 * n → bit_of (if one then zip2 bit_and above slice else zip2 bit_or above slice) p ≡ (if one then bit_of above p && bit_of slice p else (bit_of above p || bit_of slice p))
+  stepped_bit true p within = and_bit above slice (long ∙ sym same) p (omega arith)
+  stepped_bit false p within = or_bit above slice (long ∙ sym same) p (omega arith)
 
-  pub stepped_long : (one : Bool) → length (if one then zip2 bit_and above lanes else zip2 bit_or above lanes) ≡ n
-  stepped_long true = length-zip2 bit_and above lanes (long ∙ sym same) ∙ long
-  stepped_long false = length-zip2 bit_or above lanes (long ∙ sym same) ∙ long
+  pub stepped_long : (one : Bool) → length (if one then zip2 bit_and above slice else zip2 bit_or above slice) ≡ n
+  stepped_long true = length-zip2 bit_and above slice (long ∙ sym same) ∙ long
+  stepped_long false = length-zip2 bit_or above slice (long ∙ sym same) ∙ long
 
   -- and cut by another
-  pub cut_bit : (negated : Bool) → ((k : ℕ) → get_or lanes k 0 < 2 ^ 64) → (p : ℕ) → p < 64 * n
-      → bit_of (if negated then zip2 bit_and above (map (bit_not w64) lanes) else zip2 bit_and above lanes) p ≡ (bit_of above p && turned negated (bit_of lanes p))
+  pub cut_bit : (negated : Bool) → ((k : ℕ) → get_or slice k 0 < 2 ^ 64) → (p : ℕ) → p < 64 * n
+      → bit_of (if negated then zip2 bit_and above (map (bit_not w64) slice) else zip2 bit_and above slice) p ≡ (bit_of above p && turned negated (bit_of slice p))
   cut_bit true fits p within =
-      and_bit above (map (bit_not w64) lanes) (long ∙ sym same ∙ sym (length-map lanes (bit_not w64))) p (omega arith)
-      ∙ ap (λ b. bit_of above p && b) (not_bit lanes fits p (omega arith))
-  cut_bit false fits p within = and_bit above lanes (long ∙ sym same) p (omega arith)
+      and_bit above (map (bit_not w64) slice) (long ∙ sym same ∙ sym (length-map slice (bit_not w64))) p (omega arith)
+      ∙ ap (λ b. bit_of above p && b) (not_bit slice fits p (omega arith))
+  cut_bit false fits p within = and_bit above slice (long ∙ sym same) p (omega arith)
 
-  pub cut_long : (negated : Bool) → length (if negated then zip2 bit_and above (map (bit_not w64) lanes) else zip2 bit_and above lanes) ≡ n
-  cut_long true = length-zip2 bit_and above (map (bit_not w64) lanes) (long ∙ sym same ∙ sym (length-map lanes (bit_not w64))) ∙ long
-  cut_long false = length-zip2 bit_and above lanes (long ∙ sym same) ∙ long
+  pub cut_long : (negated : Bool) → length (if negated then zip2 bit_and above (map (bit_not w64) slice) else zip2 bit_and above slice) ≡ n
+  cut_long true = length-zip2 bit_and above (map (bit_not w64) slice) (long ∙ sym same ∙ sym (length-map slice (bit_not w64))) ∙ long
+  cut_long false = length-zip2 bit_and above slice (long ∙ sym same) ∙ long
 
 -- a place of the constant as it is read
 one_read : (c i : ℕ) → (bit_and (c / 2 ^ i) 1 == 1) ≡ (bit_at c i == 1)

@@ -33,68 +33,68 @@ pub slice_before : (slices : List BitList) (last : BitList) (k : ℕ) → k < le
 slice_before slices last k below = ap (λ s. s.bits) (get_or_append_left slices (last ∷ []) no_bits k below)
 
 -- as many entries as there are marks
-pub length-entries_in : (present : List Bool) (slices : List BitList) → length (entries_in present slices) ≡ length present
+pub length-entries_in : (not_null : List Bool) (slices : List BitList) → length (entries_in not_null slices) ≡ length not_null
 unfolding entries_in
-length-entries_in present slices = length-map-range_with_len (sliced_entry present slices) 0 (length present)
+length-entries_in not_null slices = length-map-range_with_len (sliced_entry not_null slices) 0 (length not_null)
 
 -- entry r
-pub get_or-entries_in : (present : List Bool) (slices : List BitList) (r : ℕ) (d : Option ℕ) → r < length present → get_or (entries_in present slices) r d ≡ sliced_entry present slices r
+pub get_or-entries_in : (not_null : List Bool) (slices : List BitList) (r : ℕ) (d : Option ℕ) → r < length not_null → get_or (entries_in not_null slices) r d ≡ sliced_entry not_null slices r
 unfolding entries_in
-get_or-entries_in present slices r d within = get_or-map-range_with_len (sliced_entry present slices) 0 (length present) r r d within (omega arith)
+get_or-entries_in not_null slices r d within = get_or-map-range_with_len (sliced_entry not_null slices) 0 (length not_null) r r d within (omega arith)
 
 -- a list that has at each row a function of its entry
-pub by_entries : {X : Type 0} (f : Option ℕ → X) (present : List Bool) (slices : List BitList) (d : X) (xs : List X) → length xs ≡ length present
-    → ((r : ℕ) → r < length present → get_or xs r d ≡ f (sliced_entry present slices r)) → xs ≡ map f (entries_in present slices)
-by_entries f present slices d xs long each =
-    fill_by_all (λ r. f (sliced_entry present slices r)) xs (length present) d long each
-    ∙ sym (fill_by_all (λ r. f (sliced_entry present slices r)) (map f (entries_in present slices)) (length present) d
-    (length-map (entries_in present slices) f ∙ length-entries_in present slices)
-    (λ r within. get_or-map f (entries_in present slices) r None d (omega (arith, length-entries_in present slices)) ∙ ap f (get_or-entries_in present slices r None within)))
+pub by_entries : {X : Type 0} (f : Option ℕ → X) (not_null : List Bool) (slices : List BitList) (d : X) (xs : List X) → length xs ≡ length not_null
+    → ((r : ℕ) → r < length not_null → get_or xs r d ≡ f (sliced_entry not_null slices r)) → xs ≡ map f (entries_in not_null slices)
+by_entries f not_null slices d xs long each =
+    fill_by_all (λ r. f (sliced_entry not_null slices r)) xs (length not_null) d long each
+    ∙ sym (fill_by_all (λ r. f (sliced_entry not_null slices r)) (map f (entries_in not_null slices)) (length not_null) d
+    (length-map (entries_in not_null slices) f ∙ length-entries_in not_null slices)
+    (λ r within. get_or-map f (entries_in not_null slices) r None d (omega (arith, length-entries_in not_null slices)) ∙ ap f (get_or-entries_in not_null slices r None within)))
 
 -- no mark, no row
-pub entries_in-nil : (present : List Bool) (slices : List BitList) → present ≡ [] → entries_in present slices ≡ []
+pub entries_in-nil : (not_null : List Bool) (slices : List BitList) → not_null ≡ [] → entries_in not_null slices ≡ []
 unfolding entries_in
-entries_in-nil present slices none = ap (λ p. map (sliced_entry p slices) (range_with_len 0 (length p))) none
+entries_in-nil not_null slices none = ap (λ p. map (sliced_entry p slices) (range_with_len 0 (length p))) none
 
 -- the marks of the entries that are there, and of the others
-pub present_of : (present : List Bool) (slices : List BitList) → present ≡ map is_some (entries_in present slices)
-present_of present slices = by_entries is_some present slices false present refl (λ r within. marked (get_or present r false) (number slices r))
+pub not_null_of : (not_null : List Bool) (slices : List BitList) → not_null ≡ map is_some (entries_in not_null slices)
+not_null_of not_null slices = by_entries is_some not_null slices false not_null refl (λ r within. marked (get_or not_null r false) (number slices r))
   where
     marked : (there : Bool) (m : ℕ) → there ≡ is_some (if there then Some m else None)
     marked true m = refl
     marked false m = refl
 
-pub nulls_of : (present : List Bool) (slices : List BitList) → map not present ≡ map is_none (entries_in present slices)
-nulls_of present slices =
-    by_entries is_none present slices false (map not present) (length-map present not)
-    (λ r within. get_or-map not present r false false within ∙ marked (get_or present r false) (number slices r))
+pub nulls_of : (not_null : List Bool) (slices : List BitList) → map not not_null ≡ map is_none (entries_in not_null slices)
+nulls_of not_null slices =
+    by_entries is_none not_null slices false (map not not_null) (length-map not_null not)
+    (λ r within. get_or-map not not_null r false false within ∙ marked (get_or not_null r false) (number slices r))
   where
     marked : (there : Bool) (m : ℕ) → not there ≡ is_none (if there then Some m else None)
     marked true m = refl
     marked false m = refl
 
 -- what is stored of row r
-pub stored_number : (present : List Bool) (slices : List BitList) → IsSliced present slices → (r : ℕ) → r < length present → number_or_zero (sliced_entry present slices r) ≡ number slices r
-stored_number present slices sliced r within = of_mark (get_or present r false) (number slices r) (sliced.clear r within)
+pub stored_number : (not_null : List Bool) (slices : List BitList) → IsSliced not_null slices → (r : ℕ) → r < length not_null → number_or_zero (sliced_entry not_null slices r) ≡ number slices r
+stored_number not_null slices sliced r within = of_mark (get_or not_null r false) (number slices r) (sliced.clear r within)
   where
     of_mark : (there : Bool) (m : ℕ) → (there ≡ false → m ≡ 0) → number_or_zero (if there then Some m else None) ≡ m
     of_mark true m zero_else = refl
     of_mark false m zero_else = sym (zero_else refl)
 
 -- slice k is binary place k of what is stored
-pub slice_of : (present : List Bool) (slices : List BitList) → IsSliced present slices → (k : ℕ) → k < length slices
-    → bits_at slices k ≡ map (λ e. bit_at (number_or_zero e) k == 1) (entries_in present slices)
-slice_of present slices sliced k within =
-    by_entries (λ e. bit_at (number_or_zero e) k == 1) present slices false (bits_at slices k) (sliced.even k within)
-    (λ r below. sym (ap (λ x. bit_at x k == 1) (stored_number present slices sliced r below) ∙ number_place slices r k within))
+pub slice_of : (not_null : List Bool) (slices : List BitList) → IsSliced not_null slices → (k : ℕ) → k < length slices
+    → bits_at slices k ≡ map (λ e. bit_at (number_or_zero e) k == 1) (entries_in not_null slices)
+slice_of not_null slices sliced k within =
+    by_entries (λ e. bit_at (number_or_zero e) k == 1) not_null slices false (bits_at slices k) (sliced.even k within)
+    (λ r below. sym (ap (λ x. bit_at x k == 1) (stored_number not_null slices sliced r below) ∙ number_place slices r k within))
 
 -- each entry is below two to the power of the width
-pub entries_below : (present : List Bool) (slices : List BitList) → All (λ e. number_or_zero e < 2 ^ length slices) (entries_in present slices)
-entries_below present slices =
-    All-from_get_or (λ e. number_or_zero e < 2 ^ length slices) (entries_in present slices) None
+pub entries_below : (not_null : List Bool) (slices : List BitList) → All (λ e. number_or_zero e < 2 ^ length slices) (entries_in not_null slices)
+entries_below not_null slices =
+    All-from_get_or (λ e. number_or_zero e < 2 ^ length slices) (entries_in not_null slices) None
     (λ r within.
-    let below : r < length present = omega (arith, length-entries_in present slices) in
-    rw (get_or-entries_in present slices r None below) (of_mark (get_or present r false) (number slices r) (number_below slices r)))
+    let below : r < length not_null = omega (arith, length-entries_in not_null slices) in
+    rw (get_or-entries_in not_null slices r None below) (of_mark (get_or not_null r false) (number slices r) (number_below slices r)))
   where
     of_mark : (there : Bool) (m : ℕ) → m < 2 ^ length slices → number_or_zero (if there then Some m else None) < 2 ^ length slices
     of_mark true m small = small
@@ -110,20 +110,20 @@ number_same (t ∷ old) [] r long same = absurd (omega arith)
 number_same (t ∷ old) (s ∷ new) r long same =
     (λ i. bit_value (same 0 (omega arith) i) + 2 * number_same old new r (omega arith) (λ k below. same (suc k) (omega arith)) i)
 
-module _ (present now : List Bool) (old new : List BitList) (marks : now ≡ present) (long : length new ≡ length old) (same : (k : ℕ) → k < length old → bits_at new k ≡ bits_at old k) where
+module _ (not_null now : List Bool) (old new : List BitList) (marks : now ≡ not_null) (long : length new ≡ length old) (same : (k : ℕ) → k < length old → bits_at new k ≡ bits_at old k) where
   alike : (r : ℕ) → number new r ≡ number old r
   alike r = number_same old new r long (λ k within. ap (λ b. get_or b r false) (same k within))
 
   -- slices with the same bits have the same entries
-  pub entries_same : entries_in now new ≡ entries_in present old
+  pub entries_same : entries_in now new ≡ entries_in not_null old
   unfolding entries_in
   entries_same =
       ap (λ p. map (sliced_entry p new) (range_with_len 0 (length p))) marks
-      ∙ same_below None (sliced_entry present new) (sliced_entry present old) (length present)
-      (λ r below. ap (λ m. if get_or present r false then Some m else None) (alike r))
+      ∙ same_below None (sliced_entry not_null new) (sliced_entry not_null old) (length not_null)
+      (λ r below. ap (λ m. if get_or not_null r false then Some m else None) (alike r))
 
   -- and are a column's as well
-  pub sliced_same : IsSliced present old → IsSliced now new
+  pub sliced_same : IsSliced not_null old → IsSliced now new
   sliced_same sliced = record {
     some = omega (arith, sliced.some);
     few = omega (arith, sliced.few);
@@ -133,9 +133,9 @@ module _ (present now : List Bool) (old new : List BitList) (marks : now ≡ pre
   }
 
 -- empty slices are a column's
-pub sliced_empty : (present : List Bool) (slices : List BitList) → 1 ≤ length slices → length slices ≤ 63 → present ≡ []
-    → ((k : ℕ) → k < length slices → bits_at slices k ≡ []) → IsSliced present slices
-sliced_empty present slices some few none each = record {
+pub sliced_empty : (not_null : List Bool) (slices : List BitList) → 1 ≤ length slices → length slices ≤ 63 → not_null ≡ []
+    → ((k : ℕ) → k < length slices → bits_at slices k ≡ []) → IsSliced not_null slices
+sliced_empty not_null slices some few none each = record {
   some = some;
   few = few;
   small = omega (arith, ap length none);

@@ -18,51 +18,51 @@ use Rattle.bsi_slices.specs.Decisions.{decides, passes}
 use Rattle.bsi_slices.proofs.SliceEntries.{by_entries, get_or-entries_in, length-entries_in}
 use Rattle.bsi_slices.proofs.SliceNumbers.{number_below}
 
-module _ (present : List Bool) (slices : List BitList) (op : Op) (n size : ℕ) (size_is : size ≡ 2 ^ length slices) (choice : Decision)
+module _ (not_null : List Bool) (slices : List BitList) (op : Op) (n size : ℕ) (size_is : size ≡ 2 ^ length slices) (choice : Decision)
     (agree : (x : ℕ) → x < size → decides choice x ≡ compares op x n) where
   of_mark : (there : Bool) (m : ℕ) → m < size → (there && decides choice m) ≡ selects op n (if there then Some m else None)
   of_mark true m small = agree m small
   of_mark false m small = refl
 
   -- the rows that are there and decided for are those that the comparison selects
-  selected : (bits : List Bool) → length bits ≡ length present → ((r : ℕ) → r < length present → get_or bits r false ≡ (get_or present r false && decides choice (number slices r)))
-      → bits ≡ map (selects op n) (entries_in present slices)
+  selected : (bits : List Bool) → length bits ≡ length not_null → ((r : ℕ) → r < length not_null → get_or bits r false ≡ (get_or not_null r false && decides choice (number slices r)))
+      → bits ≡ map (selects op n) (entries_in not_null slices)
   selected bits long each =
-      by_entries (selects op n) present slices false bits long
-      (λ r below. each r below ∙ of_mark (get_or present r false) (number slices r) (omega (arith, size_is, number_below slices r)))
+      by_entries (selects op n) not_null slices false bits long
+      (λ r below. each r below ∙ of_mark (get_or not_null r false) (number slices r) (omega (arith, size_is, number_below slices r)))
 
-  pub selected_none : choice ≡ Nothing → (bits : List Bool) (count : ℕ) → count ≡ length present → bits ≡ replicate count false → bits ≡ map (selects op n) (entries_in present slices)
+  pub selected_none : choice ≡ Nothing → (bits : List Bool) (count : ℕ) → count ≡ length not_null → bits ≡ replicate count false → bits ≡ map (selects op n) (entries_in not_null slices)
   selected_none is bits count long none =
       selected bits (ap length none ∙ length-replicate count false ∙ long)
       (λ r below. ap (λ b. get_or b r false) none ∙ get_or-replicate count r false false (omega arith)
-      ∙ sym (ap (λ s. get_or present r false && decides s (number slices r)) is ∙ and-false (get_or present r false)))
+      ∙ sym (ap (λ s. get_or not_null r false && decides s (number slices r)) is ∙ and-false (get_or not_null r false)))
 
-  pub selected_all : choice ≡ Everything → (bits : List Bool) → bits ≡ present → bits ≡ map (selects op n) (entries_in present slices)
+  pub selected_all : choice ≡ Everything → (bits : List Bool) → bits ≡ not_null → bits ≡ map (selects op n) (entries_in not_null slices)
   selected_all is bits all =
       selected bits (ap length all)
-      (λ r below. ap (λ b. get_or b r false) all ∙ sym (ap (λ s. get_or present r false && decides s (number slices r)) is ∙ and-true (get_or present r false)))
+      (λ r below. ap (λ b. get_or b r false) all ∙ sym (ap (λ s. get_or not_null r false && decides s (number slices r)) is ∙ and-true (get_or not_null r false)))
 
   pub selected_tested : (test : Test) → choice ≡ Tested test
-      → (bits : List Bool) (old new : List ℕ) (count : ℕ) → count ≡ length present → length old ≡ (length present + 63) / 64 → ((r : ℕ) → bit_of old r ≡ get_or present r false)
+      → (bits : List Bool) (old new : List ℕ) (count : ℕ) → count ≡ length not_null → length old ≡ (length not_null + 63) / 64 → ((r : ℕ) → bit_of old r ≡ get_or not_null r false)
       → IsKept (λ r. passes test (number slices (0 + r))) 0 (length old) old new → bits ≡ bits_of count new
-      → bits ≡ map (selects op n) (entries_in present slices)
+      → bits ≡ map (selects op n) (entries_in not_null slices)
   selected_tested test is bits old new count long few places kept are =
       selected bits (ap length are ∙ length-bits_of count new ∙ long)
       (λ r below. ap (λ b. get_or b r false) are ∙ get_or-bits_of count new r false (omega arith)
       ∙ kept.inside r (omega arith) (omega arith)
       ∙ (λ j. places r j && passes test (number slices (zero-add r j)))
-      ∙ sym (ap (λ s. get_or present r false && decides s (number slices r)) is))
+      ∙ sym (ap (λ s. get_or not_null r false && decides s (number slices r)) is))
 
   -- a row of a block that is there and decided for is one that the comparison selects; past the last row none is there
-  pub kept_decided : (was : Bool) (r : ℕ) → (was && (get_or present r false && decides choice (number slices r)))
-      ≡ (was && selects op n (get_or (entries_in present slices) r None))
-  kept_decided was r = ap (λ b. was && b) (elim (cases_lt r (length present)) [
+  pub kept_decided : (was : Bool) (r : ℕ) → (was && (get_or not_null r false && decides choice (number slices r)))
+      ≡ (was && selects op n (get_or (entries_in not_null slices) r None))
+  kept_decided was r = ap (λ b. was && b) (elim (cases_lt r (length not_null)) [
     | inl below ↦
-        of_mark (get_or present r false) (number slices r) (omega (arith, size_is, number_below slices r))
-        ∙ ap (selects op n) (sym (get_or-entries_in present slices r None below))
+        of_mark (get_or not_null r false) (number slices r) (omega (arith, size_is, number_below slices r))
+        ∙ ap (selects op n) (sym (get_or-entries_in not_null slices r None below))
     | inr past ↦
-        ap (λ b. b && decides choice (number slices r)) (get_or_past present r false past)
-        ∙ ap (selects op n) (sym (get_or_past (entries_in present slices) r None (omega (arith, past, length-entries_in present slices))))
+        ap (λ b. b && decides choice (number slices r)) (get_or_past not_null r false past)
+        ∙ ap (selects op n) (sym (get_or_past (entries_in not_null slices) r None (omega (arith, past, length-entries_in not_null slices))))
   ])
 
 pub and_assoc : (a b c : Bool) → ((a && b) && c) ≡ (a && (b && c))

@@ -1,6 +1,6 @@
-//! What a column is to a table: a list of optional numbers below its size.
+//! What a column is to an index: a list of optional numbers below its size.
 
-ghost use Rattle.std.specs.Prelude.{◌≡◌, ℕ, ◌^◌, ◌+◌, ◌≤◌, ◌<◌, List, Option, [], ◌∷◌, ◌++◌, All, length, map, is_some, is_none, nat_lt, sum, IfOk, OnOk, OnErr, IsOk};
+ghost use Rattle.std.specs.Prelude.{◌≡◌, ◌↔◌, ℕ, ◌^◌, ◌+◌, ◌≤◌, ◌<◌, List, Option, [], ◌∷◌, ◌++◌, All, length, map, is_some, is_none, nat_lt, sum, IfOk, OnOk, OnErr, IsOk, IsTrue};
 ghost use Rattle.bsi_digits.specs.Digits.{max_size};
 ghost use Rattle.bsi_bits.specs.BitList.{max_block, max_len};
 ghost use Rattle.bsi_slices.specs.Rows.{number_or_zero, selects};
@@ -66,6 +66,13 @@ pub trait Column: Drop {
     fn len(&self) -> u64
         ensures len { result ≡ length (entries self.now) }
         ensures within { result ≤ max_len };
+
+    /// Returns whether there is no row.
+    fn is_empty(&self) -> bool
+        ensures { IsTrue result ↔ (entries self.now ≡ []) }
+    {
+        self.len() == 0
+    }
 
     /// Returns how many more entries can be appended without allocating memory.
     fn room(&self) -> u64
@@ -166,7 +173,7 @@ pub trait Column: Drop {
         requires { length (entries self.now) ≡ length found.now.bits }
         ensures { IfOk result (IsOfRank rank (numbers_at found.now.bits (entries self.now))) }
     {
-        let numbers = found.count_and(self.present());
+        let numbers = found.count_and(self.not_null());
         if numbers == 0 {
             return Ok(None);
         }
@@ -203,7 +210,7 @@ pub trait Column: Drop {
     }
 
     /// Returns the not-null bitmap.
-    fn present(&self) -> &Bits
+    fn not_null(&self) -> &Bits
         ensures { result.now.bits ≡ map is_some (entries self.now) };
 
     /// Makes a second column of the same entries, in the same form.

@@ -1,9 +1,9 @@
 //! The not-null bitmap of a column, and whether any row is null.
 //!
-//! Where no row is null, a comparison of a block does not read the bitmap. The mark is set by the first null and never
+//! Where no row is null, a comparison of a block does not read the bitmap. The flag is set by the first null and never
 //! cleared, since rows are only appended.
 
-ghost use Rattle.std.specs.Prelude.{◌≡◌, ℕ, ◌+◌, ◌*◌, ◌^◌, ◌≤◌, ◌<◌, ◌&&◌, [], ◌∷◌, ◌++◌, length, false, slice_index_or, IsTrue, IfOk, IsOk, OnOk, OnErr};
+ghost use Rattle.std.specs.Prelude.{◌≡◌, ◌↔◌, ℕ, ◌+◌, ◌*◌, ◌^◌, ◌≤◌, ◌<◌, ◌&&◌, [], ◌∷◌, ◌++◌, length, false, slice_index_or, IsTrue, IfOk, IsOk, OnOk, OnErr};
 ghost use Rattle.std.specs.Int.{bit_at};
 ghost use Rattle.bsi_bits.specs.BitList.{max_block, max_len, word_count};
 ghost use Rattle.bsi_bits.specs.Packed.{bit_of, bits_of};
@@ -58,6 +58,13 @@ impl NotNull {
         ensures full { length self.now.bits + self.now.room ≤ max_len }
     {
         self.bits.len()
+    }
+
+    /// Returns whether there is no row.
+    pub fn is_empty(&self) -> bool
+        ensures { IsTrue result ↔ (self.now.bits ≡ []) }
+    {
+        self.bits.is_empty()
     }
 
     /// Returns how many more rows can be appended without allocating memory. There are never more than 2^32 in all.

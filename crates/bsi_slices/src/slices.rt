@@ -12,7 +12,7 @@ ghost use Rattle.bsi_slices.specs.Totals.{numbers_at, IsLeastOf, IsGreatestOf};
 use crate::NoMemory;
 use crate::column::{Column, Op};
 use crate::not_null::NotNull;
-use crate::transposing::{mark_present, place_numbers, transpose};
+use crate::transposing::{mark_not_null, place_numbers, transpose};
 use bsi_bits::{Bitmaps, Bits};
 use compare::{keep_selected, select};
 use std::alloc::Global;
@@ -29,7 +29,7 @@ pub use ends::End;
 #[derive(Drop)]
 pub struct Slices {
     slices: Bitmaps,
-    present: NotNull,
+    not_null: NotNull,
 }
 
 // Clauses see the width, the list of rows, and for how many more there is room.
@@ -41,11 +41,11 @@ impl Model for Slices {
 
     ghost view = { λ c. record {
       width = length c.slices.vectors;
-      entries = entries_in c.present.bits c.slices.vectors;
-      room = min c.slices.room c.present.room;
+      entries = entries_in c.not_null.bits c.slices.vectors;
+      room = min c.slices.room c.not_null.room;
     } };
 
-    ghost invariant = { λ c. IsSliced c.present.bits c.slices.vectors };
+    ghost invariant = { λ c. IsSliced c.not_null.bits c.slices.vectors };
 }
 
 impl Slices {
@@ -58,7 +58,7 @@ impl Slices {
         let slices = Bitmaps::new(alloc, w as usize)?;
         Ok(Slices {
             slices,
-            present: NotNull::new(alloc),
+            not_null: NotNull::new(alloc),
         })
     }
 
@@ -88,7 +88,7 @@ impl Slices {
     {
         keep_selected(
             self.slices.as_slice(),
-            &self.present,
+            &self.not_null,
             op,
             constant,
             at,
@@ -113,37 +113,37 @@ impl Column for Slices {
     }
 
     fn len(&self) -> u64 {
-        self.present.len()
+        self.not_null.len()
     }
 
     fn room(&self) -> u64 {
-        self.slices.room().min(self.present.room())
+        self.slices.room().min(self.not_null.room())
     }
 
     fn reserve(&mut self, more: u64) -> Result<(), NoMemory> {
-        reserve_rows(&mut self.slices, &mut self.present, more)
+        reserve_rows(&mut self.slices, &mut self.not_null, more)
     }
 
     fn push_reserved(&mut self, entry: Option<u64>) {
-        push_row(&mut self.slices, &mut self.present, entry);
+        push_row(&mut self.slices, &mut self.not_null, entry);
     }
 
     fn push_block_reserved(&mut self, block: &[Option<u64>]) {
-        push_rows(&mut self.slices, &mut self.present, block);
+        push_rows(&mut self.slices, &mut self.not_null, block);
     }
 
     fn push_all_reserved(&mut self, other: &Slices) {
         self.slices.push_all_reserved(&other.slices);
-        self.present.push_all_reserved(&other.present);
+        self.not_null.push_all_reserved(&other.not_null);
         // The proof takes from this that there are at most 2^32 rows.
-        prove!(self.present.len() <= 1 << 32);
+        prove!(self.not_null.len() <= 1 << 32);
     }
 
     fn compare(&self, op: Op, constant: u64) -> Result<Bits, NoMemory> {
         select(
             *self.slices.allocator(),
             self.slices.as_slice(),
-            self.present.bits(),
+            self.not_null.bits(),
             op,
             constant,
         )
@@ -176,87 +176,87 @@ impl Column for Slices {
     }
 
     fn nulls_into(&self, out: &mut Bits) {
-        out.copy_from(self.present.bits());
+        out.copy_from(self.not_null.bits());
         out.flip();
     }
 
-    fn present(&self) -> &Bits {
-        self.present.bits()
+    fn not_null(&self) -> &Bits {
+        self.not_null.bits()
     }
 
     fn copy(&self) -> Result<Slices, NoMemory> {
         let slices = self.slices.copy()?;
         Ok(Slices {
             slices,
-            present: self.present.copy()?,
+            not_null: self.not_null.copy()?,
         })
     }
 }
 
 /// Makes room for `more` further rows. Whatever the result, the rows stay and there is no less room than before. That
 /// which has less room grows last, so a refused growth leaves the room as it was.
-fn reserve_rows(slices: &mut Bitmaps, present: &mut NotNull, more: u64) -> Result<(), NoMemory>
-    requires sliced { IsSliced present.old.bits slices.old.vectors }
-    requires below { length present.old.bits + more ≤ max_len }
-    ensures sliced { IsSliced present.new.bits slices.new.vectors }
+fn reserve_rows(slices: &mut Bitmaps, not_null: &mut NotNull, more: u64) -> Result<(), NoMemory>
+    requires sliced { IsSliced not_null.old.bits slices.old.vectors }
+    requires below { length not_null.old.bits + more ≤ max_len }
+    ensures sliced { IsSliced not_null.new.bits slices.new.vectors }
     ensures width { length slices.new.vectors ≡ length slices.old.vectors }
-    ensures entries { entries_in present.new.bits slices.new.vectors
-        ≡ entries_in present.old.bits slices.old.vectors }
-    ensures ok { OnOk result (more ≤ min slices.new.room present.new.room) }
-    ensures kept { min slices.old.room present.old.room ≤ min slices.new.room present.new.room }
-    ensures err { OnErr result (min slices.new.room present.new.room
-        ≡ min slices.old.room present.old.room) }
-    ensures refused { OnErr result (min slices.new.room present.new.room < more) }
-    ensures succeeds { more ≤ min slices.old.room present.old.room → IsOk result }
+    ensures entries { entries_in not_null.new.bits slices.new.vectors
+        ≡ entries_in not_null.old.bits slices.old.vectors }
+    ensures ok { OnOk result (more ≤ min slices.new.room not_null.new.room) }
+    ensures kept { min slices.old.room not_null.old.room ≤ min slices.new.room not_null.new.room }
+    ensures err { OnErr result (min slices.new.room not_null.new.room
+        ≡ min slices.old.room not_null.old.room) }
+    ensures refused { OnErr result (min slices.new.room not_null.new.room < more) }
+    ensures succeeds { more ≤ min slices.old.room not_null.old.room → IsOk result }
 {
-    if slices.room() < present.room() {
-        present.reserve(more)?;
+    if slices.room() < not_null.room() {
+        not_null.reserve(more)?;
         slices.reserve(more)
     } else {
         slices.reserve(more)?;
-        present.reserve(more)
+        not_null.reserve(more)
     }
 }
 
 /// Appends a row into room that is already there: each slice gets its binary place of the number, which is 0 if the row
 /// is null.
-fn push_row(slices: &mut Bitmaps, present: &mut NotNull, entry: Option<u64>)
-    requires sliced { IsSliced present.old.bits slices.old.vectors }
-    requires room { 0 < min slices.old.room present.old.room }
+fn push_row(slices: &mut Bitmaps, not_null: &mut NotNull, entry: Option<u64>)
+    requires sliced { IsSliced not_null.old.bits slices.old.vectors }
+    requires room { 0 < min slices.old.room not_null.old.room }
     requires below { number_or_zero entry < 2 ^ length slices.old.vectors }
-    ensures sliced { IsSliced present.new.bits slices.new.vectors }
+    ensures sliced { IsSliced not_null.new.bits slices.new.vectors }
     ensures width { length slices.new.vectors ≡ length slices.old.vectors }
-    ensures entries { entries_in present.new.bits slices.new.vectors
-        ≡ entries_in present.old.bits slices.old.vectors ++ entry ∷ [] }
-    ensures room { min slices.old.room present.old.room ≤ min slices.new.room present.new.room + 1 }
+    ensures entries { entries_in not_null.new.bits slices.new.vectors
+        ≡ entries_in not_null.old.bits slices.old.vectors ++ entry ∷ [] }
+    ensures room { min slices.old.room not_null.old.room ≤ min slices.new.room not_null.new.room + 1 }
 {
     let number = entry.unwrap_or(0);
     slices.push_places(number);
-    present.push_reserved(entry.is_some());
+    not_null.push_reserved(entry.is_some());
     // The proof takes from this that there are at most 2^32 rows.
-    prove!(present.len() <= 1 << 32);
+    prove!(not_null.len() <= 1 << 32);
 }
 
 /// Appends a block of rows into room that is already there: each slice gets the word of its binary place of the
 /// numbers.
-fn push_rows(slices: &mut Bitmaps, present: &mut NotNull, block: &[Option<u64>])
-    requires sliced { IsSliced present.old.bits slices.old.vectors }
+fn push_rows(slices: &mut Bitmaps, not_null: &mut NotNull, block: &[Option<u64>])
+    requires sliced { IsSliced not_null.old.bits slices.old.vectors }
     requires few { length block.now ≤ max_block }
-    requires room { length block.now ≤ min slices.old.room present.old.room }
+    requires room { length block.now ≤ min slices.old.room not_null.old.room }
     requires below { All (λ e. number_or_zero e < 2 ^ length slices.old.vectors) block.now }
-    ensures sliced { IsSliced present.new.bits slices.new.vectors }
+    ensures sliced { IsSliced not_null.new.bits slices.new.vectors }
     ensures width { length slices.new.vectors ≡ length slices.old.vectors }
-    ensures entries { entries_in present.new.bits slices.new.vectors
-        ≡ entries_in present.old.bits slices.old.vectors ++ block.now }
-    ensures room { min slices.old.room present.old.room
-        ≤ min slices.new.room present.new.room + length block.now }
+    ensures entries { entries_in not_null.new.bits slices.new.vectors
+        ≡ entries_in not_null.old.bits slices.old.vectors ++ block.now }
+    ensures room { min slices.old.room not_null.old.room
+        ≤ min slices.new.room not_null.new.room + length block.now }
 {
     let mut words = [0; 64];
     place_numbers(block, &mut words);
     transpose(&mut words);
     let count = block.len() as u64;
     slices.push_words(&words[..slices.as_slice().len()], count);
-    present.push_word_reserved(mark_present(block), count);
+    not_null.push_word_reserved(mark_not_null(block), count);
     // The proof takes from this that there are at most 2^32 rows.
-    prove!(present.len() <= 1 << 32);
+    prove!(not_null.len() <= 1 << 32);
 }

@@ -23,14 +23,14 @@ pub fn place_numbers(block: &[Option<u64>], numbers: &mut [u64; 64])
 }
 
 /// Returns the word whose bit `r` tells whether entry `r` of a block is a number.
-pub fn mark_present(block: &[Option<u64>]) -> u64
+pub fn mark_not_null(block: &[Option<u64>]) -> u64
     requires { length block.now ≤ max_block }
     ensures marks { bits_of (length block.now) (result ∷ []) ≡ map is_some block.now }
     ensures clear { result < 2 ^ length block.now }
 {
     let mut word = 0;
-    'entries: for r in 0..block.len() {
-        word |= (block[r].is_some() as u64) << r;
+    'entries: for (r, entry) in block.iter().enumerate() {
+        word |= (entry.is_some() as u64) << r;
     }
     word
 }

@@ -61,7 +61,7 @@ pub(crate) fn three_rows(alloc: Global, form: Form) -> Result<AnyColumn, MakingE
 }
 
 fn nulls_once(column: &AnyColumn) -> Result<Bits, NoMemory> {
-    let mut out = column.present().copy()?;
+    let mut out = column.not_null().copy()?;
     column.nulls_into(&mut out);
     Ok(out)
 }

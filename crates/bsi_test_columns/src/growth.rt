@@ -12,7 +12,7 @@ fn grows(column: &mut AnyColumn) -> bool {
 
 // Returns what a refused growth must not change.
 fn shown(column: &AnyColumn) -> (u64, u64, u64) {
-    (column.len(), column.size(), column.present().count())
+    (column.len(), column.size(), column.not_null().count())
 }
 
 // Appends an entry, and returns whether a refused growth changes nothing. The growth is then tried again.

@@ -30,7 +30,7 @@ fn equality_shows(column: &Decomposed<EqualityComponent>, i: u32, j: u32, wanted
 fn equality_stores(alloc: Global) -> Result<bool, MakingError> {
     let column = digits_of::<EqualityComponent>(alloc)?;
     Ok(
-        shows(column.present(), &NUMBERS)
+        shows(column.not_null(), &NUMBERS)
             && equality_shows(&column, 0, 2, &[false, false, true])
             && equality_shows(&column, 1, 1, &[true, false, false]),
     )
@@ -46,7 +46,7 @@ fn range_shows(column: &Decomposed<RangeComponent>, i: u32, j: u32, wanted: &[bo
 
 fn range_stores(alloc: Global) -> Result<bool, MakingError> {
     let column = digits_of::<RangeComponent>(alloc)?;
-    Ok(shows(column.present(), &NUMBERS) && range_shows(&column, 0, 0, &[true, true, false]))
+    Ok(shows(column.not_null(), &NUMBERS) && range_shows(&column, 0, 0, &[true, true, false]))
 }
 
 fn slice_shows(column: &Slices, i: u32, wanted: &[bool]) -> bool {
@@ -57,7 +57,7 @@ fn slices_store(alloc: Global) -> Result<bool, MakingError> {
     let mut column = no_slices(alloc, 2)?;
     append(&mut column, &ENTRIES)?;
     Ok(
-        shows(column.present(), &NUMBERS)
+        shows(column.not_null(), &NUMBERS)
             && slice_shows(&column, 0, &[true, false, false])
             && slice_shows(&column, 1, &[true, false, true]),
     )
@@ -107,7 +107,7 @@ fn compares_by_components<E: Encoding>(column: &Counted<E>) -> Result<bool, NoMe
 // Whether a sum asks each component.
 fn sums_by_components<E: Encoding>(column: &Counted<E>) -> bool {
     let (first, second) = (asked(column, 0), asked(column, 1));
-    let sum = column.sum(column.present());
+    let sum = column.sum(column.not_null());
     sum == 5 && asked(column, 0).1 > first.1 && asked(column, 1).1 > second.1
 }
 

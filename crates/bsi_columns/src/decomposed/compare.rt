@@ -37,9 +37,9 @@ impl<E: Encoding> Decomposed<E> {
     {
         match decide(op, constant, self.bases.size()) {
             Decision::Nothing => {
-                Bits::filled(*self.components.allocator(), self.present.len(), false)
+                Bits::filled(*self.components.allocator(), self.not_null.len(), false)
             }
-            Decision::Everything => self.present.bits().copy(),
+            Decision::Everything => self.not_null.bits().copy(),
             Decision::Tested(test) => self.select(test),
         }
     }
@@ -68,7 +68,7 @@ impl<E: Encoding> Decomposed<E> {
                 Ok(())
             }
             Decision::Everything => {
-                self.present.keep_in(at, block);
+                self.not_null.keep_in(at, block);
                 Ok(())
             }
             Decision::Tested(test) => self.keep_tested(test, at, block),
@@ -89,7 +89,7 @@ impl<E: Encoding> Decomposed<E> {
         let found = &mut buffer[..block.len()];
         if self.find_block(test, at, found) {
             keep_wanted(found, test.wanted, block);
-            self.present.keep_in(at, block);
+            self.not_null.keep_in(at, block);
         } else {
             keep_in(&self.select(test)?, at, block);
         }
@@ -102,9 +102,9 @@ impl<E: Encoding> Decomposed<E> {
         ensures { IfOk result (λ b. b.bits ≡ map (wants test) self.now.entries) }
     {
         match self.select_words(test)? {
-            Some(words) => Ok(Bits::from_words(words, self.present.len())),
+            Some(words) => Ok(Bits::from_words(words, self.not_null.len())),
             None => {
-                let found = self.present.bits().copy()?;
+                let found = self.not_null.bits().copy()?;
                 self.select_vectors(test, found)
             }
         }
@@ -118,7 +118,7 @@ impl<E: Encoding> Decomposed<E> {
         ensures bits { IfOk result (λ o. IfSome o (λ words. (p : ℕ) → p < length self.now.entries →
             bit_of words.items p ≡ slice_index_or (map (wants test) self.now.entries) p false)) }
     {
-        let len = self.present.bits().words().len();
+        let len = self.not_null.bits().words().len();
         let mut words = Vec::with_capacity(*self.components.allocator(), len)?;
         if self.select_blocks(test, len, &mut words)? {
             Ok(Some(words))
@@ -165,7 +165,7 @@ impl<E: Encoding> Decomposed<E> {
         if !test.wanted {
             flip(block);
         }
-        self.present.keep_in(at, block);
+        self.not_null.keep_in(at, block);
         true
     }
 

@@ -39,7 +39,7 @@ impl<E: Encoding> Decomposed<E> {
         'block: for k in 0..len.div_ceil(SEARCH_WORDS) {
             let at = SEARCH_WORDS * k;
             let block = &mut buffer[..SEARCH_WORDS.min(len - at)];
-            rows_into(found, self.present(), at, block);
+            rows_into(found, self.not_null(), at, block);
             let better = self.better_in_block(end, best, at, block)?;
             best = better.or(best);
         }
@@ -62,8 +62,8 @@ impl<E: Encoding> Decomposed<E> {
         ensures { IfSome result (IsBetterIn end (bit_of block.old)
             (λ p. number_at self.now.entries (64 * at + p)) (64 * length block.old) best) }
     {
-        let present = self.present();
-        if !meets(present, at, block) {
+        let not_null = self.not_null();
+        if !meets(not_null, at, block) {
             return Some(None);
         }
         let bases = self.bases();
@@ -74,7 +74,7 @@ impl<E: Encoding> Decomposed<E> {
             let (base, weight) = (bases.base(i), bases.weight(i));
             let above = number * u64::from(base);
             let limit = limit_of(end, best, above, base, weight);
-            match keep_nearest(self.component(i), present, end, limit, at, block) {
+            match keep_nearest(self.component(i), not_null, end, limit, at, block) {
                 EndDigit::Unanswered => return None,
                 EndDigit::Past => return Some(None),
                 EndDigit::Digit(digit) => number = above + u64::from(digit),
@@ -88,17 +88,17 @@ impl<E: Encoding> Decomposed<E> {
 }
 
 /// Writes the rows of a block that are found and not null.
-fn rows_into(found: &Bits, present: &Bits, at: usize, block: &mut [u64])
+fn rows_into(found: &Bits, not_null: &Bits, at: usize, block: &mut [u64])
     requires found { at + length block.old ≤ word_count (length found.now.bits) }
-    requires present { at + length block.old ≤ word_count (length present.now.bits) }
+    requires not_null { at + length block.old ≤ word_count (length not_null.now.bits) }
     ensures len { length block.new ≡ length block.old }
     ensures bits { (p : ℕ) → p < 64 * length block.old → bit_of block.new p
         ≡ (slice_index_or found.now.bits (64 * at + p) false
-        && slice_index_or present.now.bits (64 * at + p) false) }
+        && slice_index_or not_null.now.bits (64 * at + p) false) }
 {
     block.fill(u64::MAX);
     keep_in(found, at, block);
-    keep_in(present, at, block);
+    keep_in(not_null, at, block);
 }
 
 /// Returns the digit past which no number can come before the best number so far. `above` is what the more significant
@@ -119,7 +119,8 @@ fn limit_of(end: End, best: Option<u64>, above: u64, base: u32, weight: u64) -> 
     }
 }
 
-/// Finds the digit at an end among those of a block's rows, if it is within a limit.
+/// Finds the digit at an end among those of a block's rows, if it is within a limit. It is a function, since a proof
+/// loses what a `match` decides where the arms join.
 fn end_digit<E: Encoding>(component: &E, end: End, limit: u32, at: usize, block: &[u64]) -> EndDigit
     requires below { limit < E.base_of component.now }
     requires within { at + length block.now ≤ word_count (length (E.digits component.now)) }
@@ -138,7 +139,7 @@ fn end_digit<E: Encoding>(component: &E, end: End, limit: u32, at: usize, block:
 /// Keeps those rows of a block, none of which is null, whose digit is at an end, if this digit is within a limit.
 fn keep_nearest<E: Encoding>(
     component: &E,
-    present: &Bits,
+    not_null: &Bits,
     end: End,
     limit: u32,
     at: usize,
@@ -146,9 +147,9 @@ fn keep_nearest<E: Encoding>(
 ) -> EndDigit
     requires below { limit < E.base_of component.now }
     requires within { at + length block.old ≤ word_count (length (E.digits component.now)) }
-    requires same { length present.now.bits ≡ length (E.digits component.now) }
+    requires same { length not_null.now.bits ≡ length (E.digits component.now) }
     requires rows { (p : ℕ) → p < 64 * length block.old → bit_of block.old p ≡ true →
-        slice_index_or present.now.bits (64 * at + p) false ≡ true }
+        slice_index_or not_null.now.bits (64 * at + p) false ≡ true }
     requires some { HasMarked (bit_of block.old) (64 * length block.old) }
     ensures len { length block.new ≡ length block.old }
     ensures digit { KeepsNearest end limit (bit_of block.old) (bit_of block.new)
@@ -161,7 +162,7 @@ fn keep_nearest<E: Encoding>(
         if !component.eq_block(digit, at, block) {
             return EndDigit::Unanswered;
         }
-        keep_in(present, at, block);
+        keep_in(not_null, at, block);
     }
     answer
 }

@@ -36,7 +36,7 @@ impl<E: Encoding> Decomposed<E> {
         ensures { IfOk result (IsRanked (numbers_at found.now.bits self.now.entries) k) }
     {
         let mut chosen = found.copy()?;
-        chosen.and_with(self.present());
+        chosen.and_with(self.not_null());
         let bases = self.bases();
         let (mut number, mut rank) = (0, k);
         let mut i = bases.len();

@@ -22,7 +22,7 @@ impl<E: Encoding> Decomposed<E> {
     {
         let mut part = found.copy()?;
         self.narrow_vectors(test, &mut part, &mut found);
-        keep_answers(&mut found, test.wanted, self.present.bits());
+        keep_answers(&mut found, test.wanted, self.not_null.bits());
         Ok(found)
     }
 
@@ -96,13 +96,13 @@ fn narrow_into<E: Encoding>(
 }
 
 /// Keeps the rows that are not null among those that pass a test or, as wanted, among those that fail it.
-fn keep_answers(found: &mut Bits, wanted: bool, present: &Bits)
-    requires { length found.old.bits ≡ length present.now.bits }
+fn keep_answers(found: &mut Bits, wanted: bool, not_null: &Bits)
+    requires { length found.old.bits ≡ length not_null.now.bits }
     ensures { found.new.bits
-        ≡ zip2 (λ answer there. as_wanted wanted answer && there) found.old.bits present.now.bits }
+        ≡ zip2 (λ answer there. as_wanted wanted answer && there) found.old.bits not_null.now.bits }
 {
     if !wanted {
         found.flip();
     }
-    found.and_with(present);
+    found.and_with(not_null);
 }

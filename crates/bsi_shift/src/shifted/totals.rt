@@ -25,7 +25,7 @@ impl Shifted {
     {
         // The proof takes from this that there are at most 2^32 rows, so the offset is added at most 2^32 times.
         prove!(found.len() <= 1 << 32);
-        let numbers = found.count_and(self.stored.present());
+        let numbers = found.count_and(self.stored.not_null());
         sum_from(self.stored.sum(found), self.offset, numbers)
     }
 

@@ -34,21 +34,21 @@ pub(crate) const REGISTER_WORDS: usize = 16;
 pub fn select(
     alloc: Global,
     slices: &[Bits],
-    present: &Bits,
+    not_null: &Bits,
     op: Op,
     constant: u64,
 ) -> Result<Bits, NoMemory>
-    requires { IsSliced present.now.bits slices.now }
+    requires { IsSliced not_null.now.bits slices.now }
     ensures { IfOk result (λ b. b.bits
-        ≡ map (selects op constant) (entries_in present.now.bits slices.now)) }
+        ≡ map (selects op constant) (entries_in not_null.now.bits slices.now)) }
 {
     match decide(op, constant, 1 << slices.len()) {
-        Decision::Nothing => Bits::filled(alloc, present.len(), false),
-        Decision::Everything => present.copy(),
+        Decision::Nothing => Bits::filled(alloc, not_null.len(), false),
+        Decision::Everything => not_null.copy(),
         Decision::Tested(test) => {
-            let mut words = present.copy()?.into_words();
+            let mut words = not_null.copy()?.into_words();
             keep(slices, test, 0, &mut words);
-            Ok(Bits::from_words(words, present.len()))
+            Ok(Bits::from_words(words, not_null.len()))
         }
     }
 }
@@ -57,22 +57,22 @@ pub fn select(
 /// for the 64 rows from row `64 * at` on. It reads no slice if the answer is already known.
 pub fn keep_selected(
     slices: &[Bits],
-    present: &NotNull,
+    not_null: &NotNull,
     op: Op,
     constant: u64,
     at: usize,
     block: &mut [u64],
 )
-    requires sliced { IsSliced present.now.bits slices.now }
-    requires within { at + length block.old ≤ word_count (length present.now.bits) }
-    ensures { KeepsRows (selects op constant) (entries_in present.now.bits slices.now) at block.old
+    requires sliced { IsSliced not_null.now.bits slices.now }
+    requires within { at + length block.old ≤ word_count (length not_null.now.bits) }
+    ensures { KeepsRows (selects op constant) (entries_in not_null.now.bits slices.now) at block.old
         block.new }
 {
     match decide(op, constant, 1 << slices.len()) {
         Decision::Nothing => block.fill(0),
-        Decision::Everything => present.keep_in(at, block),
+        Decision::Everything => not_null.keep_in(at, block),
         Decision::Tested(test) => {
-            present.keep_in(at, block);
+            not_null.keep_in(at, block);
             keep(slices, test, at, block);
         }
     }
@@ -159,8 +159,8 @@ fn above_block<const N: usize>(slices: &[Bits], constant: u64, at: usize) -> Sim
     let mut above = Simd::<u64, N>::splat(0);
     'slices: for place in 0..slices.len() {
         let words = words_at(slices, place);
-        let lanes = Simd::<u64, N>::from_slice(&words[at..]);
-        above = stepped(above, lanes, constant >> place & 1 == 1);
+        let slice = Simd::<u64, N>::from_slice(&words[at..]);
+        above = stepped(above, slice, constant >> place & 1 == 1);
     }
     above
 }
@@ -180,19 +180,19 @@ fn equal_block<const N: usize>(slices: &[Bits], constant: u64, at: usize) -> Sim
     let mut found = Simd::<u64, N>::splat(u64::MAX);
     'slices: for place in 0..slices.len() {
         let words = words_at(slices, place);
-        let lanes = Simd::<u64, N>::from_slice(&words[at..]);
-        found = cut(found, lanes, constant >> place & 1 == 0);
+        let slice = Simd::<u64, N>::from_slice(&words[at..]);
+        found = cut(found, slice, constant >> place & 1 == 0);
     }
     found
 }
 
-/// Returns which rows are above the constant once one more binary place is taken in: `lanes` is the slice of that
+/// Returns which rows are above the constant once one more binary place is taken in: `slice` is the slice of that
 /// place, and `is_one` tells whether the place is 1 in the constant.
-fn stepped<const N: usize>(above: Simd<u64, N>, lanes: Simd<u64, N>, is_one: bool) -> Simd<u64, N>
-    ensures { result ≡ (if is_one then zip2 bit_and above.entry lanes.entry else zip2 bit_or
-        above.entry lanes.entry) }
+fn stepped<const N: usize>(above: Simd<u64, N>, slice: Simd<u64, N>, is_one: bool) -> Simd<u64, N>
+    ensures { result ≡ (if is_one then zip2 bit_and above.entry slice.entry else zip2 bit_or
+        above.entry slice.entry) }
 {
-    if is_one { above & lanes } else { above | lanes }
+    if is_one { above & slice } else { above | slice }
 }
 
 /// Keeps the bits that are set in `found` or, if negated, those that are not.

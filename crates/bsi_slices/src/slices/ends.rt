@@ -82,7 +82,7 @@ impl Slices {
         let mut best = before;
         'block: for k in 0..(found.words().len() - from) / N {
             let at = from + N * k;
-            let rows = block_at::<N>(found, at) & block_at::<N>(self.present(), at);
+            let rows = block_at::<N>(found, at) & block_at::<N>(self.not_null(), at);
             best = self.better_in_block(rows, end, at, best).or(best);
         }
         best
@@ -132,6 +132,8 @@ fn has_row<const N: usize>(block: Simd<u64, N>) -> bool
     know_fits(words);
     !is_empty(words)
 }
+
+// Each choice that follows is a function: a proof loses what an `if` or a `match` decides where the arms join.
 
 /// Returns whether the end is the least one, where a clear binary place comes first.
 fn is_least(end: End) -> bool

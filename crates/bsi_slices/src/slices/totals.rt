@@ -31,7 +31,7 @@ impl Slices {
         // The proof takes from this that there is a slice, and that each number is below two to the power of the width.
         prove!(self.width() <= 63);
         let mut rows = found.copy()?;
-        rows.and_with(self.present());
+        rows.and_with(self.not_null());
         Ok(rows_of_rank(self.slices.as_slice(), k, rows).number)
     }
 }

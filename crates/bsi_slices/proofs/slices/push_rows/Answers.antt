@@ -34,14 +34,14 @@ returns-clause-sliced c =
     let count = length c.as_slice.result.now in
     let words = c.transpose.new.words in
     let few = ap length c.as_slice.ensures.vectors in
-    let marks : c.push_word_reserved.new.self.bits ≡ c.args.present.now.bits ++ map is_some c.args.block.now =
-    c.push_word_reserved.ensures.bits ∙ ap (λ bits. c.args.present.now.bits ++ bits) c.mark_present.ensures.marks in
+    let marks : c.push_word_reserved.new.self.bits ≡ c.args.not_null.now.bits ++ map is_some c.args.block.now =
+    c.push_word_reserved.ensures.bits ∙ ap (λ bits. c.args.not_null.now.bits ++ bits) c.mark_not_null.ensures.marks in
     let pushed : (k : ℕ) → k < length c.args.slices.now.vectors → bits_at c.push_words.new.self.vectors k ≡ bits_at c.args.slices.now.vectors k ++ map (λ e. bit_at (number_or_zero e) k == 1) c.args.block.now =
     λ k within.
     c.push_words.ensures.bits k within
     ∙ ap (λ word. bits_at c.args.slices.now.vectors k ++ bits_of (length c.args.block.now) (word ∷ [])) (get_or-take count words k 0 (omega (arith, within, few)))
     ∙ ap (λ bits. bits_at c.args.slices.now.vectors k ++ bits) (word_is c.args.block.now c.place_numbers.new.numbers words c.requires.few c.place_numbers.ensures.numbers c.transpose.ensures.turned k (omega (arith, within, c.requires.sliced.few))) in
-    sliced_more c.args.present.now.bits c.push_word_reserved.new.self.bits c.args.slices.now.vectors c.push_words.new.self.vectors c.args.block.now c.requires.sliced
+    sliced_more c.args.not_null.now.bits c.push_word_reserved.new.self.bits c.args.slices.now.vectors c.push_words.new.self.vectors c.args.block.now c.requires.sliced
     (λ i within. All-get_or (λ e. number_or_zero e < 2 ^ length c.args.slices.now.vectors) c.args.block.now i None within c.requires.below) marks c.push_words.ensures.count pushed (omega (arith, c.len.ensures))
 
 pub returns-clause-entries : goal.returns-clause-entries
@@ -49,12 +49,12 @@ returns-clause-entries c =
     let count = length c.as_slice.result.now in
     let words = c.transpose.new.words in
     let few = ap length c.as_slice.ensures.vectors in
-    let marks : c.push_word_reserved.new.self.bits ≡ c.args.present.now.bits ++ map is_some c.args.block.now =
-    c.push_word_reserved.ensures.bits ∙ ap (λ bits. c.args.present.now.bits ++ bits) c.mark_present.ensures.marks in
+    let marks : c.push_word_reserved.new.self.bits ≡ c.args.not_null.now.bits ++ map is_some c.args.block.now =
+    c.push_word_reserved.ensures.bits ∙ ap (λ bits. c.args.not_null.now.bits ++ bits) c.mark_not_null.ensures.marks in
     let pushed : (k : ℕ) → k < length c.args.slices.now.vectors → bits_at c.push_words.new.self.vectors k ≡ bits_at c.args.slices.now.vectors k ++ map (λ e. bit_at (number_or_zero e) k == 1) c.args.block.now =
     λ k within.
     c.push_words.ensures.bits k within
     ∙ ap (λ word. bits_at c.args.slices.now.vectors k ++ bits_of (length c.args.block.now) (word ∷ [])) (get_or-take count words k 0 (omega (arith, within, few)))
     ∙ ap (λ bits. bits_at c.args.slices.now.vectors k ++ bits) (word_is c.args.block.now c.place_numbers.new.numbers words c.requires.few c.place_numbers.ensures.numbers c.transpose.ensures.turned k (omega (arith, within, c.requires.sliced.few))) in
-    entries_more c.args.present.now.bits c.push_word_reserved.new.self.bits c.args.slices.now.vectors c.push_words.new.self.vectors c.args.block.now c.requires.sliced
+    entries_more c.args.not_null.now.bits c.push_word_reserved.new.self.bits c.args.slices.now.vectors c.push_words.new.self.vectors c.args.block.now c.requires.sliced
     (λ i within. All-get_or (λ e. number_or_zero e < 2 ^ length c.args.slices.now.vectors) c.args.block.now i None within c.requires.below) marks c.push_words.ensures.count pushed

@@ -8,7 +8,7 @@ use Rattle.bsi_columns.specs.Ends.{comes_first, leads, yields, number_at}
 use Rattle.bsi_columns.specs.BlockEnds.{IsPast, IsNarrowedTo}
 use Rattle.bsi_columns.proofs.Ranking.{next_small}
 use Rattle.bsi_columns.proofs.EndBlocks.{IsNearest, nearest_start, nearest_end, number_small}
-use Rattle.bsi_columns.proofs.EndDigits.{past_leads, row_digit, both_first, kept_marked, digit_low, component_step, present_row}
+use Rattle.bsi_columns.proofs.EndDigits.{past_leads, row_digit, both_first, kept_marked, digit_low, component_step, not_null_row}
 use Rattle.bsi_columns.proofs.decomposed.Decomposed.better_in_block.Goals as goal
 
 -- a number with room for its digits has room for a digit more
@@ -31,7 +31,7 @@ components-init g c =
     record {
       within = omega (arith, c.len-i.ensures.len);
       nearest = subst AtWeight (sym whole) (nearest_start c.args.end marked numbers (64 * length c.args.block.now) size
-          (row.0, row.1, both_first (marked row.0) (get_or c.present-present.result.now.bits (64 * c.args.at + row.0) false) row.2)
+          (row.0, row.1, both_first (marked row.0) (get_or c.not_null-not_null.result.now.bits (64 * c.args.at + row.0) false) row.2)
           (λ p. number_small entries size positive below (64 * c.args.at + p)));
       small = omega (arith, whole);
       better = λ none. absurd {A = yields c.args.end 0 c.args.best} (omega (arith, none, c.len-i.ensures.within));
@@ -63,7 +63,7 @@ keep_nearest-requires-clause-rows g c = λ p below there.
     let entries = c.args.self.now.entries in
     let marked = kept_marked c.args.end (bit_of c.args.block.now) (λ p. number_at entries (64 * c.args.at + p)) (64 * length c.args.block.now) (weight c.bases-bases.result.now c.components.i) c.components.number
     (bit_of c.components.block) c.components.invariant.nearest p within there in
-    ap (λ bits. get_or bits (64 * c.args.at + p) false) c.present-present.ensures ∙ present_row entries (64 * c.args.at + p) (c.requires.rows p within marked)
+    ap (λ bits. get_or bits (64 * c.args.at + p) false) c.not_null-not_null.ensures ∙ not_null_row entries (64 * c.args.at + p) (c.requires.rows p within marked)
 
 -- each row has a digit past the limit
 pub returns-in-Past : goal.returns-in-Past

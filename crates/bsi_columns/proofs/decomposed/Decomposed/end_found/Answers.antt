@@ -19,7 +19,7 @@ block-preserved g c =
     let to : 64 * at + 64 * n ≡ 64 * min (32 * (c.block.k + 1)) len = omega (arith, long, c.block-test.true, c.div_ceil-k-end.ensures) in
     let bits : (p : ℕ) → p < 64 * n → bit_of rows p ≡ has_number found entries (64 * at + p) = λ p below.
     c.rows_into.ensures.bits p (omega (arith, below, c.rows_into.ensures.len))
-    ∙ ap (λ bs. get_or found (64 * at + p) false && get_or bs (64 * at + p) false) c.present.ensures ∙ number_row found entries (64 * at + p) in
+    ∙ ap (λ bs. get_or found (64 * at + p) false && get_or bs (64 * at + p) false) c.not_null.ensures ∙ number_row found entries (64 * at + p) in
     let AtPlace : ℕ → Type 0 = λ r. IsEndUpto c.args.end found entries (64 * r) c.block.best in
     let AtRow : ℕ → Type 0 = λ r. IsEndUpto c.args.end found entries r (option_or c.in_ok-better.better c.block.best) in
     let more = block_more c.args.end found entries (64 * at) (64 * n) (bit_of rows) bits c.block.best c.in_ok-better.better (subst AtPlace from c.block.invariant) c.in_ok-better.ensures in

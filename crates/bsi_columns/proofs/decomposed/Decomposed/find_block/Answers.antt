@@ -10,7 +10,7 @@ use Rattle.bsi_columns.proofs.decomposed.Decomposed.find_block.Goals as goal
 pub loop-i-init : goal.loop-i-init
 loop-i-init g c =
     let inside = c.self.inside in
-    let entries = entries_of inside.bases inside.present.bits (map g.E.Encoding.digits inside.components.items) in
+    let entries = entries_of inside.bases inside.not_null.bits (map g.E.Encoding.digits inside.components.items) in
     rw (← c.self.view_is) (narrowed_start c.len-i-end.ensures.valid c.args.test.relation c.args.test.constant entries c.args.at c.args.block.now)
 
 pub narrow_digit-requires-clause-within : goal.narrow_digit-requires-clause-within
@@ -19,7 +19,7 @@ narrow_digit-requires-clause-within g c =
     let items = inside.components.items in
     let bs = inside.bases in
     let kept = c.self.invariant.0 in
-    let entries = entries_of bs inside.present.bits (map g.E.Encoding.digits items) in
+    let entries = entries_of bs inside.not_null.bits (map g.E.Encoding.digits items) in
     let within : c.loop-i.i < length items = omega (arith, kept.count, length-map items g.E.Encoding.digits) in
     let digits : g.E.Encoding.digits c.index.result.now ≡ map (λ e. digit_of bs (number_or_zero e) c.loop-i.i) entries =
     sym (read_map g.E.Encoding.digits items c.loop-i.i c.index.result.now [] within c.index.ensures) ∙ kept.digits_are c.loop-i.i (omega arith) in
@@ -33,7 +33,7 @@ loop-i-preserved g c =
     let items = inside.components.items in
     let bs = inside.bases in
     let kept = c.self.invariant.0 in
-    let entries = entries_of bs inside.present.bits (map g.E.Encoding.digits items) in
+    let entries = entries_of bs inside.not_null.bits (map g.E.Encoding.digits items) in
     let within : c.loop-i.i < length items = omega (arith, kept.count, length-map items g.E.Encoding.digits) in
     let digits : g.E.Encoding.digits c.index.result.now ≡ map (λ e. digit_of bs (number_or_zero e) c.loop-i.i) entries =
     sym (read_map g.E.Encoding.digits items c.loop-i.i c.index.result.now [] within c.index.ensures) ∙ kept.digits_are c.loop-i.i (omega arith) in
@@ -46,7 +46,7 @@ pub returns-clause-bits : goal.returns-clause-bits
 returns-clause-bits g c = λ p below row.
     let inside = c.self.inside in
     let bs = inside.bases in
-    let entries = entries_of bs inside.present.bits (map g.E.Encoding.digits inside.components.items) in
+    let entries = entries_of bs inside.not_null.bits (map g.E.Encoding.digits inside.components.items) in
     let narrowed : IsNarrowed bs c.args.test.relation c.args.test.constant entries c.args.at c.loop-i.i c.loop-i.block = rw (← c.self.view_is) at c.loop-i.invariant in
     let small : c.args.test.constant < product bs = rw (← c.self.view_is) at c.requires.below in
     let all : c.loop-i.i ≡ length bs = omega arith in

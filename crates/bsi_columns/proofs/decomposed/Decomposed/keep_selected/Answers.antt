@@ -18,7 +18,7 @@ use Rattle.bsi_columns.proofs.decomposed.Decomposed.keep_selected.Goals as goal
 pub returns-in-Nothing-clause-rows : goal.returns-in-Nothing-clause-rows
 returns-in-Nothing-clause-rows g c =
     let bs = c.self.inside.bases in
-    let entries = entries_of bs c.self.inside.present.bits (map g.E.Encoding.digits c.self.inside.components.items) in
+    let entries = entries_of bs c.self.inside.not_null.bits (map g.E.Encoding.digits c.self.inside.components.items) in
     let agree : (x : ℕ) → x < product bs → decides c.decide.result x ≡ compares c.args.op x c.args.constant = λ x below. c.decide.ensures.decided x (omega (arith, c.size.ensures.size)) in
     let filled : c.fill.new.self ≡ replicate (length c.args.block.now) 0 = c.fill.ensures.after (λ y same. same) in
     rw (← c.self.view_is)
@@ -33,7 +33,7 @@ returns-in-Nothing-clause-rows g c =
 pub returns-in-Everything-clause-rows : goal.returns-in-Everything-clause-rows
 returns-in-Everything-clause-rows g c =
     let bs = c.self.inside.bases in
-    let entries = entries_of bs c.self.inside.present.bits (map g.E.Encoding.digits c.self.inside.components.items) in
+    let entries = entries_of bs c.self.inside.not_null.bits (map g.E.Encoding.digits c.self.inside.components.items) in
     let agree : (x : ℕ) → x < product bs → decides c.decide.result x ≡ compares c.args.op x c.args.constant = λ x below. c.decide.ensures.decided x (omega (arith, c.size.ensures.size)) in
     rw (← c.self.view_is)
     (λ (p : ℕ) (below : p < 64 * length c.args.block.now).
@@ -42,14 +42,14 @@ returns-in-Everything-clause-rows g c =
     let small : number_or_zero e < product bs = all_read (λ e. number_or_zero e < product bs) entries r (omega (arith, size_at_least_two c.size.ensures.valid)) c.self.invariant.0.below in
     c.keep_in.ensures.bits p below
     ∙ ap (◌&&◌ (bit_of c.args.block.now p))
-    (ap (λ bits. get_or bits r false) c.self.invariant.0.present_is ∙ map_read is_some entries r
+    (ap (λ bits. get_or bits r false) c.self.invariant.0.not_null_is ∙ map_read is_some entries r
     ∙ entry_all c.args.op c.args.constant (product bs) c.decide.result agree c.in-Everything.is e small))
 
 -- the numbers that pass a test, or fail it
 pub returns-in-Tested-clause-rows : goal.returns-in-Tested-clause-rows
 returns-in-Tested-clause-rows g c =
     let bs = c.self.inside.bases in
-    let entries = entries_of bs c.self.inside.present.bits (map g.E.Encoding.digits c.self.inside.components.items) in
+    let entries = entries_of bs c.self.inside.not_null.bits (map g.E.Encoding.digits c.self.inside.components.items) in
     let test = c.in-Tested.test in
     let agree : (x : ℕ) → x < product bs → decides c.decide.result x ≡ compares c.args.op x c.args.constant = λ x below. c.decide.ensures.decided x (omega (arith, c.size.ensures.size)) in
     let tested = rw (← c.self.view_is) at c.keep_tested.ensures.rows in

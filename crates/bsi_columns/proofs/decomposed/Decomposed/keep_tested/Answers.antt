@@ -14,8 +14,8 @@ use Rattle.bsi_columns.proofs.decomposed.Decomposed.keep_tested.Goals as goal
 pub returns-then-find_block-clause-rows : goal.returns-then-find_block-clause-rows
 returns-then-find_block-clause-rows g c =
     let inside = c.self.inside in
-    let present = inside.present.bits in
-    let entries = entries_of inside.bases present (map g.E.Encoding.digits inside.components.items) in
+    let not_null = inside.not_null.bits in
+    let entries = entries_of inside.bases not_null (map g.E.Encoding.digits inside.components.items) in
     let block = c.args.block.now in
     let test = λ (x : ℕ). relates c.args.test.relation x c.args.test.constant in
     let wanted = c.args.test.wanted in
@@ -27,7 +27,7 @@ returns-then-find_block-clause-rows g c =
     let r = 64 * c.args.at + p in
     let was = bit_of block p in
     let entry = get_or entries r None in
-    let there : get_or present r false ≡ is_some entry = ap (λ bits. get_or bits r false) c.self.invariant.0.present_is ∙ map_read is_some entries r in
+    let there : get_or not_null r false ≡ is_some entry = ap (λ bits. get_or bits r false) c.self.invariant.0.not_null_is ∙ map_read is_some entries r in
     c.keep_in.ensures.bits p (omega (arith, c.keep_wanted.auto.block, below))
     ∙ ap₂ ◌&&◌ (c.keep_wanted.ensures.bits p below) there
     ∙ elim (cases_lt r (length entries)) [

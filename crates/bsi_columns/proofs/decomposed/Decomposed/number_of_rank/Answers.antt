@@ -19,7 +19,7 @@ components-init g c =
     let found = c.args.found.now.bits in
     let IsBelow : List ℕ → Type 0 = λ bs. All (λ e. number_or_zero e < product bs) entries in
     let below = subst IsBelow (sym c.bases-bases.ensures.bases) c.bases-bases.ensures.below in
-    let chosen : c.and_with.new.self.bits ≡ zip2 ◌&&◌ found (map is_some entries) = c.and_with.ensures.bits ∙ ap₂ (zip2 ◌&&◌) c.in_ok-chosen.ensures c.present.ensures in
+    let chosen : c.and_with.new.self.bits ≡ zip2 ◌&&◌ found (map is_some entries) = c.and_with.ensures.bits ∙ ap₂ (zip2 ◌&&◌) c.in_ok-chosen.ensures c.not_null.ensures in
     let start = rung_start bs c.len-i.ensures.valid found entries c.args.k c.and_with.new.self.bits below chosen c.requires.there in
     let AtHeight : ℕ → Type 0 = λ i. IsRung bs found entries c.args.k i 0 c.args.k c.and_with.new.self.bits in
     record {

@@ -13,14 +13,14 @@ pub returns-in-Some : goal.returns-in-Some
 returns-in-Some g c =
     let inside = c.self.inside in
     let bs = inside.bases in
-    let present = inside.present.bits in
+    let not_null = inside.not_null.bits in
     let ds = map g.E.Encoding.digits inside.components.items in
-    let entries = entries_of bs present ds in
+    let entries = entries_of bs not_null ds in
     let chosen = map (answers (λ x. relates c.args.test.relation x c.args.test.constant) c.args.test.wanted) entries in
     let told : IfSome c.in_ok-words.field-0 (λ words. (p : ℕ) → p < length entries → bit_of words.items p ≡ get_or chosen p false) =
     rw (← c.self.view_is) at c.in_ok-words.ensures.bits in
     let bits = rw c.in-Some.is at told in
-    let rows : c.len.result ≡ length entries = c.len.ensures.len ∙ rows_of bs present ds entries c.self.invariant.0 in
+    let rows : c.len.result ≡ length entries = c.len.ensures.len ∙ rows_of bs not_null ds entries c.self.invariant.0 in
     let long : length chosen ≡ c.len.result = length-map entries _ ∙ sym rows in
     rw (← c.self.view_is)
     (c.from_words.ensures ∙ sym (bits_are c.len.result c.in-Some.words.items chosen long (λ i below. sym (bits i (omega (arith, rows))))))

@@ -11,8 +11,8 @@ use Rattle.bsi_columns.proofs.decomposed.Decomposed.select_block.Goals.{then-not
 pub returns : goal.returns
 returns g c = λ p below row.
     let inside = c.self.inside in
-    let present = inside.present.bits in
-    let entries = entries_of inside.bases present (map g.E.Encoding.digits inside.components.items) in
+    let not_null = inside.not_null.bits in
+    let entries = entries_of inside.bases not_null (map g.E.Encoding.digits inside.components.items) in
     let at = c.args.at in
     let test = λ (x : ℕ). relates c.args.test.relation x c.args.test.constant in
     let in_row : 64 * at + p < length entries = rw (← c.self.view_is) at row in
@@ -27,7 +27,7 @@ returns g c = λ p below row.
           answer_kept c.args.test.wanted (bit_of c.if-not-test.block p) (test number) w.if-not-test.false
           (ap (λ ws. bit_of ws p) w.block-is ∙ narrowed)
     ] in
-    let there : get_or present (64 * at + p) false ≡ get_or (map is_some entries) (64 * at + p) false = ap (λ bits. get_or bits (64 * at + p) false) c.self.invariant.0.present_is in
+    let there : get_or not_null (64 * at + p) false ≡ get_or (map is_some entries) (64 * at + p) false = ap (λ bits. get_or bits (64 * at + p) false) c.self.invariant.0.not_null_is in
     rw (← c.self.view_is)
     (c.keep_in.ensures.bits p (omega (arith, c.if-not-test.auto.block))
-    ∙ row_answer test c.args.test.wanted entries (64 * at + p) (bit_of c.if-not-test.block p) (get_or present (64 * at + p) false) in_row found there)
+    ∙ row_answer test c.args.test.wanted entries (64 * at + p) (bit_of c.if-not-test.block p) (get_or not_null (64 * at + p) false) in_row found there)

@@ -9,9 +9,9 @@ use Rattle.bsi_columns.proofs.decomposed.Decomposed.select_vectors.Goals as goal
 pub returns : goal.returns
 returns g c =
     let inside = c.self.inside in
-    let present = inside.present.bits in
-    let entries = entries_of inside.bases present (map g.E.Encoding.digits inside.components.items) in
+    let not_null = inside.not_null.bits in
+    let entries = entries_of inside.bases not_null (map g.E.Encoding.digits inside.components.items) in
     let test = λ (x : ℕ). relates c.args.test.relation x c.args.test.constant in
     let found : c.narrow_vectors.new.found.bits ≡ map (λ e. test (number_or_zero e)) entries = rw (← c.self.view_is) at c.narrow_vectors.ensures in
     rw (← c.self.view_is) (c.keep_answers.ensures ∙ ap (λ b. zip2 (λ answer there. as_wanted c.args.test.wanted answer && there) c.narrow_vectors.new.found.bits b.bits) c.bits.ensures
-    ∙ cut_answers test c.args.test.wanted entries c.narrow_vectors.new.found.bits present found c.self.invariant.0.present_is)
+    ∙ cut_answers test c.args.test.wanted entries c.narrow_vectors.new.found.bits not_null found c.self.invariant.0.not_null_is)

@@ -14,13 +14,13 @@ use Rattle.bsi_columns.proofs.decomposed.Decomposed.selected.Goals as goal
 pub returns-in-Nothing : goal.returns-in-Nothing
 returns-in-Nothing g c =
     let bs = c.self.inside.bases in
-    let present = c.self.inside.present.bits in
+    let not_null = c.self.inside.not_null.bits in
     let ds = map g.E.Encoding.digits c.self.inside.components.items in
-    let entries = entries_of bs present ds in
+    let entries = entries_of bs not_null ds in
     let agree : (x : ℕ) → x < product bs → decides c.decide.result x ≡ compares c.args.op x c.args.constant = λ x below. c.decide.ensures.decided x (omega (arith, c.size.ensures.size)) in
     rw (← c.self.view_is)
     (IfOk-same_bits c.filled.result (λ (b : BitList). b.bits) (replicate c.len.result false) (map (selects c.args.op c.args.constant) entries)
-    (ap (λ n. replicate n false) (c.len.ensures.len ∙ rows_of bs present ds entries c.self.invariant.0)
+    (ap (λ n. replicate n false) (c.len.ensures.len ∙ rows_of bs not_null ds entries c.self.invariant.0)
     ∙ rows_none c.args.op c.args.constant (product bs) c.decide.result agree c.in-Nothing.is entries c.self.invariant.0.below)
     c.filled.ensures)
 
@@ -28,20 +28,20 @@ returns-in-Nothing g c =
 pub returns-in-Everything : goal.returns-in-Everything
 returns-in-Everything g c =
     let bs = c.self.inside.bases in
-    let present = c.self.inside.present.bits in
+    let not_null = c.self.inside.not_null.bits in
     let ds = map g.E.Encoding.digits c.self.inside.components.items in
-    let entries = entries_of bs present ds in
+    let entries = entries_of bs not_null ds in
     let agree : (x : ℕ) → x < product bs → decides c.decide.result x ≡ compares c.args.op x c.args.constant = λ x below. c.decide.ensures.decided x (omega (arith, c.size.ensures.size)) in
     rw (← c.self.view_is)
     (IfOk-same_bits c.copy.result (λ (b : BitList). b.bits) c.bits.result.now.bits (map (selects c.args.op c.args.constant) entries)
-    (ap (λ b. b.bits) c.bits.ensures ∙ c.self.invariant.0.present_is ∙ rows_all c.args.op c.args.constant (product bs) c.decide.result agree c.in-Everything.is entries c.self.invariant.0.below)
+    (ap (λ b. b.bits) c.bits.ensures ∙ c.self.invariant.0.not_null_is ∙ rows_all c.args.op c.args.constant (product bs) c.decide.result agree c.in-Everything.is entries c.self.invariant.0.below)
     c.copy.ensures)
 
 -- the numbers that pass a test, or fail it
 pub returns-in-Tested : goal.returns-in-Tested
 returns-in-Tested g c =
     let bs = c.self.inside.bases in
-    let entries = entries_of bs c.self.inside.present.bits (map g.E.Encoding.digits c.self.inside.components.items) in
+    let entries = entries_of bs c.self.inside.not_null.bits (map g.E.Encoding.digits c.self.inside.components.items) in
     let test = c.in-Tested.test in
     let agree : (x : ℕ) → x < product bs → decides c.decide.result x ≡ compares c.args.op x c.args.constant = λ x below. c.decide.ensures.decided x (omega (arith, c.size.ensures.size)) in
     let tested = rw (← c.self.view_is) at c.select.ensures in

@@ -6,6 +6,6 @@ use Rattle.bsi_columns.proofs.decomposed.DecomposedColumn.nulls_into.Goals as go
 
 pub returns-clause-bits : goal.returns-clause-bits
 returns-clause-bits g c =
-    let entries = entries_of c.self.inside.bases c.self.inside.present.bits (map g.E.Encoding.digits c.self.inside.components.items) in
+    let entries = entries_of c.self.inside.bases c.self.inside.not_null.bits (map g.E.Encoding.digits c.self.inside.components.items) in
     rw (← c.self.view_is)
-    (c.flip.ensures.bits ∙ ap (map not) (c.copy_from.ensures.bits ∙ ap (λ b. b.bits) c.bits.ensures ∙ c.self.invariant.0.present_is) ∙ nulls_are entries)
+    (c.flip.ensures.bits ∙ ap (map not) (c.copy_from.ensures.bits ∙ ap (λ b. b.bits) c.bits.ensures ∙ c.self.invariant.0.not_null_is) ∙ nulls_are entries)

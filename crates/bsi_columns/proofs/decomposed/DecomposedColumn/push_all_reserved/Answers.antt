@@ -15,31 +15,31 @@ invariant_of-self g c =
     let items = c.push_all_digits.new.components.items in
     let all = map g.E.Encoding.digits items in
     let bits = c.push_all_reserved.new.self.bits in
-    let entries = entries_of bs old.present.bits ds in
-    let added = entries_of others.bases others.present.bits more in
+    let entries = entries_of bs old.not_null.bits ds in
+    let added = entries_of others.bases others.not_null.bits more in
     let same_bases = ap (λ v. v.bases) c.other.view_is ∙ c.requires.form ∙ ap (λ v. v.bases) (sym c.self.view_is) in
     let bases : map g.E.Encoding.base_of items ≡ bs = c.push_all_digits.ensures.bases ∙ c.self.invariant.1 in
     let count : length old.components.items ≡ length bs = length-map_is g.E.Encoding.base_of old.components.items bs c.self.invariant.1 in
     let long : length items ≡ length bs = length-map_is g.E.Encoding.base_of items bs bases in
-    let kept : Decomposes bs bits all (entries ++ added) = all_entries bs others.bases old.present.bits others.present.bits bits ds more all entries added c.self.invariant.0 c.other.invariant.0
+    let kept : Decomposes bs bits all (entries ++ added) = all_entries bs others.bases old.not_null.bits others.not_null.bits bits ds more all entries added c.self.invariant.0 c.other.invariant.0
     same_bases c.push_all_reserved.ensures.bits (length-map items g.E.Encoding.digits ∙ long)
     (λ i below. c.push_all_digits.ensures.digits i (omega (arith, below, count)) ∙ ap (λ xs. get_or ds i [] ++ get_or (map g.E.Encoding.digits xs) i []) c.deref.ensures.value) in
     let rows : length added ≡ c.len.result = ap (λ v. length v.entries) c.other.view_is ∙ sym c.len.ensures.len in
-    let marks : length others.present.bits ≡ length added = rows_of others.bases others.present.bits more added c.other.invariant.0 in
+    let marks : length others.not_null.bits ≡ length added = rows_of others.bases others.not_null.bits more added c.other.invariant.0 in
     let rooms = map g.E.Encoding.room_of old.components.items in
     let rooms' = map g.E.Encoding.room_of items in
     let same : length rooms' ≡ length rooms = length-map items g.E.Encoding.room_of ∙ long ∙ sym count ∙ sym (length-map old.components.items g.E.Encoding.room_of) in
     let enough : c.len.result ≤ old.room = omega (arith, c.len.ensures.len, ap (λ v. v.room) c.self.view_is, c.requires.room) in
-    let longer : length bits ≡ length old.present.bits + c.len.result = omega (arith, ap length c.push_all_reserved.ensures.bits, length-append old.present.bits others.present.bits, marks, rows) in (
+    let longer : length bits ≡ length old.not_null.bits + c.len.result = omega (arith, ap length c.push_all_reserved.ensures.bits, length-append old.not_null.bits others.not_null.bits, marks, rows) in (
       kept_itself bs bits all (entries ++ added) kept,
       bases,
-      roomy_less (length old.present.bits) old.room old.present.room c.len.result (length bits) c.push_all_reserved.new.self.room rooms rooms' c.self.invariant.2 enough longer
+      roomy_less (length old.not_null.bits) old.room old.not_null.room c.len.result (length bits) c.push_all_reserved.new.self.room rooms rooms' c.self.invariant.2 enough longer
           (omega (arith, c.push_all_reserved.ensures.room, marks, rows)) same
           (λ k. omega (
             arith,
             c.push_all_digits.ensures.room k,
             ap (λ xs. length (get_or (map g.E.Encoding.digits xs) k [])) c.deref.ensures.value,
-            digits_at_most others.bases others.present.bits more added c.other.invariant.0 k,
+            digits_at_most others.bases others.not_null.bits more added c.other.invariant.0 k,
             rows,
           )),
     )
@@ -54,13 +54,13 @@ returns-clause-entries g c =
     let items = c.push_all_digits.new.components.items in
     let all = map g.E.Encoding.digits items in
     let bits = c.push_all_reserved.new.self.bits in
-    let entries = entries_of bs old.present.bits ds in
-    let added = entries_of others.bases others.present.bits more in
+    let entries = entries_of bs old.not_null.bits ds in
+    let added = entries_of others.bases others.not_null.bits more in
     let same_bases = ap (λ v. v.bases) c.other.view_is ∙ c.requires.form ∙ ap (λ v. v.bases) (sym c.self.view_is) in
     let bases : map g.E.Encoding.base_of items ≡ bs = c.push_all_digits.ensures.bases ∙ c.self.invariant.1 in
     let count : length old.components.items ≡ length bs = length-map_is g.E.Encoding.base_of old.components.items bs c.self.invariant.1 in
     let long : length items ≡ length bs = length-map_is g.E.Encoding.base_of items bs bases in
-    let kept : Decomposes bs bits all (entries ++ added) = all_entries bs others.bases old.present.bits others.present.bits bits ds more all entries added c.self.invariant.0 c.other.invariant.0
+    let kept : Decomposes bs bits all (entries ++ added) = all_entries bs others.bases old.not_null.bits others.not_null.bits bits ds more all entries added c.self.invariant.0 c.other.invariant.0
     same_bases c.push_all_reserved.ensures.bits (length-map items g.E.Encoding.digits ∙ long)
     (λ i below. c.push_all_digits.ensures.digits i (omega (arith, below, count)) ∙ ap (λ xs. get_or ds i [] ++ get_or (map g.E.Encoding.digits xs) i []) c.deref.ensures.value) in
     entries_from bs bits all (entries ++ added) kept

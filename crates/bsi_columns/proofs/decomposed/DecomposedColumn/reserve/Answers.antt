@@ -8,6 +8,6 @@ reserve_each-requires g c = λ k d within.
     let inside = c.self.inside in
     let digits = g.E.Encoding.digits in
     let ds = map digits inside.components.items in
-    let entries = entries_of inside.bases inside.present.bits ds in
-    let rows = rows_of inside.bases inside.present.bits ds entries c.self.invariant.0 in
-    omega (arith, component_rows digits inside.components.items inside.bases inside.present.bits entries c.self.invariant.0 k d within, rows, c.len.ensures.len, c.room_to_make-wanted.ensures.within)
+    let entries = entries_of inside.bases inside.not_null.bits ds in
+    let rows = rows_of inside.bases inside.not_null.bits ds entries c.self.invariant.0 in
+    omega (arith, component_rows digits inside.components.items inside.bases inside.not_null.bits entries c.self.invariant.0 k d within, rows, c.len.ensures.len, c.room_to_make-wanted.ensures.within)

@@ -12,7 +12,7 @@ use Rattle.bsi_columns.proofs.decomposed.ends.keep_nearest.Goals as goal
 pub returns-else-not-eq_block-clause-digit : goal.returns-else-not-eq_block-clause-digit
 returns-else-not-eq_block-clause-digit g c =
     let digits = g.E.Encoding.digits c.args.component.now in
-    let present = c.args.present.now.bits in
+    let not_null = c.args.not_null.now.bits in
     let at = c.args.at in
     let d = c.in-Digit.digit in
     let old : ℕ → Bool = bit_of c.args.block.now in
@@ -23,13 +23,13 @@ returns-else-not-eq_block-clause-digit g c =
     let kept : (p : ℕ) → p < n → bit_of c.keep_in.new.block p ≡ (old p && nat_eq (digit p) d) = λ p below.
     elim (cases_lt (64 * at + p) (length digits)) [
       | inl inside ↦
-          kept_inside (old p) (get_or present (64 * at + p) false) (nat_eq (digit p) d) (bit_of c.keep_in.new.block p)
-          (c.keep_in.ensures.bits p (omega (arith, below, c.eq_block.auto.block)) ∙ ap (λ b. b && get_or present (64 * at + p) false) (narrowed p below inside))
+          kept_inside (old p) (get_or not_null (64 * at + p) false) (nat_eq (digit p) d) (bit_of c.keep_in.new.block p)
+          (c.keep_in.ensures.bits p (omega (arith, below, c.eq_block.auto.block)) ∙ ap (λ b. b && get_or not_null (64 * at + p) false) (narrowed p below inside))
           (c.requires.rows p below)
       | inr outside ↦
-          kept_outside (old p) (get_or present (64 * at + p) false) (nat_eq (digit p) d) (bit_of c.keep_in.new.block p) (bit_of c.eq_block.new.block p)
+          kept_outside (old p) (get_or not_null (64 * at + p) false) (nat_eq (digit p) d) (bit_of c.keep_in.new.block p) (bit_of c.eq_block.new.block p)
           (c.keep_in.ensures.bits p (omega (arith, below, c.eq_block.auto.block)))
-          (get_or_past present (64 * at + p) false (omega (arith, outside, c.requires.same)))
+          (get_or_past not_null (64 * at + p) false (omega (arith, outside, c.requires.same)))
           (c.requires.rows p below)
     ] in
     record {

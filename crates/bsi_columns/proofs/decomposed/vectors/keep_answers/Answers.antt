@@ -7,14 +7,14 @@ use Rattle.bsi_columns.proofs.decomposed.vectors.keep_answers.Goals.{then-not-wa
 
 pub returns : goal.returns
 returns c =
-    let present = c.args.present.now.bits in
+    let not_null = c.args.not_null.now.bits in
     let old = c.args.found.now.bits in
     elim c.if-not-wanted.branch [
       | then-not-wanted w ↦
           rw w.if-not-wanted.true
-          (c.and_with.ensures.bits ∙ ap (λ xs. zip2 ◌&&◌ xs present) (ap (λ b. b.bits) w.found-is ∙ w.flip.ensures.bits)
-          ∙ zip2-map_left ◌&&◌ not old present)
+          (c.and_with.ensures.bits ∙ ap (λ xs. zip2 ◌&&◌ xs not_null) (ap (λ b. b.bits) w.found-is ∙ w.flip.ensures.bits)
+          ∙ zip2-map_left ◌&&◌ not old not_null)
       | else-not-wanted w ↦
           rw w.if-not-wanted.false
-          (c.and_with.ensures.bits ∙ ap (λ b. zip2 ◌&&◌ b.bits present) w.found-is)
+          (c.and_with.ensures.bits ∙ ap (λ b. zip2 ◌&&◌ b.bits not_null) w.found-is)
     ]

@@ -20,13 +20,13 @@ sum-requires c = ap (λ v. length (any_entries v.stored)) c.self.view_is ∙ sym
 pub count_and-numbers-requires : goal.count_and-numbers-requires
 count_and-numbers-requires c =
     sym c.requires ∙ length-shifted_entries c.args.self.now ∙ sym (ap (λ v. length (any_entries v.stored)) c.self.view_is)
-    ∙ sym (ap length c.present.ensures ∙ length-map (any_entries c.self.inside.stored) is_some)
+    ∙ sym (ap length c.not_null.ensures ∙ length-map (any_entries c.self.inside.stored) is_some)
 
 pub sum_from-requires : goal.sum_from-requires
 sum_from-requires c =
     let found = c.args.found.now.bits in
     let entries = any_entries c.self.inside.stored in
-    let counted = c.count_and-numbers.ensures ∙ ap (λ present. count_by (λ b. b) (zip2 ◌&&◌ found present)) c.present.ensures ∙ count_numbers found entries in
+    let counted = c.count_and-numbers.ensures ∙ ap (λ not_null. count_by (λ b. b) (zip2 ◌&&◌ found not_null)) c.not_null.ensures ∙ count_numbers found entries in
     let as_many = ap (λ v. length (any_entries v.stored)) c.self.view_is ∙ sym (length-shifted_entries c.args.self.now) ∙ c.requires in
     (c.sum.ensures.within, omega (arith, counted, length-numbers_at found entries, as_many, c.len.ensures.len, c.len.ensures.within))
 
@@ -35,7 +35,7 @@ returns-clause-sum c =
     let inside = c.self.inside in
     let found = c.args.found.now.bits in
     let entries = any_entries inside.stored in
-    let counted = c.count_and-numbers.ensures ∙ ap (λ present. count_by (λ b. b) (zip2 ◌&&◌ found present)) c.present.ensures ∙ count_numbers found entries in
+    let counted = c.count_and-numbers.ensures ∙ ap (λ not_null. count_by (λ b. b) (zip2 ◌&&◌ found not_null)) c.not_null.ensures ∙ count_numbers found entries in
     to_z-of_z w128 c.sum_from.result (search rules) ∙ c.sum_from.ensures
     ∙ ap₂ (λ total offset. pos total +ℤ offset *ℤ pos c.count_and-numbers.result) c.sum.ensures.sum (to_z-of_z w64 inside.offset (search rules))
     ∙ ap (λ n. pos (sum (numbers_at found entries)) +ℤ inside.offset *ℤ pos n) counted

@@ -17,13 +17,13 @@ none_of Median numbers none = none
 pub returns-then-numbers-eq0 : goal.returns-then-numbers-eq0
 returns-then-numbers-eq0 g c =
     let entries = g.Self.Column.entries c.args.self.now in
-    let counted = c.count_and-numbers.ensures ∙ ap (λ present. count_by (λ b. b) (zip2 ◌&&◌ c.args.found.now.bits present)) c.present.ensures ∙ count_numbers c.args.found.now.bits entries in
+    let counted = c.count_and-numbers.ensures ∙ ap (λ not_null. count_by (λ b. b) (zip2 ◌&&◌ c.args.found.now.bits not_null)) c.not_null.ensures ∙ count_numbers c.args.found.now.bits entries in
     none_of c.args.rank (numbers_at c.args.found.now.bits entries) (no_numbers (numbers_at c.args.found.now.bits entries) (sym counted ∙ c.if-numbers-eq0.true))
 
 pub ranked-requires-clause-there : goal.ranked-requires-clause-there
 ranked-requires-clause-there g c =
     let entries = g.Self.Column.entries c.args.self.now in
-    let counted = c.count_and-numbers.ensures ∙ ap (λ present. count_by (λ b. b) (zip2 ◌&&◌ c.args.found.now.bits present)) c.present.ensures ∙ count_numbers c.args.found.now.bits entries in
+    let counted = c.count_and-numbers.ensures ∙ ap (λ not_null. count_by (λ b. b) (zip2 ◌&&◌ c.args.found.now.bits not_null)) c.not_null.ensures ∙ count_numbers c.args.found.now.bits entries in
     let some : 0 < c.count_and-numbers.result = omega arith in
     elim c.match-rank.branch [
       | in-Least w ↦ omega (arith, counted, some, w.place-is)
@@ -35,7 +35,7 @@ pub returns : goal.returns
 returns g c =
     let entries = g.Self.Column.entries c.args.self.now in
     let numbers = numbers_at c.args.found.now.bits entries in
-    let counted = c.count_and-numbers.ensures ∙ ap (λ present. count_by (λ b. b) (zip2 ◌&&◌ c.args.found.now.bits present)) c.present.ensures ∙ count_numbers c.args.found.now.bits entries in
+    let counted = c.count_and-numbers.ensures ∙ ap (λ not_null. count_by (λ b. b) (zip2 ◌&&◌ c.args.found.now.bits not_null)) c.not_null.ensures ∙ count_numbers c.args.found.now.bits entries in
     let some : 0 < c.count_and-numbers.result = omega arith in
     let place = c.match-rank.place in
     elim c.match-rank.branch [

@@ -17,7 +17,7 @@ block-preserved g c =
     let even = c.block_at.ensures.long ∙ sym c.block_at-in-block.ensures.long in
     let bits : (p : ℕ) → p < 64 * g.row.N → bit_of rows p ≡ has_number found entries (64 * at + p) =
     λ p below. and_bit c.block_at.result c.block_at-in-block.result even p (omega (arith, c.block_at.ensures.long))
-    ∙ ap₂ ◌&&◌ (c.block_at.ensures.places p below) (c.block_at-in-block.ensures.places p below ∙ ap (λ bs. get_or bs (64 * at + p) false) c.present.ensures)
+    ∙ ap₂ ◌&&◌ (c.block_at.ensures.places p below) (c.block_at-in-block.ensures.places p below ∙ ap (λ bs. get_or bs (64 * at + p) false) c.not_null.ensures)
     ∙ number_row found entries (64 * at + p) in
     let more = block_more c.args.end found entries (64 * at) (64 * g.row.N) (bit_of rows) bits c.block.best c.better_in_block.result c.block.invariant c.better_in_block.ensures in
     let next : 64 * at + 64 * g.row.N ≡ 64 * (c.args.from + g.row.N * (c.block.k + 1)) = omega arith in

@@ -18,7 +18,7 @@ use Rattle.bsi_slices.proofs.slices.Slices.number_of_rank.Goals.{After-and_with}
 
 -- at first the found rows with a number are left
 chosen_is : (c : After-and_with) → c.and_with.new.self.bits ≡ zip2 ◌&&◌ c.args.found.now.bits (map is_some c.args.self.now.entries)
-chosen_is c = c.and_with.ensures.bits ∙ ap₂ (zip2 ◌&&◌) c.in_ok-rows.ensures c.present.ensures
+chosen_is c = c.and_with.ensures.bits ∙ ap₂ (zip2 ◌&&◌) c.in_ok-rows.ensures c.not_null.ensures
 
 chosen_long : (c : After-and_with) → length c.and_with.new.self.bits ≡ length c.args.self.now.entries
 chosen_long c =
@@ -28,7 +28,7 @@ chosen_long c =
 -- a slice has a bit for each row
 pub rows_of_rank-requires-clause-same : goal.rows_of_rank-requires-clause-same
 rows_of_rank-requires-clause-same c = λ k within.
-    let rows = c.self.inside.present.bits in
+    let rows = c.self.inside.not_null.bits in
     let slices = c.self.inside.slices.vectors in
     let at = (goal.at.rows_of_rank-requires-clause-same c).After-and_with in
     ap (λ vs. length (bits_at vs k)) c.as_slice.ensures.vectors
@@ -43,7 +43,7 @@ rows_of_rank-requires-clause-there c =
 
 pub returns : goal.returns
 returns c =
-    let rows = c.self.inside.present.bits in
+    let rows = c.self.inside.not_null.bits in
     let slices = c.self.inside.slices.vectors in
     let entries = c.args.self.now.entries in
     let numbers = map number_or_zero entries in

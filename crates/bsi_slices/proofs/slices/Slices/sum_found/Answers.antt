@@ -15,7 +15,7 @@ use Rattle.bsi_slices.proofs.slices.Slices.sum_found.Goals as goal
 -- a slice has a bit for each row
 pub sum_by_places-requires-clause-same : goal.sum_by_places-requires-clause-same
 sum_by_places-requires-clause-same c = λ k within.
-    let rows = c.self.inside.present.bits in
+    let rows = c.self.inside.not_null.bits in
     let slices = c.self.inside.slices.vectors in
     let same = ap (λ e. length e.entries) c.self.view_is in
     ap (λ vs. length (bits_at vs k)) c.as_slice.ensures.vectors
@@ -25,7 +25,7 @@ sum_by_places-requires-clause-same c = λ k within.
 -- the sum of the numbers, where a null counts as 0
 summed : (c : goal.After-sum_by_places) → c.sum_by_places.result ≡ sum (numbers_at c.args.found.now.bits c.args.self.now.entries)
 summed c =
-    let rows = c.self.inside.present.bits in
+    let rows = c.self.inside.not_null.bits in
     let slices = c.self.inside.slices.vectors in
     let entries = c.args.self.now.entries in
     let numbers = map number_or_zero entries in

@@ -13,4 +13,4 @@ returns-clause-within c =
     rw (one_shl width 64 few) (least, most)
 
 pub returns-clause-below : goal.returns-clause-below
-returns-clause-below c = rw (← c.self.view_is) (entries_below c.self.inside.present.bits c.self.inside.slices.vectors)
+returns-clause-below c = rw (← c.self.view_is) (entries_below c.self.inside.not_null.bits c.self.inside.slices.vectors)

@@ -16,11 +16,11 @@ returns-in-Nothing c = λ p below.
     let size_is : 1 * 2 ^ length c.args.slices.now % 2 ^ 64 ≡ 2 ^ length c.args.slices.now = one_shl (length c.args.slices.now) 64 few in
     let r : ℕ = 64 * c.args.at + p in
     let was = bit_of c.args.block.now p in
-    let present = c.args.present.now.bits in
+    let not_null = c.args.not_null.now.bits in
     let filled : c.fill.new.self ≡ replicate (length c.args.block.now) 0 = c.fill.ensures.after (λ y same. same) in
     ap (λ ws. bit_of ws p) filled ∙ replicate_bit (length c.args.block.now) 0 false none_set p below
-    ∙ sym (and-false was) ∙ ap (λ b. was && b) (sym (ap (λ s. get_or present r false && decides s (number c.args.slices.now r)) c.in-Nothing.is ∙ and-false (get_or present r false)))
-    ∙ kept_decided present c.args.slices.now c.args.op c.args.constant (1 * 2 ^ length c.args.slices.now % 2 ^ 64) size_is c.decide.result c.decide.ensures.decided was r
+    ∙ sym (and-false was) ∙ ap (λ b. was && b) (sym (ap (λ s. get_or not_null r false && decides s (number c.args.slices.now r)) c.in-Nothing.is ∙ and-false (get_or not_null r false)))
+    ∙ kept_decided not_null c.args.slices.now c.args.op c.args.constant (1 * 2 ^ length c.args.slices.now % 2 ^ 64) size_is c.decide.result c.decide.ensures.decided was r
 
 -- each number below the size
 pub returns-in-Everything : goal.returns-in-Everything
@@ -29,10 +29,10 @@ returns-in-Everything c = λ p below.
     let size_is : 1 * 2 ^ length c.args.slices.now % 2 ^ 64 ≡ 2 ^ length c.args.slices.now = one_shl (length c.args.slices.now) 64 few in
     let r : ℕ = 64 * c.args.at + p in
     let was = bit_of c.args.block.now p in
-    let present = c.args.present.now.bits in
+    let not_null = c.args.not_null.now.bits in
     c.keep_in.ensures.bits p below
-    ∙ ap (λ b. was && b) (sym (ap (λ s. get_or present r false && decides s (number c.args.slices.now r)) c.in-Everything.is ∙ and-true (get_or present r false)))
-    ∙ kept_decided present c.args.slices.now c.args.op c.args.constant (1 * 2 ^ length c.args.slices.now % 2 ^ 64) size_is c.decide.result c.decide.ensures.decided was r
+    ∙ ap (λ b. was && b) (sym (ap (λ s. get_or not_null r false && decides s (number c.args.slices.now r)) c.in-Everything.is ∙ and-true (get_or not_null r false)))
+    ∙ kept_decided not_null c.args.slices.now c.args.op c.args.constant (1 * 2 ^ length c.args.slices.now % 2 ^ 64) size_is c.decide.result c.decide.ensures.decided was r
 
 -- the numbers that pass the test, of which those of the rows that are there are kept
 pub returns-in-Tested : goal.returns-in-Tested
@@ -41,10 +41,10 @@ returns-in-Tested c = λ p below.
     let size_is : 1 * 2 ^ length c.args.slices.now % 2 ^ 64 ≡ 2 ^ length c.args.slices.now = one_shl (length c.args.slices.now) 64 few in
     let r : ℕ = 64 * c.args.at + p in
     let was = bit_of c.args.block.now p in
-    let present = c.args.present.now.bits in
+    let not_null = c.args.not_null.now.bits in
     let long = c.keep_in-in-Tested.auto.block in
     c.keep.ensures.inside p (omega arith) (omega (arith, below, long))
     ∙ ap (λ b. b && passes c.in-Tested.test (number c.args.slices.now r)) (c.keep_in-in-Tested.ensures.bits p below)
-    ∙ and_assoc was (get_or present r false) (passes c.in-Tested.test (number c.args.slices.now r))
-    ∙ ap (λ b. was && b) (sym (ap (λ s. get_or present r false && decides s (number c.args.slices.now r)) c.in-Tested.is))
-    ∙ kept_decided present c.args.slices.now c.args.op c.args.constant (1 * 2 ^ length c.args.slices.now % 2 ^ 64) size_is c.decide.result c.decide.ensures.decided was r
+    ∙ and_assoc was (get_or not_null r false) (passes c.in-Tested.test (number c.args.slices.now r))
+    ∙ ap (λ b. was && b) (sym (ap (λ s. get_or not_null r false && decides s (number c.args.slices.now r)) c.in-Tested.is))
+    ∙ kept_decided not_null c.args.slices.now c.args.op c.args.constant (1 * 2 ^ length c.args.slices.now % 2 ^ 64) size_is c.decide.result c.decide.ensures.decided was r

@@ -13,8 +13,8 @@ pub returns-in-Nothing : goal.returns-in-Nothing
 returns-in-Nothing c =
     let few : length c.args.slices.now < 64 = omega arith in
     let size_is : 1 * 2 ^ length c.args.slices.now % 2 ^ 64 ≡ 2 ^ length c.args.slices.now = one_shl (length c.args.slices.now) 64 few in
-    IfOk-weaker c.filled.result (λ b. b.bits ≡ replicate c.len.result false) (λ b. b.bits ≡ map (selects c.args.op c.args.constant) (entries_in c.args.present.now.bits c.args.slices.now))
-    (λ b is. selected_none c.args.present.now.bits c.args.slices.now c.args.op c.args.constant (1 * 2 ^ length c.args.slices.now % 2 ^ 64) size_is c.decide.result c.decide.ensures.decided c.in-Nothing.is b.bits c.len.result c.len.ensures.len is)
+    IfOk-weaker c.filled.result (λ b. b.bits ≡ replicate c.len.result false) (λ b. b.bits ≡ map (selects c.args.op c.args.constant) (entries_in c.args.not_null.now.bits c.args.slices.now))
+    (λ b is. selected_none c.args.not_null.now.bits c.args.slices.now c.args.op c.args.constant (1 * 2 ^ length c.args.slices.now % 2 ^ 64) size_is c.decide.result c.decide.ensures.decided c.in-Nothing.is b.bits c.len.result c.len.ensures.len is)
     c.filled.ensures
 
 -- each number below the size
@@ -22,8 +22,8 @@ pub returns-in-Everything : goal.returns-in-Everything
 returns-in-Everything c =
     let few : length c.args.slices.now < 64 = omega arith in
     let size_is : 1 * 2 ^ length c.args.slices.now % 2 ^ 64 ≡ 2 ^ length c.args.slices.now = one_shl (length c.args.slices.now) 64 few in
-    IfOk-weaker c.copy.result (λ b. b.bits ≡ c.args.present.now.bits) (λ b. b.bits ≡ map (selects c.args.op c.args.constant) (entries_in c.args.present.now.bits c.args.slices.now))
-    (λ b is. selected_all c.args.present.now.bits c.args.slices.now c.args.op c.args.constant (1 * 2 ^ length c.args.slices.now % 2 ^ 64) size_is c.decide.result c.decide.ensures.decided c.in-Everything.is b.bits is)
+    IfOk-weaker c.copy.result (λ b. b.bits ≡ c.args.not_null.now.bits) (λ b. b.bits ≡ map (selects c.args.op c.args.constant) (entries_in c.args.not_null.now.bits c.args.slices.now))
+    (λ b is. selected_all c.args.not_null.now.bits c.args.slices.now c.args.op c.args.constant (1 * 2 ^ length c.args.slices.now % 2 ^ 64) size_is c.decide.result c.decide.ensures.decided c.in-Everything.is b.bits is)
     c.copy.ensures
 
 -- the numbers that pass the test, of which those of the rows that are there are kept
@@ -35,7 +35,7 @@ returns-in_ok-copy-in-Tested c =
     let copied = c.in_ok-copy-in-Tested.ensures in
     let stored : take c.into_words-words.result.len (c.keep.new.words ++ drop (length c.keep.new.words) c.into_words-words.result.items) ≡ c.keep.new.words =
     written c.into_words-words.result.len c.keep.new.words c.into_words-words.result.items (omega arith) (omega arith) in
-    selected_tested c.args.present.now.bits c.args.slices.now c.args.op c.args.constant (1 * 2 ^ length c.args.slices.now % 2 ^ 64) size_is c.decide.result c.decide.ensures.decided
+    selected_tested c.args.not_null.now.bits c.args.slices.now c.args.op c.args.constant (1 * 2 ^ length c.args.slices.now % 2 ^ 64) size_is c.decide.result c.decide.ensures.decided
     c.in-Tested.test c.in-Tested.is
     c.from_words.result.bits c.deref_mut.result.now c.keep.new.words c.len-in-Tested.result c.len-in-Tested.ensures.len
     (ap length old_is ∙ c.into_words-words.ensures.few ∙ ap (λ b. (length b + 63) / 64) copied)

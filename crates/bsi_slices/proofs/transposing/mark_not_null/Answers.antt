@@ -1,7 +1,7 @@
 use Rattle.std.proofs.Common.{◌≡◌, length, get_or, None, is_some, ap, arith}
 use mir.Val.{bool_byte}
 use Rattle.bsi_slices.proofs.Gathering.{gathered_more, byte_small, marks_are, marks_clear}
-use Rattle.bsi_slices.proofs.transposing.mark_present.Goals as goal
+use Rattle.bsi_slices.proofs.transposing.mark_not_null.Goals as goal
 
 pub entries-preserved : goal.entries-preserved
 entries-preserved c =
