@@ -173,7 +173,7 @@ fn gather<I: Read + Drop>(
         (IsGathered I.remaining source.old source.new (entries_of batch.new.rows)) }
     ensures refused { OnErr result (source.old.end ≡ None) }
 {
-    'blocks: for _ in 0..blocks {
+    'fills: for _ in 0..blocks {
         block.clear();
         if let Err(fault) = source.fill(0, block) {
             return Ok(Some(fault));

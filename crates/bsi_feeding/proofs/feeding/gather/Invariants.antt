@@ -4,8 +4,8 @@ use Rattle.bsi_feeding.proofs.Feeds.{HasPassed}
 use Rattle.bsi_feeding.proofs.feeding.gather.Given as goal
 
 -- the batch has the next rows of the source, some of each block
-abbrev pub invariant-blocks : goal.invariant-blocks
-invariant-blocks g l = record {
+abbrev pub invariant-fills : goal.invariant-fills
+invariant-fills g l = record {
   block : (l.block.schema ≡ l.initial.block.schema) × (l.block.feeders ≡ 1);
   batch : (l.batch.schema ≡ l.initial.batch.schema) × (l.batch.feeders ≡ 1);
   few : length l.batch.rows ≤ 64 * l.counter;
