@@ -64,6 +64,20 @@ module _ {R : Type 0} (rem : R → Option (List ℕ)) (old new : Source R) where
         by [] is = refl
         by (row ∷ rows) is = absurd (omega (arith, is))
 
+    -- the block is the same but for its rows
+    pub same_block : IfErr r (λ fault. (new.end ≡ Some (Err fault)) × (full ≡ start)) → full ≡ record start { rows = full.rows }
+    same_block stopped = by old.end refl
+      where
+        with_rows_of : RowBlock → RowBlock
+        with_rows_of b = record start { rows = b.rows }
+
+        by : (end : End) → old.end ≡ end → full ≡ record start { rows = full.rows }
+        by None going = (filled going).puts.added ∙ sym (ap with_rows_of (filled going).puts.added)
+        by (Some (Ok tt)) going = (ended going).2 ∙ sym (ap with_rows_of (ended going).2)
+        by (Some (Err fault)) going =
+            let stops = subst (λ r. IfErr r (λ fault. (new.end ≡ Some (Err fault)) × (full ≡ start))) (failed fault going).0 stopped in
+            stops.1 ∙ sym (ap with_rows_of stops.1)
+
     -- a source that goes on gives the next rows, however many
     going_next : (going : old.end ≡ None) → new.layout ≡ old.layout → new.tally.taken ≤ 1000000 → GivesNext rem old new (entries_of full.rows)
     going_next going same few =
@@ -199,3 +213,7 @@ refused_now rem source none going =
 -- the entries of rows and of others behind them
 pub entries_append : (xs ys : List FedRow) → entries_of (xs ++ ys) ≡ entries_of xs ++ entries_of ys
 entries_append xs ys = map-append (λ (row : FedRow). row.1) xs ys
+
+pub no_entries_of : (rows : List FedRow) → length rows ≡ 0 → entries_of rows ≡ []
+no_entries_of [] is = refl
+no_entries_of (row ∷ rows) is = absurd (omega (arith, is))
