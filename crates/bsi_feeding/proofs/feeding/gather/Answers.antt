@@ -1,6 +1,7 @@
 use Rattle.std.proofs.Common.{◌≡◌, ◌++◌, List, [], None, length, refl, ap, subst, sym, arith, rules, ◌∙◌}
 use Rattle.std.proofs.lemmas.List.{append-nil, length-append, length-map}
-use Rattle.bsi_table.specs.RowBlocks.{entries_of, RowBlock}
+use Rattle.bsi_table.specs.Columns.{Declared}
+use Rattle.bsi_table.specs.RowBlocks.{entries_of, AreAlike, RowBlock}
 use Rattle.bsi_table.specs.Rows.{Entries, FedRow}
 use Rattle.bsi_table.specs.Table.{with_rows, Table}
 use Rattle.bsi_table.proofs.CallerLemmas.{fitting-alike}
@@ -79,8 +80,7 @@ append_block-requires-clause-fits g c =
     let same = same_block g.I.Read.remaining c.fills.source c.fill.new.self 0 c.clear.new.self full empty c.fill.result e.failed e.ended e.filled e.stopped in
     let schema = ap (λ (b : RowBlock). b.schema) same ∙ ap (λ (b : RowBlock). b.schema) c.clear.ensures ∙ i.block.0 in
     fitting-alike full.schema c.fills.batch.schema
-    (ap (λ s. Rattle.std.proofs.Common.map Rattle.bsi_schema.specs.Limits.limits_of s.columns) schema ∙ c.requires.alike
-    ∙ ap (λ s. Rattle.std.proofs.Common.map Rattle.bsi_schema.specs.Limits.limits_of s.columns) (sym i.batch.0))
+    (subst (λ (d : Declared). AreAlike d c.fills.batch.schema) (sym schema) (subst (λ (d : Declared). AreAlike c.args.block.now.schema d) (sym i.batch.0) c.requires.alike))
     full.rows c.len.ensures.fitting
 
 -- the rows of the block stand last in the batch
