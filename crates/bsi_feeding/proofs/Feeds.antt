@@ -49,12 +49,12 @@ module _ {R : Type 0} (rem : R → Option (List ℕ)) where
 
   module _ (old new : Source R) (rows : List Entries) (gone : HasGone old new rows) where
     -- one that had not ended
-    was_open : old.end ≡ None → HasGivenRows rem old.layout old.input new.input old.tally new.tally rows new.end
+    pub was_open : old.end ≡ None → HasGivenRows rem old.layout old.input new.input old.tally new.tally rows new.end
     was_open going =
         subst (λ end. MatchOption end (HasGivenRows rem old.layout old.input new.input old.tally new.tally rows new.end) (λ e. (rows ≡ []) × (new ≡ old))) going gone.given
 
     -- one that may go on
-    is_open : new.end ≡ None → (old.end ≡ None) × HasTaken rem old.layout old.input new.input old.tally new.tally rows
+    pub is_open : new.end ≡ None → (old.end ≡ None) × HasTaken rem old.layout old.input new.input old.tally new.tally rows
     is_open going = by old.end refl
       where
         by : (end : End) → old.end ≡ end → (old.end ≡ None) × HasTaken rem old.layout old.input new.input old.tally new.tally rows
@@ -88,17 +88,12 @@ module _ {R : Type 0} (rem : R → Option (List ℕ)) where
         let gave = was_open going in
         record { at = gave.at; end = gave.middle; taken = gave.taken; few = λ le. omega (arith, gone.few le, counts_up old.layout gave.at new.input gave.middle new.tally new.end gave.behind) }
 
-  -- so many rows were sent of a source, the first ones that it still had
-  pub record HasSent (feeder : Sending) (source : Source R) (n : ℕ) (now : Sending) (after : Source R) : Type 0 where
-    pub rows : List Entries
-    pub number : now.number ≡ feeder.number
-    pub channel : now.channel ≡ feeder.channel
-    pub sent : now.sent ≡ feeder.sent ++ rows
-    pub many : length rows ≡ n
-    pub gives : GivesFirstRows rem source after rows
-    pub gone : HasGone source after rows
+  -- a source has given these rows, the first ones that it still had
+  pub record HasPassed (old new : Source R) (rows : List Entries) : Type 0 where
+    pub gives : GivesFirstRows rem old new rows
+    pub gone : HasGone old new rows
 
-  module _ (feeder : Sending) (source : Source R) where
+  module _ (source : Source R) where
     gone_none : HasTaken rem source.layout source.input source.input source.tally source.tally [] → HasGone source source []
     gone_none none = record { layout = refl; given = by source.end refl; few = λ le. le }
       where
@@ -112,6 +107,36 @@ module _ {R : Type 0} (rem : R → Option (List ℕ)) where
         }
         by (Some e) is = (refl, refl)
 
+    pub passed_none : HasTaken rem source.layout source.input source.input source.tally source.tally [] → HasPassed source source []
+    passed_none none = record {
+      gives = λ all others still. (all, refl, λ fine. record { left = others; still = still; count = refl });
+      gone = gone_none none;
+    }
+
+    pub passed_more : JoinsTaken → (after next : Source R) (rows more : List Entries) → HasPassed source after rows → GivesNext rem after next more
+        → HasPassed source next (rows ++ more)
+    passed_more join after next rows more has gives = record {
+      gives = λ all others still.
+          let was = has.gives all others still in
+          let left = was.2 (λ fault is. absurd (cc (gives.before, is))) in
+          let now_ = gives.first was.0 left.left left.still in (
+            now_.0,
+            was.1 ∙ (ap (λ xs. rows ++ xs) now_.1 ∙ sym (append_assoc rows more now_.0)),
+            λ fine. (let rest = now_.2 fine in record { left = rest.left; still = rest.still; count = rest.count ∙ left.count }),
+          );
+      gone = gone_on source after rows has.gone join next more gives;
+    }
+
+  -- so many rows were sent of a source, the first ones that it still had
+  pub record HasSent (feeder : Sending) (source : Source R) (n : ℕ) (now : Sending) (after : Source R) : Type 0 where
+    pub rows : List Entries
+    pub number : now.number ≡ feeder.number
+    pub channel : now.channel ≡ feeder.channel
+    pub sent : now.sent ≡ feeder.sent ++ rows
+    pub many : length rows ≡ n
+    pub passed : HasPassed source after rows
+
+  module _ (feeder : Sending) (source : Source R) where
     pub sent_none : HasTaken rem source.layout source.input source.input source.tally source.tally [] → HasSent feeder source 0 feeder source
     sent_none none = record {
       rows = [];
@@ -119,8 +144,7 @@ module _ {R : Type 0} (rem : R → Option (List ℕ)) where
       channel = refl;
       sent = sym (append-nil feeder.sent);
       many = refl;
-      gives = λ all others still. (all, refl, λ fine. record { left = others; still = still; count = refl });
-      gone = gone_none none;
+      passed = passed_none source none;
     }
 
     module _ (n : ℕ) (now : Sending) (after : Source R) (has : HasSent feeder source n now after) where
@@ -132,15 +156,7 @@ module _ {R : Type 0} (rem : R → Option (List ℕ)) where
         channel = ap (λ (s : Sending). s.channel) is ∙ has.channel;
         sent = ap (λ (s : Sending). s.sent) is ∙ (ap (λ xs. xs ++ more) has.sent ∙ append_assoc feeder.sent has.rows more);
         many = omega (arith, length-append has.rows more, has.many, long);
-        gives = λ all others still.
-            let was = has.gives all others still in
-            let left = was.2 (λ fault is. absurd (cc (gives.before, is))) in
-            let now_ = gives.first was.0 left.left left.still in (
-              now_.0,
-              was.1 ∙ (ap (λ xs. has.rows ++ xs) now_.1 ∙ sym (append_assoc has.rows more now_.0)),
-              λ fine. (let rest = now_.2 fine in record { left = rest.left; still = rest.still; count = rest.count ∙ left.count }),
-            );
-        gone = gone_on source after has.rows has.gone join then_ more gives;
+        passed = passed_more source join after then_ has.rows more has.passed gives;
       }
 
       -- a fault that is met after so many rows is that of the source
@@ -156,12 +172,12 @@ module _ {R : Type 0} (rem : R → Option (List ℕ)) where
                 at = after.input;
                 middle = after.tally;
                 end = failed.0;
-                taken = (is_open source after has.rows has.gone ends).1;
-                stopped = subst (λ (l : Layout). HasStopped rem l after.input after.tally failed.0 fault) has.gone.layout failed.1;
+                taken = (is_open source after has.rows has.passed.gone ends).1;
+                stopped = subst (λ (l : Layout). HasStopped rem l after.input after.tally failed.0 fault) has.passed.gone.layout failed.1;
               }
           stops going (Some e) ends =
               let failed = subst (λ end. MatchOption end ((t : Tally) × HasStopped rem after.layout after.input after.tally t fault) (λ e. e ≡ Err fault)) ends fails in
-              let gave = was_open source after has.rows has.gone going in
+              let gave = was_open source after has.rows has.passed.gone going in
               record {
                 rows = has.rows;
                 number = has.many ∙ sym is;
@@ -176,7 +192,7 @@ module _ {R : Type 0} (rem : R → Option (List ℕ)) where
           by None going = subst (λ end. MatchOption end (StopsAfter rem source many fault) (λ e. e ≡ Err fault)) (sym going) (stops going after.end refl)
           by (Some e) ended =
               let same = subst (λ end. MatchOption end (HasGivenRows rem source.layout source.input after.input source.tally after.tally has.rows after.end) (λ e. (has.rows ≡ []) × (after ≡ source)))
-              ended has.gone.given in
+              ended has.passed.gone.given in
               let failed = subst (λ end. MatchOption end ((t : Tally) × HasStopped rem after.layout after.input after.tally t fault) (λ e. e ≡ Err fault))
               (ap (λ (s : Source R). s.end) same.1 ∙ ended) fails in
               subst (λ end. MatchOption end (StopsAfter rem source many fault) (λ e. e ≡ Err fault)) (sym ended) failed
@@ -194,18 +210,18 @@ module _ {R : Type 0} (rem : R → Option (List ℕ)) where
           by : (end : End) → after.end ≡ end → IsReadOut rem source has.rows bad
           by None ends =
               let ended = subst (λ end. MatchOption end (HasEnded rem after.layout after.input after.tally rest.tally) (λ e. (e ≡ Ok tt) × (rest ≡ after))) ends none.ended in
-              let last = subst (λ (l : Layout). HasTaken rem l after.input ended.at after.tally rest.tally []) has.gone.layout ended.taken in
+              let last = subst (λ (l : Layout). HasTaken rem l after.input ended.at after.tally rest.tally []) has.passed.gone.layout ended.taken in
               record {
                 at = ended.at;
                 end = rest.tally;
-                taken = out after.input ended.at after.tally rest.tally (is_open source after has.rows has.gone ends).1 last;
+                taken = out after.input ended.at after.tally rest.tally (is_open source after has.rows has.passed.gone ends).1 last;
                 over = ended.over;
                 few = none.few;
                 bad_is = is;
               }
           by (Some e) ends =
               let ended = subst (λ end. MatchOption end (HasEnded rem after.layout after.input after.tally rest.tally) (λ e. (e ≡ Ok tt) × (rest ≡ after))) ends none.ended in
-              let gave = was_open source after has.rows has.gone going in
+              let gave = was_open source after has.rows has.passed.gone going in
               let behind = subst (Behind source.layout gave.at after.input gave.middle after.tally) (ends ∙ ap (λ r. Some r) ended.0) gave.behind in
               record {
                 at = behind.at;
@@ -219,7 +235,7 @@ module _ {R : Type 0} (rem : R → Option (List ℕ)) where
       -- all rows were sent
       sent_all : (rest : Source R) (bad : ℕ) → GivesFirst rem after rest None → GivesNone rem after rest → bad ≡ rest.tally.bad → HasOnly rem source has.rows bad
       sent_all rest bad gives none is = λ all others still.
-          let was = has.gives all others still in
+          let was = has.passed.gives all others still in
           let left = was.2 (fine after.end refl) in
           let over = gives was.0 left.left left.still in
           (sym (was.1 ∙ ap (λ xs. has.rows ++ xs) over.0 ∙ append-nil has.rows), is ∙ over.1 ∙ left.count)
@@ -238,8 +254,8 @@ module _ {R : Type 0} (rem : R → Option (List ℕ)) where
         rows = has.rows;
         sent = of_some end.closing sent (λ closing is. is ∙ has.sent);
         many = has.many ∙ sym many;
-        first = λ all others still. (let was = has.gives all others still in (was.0, sym was.1));
-        given = gave_few source after has.rows has.gone;
+        first = λ all others still. (let was = has.passed.gives all others still in (was.0, sym was.1));
+        given = gave_few source after has.rows has.passed.gone;
         all = λ going fine. (let none = over going fine in sent_all none.0 end.bad none.1 none.2 none.3);
         out = λ going fine. (let none = over going fine in read_out join none.0 end.bad none.2 none.3);
       }

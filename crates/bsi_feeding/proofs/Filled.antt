@@ -1,13 +1,14 @@
--- What a source gives in one turn of its feeder: a row, or the rows of a block.
+-- What a source gives in one turn of its feeder: a row, or the rows of blocks.
 use Rattle.std.proofs.Common.{◌≡◌, ℕ, ◌<◌, ◌≤◌, List, [], ◌∷◌, ◌++◌, Option, Some, None, OnOk, IfErr, length, refl, sym, ap, ap₂, ◌∙◌, subst, arith}
 use Rattle.std.specs.Prelude.{◌≢◌, Result, Ok, Err, MatchOption}
-use Rattle.std.proofs.lemmas.List.{length-map}
+use Rattle.std.proofs.lemmas.List.{append-nil, length-map, map-append}
 use Rattle.bsi_table.specs.RowBlocks.{entries_of, fed_as, RowBlock}
-use Rattle.bsi_table.specs.Rows.{Entries}
-use Rattle.bsi_text.specs.Sources.{End, Fills, GivesFirst, HasEnded, HasLeft, HasStopped, HasTaken, Source, Tally}
+use Rattle.bsi_table.specs.Rows.{Entries, FedRow}
+use Rattle.bsi_text.specs.Sources.{End, Fills, GivesFirst, HasEnded, HasGivenRows, HasLeft, HasStopped, HasTaken, Source, Tally}
 use Rattle.bsi_text.specs.declared.rows.SourceFault.{SourceFault}
+use Rattle.bsi_text.specs.declared.rows.SourceFault.TheVariants.{NoMemory}
 use Rattle.bsi_feeding.specs.Feeding.{FailsNow, GivesNext, GivesNone}
-use Rattle.bsi_feeding.proofs.Feeds.{Behind, JoinsTaken}
+use Rattle.bsi_feeding.proofs.Feeds.{is_open, passed_more, was_open, Behind, HasPassed, JoinsTaken}
 
 -- the entries of rows, each of which is a feeder's
 entries_fed : (feeder : ℕ) (rows : List Entries) → entries_of (fed_as feeder rows) ≡ rows
@@ -62,6 +63,51 @@ module _ {R : Type 0} (rem : R → Option (List ℕ)) (old new : Source R) where
         by : (rows : List Entries) → length rows ≡ 0 → rows ≡ []
         by [] is = refl
         by (row ∷ rows) is = absurd (omega (arith, is))
+
+    -- the block is the same but for its rows
+    pub same_block : IfErr r (λ fault. (new.end ≡ Some (Err fault)) × (full ≡ start)) → full ≡ record start { rows = full.rows }
+    same_block stopped = by old.end refl
+      where
+        with_rows_of : RowBlock → RowBlock
+        with_rows_of b = record start { rows = b.rows }
+
+        by : (end : End) → old.end ≡ end → full ≡ record start { rows = full.rows }
+        by None going = (filled going).puts.added ∙ sym (ap with_rows_of (filled going).puts.added)
+        by (Some (Ok tt)) going = (ended going).2 ∙ sym (ap with_rows_of (ended going).2)
+        by (Some (Err fault)) going =
+            let stops = subst (λ r. IfErr r (λ fault. (new.end ≡ Some (Err fault)) × (full ≡ start))) (failed fault going).0 stopped in
+            stops.1 ∙ sym (ap with_rows_of stops.1)
+
+    -- a source that goes on gives the next rows, however many
+    going_next : (going : old.end ≡ None) → new.layout ≡ old.layout → new.tally.taken ≤ 1000000 → GivesNext rem old new (entries_of full.rows)
+    going_next going same few =
+        let fills = filled going in
+        subst (GivesNext rem old new) (sym (all_rows going)) (record {
+          before = going;
+          layout = same;
+          given = fills.puts.given;
+          first = fills.first;
+          few = few;
+        })
+
+    -- so that it has passed these too
+    pub passed_fill : JoinsTaken rem → IfErr r (λ fault. (new.end ≡ Some (Err fault)) × (full ≡ start)) → new.layout ≡ old.layout → new.tally.taken ≤ 1000000
+        → (source : Source R) (rows : List Entries) → HasPassed rem source old rows → HasPassed rem source new (rows ++ entries_of full.rows)
+    passed_fill join stopped same few source rows has = by old.end refl
+      where
+        still : full ≡ start → new ≡ old → HasPassed rem source new (rows ++ entries_of full.rows)
+        still kept now =
+            let none : entries_of full.rows ≡ [] = ap (λ (b : RowBlock). entries_of b.rows) kept ∙ ap entries_of empty in
+            subst (λ (s : Source R). HasPassed rem source s (rows ++ entries_of full.rows)) (sym now)
+            (subst (HasPassed rem source old) (sym (ap (λ xs. rows ++ xs) none ∙ append-nil rows)) has)
+
+        by : (end : End) → old.end ≡ end → HasPassed rem source new (rows ++ entries_of full.rows)
+        by None going = passed_more rem source join old new rows (entries_of full.rows) has (going_next going same few)
+        by (Some (Ok tt)) going = still (ended going).2 (ended going).1
+        by (Some (Err fault)) going =
+            let met = failed fault going in
+            let stops = subst (λ r. IfErr r (λ fault. (new.end ≡ Some (Err fault)) × (full ≡ start))) met.0 stopped in
+            still stops.1 met.1
 
     -- a call that answers a fault met it before any row
     pub fill_fails : JoinsTaken rem → IfErr r (λ fault. (new.end ≡ Some (Err fault)) × (full ≡ start)) → (fault : SourceFault) → r ≡ Err fault → FailsNow rem old fault
@@ -130,14 +176,44 @@ module _ {R : Type 0} (rem : R → Option (List ℕ)) (old new : Source R) where
       fill_next same few some = (length-map full.rows (λ row. row.1), by old.end refl)
         where
           by : (end : End) → old.end ≡ end → GivesNext rem old new (entries_of full.rows)
-          by None going =
-              let fills = filled going in
-              subst (GivesNext rem old new) (sym (all_rows going)) (record {
-                before = going;
-                layout = same;
-                given = fills.puts.given;
-                first = fills.first;
-                few = few;
-              })
+          by None going = going_next going same few
           by (Some (Ok tt)) going = absurd (some (ap (λ (block : RowBlock). length block.rows) (ended going).2 ∙ ap length empty))
           by (Some (Err fault)) going = absurd (cc (done, (failed fault going).0))
+
+-- ---- a batch
+
+module _ {R : Type 0} (rem : R → Option (List ℕ)) (old new : Source R) (rows : List Entries) (has : HasPassed rem old new rows) where
+  -- some rows that a source has given are the next ones
+  pub passed_next : new.tally.taken ≤ 1000000 → 0 < length rows → GivesNext rem old new rows
+  passed_next few some = by old.end refl
+    where
+      by : (end : End) → old.end ≡ end → GivesNext rem old new rows
+      by None is = record {
+        before = is;
+        layout = has.gone.layout;
+        given = was_open rem old new rows has.gone is;
+        first = has.gives;
+        few = few;
+      }
+      by (Some e) is =
+          let none = subst (λ end. MatchOption end (HasGivenRows rem old.layout old.input new.input old.tally new.tally rows new.end) (λ e. (rows ≡ []) × (new ≡ old))) is has.gone.given in
+          absurd (omega (arith, some, ap length none.0))
+
+  -- a source that goes on had not ended before
+  pub passed_open : new.end ≡ None → old.end ≡ None
+  passed_open going = (is_open rem old new rows has.gone going).0
+
+-- a source that had not ended may stop where memory is refused
+pub refused_now : {R : Type 0} (rem : R → Option (List ℕ)) (source : Source R) → HasTaken rem source.layout source.input source.input source.tally source.tally []
+    → source.end ≡ None → FailsNow rem source NoMemory
+refused_now rem source none going =
+    subst (λ end. MatchOption end ((t : Tally) × HasStopped rem source.layout source.input source.tally t NoMemory) (λ e. e ≡ Err NoMemory)) (sym going)
+    (source.tally, record { at = source.input; taken = none; later = λ is. absurd (cc is); too_long = λ is. absurd (cc is) })
+
+-- the entries of rows and of others behind them
+pub entries_append : (xs ys : List FedRow) → entries_of (xs ++ ys) ≡ entries_of xs ++ entries_of ys
+entries_append xs ys = map-append (λ (row : FedRow). row.1) xs ys
+
+pub no_entries_of : (rows : List FedRow) → length rows ≡ 0 → entries_of rows ≡ []
+no_entries_of [] is = refl
+no_entries_of (row ∷ rows) is = absurd (omega (arith, is))

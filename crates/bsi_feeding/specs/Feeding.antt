@@ -1,5 +1,5 @@
 -- What a feeder that reads a row file sends.
-use Rattle.std.specs.Prelude.{◌≡◌, ◌≤◌, ℕ, ◌+◌, false, List, ◌++◌, Option, None, Ok, Err, IfSome, length, MatchOption}
+use Rattle.std.specs.Prelude.{◌≡◌, ◌<◌, ◌≤◌, ℕ, ◌+◌, false, List, ◌++◌, Option, None, Ok, Err, IfSome, length, MatchOption}
 use Rattle.csv.specs.declared.reader.Reader.{Reader}
 use mathlib.Core.List.{IsPrefix}
 use Rattle.bsi_rings.specs.Rings.{with_sent_rows, Sending}
@@ -83,11 +83,18 @@ pub record GivesNone {R : Type 0} (rem : R → Option (List ℕ)) (old new : Sou
       (λ end. (end ≡ Ok tt) × (new ≡ old))
   pub few : new.tally.taken ≤ max_records
 
--- what came of one turn: the first rows that the source still had were sent, at most 64, or nothing was, and there is
+-- what was gathered in a batch: the next rows of a source. Where there is none, none is left, or the source answered the
+-- fault
+pub record IsGathered {R : Type 0} (rem : R → Option (List ℕ)) (old new : Source R) (rows : List Entries)
+    (fault : Option SourceFault) : Type 0 where
+  pub some : 0 < length rows → GivesNext rem old new rows
+  pub none : length rows ≡ 0 → MatchOption fault (GivesFirst rem old new None × GivesNone rem old new) (FailsNow rem old)
+
+-- what came of one turn: the first rows that the source still had were sent, at most 512, or nothing was, and there is
 -- then none left where the turn says so
 abbrev pub IsFeederTurn : {R : Type 0} → (R → Option (List ℕ)) → Sending → Source R → Turn → Sending → Source R → Type 0
 IsFeederTurn rem feeder source (turn.Sent many) after rest =
-    (rows : List Entries) × (length rows ≡ many) × (many ≤ 64) × (after ≡ with_sent_rows feeder rows)
+    (rows : List Entries) × (length rows ≡ many) × (many ≤ 512) × (after ≡ with_sent_rows feeder rows)
     × GivesNext rem source rest rows
 IsFeederTurn rem feeder source turn.Over after rest = (after ≡ feeder) × GivesFirst rem source rest None
     × GivesNone rem source rest

@@ -1,19 +1,22 @@
 //! A feeder that reads a row file: it sends each good row, and closes.
 
-ghost use Rattle.std.specs.Prelude.{◌≡◌, IfSome, true, false};
+ghost use Rattle.std.specs.Prelude.{◌≡◌, ◌<◌, ◌≤◌, ◌*◌, [], IfOk, IfSome, None, OnErr, length, true, false};
 ghost use Rattle.bsi_rings.specs.Rings.{with_sent, with_sent_rows, Closes};
-ghost use Rattle.bsi_table.specs.RowBlocks.{entries_of, no_block_rows};
-ghost use Rattle.bsi_feeding.specs.Feeding.{HasFailed, HasFed, IsFeederTurn};
+ghost use Rattle.bsi_table.specs.RowBlocks.{entries_of, no_block_rows, AreAlike};
+ghost use Rattle.bsi_feeding.specs.Feeding.{HasFailed, HasFed, IsFeederTurn, IsGathered};
 
 use crate::{Gate, Pause};
-use bsi_rings::{BlockRefused, Closing, Feeder, SubmitRefused};
-use bsi_table::{Block, MAX_BLOCK_ROWS, Row};
+use bsi_rings::{BatchRefused, Closing, Feeder, NoMemory, SubmitRefused};
+use bsi_table::{Block, Index, MAX_BLOCK_ROWS, Row};
 use bsi_text::{RowSource, SourceFault};
 use std::io::Read;
 use std::sync::Wait;
 
-/// The most turns of a feeder, each of at most 64 rows. No text has so many records.
-const MAX_TURNS: u64 = u64::MAX / 64;
+/// The most rows of a batch. The ring of a file has places for two.
+const MAX_BATCH_ROWS: u64 = 512;
+
+/// The most turns of a feeder, each of at most a batch. No text has so many records.
+const MAX_TURNS: u64 = u64::MAX / MAX_BATCH_ROWS;
 
 /// How often a feeder whose ring is full yields before it sleeps.
 const MAX_YIELDS: u32 = 16;
@@ -28,7 +31,7 @@ pub struct FeedEnd {
     /// Whether a row was not sent, because the gate stopped the feeder or because the row does not fit the feeder's
     /// schema.
     pub stopped: bool,
-    /// The fault that the source answered.
+    /// The fault that the source answered, or `NoMemory` where memory for a batch of its rows was refused.
     pub fault: Option<SourceFault>,
     /// The feeder's closing, or none if its ring gave none.
     pub closing: Option<Closing>,
@@ -48,8 +51,8 @@ pub(crate) enum Turn {
 }
 
 /// Sends the rows of a source in their order, trying each until it is accepted, and closes the feeder. Where the ring has
-/// places for it, a block of up to 64 rows goes at one try. It waits between two tries. It stops at a fault of the
-/// source, at a row that does not fit the feeder's schema, and where the gate tells it to, after a try that found no
+/// places for it, a batch of up to 512 rows goes at one try. It waits between two tries. It stops at a fault of the
+/// source, where memory for a batch is refused, at a row that does not fit the feeder's schema, and where the gate tells it to, after a try that found no
 /// place in the ring. It closes the feeder in each case.
 pub fn feed<R: Wait, I: Read + Drop, G: Gate>(
     rt: &R,
@@ -85,7 +88,7 @@ pub fn feed<R: Wait, I: Read + Drop, G: Gate>(
     finish(rt, feeder, source, gate, accepted, true, None)
 }
 
-/// Takes the next rows of the source, and sends them: as many as a block has, or one.
+/// Takes the next rows of the source, and sends them: as many as a batch has, or one.
 fn feed_next<R: Wait, I: Read + Drop, G: Gate>(
     rt: &R,
     feeder: &mut Feeder,
@@ -95,50 +98,92 @@ fn feed_next<R: Wait, I: Read + Drop, G: Gate>(
 ) -> Turn
     ensures { IsFeederTurn I.remaining feeder.old source.old result feeder.new source.new }
 {
-    match block_for(feeder, source) {
-        Some(block) => feed_block(rt, feeder, source, block, gate, point),
+    match batch_for(feeder, source) {
+        Some((block, batch)) => feed_batch(rt, feeder, source, block, batch, gate, point),
         None => feed_one(rt, feeder, source, gate, point),
     }
 }
 
-/// Makes a block for the next rows of the source. It returns none if the ring has fewer places, if the rows are of
-/// another schema than the feeder's, of which each is to be tested, or if memory is refused.
-fn block_for<I: Read + Drop>(feeder: &Feeder, source: &RowSource<I>) -> Option<Block>
-    ensures { IfSome result (λ block. block ≡ no_block_rows source.now.layout.schema 1) }
+/// Makes a block and a batch for the next rows of the source. It returns none if the ring has fewer places than a block,
+/// if the rows are of another schema than the feeder's, of which each is to be tested, or if memory is refused.
+fn batch_for<I: Read + Drop>(feeder: &Feeder, source: &RowSource<I>) -> Option<(Block, Index)>
+    ensures block { IfSome result (λ made. made.0 ≡ no_block_rows source.now.layout.schema 1) }
+    ensures batch { IfSome result (λ made. (made.1.rows ≡ []) × (made.1.feeders ≡ 1)) }
+    ensures alike { IfSome result (λ made. AreAlike made.0.schema made.1.schema) }
+    ensures place { IfSome result (λ made. 64 ≤ feeder.now.capacity) }
 {
     if (feeder.capacity() as usize) < MAX_BLOCK_ROWS {
         return None;
     }
     let block = source.block(1).ok()?;
-    if !feeder.takes(&block) {
+    let mut batch = feeder.batch().ok()?;
+    if !block.has_limits_of(batch.schema()) {
         return None;
     }
-    Some(block)
+    batch.reserve(MAX_BATCH_ROWS).ok()?;
+    Some((block, batch))
 }
 
-/// Fills a block with the next rows of the source, and sends it.
-fn feed_block<R: Wait, I: Read + Drop, G: Gate>(
+/// Gathers the next rows of the source in a batch, and sends it. Where memory for its rows is refused they are not sent,
+/// and the feeder fails.
+fn feed_batch<R: Wait, I: Read + Drop, G: Gate>(
     rt: &R,
     feeder: &mut Feeder,
     source: &mut RowSource<I>,
     mut block: Block,
+    mut batch: Index,
     gate: &G,
     point: u64,
 ) -> Turn
-    requires { block ≡ no_block_rows source.old.layout.schema 1 }
+    requires block { block ≡ no_block_rows source.old.layout.schema 1 }
+    requires batch { (batch.rows ≡ []) × (batch.feeders ≡ 1) }
+    requires alike { AreAlike block.schema batch.schema }
+    requires place { 64 ≤ feeder.old.capacity }
     ensures { IsFeederTurn I.remaining feeder.old source.old result feeder.new source.new }
 {
-    if let Err(fault) = source.fill(0, &mut block) {
-        return Turn::Failed(fault);
-    }
-    let rows = block.len();
+    let most = u64::from(feeder.capacity()).min(MAX_BATCH_ROWS);
+    let blocks = most / MAX_BLOCK_ROWS as u64;
+    let Ok(fault) = gather(source, &mut block, &mut batch, blocks) else {
+        return Turn::Failed(SourceFault::NoMemory);
+    };
+    let rows = batch.len();
     if rows == 0 {
-        return Turn::Over;
+        return fault.map_or(Turn::Over, Turn::Failed);
     }
-    if !send_block(rt, feeder, block, gate, point) {
+    if !send_batch(rt, feeder, batch, gate, point) {
         return Turn::Stopped;
     }
-    Turn::Sent(rows as u64)
+    Turn::Sent(rows)
+}
+
+/// Fills a block with the next rows of the source and appends it to the batch, so many times or until no row is left or
+/// the source answers a fault, which it returns.
+fn gather<I: Read + Drop>(
+    source: &mut RowSource<I>,
+    block: &mut Block,
+    batch: &mut Index,
+    blocks: u64,
+) -> Result<Option<SourceFault>, NoMemory>
+    requires block { block.old ≡ no_block_rows source.old.layout.schema 1 }
+    requires batch { (batch.old.rows ≡ []) × (batch.old.feeders ≡ 1) }
+    requires alike { AreAlike block.old.schema batch.old.schema }
+    requires some { 0 < blocks }
+    ensures few { length batch.new.rows ≤ 64 * blocks }
+    ensures given { IfOk result
+        (IsGathered I.remaining source.old source.new (entries_of batch.new.rows)) }
+    ensures refused { OnErr result (source.old.end ≡ None) }
+{
+    'fills: for _ in 0..blocks {
+        block.clear();
+        if let Err(fault) = source.fill(0, block) {
+            return Ok(Some(fault));
+        }
+        if block.len() == 0 {
+            return Ok(None);
+        }
+        batch.append_block(block).map_err(|_| NoMemory)?;
+    }
+    Ok(None)
 }
 
 /// Takes the next row of the source, and sends it.
@@ -187,26 +232,26 @@ fn send<R: Wait, G: Gate>(rt: &R, feeder: &mut Feeder, mut row: Row, gate: &G, p
     unreachable!()
 }
 
-/// Tries to send a block until it is accepted or the feeder stops, and returns whether it was accepted.
-fn send_block<R: Wait, G: Gate>(
+/// Tries to send a batch until it is accepted or the feeder stops, and returns whether it was accepted.
+fn send_batch<R: Wait, G: Gate>(
     rt: &R,
     feeder: &mut Feeder,
-    mut block: Block,
+    mut batch: Index,
     gate: &G,
     point: u64,
 ) -> bool
     ensures sent { result ≡ true →
-        feeder.new ≡ with_sent_rows feeder.old (entries_of block.rows) }
+        feeder.new ≡ with_sent_rows feeder.old (entries_of batch.rows) }
     ensures kept { result ≡ false → feeder.new ≡ feeder.old }
 {
     let who = feeder.number();
     let mut pause = Pause::new(MAX_YIELDS);
-    pass_all(rt, gate, who, point, block.len());
+    pass_all(rt, gate, who, point, batch.len());
     'tries: for _ in rt.forever() {
-        match feeder.submit_block(block) {
+        match feeder.submit_batch(batch) {
             Ok(()) => return true,
-            Err(BlockRefused::Misfit(_)) => return false,
-            Err(BlockRefused::Full(back)) => block = back,
+            Err(BatchRefused::Misfit(_)) => return false,
+            Err(BatchRefused::Full(back)) => batch = back,
         }
         if !gate.again(rt, who, point) {
             return false;
@@ -218,9 +263,9 @@ fn send_block<R: Wait, G: Gate>(
 }
 
 /// Has a feeder pass the gate before each of so many rows, of which the first has number `point`.
-fn pass_all<R: Wait, G: Gate>(rt: &R, gate: &G, who: u32, point: u64, rows: usize) {
+fn pass_all<R: Wait, G: Gate>(rt: &R, gate: &G, who: u32, point: u64, rows: u64) {
     'rows: for row in 0..rows {
-        gate.pass(rt, who, point.saturating_add(row as u64));
+        gate.pass(rt, who, point.saturating_add(row));
     }
 }
 

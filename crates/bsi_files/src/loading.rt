@@ -1,6 +1,6 @@
 //! The loader's part of a run: beside the feeders, and for what is left when they have ended.
 //!
-//! It takes blocks of a feeder until these have 256 rows before the next one's turn, so that no ring stays full because
+//! It takes batches of a feeder until these have 256 rows before the next one's turn, so that no ring stays full because
 //! another is long, and publishes from 3,584 held rows on, so that few stand beside the two copies of the table, and
 //! those of one turn more are still one batch. Such a publish may be refused memory: the rows stay held. Nobody asks
 //! before the last one.
@@ -117,7 +117,7 @@ fn load_some<B: Naming>(loader: &mut Loader<B>, feeder: u32) -> Result<bool, Fil
     Ok(taken > 0)
 }
 
-/// Takes a block of a feeder or one row, and returns how many rows there were.
+/// Takes a batch of a feeder or one row, and returns how many rows there were.
 fn load_next<B: Naming>(loader: &mut Loader<B>, feeder: u32) -> Result<usize, FilesFault>
     ensures system { loader.new.system ≡ loader.old.system }
     ensures takes { TakesOnlyOf feeder loader.old.takings loader.new.takings }
@@ -125,7 +125,7 @@ fn load_next<B: Naming>(loader: &mut Loader<B>, feeder: u32) -> Result<usize, Fi
     ensures early { IfErr result (λ fault. is_early fault ≡ true) }
     ensures full { result ≡ Err FilesFault.IndexFull → IsFullAt feeder loader.new }
 {
-    match loader.load_block(feeder) {
+    match loader.load_batch(feeder) {
         Ok(rows) => Ok(rows),
         Err(LoadRefused::IndexFull) => Err(FilesFault::IndexFull),
         Err(LoadRefused::NoMemory) => Err(FilesFault::NoMemory),

@@ -4,7 +4,7 @@
 //! rows before came from it, in 4 bytes. A tally costs 0.008 bytes a row and feeder, and a row that stands alone is
 //! numbered by one tally and up to 511 bytes.
 
-ghost use Rattle.std.specs.Prelude.{◌≡◌, ◌+◌, ◌-◌, ◌*◌, ◌<◌, ◌≤◌, ◌^◌, ◌++◌, ◌∷◌, [], All, IfOk, IsOk, OnErr, OnOk, length, min, slice_index, vec_len, vec_capacity};
+ghost use Rattle.std.specs.Prelude.{◌≡◌, ◌+◌, ◌-◌, ◌*◌, ◌<◌, ◌≤◌, ◌^◌, ◌++◌, ◌∷◌, [], All, IfOk, IsOk, OnErr, OnOk, length, min, replicate, slice_index, vec_len, vec_capacity};
 ghost use Rattle.bsi_origins.specs.Origins.{max_feeders, tally_len, AreCounts};
 
 use crate::NoMemory;
@@ -143,6 +143,19 @@ impl Origins {
     {
         'rows: for feeder in &other.row_feeders {
             self.push_reserved(*feeder);
+        }
+    }
+
+    /// Appends so many rows of one feeder, into room that is already there.
+    pub fn push_many_reserved(&mut self, feeder: u8, rows: u64)
+        requires feeder { feeder < self.old.feeders }
+        requires room { rows ≤ self.old.room }
+        ensures rows { self.new.rows ≡ self.old.rows ++ replicate rows feeder }
+        ensures feeders { self.new.feeders ≡ self.old.feeders }
+        ensures room { self.new.room + rows ≡ self.old.room }
+    {
+        'rows: for _ in 0..rows {
+            self.push_reserved(feeder);
         }
     }
 

@@ -17,7 +17,7 @@ use Rattle.bsi_rings.specs.Rings.{all_rows, first_rows, rows_of, with_sent_rows,
 -- a parcel has a row
 pub some_rows : (p : Parcel) → 0 < length (rows_of p)
 some_rows (parcel.Row row) = omega arith
-some_rows (parcel.Block batch) = omega (arith, batch.some, length-map batch.block.rows (λ (row : FedRow). row.1))
+some_rows (parcel.Batch batch) = omega (arith, batch.some, length-map batch.index.rows (λ (row : FedRow). row.1))
 
 pub all_rows-append : (ps qs : List Parcel) → all_rows (ps ++ qs) ≡ all_rows ps ++ all_rows qs
 all_rows-append [] qs = refl
@@ -36,11 +36,11 @@ many_rows (p ∷ ps) = omega (arith, many_rows ps, some_rows p, length-append (r
 
 pub parcel_fits : (schema : Declared) (p : Parcel) → IsParcel schema p → AllFit schema (rows_of p)
 parcel_fits schema (parcel.Row row) is = All-cons (λ r. IsTrue (fits schema.columns r)) row [] is (All-nil (λ r. IsTrue (fits schema.columns r)))
-parcel_fits schema (parcel.Block batch) is = is.1
+parcel_fits schema (parcel.Batch batch) is = is.1
 
 -- rows of feeders that fit do so without their feeders
-pub block_fits : (schema : Declared) (rows : List FedRow) → AreFitting schema.columns rows → AllFit schema (entries_of rows)
-block_fits schema rows fitting = All-map (λ row. IsTrue (fits schema.columns row)) (λ (row : FedRow). row.1) rows fitting
+pub entries_fit : (schema : Declared) (rows : List FedRow) → AreFitting schema.columns rows → AllFit schema (entries_of rows)
+entries_fit schema rows fitting = All-map (λ row. IsTrue (fits schema.columns row)) (λ (row : FedRow). row.1) rows fitting
 
 -- each row that a feeder of a schema sends fits it
 pub rows_fit : (schema : Declared) (ps : List Parcel) → All (IsParcel schema) ps → AllFit schema (all_rows ps)

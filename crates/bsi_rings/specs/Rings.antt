@@ -5,10 +5,11 @@ use denote.RawPtr.{Ptr}
 use Rattle.rtrb.specs.Shared.{Names}
 use Rattle.rtrb.specs.declared.end.End.{End}
 use Rattle.bsi_table.specs.Columns.{fits, Declared}
-use Rattle.bsi_table.specs.RowBlocks.{entries_of, AreAlike, RowBlock}
+use Rattle.bsi_table.specs.RowBlocks.{entries_of, AreAlike}
 use Rattle.bsi_table.specs.Rows.{Entries}
-use Rattle.bsi_rings.specs.declared.feeder.BlockRefused.{BlockRefused}
-use Rattle.bsi_rings.specs.declared.feeder.BlockRefused.TheVariants as block
+use Rattle.bsi_table.specs.Table.{Table}
+use Rattle.bsi_rings.specs.declared.feeder.BatchRefused.{BatchRefused}
+use Rattle.bsi_rings.specs.declared.feeder.BatchRefused.TheVariants as batch
 use Rattle.bsi_rings.specs.declared.feeder.SubmitRefused.{SubmitRefused}
 use Rattle.bsi_rings.specs.declared.feeder.SubmitRefused.TheVariants.{Misfit, Full}
 use Rattle.bsi_rings.specs.declared.parcel.Parcel.{Parcel}
@@ -38,7 +39,7 @@ AllFit schema rows = All (λ row. IsTrue (fits schema.columns row)) rows
 -- the rows of a parcel, the first one first
 abbrev pub rows_of : Parcel → List Entries
 rows_of (parcel.Row row) = row ∷ []
-rows_of (parcel.Block batch) = entries_of batch.block.rows
+rows_of (parcel.Batch batch) = entries_of batch.index.rows
 
 -- the rows of parcels, in their order
 abbrev pub all_rows : List Parcel → List Entries
@@ -50,12 +51,12 @@ abbrev pub first_rows : List Parcel → List Entries
 first_rows [] = []
 first_rows (p ∷ parcels) = rows_of p
 
--- a feeder of this schema sends it: a row that fits, or a block for columns that take the same numbers, so that each of
+-- a feeder of this schema sends it: a row that fits, or a batch of columns that take the same numbers, so that each of
 -- its rows fits
 abbrev pub IsParcel : Declared → Parcel → Type 0
 IsParcel schema (parcel.Row row) = IsTrue (fits schema.columns row)
-IsParcel schema (parcel.Block batch) =
-    AreAlike batch.block.schema schema × AllFit schema (entries_of batch.block.rows)
+IsParcel schema (parcel.Batch batch) =
+    AreAlike batch.index.schema schema × AllFit schema (entries_of batch.index.rows)
 
 -- ---- a feeder
 
@@ -84,12 +85,12 @@ IsSubmitReply s row (Err (Misfit back)) = (back ≡ row) × (fits s.channel.sche
 IsSubmitReply s row (Err (Full back)) =
     (back ≡ row) × IsTrue (fits s.channel.schema.columns row) × (s.capacity ≤ length s.sent)
 
--- the reply to a submission of a block. One that is alike may be refused only once the rows that were sent and its own
+-- the reply to a submission of a batch. One that is alike may be refused only once the rows that were sent and its own
 -- are more than the ring has places
-abbrev pub IsBlockReply : Sending → RowBlock → Result (Unit {0}) BlockRefused → Type 0
-IsBlockReply s sent (Ok done) = AreAlike sent.schema s.channel.schema
-IsBlockReply s sent (Err (block.Misfit back)) = (back ≡ sent) × ¬ AreAlike sent.schema s.channel.schema
-IsBlockReply s sent (Err (block.Full back)) =
+abbrev pub IsBatchReply : Sending → Table → Result (Unit {0}) BatchRefused → Type 0
+IsBatchReply s sent (Ok done) = AreAlike sent.schema s.channel.schema
+IsBatchReply s sent (Err (batch.Misfit back)) = (back ≡ sent) × ¬ AreAlike sent.schema s.channel.schema
+IsBatchReply s sent (Err (batch.Full back)) =
     (back ≡ sent) × AreAlike sent.schema s.channel.schema × (s.capacity < length s.sent + length sent.rows)
 
 -- ---- a closing

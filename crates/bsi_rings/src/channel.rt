@@ -8,7 +8,7 @@ ghost use Rattle.bsi_rings.specs.Rings.{all_rows, first_rows};
 
 use crate::parcel::Parcel;
 use crate::{Closing, NoMemory};
-use bsi_table::{Block, Row, Schema};
+use bsi_table::{Index, Row, Schema};
 use rtrb::{Consumer, Finished};
 use std::alloc::Global;
 use std::marker::Model;
@@ -107,14 +107,14 @@ impl Channel {
         }
     }
 
-    /// Lends the row that stands first, or none where it is one of a block.
+    /// Lends the row that stands first, or none where it is one of a batch.
     pub fn first_row(&self) -> Option<&Row>
         requires { 0 < length self.now.seen }
         ensures { IfSome (option_copied result) (λ row. IsPrefix (row ∷ []) self.now.seen) }
     {
         match self.ring.peek_known() {
             Parcel::Row(row) => Some(row),
-            Parcel::Block(_) => None,
+            Parcel::Batch(_) => None,
         }
     }
 
@@ -125,25 +125,25 @@ impl Channel {
     {
         match self.ring.peek_known() {
             Parcel::Row(row) => row.copy(),
-            Parcel::Block(batch) => batch.block.row(self.next),
+            Parcel::Batch(batch) => batch.index.row(self.next as u64),
         }
     }
 
-    /// Lends the block that stands first. It returns none where a row stands first, or a row of the block was taken, or
-    /// the columns of the block do not take the same numbers as those of the schema.
-    pub fn first_block(&self) -> Option<&Block>
+    /// Lends the batch that stands first. It returns none where a row stands first, or a row of the batch was taken, or
+    /// the columns of the batch do not take the same numbers as those of the schema.
+    pub fn first_batch(&self) -> Option<&Index>
         requires { 0 < length self.now.seen }
         ensures rows { IfSome (option_copied result)
-            (λ block. IsPrefix (entries_of block.rows) self.now.seen) }
-        ensures some { IfSome (option_copied result) (λ block. 0 < length block.rows) }
+            (λ batch. IsPrefix (entries_of batch.rows) self.now.seen) }
+        ensures some { IfSome (option_copied result) (λ batch. 0 < length batch.rows) }
         ensures alike { IfSome (option_copied result)
-            (λ block. AreAlike block.schema self.now.channel.schema) }
+            (λ batch. AreAlike batch.schema self.now.channel.schema) }
         ensures fitting { IfSome (option_copied result)
-            (λ block. AllFit self.now.channel.schema (entries_of block.rows)) }
+            (λ batch. AllFit self.now.channel.schema (entries_of batch.rows)) }
     {
         match self.ring.peek_known() {
-            Parcel::Block(batch) if self.next == 0 && batch.is_for(&self.schema) => {
-                Some(&batch.block)
+            Parcel::Batch(batch) if self.next == 0 && batch.is_for(&self.schema) => {
+                Some(&batch.index)
             }
             _ => None,
         }

@@ -1,13 +1,13 @@
 //! A feeder: the producer of one ring.
 
-ghost use Rattle.std.specs.Prelude.{◌≡◌, ◌+◌, ◌<◌, ◌≤◌, ◌^◌, ◌↔◌, [], IfSome, IsTrue, OnErr, OnOk, false, length, true};
+ghost use Rattle.std.specs.Prelude.{◌≡◌, ◌+◌, ◌<◌, ◌≤◌, ◌^◌, [], IfOk, IfSome, OnErr, OnOk, false, length, true};
 ghost use Rattle.rtrb.specs.Ring.{known_free, producer_capacity, sent, ProducerLooked};
 ghost use Rattle.bsi_rings.specs.Rings.{all_rows};
 
-use crate::Closing;
+use crate::{Closing, NoMemory};
 use crate::parcel::{Batch, Parcel};
 use crate::places::Places;
-use bsi_table::{Block, Row, Schema};
+use bsi_table::{Index, MAX_ROWS, Row, Schema};
 use rtrb::Producer;
 use std::alloc::Global;
 use std::marker::Model;
@@ -22,20 +22,21 @@ pub enum SubmitRefused {
     Full(Row),
 }
 
-/// Why a block is not sent, in the order of the checks. The block is handed back.
+/// Why a batch is not sent, in the order of the checks. The batch is handed back.
 #[derive(Drop)]
-pub enum BlockRefused {
-    /// The columns that the block was made for do not take the same numbers as those of the schema.
-    Misfit(Block),
-    /// The feeder sees fewer free places in the ring than the block has rows. The loader frees one for each row that it
-    /// takes. A block of more rows than the ring's capacity is always refused.
-    Full(Block),
+pub enum BatchRefused {
+    /// The columns of the batch do not take the same numbers as those of the schema.
+    Misfit(Index),
+    /// The feeder sees fewer free places in the ring than the batch has rows. The loader frees one for each row that it
+    /// takes. A batch of more rows than the ring's capacity is always refused.
+    Full(Index),
 }
 
 /// The producer end of a ring, by which one feeder submits rows. It may move to a thread of its own.
 #[derive(Drop)]
 pub struct Feeder {
     number: u32,
+    alloc: Global,
     schema: Arc<Schema, Global>,
     ring: Producer<Parcel>,
     places: Places,
@@ -63,12 +64,14 @@ impl Model for Feeder {
 }
 
 impl Feeder {
-    ghost use Rattle.bsi_table.specs.RowBlocks.{entries_of, AreAlike};
-    ghost use Rattle.bsi_rings.specs.Rings.{new_sending, ring_of, with_sent, with_sent_rows, Closes, IsBlockReply, IsSubmitReply};
+    ghost use Rattle.bsi_table.specs.RowBlocks.{entries_of};
+    ghost use Rattle.bsi_rings.specs.Rings.{new_sending, ring_of, with_sent, with_sent_rows, Closes, IsBatchReply, IsSubmitReply};
+    ghost use Rattle.bsi_table.specs.Table.{no_rows};
 
     /// Makes the feeder of a ring to which nothing has been sent.
     pub(crate) fn new(
         number: u32,
+        alloc: Global,
         schema: Arc<Schema, Global>,
         ring: Producer<Parcel>,
         places: Places,
@@ -81,6 +84,7 @@ impl Feeder {
     {
         Feeder {
             number,
+            alloc,
             schema,
             ring,
             places,
@@ -101,12 +105,12 @@ impl Feeder {
         self.ring.capacity() as u32
     }
 
-    /// Returns whether a block is of columns that take the same numbers as those of the schema: `submit_block` does not
-    /// refuse it as a misfit. It allocates no memory.
-    pub fn takes(&self, block: &Block) -> bool
-        ensures { IsTrue result ↔ AreAlike block.now.schema self.now.channel.schema }
+    /// Makes a batch of no rows, an index of one feeder that keeps its columns as the table does: the loader takes its
+    /// rows by words.
+    pub fn batch(&self) -> Result<Index, NoMemory>
+        ensures { IfOk result (λ batch. batch ≡ no_rows self.now.channel.schema 1 (2 ^ 32)) }
     {
-        block.has_limits_of(&self.schema)
+        Index::with_schema(self.alloc, &self.schema, 1, MAX_ROWS).map_err(|_| NoMemory)
     }
 
     /// Sends a row. It allocates no memory and never waits.
@@ -126,25 +130,24 @@ impl Feeder {
         Ok(())
     }
 
-    /// Sends the rows of a block, in their order, each as a row of this feeder. It allocates no memory and never waits.
-    /// A block of no row is sent by doing nothing.
-    pub fn submit_block(&mut self, block: Block) -> Result<(), BlockRefused>
-        ensures reply { IsBlockReply self.old block result }
-        ensures sent { OnOk result (self.new ≡ with_sent_rows self.old (entries_of block.rows)) }
+    /// Sends the rows of a batch, in their order, each as a row of this feeder, whatever feeders the batch has. It
+    /// allocates no memory and never waits. A batch of no row is sent by doing nothing.
+    pub fn submit_batch(&mut self, batch: Index) -> Result<(), BatchRefused>
+        ensures reply { IsBatchReply self.old batch result }
+        ensures sent { OnOk result (self.new ≡ with_sent_rows self.old (entries_of batch.rows)) }
         ensures kept { OnErr result (self.new ≡ self.old) }
     {
-        if !block.has_limits_of(&self.schema) {
-            return Err(BlockRefused::Misfit(block));
+        if !batch.has_limits_of(&self.schema) {
+            return Err(BatchRefused::Misfit(batch));
         }
-        let rows = block.len();
+        let rows = batch.len() as usize;
         if rows == 0 {
             return Ok(());
         }
         if !has_place(&mut self.ring, &mut self.places, rows) {
-            return Err(BlockRefused::Full(block));
+            return Err(BatchRefused::Full(batch));
         }
-        let batch = Batch::new(block);
-        self.ring.push_reserved(Parcel::Block(batch));
+        self.ring.push_reserved(Parcel::Batch(Batch::new(batch)));
         self.places.fill(rows);
         Ok(())
     }
@@ -156,6 +159,7 @@ impl Feeder {
     {
         let Feeder {
             number,
+            alloc: _,
             schema,
             ring,
             places: _places,

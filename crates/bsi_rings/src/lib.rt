@@ -10,6 +10,6 @@ mod places;
 
 pub use channel::{Channel, Front};
 pub use closing::Closing;
-pub use feeder::{BlockRefused, Feeder, SubmitRefused};
+pub use feeder::{BatchRefused, Feeder, SubmitRefused};
 pub use making::open_rings;
 pub use std::alloc::AllocError as NoMemory;

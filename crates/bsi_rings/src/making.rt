@@ -46,7 +46,7 @@ fn open_ring(
     let (producer, consumer) = RingBuffer::<Parcel>::new(alloc, capacity as usize)?;
     let noted = Arc::new(alloc, AtomicU64::new(0))?;
     let places = Places::new(Arc::try_clone(&noted)?);
-    let feeder = Feeder::new(number, Arc::try_clone(schema)?, producer, places);
+    let feeder = Feeder::new(number, alloc, Arc::try_clone(schema)?, producer, places);
     let channel = Channel::new(Arc::try_clone(schema)?, consumer, noted);
     Ok((feeder, channel))
 }

@@ -1,21 +1,23 @@
-//! What stands in one place of a ring: a row, or a block of rows.
+//! What stands in one place of a ring: a row, or a batch of rows.
+//!
+//! A batch is a small index: its feeder builds the bitmaps, and the table takes them by words.
 
 ghost use Rattle.std.specs.Prelude.{◌<◌, length};
 
-use bsi_table::{Block, Row, Schema};
+use bsi_table::{Index, Row, Schema};
 
-/// A row, or a block of one row or more. What the block says of feeders counts for nothing.
+/// A row, or a batch.
 #[derive(Drop)]
 pub(crate) enum Parcel {
     Row(Row),
-    Block(Batch),
+    Batch(Batch),
 }
 
-/// A block of one row or more.
+/// An index of one row or more. What it says of feeders counts for nothing.
 #[derive(Drop)]
 pub(crate) struct Batch {
-    pub(crate) block: Block,
-    ghost some: { 0 < length block.rows },
+    pub(crate) index: Index,
+    ghost some: { 0 < length index.rows },
 }
 
 impl Parcel {
@@ -28,7 +30,7 @@ impl Parcel {
     {
         match self {
             Parcel::Row(_) => 1,
-            Parcel::Block(batch) => batch.block.len(),
+            Parcel::Batch(batch) => batch.index.len() as usize,
         }
     }
 
@@ -38,7 +40,7 @@ impl Parcel {
     {
         match self {
             Parcel::Row(row) => schema.fits(row),
-            Parcel::Block(batch) => batch.is_for(schema),
+            Parcel::Batch(batch) => batch.is_for(schema),
         }
     }
 }
@@ -47,18 +49,18 @@ impl Batch {
     ghost use Rattle.std.specs.Prelude.{◌≡◌, ◌↔◌, IsTrue};
     ghost use Rattle.bsi_rings.specs.Rings.{IsParcel};
 
-    /// Makes a parcel's block of one that has a row.
-    pub(crate) fn new(block: Block) -> Batch
-        requires { 0 < length block.rows }
-        ensures { result.block ≡ block }
+    /// Makes a batch of an index that has a row.
+    pub(crate) fn new(index: Index) -> Batch
+        requires { 0 < length index.rows }
+        ensures { result.index ≡ index }
     {
-        Batch { block }
+        Batch { index }
     }
 
     /// Returns whether a feeder of this schema sends it.
     pub(crate) fn is_for(&self, schema: &Schema) -> bool
-        ensures { IsTrue result ↔ IsParcel schema.now (Parcel.Block self.now) }
+        ensures { IsTrue result ↔ IsParcel schema.now (Parcel.Batch self.now) }
     {
-        self.block.has_limits_of(schema)
+        self.index.has_limits_of(schema)
     }
 }

@@ -8,7 +8,8 @@ use Rattle.std.proofs.lemmas.List.Elements.{filter_map-append, All-cons, All-get
 use Rattle.std.proofs.lemmas.Option.{get_or_from_slice_get, slice_get_cases, slice_get-map, slice_get_read, slice_get_within}
 use mathlib.Core.List.{IsPrefix}
 use Rattle.bsi_table.specs.Columns.{fits, Declared}
-use Rattle.bsi_table.specs.RowBlocks.{entries_of, fed_as, AreAlike, RowBlock}
+use Rattle.bsi_table.specs.RowBlocks.{entries_of, fed_as}
+use Rattle.bsi_table.specs.Table.{Table}
 use Rattle.bsi_table.specs.Rows.{Entries, FedRow}
 use Rattle.bsi_load.specs.declared.event.LoadRefused.TheVariants as load
 use Rattle.bsi_load.specs.Runs.{rows_from}
@@ -16,7 +17,7 @@ use Rattle.bsi_rings.specs.declared.channel.Front.{Front}
 use Rattle.bsi_rings.specs.declared.channel.Front.TheVariants as front
 use Rattle.bsi_rings.specs.Rings.{channels_of, with_more_taken, with_seen, AllFit, ChannelName, Intake, IsWhole, Sent}
 use Rattle.bsi_versions.specs.Editions.{published_all, Written}
-use Rattle.bsi_system.specs.Channels.{AreFirstAt, AreUntaken, HasFirst, HoldsFirst, IsBlockAt, IsFirstAt, IsFirstReply, LooksAt, SettlesAt, TakesAt}
+use Rattle.bsi_system.specs.Channels.{AreFirstAt, AreUntaken, HasFirst, HoldsFirst, IsBatchAt, IsFirstAt, IsFirstReply, LooksAt, SettlesAt, TakesAt}
 use Rattle.bsi_system.specs.Running.{loading, no_taking, seen, seen_at, seen_of, settled_as, taken, taking, taking_at, takings_of, told, with_taken_rows, AlwaysHolds, Balanced, IsLoader, Loading, LoadsMany, LoadsOne, LoadsRows, Looks, MayLoad, Taking, WithinTold}
 
 -- ---- one place of a list
@@ -224,13 +225,11 @@ module _ (intakes : List Intake) (f : ℕ) (found : HasFirst intakes f) (i : Int
         fitting = subst (λ (r : Entries). AllFit i.channel.schema (r ∷ [])) (sym row_is) (subst (λ (j : Intake). AllFit j.channel.schema (found.0 ∷ [])) (sym first_same) found.1.fitting);
       }
 
-  -- or a block of rows is
-  pub block_read : (block : RowBlock) → IsPrefix (entries_of block.rows) i.seen → 0 < length block.rows → AreAlike block.schema i.channel.schema → AllFit i.channel.schema (entries_of block.rows)
-      → IsBlockAt intakes f block
-  block_read block first some alike fitting = record {
+  -- or a batch of rows is
+  pub batch_read : (batch : Table) → IsPrefix (entries_of batch.rows) i.seen → 0 < length batch.rows → AllFit i.channel.schema (entries_of batch.rows) → IsBatchAt intakes f batch
+  batch_read batch first some fitting = record {
     first = record { intake = i; rest = first.0; at = first_intake; first = sym first.1; fitting = fitting };
     some = some;
-    alike = alike;
   }
 
 -- after these rows more

@@ -1,7 +1,8 @@
 -- What is done with one channel of a list of them.
 use Rattle.std.specs.Prelude.{◌≡◌, ℕ, ◌<◌, ◌≤◌, Bool, true, false, All, IfSome, List, [], ◌∷◌, ◌++◌, None, Some, Result, Ok, Err, length, slice_get, slice_set}
-use Rattle.bsi_table.specs.RowBlocks.{entries_of, AreAlike, RowBlock}
+use Rattle.bsi_table.specs.RowBlocks.{entries_of}
 use Rattle.bsi_table.specs.Rows.{Entries}
+use Rattle.bsi_table.specs.Table.{Table}
 use Rattle.bsi_load.specs.declared.event.LoadRefused.{LoadRefused}
 use Rattle.bsi_load.specs.declared.event.LoadRefused.TheVariants as load
 use Rattle.bsi_rings.specs.declared.channel.Front.{Front}
@@ -58,12 +59,10 @@ IsFirstAt intakes f row = AreFirstAt intakes f (row ∷ [])
 abbrev pub HasFirst : List Intake → ℕ → Type 0
 HasFirst intakes f = (row : Entries) × IsFirstAt intakes f row
 
--- the rows of a block are the first that are seen of a channel; it has one, and the columns that it was made for take the
--- same numbers as those of the channel's schema
-pub record IsBlockAt (intakes : List Intake) (f : ℕ) (block : RowBlock) : Type 0 where
-  pub first : AreFirstAt intakes f (entries_of block.rows)
-  pub some : 0 < length block.rows
-  pub alike : AreAlike block.schema first.intake.channel.schema
+-- the rows of a batch are the first that are seen of a channel, and it has one
+pub record IsBatchAt (intakes : List Intake) (f : ℕ) (batch : Table) : Type 0 where
+  pub first : AreFirstAt intakes f (entries_of batch.rows)
+  pub some : 0 < length batch.rows
 
 -- so many rows, at least one, that stand first in a channel are held too
 pub record HoldsFirst (intakes : List Intake) (f : ℕ) (w : Written) (many : ℕ) (next : Written) : Type 0 where

@@ -102,9 +102,9 @@ IsLoaderReply s f (Err load.IndexFull) = MayLoad s.takings f × (length s.publis
 IsLoaderReply s f (Err load.NoMemory) = MayLoad s.takings f × (length s.published + length s.held < s.system.limit)
 
 -- the reply to a load of many rows: it is refused as a load of one row is
-abbrev pub IsBlockLoadReply : Loading → ℕ → Result ℕ LoadRefused → Type 0
-IsBlockLoadReply s f (Ok many) = IsLoaderReply s f (Ok tt)
-IsBlockLoadReply s f (Err refused) = IsLoaderReply s f (Err refused)
+abbrev pub IsBatchLoadReply : Loading → ℕ → Result ℕ LoadRefused → Type 0
+IsBatchLoadReply s f (Ok many) = IsLoaderReply s f (Ok tt)
+IsBatchLoadReply s f (Err refused) = IsLoaderReply s f (Err refused)
 
 -- a load is refused for a full table or for memory only where a row is seen in the feeder's ring
 abbrev pub IsSeenWhere : List Entries → LoadRefused → Type 0

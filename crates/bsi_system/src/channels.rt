@@ -4,12 +4,12 @@ ghost use Rattle.std.specs.Prelude.{◌≡◌, ◌≢◌, ◌<◌, ◌≤◌, So
 ghost use Rattle.std.specs.Option.{option_copied};
 ghost use Rattle.bsi_rings.specs.Rings.{channels_of};
 ghost use Rattle.bsi_system.specs.Running.{seen_at, seen_of, takings_of, IsSeenWhere};
-ghost use Rattle.bsi_system.specs.Channels.{AreUntaken, HasFirst, IsBlockAt, IsFirstAt, IsFirstReply, LooksAt, SettlesAt, TakesAt};
+ghost use Rattle.bsi_system.specs.Channels.{AreUntaken, HasFirst, IsBatchAt, IsFirstAt, IsFirstReply, LooksAt, SettlesAt, TakesAt};
 
 use crate::NoMemory;
 use bsi_load::LoadRefused;
 use bsi_rings::{Channel, Closing, Front};
-use bsi_table::{Block, Row};
+use bsi_table::{Index, Row};
 
 /// Why a closing is not accepted.
 #[derive(Drop)]
@@ -44,7 +44,7 @@ pub(crate) fn find_first(
     Ok(())
 }
 
-/// Lends the row of a feeder that was found, or none where it is one of a block.
+/// Lends the row of a feeder that was found, or none where it is one of a batch.
 pub(crate) fn first_row_of(channels: &Vec<Channel>, feeder: u32) -> Option<&Row>
     requires { HasFirst channels.now.items feeder }
     ensures { IfSome (option_copied result) (IsFirstAt channels.now.items feeder) }
@@ -60,12 +60,12 @@ pub(crate) fn copy_first_of(channels: &Vec<Channel>, feeder: u32) -> Result<Row,
     channels[feeder as usize].copy_first()
 }
 
-/// Lends the block of a feeder that stands first, or none where a row does, or a row of the block was taken.
-pub(crate) fn first_block_of(channels: &Vec<Channel>, feeder: u32) -> Option<&Block>
+/// Lends the batch of a feeder that stands first, or none where a row does, or a row of the batch was taken.
+pub(crate) fn first_batch_of(channels: &Vec<Channel>, feeder: u32) -> Option<&Index>
     requires { HasFirst channels.now.items feeder }
-    ensures { IfSome (option_copied result) (IsBlockAt channels.now.items feeder) }
+    ensures { IfSome (option_copied result) (IsBatchAt channels.now.items feeder) }
 {
-    channels[feeder as usize].first_block()
+    channels[feeder as usize].first_batch()
 }
 
 /// Looks at what stands first in a ring.

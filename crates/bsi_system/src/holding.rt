@@ -1,16 +1,18 @@
 //! Holds the rows that stand first in a feeder's ring. They stay in the ring.
 
-ghost use Rattle.std.specs.Prelude.{◌≡◌, ◌+◌, ◌<◌, ◌≤◌, IfOk, IsTrue, OnErr, OnOk, length, ◌↔◌};
+ghost use Rattle.std.specs.Prelude.{◌≡◌, ◌+◌, ◌<◌, ◌≤◌, IfOk, OnErr, OnOk, length, true};
+ghost use Rattle.bsi_table.specs.Table.{AreKeptAlike};
 ghost use Rattle.bsi_system.specs.Channels.{HasFirst, HoldsFirst};
 ghost use Rattle.bsi_system.specs.Running.{IsLoader};
 
 use crate::NoMemory;
-use crate::channels::{copy_first_of, first_block_of, first_row_of};
+use crate::channels::{copy_first_of, first_batch_of, first_row_of};
 use bsi_rings::Channel;
+use bsi_table::Index;
 use bsi_versions::{Naming, Publisher};
 
-/// Holds the block of a feeder that stands first, where the table has room for its rows, and else one row. It returns how
-/// many rows it holds.
+/// Holds the batch of a feeder that stands first, where the table takes it by words and has room for its rows, and else
+/// one row. It returns how many rows it holds.
 pub(crate) fn hold_next<B: Naming>(
     publisher: &mut Publisher<B>,
     channels: &Vec<Channel>,
@@ -24,10 +26,10 @@ pub(crate) fn hold_next<B: Naming>(
         (λ many. HoldsFirst channels.now.items feeder publisher.old many publisher.new) }
     ensures err { OnErr result (publisher.new ≡ publisher.old) }
 {
-    match first_block_of(channels, feeder) {
-        Some(block) if has_room(publisher, block.len()) => {
-            publisher.hold_block(feeder, block)?;
-            Ok(block.len())
+    match first_batch_of(channels, feeder) {
+        Some(batch) if takes(publisher, batch) => {
+            publisher.hold_batch(feeder, batch)?;
+            Ok(batch.len() as usize)
         }
         _ => {
             hold_first(publisher, channels, feeder)?;
@@ -56,12 +58,13 @@ pub(crate) fn hold_first<B: Naming>(
     }
 }
 
-/// Returns whether the table has room for so many more rows.
-fn has_room<B: Naming>(publisher: &Publisher<B>, rows: usize) -> bool
-    ensures { IsTrue result ↔ (length publisher.now.table.rows + length publisher.now.held + rows
-        ≤ publisher.now.table.limit) }
+/// Returns whether the table keeps its columns as a batch does, and has room for its rows.
+fn takes<B: Naming>(publisher: &Publisher<B>, batch: &Index) -> bool
+    ensures room { result ≡ true → length publisher.now.table.rows + length publisher.now.held
+        + length batch.now.rows ≤ publisher.now.table.limit }
+    ensures alike { result ≡ true → AreKeptAlike publisher.now.table.schema batch.now.schema }
 {
+    let table = publisher.published();
     let (published, held) = publisher.counts();
-    let limit = publisher.published().limit();
-    rows as u64 <= limit - published - held
+    batch.len() <= table.limit() - published - held && table.is_kept_like(batch)
 }

@@ -4,7 +4,7 @@
 //! and rows that come back could not go to the front of the ring again.
 
 ghost use Rattle.std.specs.Prelude.{◌≡◌, ◌≢◌, ◌+◌, ◌≤◌, IfErr, IfOk, IfSome, OnErr, OnOk, length};
-ghost use Rattle.bsi_system.specs.Running.{published_all, seen, settled_as, told, AlwaysHolds, IsBlockLoadReply, IsClosingOf, IsLoaderReply, IsSeenWhere, LoadsMany, LoadsOne, Looks};
+ghost use Rattle.bsi_system.specs.Running.{published_all, seen, settled_as, told, AlwaysHolds, IsBatchLoadReply, IsClosingOf, IsLoaderReply, IsSeenWhere, LoadsMany, LoadsOne, Looks};
 
 use crate::NoMemory;
 use crate::channels::{SettleRefused, find_first, settle_of, take_of};
@@ -51,11 +51,11 @@ impl<B: Naming> Loader<B> {
         Ok(())
     }
 
-    /// Takes what stands first in a feeder's ring, and holds it: all rows of a block at one step, where none of them was
-    /// taken and there is room for all below the limit, and else one row. It returns how many rows it took. If it is
+    /// Takes what stands first in a feeder's ring, and holds it: all rows of a batch at one step, where none of them was
+    /// taken, there is room for all below the limit and the batch keeps its columns as the table does, and else one row. It returns how many rows it took. If it is
     /// refused, all rows stay in the ring. It never waits.
-    pub fn load_block(&mut self, feeder: u32) -> Result<usize, LoadRefused>
-        ensures reply { IsBlockLoadReply self.old feeder result }
+    pub fn load_batch(&mut self, feeder: u32) -> Result<usize, LoadRefused>
+        ensures reply { IsBatchLoadReply self.old feeder result }
         ensures seen { IfErr result (IsSeenWhere (seen self.new feeder)) }
         ensures loaded { IfOk result (λ many. LoadsMany self.old feeder many self.new) }
         ensures kept { OnErr result (Looks self.old feeder self.new) }

@@ -1,13 +1,13 @@
 -- The rows of a block, by the places of its columns.
 use Rattle.std.proofs.Common.{◌≡◌, ℕ, ◌+◌, ◌*◌, ◌<◌, ◌≤◌, List, [], ◌∷◌, ◌++◌, Option, None, Some, All, length, map, get_or, take, drop, ℤ, refl, ap, ap₂, subst, sym, ◌∙◌, arith}
-use Rattle.std.specs.Prelude.{replicate, slice_get, slice_index}
+use Rattle.std.specs.Prelude.{slice_get, slice_index}
 use Rattle.std.specs.List.{range_with_len}
-use Rattle.std.proofs.lemmas.List.{get_or-drop, get_or-replicate, get_or-take, get_or_append_left, length-append, length-drop, length-replicate, length-take-le}
+use Rattle.std.proofs.lemmas.List.{get_or-drop, get_or-take, get_or_append_left, length-append, length-drop, length-take-le}
 use Rattle.std.proofs.lemmas.List.Elements.{All-from_get_or}
 use Rattle.std.proofs.lemmas.List.FromFn.{fill_by_all, get_or-map-range_with_len, length-map-range_with_len, map-range_with_len_more}
 use Rattle.std.proofs.lemmas.Option.{slice_get-get_or}
 use Rattle.std.proofs.Math.Seq.{get_or-append_seam}
-use Rattle.bsi_table.specs.RowBlocks.{entries_of, fed_as, placed_row, placed_rows}
+use Rattle.bsi_table.specs.RowBlocks.{entries_of, placed_row, placed_rows}
 use Rattle.bsi_table.specs.Rows.{column_of, entry_at, feeders_of, Entries, FedRow}
 use Rattle.bsi_table.proofs.TableRows.{map_twice, same_below}
 
@@ -53,18 +53,6 @@ module _ (columns : ℕ) (sources : List ℕ) (places : List (Option ℤ)) where
       ap (λ es. slice_get es r) entries-placed_rows
       ∙ slice_get-get_or rows r [] (omega (arith, below, length-map-range_with_len (placed_row columns places) 0 (length sources)))
       ∙ ap Some (get_or-map-range_with_len (placed_row columns places) 0 (length sources) r r [] below (omega arith))
-
-  -- each row as one of this feeder
-  pub placed_rows-fed : (feeder : ℕ)
-      → placed_rows columns (replicate (length sources) feeder) places ≡ fed_as feeder (entries_of (placed_rows columns sources places))
-  unfolding placed_rows
-  placed_rows-fed feeder =
-      let n = length sources in
-      let own : ℕ → FedRow = λ r. (slice_index (replicate n feeder) r, placed_row columns places r) in
-      let fed : ℕ → FedRow = λ r. (feeder, placed_row columns places r) in
-      ap (λ m. map own (range_with_len 0 m)) (length-replicate n feeder)
-      ∙ same_below (0, []) own fed n (λ r below. ap (λ source. (source, placed_row columns places r)) (get_or-replicate n r feeder 0 below))
-      ∙ sym (ap (fed_as feeder) entries-placed_rows ∙ map_twice (λ row. (feeder, row)) (placed_row columns places) (range_with_len 0 n))
 
   -- a fact of each row, by its feeder and its entries
   pub All-placed_rows : (P : FedRow → Type 0) → ((r : ℕ) → r < length sources → P (slice_index sources r, placed_row columns places r)) → All P (placed_rows columns sources places)

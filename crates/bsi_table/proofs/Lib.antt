@@ -1,6 +1,7 @@
 pub mod BlockRows
 pub mod CallerLemmas
 pub mod Counting
+pub mod Fed
 pub mod Growing
 pub mod Joining
 pub mod Keeping
@@ -8,5 +9,6 @@ pub mod Missing
 pub mod Parts
 pub mod Selecting
 pub mod Selections
+pub mod Singles
 pub mod TableRows
 pub use Rattle.bsi_schema.proofs.Fitting

@@ -1,6 +1,7 @@
 -- The rows of a table, by the columns that keep them.
 use Rattle.std.proofs.Common.{◌≡◌, ℕ, zero, suc, ◌+◌, ◌-◌, ◌<◌, ◌≤◌, Bool, true, false, List, [], ◌∷◌, ◌++◌, None, All, length, map, get_or, refl, ap, ap₂, subst, sym, ◌∙◌, arith}
-use Rattle.std.specs.Prelude.{count_by, nat_lt, slice_index}
+use Rattle.std.specs.Prelude.{count_by, nat_lt, slice_get, slice_index, Some}
+use Rattle.std.proofs.lemmas.Option.{slice_get-get_or}
 use Rattle.std.specs.List.{range_with_len}
 use Rattle.std.proofs.lemmas.List.{ext_get_or, get_or-append-add, get_or-map, get_or_append_left, length-append, length-map}
 use Rattle.std.proofs.lemmas.List.Elements.{All-from_get_or, All-get_or}
@@ -57,6 +58,15 @@ module _ (sources : List ℕ) (kept : List OffsetColumn) where
   feeders-fed_rows =
       map_twice (λ row. row.0) (λ r. (slice_index sources r, row_in kept r)) (range_with_len 0 (length sources))
       ∙ sym (fill_by_all (λ r. slice_index sources r) sources (length sources) 0 refl (λ r below. refl))
+
+  -- the entries of row r
+  pub entries-fed_rows : (r : ℕ) → r < length sources → slice_get (map (λ row. row.1) (fed_rows sources kept)) r ≡ Some (row_in kept r)
+  unfolding fed_rows
+  entries-fed_rows r below =
+      let rows = map (row_in kept) (range_with_len 0 (length sources)) in
+      ap (λ es. slice_get es r) (map_twice (λ row. row.1) (λ r. (slice_index sources r, row_in kept r)) (range_with_len 0 (length sources)))
+      ∙ slice_get-get_or rows r [] (omega (arith, below, length-map-range_with_len (row_in kept) 0 (length sources)))
+      ∙ ap Some (get_or-map-range_with_len (row_in kept) 0 (length sources) r r [] below (omega arith))
 
   -- a function of the rows' entries
   pub map-fed_rows : {X : Type 0} (f : Entries → X) → map (λ row. f row.1) (fed_rows sources kept) ≡ map f (rows_in kept (length sources))

@@ -31,10 +31,6 @@ entries_of rows = map (λ row. row.1) rows
 abbrev pub fed_as : ℕ → List Entries → List FedRow
 fed_as feeder rows = map (λ row. (feeder, row)) rows
 
--- a block of these rows, each from this feeder
-abbrev pub fed_block : Declared → ℕ → ℕ → List Entries → RowBlock
-fed_block schema feeders feeder rows = record { schema = schema; feeders = feeders; rows = fed_as feeder rows }
-
 -- the columns of two schemas take the same numbers
 abbrev pub AreAlike : Declared → Declared → Type 0
 AreAlike first second = map limits_of first.columns ≡ map limits_of second.columns

@@ -6,7 +6,7 @@
 ghost use Rattle.std.specs.Prelude.{◌≡◌, ◌≢◌, ◌↔◌, [], ℕ, ◌+◌, ◌*◌, ◌<◌, ◌≤◌, ◌^◌, ◌+ℤ◌, ◌≤ℤ◌, All, List, None, Some, IfOk, IsTrue, length, pos, slice_get, slice_index_or, true, false};
 ghost use Rattle.bsi_schema.specs.Columns.{entry_at, fits, is_between};
 ghost use Rattle.bsi_schema.specs.declared.limits.Limits.{Limits};
-ghost use Rattle.bsi_table.specs.RowBlocks.{emptied_block, entries_of, fed_block, no_block_rows, placed_row, with_block_row, AreAlike};
+ghost use Rattle.bsi_table.specs.RowBlocks.{emptied_block, entries_of, no_block_rows, placed_row, with_block_row, AreAlike};
 ghost use Rattle.bsi_table.specs.Rows.{column_of, feeders_of};
 ghost use Rattle.bsi_table.specs.Table.{AreFitting, AreFrom};
 
@@ -127,31 +127,6 @@ impl Block {
     {
         let alloc = *self.places.allocator();
         Ok(Row::new(read_row(alloc, self.limits.len(), r, &self.places)?))
-    }
-
-    /// Makes a block of the same rows, each from `feeder`, for a schema whose columns take the same numbers. It copies
-    /// all places at once.
-    pub(crate) fn copy_as(
-        &self,
-        schema: &Arc<Schema, Global>,
-        feeders: u32,
-        feeder: u32,
-    ) -> Result<Block, NoMemory>
-        requires alike { AreAlike self.now.schema schema.now.value }
-        requires feeder { feeder < feeders }
-        ensures { IfOk result (λ block. block
-            ≡ fed_block schema.now.value feeders feeder (entries_of self.now.rows)) }
-    {
-        let alloc = *self.places.allocator();
-        let mut sources = Vec::with_capacity(alloc, MAX_BLOCK_ROWS)?;
-        sources.resize(self.sources.len(), feeder)?;
-        Ok(Block {
-            schema: Arc::try_clone(schema)?,
-            limits: Vec::from_slice(alloc, schema.limits())?,
-            feeders,
-            sources,
-            places: Vec::from_slice(alloc, &self.places)?,
-        })
     }
 
     /// Lends the feeder of each row.

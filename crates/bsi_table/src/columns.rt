@@ -2,14 +2,16 @@
 //!
 //! A block of rows goes in column by column. All columns and the list of feeders grow before the first is changed.
 
-ghost use Rattle.std.specs.Prelude.{◌≡◌, ℕ, ◌+◌, ◌<◌, ◌≤◌, ◌^◌, [], All, length, true, IfOk, OnOk};
+ghost use Rattle.std.specs.Prelude.{◌≡◌, ℕ, ◌+◌, ◌<◌, ◌≤◌, ◌^◌, [], All, None, length, map, nat_eq, slice_index_or, true, IfOk, OnOk};
+ghost use Rattle.std.specs.List.{range_with_len};
 ghost use Rattle.bsi_columns.specs.AnyRows.{any_entries};
 ghost use Rattle.bsi_shift.specs.Shifted.{shifted_entries, shifted_room};
 ghost use Rattle.bsi_schema.specs.Columns.{column_at, IsForm};
 ghost use Rattle.bsi_table.specs.Rows.{column_of, entry_at};
-ghost use Rattle.bsi_table.specs.Table.{kept_at, AreAlikeColumns, AreInRange, AreKept, AreI64, AreSameColumns, HasMore, HaveMore, HaveOneMore, HaveRoom, IsInForm, IsI64, Keeps, TakesRow};
+ghost use Rattle.bsi_table.specs.Table.{kept_at, AreAlikeColumns, AreInRange, AreKept, AreI64, AreSameColumns, HasMore, HaveMore, HaveOneMore, HaveRoom, HaveRows, IsInForm, IsI64, Keeps, TakesRow, row_in};
 
 use crate::{Block, Form, NoMemory, Schema};
+use bsi_bits::Bits;
 use bsi_columns::{AnyColumn, Decomposed, Slices};
 use bsi_shift::Shifted;
 use std::alloc::Global;
@@ -138,4 +140,49 @@ pub(crate) fn copy_each(alloc: Global, columns: &[Shifted]) -> Result<Vec<Shifte
         copied.push(column.copy()?)?;
     }
     Ok(copied)
+}
+
+/// Makes a found set of so many rows that has row `r` alone.
+pub(crate) fn select_one(alloc: Global, rows: u64, r: u64) -> Result<Bits, NoMemory>
+    requires { rows ≤ 2 ^ 32 }
+    ensures { IfOk result (λ only. only.bits ≡ map (nat_eq r) (range_with_len 0 rows)) }
+{
+    let mut only = Bits::new(alloc);
+    only.reserve(rows)?;
+    'rows: for at in 0..rows {
+        only.push_reserved(r == at);
+    }
+    Ok(only)
+}
+
+/// Reads the entry of each column in row `r`, which a found set has alone.
+pub(crate) fn read_row(
+    alloc: Global,
+    columns: &[Shifted],
+    r: u64,
+    only: &Bits,
+) -> Result<Vec<Option<i128>>, NoMemory>
+    requires even { HaveRows columns.now (length only.now.bits) }
+    requires only { only.now.bits ≡ map (nat_eq r) (range_with_len 0 (length only.now.bits)) }
+    requires there { r < length only.now.bits }
+    ensures { IfOk result (λ row. row.items ≡ row_in columns.now r) }
+{
+    let mut row = Vec::with_capacity(alloc, columns.len())?;
+    'columns: for column in columns {
+        row.push(read_entry(column, r, only))?;
+    }
+    Ok(row)
+}
+
+/// Reads the entry of a column in row `r`, which a found set has alone: the sum of its numbers there, or a null.
+fn read_entry(column: &Shifted, r: u64, only: &Bits) -> Option<i128>
+    requires long { length (shifted_entries column.now) ≡ length only.now.bits }
+    requires only { only.now.bits ≡ map (nat_eq r) (range_with_len 0 (length only.now.bits)) }
+    requires there { r < length only.now.bits }
+    ensures { result ≡ slice_index_or (shifted_entries column.now) r None }
+{
+    if !column.present().get(r) {
+        return None;
+    }
+    Some(column.sum(only))
 }

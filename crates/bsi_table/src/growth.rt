@@ -1,6 +1,6 @@
 //! The growth of an index: the columns take the entries of further rows, and the origins their feeders.
 
-ghost use Rattle.std.specs.Prelude.{◌≡◌, ℕ, ◌+◌, ◌<◌, ◌≤◌, ◌^◌, ◌++◌, ◌∷◌, [], All, length, OnOk};
+ghost use Rattle.std.specs.Prelude.{◌≡◌, ℕ, ◌+◌, ◌<◌, ◌≤◌, ◌^◌, ◌++◌, ◌∷◌, [], All, length, replicate, OnOk};
 ghost use Rattle.bsi_shift.specs.Shifted.{shifted_entries};
 ghost use Rattle.bsi_table.specs.Rows.{feeders_of};
 ghost use Rattle.bsi_table.specs.Table.{kept_at, AreAlikeColumns, AreFrom, AreI64, AreInRange, AreSameColumns, HasMore, HaveMore, HaveOneMore, HaveRoom, HaveRows, TakesRow};
@@ -94,6 +94,32 @@ pub(crate) fn push_all(
 {
     push_all_each(columns, others);
     origins.push_all_reserved(sources);
+}
+
+/// Appends all rows of other columns, which are kept alike and have so many, as rows of one feeder, into room that is
+/// already there.
+pub(crate) fn push_all_from(
+    columns: &mut Vec<Shifted>,
+    origins: &mut Origins,
+    others: &[Shifted],
+    feeder: u8,
+    rows: u64,
+)
+    requires long { length others.now ≡ length columns.old.items }
+    requires alike { AreAlikeColumns columns.old.items others.now }
+    requires even { HaveRows others.now rows }
+    requires room { HaveRoom columns.old.items (length columns.old.items) rows }
+    requires reserved { rows ≤ origins.old.room }
+    requires feeder { feeder < origins.old.feeders }
+    ensures long { length columns.new.items ≡ length columns.old.items }
+    ensures more { (k : ℕ) → k < length columns.old.items →
+        HasMore (kept_at columns.old.items k) (kept_at columns.new.items k)
+        (shifted_entries (kept_at others.now k)) }
+    ensures rows { origins.new.rows ≡ origins.old.rows ++ replicate rows feeder }
+    ensures feeders { origins.new.feeders ≡ origins.old.feeders }
+{
+    push_all_each(columns, others);
+    origins.push_many_reserved(feeder, rows);
 }
 
 /// Appends the feeder of each row, into room that is already there.

@@ -1,24 +1,25 @@
 //! The index: rows from feeders, stored column by column, and the answers to queries over them.
 
-ghost use Rattle.std.specs.Prelude.{◌≡◌, ◌≢◌, ◌↔◌, [], ◌+◌, ◌<◌, ◌≤◌, ◌^◌, None, length, map, IfErr, IfOk, IsOk, IsTrue, true, OnErr, OnOk};
+ghost use Rattle.std.specs.Prelude.{◌≡◌, ◌≢◌, ◌↔◌, [], ◌+◌, ◌<◌, ◌≤◌, ◌^◌, None, Some, length, map, slice_get, IfErr, IfOk, IsOk, IsTrue, true, OnErr, OnOk};
 ghost use Rattle.std.specs.Result.{result_err};
 ghost use Rattle.bsi_shift.specs.Shifted.{shifted_entries};
 ghost use Rattle.bsi_table.specs.Answers.{missing_column, CountsConjunction, IsAnswer, IsReply, IsSelection, ReadsAmong};
 ghost use Rattle.bsi_schema.specs.Columns.{column_at, fits};
 ghost use Rattle.bsi_table.specs.Refusals.{index_refusal, row_refusal, rows_refusal, IsFirstOr};
-ghost use Rattle.bsi_table.specs.RowBlocks.{entries_of, fed_block, no_block_rows, AreAlike};
+ghost use Rattle.bsi_table.specs.RowBlocks.{entries_of, fed_as, no_block_rows, AreAlike};
 ghost use Rattle.bsi_table.specs.Rows.{column_of, holds};
 ghost use Rattle.bsi_table.specs.Table.{no_rows, with_row, with_rows, AreFitting, AreFrom, AreKeptAlike, IsInForm};
 
-use crate::columns::{are_alike, copy_each, make_each};
+use crate::columns::{are_alike, copy_each, make_each, read_row, select_one};
 use crate::found::{count_selected, find_rows};
-use crate::growth::{push_all, push_row, push_rows, reserve_rows};
+use crate::growth::{push_all, push_all_from, push_row, push_rows, reserve_rows};
 use crate::totals::answer_total;
 use crate::{
     Answer, AppendError, AskError, Block, IndexError, NoMemory, Pred, Query, Row, Schema, Total,
 };
 use bsi_bits::Bits;
 use bsi_origins::Origins;
+use bsi_schema::are_same;
 use bsi_shift::Shifted;
 use std::alloc::Global;
 use std::marker::Model;
@@ -61,8 +62,26 @@ impl Index {
             (IsFirstOr IndexError.NoMemory (index_refusal schema limit)) }
     {
         Index::check(&schema, limit)?;
-        let columns = make_each(alloc, &schema)?;
         let schema = share(alloc, schema)?;
+        Index::with_schema(alloc, &schema, feeders, limit)
+    }
+
+    /// Makes an index of no rows, of a schema that has other owners too.
+    pub fn with_schema(
+        alloc: Global,
+        schema: &Arc<Schema, Global>,
+        feeders: u32,
+        limit: u64,
+    ) -> Result<Index, IndexError>
+        requires { (1 ≤ feeders) × (feeders ≤ 64) }
+        ensures ok { IfOk result (λ index. index ≡ no_rows schema.now.value feeders limit) }
+        ensures taken { OnOk result (index_refusal schema.now.value limit ≡ None) }
+        ensures refused { IfErr result
+            (IsFirstOr IndexError.NoMemory (index_refusal schema.now.value limit)) }
+    {
+        Index::check(schema, limit)?;
+        let columns = make_each(alloc, schema)?;
+        let schema = Arc::try_clone(schema)?;
         Ok(Index {
             schema,
             columns,
@@ -172,6 +191,40 @@ impl Index {
         Ok(first)
     }
 
+    /// Appends all rows of another index as `append_index` does, but each as a row of this feeder, whatever feeders the
+    /// other index has.
+    pub fn append_index_from(&mut self, feeder: u32, other: &Index) -> Result<u64, AppendError>
+        requires alike { AreKeptAlike self.old.schema other.now.schema }
+        requires feeder { feeder < self.old.feeders }
+        ensures appended { OnOk result (self.new
+            ≡ with_rows self.old (fed_as feeder (entries_of other.now.rows))) }
+        ensures position { IfOk result (λ position. position ≡ length self.old.rows) }
+        ensures taken { OnOk result (rows_refusal self.old (length other.now.rows) ≡ None) }
+        ensures refused { IfErr result
+            (IsFirstOr AppendError.NoMemory (rows_refusal self.old (length other.now.rows))) }
+        ensures kept { OnErr result (self.new ≡ self.old) }
+    {
+        let first = self.len();
+        let more = other.len();
+        if more > self.limit() - first {
+            return Err(AppendError::IndexFull);
+        }
+        reserve_rows(&mut self.columns, &mut self.origins, more)?;
+        let (columns, source) = (&other.columns, feeder as u8);
+        push_all_from(&mut self.columns, &mut self.origins, columns, source, more);
+        Ok(first)
+    }
+
+    /// Makes row `r`, counted from 0, as a row of its own. It passes over all columns.
+    pub fn row(&self, r: u64) -> Result<Row, NoMemory>
+        requires { r < length self.now.rows }
+        ensures { IfOk result (λ row. slice_get (entries_of self.now.rows) r ≡ Some row) }
+    {
+        let alloc = *self.columns.allocator();
+        let only = select_one(alloc, self.len(), r)?;
+        Ok(Row::new(read_row(alloc, &self.columns, r, &only)?))
+    }
+
     /// Returns whether another index keeps its columns as this one does, each in the same form and from the same number
     /// on, and has as many feeders or fewer. Then `append_index` takes its rows.
     pub fn is_kept_like(&self, other: &Index) -> bool
@@ -189,14 +242,7 @@ impl Index {
             ≡ no_rows self.now.schema self.now.feeders self.now.limit) }
     {
         let alloc = *self.columns.allocator();
-        let columns = make_each(alloc, &self.schema)?;
-        let schema = Arc::try_clone(&self.schema)?;
-        Ok(Index {
-            schema,
-            columns,
-            origins: Origins::new(alloc, self.feeders()),
-            limit: self.limit(),
-        })
+        Index::with_schema(alloc, &self.schema, self.feeders(), self.limit()).map_err(|_| NoMemory)
     }
 
     /// Makes room for `more` further rows, so that each column grows once for them. Whatever the result, the rows stay.
@@ -225,14 +271,12 @@ impl Index {
         block.feeders() <= self.feeders() && block.has_limits_of(&self.schema)
     }
 
-    /// Makes a block of the same rows for this index, each from `feeder`. The feeders of the block count for nothing.
-    pub fn block_of(&self, feeder: u32, block: &Block) -> Result<Block, NoMemory>
-        requires alike { AreAlike block.now.schema self.now.schema }
-        requires feeder { feeder < self.now.feeders }
-        ensures { IfOk result (λ own. own
-            ≡ fed_block self.now.schema self.now.feeders feeder (entries_of block.now.rows)) }
+    /// Returns whether the columns of a schema take the same numbers as those of this index.
+    pub fn has_limits_of(&self, schema: &Schema) -> bool
+        ensures alike { IsTrue result ↔ AreAlike self.now.schema schema.now }
+        ensures fits { IsTrue result → AreFitting schema.now.columns self.now.rows }
     {
-        block.copy_as(&self.schema, self.feeders(), feeder)
+        are_same(self.schema.limits(), schema.limits())
     }
 
     /// Answers a query over all rows. A count by a predicate without `or` and `not` takes no memory.

@@ -30,7 +30,7 @@ fn the_first_row_file_that_fails_is_told(rt: HostRuntime) {
 }
 
 // Follows the calls of feeder 1: one for each row that it tries, in order, and one at its end. Feeder 0 has no row.
-// Counts as a stop where the end names the first row of a block that was not accepted.
+// Counts as a stop where the end names the first row of a batch that was not accepted.
 #[derive(Drop)]
 struct Follower {
     passes: AtomicU64,
@@ -58,9 +58,9 @@ fn calls(counted: &AtomicU64) -> u64 {
     counted.load(Ordering::SeqCst)
 }
 
-// Whether the row is one of the last 64 of so many.
-fn is_in_block(point: u64, passes: u64) -> bool {
-    point < passes && passes - point <= 64
+// Whether the row is one of the last 512 of so many.
+fn is_in_batch(point: u64, passes: u64) -> bool {
+    point < passes && passes - point <= 512
 }
 
 impl Gate for Follower {
@@ -69,7 +69,7 @@ impl Gate for Follower {
         if who == 1 {
             count(&self.passes);
         }
-        if is_in_block(point, before) {
+        if is_in_batch(point, before) {
             count(&self.stops);
         } else if point != before {
             count(&self.strange);
@@ -78,7 +78,7 @@ impl Gate for Follower {
 
     fn again<R: Wait>(&self, _rt: &R, who: u32, point: u64) -> bool {
         count(&self.tries);
-        if who != 1 || !is_in_block(point, calls(&self.passes)) {
+        if who != 1 || !is_in_batch(point, calls(&self.passes)) {
             count(&self.strange);
         }
         true
@@ -94,7 +94,7 @@ impl Stopping for Follower {
 }
 
 // Whether a run ends so, behind this output, and its gate was called so often by feeder 1: each time for the next row, but
-// so many times for a row of a block.
+// so many times for a row of a batch.
 fn is_followed_once<R: Threads + Wait + AllocGlobal + Sync>(
     rt: &R,
     files: Files<'_>,
@@ -124,7 +124,7 @@ fn is_followed<R: Threads + Wait + AllocGlobal + Sync>(
         || is_followed_once(rt, files, run, output, counts)
 }
 
-// Of 1,100 rows the ring takes 16 blocks of 64, and the table 10 rows of these. The next block finds no room.
+// Of 1,100 rows the ring takes two batches of 512, and the table 10 rows of these. The next batch finds no room.
 #[test]
 fn a_feeder_that_stops_names_its_row(rt: HostRuntime) {
     let files = Files {
@@ -133,7 +133,7 @@ fn a_feeder_that_stops_names_its_row(rt: HostRuntime) {
         rows: &[text("qty\n"), long("qty\n", "1\n", 1_100)],
     };
     let full = Err(FilesFault::IndexFull);
-    assert!(rt; is_followed(&rt, files, full, b"", (1_089, 1)));
+    assert!(rt; is_followed(&rt, files, full, b"", (1_101, 1)));
 }
 
 #[test]

@@ -2,7 +2,7 @@
 #![tactic(auto)]
 
 #[cfg(test)]
-mod blocks;
+mod batches;
 #[cfg(test)]
 mod calls;
 #[cfg(test)]

@@ -4,7 +4,7 @@ ghost use Rattle.std.specs.Prelude.{◌≡◌, [], All, length};
 ghost use Rattle.bsi_table.specs.Table.{no_rows};
 ghost use Rattle.bsi_system.specs.Running.{IsFeederOf};
 
-use crate::blocks::send_blocks;
+use crate::batches::send_batches;
 use crate::calls::{ask, count_of, load, opened, publish, quantities, submit, sum_of};
 use crate::refusals::{need_none, refuse};
 use bsi_system::{Analyst, AnalystRefused, Feeder, History, LoadRefused, Loader, Naming, System};
@@ -21,7 +21,7 @@ enum Worked {
     DroppedFeeder,
     Told,
     RefusedMemory,
-    Blocks,
+    Batches,
     Refusals,
     NoMemory,
 }
@@ -244,7 +244,7 @@ fn play<B: Naming, R: Wait>(
         Worked::DroppedFeeder => Some(dropped_feeder(rt, alloc, feeder, loader, &mut first)),
         Worked::Told => Some(told(rt, alloc, feeder, loader, &mut first)),
         Worked::RefusedMemory => refused_memory(rt, alloc, feeder, loader, &mut first),
-        Worked::Blocks => send_blocks(rt, alloc, feeder, loader, &mut first),
+        Worked::Batches => send_batches(rt, alloc, feeder, loader, &mut first),
         Worked::Refusals => refuse(rt, alloc, feeders.pop()?, feeder, loader),
         Worked::NoMemory => need_none(rt, alloc, feeder, loader, first),
     }
@@ -278,6 +278,7 @@ fn sizes(worked: Worked) -> (&'static [u32], u64) {
     match worked {
         Worked::Refusals => (&[1, 2], 1),
         Worked::NoMemory => (&[2], 10),
+        Worked::Batches => (&[5], 10),
         _other => (&[4], 10),
     }
 }
@@ -318,8 +319,8 @@ fn publish_refused_memory(rt: HostRuntime) {
 }
 
 #[test]
-fn blocks_of_rows(rt: HostRuntime) {
-    assert!(rt; works(&rt, rt.alloc(), Worked::Blocks));
+fn batches_of_rows(rt: HostRuntime) {
+    assert!(rt; works(&rt, rt.alloc(), Worked::Batches));
 }
 
 #[test]

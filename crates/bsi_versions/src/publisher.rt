@@ -6,7 +6,8 @@
 
 ghost use Rattle.std.specs.Prelude.{◌≡◌, ◌+◌, ◌<◌, ◌≤◌, [], IfOk, IsTrue, OnErr, OnOk, length, ◌↔◌};
 ghost use Rattle.bsi_table.specs.Columns.{fits};
-ghost use Rattle.bsi_table.specs.RowBlocks.{entries_of, AreAlike};
+ghost use Rattle.bsi_table.specs.RowBlocks.{entries_of};
+ghost use Rattle.bsi_table.specs.Table.{AreKeptAlike};
 ghost use Rattle.bsi_versions.specs.Editions.{published_all, with_held, with_held_rows};
 
 use crate::copies::{Copies, mark_all, show};
@@ -14,7 +15,7 @@ use crate::history::History;
 use crate::stage::Stage;
 use crate::version::Version;
 use crate::{Analyst, Naming, NoMemory, Told};
-use bsi_table::{Block, Index, Row};
+use bsi_table::{Index, Row};
 use left_right::writer::Writer;
 use std::alloc::Global;
 use std::marker::Model;
@@ -108,26 +109,27 @@ impl<B: Naming> Publisher<B> {
         ensures ok { OnOk result (self.new ≡ with_held self.old feeder row.now) }
         ensures err { OnErr result (self.new ≡ self.old) }
     {
-        self.stage.make_place(&mut self.copies)?;
+        self.stage.make_place(&mut self.copies, 1)?;
         self.stage.push(feeder, row)?;
         self.free -= 1;
         Ok(())
     }
 
-    /// Holds the rows of a block, each as a row of this feeder, whatever feeders the block has. It copies the block. The
-    /// rows are visible once they are published.
-    pub fn hold_block(&mut self, feeder: u32, block: &Block) -> Result<(), NoMemory>
-        requires room { length self.old.table.rows + length self.old.held + length block.now.rows
+    /// Holds the rows of a batch that keeps its columns as the table does, each as a row of this feeder, whatever feeders
+    /// the batch has. It copies the batch by words. The rows are visible once they are published.
+    pub fn hold_batch(&mut self, feeder: u32, batch: &Index) -> Result<(), NoMemory>
+        requires room { length self.old.table.rows + length self.old.held + length batch.now.rows
             ≤ self.old.table.limit }
-        requires alike { AreAlike block.now.schema self.old.table.schema }
+        requires alike { AreKeptAlike self.old.table.schema batch.now.schema }
         requires feeder { feeder < self.old.table.feeders }
         ensures ok { OnOk result (self.new
-            ≡ with_held_rows self.old feeder (entries_of block.now.rows)) }
+            ≡ with_held_rows self.old feeder (entries_of batch.now.rows)) }
         ensures err { OnErr result (self.new ≡ self.old) }
     {
-        self.stage.make_place(&mut self.copies)?;
-        self.stage.push_block(feeder, block)?;
-        self.free -= block.len() as u64;
+        let more = batch.len();
+        self.stage.make_place(&mut self.copies, more)?;
+        self.stage.push_batch(feeder, batch)?;
+        self.free -= more;
         Ok(())
     }
 

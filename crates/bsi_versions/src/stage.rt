@@ -1,13 +1,13 @@
 //! The stage: the held rows that are no pending operation yet.
 //!
-//! A row goes into a block of 64. A full block goes into the batch, a small index of up to 4,096 rows: each copy of the
-//! table then takes it by words, bitmap after bitmap, where a block touches each long bitmap for one word alone. A batch
-//! of 4,096 rows of some hundred bitmaps fits a processor's second cache.
+//! A row goes into a block of 64. A full block goes into the batch, a small index of up to 4,096 rows, which takes batches
+//! of feeders by words. Each copy of the table then takes it by words too, bitmap after bitmap, where a block touches each
+//! long bitmap for one word alone. A batch of 4,096 rows of some hundred bitmaps fits a processor's second cache.
 
 ghost use Rattle.std.specs.Prelude.{◌≡◌, ◌<◌, ◌++◌, [], IfOk, IsTrue, OnErr, OnOk};
 ghost use Rattle.bsi_table.specs.Columns.{fits};
-ghost use Rattle.bsi_table.specs.RowBlocks.{emptied_block, entries_of, fed_as, no_block_rows, with_block_row, AreAlike};
-ghost use Rattle.bsi_table.specs.Table.{with_rows};
+ghost use Rattle.bsi_table.specs.RowBlocks.{emptied_block, entries_of, fed_as, no_block_rows, with_block_row};
+ghost use Rattle.bsi_table.specs.Table.{with_rows, AreKeptAlike};
 ghost use Rattle.bsi_versions.specs.Editions.{pending, with_staged_rows, HasStaged, IsFor};
 
 use crate::copies::{Copies, append_batch, append_block};
@@ -69,30 +69,34 @@ impl Stage {
         Ok(())
     }
 
-    /// Adds the rows of a block after the others, each as a row of this feeder.
-    pub(crate) fn push_block(&mut self, feeder: u32, block: &Block) -> Result<(), NoMemory>
-        requires alike { AreAlike block.now.schema self.old.schema }
+    /// Adds the rows of another batch after the others, each as a row of this feeder.
+    pub(crate) fn push_batch(&mut self, feeder: u32, other: &Index) -> Result<(), NoMemory>
+        requires alike { AreKeptAlike self.old.schema other.now.schema }
         requires feeder { feeder < self.old.feeders }
         ensures ok { OnOk result (self.new
-            ≡ with_staged_rows self.old (fed_as feeder (entries_of block.now.rows))) }
+            ≡ with_staged_rows self.old (fed_as feeder (entries_of other.now.rows))) }
         ensures err { OnErr result (self.new ≡ self.old) }
     {
-        let own = self.batch.block_of(feeder, block)?;
         gather(&mut self.batch, &mut self.block)?;
-        self.block = own;
+        make_room(&mut self.batch)?;
+        self.batch.append_index_from(feeder, other).map_err(|_| NoMemory)?;
         Ok(())
     }
 
-    /// Appends the batch to the pending operations, if a further block might make it too large.
-    pub(crate) fn make_place<B: Naming>(&mut self, copies: &mut Copies<B>) -> Result<(), NoMemory>
+    /// Appends the batch to the pending operations, if so many more rows make it too large.
+    pub(crate) fn make_place<B: Naming>(
+        &mut self,
+        copies: &mut Copies<B>,
+        more: u64,
+    ) -> Result<(), NoMemory>
         requires kind { IsFor copies.old.desk.shown.value.table self.old }
         ensures desk { copies.new.desk ≡ copies.old.desk }
         ensures staged { HasStaged (pending copies.old) self.old.rows
             (pending copies.new) self.new.rows }
         ensures kind { IsFor copies.new.desk.shown.value.table self.new }
     {
-        let more = (self.block.len() + MAX_BLOCK_ROWS) as u64;
-        if self.batch.len() <= MAX_BATCH_ROWS - more {
+        let wanted = more.saturating_add(self.block.len() as u64);
+        if self.batch.is_empty() || self.batch.len() <= MAX_BATCH_ROWS.saturating_sub(wanted) {
             return Ok(());
         }
         append_batch(copies, &mut self.batch)
@@ -107,7 +111,7 @@ impl Stage {
         ensures kind { IsFor copies.new.desk.shown.value.table self.new }
         ensures ok { OnOk result (self.new.rows ≡ []) }
     {
-        if self.batch.len() == 0 {
+        if self.batch.is_empty() {
             return append_block(copies, &mut self.block);
         }
         gather(&mut self.batch, &mut self.block)?;
@@ -115,7 +119,7 @@ impl Stage {
     }
 }
 
-/// Moves the rows of a block to the batch, behind its rows. The first rows of a batch make room for all that it may get.
+/// Moves the rows of a block to the batch, behind its rows.
 fn gather(batch: &mut Index, block: &mut Block) -> Result<(), NoMemory>
     requires kind { IsFor batch.old block.old }
     ensures ok { OnOk result ((batch.new ≡ with_rows batch.old block.old.rows)
@@ -125,10 +129,18 @@ fn gather(batch: &mut Index, block: &mut Block) -> Result<(), NoMemory>
     if block.len() == 0 {
         return Ok(());
     }
-    if batch.len() == 0 {
-        batch.reserve(MAX_BATCH_ROWS.min(batch.limit()))?;
-    }
+    make_room(batch)?;
     batch.append_block(block).map_err(|_| NoMemory)?;
     block.clear();
+    Ok(())
+}
+
+/// Makes room in a batch of no rows for all that it may get, so that each bitmap grows once.
+fn make_room(batch: &mut Index) -> Result<(), NoMemory>
+    ensures { batch.new ≡ batch.old }
+{
+    if batch.is_empty() {
+        batch.reserve(MAX_BATCH_ROWS.min(batch.limit()))?;
+    }
     Ok(())
 }

@@ -3,7 +3,7 @@ use Rattle.bsi_table.specs.Rows.{FedRow}
 use Rattle.bsi_table.specs.Table.{no_rows, Table}
 use Rattle.std.specs.Prelude.{List}
 use Rattle.bsi_table.proofs.TableRows.{fed_rows-none}
-use Rattle.bsi_table.proofs.index.Index.new.Goals as goal
+use Rattle.bsi_table.proofs.index.Index.with_schema.Goals as goal
 
 pub returns-clause-ok : goal.returns-clause-ok
 returns-clause-ok c =

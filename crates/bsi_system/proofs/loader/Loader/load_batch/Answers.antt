@@ -3,7 +3,7 @@ use Rattle.bsi_system.specs.Channels.{HoldsFirst}
 use Rattle.bsi_system.specs.Running.{loading, IsLoader, Loading, LoadsMany}
 use Rattle.bsi_system.proofs.Mapped.{mapped_ok}
 use Rattle.bsi_system.proofs.Takings.{always_holds, looks_loading, same_loader, takes_loader, takes_many}
-use Rattle.bsi_system.proofs.loader.Loader.load_block.Goals as goal
+use Rattle.bsi_system.proofs.loader.Loader.load_batch.Goals as goal
 
 pub invariant_of-self-2 : goal.invariant_of-self-2
 invariant_of-self-2 g c =

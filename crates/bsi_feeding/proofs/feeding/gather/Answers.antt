@@ -1,0 +1,111 @@
+use Rattle.std.proofs.Common.{◌≡◌, ◌++◌, List, [], None, length, refl, ap, subst, sym, arith, rules, ◌∙◌}
+use Rattle.std.proofs.lemmas.List.{append-nil, length-append, length-map}
+use Rattle.bsi_table.specs.Columns.{Declared}
+use Rattle.bsi_table.specs.RowBlocks.{entries_of, AreAlike, RowBlock}
+use Rattle.bsi_table.specs.Rows.{Entries, FedRow}
+use Rattle.bsi_table.specs.Table.{with_rows, Table}
+use Rattle.bsi_table.proofs.CallerLemmas.{fitting-alike}
+use Rattle.bsi_text.proofs.Joining.{taken_both}
+use Rattle.bsi_text.proofs.Taking.{taken_none}
+use Rattle.bsi_text.specs.Sources.{GivesFirst, Source}
+use Rattle.bsi_feeding.specs.Feeding.{FailsNow, GivesNone}
+use Rattle.bsi_feeding.proofs.Feeds.{passed_none, HasPassed}
+use Rattle.bsi_feeding.proofs.Filled.{entries_append, fill_fails, fill_over, no_entries_of, passed_fill, passed_next, same_block}
+use Rattle.bsi_feeding.proofs.feeding.gather.Goals as goal
+
+pub fills-init : goal.fills-init
+fills-init g c =
+    let rem = g.I.Read.remaining in
+    let source = c.args.source.now in
+    let none = ap length c.requires.batch.0 in
+    record {
+      block = (refl, ap (λ (b : RowBlock). b.feeders) c.requires.block);
+      batch = (refl, c.requires.batch.1);
+      few = omega (arith, none);
+      some = omega arith;
+      passed = subst (HasPassed rem source source) (sym (ap entries_of c.requires.batch.0)) (passed_none rem source (taken_none rem source.layout source.input source.tally));
+      start = λ is. refl;
+      taken = λ some. absurd (omega (arith, some, none));
+    }
+
+-- the source answered a fault, and put no row into the block
+pub returns-in-Err-clause-given : goal.returns-in-Err-clause-given
+returns-in-Err-clause-given g c =
+    let rem = g.I.Read.remaining in
+    let old = c.fills.source in
+    let new = c.fill.new.self in
+    let e = c.fill.ensures in
+    let i = c.fills.invariant in
+    let rows = entries_of c.fills.batch.rows in
+    let empty = ap (λ (b : RowBlock). b.rows) c.clear.ensures in
+    let full = c.fill.new.block in
+    let none : entries_of full.rows ≡ [] = search rules in
+    let has = subst (HasPassed rem c.args.source.now new) (ap (λ xs. rows ++ xs) none ∙ append-nil rows)
+    (passed_fill rem old new 0 c.clear.new.self full empty c.fill.result e.failed e.ended e.filled (taken_both rem) e.stopped e.same e.few c.args.source.now rows i.passed) in
+    record {
+      some = λ some. passed_next rem c.args.source.now new rows has e.few some;
+      none = λ nothing.
+          subst (λ (s : Source g.row.I.Denot). FailsNow rem s c.in-Err.fault) (i.start (omega (arith, nothing, length-map c.fills.batch.rows (λ (row : FedRow). row.1))))
+          (fill_fails rem old new 0 c.clear.new.self full empty c.fill.result e.failed e.ended e.filled (taken_both rem) e.stopped c.in-Err.fault c.in-Err.is);
+    }
+
+-- no row is left
+pub returns-then-len-eq0-clause-given : goal.returns-then-len-eq0-clause-given
+returns-then-len-eq0-clause-given g c =
+    let rem = g.I.Read.remaining in
+    let old = c.fills.source in
+    let new = c.fill.new.self in
+    let e = c.fill.ensures in
+    let i = c.fills.invariant in
+    let rows = entries_of c.fills.batch.rows in
+    let empty = ap (λ (b : RowBlock). b.rows) c.clear.ensures in
+    let full = c.fill.new.block in
+    let zero : length full.rows ≡ 0 = omega (arith, c.len.ensures.len, c.if-len-eq0.true) in
+    let has = subst (HasPassed rem c.args.source.now new) (ap (λ xs. rows ++ xs) (no_entries_of full.rows zero) ∙ append-nil rows)
+    (passed_fill rem old new 0 c.clear.new.self full empty c.fill.result e.failed e.ended e.filled (taken_both rem) e.stopped e.same e.few c.args.source.now rows i.passed) in
+    record {
+      some = λ some. passed_next rem c.args.source.now new rows has e.few some;
+      none = λ nothing.
+          subst (λ (s : Source g.row.I.Denot). GivesFirst rem s new None × GivesNone rem s new) (i.start (omega (arith, nothing, length-map c.fills.batch.rows (λ (row : FedRow). row.1))))
+          (fill_over rem old new 0 c.clear.new.self full empty c.fill.result e.failed e.ended e.filled e.later c.in_default.is (taken_both rem) e.few zero);
+    }
+
+-- the rows of the block fit the batch
+pub append_block-requires-clause-fits : goal.append_block-requires-clause-fits
+append_block-requires-clause-fits g c =
+    let e = c.fill.ensures in
+    let i = c.fills.invariant in
+    let empty = ap (λ (b : RowBlock). b.rows) c.clear.ensures in
+    let full = c.fill.new.block in
+    let same = same_block g.I.Read.remaining c.fills.source c.fill.new.self 0 c.clear.new.self full empty c.fill.result e.failed e.ended e.filled e.stopped in
+    let schema = ap (λ (b : RowBlock). b.schema) same ∙ ap (λ (b : RowBlock). b.schema) c.clear.ensures ∙ i.block.0 in
+    fitting-alike full.schema c.fills.batch.schema
+    (subst (λ (d : Declared). AreAlike d c.fills.batch.schema) (sym schema) (subst (λ (d : Declared). AreAlike c.args.block.now.schema d) (sym i.batch.0) c.requires.alike))
+    full.rows c.len.ensures.fitting
+
+-- the rows of the block stand last in the batch
+pub fills-preserved : goal.fills-preserved
+fills-preserved g c =
+    let rem = g.I.Read.remaining in
+    let e = c.fill.ensures in
+    let i = c.fills.invariant in
+    let empty = ap (λ (b : RowBlock). b.rows) c.clear.ensures in
+    let full = c.fill.new.block in
+    let same = same_block rem c.fills.source c.fill.new.self 0 c.clear.new.self full empty c.fill.result e.failed e.ended e.filled e.stopped in
+    let appended : c.append_block.new.self ≡ with_rows c.fills.batch full.rows = search rules in
+    let many = ap (λ (t : Table). length t.rows) appended ∙ length-append c.fills.batch.rows full.rows in
+    let entries = ap (λ (t : Table). entries_of t.rows) appended ∙ entries_append c.fills.batch.rows full.rows in
+    record {
+      block = (
+        ap (λ (b : RowBlock). b.schema) same ∙ ap (λ (b : RowBlock). b.schema) c.clear.ensures ∙ i.block.0,
+        ap (λ (b : RowBlock). b.feeders) same ∙ ap (λ (b : RowBlock). b.feeders) c.clear.ensures ∙ i.block.1,
+      );
+      batch = (ap (λ (t : Table). t.schema) appended ∙ i.batch.0, ap (λ (t : Table). t.feeders) appended ∙ i.batch.1);
+      few = omega (arith, many, i.few, c.len.ensures.len, c.len.ensures.within);
+      some = omega (arith, many, i.some, c.len.ensures.len, c.if-len-eq0.false);
+      passed = subst (HasPassed rem c.args.source.now c.fill.new.self) (sym entries)
+          (passed_fill rem c.fills.source c.fill.new.self 0 c.clear.new.self full empty c.fill.result e.failed e.ended e.filled (taken_both rem) e.stopped e.same e.few
+          c.args.source.now (entries_of c.fills.batch.rows) i.passed);
+      start = λ none. absurd (omega (arith, none, many, c.len.ensures.len, c.if-len-eq0.false));
+      taken = λ some. e.few;
+    }

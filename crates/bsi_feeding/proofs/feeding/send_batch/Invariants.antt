@@ -1,0 +1,6 @@
+use Rattle.std.proofs.Common.{◌≡◌}
+use Rattle.bsi_feeding.proofs.feeding.send_batch.Given as goal
+
+-- the batch was not sent yet
+abbrev pub invariant-tries : goal.invariant-tries
+invariant-tries g l = (l.batch ≡ l.initial.batch) × (l.feeder ≡ l.initial.feeder)

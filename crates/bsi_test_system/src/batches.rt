@@ -1,0 +1,70 @@
+//! Batches of rows that go from a feeder to the loader at one step.
+
+use crate::calls::{load, publish, row, submit, sum_of};
+use bsi_system::{Analyst, Feeder, LoadRefused, Loader, Naming, NoMemory};
+use bsi_table::{ColumnSpec, Index, Schema};
+use std::alloc::Global;
+use std::sync::Wait;
+
+/// Makes a batch of no rows, for a column of so many binary places.
+fn new_batch(alloc: Global, width: u32) -> Result<Index, NoMemory> {
+    let mut schema = Schema::new(alloc);
+    if schema.add("number", ColumnSpec::Slices(width)).is_err() {
+        return Err(NoMemory);
+    }
+    Index::new(alloc, schema, 1, 64).map_err(|_| NoMemory)
+}
+
+/// Adds a row of this number, if it fits.
+fn add(alloc: Global, batch: &mut Index, number: i128) -> Option<()> {
+    let row = row(alloc, number)?;
+    if batch.schema().fits(&row) && batch.feeders() > 0 {
+        batch.append(0, &row).ok()?;
+    }
+    Some(())
+}
+
+/// Sends a batch of two rows, of the numbers 2 and 3. Returns whether the feeder takes it.
+fn submit_two(alloc: Global, feeder: &mut Feeder, width: u32) -> Option<bool> {
+    let mut batch = match new_batch(alloc, width) {
+        Err(_) => new_batch(alloc, width).ok()?,
+        Ok(batch) => batch,
+    };
+    add(alloc, &mut batch, 2)?;
+    add(alloc, &mut batch, 3)?;
+    Some(feeder.submit_batch(batch).is_ok())
+}
+
+fn load_batch<B: Naming>(loader: &mut Loader<B>) -> Result<usize, LoadRefused> {
+    match loader.load_batch(0) {
+        Err(LoadRefused::NoMemory) => loader.load_batch(0),
+        loaded => loaded,
+    }
+}
+
+/// Returns whether a row and a batch of two are loaded, each at one step, and another batch row by row, with nothing behind
+/// it.
+fn load_all<B: Naming>(loader: &mut Loader<B>) -> bool {
+    let whole = load_batch(loader) == Ok(1) && load_batch(loader) == Ok(2);
+    let first = load(loader, 0).is_ok();
+    let second = load_batch(loader);
+    whole && first && second == Ok(1) && load_batch(loader) == Err(LoadRefused::Empty)
+}
+
+/// Sends a row, two batches of two, and a batch for another column, which comes back. Returns whether just that is so, and
+/// what was taken can be read.
+pub(crate) fn send_batches<B: Naming, R: Wait>(
+    rt: &R,
+    alloc: Global,
+    feeder: Feeder,
+    loader: &mut Loader<B>,
+    analyst: &mut Analyst<B>,
+) -> Option<bool> {
+    let mut feeder = feeder;
+    let sent = submit(alloc, &mut feeder, 1);
+    let taken = submit_two(alloc, &mut feeder, 3)? && submit_two(alloc, &mut feeder, 3)?;
+    let other = submit_two(alloc, &mut feeder, 4)?;
+    let loaded = load_all(loader);
+    let published = publish(rt, loader) == Some(5);
+    Some(sent && taken && !other && loaded && published && sum_of(analyst) == Some(11))
+}
