@@ -3,6 +3,8 @@ use Rattle.std.specs.Prelude.{ℕ, ◌^◌, Bool, ◌&&◌, ◌==◌, nat_lt, na
 use Rattle.std.specs.Char.{is_ascii_digit}
 use Rattle.std.specs.List.{list_all, slice_split}
 use Rattle.std.specs.Str.Parse.{digits_value}
+use Rattle.bsi_schema.specs.Columns.{is_between}
+use Rattle.bsi_schema.specs.declared.limits.Limits.{Limits}
 
 -- the bytes of a field
 abbrev pub Field : Type 0
@@ -38,6 +40,11 @@ unfoldable pub values_in : Bool → List Field → Option (List (Option ℤ))
 values_in signed [] = Some []
 values_in signed (field ∷ fields) =
     option_and_then (λ value. option_map (λ values. value ∷ values) (values_in signed fields)) (value_in signed field)
+
+-- a value that a column with these limits takes, none for any other
+abbrev pub entry_in : Bool → Limits → Field → Option (Option ℤ)
+entry_in signed limits text =
+    option_and_then (λ entry. if is_between limits.least limits.size entry then Some entry else None) (value_in signed text)
 
 -- the number from `least` to `most` that a text spells
 abbrev pub number_between : ℕ → ℕ → Field → Option ℕ

@@ -10,7 +10,7 @@ mod records;
 mod setups;
 
 pub use lines::{write_bad, write_fed, write_reply};
-pub use numbers::{read_number, read_signed, read_value};
+pub use numbers::{read_entry, read_number, read_signed, read_value};
 pub use queries::read_query;
 pub use records::{field, read_event, read_row};
 pub use setups::{Setup, is_begin, read_setup};

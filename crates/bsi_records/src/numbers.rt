@@ -3,10 +3,11 @@
 //! A `u64` holds whatever fewer than twenty digits spell, so each takes one test. Only the last digits of very great
 //! numbers take the checked multiplication.
 
-ghost use Rattle.std.specs.Prelude.{◌≡◌, ◌<◌, ◌≤◌, length, option_map, pos, IfOk, IfSome};
-ghost use Rattle.bsi_records.specs.Numbers.{bases_of, feeder_of, number_between, number_in, offset_of, signed_of, small_of, spelled_number, value_in};
+ghost use Rattle.std.specs.Prelude.{◌≡◌, ◌<◌, ◌≤◌, ◌^◌, ◌+ℤ◌, ◌≤ℤ◌, length, option_map, pos, IfOk, IfSome};
+ghost use Rattle.bsi_records.specs.Numbers.{bases_of, entry_in, feeder_of, number_between, number_in, offset_of, signed_of, small_of, spelled_number, value_in};
 
 use crate::NoMemory;
+use bsi_schema::Limits;
 use std::alloc::Global;
 
 /// The most digits of a number: those of the greatest `u64`.
@@ -105,6 +106,19 @@ pub fn read_value(signed: bool, text: &[u8]) -> Option<Option<i128>>
     }
     let number = read_in(signed, text)?;
     Some(Some(number))
+}
+
+/// Reads a value of a row as an entry of a column. `None` stands for a text that is not a value, and for a number that
+/// the column does not take. It allocates no memory.
+pub fn read_entry(signed: bool, limits: Limits, text: &[u8]) -> Option<Option<i64>>
+    requires { (limits.least +ℤ pos limits.size) ≤ℤ pos (2 ^ 63) }
+    ensures { result ≡ entry_in signed limits text.now }
+{
+    let value = read_value(signed, text)?;
+    if !limits.takes(value) {
+        return None;
+    }
+    Some(limits.narrow(value))
 }
 
 /// Reads the number of a feeder. A number that no `u32` holds becomes the greatest `u32`, which is no feeder either.

@@ -1,13 +1,16 @@
 -- The rows of a block, by the places of its columns.
-use Rattle.std.proofs.Common.{◌≡◌, ℕ, ◌+◌, ◌*◌, ◌<◌, ◌≤◌, List, [], ◌∷◌, ◌++◌, Option, None, Some, All, length, map, get_or, take, drop, ℤ, refl, ap, ap₂, subst, sym, ◌∙◌, arith}
-use Rattle.std.specs.Prelude.{slice_get, slice_index}
+use Rattle.std.proofs.Common.{◌≡◌, ◌≢◌, ℕ, ◌+◌, ◌*◌, ◌<◌, ◌≤◌, List, [], ◌∷◌, ◌++◌, Option, None, Some, All, length, map, get_or, take, drop, true, ℤ, refl, ap, ap₂, subst, sym, ◌∙◌, arith, below_more}
+use Rattle.std.specs.Prelude.{replicate, slice_get, slice_index}
 use Rattle.std.specs.List.{range_with_len}
-use Rattle.std.proofs.lemmas.List.{get_or-drop, get_or-take, get_or_append_left, length-append, length-drop, length-take-le}
-use Rattle.std.proofs.lemmas.List.Elements.{All-from_get_or}
+use Rattle.std.proofs.lemmas.List.{get_or-drop, get_or-replicate, get_or-take, get_or_append_left, length-append, length-drop, length-replicate, length-take-le}
+use Rattle.std.proofs.lemmas.List.Elements.{All-from_get_or, All-push}
 use Rattle.std.proofs.lemmas.List.FromFn.{fill_by_all, get_or-map-range_with_len, length-map-range_with_len, map-range_with_len_more}
 use Rattle.std.proofs.lemmas.Option.{slice_get-get_or}
 use Rattle.std.proofs.Math.Seq.{get_or-append_seam}
-use Rattle.bsi_table.specs.RowBlocks.{entries_of, placed_row, placed_rows}
+use Rattle.bsi_schema.specs.Columns.{fits, NamedColumn}
+use Rattle.bsi_schema.specs.declared.limits.Limits.{Limits}
+use Rattle.bsi_schema.proofs.Fitting.{fits-length}
+use Rattle.bsi_table.specs.RowBlocks.{entries_of, fed_as, placed_row, placed_rows, IsBlock}
 use Rattle.bsi_table.specs.Rows.{column_of, entry_at, feeders_of, Entries, FedRow}
 use Rattle.bsi_table.proofs.TableRows.{map_twice, same_below}
 
@@ -93,3 +96,36 @@ module _ (columns : ℕ) (sources : List ℕ) (old new : List (Option ℤ)) (sou
       let last : now n ≡ (source, row) = ap₂ pair (get_or-append_seam sources source [] 0) placed_row-written in
       ap (λ m. map now (range_with_len 0 m)) (length-append sources (source ∷ []))
       ∙ map-range_with_len_more now 0 n n (omega arith) ∙ ap₂ (λ xs x. xs ++ x ∷ []) earlier last
+
+-- a row that fits is written behind the others of a block
+module _ (columns : List NamedColumn) (limits : List Limits) (feeders : ℕ) (sources : List ℕ) (old new : List (Option ℤ))
+    (is : IsBlock columns limits feeders sources old) (source at : ℕ) (row : Entries) (behind : at ≡ length sources) (room : at < 64)
+    (fed : source < feeders) (fit : fits columns row ≡ true) (long : length new ≡ length old)
+    (others : (c r : ℕ) → r < 64 → r ≢ at → get_or new (64 * c + r) None ≡ get_or old (64 * c + r) None)
+    (written : (c : ℕ) → c < length row → get_or new (64 * c + at) None ≡ entry_at row c) where
+  earlier : (c r : ℕ) → r < length sources → get_or new (64 * c + r) None ≡ get_or old (64 * c + r) None
+  earlier c r below = others c r (omega (arith, below, behind, room)) (λ e. absurd (omega (arith, e, below, behind)))
+
+  last : (c : ℕ) → c < length columns → get_or new (64 * c + length sources) None ≡ entry_at row c
+  last c within = ap (λ n. get_or new (64 * c + n) None) (sym behind) ∙ written c (omega (arith, within, fits-length columns row fit))
+
+  -- it has one more row
+  pub rows_more : placed_rows (length columns) (sources ++ source ∷ []) new ≡ placed_rows (length columns) sources old ++ (source, row) ∷ []
+  rows_more = placed_rows-more (length columns) sources old new source row (fits-length columns row fit) earlier last
+
+  -- and keeps to what a block keeps to
+  pub block_more : IsBlock columns limits feeders (sources ++ source ∷ []) new
+  block_more =
+      let wide = fits-length columns row fit in
+      let more = length-append sources (source ∷ []) in
+      record {
+        limits_are = is.limits_are;
+        columns_are = is.columns_are;
+        few = omega (arith, more, behind, room);
+        long = long ∙ is.long;
+        from = All-push (λ source. source < feeders) sources source is.from fed;
+        fitting = λ r below.
+            below_more _ _
+            (λ k h. ap (fits columns) (placed_row-same (length columns) sources old new source row wide earlier last k h) ∙ is.fitting k h)
+            (ap (fits columns) (placed_row-written (length columns) sources old new source row wide earlier last) ∙ fit) r (omega (arith, below, more));
+      }

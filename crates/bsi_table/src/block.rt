@@ -111,6 +111,18 @@ impl Block {
         true
     }
 
+    /// Adds a row of a feeder that fits after the others. Its entries are numbers of 64 bits already.
+    pub fn push_fitting(&mut self, feeder: u32, entries: &[Option<i64>])
+        requires room { length self.old.rows < 64 }
+        requires feeder { feeder < self.old.feeders }
+        requires fits { IsTrue (fits self.old.schema.columns entries.now) }
+        ensures { self.new ≡ with_block_row self.old feeder entries.now }
+    {
+        let at = self.sources.len();
+        write_entries(entries, at, &mut self.places);
+        self.sources.push_reserved(feeder);
+    }
+
     /// Returns whether the columns of a schema take the same numbers as those that the block was made for. It takes no
     /// memory.
     pub fn has_limits_of(&self, schema: &Schema) -> bool
@@ -168,6 +180,22 @@ fn write_row(limits: &[Limits], values: &[Option<i128>], at: usize, places: &mut
 {
     'columns: for c in 0..limits.len() {
         places[MAX_BLOCK_ROWS * c + at] = limits[c].narrow(values[c]);
+    }
+}
+
+/// Writes the entries of a row, each into place `at` of its column's.
+fn write_entries(entries: &[Option<i64>], at: usize, places: &mut Vec<Option<i64>>)
+    requires at { at < 64 }
+    requires long { length places.old.items ≡ 64 * length entries.now }
+    ensures long { length places.new.items ≡ length places.old.items }
+    ensures others { (c r : ℕ) → r < 64 → r ≢ at →
+        slice_index_or places.new.items (64 * c + r) None
+        ≡ slice_index_or places.old.items (64 * c + r) None }
+    ensures row { (c : ℕ) → c < length entries.now →
+        slice_index_or places.new.items (64 * c + at) None ≡ entry_at entries.now c }
+{
+    'columns: for c in 0..entries.len() {
+        places[MAX_BLOCK_ROWS * c + at] = entries[c];
     }
 }
 

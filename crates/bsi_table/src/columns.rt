@@ -181,7 +181,7 @@ fn read_entry(column: &Shifted, r: u64, only: &Bits) -> Option<i128>
     requires there { r < length only.now.bits }
     ensures { result ≡ slice_index_or (shifted_entries column.now) r None }
 {
-    if !column.present().get(r) {
+    if !column.not_null().get(r) {
         return None;
     }
     Some(column.sum(only))

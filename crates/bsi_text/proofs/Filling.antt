@@ -108,17 +108,6 @@ module _ {R : Type 0} (rem : R → Option (List ℕ)) (layout : Layout) (old b :
     tally = record { few = few; bad = omega (arith, are.tally.bad, takes.1) };
   }
 
-  -- the block stays
-  pub put_same : (next : RowBlock) → next ≡ now → ArePut rem layout old b before after feeder start next
-  put_same next same = record {
-    rows = are.rows;
-    added = same ∙ are.added;
-    fitting = are.fitting;
-    taken = are.taken;
-    plain = are.plain;
-    tally = are.tally;
-  }
-
   -- the block is full
   pub puts_full : length now.rows ≡ 64 → PutsRows rem layout old b before after feeder start now (end_of (Ok true))
   puts_full full = record {

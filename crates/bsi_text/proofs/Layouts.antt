@@ -1,16 +1,21 @@
 -- The fields of a record by their places, and a header's names.
-use Rattle.std.proofs.Common.{◌≡◌, ℕ, ◌+◌, ◌<◌, ◌≤◌, Bool, true, false, cond, not, ◌&&◌, List, [], ◌∷◌, length, take, drop, get_or, Option, Some, None, map, nat_eq, refl, sym, ap, ap₂, ◌∙◌, arith, ℤ, ◌++◌}
+use Rattle.std.proofs.Common.{◌≡◌, ℕ, ◌+◌, ◌<◌, ◌≤◌, Bool, true, false, cond, not, if◌then◌else◌, ◌&&◌, List, [], ◌∷◌, length, take, drop, get_or, Option, Some, None, map, option_and_then, nat_eq, refl, sym, ap, ap₂, ◌∙◌, arith, below_more, ℤ, ◌++◌}
 use Rattle.std.specs.List.{list_all}
 use Rattle.std.specs.Str.{bytes_eq}
 use Rattle.std.proofs.lemmas.Bool.Decides.{Decides-eqb}
-use Rattle.std.proofs.lemmas.List.{at_drop_more, get_or-map, length-append, length-map, take_all}
+use Rattle.std.proofs.lemmas.List.{at_drop_more, get_or-map, get_or_append_left, length-append, length-map, take_all}
+use Rattle.std.proofs.lemmas.Option.{none-some, same_Some}
+use Rattle.std.proofs.Math.Seq.{get_or-append_seam}
 use Rattle.std.proofs.lemmas.Simd.{map-map}
 use Rattle.std.proofs.lemmas.List.Folds.{list_all_more, list_all_at}
 use Rattle.std.proofs.lemmas.List.Sums.{prefix_len-drop_all}
-use Rattle.bsi_table.specs.Columns.{Declared}
+use Rattle.bsi_table.specs.Columns.{column_at, entry_at, fits, is_taken_by, Declared, NamedColumn}
+use Rattle.bsi_table.specs.Limits.{limits_of}
+use Rattle.bsi_schema.specs.declared.limits.Limits.{Limits}
 use Rattle.bsi_table.specs.Rows.{Entries}
-use Rattle.bsi_records.specs.Numbers.{Field, value_in, values_in}
-use Rattle.bsi_text.specs.RowFiles.{in_order, place_of}
+use Rattle.bsi_table.proofs.Fitting.{fits-each, misfit-at}
+use Rattle.bsi_records.specs.Numbers.{Field, entry_in, value_in, values_in}
+use Rattle.bsi_text.specs.RowFiles.{fitting, in_order, place_of}
 use Rattle.bsi_records.proofs.Values.{behind, values_done, values_next, values_stop}
 
 -- ---- a test of each element, one after another
@@ -95,3 +100,101 @@ module _ (signed : Bool) (fields : List Field) (places : List ℕ) (i : ℕ) (va
   pub value_done : length places ≤ i → Some values ≡ whole
   value_done all =
       values_done signed whole (fields_at fields places) i values read.so_far (omega (arith, length-map places (λ place. get_or fields place [])))
+
+-- ---- entries that their columns take
+
+-- the entry that a column takes
+abbrev pub taken_by : NamedColumn → Option ℤ → Option (Option ℤ)
+taken_by column value = if is_taken_by column value then Some value else None
+
+taken_value : (column : NamedColumn) (found : Option (Option ℤ)) (entry : Option ℤ) → option_and_then (taken_by column) found ≡ Some entry
+    → (found ≡ Some entry) × (is_taken_by column entry ≡ true)
+taken_value column None entry is = absurd (none-some entry is)
+taken_value column (Some value) entry is = by (is_taken_by column value) refl is
+  where
+    by : (b : Bool) → is_taken_by column value ≡ b → (if b then Some value else None) ≡ Some entry → (Some value ≡ Some entry) × (is_taken_by column entry ≡ true)
+    by true taken same = (same, ap (is_taken_by column) (sym (same_Some value entry same)) ∙ taken)
+    by false taken same = absurd (none-some entry same)
+
+taken_not : (column : NamedColumn) (value : Option ℤ) → taken_by column value ≡ None → is_taken_by column value ≡ false
+taken_not column value is = by (is_taken_by column value) is
+  where
+    by : (b : Bool) → (if b then Some value else None) ≡ None → b ≡ false
+    by true same = absurd (none-some value (sym same))
+    by false same = refl
+
+-- the element between two lists
+at_seam : (entries more : Entries) (entry : Option ℤ) (i : ℕ) → length entries ≡ i → entry_at ((entries ++ entry ∷ []) ++ more) i ≡ entry
+at_seam entries more entry i long =
+    get_or_append_left (entries ++ entry ∷ []) more None i (omega (arith, length-append entries (entry ∷ []), long))
+    ∙ ap (λ n. entry_at (entries ++ entry ∷ []) n) (sym long) ∙ get_or-append_seam entries entry [] None
+
+-- a row with an entry that its column does not take does not fit
+misfit : (schema : Declared) (entries : Entries) (entry : Option ℤ) (i : ℕ) (later : Option Entries) → length entries ≡ i → i < length schema.columns
+    → is_taken_by (column_at schema.columns i) entry ≡ false → None ≡ fitting schema (behind (entries ++ entry ∷ []) later)
+misfit schema entries entry i None long within refused = refl
+misfit schema entries entry i (Some more) long within refused =
+    let row = (entries ++ entry ∷ []) ++ more in
+    ap (λ b. if b then Some row else None)
+    (misfit-at schema.columns row i within (ap (is_taken_by (column_at schema.columns i)) (at_seam entries more entry i long) ∙ refused))
+
+-- so many of the fields were read as entries that their columns take
+module _ (schema : Declared) (header fields : List Field) (i : ℕ) (entries : Entries)
+    (read : IsRead schema.signed fields (map (λ column. place_of header column.name) schema.columns) i entries) where
+  abbrev field_i : Field
+  field_i = get_or fields (get_or (map (λ column. place_of header column.name) schema.columns) i 0) []
+
+  abbrev found : Option (Option ℤ)
+  found = value_in schema.signed field_i
+
+  among : i < length schema.columns → i < length (map (λ column. place_of header column.name) schema.columns)
+  among within = omega (arith, within, length-map schema.columns (λ column. place_of header column.name))
+
+  all_fields : fields_at fields (map (λ column. place_of header column.name) schema.columns) ≡ in_order schema header fields
+  all_fields = ordered schema header fields (map (λ column. place_of header column.name) schema.columns) refl
+
+  -- what is read of the field of column i
+  pub entry_is : (signed : Bool) (limits : Limits) (text : Field) → signed ≡ schema.signed → limits ≡ limits_of (column_at schema.columns i) → text ≡ field_i
+      → entry_in signed limits text ≡ option_and_then (taken_by (column_at schema.columns i)) found
+  entry_is signed limits text signed_is limits_are text_is =
+      ap (λ s. entry_in s limits text) signed_is ∙ ap (λ l. entry_in schema.signed l text) limits_are
+      ∙ ap (entry_in schema.signed (limits_of (column_at schema.columns i))) text_is
+
+  -- one more
+  pub entry_read : (entry : Option ℤ) → i < length schema.columns → option_and_then (taken_by (column_at schema.columns i)) found ≡ Some entry
+      → IsRead schema.signed fields (map (λ column. place_of header column.name) schema.columns) (i + 1) (entries ++ entry ∷ [])
+  entry_read entry within this = value_next _ _ _ _ _ read entry (among within) (taken_value (column_at schema.columns i) found entry this).0
+
+  pub entry_taken : ((k : ℕ) → k < i → is_taken_by (column_at schema.columns k) (entry_at entries k) ≡ true)
+      → (entry : Option ℤ) → option_and_then (taken_by (column_at schema.columns i)) found ≡ Some entry
+      → (k : ℕ) → k < i + 1 → is_taken_by (column_at schema.columns k) (entry_at (entries ++ entry ∷ []) k) ≡ true
+  entry_taken before entry this =
+      below_more _ _
+      (λ k below. ap (is_taken_by (column_at schema.columns k)) (get_or_append_left entries (entry ∷ []) None k (omega (arith, below, read.long))) ∙ before k below)
+      (ap (is_taken_by (column_at schema.columns i))
+      (ap (λ n. entry_at (entries ++ entry ∷ []) n) (sym read.long) ∙ get_or-append_seam entries entry [] None)
+      ∙ (taken_value (column_at schema.columns i) found entry this).1)
+
+  -- one that is no value, or that its column does not take
+  pub entry_stop : i < length schema.columns → option_and_then (taken_by (column_at schema.columns i)) found ≡ None
+      → None ≡ fitting schema (values_in schema.signed (in_order schema header fields))
+  entry_stop within this = by found refl this ∙ ap (λ fs. fitting schema (values_in schema.signed fs)) all_fields
+    where
+      by : (o : Option (Option ℤ)) → found ≡ o → option_and_then (taken_by (column_at schema.columns i)) o ≡ None
+          → None ≡ fitting schema (values_in schema.signed (fields_at fields (map (λ column. place_of header column.name) schema.columns)))
+      by None is none = ap (fitting schema) (value_stop _ _ _ _ _ read (among within) is)
+      by (Some value) is none =
+          let more = value_next _ _ _ _ _ read value (among within) is in
+          misfit schema entries value i _ read.long within (taken_not (column_at schema.columns i) value none) ∙ sym (ap (fitting schema) more.so_far)
+
+  -- all
+  pub entries_fit : ((k : ℕ) → k < i → is_taken_by (column_at schema.columns k) (entry_at entries k) ≡ true) → i ≡ length schema.columns
+      → fits schema.columns entries ≡ true
+  entries_fit before all = fits-each schema.columns entries (read.long ∙ all) (λ k within. before k (omega (arith, within, all)))
+
+  pub entries_done : ((k : ℕ) → k < i → is_taken_by (column_at schema.columns k) (entry_at entries k) ≡ true) → i ≡ length schema.columns
+      → Some entries ≡ fitting schema (values_in schema.signed (in_order schema header fields))
+  entries_done before all =
+      ap (λ b. if b then Some entries else None) (sym (entries_fit before all))
+      ∙ ap (fitting schema) (value_done _ _ _ _ _ read (omega (arith, all, length-map schema.columns (λ column. place_of header column.name))))
+      ∙ ap (λ fs. fitting schema (values_in schema.signed fs)) all_fields

@@ -2,17 +2,17 @@
 //!
 //! The header is tested as it is defined, once a file: each column has one field, and each field is a column.
 
-ghost use Rattle.std.specs.Prelude.{◌≡◌, ◌<◌, [], if◌then◌else◌, length, map, count_by, Some, None, true, false, IfOk, IsTrue, OnErr, OnOk};
+ghost use Rattle.std.specs.Prelude.{◌≡◌, ◌<◌, ◌≤◌, [], if◌then◌else◌, length, map, count_by, vec_capacity, Some, None, true, false, IfOk, IsTrue, OnOk};
 ghost use Rattle.std.specs.List.{list_all};
 ghost use Rattle.std.specs.Str.{bytes_eq};
 ghost use Rattle.csv.specs.Records.{fields_of};
 ghost use Rattle.bsi_table.specs.Columns.{fits};
 ghost use Rattle.bsi_table.specs.RowBlocks.{no_block_rows, with_block_row, AreAlike};
 ghost use Rattle.bsi_records.specs.Numbers.{values_in};
-ghost use Rattle.bsi_text.specs.RowFiles.{given, good_row, in_order, is_header, is_known, is_named_once, place_of};
+ghost use Rattle.bsi_text.specs.RowFiles.{fitting, given, good_row, in_order, is_header, is_known, is_named_once, place_of};
 
 use crate::NoMemory;
-use bsi_records::{field, read_value};
+use bsi_records::{field, read_entry, read_value};
 use bsi_table::{Block, Row, Schema};
 use csv::ByteRecord;
 use std::alloc::Global;
@@ -105,35 +105,60 @@ impl Layout {
         Ok(self.schema.fits(row))
     }
 
-    /// Reads a record into a row, adds this to a block if the record is good, and returns whether it is. The block tests
-    /// whether the row fits.
+    /// Makes a list of no entries, with room for those of a row.
+    pub(crate) fn entries(&self, alloc: Global) -> Result<Vec<Option<i64>>, NoMemory>
+        ensures { IfOk result (λ entries. length self.now.schema.columns ≤ vec_capacity entries) }
+    {
+        Vec::with_capacity(alloc, self.places.len())
+    }
+
+    /// Reads a record into the entries of a row, adds these to a block if the record is good, and returns whether it is.
     pub(crate) fn add(
         &self,
-        alloc: Global,
         fields: &ByteRecord,
-        row: &mut Row,
+        entries: &mut Vec<Option<i64>>,
         feeder: u32,
         block: &mut Block,
-    ) -> Result<bool, NoMemory>
+    ) -> bool
         requires alike { AreAlike block.old.schema self.now.schema }
         requires room { length block.old.rows < 64 }
         requires feeder { feeder < block.old.feeders }
-        ensures row { IfOk result (λ good. given good row.new
-            ≡ good_row self.now.schema self.now.header (fields_of fields.now)) }
-        ensures fits { IfOk result (λ good. good ≡ true →
-            IsTrue (fits self.now.schema.columns row.new)) }
-        ensures added { IfOk result (λ good. good ≡ true →
-            block.new ≡ with_block_row block.old feeder row.new) }
-        ensures kept { IfOk result (λ good. good ≡ false → block.new ≡ block.old) }
-        ensures same { OnErr result (block.new ≡ block.old) }
+        requires wide { length self.now.schema.columns ≤ vec_capacity entries.old }
+        ensures row { given result entries.new.items
+            ≡ good_row self.now.schema self.now.header (fields_of fields.now) }
+        ensures fits { result ≡ true → IsTrue (fits self.now.schema.columns entries.new.items) }
+        ensures added { result ≡ true →
+            block.new ≡ with_block_row block.old feeder entries.new.items }
+        ensures kept { result ≡ false → block.new ≡ block.old }
+        ensures wide { length self.now.schema.columns ≤ vec_capacity entries.new }
     {
-        if fields.len() != self.header.len() {
-            return Ok(false);
+        if fields.len() != self.header.len() || !self.read_entries(fields, entries) {
+            return false;
         }
-        if !self.read_values(alloc, fields, row)? {
-            return Ok(false);
+        block.push_fitting(feeder, entries);
+        true
+    }
+
+    /// Reads the fields of a record in the order of the columns as the entries of a row, and returns whether this fits.
+    fn read_entries(&self, fields: &ByteRecord, entries: &mut Vec<Option<i64>>) -> bool
+        requires wide { length self.now.schema.columns ≤ vec_capacity entries.old }
+        ensures row { given result entries.new.items
+            ≡ fitting self.now.schema (values_in self.now.schema.signed
+            (in_order self.now.schema self.now.header (fields_of fields.now))) }
+        ensures fits { result ≡ true → IsTrue (fits self.now.schema.columns entries.new.items) }
+        ensures wide { length self.now.schema.columns ≤ vec_capacity entries.new }
+    {
+        let signed = self.schema.signed();
+        let limits = self.schema.limits();
+        entries.clear();
+        'columns: for c in 0..limits.len() {
+            let text = field(fields, self.places[c]);
+            let Some(entry) = read_entry(signed, limits[c], text) else {
+                return false;
+            };
+            entries.push_reserved(entry);
         }
-        Ok(block.push(feeder, row))
+        true
     }
 
     /// Reads the fields of a record in the order of the columns, and returns whether each is a value.

@@ -335,7 +335,7 @@ fn take_row<R: Read + Drop>(
 }
 
 /// Takes records and puts the rows of the good ones into a block until it is full, and returns whether it is. It asks
-/// first for the room of one row, and reads each record into this.
+/// first for the room of one row, and reads each record into it.
 fn put_rows<R: Read + Drop>(
     alloc: Global,
     layout: &Layout,
@@ -356,15 +356,14 @@ fn put_rows<R: Read + Drop>(
     ensures plain { OnOk result (IsPlain input.new) }
     ensures tally { IsTally (tally_of taken.new bad.new) }
 {
-    let mut row = Row::new(Vec::new(alloc));
-    layout.make_room(alloc, &mut row)?;
+    let mut entries = layout.entries(alloc)?;
     'records: while block.len() < MAX_BLOCK_ROWS {
         // A record counts once its fields have been read.
         let mut count = *taken;
         if !take_record(input, fields, &mut count)? {
             return Ok(false);
         }
-        let good = layout.add(alloc, fields, &mut row, feeder, block)?;
+        let good = layout.add(fields, &mut entries, feeder, block);
         *taken = count;
         if !good {
             *bad += 1;

@@ -15,7 +15,7 @@ returns c =
     let within : SFits w128 c.sum.result = search rules in
     let there : c.args.r < length entries = omega (arith, c.requires.there, c.requires.long) in
     let told : c.get.result ≡ true = cc c.if-not-get.false in
-    let some = some_read entries c.args.r c.get.result there (ap (λ bits. slice_get bits c.args.r) (sym c.present.ensures) ∙ c.get.ensures) ∙ told in
+    let some = some_read entries c.args.r c.get.result there (ap (λ bits. slice_get bits c.args.r) (sym c.not_null.ensures) ∙ c.get.ensures) ∙ told in
     ap Some (to_z-of_z within ∙ c.sum.ensures.sum
     ∙ ap (λ bits. signed_sum (values_at bits entries)) (c.requires.only ∙ ap (λ n. map (nat_eq c.args.r) (range_with_len 0 n)) (sym c.requires.long)))
     ∙ sum_alone entries c.args.r there some

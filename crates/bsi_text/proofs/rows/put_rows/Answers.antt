@@ -1,18 +1,20 @@
 use Rattle.std.proofs.Common.{◌≡◌, None, Some, length, sym, subst, ap, arith, ◌∙◌}
 use Rattle.csv.specs.Records.{fields_of}
-use Rattle.bsi_table.specs.RowBlocks.{RowBlock}
 use Rattle.bsi_text.specs.RecordTexts.{TakesRecord}
 use Rattle.bsi_text.specs.RowFiles.{given, good_row}
 use Rattle.bsi_text.specs.Sources.{tally_of}
-use Rattle.bsi_text.proofs.Filling.{put_bad, put_good, put_none, put_same, puts_all, puts_before, puts_full, puts_wanting}
+use Rattle.bsi_text.proofs.Filling.{put_bad, put_good, put_none, puts_all, puts_before, puts_full, puts_wanting}
 use Rattle.bsi_text.proofs.rows.put_rows.Goals as goal
 
 pub records-init : goal.records-init
-records-init g c = put_none g.R.Read.remaining c.args.layout.now c.args.input.now (tally_of c.args.taken.now c.args.bad.now) c.args.feeder c.args.block.now c.requires.plain c.requires.tally
+records-init g c = record {
+  put = put_none g.R.Read.remaining c.args.layout.now c.args.input.now (tally_of c.args.taken.now c.args.bad.now) c.args.feeder c.args.block.now c.requires.plain c.requires.tally;
+  wide = c.in_ok-entries.ensures;
+}
 
 -- memory is wanted for a row
-pub returns-in_err-make_room-clause-puts : goal.returns-in_err-make_room-clause-puts
-returns-in_err-make_room-clause-puts g c =
+pub returns-in_err-entries-clause-puts : goal.returns-in_err-entries-clause-puts
+returns-in_err-entries-clause-puts g c =
     puts_wanting g.R.Read.remaining c.args.layout.now c.args.input.now c.args.input.now (tally_of c.args.taken.now c.args.bad.now) (tally_of c.args.taken.now c.args.bad.now) c.args.feeder
     c.args.block.now c.args.block.now
     (put_none g.R.Read.remaining c.args.layout.now c.args.input.now (tally_of c.args.taken.now c.args.bad.now) c.args.feeder c.args.block.now c.requires.plain c.requires.tally)
@@ -21,7 +23,7 @@ returns-in_err-make_room-clause-puts g c =
 -- the next record can't be read, or there are too many
 pub returns-in_err-take_record-clause-puts : goal.returns-in_err-take_record-clause-puts
 returns-in_err-take_record-clause-puts g c =
-    puts_before _ _ _ _ _ _ _ _ _ c.records.invariant c.take_record.new.input c.from_residual-in_err-take_record.result c.in_err-take_record.field-0.0 c.take_record.new.taken
+    puts_before _ _ _ _ _ _ _ _ _ c.records.invariant.put c.take_record.new.input c.from_residual-in_err-take_record.result c.in_err-take_record.field-0.0 c.take_record.new.taken
     c.from_residual-in_err-take_record.ensures.1 c.in_err-take_record.ensures.stopped (omega (arith, c.len.ensures.len, c.records-test.true))
 
 -- no record is left
@@ -29,33 +31,32 @@ pub returns-then-not-branch-clause-puts : goal.returns-then-not-branch-clause-pu
 returns-then-not-branch-clause-puts g c =
     let takes = subst (TakesRecord g.R.Read.remaining c.records.input c.take_record.new.input c.records.taken c.take_record.new.taken (fields_of c.take_record.new.fields))
     c.if-not-branch.true c.in_ok-take_record.ensures.taken in
-    puts_all _ _ _ _ _ _ _ _ _ c.records.invariant c.take_record.new.input takes.0 (omega (arith, c.len.ensures.len, c.records-test.true))
-
--- memory is wanted for the entries
-pub returns-in_err-good-clause-puts : goal.returns-in_err-good-clause-puts
-returns-in_err-good-clause-puts g c =
-    puts_wanting _ _ _ _ _ _ _ _ _ (put_same _ _ _ _ _ _ _ _ _ c.records.invariant c.add.new.block c.in_err-good.ensures.same) c.take_record.new.input
-    c.from_residual-in_err-good.result c.from_residual-in_err-good.ensures.1
-    (omega (arith, c.len.ensures.len, c.records-test.true, ap (λ (b : RowBlock). length b.rows) c.in_err-good.ensures.same))
+    puts_all _ _ _ _ _ _ _ _ _ c.records.invariant.put c.take_record.new.input takes.0 (omega (arith, c.len.ensures.len, c.records-test.true))
 
 pub records-preserved-then-not-good : goal.records-preserved-then-not-good
 records-preserved-then-not-good g c =
     let takes = subst (TakesRecord g.R.Read.remaining c.records.input c.take_record.new.input c.records.taken c.take_record.new.taken (fields_of c.take_record.new.fields))
     c.if-not-branch.false c.in_ok-take_record.ensures.taken in
-    let is_bad : given c.in_ok-good.good c.add.new.row ≡ None = ap (λ good. given good c.add.new.row) c.if-not-good.true in
-    put_bad _ _ _ _ _ _ _ _ _ c.records.invariant c.take_record.new.input c.take_record.new.taken (fields_of c.take_record.new.fields) c.add.new.block takes
-    c.in_ok-take_record.ensures.plain c.take_record.ensures.few (cc (is_bad, c.in_ok-good.ensures.row)) (c.in_ok-good.ensures.kept c.if-not-good.true)
+    let is_bad : given c.add-good.result c.add-good.new.entries.items ≡ None = ap (λ good. given good c.add-good.new.entries.items) c.if-not-good.true in
+    record {
+      put = put_bad _ _ _ _ _ _ _ _ _ c.records.invariant.put c.take_record.new.input c.take_record.new.taken (fields_of c.take_record.new.fields) c.add-good.new.block takes
+          c.in_ok-take_record.ensures.plain c.take_record.ensures.few (cc (is_bad, c.add-good.ensures.row)) (c.add-good.ensures.kept c.if-not-good.true);
+      wide = c.add-good.ensures.wide;
+    }
 
 pub records-preserved : goal.records-preserved
 records-preserved g c =
     let takes = subst (TakesRecord g.R.Read.remaining c.records.input c.take_record.new.input c.records.taken c.take_record.new.taken (fields_of c.take_record.new.fields))
     c.if-not-branch.false c.in_ok-take_record.ensures.taken in
-    let good : Some c.add.new.row ≡ good_row c.args.layout.now.schema c.args.layout.now.header (fields_of c.take_record.new.fields) =
-    sym (ap (λ good. given good c.add.new.row) c.if-not-good.false) ∙ c.in_ok-good.ensures.row in
-    put_good _ _ _ _ _ _ _ _ _ c.records.invariant c.take_record.new.input c.take_record.new.taken (fields_of c.take_record.new.fields) c.add.new.row c.add.new.block takes
-    c.in_ok-take_record.ensures.plain c.take_record.ensures.few good (c.in_ok-good.ensures.fits c.if-not-good.false) (c.in_ok-good.ensures.added c.if-not-good.false)
+    let good : Some c.add-good.new.entries.items ≡ good_row c.args.layout.now.schema c.args.layout.now.header (fields_of c.take_record.new.fields) =
+    sym (ap (λ good. given good c.add-good.new.entries.items) c.if-not-good.false) ∙ c.add-good.ensures.row in
+    record {
+      put = put_good _ _ _ _ _ _ _ _ _ c.records.invariant.put c.take_record.new.input c.take_record.new.taken (fields_of c.take_record.new.fields) c.add-good.new.entries.items c.add-good.new.block takes
+          c.in_ok-take_record.ensures.plain c.take_record.ensures.few good (c.add-good.ensures.fits c.if-not-good.false) (c.add-good.ensures.added c.if-not-good.false);
+      wide = c.add-good.ensures.wide;
+    }
 
 pub returns-clause-puts : goal.returns-clause-puts
 returns-clause-puts g c =
     let full : length c.records.block.rows ≡ 64 = omega (arith, c.records-test.false, c.len.ensures.within, c.len.ensures.len) in
-    puts_full _ _ _ _ _ _ _ _ _ c.records.invariant full
+    puts_full _ _ _ _ _ _ _ _ _ c.records.invariant.put full

@@ -1,12 +1,12 @@
-use Rattle.std.proofs.Common.{All, ◌≡◌, ◌<◌, ◌+◌, ◌*◌, ◌∷◌, [], ◌+ℤ◌, ◌≤ℤ◌, ◌^◌, ℕ, None, pos, get_or, length, true, ap, sym, subst, arith, below_more, ◌∙◌}
-use Rattle.std.proofs.lemmas.List.{get_or-map, length-append}
-use Rattle.std.proofs.lemmas.List.Elements.{All-get_or, All-push}
+use Rattle.std.proofs.Common.{◌≡◌, ◌<◌, ◌+ℤ◌, ◌≤ℤ◌, ◌^◌, pos, get_or, length, true, ap, sym, subst, arith, ◌∙◌}
+use Rattle.std.proofs.lemmas.List.{get_or-map}
+use Rattle.std.proofs.lemmas.List.Elements.{All-get_or}
 use Rattle.bsi_schema.specs.Columns.{column_at, entry_at, fits, is_taken_by, no_column, IsColumn}
 use Rattle.bsi_schema.specs.Limits.{limits_of}
 use Rattle.bsi_schema.proofs.Fitting.{fits-at, fits-length, limits_at, limits_long}
 use Rattle.bsi_schema.specs.declared.limits.Limits.{Limits}
-use Rattle.bsi_table.specs.RowBlocks.{placed_rows, with_block_row}
-use Rattle.bsi_table.proofs.BlockRows.{length-placed_rows, placed_row-same, placed_row-written, placed_rows-more}
+use Rattle.bsi_table.specs.RowBlocks.{placed_rows, with_block_row, IsBlock}
+use Rattle.bsi_table.proofs.BlockRows.{block_more, length-placed_rows, rows_more}
 use Rattle.bsi_table.proofs.block.Block.push.Goals as goal
 
 pub write_row-requires-clause-at : goal.write_row-requires-clause-at
@@ -52,37 +52,18 @@ pub invariant_of-self : goal.invariant_of-self
 invariant_of-self c =
     let i = c.self.inside in
     let columns = i.schema.value.columns in
-    let sources = i.sources.items in
-    let old = i.places.items in
-    let new = c.write_row.new.places.items in
-    let n = length sources in
     let s = c.self.invariant.0 in
     let w = c.write_row.ensures in
     let row = c.args.row.now in
-    let long = length-placed_rows (length columns) sources old in
-    let few : n < 64 = omega (arith, long, ap (λ b. length b.rows) c.self.view_is, c.requires.room) in
-    let at : c.len-at.result ≡ n = omega (arith, c.len-at.ensures) in
+    let rows = length-placed_rows (length columns) i.sources.items i.places.items in
     let fit : fits columns row ≡ true = sym (c.take_each.ensures columns (c.deref.ensures.value ∙ s.limits_are)) ∙ c.if-not-take_each.false in
-    let wide = fits-length columns row fit in
-    let others : (k r : ℕ) → r < n → get_or new (64 * k + r) None ≡ get_or old (64 * k + r) None =
-    λ k r below. w.others k r (omega (arith, below, few)) (omega (arith, below, at)) in
-    let written : (k : ℕ) → k < length columns → get_or new (64 * k + n) None ≡ entry_at row k =
-    λ k within. ap (λ m. get_or new (64 * k + m) None) (sym at) ∙ w.row k (omega (arith, within, limits_long columns c.deref-2.result.now (c.deref-2.ensures.value ∙ s.limits_are)))
-    ∙ ap (λ r. entry_at r k) c.values.ensures in
-    let items = c.push_reserved.ensures.items in
-    let more = ap length items ∙ length-append sources (c.args.feeder ∷ []) in
-    let feeders = ap (λ b. b.feeders) c.self.view_is in (
-      record {
-        limits_are = s.limits_are;
-        columns_are = s.columns_are;
-        few = omega (arith, more, few);
-        long = w.long ∙ s.long;
-        from = subst (All (λ source. source < i.feeders)) (sym items) (All-push (λ source. source < i.feeders) sources c.args.feeder s.from (omega (arith, feeders, c.requires.feeder)));
-        fitting = λ r below.
-            below_more _ _
-            (λ k h. ap (fits columns) (placed_row-same (length columns) sources old new c.args.feeder row wide others written k h) ∙ s.fitting k h)
-            (ap (fits columns) (placed_row-written (length columns) sources old new c.args.feeder row wide others written) ∙ fit) r (omega (arith, below, more));
-      },
+    let room : c.len-at.result < 64 = omega (arith, c.len-at.ensures, rows, ap (λ b. length b.rows) c.self.view_is, c.requires.room) in
+    let fed : c.args.feeder < i.feeders = omega (arith, ap (λ b. b.feeders) c.self.view_is, c.requires.feeder) in
+    let limits = limits_long columns c.deref-2.result.now (c.deref-2.ensures.value ∙ s.limits_are) in (
+      subst (λ sources. IsBlock columns i.limits.items i.feeders sources c.write_row.new.places.items) (sym c.push_reserved.ensures.items)
+          (block_more columns i.limits.items i.feeders i.sources.items i.places.items c.write_row.new.places.items s
+          c.args.feeder c.len-at.result row (omega (arith, c.len-at.ensures)) room fed fit w.long w.others
+          (λ k within. w.row k (omega (arith, within, limits, fits-length columns row fit)) ∙ ap (λ r. entry_at r k) c.values.ensures)),
       omega (arith, c.self.invariant.1, c.push_reserved.ensures.capacity),
     )
 
@@ -90,24 +71,18 @@ pub returns-clause-added : goal.returns-clause-added
 returns-clause-added c = λ yes.
     let i = c.self.inside in
     let columns = i.schema.value.columns in
-    let sources = i.sources.items in
-    let old = i.places.items in
     let new = c.write_row.new.places.items in
-    let n = length sources in
     let s = c.self.invariant.0 in
     let w = c.write_row.ensures in
     let row = c.args.row.now in
-    let long = length-placed_rows (length columns) sources old in
-    let few : n < 64 = omega (arith, long, ap (λ b. length b.rows) c.self.view_is, c.requires.room) in
-    let at : c.len-at.result ≡ n = omega (arith, c.len-at.ensures) in
+    let rows = length-placed_rows (length columns) i.sources.items i.places.items in
     let fit : fits columns row ≡ true = sym (c.take_each.ensures columns (c.deref.ensures.value ∙ s.limits_are)) ∙ c.if-not-take_each.false in
-    let wide = fits-length columns row fit in
-    let others : (k r : ℕ) → r < n → get_or new (64 * k + r) None ≡ get_or old (64 * k + r) None =
-    λ k r below. w.others k r (omega (arith, below, few)) (omega (arith, below, at)) in
-    let written : (k : ℕ) → k < length columns → get_or new (64 * k + n) None ≡ entry_at row k =
-    λ k within. ap (λ m. get_or new (64 * k + m) None) (sym at) ∙ w.row k (omega (arith, within, limits_long columns c.deref-2.result.now (c.deref-2.ensures.value ∙ s.limits_are)))
-    ∙ ap (λ r. entry_at r k) c.values.ensures in
+    let room : c.len-at.result < 64 = omega (arith, c.len-at.ensures, rows, ap (λ b. length b.rows) c.self.view_is, c.requires.room) in
+    let fed : c.args.feeder < i.feeders = omega (arith, ap (λ b. b.feeders) c.self.view_is, c.requires.feeder) in
+    let limits = limits_long columns c.deref-2.result.now (c.deref-2.ensures.value ∙ s.limits_are) in
     ap (λ xs. record { schema = i.schema.value; feeders = i.feeders; rows = xs })
     (ap (λ xs. placed_rows (length columns) xs new) c.push_reserved.ensures.items
-    ∙ placed_rows-more (length columns) sources old new c.args.feeder row wide others written)
+    ∙ rows_more columns i.limits.items i.feeders i.sources.items i.places.items new s
+    c.args.feeder c.len-at.result row (omega (arith, c.len-at.ensures)) room fed fit w.long w.others
+    (λ k within. w.row k (omega (arith, within, limits, fits-length columns row fit)) ∙ ap (λ r. entry_at r k) c.values.ensures))
     ∙ ap (λ b. with_block_row b c.args.feeder row) c.self.view_is
