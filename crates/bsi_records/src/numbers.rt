@@ -18,6 +18,7 @@ const MAX_BEFORE_DIGIT: u64 = (u64::MAX - 9) / 10;
 
 /// Reads a number of one to twenty digits, with leading zeros or without, whose value is a `u64`. It allocates no
 /// memory.
+#[inline(always)]
 pub fn read_number(text: &[u8]) -> Option<u64>
     ensures { result ≡ spelled_number text.now }
 {
@@ -79,6 +80,7 @@ pub fn read_signed(text: &[u8]) -> Option<i128>
 }
 
 /// Reads a number without a sign.
+#[inline(always)]
 fn read_unsigned(text: &[u8]) -> Option<i128>
     ensures { result ≡ option_map pos (spelled_number text.now) }
 {
@@ -87,6 +89,7 @@ fn read_unsigned(text: &[u8]) -> Option<i128>
 }
 
 /// Reads a number. It takes a minus sign only where numbers are signed.
+#[inline(always)]
 pub(crate) fn read_in(signed: bool, text: &[u8]) -> Option<i128>
     ensures { result ≡ number_in signed text.now }
 {
@@ -98,6 +101,7 @@ pub(crate) fn read_in(signed: bool, text: &[u8]) -> Option<i128>
 
 /// Reads a value of a row: no byte at all is a null, anything else is to be a number, with a minus sign only where
 /// numbers are signed. `None` stands for a text that is not a value. It allocates no memory.
+#[inline(always)]
 pub fn read_value(signed: bool, text: &[u8]) -> Option<Option<i128>>
     ensures { result ≡ value_in signed text.now }
 {
@@ -110,6 +114,7 @@ pub fn read_value(signed: bool, text: &[u8]) -> Option<Option<i128>>
 
 /// Reads a value of a row as an entry of a column. `None` stands for a text that is not a value, and for a number that
 /// the column does not take. It allocates no memory.
+#[inline(always)]
 pub fn read_entry(signed: bool, limits: Limits, text: &[u8]) -> Option<Option<i64>>
     requires { (limits.least +ℤ pos limits.size) ≤ℤ pos (2 ^ 63) }
     ensures { result ≡ entry_in signed limits text.now }
