@@ -1,5 +1,6 @@
 -- The feeder of each row, and tallies: counts by feeder before every 512th row.
 use Rattle.std.specs.Prelude.{◌≡◌, ℕ, ◌+◌, ◌*◌, ◌/◌, ◌^◌, ◌<◌, ◌≤◌, List, All, length, take, count_by, nat_eq, nat_le, slice_index, if◌then◌else◌}
+use Rattle.bsi_bits.specs.BitList.{max_len}
 
 -- at most so many feeders have rows in one table
 abbrev pub max_feeders : ℕ
@@ -39,13 +40,13 @@ pub record IsTallied (feeders : ℕ) (rows counts tallies : List ℕ) : Type 0 w
   pub some : 1 ≤ feeders
   pub few : feeders ≤ max_feeders
   pub from : All (λ feeder. feeder < feeders) rows
-  pub long : length counts ≡ 64
+  pub long : length counts ≡ max_feeders
   pub counted : AreCounts feeders rows (length rows) counts
   pub many : length tallies ≡ tally_len feeders * tally_count (length rows)
   pub each : AreTallies (tally_len feeders) rows tallies
 
 -- there is room for so many more rows, where lists of these capacities keep the feeders and the tallies
 pub record HasRoomFor (room rows feeders kept tallies : ℕ) : Type 0 where
-  pub within : rows + room ≤ 2 ^ 32
+  pub within : rows + room ≤ max_len
   pub rows_fit : rows + room ≤ kept
   pub tallies_fit : tally_len feeders * tally_count (rows + room) ≤ tallies

@@ -5,6 +5,7 @@
 //! numbered by one tally and up to 511 bytes.
 
 ghost use Rattle.std.specs.Prelude.{◌≡◌, ◌+◌, ◌-◌, ◌*◌, ◌<◌, ◌≤◌, ◌^◌, ◌++◌, ◌∷◌, [], All, IfOk, IsOk, OnErr, OnOk, length, min, replicate, slice_index, vec_len, vec_capacity};
+ghost use Rattle.bsi_bits.specs.BitList.{max_len};
 ghost use Rattle.bsi_origins.specs.Origins.{max_feeders, tally_len, AreCounts};
 
 use crate::NoMemory;
@@ -66,7 +67,7 @@ impl Origins {
     /// Returns the number of rows, at most 2^32.
     pub fn len(&self) -> u64
         ensures len { result ≡ length self.now.rows }
-        ensures within { result ≤ 2 ^ 32 }
+        ensures within { result ≤ max_len }
     {
         self.row_feeders.len() as u64
     }
@@ -94,12 +95,12 @@ impl Origins {
     /// allocates memory only if there is not enough room already; then there is room for at least twice the rows,
     /// within 2^32.
     pub fn reserve(&mut self, more: u64) -> Result<(), NoMemory>
-        requires { length self.old.rows + more ≤ 2 ^ 32 }
+        requires { length self.old.rows + more ≤ max_len }
         ensures rows { self.new.rows ≡ self.old.rows }
         ensures feeders { self.new.feeders ≡ self.old.feeders }
         ensures ok { OnOk result (more ≤ self.new.room) }
         ensures doubles { OnOk result (self.old.room < more →
-            min (length self.old.rows) (2 ^ 32 - length self.old.rows) ≤ self.new.room) }
+            min (length self.old.rows) (max_len - length self.old.rows) ≤ self.new.room) }
         ensures kept { self.old.room ≤ self.new.room }
         ensures err { OnErr result (self.new ≡ self.old) }
         ensures succeeds { more ≤ self.old.room → IsOk result }
@@ -199,7 +200,7 @@ fn tally_len(feeders: u32) -> usize
 /// Appends counts below 2^32 to the tallies, into room that is already there.
 fn push_tally(tallies: &mut Vec<u32>, counts: &[u64])
     requires room { vec_len tallies.old + length counts.now ≤ vec_capacity tallies.old }
-    requires small { All (λ count. count < 2 ^ 32) counts.now }
+    requires small { All (λ count. count < max_len) counts.now }
     ensures items { tallies.new.items ≡ tallies.old.items ++ counts.now }
     ensures capacity { vec_capacity tallies.new ≡ vec_capacity tallies.old }
 {

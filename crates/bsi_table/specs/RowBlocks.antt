@@ -1,6 +1,7 @@
 -- Blocks of rows, kept column by column.
 use Rattle.std.specs.Prelude.{◌≡◌, ℕ, ◌+◌, ◌*◌, ◌<◌, ◌≤◌, List, [], ◌∷◌, ◌++◌, All, None, Option, length, map, slice_index, slice_index_or, ℤ, true}
 use Rattle.std.specs.List.{range_with_len}
+use Rattle.bsi_bits.specs.BitList.{max_block}
 use Rattle.bsi_schema.specs.Columns.{fits, Declared, IsColumn, NamedColumn}
 use Rattle.bsi_schema.specs.Limits.{limits_of}
 use Rattle.bsi_schema.specs.declared.limits.Limits.{Limits}
@@ -54,7 +55,7 @@ pub record IsBlock (columns : List NamedColumn) (limits : List Limits) (feeders 
     : Type 0 where
   pub limits_are : limits ≡ map limits_of columns
   pub columns_are : All IsColumn columns
-  pub few : length sources ≤ 64
+  pub few : length sources ≤ max_block
   pub long : length places ≡ 64 * length columns
   pub from : All (λ source. source < feeders) sources
   pub fitting : (r : ℕ) → r < length sources → fits columns (placed_row (length columns) places r) ≡ true

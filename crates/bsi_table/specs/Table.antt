@@ -1,6 +1,8 @@
 -- A table, and the columns that keep its rows.
 use Rattle.std.specs.Prelude.{◌≡◌, ℕ, ◌^◌, ◌<◌, ◌≤◌, List, [], ◌∷◌, ◌++◌, Option, None, All, length, map, slice_index, slice_index_or, ℤ, pos, neg_ℤ, ◌+ℤ◌, ◌≤ℤ◌, ◌<ℤ◌, IfSome, IsTrue}
 use Rattle.std.specs.List.{range_with_len}
+use Rattle.bsi_origins.specs.Origins.{max_feeders}
+use Rattle.bsi_bits.specs.BitList.{max_len}
 use Rattle.bsi_columns.specs.declared.any.AnyColumn.{AnyColumn}
 use Rattle.bsi_columns.specs.declared.any.AnyColumn.TheVariants.{Slices as kept_slices}
 use Rattle.bsi_columns.specs.AnyRows.{any_form, equality_under, range_under, slices_of, AnyForm}
@@ -94,10 +96,10 @@ pub record AreKept (columns : List NamedColumn) (kept : List OffsetColumn) (n : 
 pub record IsTable (columns : List NamedColumn) (feeders limit : ℕ) (sources : List ℕ) (kept : List OffsetColumn)
     : Type 0 where
   pub columns_are : AreKept columns kept (length sources)
-  pub few : feeders ≤ 64
+  pub few : feeders ≤ max_feeders
   pub from : All (λ source. source < feeders) sources
   pub within : length sources ≤ limit
-  pub small : limit ≤ 2 ^ 32
+  pub small : limit ≤ max_len
 
 -- a column has the entries, the offset and the form of another
 pub record IsSameColumn (old new : OffsetColumn) : Type 0 where

@@ -4,6 +4,7 @@
 
 ghost use Rattle.std.specs.Prelude.{◌≡◌, ℕ, ◌+◌, ◌<◌, ◌≤◌, ◌^◌, [], All, None, length, map, nat_eq, slice_index_or, true, IfOk, OnOk};
 ghost use Rattle.std.specs.List.{range_with_len};
+ghost use Rattle.bsi_bits.specs.BitList.{max_len};
 ghost use Rattle.bsi_columns.specs.AnyRows.{any_entries};
 ghost use Rattle.bsi_shift.specs.Shifted.{shifted_entries, shifted_room};
 ghost use Rattle.bsi_schema.specs.Columns.{column_at, IsForm};
@@ -52,7 +53,7 @@ fn make_stored(alloc: Global, form: &Form) -> Result<AnyColumn, NoMemory>
 /// Makes room for `more` further entries in each column. Whatever the result, the columns stay.
 pub(crate) fn reserve_each(columns: &mut [Shifted], more: u64) -> Result<(), NoMemory>
     requires { (k : ℕ) → k < length columns.old →
-        length (shifted_entries (kept_at columns.old k)) + more ≤ 2 ^ 32 }
+        length (shifted_entries (kept_at columns.old k)) + more ≤ max_len }
     ensures same { AreSameColumns columns.old columns.new }
     ensures ok { OnOk result (HaveRoom columns.new (length columns.old) more) }
 {
@@ -144,7 +145,7 @@ pub(crate) fn copy_each(alloc: Global, columns: &[Shifted]) -> Result<Vec<Shifte
 
 /// Makes a found set of so many rows that has row `r` alone.
 pub(crate) fn select_one(alloc: Global, rows: u64, r: u64) -> Result<Bits, NoMemory>
-    requires { rows ≤ 2 ^ 32 }
+    requires { rows ≤ max_len }
     ensures { IfOk result (λ only. only.bits ≡ map (nat_eq r) (range_with_len 0 rows)) }
 {
     let mut only = Bits::new(alloc);

@@ -6,7 +6,7 @@
 //! alone.
 
 ghost use Rattle.std.specs.Prelude.{◌≡◌, ℕ, ◌+◌, ◌-◌, ◌^◌, ◌≤◌, ◌++◌, bit_or, bit_xor, count_by, drop, false, length, map, take, IfOk, IsFalse, IsOk, OnOk};
-ghost use Rattle.bsi_bits.specs.BitList.{word_count};
+ghost use Rattle.bsi_bits.specs.BitList.{max_len, word_count};
 ghost use Rattle.bsi_bits.specs.Packed.{bit_of, bits_of, IsPacked};
 ghost use Rattle.std.specs.Simd.Lanes.{zip2};
 ghost use Rattle.bsi_table.specs.Answers.{IsConjunction, ReadsAmong};
@@ -31,7 +31,7 @@ pub(crate) fn find_rows(
     count: u64,
     pred: &Pred,
 ) -> Result<Bits, NoMemory>
-    requires few { count ≤ 2 ^ 32 }
+    requires few { count ≤ max_len }
     requires even { HaveRows columns.now count }
     requires there { ReadsAmong (length columns.now) pred.now }
     ensures { IfOk result (λ found. found.bits ≡ map (holds pred.now) (rows_in columns.now count)) }
@@ -49,7 +49,7 @@ pub(crate) fn count_selected(
     count: u64,
     pred: &Pred,
 ) -> Result<u64, NoMemory>
-    requires few { count ≤ 2 ^ 32 }
+    requires few { count ≤ max_len }
     requires even { HaveRows columns.now count }
     requires there { ReadsAmong (length columns.now) pred.now }
     ensures counted { IfOk result (λ selected. selected
@@ -109,7 +109,7 @@ fn narrow_each(
     pred: &Pred,
     words: &mut [u64],
 ) -> Result<(), NoMemory>
-    requires few { count ≤ 2 ^ 32 }
+    requires few { count ≤ max_len }
     requires long { length words.old ≡ word_count count }
     requires even { HaveRows columns.now count }
     requires there { ReadsAmong (length columns.now) pred.now }

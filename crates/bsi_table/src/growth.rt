@@ -1,6 +1,8 @@
 //! The growth of an index: the columns take the entries of further rows, and the origins their feeders.
 
 ghost use Rattle.std.specs.Prelude.{◌≡◌, ℕ, ◌+◌, ◌<◌, ◌≤◌, ◌^◌, ◌++◌, ◌∷◌, [], All, length, replicate, OnOk};
+ghost use Rattle.bsi_origins.specs.Origins.{max_feeders};
+ghost use Rattle.bsi_bits.specs.BitList.{max_len};
 ghost use Rattle.bsi_shift.specs.Shifted.{shifted_entries};
 ghost use Rattle.bsi_table.specs.Rows.{feeders_of};
 ghost use Rattle.bsi_table.specs.Table.{kept_at, AreAlikeColumns, AreFrom, AreI64, AreInRange, AreSameColumns, HasMore, HaveMore, HaveOneMore, HaveRoom, HaveRows, TakesRow};
@@ -17,8 +19,8 @@ pub(crate) fn reserve_rows(
     more: u64,
 ) -> Result<(), NoMemory>
     requires short { (k : ℕ) → k < length columns.old.items →
-        length (shifted_entries (kept_at columns.old.items k)) + more ≤ 2 ^ 32 }
-    requires few { length origins.old.rows + more ≤ 2 ^ 32 }
+        length (shifted_entries (kept_at columns.old.items k)) + more ≤ max_len }
+    requires few { length origins.old.rows + more ≤ max_len }
     ensures long { length columns.new.items ≡ length columns.old.items }
     ensures same { AreSameColumns columns.old.items columns.new.items }
     ensures rows { origins.new.rows ≡ origins.old.rows }
@@ -60,7 +62,7 @@ pub(crate) fn push_rows(columns: &mut Vec<Shifted>, origins: &mut Origins, block
     requires reserved { length block.now.rows ≤ origins.old.room }
     requires taken { All (λ row. TakesRow columns.old.items row.1) block.now.rows }
     requires from { AreFrom origins.old.feeders block.now.rows }
-    requires bytes { origins.old.feeders ≤ 64 }
+    requires bytes { origins.old.feeders ≤ max_feeders }
     ensures long { length columns.new.items ≡ length columns.old.items }
     ensures more { HaveMore columns.old.items columns.new.items block.now.rows }
     ensures rows { origins.new.rows ≡ origins.old.rows ++ feeders_of block.now.rows }
@@ -126,7 +128,7 @@ pub(crate) fn push_all_from(
 fn push_feeders(origins: &mut Origins, sources: &[u32])
     requires reserved { length sources.now ≤ origins.old.room }
     requires from { All (λ source. source < origins.old.feeders) sources.now }
-    requires bytes { origins.old.feeders ≤ 64 }
+    requires bytes { origins.old.feeders ≤ max_feeders }
     ensures rows { origins.new.rows ≡ origins.old.rows ++ sources.now }
     ensures feeders { origins.new.feeders ≡ origins.old.feeders }
 {

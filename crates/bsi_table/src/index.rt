@@ -2,6 +2,8 @@
 
 ghost use Rattle.std.specs.Prelude.{◌≡◌, ◌≢◌, ◌↔◌, [], ◌+◌, ◌<◌, ◌≤◌, ◌^◌, None, Some, length, map, slice_get, IfErr, IfOk, IsOk, IsTrue, true, OnErr, OnOk};
 ghost use Rattle.std.specs.Result.{result_err};
+ghost use Rattle.bsi_origins.specs.Origins.{max_feeders};
+ghost use Rattle.bsi_bits.specs.BitList.{max_len};
 ghost use Rattle.bsi_shift.specs.Shifted.{shifted_entries};
 ghost use Rattle.bsi_table.specs.Answers.{missing_column, CountsConjunction, IsAnswer, IsReply, IsSelection, ReadsAmong};
 ghost use Rattle.bsi_schema.specs.Columns.{column_at, fits};
@@ -55,7 +57,7 @@ impl Model for Index {
 impl Index {
     /// Makes an index of no rows. It drops a schema that it refuses.
     pub fn new(alloc: Global, schema: Schema, feeders: u32, limit: u64) -> Result<Index, IndexError>
-        requires { (1 ≤ feeders) × (feeders ≤ 64) }
+        requires { (1 ≤ feeders) × (feeders ≤ max_feeders) }
         ensures ok { IfOk result (λ index. index ≡ no_rows schema feeders limit) }
         ensures taken { OnOk result (index_refusal schema limit ≡ None) }
         ensures refused { IfErr result
@@ -73,7 +75,7 @@ impl Index {
         feeders: u32,
         limit: u64,
     ) -> Result<Index, IndexError>
-        requires { (1 ≤ feeders) × (feeders ≤ 64) }
+        requires { (1 ≤ feeders) × (feeders ≤ max_feeders) }
         ensures ok { IfOk result (λ index. index ≡ no_rows schema.now.value feeders limit) }
         ensures taken { OnOk result (index_refusal schema.now.value limit ≡ None) }
         ensures refused { IfErr result
@@ -364,7 +366,7 @@ impl Index {
     /// Returns the number of feeders, from 1 to 64. Each row came from one of them.
     pub fn feeders(&self) -> u32
         ensures feeders { result ≡ self.now.feeders }
-        ensures within { (1 ≤ result) × (result ≤ 64) }
+        ensures within { (1 ≤ result) × (result ≤ max_feeders) }
         ensures from { AreFrom self.now.feeders self.now.rows }
     {
         self.origins.feeders()
@@ -373,7 +375,7 @@ impl Index {
     /// Returns the most rows that the index holds, at most 2^32.
     pub fn limit(&self) -> u64
         ensures limit { result ≡ self.now.limit }
-        ensures within { result ≤ 2 ^ 32 }
+        ensures within { result ≤ max_len }
     {
         self.limit
     }
