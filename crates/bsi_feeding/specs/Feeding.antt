@@ -90,11 +90,15 @@ pub record IsGathered {R : Type 0} (rem : R → Option (List ℕ)) (old new : So
   pub some : 0 < length rows → GivesNext rem old new rows
   pub none : length rows ≡ 0 → MatchOption fault (GivesFirst rem old new None × GivesNone rem old new) (FailsNow rem old)
 
--- what came of one turn: the first rows that the source still had were sent, at most 512, or nothing was, and there is
+-- at most so many rows of a batch
+abbrev pub max_batch_rows : ℕ
+max_batch_rows = 512
+
+-- what came of one turn: the first rows that the source still had were sent, at most a batch, or nothing was, and there is
 -- then none left where the turn says so
 abbrev pub IsFeederTurn : {R : Type 0} → (R → Option (List ℕ)) → Sending → Source R → Turn → Sending → Source R → Type 0
 IsFeederTurn rem feeder source (turn.Sent many) after rest =
-    (rows : List Entries) × (length rows ≡ many) × (many ≤ 512) × (after ≡ with_sent_rows feeder rows)
+    (rows : List Entries) × (length rows ≡ many) × (many ≤ max_batch_rows) × (after ≡ with_sent_rows feeder rows)
     × GivesNext rem source rest rows
 IsFeederTurn rem feeder source turn.Over after rest = (after ≡ feeder) × GivesFirst rem source rest None
     × GivesNone rem source rest

@@ -2,7 +2,7 @@
 
 ghost use Rattle.std.specs.Prelude.{◌≡◌, ◌<◌, ◌≤◌, ◌*◌, [], IfOk, IfSome, None, OnErr, length, true, false};
 ghost use Rattle.bsi_rings.specs.Rings.{with_sent, with_sent_rows, Closes};
-ghost use Rattle.bsi_table.specs.RowBlocks.{entries_of, no_block_rows, AreAlike};
+ghost use Rattle.bsi_table.specs.RowBlocks.{entries_of, max_block_rows, no_block_rows, AreAlike};
 ghost use Rattle.bsi_feeding.specs.Feeding.{HasFailed, HasFed, IsFeederTurn, IsGathered};
 
 use crate::{Gate, Pause};
@@ -110,7 +110,7 @@ fn batch_for<I: Read + Drop>(feeder: &Feeder, source: &RowSource<I>) -> Option<(
     ensures block { IfSome result (λ made. made.0 ≡ no_block_rows source.now.layout.schema 1) }
     ensures batch { IfSome result (λ made. (made.1.rows ≡ []) × (made.1.feeders ≡ 1)) }
     ensures alike { IfSome result (λ made. AreAlike made.0.schema made.1.schema) }
-    ensures place { IfSome result (λ made. 64 ≤ feeder.now.capacity) }
+    ensures place { IfSome result (λ made. max_block_rows ≤ feeder.now.capacity) }
 {
     if (feeder.capacity() as usize) < MAX_BLOCK_ROWS {
         return None;
@@ -138,7 +138,7 @@ fn feed_batch<R: Wait, I: Read + Drop, G: Gate>(
     requires block { block ≡ no_block_rows source.old.layout.schema 1 }
     requires batch { (batch.rows ≡ []) × (batch.feeders ≡ 1) }
     requires alike { AreAlike block.schema batch.schema }
-    requires place { 64 ≤ feeder.old.capacity }
+    requires place { max_block_rows ≤ feeder.old.capacity }
     ensures { IsFeederTurn I.remaining feeder.old source.old result feeder.new source.new }
 {
     let most = u64::from(feeder.capacity()).min(MAX_BATCH_ROWS);
@@ -168,7 +168,7 @@ fn gather<I: Read + Drop>(
     requires batch { (batch.old.rows ≡ []) × (batch.old.feeders ≡ 1) }
     requires alike { AreAlike block.old.schema batch.old.schema }
     requires some { 0 < blocks }
-    ensures few { length batch.new.rows ≤ 64 * blocks }
+    ensures few { length batch.new.rows ≤ max_block_rows * blocks }
     ensures given { IfOk result
         (IsGathered I.remaining source.old source.new (entries_of batch.new.rows)) }
     ensures refused { OnErr result (source.old.end ≡ None) }

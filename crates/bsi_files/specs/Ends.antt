@@ -6,6 +6,7 @@ use Rattle.bsi_text.specs.Sources.{Source}
 use Rattle.bsi_feeding.specs.Feeding.{HasFailed, HasFed}
 use Rattle.bsi_feeding.specs.declared.feeding.FeedEnd.{FeedEnd}
 use Rattle.bsi_files.specs.Matching.{AreMatched}
+use Rattle.bsi_origins.specs.Origins.{max_feeders}
 
 -- what the end of a feeder tells of the feeder and of its source: the rows that were read, which its closing carries, and
 -- the fault that the source answered
@@ -40,7 +41,7 @@ pub record AreReady {R : Type 0} (system : System) (limit : ℕ) (feeders : List
   pub own : AreFeeders system 0 feeders
   pub channels : length system.channels ≡ length feeders
   pub many : length sources ≡ length feeders
-  pub few : length sources ≤ 64
+  pub few : length sources ≤ max_feeders
   pub most : system.limit ≡ limit
 
 -- ends whose closings are of a system, numbered from n

@@ -21,6 +21,7 @@ use Rattle.bsi_files.specs.declared.faults.FilesFault.{FilesFault}
 use Rattle.bsi_files.specs.declared.faults.FilesFault.TheVariants as run
 use Rattle.bsi_files.specs.declared.faults.Which.TheVariants as which
 use Rattle.bsi_files.specs.declared.loading.Fed.{Fed}
+use Rattle.bsi_origins.specs.Origins.{max_feeders}
 
 -- ---- by the bytes
 
@@ -93,7 +94,7 @@ pub record ArePastLimit (declared : List ℕ) (texts : List (List ℕ)) : Type 0
 -- does. One that is met once the headers are read, but for refused memory and for a row file that can't be read to its
 -- end, tells that these are good.
 abbrev pub IsFaultOf : Bool → List ℕ → List (List ℕ) → FilesFault → Type 0
-IsFaultOf stops declared texts run.TooManyFiles = 64 < length texts
+IsFaultOf stops declared texts run.TooManyFiles = max_feeders < length texts
 IsFaultOf stops declared texts (run.Read which.SchemaFile) = ⊤
 IsFaultOf stops declared texts (run.BadSchema number) = IsBadRecord declared none_declared number
 IsFaultOf stops declared texts (run.TooLong which.SchemaFile) = DeclaresTooLong declared none_declared

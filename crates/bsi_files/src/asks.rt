@@ -17,6 +17,7 @@ ghost use Rattle.bsi_files.specs.AskLines.{IsAskLine, IsShownAnswer, IsShownRepl
 ghost use Rattle.bsi_files.specs.Matching.{AreMatched};
 ghost use Rattle.bsi_files.specs.Runs.{fed_lines, AreLines};
 ghost use Rattle.bsi_files.specs.Writing.{AreOut, WritesAll, WritesPart};
+ghost use Rattle.bsi_origins.specs.Origins.{max_feeders};
 
 use crate::headers::file_number;
 use crate::loading::Fed;
@@ -43,7 +44,7 @@ pub(crate) fn answer_all<B: Naming, A: Read + Drop, W: Write>(
     writer: &mut W,
 ) -> Result<(), FilesFault>
     requires schema { schema.now ≡ B.about.schema }
-    requires few { length fed.now ≤ 64 }
+    requires few { length fed.now ≤ max_feeders }
     ensures late { IfErr result (λ fault. is_late fault ≡ true) }
     ensures ok { OnOk result (IfSome (A.remaining asks) (λ bytes.
         WritesAll (AreLines B.about.schema told.now (map fed_counts fed.now)) bytes
@@ -68,7 +69,7 @@ pub(crate) fn answer_all<B: Naming, A: Read + Drop, W: Write>(
 
 /// Writes a line for each feeder.
 fn tell_all<W: Write>(fed: &[Fed], line: &mut Vec<u8>, writer: &mut W) -> Result<(), FilesFault>
-    requires { length fed.now ≤ 64 }
+    requires { length fed.now ≤ max_feeders }
     ensures late { IfErr result (λ fault. is_late fault ≡ true) }
     ensures ok { OnOk result (Appends (W.contents writer.old) (W.contents writer.new)
         (concat (fed_lines 0 (map fed_counts fed.now)))) }

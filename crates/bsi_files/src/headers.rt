@@ -5,6 +5,7 @@ ghost use Rattle.bsi_files.specs.Begun.{Begins};
 ghost use Rattle.bsi_files.specs.Matching.{AreMatched};
 ghost use Rattle.bsi_files.specs.Faults.{is_of_headers};
 ghost use Rattle.bsi_files.specs.Headers.{IsHeaderFault, IsHeadersFault};
+ghost use Rattle.bsi_origins.specs.Origins.{max_feeders};
 
 use crate::{FilesFault, NoMemory};
 use bsi_table::Schema;
@@ -17,7 +18,7 @@ const RING_CAPACITY: u32 = 1_024;
 
 /// Returns the number of the file at a place. There are at most 64 files.
 pub(crate) fn file_number(place: usize) -> u32
-    ensures { place < 64 → result ≡ place }
+    ensures { place < max_feeders → result ≡ place }
 {
     u32::try_from(place).unwrap_or(u32::MAX)
 }
@@ -28,7 +29,7 @@ pub(crate) fn begin_all<I: Read + Drop>(
     schema: &Schema,
     readers: Vec<I>,
 ) -> Result<Vec<RowSource<I>>, FilesFault>
-    requires few { length readers.items ≤ 64 }
+    requires few { length readers.items ≤ max_feeders }
     ensures first { IfErr result (λ fault. is_of_headers fault ≡ true) }
     ensures fault { IfErr result (IsHeadersFault schema.now (map I.remaining readers.items)) }
     ensures begun { IfOk result (λ sources.

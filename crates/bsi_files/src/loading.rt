@@ -11,6 +11,7 @@ ghost use Rattle.bsi_files.specs.Ends.{AreClosings};
 ghost use Rattle.bsi_files.specs.Takings.{all_closed, AreGoing, AreTold, IsDrained, IsFine, IsFullAt, IsFullBefore, IsKept, KeepsOthers, KeepsTold, TakesOnlyOf};
 ghost use Rattle.bsi_files.specs.Faults.{is_early};
 ghost use Rattle.bsi_files.specs.RunFaults.{IsKeptFault, IsNotClosed, IsSourceFault};
+ghost use Rattle.bsi_origins.specs.Origins.{max_feeders};
 
 use crate::headers::file_number;
 use crate::threads::Watch;
@@ -238,7 +239,7 @@ pub(crate) fn load_rest<B: Naming, R: Wait>(
     loader: &mut Loader<B>,
     fed: &[Fed],
 ) -> Result<(), FilesFault>
-    requires { length fed.now ≤ 64 }
+    requires { length fed.now ≤ max_feeders }
     ensures system { loader.new.system ≡ loader.old.system }
     ensures told { KeepsTold loader.old.takings loader.new.takings }
     ensures early { IfErr result (λ fault. is_early fault ≡ true) }
@@ -292,7 +293,7 @@ fn drain<B: Naming, R: Wait>(rt: &R, loader: &mut Loader<B>, feeder: u32) -> Res
 /// Looks for a feeder that was stopped though no gate stops one, then for a fault of a source, and then for a feeder
 /// that left no closing.
 pub(crate) fn check_all(fed: &[Fed], stops: bool) -> Result<(), FilesFault>
-    requires { length fed.now ≤ 64 }
+    requires { length fed.now ≤ max_feeders }
     ensures fault { IfErr result (IsKeptFault stops fed.now) }
     ensures fine { OnOk result (All (IsFine stops) fed.now) }
 
@@ -308,7 +309,7 @@ pub(crate) fn check_all(fed: &[Fed], stops: bool) -> Result<(), FilesFault>
 /// Looks for a feeder that was stopped though no gate stops one, and answers the fault of the first feeder that left no
 /// closing. Where each left one, the full index that stops a feeder was told before.
 fn check_going(fed: &[Fed], stops: bool) -> Result<(), FilesFault>
-    requires { length fed.now ≤ 64 }
+    requires { length fed.now ≤ max_feeders }
     ensures fault { IfErr result (IsNotClosed fed.now) }
     ensures going { OnOk result (stops ≡ false → AreGoing fed.now) }
     ensures stopped { OnErr result (¬ (stops ≡ false → AreGoing fed.now)) }
@@ -327,7 +328,7 @@ fn check_going(fed: &[Fed], stops: bool) -> Result<(), FilesFault>
 
 /// Looks for the first file whose source answered a fault, and answers this fault.
 fn check_sources(fed: &[Fed]) -> Result<(), FilesFault>
-    requires { length fed.now ≤ 64 }
+    requires { length fed.now ≤ max_feeders }
     ensures fault { IfErr result (IsSourceFault fed.now) }
     ensures fine { OnOk result (All (λ end. end.fault ≡ None) fed.now) }
     ensures kind { (file : ℕ) → result ≢ Err (FilesFault.NotClosed file) }
@@ -342,7 +343,7 @@ fn check_sources(fed: &[Fed]) -> Result<(), FilesFault>
 
 /// Looks for the first feeder that left no closing, and answers this fault.
 fn check_closed(fed: &[Fed]) -> Result<(), FilesFault>
-    requires { length fed.now ≤ 64 }
+    requires { length fed.now ≤ max_feeders }
     ensures fault { IfErr result (IsNotClosed fed.now) }
     ensures closed { OnOk result (All (λ end. end.closed ≡ true) fed.now) }
 {

@@ -8,6 +8,7 @@ ghost use Rattle.bsi_files.specs.Faults.{is_early, is_late};
 ghost use Rattle.bsi_files.specs.RunFaults.{IsFaultOf, IsLoadFault, IsRunFault};
 ghost use Rattle.bsi_files.specs.Runs.{IsRun};
 ghost use Rattle.bsi_files.specs.Writing.{Leaves, WhereFilesKnown, WhereKnown, WritesAll};
+ghost use Rattle.bsi_origins.specs.Origins.{max_feeders};
 
 use crate::asks::answer_all;
 use crate::headers::{begin_all, capacities, file_number};
@@ -47,7 +48,7 @@ pub fn run_files<
     G: Gate + Stopping + Sync,
 >(rt: &R, schema: S, asks: A, sources: Vec<I>, writer: &mut W, gate: &G) -> Result<(), FilesFault>
     requires { 0 < length sources.items }
-    ensures files { (result ≡ Err FilesFault.TooManyFiles) ↔ (64 < length sources.items) }
+    ensures files { (result ≡ Err FilesFault.TooManyFiles) ↔ (max_feeders < length sources.items) }
     ensures quiet { IfErr result (λ fault. is_late fault ≡ false →
         W.contents writer.new ≡ W.contents writer.old) }
 
@@ -121,7 +122,7 @@ fn run_in<
     requires about { B.about ≡ no_rows columns (length capacities.items) limit }
     requires schema { run.schema ≡ columns }
     requires many { length run.sources.items ≡ length capacities.items }
-    requires few { length run.sources.items ≤ 64 }
+    requires few { length run.sources.items ≤ max_feeders }
     ensures counted { IfErr result (λ fault. fault ≢ FilesFault.TooManyFiles) }
     ensures fault { IfErr result (IsRunFault I.remaining G.STOPS limit run.sources.items) }
     ensures quiet { IfErr result (λ fault. is_late fault ≡ false →

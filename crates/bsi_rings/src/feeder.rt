@@ -4,9 +4,9 @@ ghost use Rattle.std.specs.Prelude.{◌≡◌, ◌+◌, ◌<◌, ◌≤◌, ◌^
 ghost use Rattle.rtrb.specs.Ring.{known_free, producer_capacity, sent, ProducerLooked};
 ghost use Rattle.bsi_rings.specs.Rings.{all_rows};
 
-use crate::{Closing, NoMemory};
 use crate::parcel::{Batch, Parcel};
 use crate::places::Places;
+use crate::{Closing, NoMemory};
 use bsi_table::{Index, MAX_ROWS, Row, Schema};
 use rtrb::Producer;
 use std::alloc::Global;
@@ -66,7 +66,7 @@ impl Model for Feeder {
 impl Feeder {
     ghost use Rattle.bsi_table.specs.RowBlocks.{entries_of};
     ghost use Rattle.bsi_rings.specs.Rings.{new_sending, ring_of, with_sent, with_sent_rows, Closes, IsBatchReply, IsSubmitReply};
-    ghost use Rattle.bsi_table.specs.Table.{no_rows};
+    ghost use Rattle.bsi_table.specs.Table.{max_rows, no_rows};
 
     /// Makes the feeder of a ring to which nothing has been sent.
     pub(crate) fn new(
@@ -108,7 +108,7 @@ impl Feeder {
     /// Makes a batch of no rows, an index of one feeder that keeps its columns as the table does: the loader takes its
     /// rows by words.
     pub fn batch(&self) -> Result<Index, NoMemory>
-        ensures { IfOk result (λ batch. batch ≡ no_rows self.now.channel.schema 1 (2 ^ 32)) }
+        ensures { IfOk result (λ batch. batch ≡ no_rows self.now.channel.schema 1 max_rows) }
     {
         Index::with_schema(self.alloc, &self.schema, 1, MAX_ROWS).map_err(|_| NoMemory)
     }

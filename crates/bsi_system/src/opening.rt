@@ -6,6 +6,7 @@ ghost use Rattle.bsi_load.specs.Sizes.{sizes_refusal};
 ghost use Rattle.bsi_rings.specs.Rings.{new_feeders};
 ghost use Rattle.bsi_system.specs.Running.{new_loading, IsFeederOf};
 ghost use Rattle.bsi_system.specs.Opening.{IsOpenRefusal};
+ghost use Rattle.bsi_versions.specs.Editions.{max_analysts};
 
 use crate::system::{OpenRefused, System};
 use crate::{Loader, NoMemory};
@@ -23,7 +24,7 @@ pub fn open<B: Naming>(
     limit: u64,
     analysts: u32,
 ) -> Result<System<B>, OpenRefused<B>>
-    requires few { analysts ≤ 8 }
+    requires few { analysts ≤ max_analysts }
     requires history { history ≡ record { book = B.book; list = [] } }
     requires about { B.about ≡ no_rows schema (length capacities.items) limit }
     ensures loader { IfOk result (λ s. s.loader ≡ new_loading s.loader.system.channels schema limit) }

@@ -6,6 +6,7 @@ ghost use Rattle.bsi_table.specs.Table.{no_rows};
 ghost use Rattle.bsi_load.specs.Sizes.{sizes_refusal};
 ghost use Rattle.bsi_rings.specs.Rings.{new_feeders};
 ghost use Rattle.bsi_system.specs.Running.{new_loading, IsFeederOf};
+ghost use Rattle.bsi_versions.specs.Editions.{max_analysts};
 
 use crate::Loader;
 use bsi_load::{MakeError, check_sizes};
@@ -43,7 +44,7 @@ impl<B: Naming> System<B> {
         limit: u64,
         analysts: u32,
     ) -> Result<System<B>, MakeError>
-        requires few { analysts ≤ 8 }
+        requires few { analysts ≤ max_analysts }
         requires history { history ≡ record { book = B.book; list = [] } }
         requires about { B.about ≡ no_rows schema (length capacities.now) limit }
         ensures loader { IfOk result

@@ -7,6 +7,10 @@ use Rattle.bsi_schema.specs.Limits.{limits_of}
 use Rattle.bsi_schema.specs.declared.limits.Limits.{Limits}
 use Rattle.bsi_table.specs.Rows.{Entries, FedRow}
 
+-- at most so many rows of a block
+abbrev pub max_block_rows : ℕ
+max_block_rows = max_block
+
 -- what a contract sees of a block: the schema that its rows fit, how many feeders there are, and the rows
 pub record RowBlock : Type 0 where
   pub schema : Declared
@@ -55,7 +59,7 @@ pub record IsBlock (columns : List NamedColumn) (limits : List Limits) (feeders 
     : Type 0 where
   pub limits_are : limits ≡ map limits_of columns
   pub columns_are : All IsColumn columns
-  pub few : length sources ≤ max_block
+  pub few : length sources ≤ max_block_rows
   pub long : length places ≡ 64 * length columns
   pub from : All (λ source. source < feeders) sources
   pub fitting : (r : ℕ) → r < length sources → fits columns (placed_row (length columns) places r) ≡ true

@@ -12,6 +12,10 @@ use Rattle.bsi_schema.specs.declared.form.Form.TheVariants.{Slices, Equality, Ra
 use Rattle.bsi_schema.specs.Columns.{column_at, fits, size_in, Declared, NamedColumn}
 use Rattle.bsi_table.specs.Rows.{column_of, entry_at, Entries, FedRow}
 
+-- at most so many rows of an index
+abbrev pub max_rows : ℕ
+max_rows = max_len
+
 -- what a contract sees of an index: its schema, how many feeders there are, the most rows, and the rows
 pub record Table : Type 0 where
   pub schema : Declared
@@ -99,7 +103,7 @@ pub record IsTable (columns : List NamedColumn) (feeders limit : ℕ) (sources :
   pub few : feeders ≤ max_feeders
   pub from : All (λ source. source < feeders) sources
   pub within : length sources ≤ limit
-  pub small : limit ≤ max_len
+  pub small : limit ≤ max_rows
 
 -- a column has the entries, the offset and the form of another
 pub record IsSameColumn (old new : OffsetColumn) : Type 0 where

@@ -4,10 +4,9 @@
 //! each column is lent as one slice.
 
 ghost use Rattle.std.specs.Prelude.{◌≡◌, ◌≢◌, ◌↔◌, [], ℕ, ◌+◌, ◌*◌, ◌<◌, ◌≤◌, ◌^◌, ◌+ℤ◌, ◌≤ℤ◌, All, List, None, Some, IfOk, IsTrue, length, pos, slice_get, slice_index_or, true, false};
-ghost use Rattle.bsi_bits.specs.BitList.{max_block};
 ghost use Rattle.bsi_schema.specs.Columns.{entry_at, fits, is_between};
 ghost use Rattle.bsi_schema.specs.declared.limits.Limits.{Limits};
-ghost use Rattle.bsi_table.specs.RowBlocks.{emptied_block, entries_of, no_block_rows, placed_row, with_block_row, AreAlike};
+ghost use Rattle.bsi_table.specs.RowBlocks.{emptied_block, entries_of, max_block_rows, no_block_rows, placed_row, with_block_row, AreAlike};
 ghost use Rattle.bsi_table.specs.Rows.{column_of, feeders_of};
 ghost use Rattle.bsi_table.specs.Table.{AreFitting, AreFrom};
 
@@ -35,15 +34,14 @@ pub struct Block {
 // Clauses see the schema, the number of feeders, and the rows, each with its feeder.
 impl Model for Block {
     ghost use Rattle.std.specs.Prelude.{◌≤◌, vec_capacity};
-    ghost use Rattle.bsi_bits.specs.BitList.{max_block};
-    ghost use Rattle.bsi_table.specs.RowBlocks.{block_view, IsBlock, RowBlock};
+    ghost use Rattle.bsi_table.specs.RowBlocks.{block_view, max_block_rows, IsBlock, RowBlock};
 
     ghost Value = { RowBlock };
 
     ghost view = { λ b. block_view b.schema.value b.feeders b.sources.items b.places.items };
 
     ghost invariant = { λ b. IsBlock b.schema.value.columns b.limits.items b.feeders b.sources.items
-        b.places.items × (max_block ≤ vec_capacity b.sources) };
+        b.places.items × (max_block_rows ≤ vec_capacity b.sources) };
 }
 
 impl Block {
@@ -67,7 +65,7 @@ impl Block {
     /// Returns the number of rows, at most 64.
     pub fn len(&self) -> usize
         ensures len { result ≡ length self.now.rows }
-        ensures within { result ≤ max_block }
+        ensures within { result ≤ max_block_rows }
         ensures fitting { AreFitting self.now.schema.columns self.now.rows }
         ensures from { AreFrom self.now.feeders self.now.rows }
     {
@@ -98,7 +96,7 @@ impl Block {
 
     /// Adds a row of a feeder after the others, and returns whether it fits. If it does not, the block stays.
     pub fn push(&mut self, feeder: u32, row: &Row) -> bool
-        requires room { length self.old.rows < max_block }
+        requires room { length self.old.rows < max_block_rows }
         requires feeder { feeder < self.old.feeders }
         ensures fits { result ≡ fits self.old.schema.columns row.now }
         ensures added { result ≡ true → self.new ≡ with_block_row self.old feeder row.now }
@@ -115,7 +113,7 @@ impl Block {
 
     /// Adds a row of a feeder that fits after the others. Its entries are numbers of 64 bits already.
     pub fn push_fitting(&mut self, feeder: u32, entries: &[Option<i64>])
-        requires room { length self.old.rows < max_block }
+        requires room { length self.old.rows < max_block_rows }
         requires feeder { feeder < self.old.feeders }
         requires fits { IsTrue (fits self.old.schema.columns entries.now) }
         ensures { self.new ≡ with_block_row self.old feeder entries.now }
@@ -154,7 +152,7 @@ impl Block {
     pub(crate) fn column(&self, c: usize) -> &[Option<i64>]
         requires { c < length self.now.schema.columns }
         ensures entries { result.now ≡ column_of self.now.rows c }
-        ensures few { length result.now ≤ max_block }
+        ensures few { length result.now ≤ max_block_rows }
     {
         let rows = self.sources.len();
         let first = MAX_BLOCK_ROWS * c;
@@ -164,7 +162,7 @@ impl Block {
 
 /// Writes the entries of a row that fits, each into place `at` of its column's.
 fn write_row(limits: &[Limits], values: &[Option<i128>], at: usize, places: &mut Vec<Option<i64>>)
-    requires at { at < max_block }
+    requires at { at < max_block_rows }
     requires long { length places.old.items ≡ 64 * length limits.now }
     requires wide { length values.now ≡ length limits.now }
     requires below { (c : ℕ) (d : Limits) → c < length limits.now →
@@ -174,7 +172,7 @@ fn write_row(limits: &[Limits], values: &[Option<i128>], at: usize, places: &mut
         is_between (slice_index_or limits.now c d).least (slice_index_or limits.now c d).size
         (entry_at values.now c) ≡ true }
     ensures long { length places.new.items ≡ length places.old.items }
-    ensures others { (c r : ℕ) → r < max_block → r ≢ at →
+    ensures others { (c r : ℕ) → r < max_block_rows → r ≢ at →
         slice_index_or places.new.items (64 * c + r) None
         ≡ slice_index_or places.old.items (64 * c + r) None }
     ensures row { (c : ℕ) → c < length limits.now →
@@ -187,10 +185,10 @@ fn write_row(limits: &[Limits], values: &[Option<i128>], at: usize, places: &mut
 
 /// Writes the entries of a row, each into place `at` of its column's.
 fn write_entries(entries: &[Option<i64>], at: usize, places: &mut Vec<Option<i64>>)
-    requires at { at < max_block }
+    requires at { at < max_block_rows }
     requires long { length places.old.items ≡ 64 * length entries.now }
     ensures long { length places.new.items ≡ length places.old.items }
-    ensures others { (c r : ℕ) → r < max_block → r ≢ at →
+    ensures others { (c r : ℕ) → r < max_block_rows → r ≢ at →
         slice_index_or places.new.items (64 * c + r) None
         ≡ slice_index_or places.old.items (64 * c + r) None }
     ensures row { (c : ℕ) → c < length entries.now →
@@ -208,7 +206,7 @@ fn read_row(
     at: usize,
     places: &[Option<i64>],
 ) -> Result<Vec<Option<i128>>, NoMemory>
-    requires at { at < max_block }
+    requires at { at < max_block_rows }
     requires long { length places.now ≡ 64 * columns }
     ensures { IfOk result (λ values. values.items ≡ placed_row columns places.now at) }
 {

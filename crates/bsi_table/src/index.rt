@@ -3,14 +3,13 @@
 ghost use Rattle.std.specs.Prelude.{◌≡◌, ◌≢◌, ◌↔◌, [], ◌+◌, ◌<◌, ◌≤◌, ◌^◌, None, Some, length, map, slice_get, IfErr, IfOk, IsOk, IsTrue, true, OnErr, OnOk};
 ghost use Rattle.std.specs.Result.{result_err};
 ghost use Rattle.bsi_origins.specs.Origins.{max_feeders};
-ghost use Rattle.bsi_bits.specs.BitList.{max_len};
 ghost use Rattle.bsi_shift.specs.Shifted.{shifted_entries};
 ghost use Rattle.bsi_table.specs.Answers.{missing_column, CountsConjunction, IsAnswer, IsReply, IsSelection, ReadsAmong};
 ghost use Rattle.bsi_schema.specs.Columns.{column_at, fits};
 ghost use Rattle.bsi_table.specs.Refusals.{index_refusal, row_refusal, rows_refusal, IsFirstOr};
 ghost use Rattle.bsi_table.specs.RowBlocks.{entries_of, fed_as, no_block_rows, AreAlike};
 ghost use Rattle.bsi_table.specs.Rows.{column_of, holds};
-ghost use Rattle.bsi_table.specs.Table.{no_rows, with_row, with_rows, AreFitting, AreFrom, AreKeptAlike, IsInForm};
+ghost use Rattle.bsi_table.specs.Table.{max_rows, no_rows, with_row, with_rows, AreFitting, AreFrom, AreKeptAlike, IsInForm};
 
 use crate::columns::{are_alike, copy_each, make_each, read_row, select_one};
 use crate::found::{count_selected, find_rows};
@@ -375,7 +374,7 @@ impl Index {
     /// Returns the most rows that the index holds, at most 2^32.
     pub fn limit(&self) -> u64
         ensures limit { result ≡ self.now.limit }
-        ensures within { result ≤ max_len }
+        ensures within { result ≤ max_rows }
     {
         self.limit
     }

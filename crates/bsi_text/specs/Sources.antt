@@ -8,7 +8,7 @@ use Rattle.csv.specs.declared.parser.State.TheVariants as st
 use Rattle.csv.specs.declared.reader.Reader.{Reader}
 use Rattle.csv.specs.declared.reader.Trim.TheVariants as trim
 use Rattle.bsi_table.specs.Columns.{fits, Declared}
-use Rattle.bsi_table.specs.RowBlocks.{fed_as, RowBlock}
+use Rattle.bsi_table.specs.RowBlocks.{fed_as, max_block_rows, RowBlock}
 use Rattle.bsi_table.specs.Rows.{Entries}
 use Rattle.bsi_records.specs.Numbers.{Field}
 use Rattle.bsi_text.specs.RowFiles.{bad_count, good_rows, is_header}
@@ -177,7 +177,7 @@ pub record PutsRows {R : Type 0} (rem : R → Option (List ℕ)) (layout : Layou
   pub added : full ≡ with_fed_rows start feeder rows
   pub fitting : All (λ row. IsTrue (fits layout.schema.columns row)) rows
   pub given : HasGivenRows rem layout old new before after rows end
-  pub goes_on : (end ≡ None) ↔ (length full.rows ≡ 64)
+  pub goes_on : (end ≡ None) ↔ (length full.rows ≡ max_block_rows)
 
 -- a source met no fault
 abbrev pub IsWithoutFault : {R : Type 0} → Source R → Type 0

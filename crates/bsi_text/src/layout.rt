@@ -7,7 +7,7 @@ ghost use Rattle.std.specs.List.{list_all};
 ghost use Rattle.std.specs.Str.{bytes_eq};
 ghost use Rattle.csv.specs.Records.{fields_of};
 ghost use Rattle.bsi_table.specs.Columns.{fits};
-ghost use Rattle.bsi_table.specs.RowBlocks.{no_block_rows, with_block_row, AreAlike};
+ghost use Rattle.bsi_table.specs.RowBlocks.{max_block_rows, no_block_rows, with_block_row, AreAlike};
 ghost use Rattle.bsi_records.specs.Numbers.{values_in};
 ghost use Rattle.bsi_text.specs.RowFiles.{fitting, given, good_row, in_order, is_header, is_known, is_named_once, place_of};
 
@@ -121,7 +121,7 @@ impl Layout {
         block: &mut Block,
     ) -> bool
         requires alike { AreAlike block.old.schema self.now.schema }
-        requires room { length block.old.rows < 64 }
+        requires room { length block.old.rows < max_block_rows }
         requires feeder { feeder < block.old.feeders }
         requires wide { length self.now.schema.columns ≤ vec_capacity entries.old }
         ensures row { given result entries.new.items

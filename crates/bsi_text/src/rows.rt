@@ -7,7 +7,7 @@ ghost use Rattle.std.specs.Prelude.{◌≡◌, ◌≢◌, ◌<◌, ◌≤◌, Op
 ghost use Rattle.csv.specs.Reading.{reader_state, source_of, strip_bom};
 ghost use Rattle.csv.specs.declared.parser.State.TheVariants as st;
 ghost use Rattle.bsi_table.specs.Columns.{fits};
-ghost use Rattle.bsi_table.specs.RowBlocks.{no_block_rows, AreAlike};
+ghost use Rattle.bsi_table.specs.RowBlocks.{max_block_rows, no_block_rows, AreAlike};
 ghost use Rattle.bsi_text.specs.RowFiles.{given, is_header};
 ghost use Rattle.bsi_text.specs.Sources.{end_after, end_of, max_records, tally_of, Fills, GivesFirst, HasGiven, HasNoHeader, HasStopped, IsPlain, IsTally, PutsRows, StandsAfter};
 
@@ -219,7 +219,7 @@ impl<R: Read + Drop> RowSource<R> {
     /// that is met once a row was added is left to the next call.
     pub fn fill(&mut self, feeder: u32, block: &mut Block) -> Result<(), SourceFault>
         requires alike { AreAlike block.old.schema self.old.layout.schema }
-        requires room { length block.old.rows < 64 }
+        requires room { length block.old.rows < max_block_rows }
         requires feeder { feeder < block.old.feeders }
         ensures failed { (fault : SourceFault) → self.old.end ≡ Some (Err fault) →
             (result ≡ Err fault) × (self.new ≡ self.old) }
@@ -349,7 +349,7 @@ fn put_rows<R: Read + Drop>(
     requires plain { IsPlain input.old }
     requires tally { IsTally (tally_of taken.old bad.old) }
     requires alike { AreAlike block.old.schema layout.now.schema }
-    requires room { length block.old.rows < 64 }
+    requires room { length block.old.rows < max_block_rows }
     requires feeder { feeder < block.old.feeders }
     ensures puts { PutsRows R.remaining layout.now input.old input.new (tally_of taken.old bad.old)
         (tally_of taken.new bad.new) feeder block.old block.new (end_of result) }

@@ -11,6 +11,10 @@ use Rattle.bsi_versions.specs.Pages.{Edition, Known, Rows}
 use Rattle.bsi_versions.specs.declared.operation.Operation.{Operation}
 use Rattle.bsi_versions.specs.declared.operation.Operation.TheVariants.{Rows as rows_operation, Batch, Mark}
 
+-- at most so many analysts of a system
+abbrev pub max_analysts : ℕ
+max_analysts = 8
+
 -- the edition after a pending operation
 abbrev pub after : Edition → Operation → Edition
 after e (rows_operation block) = record e { table = with_rows e.table block.rows }

@@ -8,7 +8,7 @@ ghost use Rattle.std.specs.Prelude.{◌≡◌, ◌+◌, ◌<◌, ◌≤◌, [], 
 ghost use Rattle.bsi_table.specs.Columns.{fits};
 ghost use Rattle.bsi_table.specs.RowBlocks.{entries_of};
 ghost use Rattle.bsi_table.specs.Table.{AreKeptAlike};
-ghost use Rattle.bsi_versions.specs.Editions.{published_all, with_held, with_held_rows};
+ghost use Rattle.bsi_versions.specs.Editions.{max_analysts, published_all, with_held, with_held_rows};
 
 use crate::copies::{Copies, mark_all, show};
 use crate::history::History;
@@ -57,7 +57,7 @@ impl<B: Naming> Publisher<B> {
         requires history { history ≡ record { book = B.book; list = [] } }
         requires index { index ≡ B.about }
         requires empty { index.rows ≡ [] }
-        requires few { analysts ≤ 8 }
+        requires few { analysts ≤ max_analysts }
         ensures { IfOk result (λ publisher. publisher ≡ record { table = index; held = [] }) }
     {
         let free = index.limit();

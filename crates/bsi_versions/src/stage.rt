@@ -79,7 +79,9 @@ impl Stage {
     {
         gather(&mut self.batch, &mut self.block)?;
         make_room(&mut self.batch)?;
-        self.batch.append_index_from(feeder, other).map_err(|_| NoMemory)?;
+        self.batch
+            .append_index_from(feeder, other)
+            .map_err(|_| NoMemory)?;
         Ok(())
     }
 
