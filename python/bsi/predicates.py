@@ -5,7 +5,7 @@ A predicate is its terms in postfix order, as a query of the library has them, a
 
 from __future__ import annotations
 
-from typing import Any, Callable, Iterable, List, NamedTuple, Tuple, Union
+from typing import Any, Iterable, List, NamedTuple, Tuple, Union
 
 from .errors import BadQuery
 
