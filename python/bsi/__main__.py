@@ -27,7 +27,7 @@ from .parts import Parts
 from .questions import ask, is_question
 from .reading import read_csv
 
-MOST_SHOWN = 20
+MAX_SHOWN = 20
 
 
 def _arguments(words: Optional[List[str]]) -> Any:
@@ -77,8 +77,8 @@ def _shown(answer: Any) -> str:
         return str(answer).removesuffix(" 00:00:00")
     if not isinstance(answer, np.ndarray):
         return str(answer)
-    more = [f".. {len(answer) - MOST_SHOWN:,} more"] if len(answer) > MOST_SHOWN else []
-    return " ".join([*map(str, answer[:MOST_SHOWN].tolist()), *more]) or "none"
+    more = [f".. {len(answer) - MAX_SHOWN:,} more"] if len(answer) > MAX_SHOWN else []
+    return " ".join([*map(str, answer[:MAX_SHOWN].tolist()), *more]) or "none"
 
 
 def _answer(table: Any, question: str) -> bool:

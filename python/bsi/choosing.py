@@ -10,7 +10,7 @@ import numpy as np
 from .errors import BadColumns, BadRow, BadSchema, Error
 from .forms import LEAST, MOST, Form, narrowest
 from .kinds import Kind, Misfit, Texts, Whole
-from .narrowing import MOST_TEXTS, encode, joined, narrow, recode, too_many_texts
+from .narrowing import MAX_TEXTS, encode, joined, narrow, recode, too_many_texts
 from .values import Values, columns_of, values_of
 
 Encoded = List[Tuple[np.ndarray, np.ndarray]]
@@ -106,7 +106,7 @@ def kind_of(name: str, blocks: Iterable[Block]) -> Optional[Kind]:
         except TypeError as why:
             row = int(block.valid.argmax())
             raise BadRow(name, block.row + row, block.value(row), str(why)) from None
-        if isinstance(kind, Texts) and kind not in (before, block.kind) and len(kind.values) > MOST_TEXTS:
+        if isinstance(kind, Texts) and kind not in (before, block.kind) and len(kind.values) > MAX_TEXTS:
             raise _too_many_texts(name, dict.fromkeys(getattr(before, "values", ())), block)
     return kind
 
@@ -115,9 +115,9 @@ def _too_many_texts(name: str, found: Dict[str, None], block: Block) -> Error:
     """Returns which text of the block is one too many."""
     for row in np.flatnonzero(block.valid).tolist():
         found[block.value(row)] = None
-        if len(found) > MOST_TEXTS:
+        if len(found) > MAX_TEXTS:
             return BadRow(name, block.row + row, block.value(row), too_many_texts(block.value(row)))
-    return BadColumns(f"column {name!r} has more than {MOST_TEXTS:,} different texts; leave it out")
+    return BadColumns(f"column {name!r} has more than {MAX_TEXTS:,} different texts; leave it out")
 
 
 def settled(name: str, blocks: List[Block], wishes: Wishes) -> Tuple[Form, Tuple[np.ndarray, np.ndarray]]:

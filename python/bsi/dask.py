@@ -25,7 +25,7 @@ from .gathered import Gathered
 from .index import Index
 from .kinds import Kind, Misfit, Whole
 from .narrowing import encode
-from .table import MOST_ROWS, Table
+from .table import MAX_ROWS, Table
 from .values import columns_of, values_of
 
 BOUNDS, SECONDS = 63, 0.5
@@ -161,7 +161,7 @@ def from_frame(
     if limit is not None and sum(rows) > limit:
         raise IndexFull(f"row {limit:,} is past the limit of {limit:,} rows; no index was made", limit)
     places = _places(client, partitions)
-    return Workers(found, MOST_ROWS if limit is None else limit, _store(client, found, partitions, places, rows))
+    return Workers(found, MAX_ROWS if limit is None else limit, _store(client, found, partitions, places, rows))
 
 
 def _refuse(answers: List[Any], rows: List[int]) -> None:

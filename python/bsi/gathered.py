@@ -8,7 +8,7 @@ from typing import Any, List, Optional, Sequence, Tuple
 import numpy as np
 
 from .errors import BadQuery
-from .predicates import MOST_FIELDS
+from .predicates import MAX_FIELDS
 
 Fields = Sequence[bytes]
 
@@ -50,8 +50,8 @@ class Gathered:
     def _median(self, name: bytes, fields: Fields) -> Optional[int]:
         """Halves what is left between the medians of the parts, since that of all lies between the least and the
         greatest of them. A count of the numbers at or below a bound has four fields more than the predicate."""
-        if len(fields) + 4 > MOST_FIELDS:
-            rule = f"a median over several parts takes a predicate of at most {MOST_FIELDS - 4} fields"
+        if len(fields) + 4 > MAX_FIELDS:
+            rule = f"a median over several parts takes a predicate of at most {MAX_FIELDS - 4} fields"
             raise BadQuery(f"{rule}, and this one has {len(fields):,}")
         medians = [number for number in self._each("value", b"median", name, fields) if number is not None]
         if not medians:

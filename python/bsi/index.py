@@ -8,7 +8,7 @@ from .choosing import chosen
 from .forms import Form
 from .kinds import Kind
 from .progress import Progress
-from .table import MOST_ROWS, Table, opened
+from .table import MAX_ROWS, Table, opened
 
 
 class Index(Table):
@@ -24,7 +24,7 @@ class Index(Table):
     """
 
     def __init__(self, columns: Mapping[str, Form], *, limit: Optional[int] = None):
-        super().__init__(columns, MOST_ROWS if limit is None else limit, opened(columns, limit))
+        super().__init__(columns, MAX_ROWS if limit is None else limit, opened(columns, limit))
 
     @classmethod
     def from_frame(

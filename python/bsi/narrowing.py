@@ -15,7 +15,7 @@ from .kinds import first_misfit, nanoseconds_of, shown
 from .values import Values
 
 # How many places of decimals are tried for floats, and how many different texts a column may have.
-MOST_PLACES, MOST_TEXTS = 6, 1024
+MAX_PLACES, MAX_TEXTS = 6, 1024
 # The kind of a column, None where all of it is null, and the numbers that stand for its values.
 Narrowed = Tuple[Optional[Kind], np.ndarray]
 
@@ -40,7 +40,7 @@ def narrow(given: Values) -> Narrowed:
         "b": [Flags()],
         "i": [Whole()],
         "u": [Whole()],
-        "f": [Whole(), *(Decimals(places) for places in range(1, MOST_PLACES + 1))],
+        "f": [Whole(), *(Decimals(places) for places in range(1, MAX_PLACES + 1))],
         "M": [Times(unit, given.zone) for unit in UNITS],
     }
     return first_that_keeps(kinds[values.dtype.kind], values, valid)
@@ -71,7 +71,7 @@ def _of_objects(given: Values) -> Narrowed:
 
 def _texts(given: Values) -> Narrowed:
     there = given.values[given.valid].tolist()
-    if set(map(type, there)) != {str} or len(set(there)) > MOST_TEXTS:
+    if set(map(type, there)) != {str} or len(set(there)) > MAX_TEXTS:
         _refuse_texts(given)
     kind = Texts(given.order, ordered=True) if given.order else Texts(tuple(set(there)))
     return kind, kind.encode(given.values, given.valid)
@@ -85,13 +85,13 @@ def _refuse_texts(given: Values) -> None:
         if not isinstance(text, str):
             raise Misfit(row, text, f"{shown(text)} is no text, as those before it are")
         found.add(text)
-        if len(found) > MOST_TEXTS:
+        if len(found) > MAX_TEXTS:
             raise Misfit(row, text, too_many_texts(text))
 
 
 def too_many_texts(text: str) -> str:
     """Returns what is wrong with a text past those that a column may have."""
-    return f"{shown(text)} is one text more than the {MOST_TEXTS:,} that a column may have; leave the column out"
+    return f"{shown(text)} is one text more than the {MAX_TEXTS:,} that a column may have; leave the column out"
 
 
 def _numbers(given: Values) -> Narrowed:

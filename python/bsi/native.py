@@ -11,7 +11,7 @@ import os
 import struct
 import threading
 from array import array
-from ctypes import POINTER, Structure, byref, c_bool, c_int64, c_size_t, c_uint8, c_uint32, c_uint64, c_void_p
+from ctypes import POINTER, Structure, byref, c_bool, c_int64, c_size_t, c_uint32, c_uint64, c_void_p
 from functools import lru_cache
 from typing import Any, Dict, List, Optional, Sequence, Tuple
 

@@ -12,7 +12,7 @@ from .gathered import Gathered
 from .kinds import Kind
 from .native import INDEX_FULL, OK, Entries, Handle, check
 from .progress import Progress
-from .table import MOST_ROWS, Table, opened
+from .table import MAX_ROWS, Table, opened
 
 BOUNDS = 3
 
@@ -68,7 +68,7 @@ class Parts(Table):
     def __init__(self, n: int, columns: Mapping[str, Form], *, limit: Optional[int] = None):
         if not 1 <= n <= 256:
             raise ValueError(f"rows are split over 1 to 256 parts, and not {n}")
-        most = MOST_ROWS if limit is None else limit
+        most = MAX_ROWS if limit is None else limit
         super().__init__(columns, most, _Threads([opened(columns) for _ in range(n)], most))
 
     @classmethod

@@ -5,11 +5,11 @@ A predicate is its terms in postfix order, as a query of the library has them, a
 
 from __future__ import annotations
 
-from typing import Any, Callable, Iterable, List, NamedTuple, Tuple, Union
+from typing import Any, Iterable, List, NamedTuple, Tuple, Union
 
 from .errors import BadQuery
 
-MOST_FIELDS = 1000
+MAX_FIELDS = 1000
 OPPOSITE = {"=": "!=", "!=": "=", "<": ">=", ">=": "<", "<=": ">", ">": "<="}
 
 
@@ -54,8 +54,8 @@ class Predicate:
 
     def __init__(self, terms: Iterable[Term]):
         terms = tuple(terms)
-        if 3 * len(terms) > MOST_FIELDS and _fields(terms) > MOST_FIELDS:
-            rule = f"a predicate has at most {MOST_FIELDS:,} fields (a comparison has 3, isnull() 2)"
+        if 3 * len(terms) > MAX_FIELDS and _fields(terms) > MAX_FIELDS:
+            rule = f"a predicate has at most {MAX_FIELDS:,} fields (a comparison has 3, isnull() 2)"
             raise BadQuery(f"{rule}, and this one {_fields(terms):,}")
         object.__setattr__(self, "terms", terms)
 

@@ -25,7 +25,7 @@ from .choosing import Block, Wishes, refuse_no_kind, settled, wanted_of
 from .errors import BadColumns, BadRow
 from .forms import Form
 from .index import Index
-from .kinds import NUMBER, TIME, Decimals, Flags, Kind, Misfit, Texts, Times, Whole, nanoseconds_of_text, shown
+from .kinds import NUMBER, TIME, Decimals, Flags, Kind, Misfit, Texts, Whole, nanoseconds_of_text, shown
 from .narrowing import Narrowed, narrow, times_of
 from .parts import Parts
 from .progress import Progress, told

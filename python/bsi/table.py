@@ -24,7 +24,7 @@ from .values import columns_of, values_of
 
 NAME = re.compile(r"[a-z][a-z0-9_]{0,31}")
 WORDS = {"all", "null", "and", "or", "not"}
-MOST_ROWS, MOST_COLUMNS, BLOCK = 1 << 32, 64, 1 << 20
+MAX_ROWS, MAX_COLUMNS, BLOCK = 1 << 32, 64, 1 << 20
 Name = Union[str, Column]
 Self = TypeVar("Self", bound="Table")
 log = logging.getLogger("bsi")
@@ -57,10 +57,10 @@ def schema_of(columns: Mapping[str, Form], limit: Optional[int]) -> bytes:
         if not isinstance(name, str) or not isinstance(form, Form):
             shape = "slices(..), range(..) or equality(..)"
             raise BadSchema(f"an index has columns by name, each {shape}, and not {name!r}: {form!r}")
-    if len(columns) > MOST_COLUMNS:
-        raise BadSchema(f"an index has at most {MOST_COLUMNS} columns, and not {len(columns)}; name those wanted")
-    if limit is not None and not 1 <= limit <= MOST_ROWS:
-        raise BadSchema(f"the limit is 1 to {MOST_ROWS:,} rows, and not {limit:,}")
+    if len(columns) > MAX_COLUMNS:
+        raise BadSchema(f"an index has at most {MAX_COLUMNS} columns, and not {len(columns)}; name those wanted")
+    if limit is not None and not 1 <= limit <= MAX_ROWS:
+        raise BadSchema(f"the limit is 1 to {MAX_ROWS:,} rows, and not {limit:,}")
     within = names_within(list(columns))
     records = [form.record(within[name]) for name, form in columns.items()]
     records += [] if limit is None else [f"limit,{limit}"]

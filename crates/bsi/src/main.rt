@@ -2,7 +2,7 @@
 //! returns.
 #![tactic(auto)]
 
-use bsi_shell::{ScriptFault, run_words};
+use bsi_shell::{ScriptFault, run_words, tell_fault};
 use std::process::ExitCode;
 use std::rt::Env;
 use std::{env, io};
@@ -11,11 +11,7 @@ fn main(rt: HostRuntime) -> ExitCode {
     let (mut output, mut faults) = (rt.stdout(), rt.stderr());
     let status = match read_words(&rt) {
         Ok(words) => run_words(&rt, words, rt.stdin(), &mut output, &mut faults),
-        Err(_) => {
-            let fault = ScriptFault::NoMemory;
-            let _ = eprintln!(rt; "{fault}");
-            1
-        }
+        Err(_) => tell_fault(ScriptFault::NoMemory, &mut faults),
     };
     ExitCode::from(status)
 }

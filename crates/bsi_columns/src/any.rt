@@ -1,4 +1,7 @@
 //! A column of whichever form, chosen when the program runs.
+//!
+//! An index keeps its columns as this type, so `keep_selected` is no call of the trait `Column`: a user's own column is
+//! asked by `compare`.
 
 ghost use Rattle.std.specs.Prelude.{◌≡◌, ◌↔◌, ◌+◌, ◌≤◌, is_none, length, IsOk, IsTrue, OnOk, OnErr};
 ghost use Rattle.bsi_bits.specs.BitList.{word_count};

@@ -21,13 +21,12 @@ ghost use Rattle.bsi_origins.specs.Origins.{max_feeders};
 
 use crate::headers::file_number;
 use crate::loading::Fed;
-use crate::writing::write_bytes;
 use crate::{FilesFault, NoMemory, Which};
 use bsi_load::Reply;
 use bsi_origins::arrange;
 use bsi_system::{Analyst, AnalystRefused, Naming, Told};
 use bsi_table::{Answer, AskError, Query, Schema};
-use bsi_text::{RecordSource, read_query, write_bad, write_fed, write_reply};
+use bsi_text::{RecordSource, read_query, write_bad, write_bytes, write_fed, write_reply};
 use csv::ByteRecord;
 use std::alloc::Global;
 use std::io::{Read, Write};

@@ -3,7 +3,7 @@
 ghost use Rattle.std.specs.Prelude.{◌≡◌, true};
 ghost use Rattle.bsi_files.specs.Faults.{is_late, is_of_schema, text_fault};
 
-use bsi_text::SourceFault;
+use bsi_text::{SourceFault, WriteFault};
 use std::alloc::AllocError;
 use std::error::Error;
 use std::fmt;
@@ -32,7 +32,7 @@ impl fmt::Display for Which {
 }
 
 /// Why a run over row files ends early; `run_files` says in which order it looks for the causes. A fault of the
-/// questions, of a reader, of memory or of the writer may come after some lines were written; before the others,
+/// questions, of the analyst, of memory or of the writer may come after some lines were written; before the others,
 /// nothing was written.
 #[derive(Clone, Copy, Debug, PartialEq, Eq)]
 pub enum FilesFault {
@@ -54,7 +54,8 @@ pub enum FilesFault {
     /// The feeder of this number, from 0, is the first that left no closing. Where each left one, it is the first that
     /// was stopped though its gate stops none.
     NotClosed(u32),
-    /// No place was found for a reader of the table, or no copy of it was given.
+    /// No place was found for an analyst of the index, or no copy of it was given. No real run meets this: its one
+    /// analyst finds a place, and the loader lives.
     Readers,
     /// Memory other than that of an answer was refused, or a thread could not be started.
     NoMemory,
@@ -94,6 +95,16 @@ impl From<AllocError> for FilesFault {
 
     fn from(_refused: AllocError) -> FilesFault {
         FilesFault::NoMemory
+    }
+}
+
+impl From<WriteFault> for FilesFault {
+    ghost use Rattle.bsi_files.specs.declared.faults.FilesFault.TheVariants.{Write};
+
+    ghost from_gives = { λ _ e. e ≡ Write };
+
+    fn from(_fault: WriteFault) -> FilesFault {
+        FilesFault::Write
     }
 }
 

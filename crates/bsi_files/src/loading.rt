@@ -1,7 +1,7 @@
 //! The loader's part of a run: beside the feeders, and for what is left when they have ended.
 //!
 //! It takes batches of a feeder until these have 256 rows before the next one's turn, so that no ring stays full because
-//! another is long, and publishes from 3,584 held rows on, so that few stand beside the two copies of the table, and
+//! another is long, and publishes from 3,584 held rows on, so that few stand beside the two copies of the index, and
 //! those of one turn more are still one batch. Such a publish may be refused memory: the rows stay held. Nobody asks
 //! before the last one.
 
@@ -41,7 +41,7 @@ pub(crate) struct Fed {
 }
 
 /// Goes from feeder to feeder, round after round, and takes rows until each feeder has ended. It stops at a row that is
-/// refused, unless the cause is that no row is seen. From then on, feeders whose rings are full stop. A full table is no
+/// refused, unless the cause is that no row is seen. From then on, feeders whose rings are full stop. A full index is no
 /// fault yet: once the feeders have ended, their closings tell whether they sent more rows than the limit.
 pub(crate) fn load_beside<B: Naming, R: Wait, G: Gate>(
     rt: &R,
@@ -71,7 +71,7 @@ pub(crate) fn load_beside<B: Naming, R: Wait, G: Gate>(
     unreachable!()
 }
 
-/// Returns the fault that a row was refused for, unless the table is full.
+/// Returns the fault that a row was refused for, unless the index is full.
 fn after_table(fault: FilesFault) -> Result<(), FilesFault>
     requires { is_early fault ≡ true }
     ensures early { IfErr result (λ fault. is_early fault ≡ true) }
@@ -134,7 +134,7 @@ fn load_next<B: Naming>(loader: &mut Loader<B>, feeder: u32) -> Result<usize, Fi
     }
 }
 
-/// Publishes the held rows if there are many, so that few are kept beside the two copies of the table. It leaves a
+/// Publishes the held rows if there are many, so that few are kept beside the two copies of the index. It leaves a
 /// refusal to a later publish.
 fn publish_many<B: Naming, R: Wait>(rt: &R, loader: &mut Loader<B>)
     ensures system { loader.new.system ≡ loader.old.system }

@@ -1,4 +1,8 @@
 //! A run over row files, from their headers to the answers.
+//!
+//! Its lines are stated over the rows of the files, one file after the other. The loader mixes them as the threads run; by
+//! `laws::any_mix` a line is the same for each mix. Only closings tie rows to files, so a full index is told once they are
+//! settled. Where a ring gave no closing, `NotClosed` or a source's fault is told in its place.
 
 ghost use Rattle.std.specs.Prelude.{◌≡◌, ◌≢◌, ◌<◌, ◌≤◌, ◌↔◌, [], Err, IfErr, IfOk, IfSome, OnOk, false, length, map, true};
 ghost use Rattle.bsi_table.specs.Table.{no_rows};
@@ -26,19 +30,19 @@ use std::sync::Wait;
 use std::thread;
 use std::thread::{Scope, Threads};
 
-/// Loads the good rows of at most 64 files into one table, and answers the questions over all of them.
+/// Loads the good rows of at most 64 files into one index, and answers the questions over all of them.
 ///
 /// The schema file declares the columns and the most rows. A feeder on a thread of its own reads each file, and sends
 /// its rows through a ring of 1,024 rows; the calling thread takes the rows out. Then it writes one line for each file,
 /// in their order, and one line for each record of the questions. No line depends on how the threads ran. A feeder that
 /// the gate stops is no fault, and the rows that it sent count.
 ///
-/// It looks for faults in this order: the number of files; the schema file; the header of each row file; a reader of
-/// the table and a thread for each feeder; once the threads have ended the row limit, then, where a feeder was stopped
+/// It looks for faults in this order: the number of files; the schema file; the header of each row file; an analyst
+/// of the index and a thread for each feeder; once the threads have ended the row limit, then, where a feeder was stopped
 /// though its gate stops none, the first feeder without a closing, then the first row file that gives no more rows,
-/// then the first feeder without a closing; and, while it writes answers, the questions, a reader and the writer.
+/// then the first feeder without a closing; and, while it writes answers, the questions, the analyst and the writer.
 /// Refused memory is answered where it is met. Lines that stand before a fault are whole, unless the writer fails. It
-/// keeps two copies of the table, and beside them some thousand rows.
+/// keeps two copies of the index, and beside them some thousand rows.
 pub fn run_files<
     R: Threads + Wait + AllocGlobal + Sync,
     S: Read + Drop,

@@ -1,4 +1,4 @@
-//! The machine: a bounded queue for each feeder, over the index of a table.
+//! The machine: a bounded queue for each feeder, over an index.
 
 ghost use Rattle.std.specs.Prelude.{◌≡◌, ℕ, ◌≤◌, [], ◌∷◌, None, length, map, IfErr, IfOk, OnOk, if◌then◌else◌};
 ghost use Rattle.bsi_table.specs.Answers.{IsReply};
@@ -18,7 +18,7 @@ use circular_buffer::HeapCircularBuffer;
 use std::alloc::Global;
 use std::marker::Model;
 
-/// A table's index, and the rows of each feeder that wait to be indexed.
+/// An index, and the rows of each feeder that wait to be indexed.
 #[derive(Drop)]
 pub struct Core {
     index: Index,

@@ -1,6 +1,8 @@
 //! Predicates in postfix order: from the fields that spell a predicate to the predicate.
 //!
-//! A list in place of recursion keeps the predicates that the fields so far spell, so memory bounds their depth.
+//! A list in place of recursion keeps the predicates that the fields so far spell, so memory bounds their depth. Which
+//! fields spell a predicate is a relation by cases on the predicate (`IsPredicate`). The parser is proved against a parse
+//! (`specs/Postfix.antt`) that no public contract names.
 
 ghost use Rattle.std.specs.Prelude.{◌≡◌, drop, option_map, IfOk};
 ghost use Rattle.csv.specs.Records.{fields_of};

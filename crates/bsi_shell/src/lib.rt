@@ -1,4 +1,5 @@
-//! The command line, and the names of the running system that its callers need.
+//! The command line. A program of one's own that opens a running system, or runs over files, names what it needs from
+//! here too.
 #![tactic(auto)]
 
 mod files;
@@ -13,4 +14,5 @@ pub use bsi_system::{
     NoMemory, OpenRefused, SettleRefused, SubmitRefused, System, Told, open,
 };
 pub use bsi_text::ScriptFault;
+pub use telling::tell_fault;
 pub use words::run_words;

@@ -5,7 +5,7 @@ ghost use Rattle.bsi_text.specs.Waiting.{IsCut};
 
 use crate::files::Failure;
 use arrayvec::ArrayVec;
-use bsi_files::{FilesFault, write_bytes};
+use bsi_text::{WriteFault, write_bytes};
 use std::fmt::Display;
 use std::io::Write;
 
@@ -13,7 +13,7 @@ use std::io::Write;
 const MAX_LINE: usize = 64;
 
 /// Writes the line of a fault, at most 64 bytes, by one write where the writer takes all of it, and returns its status.
-pub(crate) fn tell_fault<D: Display + Drop, F: Write>(fault: D, faults: &mut F) -> u8
+pub fn tell_fault<D: Display + Drop, F: Write>(fault: D, faults: &mut F) -> u8
     ensures status { result ≡ 1 }
     ensures told { IfSome (D.output fault) (λ text.
         IsCut (F.contents faults.old) (F.contents faults.new) (text ++ codes "\n")) }
@@ -42,7 +42,7 @@ pub(crate) fn tell_failure<F: Write>(failure: Failure<'_>, faults: &mut F) -> u8
 }
 
 /// Writes the line of a path that cannot be opened.
-fn write_unopened<F: Write>(path: &str, faults: &mut F) -> Result<(), FilesFault>
+fn write_unopened<F: Write>(path: &str, faults: &mut F) -> Result<(), WriteFault>
     ensures { IsCut (F.contents faults.old) (F.contents faults.new)
         (codes "bsi: cannot open " ++ path.now ++ codes "\n") }
 {

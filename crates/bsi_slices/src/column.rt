@@ -1,4 +1,8 @@
 //! What a column is to an index: a list of optional numbers below its size.
+//!
+//! Least, greatest and median are provided calls over one required call, `ranked`; forms have their own least and
+//! greatest. `of_rank` is a call too, as a provided call can't pass its column to a function that takes any column. The
+//! form is the column's own type, because the trait can't name the encoding of a decomposed one.
 
 ghost use Rattle.std.specs.Prelude.{◌≡◌, ◌↔◌, ℕ, ◌^◌, ◌+◌, ◌≤◌, ◌<◌, List, Option, [], ◌∷◌, ◌++◌, All, length, map, is_some, is_none, nat_lt, sum, IfOk, OnOk, OnErr, IsOk, IsTrue};
 ghost use Rattle.bsi_digits.specs.Digits.{max_size};

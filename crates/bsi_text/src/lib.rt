@@ -9,6 +9,7 @@ mod script;
 mod session;
 mod texts;
 mod watched;
+mod writing;
 
 pub use bsi_records::{
     NoMemory, read_number, read_query, read_row, read_setup, read_signed, write_bad, write_fed,
@@ -17,3 +18,4 @@ pub use bsi_records::{
 pub use rows::{RowSource, SourceFault};
 pub use script::{ScriptFault, run_script};
 pub use texts::RecordSource;
+pub use writing::{WriteFault, write_bytes};

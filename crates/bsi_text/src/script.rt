@@ -14,6 +14,7 @@ ghost use Rattle.bsi_text.specs.Waiting.{IsCut, IsPut, WhileWritten};
 use crate::reading::{MAX_RECORDS, plain_reader, read_next};
 use crate::session::Session;
 use crate::watched::{Watched, has_whole_record};
+use crate::writing::{WriteFault, write_bytes};
 use csv::{ByteRecord, Reader};
 use std::alloc::{AllocError, Global};
 use std::error::Error;
@@ -67,6 +68,16 @@ impl From<csv::Error> for ScriptFault {
         } else {
             ScriptFault::NoMemory
         }
+    }
+}
+
+impl From<WriteFault> for ScriptFault {
+    ghost use Rattle.bsi_text.specs.declared.script.ScriptFault.TheVariants.{Write};
+
+    ghost from_gives = { λ _ e. e ≡ Write };
+
+    fn from(_fault: WriteFault) -> ScriptFault {
+        ScriptFault::Write
     }
 }
 
@@ -171,14 +182,13 @@ fn make_way<R: Read + Drop, W: Write>(
     input: &Reader<Watched<R>>,
     waiting: &mut Vec<u8>,
     writer: &mut W,
-) -> Result<(), ScriptFault>
+) -> Result<(), WriteFault>
     ensures ok { OnOk result
         (IsPut (W.contents writer.old) (W.contents writer.new) waiting.new.items
         waiting.old.items) }
     ensures part { OnErr result
         (IsCut (W.contents writer.old) (W.contents writer.new) waiting.old.items) }
     ensures none { OnErr result (waiting.new.items ≡ []) }
-    ensures fault { IfErr result (λ fault. fault ≡ ScriptFault.Write) }
 {
     if has_whole_record(input) {
         return Ok(());
@@ -187,14 +197,13 @@ fn make_way<R: Read + Drop, W: Write>(
 }
 
 /// Lets a line wait after the others. If there would be too many bytes, or memory is refused, it writes all lines.
-fn gather<W: Write>(line: &[u8], waiting: &mut Vec<u8>, writer: &mut W) -> Result<(), ScriptFault>
+fn gather<W: Write>(line: &[u8], waiting: &mut Vec<u8>, writer: &mut W) -> Result<(), WriteFault>
     ensures ok { OnOk result
         (IsPut (W.contents writer.old) (W.contents writer.new) waiting.new.items
         (waiting.old.items ++ line.now)) }
     ensures part { OnErr result
         (IsCut (W.contents writer.old) (W.contents writer.new) (waiting.old.items ++ line.now)) }
     ensures none { OnErr result (waiting.new.items ≡ []) }
-    ensures fault { IfErr result (λ fault. fault ≡ ScriptFault.Write) }
 {
     let many = waiting.len().saturating_add(line.len()) > MAX_GATHERED;
     if !many && waiting.extend_from_slice(line).is_ok() {
@@ -205,33 +214,14 @@ fn gather<W: Write>(line: &[u8], waiting: &mut Vec<u8>, writer: &mut W) -> Resul
 }
 
 /// Writes the waiting lines. From then on none waits.
-fn write_waiting<W: Write>(waiting: &mut Vec<u8>, writer: &mut W) -> Result<(), ScriptFault>
+fn write_waiting<W: Write>(waiting: &mut Vec<u8>, writer: &mut W) -> Result<(), WriteFault>
     ensures ok { OnOk result
         (Appends (W.contents writer.old) (W.contents writer.new) waiting.old.items) }
     ensures part { OnErr result
         (IsCut (W.contents writer.old) (W.contents writer.new) waiting.old.items) }
     ensures none { waiting.new.items ≡ [] }
-    ensures fault { IfErr result (λ fault. fault ≡ ScriptFault.Write) }
 {
     let written = write_bytes(writer, waiting.as_slice());
     waiting.clear();
     written
-}
-
-/// Writes all bytes. After a fault, what went out is a first part of them. It is not `write_all`, which does not
-/// promise what a fault leaves.
-fn write_bytes<W: Write>(writer: &mut W, bytes: &[u8]) -> Result<(), ScriptFault>
-    ensures ok { OnOk result (Appends (W.contents writer.old) (W.contents writer.new) bytes.now) }
-    ensures part { OnErr result (IsCut (W.contents writer.old) (W.contents writer.new) bytes.now) }
-    ensures fault { IfErr result (λ fault. fault ≡ ScriptFault.Write) }
-{
-    let mut at = 0;
-    'bytes: while at < bytes.len() {
-        match writer.write(&bytes[at..]) {
-            Ok(0) => return Err(ScriptFault::Write),
-            Ok(taken) => at += taken,
-            Err(_) => return Err(ScriptFault::Write),
-        }
-    }
-    Ok(())
 }

@@ -141,7 +141,7 @@ impl Encoding for ByBase {
 pub(crate) fn make_column(alloc: Global, numbers: &[u64]) -> Result<Decomposed<ByBase>, Refused> {
     let bases = Bases::new(vec![in alloc; 64, 100]?)?;
     let mut column = Decomposed::new(alloc, bases)?;
-    'numbers: for number in numbers {
+    for number in numbers {
         if *number >= column.size() || column.len() >= 1_000_000 {
             continue;
         }

@@ -1,7 +1,7 @@
-//! An index over prices, and a question about them.
+//! An index over prices.
 
 use crate::refused::Refused;
-use bsi_library::{Answer, AskError, ColumnSpec, Index, Op, Pred, Query, Row, Schema, Total};
+use bsi_library::{ColumnSpec, Index, Row, Schema};
 use std::alloc::Global;
 
 /// Indexes the prices that fit: nulls, and numbers below 1,000.
@@ -16,11 +16,4 @@ pub(crate) fn index_prices(alloc: Global, prices: &[Option<i128>]) -> Result<Ind
         }
     }
     Ok(index)
-}
-
-/// Finds the lower median of the prices below a bound.
-pub(crate) fn find_median(index: &Index, bound: i128) -> Result<Answer, AskError> {
-    let total = Total::Median(0);
-    let pred = Pred::Compare(0, Op::Lt, bound);
-    index.ask(&Query { total, pred })
 }

@@ -1,6 +1,8 @@
 //! Examples of calls, which README.md and CALLING.md show. The gate proves and runs them, and no crate uses this one.
 #![tactic(auto)]
 
+#[cfg(test)]
+mod asking;
 mod encoding;
 #[cfg(test)]
 mod first;

@@ -1,7 +1,8 @@
 //! Runs each use. One that is refused memory is run again.
 
+use crate::asking::find_median;
 use crate::encoding::{make_column, sum_up_to};
-use crate::first::{find_median, index_prices};
+use crate::first::index_prices;
 use crate::machine::load_one_of_each;
 use crate::refused::Refused;
 use crate::threads::run;

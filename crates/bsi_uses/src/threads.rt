@@ -87,8 +87,8 @@ fn serve<B: Naming + Send + Sync + 'static, R: Threads + Wait>(
     load_all(rt, loader, second)?;
     loader.publish(rt).ok()?;
     let told = loader.tell();
-    let reader = thread::spawn(rt, move || sum_told(analyst, told)).ok()?;
-    reader.join(rt)
+    let asking = thread::spawn(rt, move || sum_told(analyst, told)).ok()?;
+    asking.join(rt)
 }
 
 /// Opens a system with a feeder for each capacity and one analyst, and ends it once all were served.

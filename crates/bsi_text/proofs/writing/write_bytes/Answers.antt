@@ -1,6 +1,6 @@
 use Rattle.std.proofs.Common.{arith}
 use Rattle.bsi_text.proofs.Writes.{written_more}
-use Rattle.bsi_text.proofs.script.write_bytes.Goals as goal
+use Rattle.bsi_text.proofs.writing.write_bytes.Goals as goal
 
 pub bytes-preserved : goal.bytes-preserved
 bytes-preserved g c = record {

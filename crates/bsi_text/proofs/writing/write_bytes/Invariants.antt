@@ -1,6 +1,6 @@
 use Rattle.std.proofs.Common.{length, take, ◌-◌, ◌≤◌}
 use Rattle.std.specs.Io.KnownBytes.{Appends}
-use Rattle.bsi_text.proofs.script.write_bytes.Given as goal
+use Rattle.bsi_text.proofs.writing.write_bytes.Given as goal
 
 -- the first bytes went out
 abbrev pub invariant-bytes : goal.invariant-bytes
