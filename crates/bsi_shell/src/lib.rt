@@ -10,7 +10,7 @@ mod words;
 
 pub use bsi_files::{FeedEnd, FilesFault, Gate, Go, Stopping, Which, feed, run_files};
 pub use bsi_system::{
-    Analyst, AnalystRefused, BlockRefused, Closing, Feeder, History, LoadRefused, Loader, Naming,
+    Analyst, AnalystRefused, BatchRefused, Closing, Feeder, History, LoadRefused, Loader, Naming,
     NoMemory, OpenRefused, SettleRefused, SubmitRefused, System, Told, open,
 };
 pub use bsi_text::ScriptFault;
