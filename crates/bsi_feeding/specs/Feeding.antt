@@ -92,7 +92,7 @@ pub record IsGathered {R : Type 0} (rem : R → Option (List ℕ)) (old new : So
 
 -- at most so many rows of a batch
 abbrev pub max_batch_rows : ℕ
-max_batch_rows = 512
+max_batch_rows = 1024
 
 -- what came of one turn: the first rows that the source still had were sent, at most a batch, or nothing was, and there is
 -- then none left where the turn says so

@@ -12,8 +12,8 @@ use bsi_text::{RowSource, SourceFault};
 use std::io::Read;
 use std::sync::Wait;
 
-/// The most rows of a batch. The ring of a file has places for two.
-const MAX_BATCH_ROWS: u64 = 512;
+/// The most rows of a batch. A file's ring has places for one.
+const MAX_BATCH_ROWS: u64 = 1_024;
 
 /// The most turns of a feeder, each of at most a batch. No text has so many records.
 const MAX_TURNS: u64 = u64::MAX / MAX_BATCH_ROWS;
@@ -51,7 +51,7 @@ pub(crate) enum Turn {
 }
 
 /// Sends the rows of a source in their order, trying each until it is accepted, and closes the feeder. Where the ring has
-/// places for it, a batch of up to 512 rows goes at one try. It waits between two tries. It stops at a fault of the
+/// places for it, a batch of up to 1,024 rows goes at one try. It waits between two tries. It stops at a fault of the
 /// source, where memory for a batch is refused, at a row that does not fit the feeder's schema, and where the gate tells it to, after a try that found no
 /// place in the ring. It closes the feeder in each case.
 pub fn feed<R: Wait, I: Read + Drop, G: Gate>(

@@ -1,9 +1,8 @@
 //! The loader's part of a run: beside the feeders, and for what is left when they have ended.
 //!
 //! It takes batches of a feeder until these have 256 rows before the next one's turn, so that no ring stays full because
-//! another is long, and publishes from 3,584 held rows on, so that few stand beside the two copies of the index, and
-//! those of one turn more are still one batch. Such a publish may be refused memory: the rows stay held. Nobody asks
-//! before the last one.
+//! another is long. It publishes once, when all rows are held: nobody asks before, and the copy of the index that is not
+//! shown stays empty.
 
 ghost use Rattle.std.specs.Prelude.{◌≡◌, ◌≢◌, ◌<◌, ◌≤◌, ℕ, [], All, Err, IfErr, IfOk, IfSome, None, OnErr, OnOk, Ok, Some, false, length, true};
 ghost use Rattle.bsi_system.specs.Running.{published_all, taking_at, AlwaysHolds, IsClosingOf};
@@ -26,9 +25,6 @@ const ROWS_IN_TURN: usize = 256;
 
 /// How often a loader that sees no row yields before it sleeps.
 const MAX_YIELDS: u32 = 256;
-
-/// The fewest held rows that are published.
-const MIN_HELD_TO_PUBLISH: u64 = 3_584;
 
 /// What a feeder that read a file leaves, except for its closing.
 #[derive(Drop)]
@@ -58,7 +54,7 @@ pub(crate) fn load_beside<B: Naming, R: Wait, G: Gate>(
         if watch.ended() >= u64::from(feeders) {
             return Ok(());
         }
-        match load_round(rt, loader, feeders) {
+        match load_round(loader, feeders) {
             Ok(true) => pause = Pause::new(MAX_YIELDS),
             Ok(false) => pause.wait(rt),
             Err(fault) => {
@@ -84,20 +80,13 @@ fn after_table(fault: FilesFault) -> Result<(), FilesFault>
 }
 
 /// Takes some rows of each feeder, and returns whether there was one.
-fn load_round<B: Naming, R: Wait>(
-    rt: &R,
-    loader: &mut Loader<B>,
-    feeders: u32,
-) -> Result<bool, FilesFault>
+fn load_round<B: Naming>(loader: &mut Loader<B>, feeders: u32) -> Result<bool, FilesFault>
     ensures system { loader.new.system ≡ loader.old.system }
     ensures early { IfErr result (λ fault. is_early fault ≡ true) }
 {
     let mut found = false;
     'feeders: for feeder in 0..feeders {
-        if load_some(loader, feeder)? {
-            found = true;
-            publish_many(rt, loader);
-        }
+        found |= load_some(loader, feeder)?;
     }
     Ok(found)
 }
@@ -131,18 +120,6 @@ fn load_next<B: Naming>(loader: &mut Loader<B>, feeder: u32) -> Result<usize, Fi
         Err(LoadRefused::IndexFull) => Err(FilesFault::IndexFull),
         Err(LoadRefused::NoMemory) => Err(FilesFault::NoMemory),
         Err(LoadRefused::UnknownFeeder | LoadRefused::Ended | LoadRefused::Empty) => Ok(0),
-    }
-}
-
-/// Publishes the held rows if there are many, so that few are kept beside the two copies of the index. It leaves a
-/// refusal to a later publish.
-fn publish_many<B: Naming, R: Wait>(rt: &R, loader: &mut Loader<B>)
-    ensures system { loader.new.system ≡ loader.old.system }
-    ensures takings { loader.new.takings ≡ loader.old.takings }
-{
-    if loader.counts().1 >= MIN_HELD_TO_PUBLISH {
-        // After a refusal the rows are still held, and a later publish shows them.
-        let _ = loader.publish(rt);
     }
 }
 
@@ -284,7 +261,6 @@ fn drain<B: Naming, R: Wait>(rt: &R, loader: &mut Loader<B>, feeder: u32) -> Res
         if load_next(loader, feeder)? == 0 {
             return Ok(());
         }
-        publish_many(rt, loader);
     }
     // 'forever' does not end.
     unreachable!()

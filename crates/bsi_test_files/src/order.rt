@@ -58,9 +58,9 @@ fn calls(counted: &AtomicU64) -> u64 {
     counted.load(Ordering::SeqCst)
 }
 
-// Whether the row is one of the last 512 of so many.
+// Whether the row is one of the last 1,024 of so many.
 fn is_in_batch(point: u64, passes: u64) -> bool {
-    point < passes && passes - point <= 512
+    point < passes && passes - point <= 1_024
 }
 
 impl Gate for Follower {
@@ -124,7 +124,7 @@ fn is_followed<R: Threads + Wait + AllocGlobal + Sync>(
         || is_followed_once(rt, files, run, output, counts)
 }
 
-// Of 1,100 rows the ring takes two batches of 512, and the table 10 rows of these. The next batch finds no room.
+// Of 1,100 rows the ring takes a batch of 1,024, and the table 10 rows of it. The next batch finds no room.
 #[test]
 fn a_feeder_that_stops_names_its_row(rt: HostRuntime) {
     let files = Files {

@@ -1,8 +1,8 @@
 //! The stage: the held rows that are no pending operation yet.
 //!
-//! A row goes into a block of 64. A full block goes into the batch, a small index of up to 4,096 rows, which takes batches
+//! A row goes into a block of 64. A full block goes into the batch, a small index of up to 8,192 rows, which takes batches
 //! of feeders by words. Each copy of the table then takes it by words too, bitmap after bitmap, where a block touches each
-//! long bitmap for one word alone. A batch of 4,096 rows of some hundred bitmaps fits a processor's second cache.
+//! long bitmap for one word alone. A batch of 8,192 rows of some hundred bitmaps fits a processor's second cache.
 
 ghost use Rattle.std.specs.Prelude.{◌≡◌, ◌<◌, ◌++◌, [], IfOk, IsTrue, OnErr, OnOk};
 ghost use Rattle.bsi_table.specs.Columns.{fits};
@@ -16,7 +16,7 @@ use bsi_table::{Block, Index, MAX_BLOCK_ROWS, Row};
 use std::marker::Model;
 
 /// The most rows of a batch.
-const MAX_BATCH_ROWS: u64 = 4_096;
+const MAX_BATCH_ROWS: u64 = 8_192;
 
 /// The held rows that are no pending operation yet: those of a batch, and behind them those of a block.
 #[derive(Drop)]

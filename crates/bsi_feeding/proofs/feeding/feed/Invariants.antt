@@ -6,5 +6,5 @@ use Rattle.bsi_feeding.proofs.feeding.feed.Given as goal
 abbrev pub invariant-turns : goal.invariant-turns
 invariant-turns g l = record {
   sent : HasSent g.I.Read.remaining l.initial.feeder l.initial.source l.accepted l.feeder l.source;
-  few : l.accepted ≤ 512 * l.counter;
+  few : l.accepted ≤ 1024 * l.counter;
 }

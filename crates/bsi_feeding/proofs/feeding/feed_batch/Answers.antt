@@ -20,5 +20,5 @@ returns g c =
     let rows = c.gather.new.batch.rows in
     let many = length-map rows (λ (row : FedRow). row.1) in
     let some : 0 < length rows = omega (arith, c.len-rows.ensures.len, c.if-rows-eq0.false) in
-    let few : c.len-rows.result ≤ 512 = omega (arith, c.gather.ensures.few, c.len-rows.ensures.len, c.min-most.ensures) in
+    let few : c.len-rows.result ≤ 1024 = omega (arith, c.gather.ensures.few, c.len-rows.ensures.len, c.min-most.ensures) in
     (entries_of rows, omega (arith, many, c.len-rows.ensures.len), few, c.send_batch.ensures.sent c.if-not-send_batch.false, c.in-Ok.ensures.given.some (omega (arith, many, some)))

@@ -1,8 +1,8 @@
-use Rattle.std.proofs.Common.{◌≡◌, ◌++◌, List, [], None, length, refl, ap, subst, sym, arith, rules, ◌∙◌}
+use Rattle.std.proofs.Common.{◌≡◌, ◌++◌, [], None, length, refl, ap, subst, sym, arith, rules, ◌∙◌}
 use Rattle.std.proofs.lemmas.List.{append-nil, length-append, length-map}
 use Rattle.bsi_table.specs.Columns.{Declared}
 use Rattle.bsi_table.specs.RowBlocks.{entries_of, AreAlike, RowBlock}
-use Rattle.bsi_table.specs.Rows.{Entries, FedRow}
+use Rattle.bsi_table.specs.Rows.{FedRow}
 use Rattle.bsi_table.specs.Table.{with_rows, Table}
 use Rattle.bsi_table.proofs.CallerLemmas.{fitting-alike}
 use Rattle.bsi_text.proofs.Joining.{taken_both}
