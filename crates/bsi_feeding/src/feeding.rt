@@ -31,7 +31,7 @@ pub struct FeedEnd {
     /// Whether a row was not sent, because the gate stopped the feeder or because the row does not fit the feeder's
     /// schema.
     pub stopped: bool,
-    /// The fault that the source answered, or `NoMemory` where memory for a batch of its rows was refused.
+    /// The fault that the source answered, or `NoMemory` where memory for the rows of a batch was refused.
     pub fault: Option<SourceFault>,
     /// The feeder's closing, or none if its ring gave none.
     pub closing: Option<Closing>,
@@ -46,14 +46,14 @@ pub(crate) enum Turn {
     Stopped,
     /// There is no row left.
     Over,
-    /// The source answered a fault.
+    /// The source answered a fault, or memory for the rows of a batch was refused.
     Failed(SourceFault),
 }
 
-/// Sends the rows of a source in their order, trying each until it is accepted, and closes the feeder. Where the ring has
-/// places for it, a batch of up to 1,024 rows goes at one try. It waits between two tries. It stops at a fault of the
-/// source, where memory for a batch is refused, at a row that does not fit the feeder's schema, and where the gate tells it to, after a try that found no
-/// place in the ring. It closes the feeder in each case.
+/// Sends the rows of a source in their order, trying each until it is accepted, and closes the feeder. Where the ring
+/// has places for it, a batch of up to 1,024 rows goes at one try. It waits between two tries. It stops at a fault of
+/// the source, where memory for the rows of a batch is refused, at a row that does not fit the feeder's schema, and
+/// where the gate tells it to, after a try that found no place in the ring. It closes the feeder in each case.
 pub fn feed<R: Wait, I: Read + Drop, G: Gate>(
     rt: &R,
     mut feeder: Feeder,
@@ -68,7 +68,7 @@ pub fn feed<R: Wait, I: Read + Drop, G: Gate>(
     // before, and then them.
     ensures fed { HasFed I.remaining source feeder.sent result }
 
-    // A fault is the one that the source answered once it had given so many rows.
+    // A fault is one at which the source stops once it has given so many rows. Refused memory may stop it anywhere.
     ensures fault { IfSome result.fault (HasFailed I.remaining source result.accepted) }
 {
     let mut accepted = 0;
@@ -124,8 +124,8 @@ fn batch_for<I: Read + Drop>(feeder: &Feeder, source: &RowSource<I>) -> Option<(
     Some((block, batch))
 }
 
-/// Gathers the next rows of the source in a batch, and sends it. Where memory for its rows is refused they are not sent,
-/// and the feeder fails.
+/// Gathers the next rows of the source in a batch, and sends it. Where memory for its rows is refused they are not
+/// sent, and the feeder fails; `batch_for` has made room for them, but no contract of an index sees that.
 fn feed_batch<R: Wait, I: Read + Drop, G: Gate>(
     rt: &R,
     feeder: &mut Feeder,
@@ -240,6 +240,7 @@ fn send_batch<R: Wait, G: Gate>(
     gate: &G,
     point: u64,
 ) -> bool
+    requires place { length batch.rows ≤ feeder.old.capacity }
     ensures sent { result ≡ true →
         feeder.new ≡ with_sent_rows feeder.old (entries_of batch.rows) }
     ensures kept { result ≡ false → feeder.new ≡ feeder.old }
@@ -264,7 +265,7 @@ fn send_batch<R: Wait, G: Gate>(
 
 /// Has a feeder pass the gate before each of so many rows, of which the first has number `point`.
 fn pass_all<R: Wait, G: Gate>(rt: &R, gate: &G, who: u32, point: u64, rows: u64) {
-    'rows: for row in 0..rows {
+    for row in 0..rows {
         gate.pass(rt, who, point.saturating_add(row));
     }
 }

@@ -42,7 +42,7 @@ use std::thread::{Scope, Threads};
 /// though its gate stops none, the first feeder without a closing, then the first row file that gives no more rows,
 /// then the first feeder without a closing; and, while it writes answers, the questions, the analyst and the writer.
 /// Refused memory is answered where it is met. Lines that stand before a fault are whole, unless the writer fails. It
-/// keeps two copies of the index, and beside them some thousand rows.
+/// keeps the index once, and all its rows once more, in batches.
 pub fn run_files<
     R: Threads + Wait + AllocGlobal + Sync,
     S: Read + Drop,

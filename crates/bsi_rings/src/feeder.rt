@@ -131,7 +131,8 @@ impl Feeder {
     }
 
     /// Sends the rows of a batch, in their order, each as a row of this feeder, whatever feeders the batch has. It
-    /// allocates no memory and never waits. A batch of no row is sent by doing nothing.
+    /// allocates no memory and never waits. A batch of no row is sent by doing nothing. One that is not kept as the table
+    /// is, or has more feeders, is taken row by row, and each row costs a pass over the batch.
     pub fn submit_batch(&mut self, batch: Index) -> Result<(), BatchRefused>
         ensures reply { IsBatchReply self.old batch result }
         ensures sent { OnOk result (self.new ≡ with_sent_rows self.old (entries_of batch.rows)) }

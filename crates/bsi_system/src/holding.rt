@@ -58,7 +58,7 @@ pub(crate) fn hold_first<B: Naming>(
     }
 }
 
-/// Returns whether the table keeps its columns as a batch does, and has room for its rows.
+/// Returns whether the table keeps its columns as a batch does, has as many feeders or more, and has room for its rows.
 fn takes<B: Naming>(publisher: &Publisher<B>, batch: &Index) -> bool
     ensures room { result ≡ true → length publisher.now.table.rows + length publisher.now.held
         + length batch.now.rows ≤ publisher.now.table.limit }

@@ -51,9 +51,10 @@ impl<B: Naming> Loader<B> {
         Ok(())
     }
 
-    /// Takes what stands first in a feeder's ring, and holds it: all rows of a batch at one step, where none of them was
-    /// taken, there is room for all below the limit and the batch keeps its columns as the table does, and else one row. It returns how many rows it took. If it is
-    /// refused, all rows stay in the ring. It never waits.
+    /// Takes what stands first in a feeder's ring, and holds it: all rows of a batch at one step, where none of them
+    /// was taken, there is room for all below the limit, and the batch keeps its columns as the table does and has no
+    /// more feeders; and else one row. It returns how many rows it took. If it is refused, all rows stay in the ring.
+    /// It never waits.
     pub fn load_batch(&mut self, feeder: u32) -> Result<usize, LoadRefused>
         ensures reply { IsBatchLoadReply self.old feeder result }
         ensures seen { IfErr result (IsSeenWhere (seen self.new feeder)) }

@@ -55,7 +55,7 @@ fn whole_lines(bytes: &[u8]) -> usize {
     if bytes.contains(&b'"') {
         return 0;
     }
-    'bytes: for at in (1..bytes.len()).rev() {
+    for at in (1..bytes.len()).rev() {
         if is_line_end(bytes[at]) && !is_line_end(bytes[at - 1]) {
             return at + 1;
         }

@@ -1,4 +1,4 @@
-//! An analyst: a reader of the published table, who never goes back.
+//! An analyst: it asks the published table, and its answers never go back.
 
 ghost use Rattle.std.specs.Prelude.{◌≡◌, ◌≢◌, ◌⊎◌, IfErr, IfSome, IsTrue, OnErr, OnOk};
 ghost use mathlib.Core.List.{IsPrefix};
@@ -23,7 +23,7 @@ pub enum AnalystRefused {
     Ask(AskError),
 }
 
-/// A reader of the published table. It may move to a thread of its own.
+/// It asks the published table. It may move to a thread of its own.
 #[derive(Drop)]
 pub struct Analyst<B: Naming> {
     reader: Reader<Version, (), Covers<B>>,

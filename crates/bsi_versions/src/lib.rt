@@ -1,4 +1,4 @@
-//! An index that grows by publishing: a writing end whose held rows become visible at one step, and readers who never
+//! An index that grows by publishing: a writing end whose held rows become visible at one step, and analysts who never
 //! go back.
 #![tactic(auto)]
 

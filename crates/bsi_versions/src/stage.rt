@@ -1,8 +1,8 @@
 //! The stage: the held rows that are no pending operation yet.
 //!
-//! A row goes into a block of 64. A full block goes into the batch, a small index of up to 8,192 rows, which takes batches
-//! of feeders by words. Each copy of the table then takes it by words too, bitmap after bitmap, where a block touches each
-//! long bitmap for one word alone. A batch of 8,192 rows of some hundred bitmaps fits a processor's second cache.
+//! A row goes into a block of 64. A full block goes into the batch, a small index of some 8,192 rows, which takes batches
+//! of feeders by words and has more only where one of these alone does. Each copy of the table then takes it by words too, bitmap after bitmap, where a block touches each
+//! long bitmap for one word alone. One of 8,192 rows and some hundred bitmaps fits a processor's second cache.
 
 ghost use Rattle.std.specs.Prelude.{◌≡◌, ◌<◌, ◌++◌, [], IfOk, IsTrue, OnErr, OnOk};
 ghost use Rattle.bsi_table.specs.Columns.{fits};
@@ -15,8 +15,8 @@ use crate::{Naming, NoMemory};
 use bsi_table::{Block, Index, MAX_BLOCK_ROWS, Row};
 use std::marker::Model;
 
-/// The most rows of a batch.
-const MAX_BATCH_ROWS: u64 = 8_192;
+/// A batch goes to the pending operations before it has more rows.
+const MAX_STAGED_ROWS: u64 = 8_192;
 
 /// The held rows that are no pending operation yet: those of a batch, and behind them those of a block.
 #[derive(Drop)]
@@ -98,7 +98,7 @@ impl Stage {
         ensures kind { IsFor copies.new.desk.shown.value.table self.new }
     {
         let wanted = more.saturating_add(self.block.len() as u64);
-        if self.batch.is_empty() || self.batch.len() <= MAX_BATCH_ROWS.saturating_sub(wanted) {
+        if self.batch.is_empty() || self.batch.len() <= MAX_STAGED_ROWS.saturating_sub(wanted) {
             return Ok(());
         }
         append_batch(copies, &mut self.batch)
@@ -142,7 +142,7 @@ fn make_room(batch: &mut Index) -> Result<(), NoMemory>
     ensures { batch.new ≡ batch.old }
 {
     if batch.is_empty() {
-        batch.reserve(MAX_BATCH_ROWS.min(batch.limit()))?;
+        batch.reserve(MAX_STAGED_ROWS.min(batch.limit()))?;
     }
     Ok(())
 }

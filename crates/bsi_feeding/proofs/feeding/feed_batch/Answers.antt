@@ -14,6 +14,10 @@ returns-in_default g c =
     let going : c.args.source.now.end ≡ None = search rules in
     (refl {a = c.args.feeder.now}, refused_now rem source (taken_none rem source.layout source.input source.tally) going)
 
+-- the ring has places for the batch
+pub send_batch-requires : goal.send_batch-requires
+send_batch-requires g c = omega (arith, c.gather.ensures.few, c.min-most.ensures, c.from.ensures, c.capacity.ensures)
+
 -- the rows of the batch were sent
 pub returns : goal.returns
 returns g c =
