@@ -56,6 +56,7 @@ dist: build lib wheel
 	sed -Ezi 's@\[([^]]*)\]\((\.\./)?(CONTRIBUTING|bench|cases|crates|python|tests|tools)[^)]*\)@\1@g' \
 	    out/dist/$(NAME)/*.md out/dist/$(NAME)/docs/*.md out/dist/$(NAME)/examples/*.md
 	cd out/dist && tar --sort=name --mtime=@0 --owner=0 --group=0 -c $(NAME) | gzip -9n >$(NAME).tar.gz && sha256sum $(NAME).tar.gz >SHA256SUMS
+	rm -r out/dist/$(NAME) # it has a link, which the kit's commands refuse anywhere in a repository
 
 bench: build
 	@bench/run
