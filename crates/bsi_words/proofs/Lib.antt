@@ -10,3 +10,4 @@ pub mod PlaceBitmaps
 pub mod Narrowing
 pub mod PlaceRanks
 pub mod PlaceSums
+pub mod Spelling

@@ -28,10 +28,10 @@ pub record Marked (holds : ℕ → ℕ → Bool) (n : ℕ) (block words : List �
 off_at : (b : ℕ) → b < 2 → (b == 1) ≡ false → b ≡ 0
 off_at b below is_off = grind (arith, nat_tests)
 
-lt_test : (p n : ℕ) (b : Bool) → p < n → (nat_lt p n && b) ≡ b
+pub lt_test : (p n : ℕ) (b : Bool) → p < n → (nat_lt p n && b) ≡ b
 lt_test p n b below = grind (arith, nat_tests)
 
-ge_test : (p n : ℕ) (b : Bool) → n ≤ p → (nat_lt p n && b) ≡ false
+pub ge_test : (p n : ℕ) (b : Bool) → n ≤ p → (nat_lt p n && b) ≡ false
 ge_test p n b from = grind (arith, nat_tests)
 
 -- so marked by the whole block

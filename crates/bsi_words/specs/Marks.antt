@@ -1,5 +1,6 @@
 -- A block of rows as words, a bit for each row.
-use Rattle.std.specs.Prelude.{◌≡◌, ℕ, zero, suc, ◌+◌, ◌<◌, ◌^◌, Bool, List, [], ◌∷◌, length, map, bit_or, slice_index}
+use Rattle.std.specs.Prelude.{◌≡◌, ℕ, zero, suc, ◌+◌, ◌*◌, ◌<◌, ◌^◌, Bool, List, [], ◌∷◌, length, map, bit_or, slice_index}
+use Rattle.std.specs.Int.{bit_at}
 use Rattle.bsi_bits.specs.Packed.{bits_of}
 
 -- word j says of each digit of the block whether it holds there
@@ -11,3 +12,8 @@ pub record AreDigitMarks (holds : ℕ → ℕ → Bool) (block words : List ℕ)
 abbrev pub union_of : List ℕ → ℕ → ℕ → ℕ
 union_of words at zero = 0
 union_of words at (suc n) = bit_or (union_of words at n) (slice_index words (at + n))
+
+-- the number of which these words, the least place first, have the binary places in bit k
+abbrev pub spelled : List ℕ → ℕ → ℕ
+spelled [] k = 0
+spelled (place ∷ places) k = bit_at place k + 2 * spelled places k

@@ -1,12 +1,18 @@
 //! A block of digits as words: bit `k` of word `j` tells something of digit `k`.
 //!
-//! The words of the binary places are made of those of the digits. The upper half of these, joined, is the word of the
-//! greatest place. The lower half, each word joined with one of the upper half, marks the digits but for that place.
+//! A whole block of digits of at most six binary places is turned into the words of the places first, and these are spread
+//! over those of the digits. In any other block each digit is marked, and the words of the places are made of those of the
+//! digits: the upper half of these, joined, is the word of the greatest place, and the lower half, each word joined with one
+//! of the upper half, marks the digits but for that place.
 
-ghost use Rattle.std.specs.Prelude.{◌≡◌, ℕ, List, ◌+◌, ◌-◌, ◌*◌, ◌^◌, ◌<◌, ◌≤◌, ◌==◌, bit_or, length, nat_lt, slice_index};
+ghost use Rattle.std.specs.Prelude.{◌≡◌, ℕ, List, [], ◌∷◌, ◌+◌, ◌-◌, ◌*◌, ◌^◌, ◌<◌, ◌≤◌, ◌==◌, bit_or, length, nat_lt, slice_index};
+ghost use Rattle.std.specs.Int.{bit_at};
 ghost use Rattle.bsi_bits.specs.BitList.{max_block};
 ghost use Rattle.bsi_words.specs.Places.{then_places, IsCount};
-ghost use Rattle.bsi_words.specs.Marks.{union_of, AreDigitMarks};
+ghost use Rattle.bsi_words.specs.Marks.{spelled, union_of, AreDigitMarks};
+
+use bsi_bits::know_fits;
+use std::simd::prelude::*;
 
 /// The most words of a block that stand in a small array, which is cleared sooner. A base of 64 takes as many: one for
 /// each digit and one for each binary place.
@@ -68,9 +74,8 @@ fn mark_places(words: &mut [u64], base: usize, folded: &mut [u64])
     }
 }
 
-/// Writes the words of a block of digits below a base, which are 0 before: one for each digit below it, and then one for
-/// each binary place for which there is a word left.
-pub fn mark_digits(block: &[u32], base: usize, words: &mut [u64])
+/// Writes the words of a block of digits below a base, as `mark_digits` does, by marking each digit.
+fn mark_each(block: &[u32], base: usize, words: &mut [u64])
     requires few { length block.now ≤ max_block }
     requires clear { (j : ℕ) → slice_index words.old j ≡ 0 }
     requires count { IsCount base base (length words.old) }
@@ -83,12 +88,100 @@ pub fn mark_digits(block: &[u32], base: usize, words: &mut [u64])
     if places > 6 {
         let mut folded = [0; 1024];
         mark_places(words, base, &mut folded);
-    } else if places == 6 {
+    } else if places > 0 {
         let mut folded = [0; 64];
         mark_places(words, base, &mut folded);
-    } else if places > 0 {
-        let mut folded = [0; 32];
-        mark_places(words, base, &mut folded);
+    }
+}
+
+/// Returns the words of the six binary places of 64 digits, the least place first.
+fn place_words(block: &[u32]) -> [u64; 6]
+    requires whole { length block.now ≡ 64 }
+    requires below { (k : ℕ) → k < length block.now → slice_index block.now k < 64 }
+    ensures { (p k : ℕ) → p < 6 → k < 64 →
+        bit_at (slice_index result p) k ≡ bit_at (slice_index block.now k) p }
+{
+    let digits = u32x64::from_slice(block).cast::<u8>();
+    let mut words = [0; 6];
+    'places: for p in 0..6 {
+        let place = u8x64::splat(1 << p);
+        words[p] = (digits & place).simd_eq(place).to_bitmask();
+    }
+    words
+}
+
+/// Returns the word of a binary place for 1, and that of the digits without it for 0.
+fn choose(place: u64, bit: usize) -> u64
+    requires { bit < 2 }
+    ensures { (k : ℕ) → k < 64 → (bit_at result k == 1) ≡ (bit_at place k == bit) }
+{
+    if bit == 1 { place } else { !place }
+}
+
+/// Returns for each number below 8 the word of the digits of which three binary places spell it.
+fn spell(first: u64, second: u64, third: u64) -> [u64; 8]
+    ensures { (j k : ℕ) → j < 8 → k < 64 → (bit_at (slice_index result j) k == 1)
+        ≡ (spelled (first ∷ second ∷ third ∷ []) k == j) }
+{
+    let mut words = [0; 8];
+    'words: for j in 0..8 {
+        words[j] = choose(first, j % 2) & choose(second, j / 2 % 2) & choose(third, j / 4);
+    }
+    words
+}
+
+/// Writes in each word, by those of six binary places, the bits of the digits that are its number.
+fn spread(places: &[u64; 6], words: &mut [u64])
+    requires few { length words.old ≤ 64 }
+    ensures long { length words.new ≡ length words.old }
+    ensures spelled { (j k : ℕ) → j < length words.new → k < 64 →
+        (bit_at (slice_index words.new j) k == 1) ≡ (spelled places.now k == j) }
+{
+    let low = spell(places[0], places[1], places[2]);
+    let high = spell(places[3], places[4], places[5]);
+    let whole = words.len() / 8;
+    let eight = u64x8::from_array(low);
+    'eights: for h in 0..whole {
+        (eight & u64x8::splat(high[h])).copy_to_slice(&mut words[8 * h..]);
+    }
+    'rest: for j in 8 * whole..words.len() {
+        words[j] = low[j % 8] & high[j / 8];
+    }
+}
+
+/// Writes the words of 64 digits below a base that has at most six binary places: one for each digit below it, and then
+/// one for each place for which there is a word left.
+fn spread_digits(block: &[u32], base: usize, words: &mut [u64])
+    requires whole { length block.now ≡ 64 }
+    requires within { base ≤ length words.old }
+    requires enough { base ≤ 2 ^ (length words.old - base) }
+    requires few { length words.old ≤ base + 6 }
+    requires below { (k : ℕ) → k < length block.now → slice_index block.now k < base }
+    ensures long { length words.new ≡ length words.old }
+    ensures marks { AreDigitMarks (then_places base (λ j v. v == j)) block.now words.new }
+{
+    let places = place_words(block);
+    spread(&places, &mut words[..base]);
+    let count = words.len() - base;
+    words[base..].copy_from_slice(&places[..count]);
+    know_fits(words);
+}
+
+/// Writes the words of a block of digits below a base, which are 0 before: one for each digit below it, and then one for
+/// each binary place for which there is a word left.
+pub fn mark_digits(block: &[u32], base: usize, words: &mut [u64])
+    requires few { length block.now ≤ max_block }
+    requires clear { (j : ℕ) → slice_index words.old j ≡ 0 }
+    requires count { IsCount base base (length words.old) }
+    requires below { (k : ℕ) → k < length block.now → slice_index block.now k < base }
+    ensures long { length words.new ≡ length words.old }
+    ensures marks { AreDigitMarks (then_places base (λ j v. v == j)) block.now words.new }
+{
+    let places = words.len() - base;
+    if block.len() == 64 && places > 0 && places <= 6 {
+        spread_digits(block, base, words);
+    } else {
+        mark_each(block, base, words);
     }
 }
 

@@ -1,7 +1,7 @@
 use Rattle.std.proofs.Common.{◌-◌, ◌≤◌, ◌^◌, length, arith}
 use Rattle.std.proofs.Math.Nat.{pow-le-pow_right}
 use Rattle.bsi_words.proofs.MarkBits.{zeros}
-use Rattle.bsi_words.proofs.marks.mark_digits.Goals as goal
+use Rattle.bsi_words.proofs.marks.mark_each.Goals as goal
 
 pub mark_places-requires-clause-ample : goal.mark_places-requires-clause-ample
 mark_places-requires-clause-ample c =
@@ -11,15 +11,12 @@ mark_places-requires-clause-ample c =
 
 pub mark_places-requires-then-places-gt0-clause-ample : goal.mark_places-requires-then-places-gt0-clause-ample
 mark_places-requires-then-places-gt0-clause-ample c =
-    let few : length c.mark.new.words - c.args.base ≤ 5 = omega arith in
-    let most : 2 ^ (length c.mark.new.words - c.args.base) ≤ 2 ^ 5 = pow-le-pow_right (omega arith) few in
+    let few : length c.mark.new.words - c.args.base ≤ 6 = omega arith in
+    let most : 2 ^ (length c.mark.new.words - c.args.base) ≤ 2 ^ 6 = pow-le-pow_right (omega arith) few in
     most
 
 pub mark_places-requires-clause-clear : goal.mark_places-requires-clause-clear
 mark_places-requires-clause-clear c = zeros 1024
 
 pub mark_places-requires-then-places-gt0-clause-clear : goal.mark_places-requires-then-places-gt0-clause-clear
-mark_places-requires-then-places-gt0-clause-clear c = zeros 32
-
-pub mark_places-requires-then-places-eq6-clause-clear : goal.mark_places-requires-then-places-eq6-clause-clear
-mark_places-requires-then-places-eq6-clause-clear c = zeros 64
+mark_places-requires-then-places-gt0-clause-clear c = zeros 64
