@@ -10,4 +10,5 @@ pub mod PlaceBitmaps
 pub mod Narrowing
 pub mod PlaceRanks
 pub mod PlaceSums
+pub mod PlaceWords
 pub mod Spelling

@@ -2,7 +2,7 @@ use Rattle.std.proofs.Common.{◌≡◌, ◌<◌, ◌*◌, ◌%◌, ◌^◌, tak
 use Rattle.std.proofs.lemmas.Nat.{one_shl}
 use Rattle.std.proofs.lemmas.List.{get_or-take}
 use Rattle.std.proofs.lemmas.Simd.{Each1-from_get_or}
-use Rattle.bsi_words.proofs.Spelling.{place_more}
+use Rattle.bsi_words.proofs.PlaceWords.{place_more}
 use Rattle.bsi_words.proofs.marks.place_words.Goals as goal
 
 pub overflow_cast-digits : goal.overflow_cast-digits

@@ -1,4 +1,4 @@
-use Rattle.bsi_words.proofs.Spelling.{ArePlaces}
+use Rattle.bsi_words.proofs.PlaceWords.{ArePlaces}
 use Rattle.bsi_words.proofs.marks.place_words.Given as goal
 
 abbrev pub invariant-places : goal.invariant-places
