@@ -85,11 +85,14 @@ fn mark_each(block: &[u32], base: usize, words: &mut [u64])
 {
     mark(block, words);
     let places = words.len() - base;
-    if places > 6 {
+    if places > 7 {
         let mut folded = [0; 1024];
         mark_places(words, base, &mut folded);
+    } else if places > 5 {
+        let mut folded = [0; 128];
+        mark_places(words, base, &mut folded);
     } else if places > 0 {
-        let mut folded = [0; 64];
+        let mut folded = [0; 32];
         mark_places(words, base, &mut folded);
     }
 }
