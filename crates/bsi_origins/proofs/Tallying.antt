@@ -130,6 +130,17 @@ room_none feeders rows kept tallies none =
     let tallies_are : tally_len feeders * tally_count (length rows + 0) ≡ 0 = ap (λ k. tally_len feeders * k) count ∙ omega arith in
     record { within = omega arith; rows_fit = omega arith; tallies_fit = omega (arith, tallies_are) }
 
+-- room for the rows that went out too
+pub room_emptied : (feeders room kept tallies kept' tallies' len : ℕ) (rows none : List ℕ) → HasRoomFor room (length rows) feeders kept tallies
+    → none ≡ [] → len ≡ length rows → kept' ≡ kept → tallies' ≡ tallies → HasRoomFor (room + len) (length none) feeders kept' tallies'
+room_emptied feeders room kept tallies kept' tallies' len rows none was empty long same_kept same_tallies =
+    let all : length none + (room + len) ≡ length rows + room = omega (arith, ap length empty, long) in
+    record {
+      within = omega (arith, all, was.within);
+      rows_fit = omega (arith, all, was.rows_fit, same_kept);
+      tallies_fit = omega (arith, ap (λ n. tally_len feeders * tally_count n) all, was.tallies_fit, same_tallies);
+    }
+
 -- counts of fewer than 2^32 rows take 32 bits
 pub tally_small : (feeders : ℕ) (rows counts tallies : List ℕ) → IsTallied feeders rows counts tallies → (len : ℕ) → len ≡ tally_len feeders
     → length rows < 2 ^ 32 → All (λ count. count < 2 ^ 32) (take len counts)

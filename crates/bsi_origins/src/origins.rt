@@ -117,6 +117,18 @@ impl Origins {
         Ok(())
     }
 
+    /// Removes all rows. It takes no memory and keeps the room.
+    pub fn clear(&mut self)
+        ensures rows { self.new.rows ≡ [] }
+        ensures feeders { self.new.feeders ≡ self.old.feeders }
+        ensures room { length self.old.rows + self.old.room ≤ self.new.room }
+    {
+        self.room += self.len();
+        self.row_feeders.clear();
+        self.counts = [0; MAX_FEEDERS as usize];
+        self.tallies.clear();
+    }
+
     /// Appends a row of a feeder, into room that is already there.
     pub fn push_reserved(&mut self, feeder: u8)
         requires feeder { feeder < self.old.feeders }
