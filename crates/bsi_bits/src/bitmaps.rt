@@ -114,6 +114,17 @@ impl Bitmaps {
         Ok(())
     }
 
+    /// Removes all bits of each vector. It takes no memory and keeps the room.
+    pub fn clear(&mut self)
+        ensures count { length self.new.vectors ≡ length self.old.vectors }
+        ensures empty { (j : ℕ) → bits_at self.new.vectors j ≡ [] }
+        ensures room { length (bits_at self.old.vectors 0) + self.old.room ≤ self.new.room }
+    {
+        let room = self.len() + self.room;
+        clear_each(&mut self.vectors);
+        self.room = room;
+    }
+
     /// Appends to each vector the binary place of the number that has the vector's place, into room that is already
     /// there. Unless a word begins, it writes the ones alone.
     pub fn push_places(&mut self, number: u64)
@@ -274,6 +285,18 @@ fn reserve_each(vectors: &mut [Bits], more: u64) -> Result<(), NoMemory>
         vector.reserve(more)?;
     }
     Ok(())
+}
+
+/// Removes all bits of each vector, and keeps its room.
+fn clear_each(vectors: &mut [Bits])
+    ensures count { length vectors.new ≡ length vectors.old }
+    ensures empty { (j : ℕ) → bits_at vectors.new j ≡ [] }
+    ensures room { (j : ℕ) → j < length vectors.old →
+        length (bits_at vectors.old j) + room_at vectors.old j ≤ room_at vectors.new j }
+{
+    'vectors: for vector in vectors.iter_mut() {
+        vector.clear();
+    }
 }
 
 /// Makes a second list of vectors with the same bits.

@@ -182,6 +182,15 @@ impl Bits {
         self.words.reserve(words - self.words.len())
     }
 
+    /// Removes all bits. It takes no memory and keeps the room.
+    pub fn clear(&mut self)
+        ensures bits { self.new.bits ≡ [] }
+        ensures room { length self.old.bits + self.old.room ≤ self.new.room }
+    {
+        self.words.clear();
+        self.len = 0;
+    }
+
     /// Appends a bit into room that is already there.
     pub fn push_reserved(&mut self, bit: bool)
         requires { 0 < self.old.room }

@@ -1,5 +1,5 @@
 -- Lists of components, of which one after another is changed.
-use Rattle.std.proofs.Common.{◌≡◌, ◌≢◌, ℕ, ◌+◌, ◌*◌, ◌<◌, ◌≤◌, List, [], ◌++◌, length, get_or, set, map, sym, ap, ◌∙◌, inl, inr, arith}
+use Rattle.std.proofs.Common.{◌≡◌, ◌≢◌, ℕ, ◌+◌, ◌*◌, ◌<◌, ◌≤◌, List, [], ◌++◌, length, get_or, set, map, sym, ap, subst, ◌∙◌, inl, inr, arith}
 use Rattle.std.proofs.lemmas.List.{length-map, get_or-map, map-set, get_or-set_same, get_or-set_other}
 use Rattle.std.proofs.Math.Seq.{map-set_same}
 use Rattle.std.proofs.lemmas.Bool.{cases_eq}
@@ -41,6 +41,16 @@ length-same_map f cs ds same = sym (length-map cs f) ∙ ap length same ∙ leng
 
 pub length-map_is : {E X : Type 0} (f : E → X) (cs : List E) (xs : List X) → map f cs ≡ xs → length cs ≡ length xs
 length-map_is f cs xs same = sym (length-map cs f) ∙ ap length same
+
+-- a fact of one more component, where those before i have it
+module _ {E X : Type 0} (f : E → X) (cs : List E) (i : ℕ) (new : E) (d : X) (within : i < length cs) where
+  pub one_more : (P : ℕ → X → Type 0) → P i (f new) → ((k : ℕ) → k < i → P k (get_or (map f cs) k d)) → (k : ℕ) → k < i + 1 → P k (get_or (map f (set cs i new)) k d)
+  one_more P here before k below = elim (cases_eq k i) [
+    | inl same ↦
+        subst (P k) (sym (ap (λ j. get_or (map f (set cs i new)) j d) same ∙ map_written f cs i new d within))
+        (subst (λ j. P j (f new)) (sym same) here)
+    | inr apart ↦ subst (P k) (sym (map_unwritten f cs i k new d apart)) (before k (omega arith))
+  ]
 
 -- more digits, where the components before i have theirs and the others are as they were
 module _ {E : Type 0} (digits : E → List ℕ) (cs old : List E) (i : ℕ) (c new : E) (added : ℕ → List ℕ) (within : i < length cs) where

@@ -46,6 +46,10 @@ module _ (bs : List ℕ) (not_null : List Bool) (ds : List (List ℕ)) (entries 
   pub kept_itself : Decomposes bs not_null ds (entries_of bs not_null ds)
   kept_itself = subst (λ es. Decomposes bs not_null ds es) (sym entries_from) kept
 
+  -- each component has as many digits as there are rows
+  pub digits_long : (k : ℕ) → k < length bs → length (get_or ds k []) ≡ length not_null
+  digits_long k below = ap length (kept.digits_are k below) ∙ length-map entries (λ (e : Option ℕ). digit_of bs (number_or_zero e) k) ∙ sym rows_of
+
   -- no component has more digits than there are entries
   pub digits_at_most : (k : ℕ) → length (get_or ds k []) ≤ length entries
   digits_at_most k = elim (cases_lt k (length bs)) [

@@ -123,6 +123,14 @@ impl Column for AnyColumn {
         }
     }
 
+    fn clear(&mut self) {
+        match self {
+            AnyColumn::Slices(column) => column.clear(),
+            AnyColumn::Equality(column) => column.clear(),
+            AnyColumn::Range(column) => column.clear(),
+        }
+    }
+
     fn push_reserved(&mut self, entry: Option<u64>) {
         match self {
             AnyColumn::Slices(column) => column.push_reserved(entry),

@@ -4,7 +4,7 @@ ghost use Rattle.std.specs.Prelude.{◌≡◌, ℕ, ◌<◌, List, [], All, leng
 ghost use Rattle.bsi_digits.specs.Digits.{digit_of, product};
 ghost use Rattle.bsi_columns.specs.Rows.{number_or_zero};
 
-use crate::growth::{push_all_digits, push_blocks, push_digits, reserve_each};
+use crate::growth::{clear_each, push_all_digits, push_blocks, push_digits, reserve_each};
 use crate::{Column, Encoding, NoMemory, Op, Rank};
 use bsi_bits::{Bits, room_to_make};
 use bsi_digits::Bases;
@@ -116,6 +116,13 @@ impl<E: Encoding> Column for Decomposed<E> {
         reserve_each(&mut self.components, wanted)?;
         self.room = wanted;
         Ok(())
+    }
+
+    fn clear(&mut self) {
+        let room = self.not_null.len() + self.room;
+        clear_each(&mut self.components);
+        self.not_null.clear();
+        self.room = room;
     }
 
     fn push_reserved(&mut self, entry: Option<u64>) {

@@ -26,6 +26,21 @@ pub(crate) fn reserve_each<E: Encoding>(components: &mut Vec<E>, more: u64) -> R
     Ok(())
 }
 
+/// Removes all digits of each component, and keeps its room.
+pub(crate) fn clear_each<E: Encoding>(components: &mut Vec<E>)
+    ensures digits { (i : ℕ) → i < length components.old.items →
+        slice_index_or (map E.digits components.new.items) i [] ≡ [] }
+    ensures bases { map E.base_of components.new.items ≡ map E.base_of components.old.items }
+    ensures room { (i : ℕ) → i < length components.old.items →
+        length (slice_index_or (map E.digits components.old.items) i [])
+        + slice_index (map E.room_of components.old.items) i
+        ≤ slice_index (map E.room_of components.new.items) i }
+{
+    for i in 0..components.len() {
+        components[i].clear();
+    }
+}
+
 /// Appends to each component its digit of a number, into room that is already there.
 pub(crate) fn push_digits<E: Encoding>(components: &mut Vec<E>, bases: &Bases, number: u64)
     requires bases { map E.base_of components.old.items ≡ bases.now }

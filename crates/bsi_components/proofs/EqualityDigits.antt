@@ -99,6 +99,11 @@ pub one_below : (d base : ℕ) → d < base → (k : ℕ) → k < 1 → get_or (
 one_below d base below zero within = below
 one_below d base below (suc k) within = absurd (omega arith)
 
+-- nor in bitmaps whose bits are all removed
+pub equality_cleared : (base : ℕ) (old new : List BitList) (ds : List ℕ) → IsEquality base old ds → length new ≡ length old → ((j : ℕ) → bits_at new j ≡ []) → IsEquality base new []
+equality_cleared base old new ds equality same empty =
+    equality_made base new equality.least equality.most (count_same base (base - first_digit base) (length old) (length new) same equality.count) (same ∙ equality.many) empty
+
 -- the same digits in bitmaps of the same bits
 pub equality_same : (base : ℕ) (old new : List BitList) (ds : List ℕ) → IsEquality base old ds → length new ≡ length old → ((j : ℕ) → bits_at new j ≡ bits_at old j) → IsEquality base new ds
 equality_same base old new ds equality same bits = record {

@@ -84,6 +84,11 @@ pub one_below : (d base : ℕ) → d < base → (k : ℕ) → k < 1 → get_or (
 one_below d base below zero within = below
 one_below d base below (suc k) within = absurd (omega arith)
 
+-- nor in bitmaps whose bits are all removed
+pub range_cleared : (base : ℕ) (old new : List BitList) (ds : List ℕ) → IsRange base old ds → length new ≡ length old → ((j : ℕ) → bits_at new j ≡ []) → IsRange base new []
+range_cleared base old new ds range same empty =
+    range_made base new range.least range.most (count_same base (base - 1) (length old) (length new) same range.count) (same ∙ range.many) empty
+
 -- the same digits in bitmaps of the same bits
 pub range_same : (base : ℕ) (old new : List BitList) (ds : List ℕ) → IsRange base old ds → length new ≡ length old → ((j : ℕ) → bits_at new j ≡ bits_at old j) → IsRange base new ds
 range_same base old new ds range same bits = record {

@@ -71,6 +71,12 @@ pub trait Encoding: Drop {
         ensures refused { OnErr result (room_of self.new < more) }
         ensures succeeds { more ≤ room_of self.old → IsOk result };
 
+    /// Removes all digits. It takes no memory and keeps the room.
+    fn clear(&mut self)
+        ensures digits { digits self.new ≡ [] }
+        ensures base { base_of self.new ≡ base_of self.old }
+        ensures room { length (digits self.old) + room_of self.old ≤ room_of self.new };
+
     /// Appends a digit, into room that is already there.
     fn push_reserved(&mut self, digit: u32)
         requires room { 0 < room_of self.old }

@@ -4,13 +4,19 @@ use Rattle.std.specs.Prelude.{count_by, nat_eq, slice_index_or}
 use Rattle.std.specs.List.{range_with_len}
 use Rattle.std.proofs.lemmas.Bool.{cases_Bool}
 use Rattle.std.proofs.lemmas.Bool.Decides.{nat_tests}
-use Rattle.std.proofs.lemmas.List.{length-take-le, map-append, take-append-le, take_more}
+use Rattle.std.proofs.lemmas.List.{get_or-append_right, get_or-replicate, length-append, length-replicate, length-take-le, map-append, take-append-le, take_more}
 use Rattle.std.proofs.lemmas.List.Elements.{All-filter, All-from_get_or, All-get_or, filter-append}
 use Rattle.std.proofs.lemmas.List.FromFn.{get_or-range_with_len, length-range_with_len}
 use Rattle.std.proofs.lemmas.List.Sums.{count_by-le-length, count_by_more_yes, count_by_more_no}
 use Rattle.bsi_bits.specs.BitList.{set_places}
 use Rattle.bsi_origins.specs.Numbering.{numbered_at, number_within}
 use Rattle.bsi_origins.specs.Origins.{count_before, AreCounts}
+
+-- a row of a run behind other rows
+run_row : (rows : List ℕ) (feeder n k : ℕ) → k < n → get_or (rows ++ replicate n feeder) (length rows + k) 0 ≡ feeder
+run_row rows feeder n k below =
+    get_or-append_right rows (replicate n feeder) (length rows) (length rows + k) 0 refl (omega arith)
+    ∙ ap (λ j. get_or (replicate n feeder) j 0) (omega arith) ∙ get_or-replicate n k feeder 0 below
 
 -- no count is more than the rows
 pub count_before-le : (rows : List ℕ) (r f : ℕ) → r ≤ length rows → count_before rows r f ≤ r
@@ -19,6 +25,30 @@ count_before-le rows r f within = omega (arith, count_by-le-length (λ feeder. n
 -- rows further on change none
 pub count_before-append : (rows more : List ℕ) (r f : ℕ) → r ≤ length rows → count_before (rows ++ more) r f ≡ count_before rows r f
 count_before-append rows more r f within = ap (count_by (λ feeder. nat_eq feeder f)) (take-append-le r rows more within)
+
+-- each row of a run counts for its feeder
+pub count_before-run : (rows : List ℕ) (feeder n k : ℕ) → k ≤ n → count_before (rows ++ replicate n feeder) (length rows + k) feeder ≡ count_before rows (length rows) feeder + k
+count_before-run rows feeder n zero within =
+    ap (λ r. count_before (rows ++ replicate n feeder) r feeder) (omega arith) ∙ count_before-append rows (replicate n feeder) (length rows) feeder (omega arith) ∙ omega arith
+count_before-run rows feeder n (suc k) within =
+    let all = rows ++ replicate n feeder in
+    let there : length rows + k < length all = omega (arith, within, length-append rows (replicate n feeder), length-replicate n feeder) in
+    let is : get_or all (length rows + k) 0 ≡ feeder = run_row rows feeder n k (omega arith) in
+    ap (λ r. count_before all r feeder) (omega arith)
+    ∙ count_by_more_yes (λ f. nat_eq f feeder) all (length rows + k) 0 there (grind (arith, nat_tests, is))
+    ∙ ap (λ c. c + 1) (count_before-run rows feeder n k (omega arith)) ∙ omega arith
+
+-- and for no other
+pub count_before-others : (rows : List ℕ) (feeder f n k : ℕ) → f ≢ feeder → k ≤ n → count_before (rows ++ replicate n feeder) (length rows + k) f ≡ count_before rows (length rows) f
+count_before-others rows feeder f n zero other within =
+    ap (λ r. count_before (rows ++ replicate n feeder) r f) (omega arith) ∙ count_before-append rows (replicate n feeder) (length rows) f (omega arith)
+count_before-others rows feeder f n (suc k) other within =
+    let all = rows ++ replicate n feeder in
+    let there : length rows + k < length all = omega (arith, within, length-append rows (replicate n feeder), length-replicate n feeder) in
+    let is : get_or all (length rows + k) 0 ≡ feeder = run_row rows feeder n k (omega arith) in
+    ap (λ r. count_before all r f) (omega arith)
+    ∙ count_by_more_no (λ g. nat_eq g f) all (length rows + k) 0 there (grind (arith, nat_tests, is, other))
+    ∙ count_before-others rows feeder f n k other (omega arith)
 
 -- before the first row each feeder has none
 pub counted_none : (n f : ℕ) → let count : ℕ = get_or (replicate n 0) f 0 in count ≡ 0

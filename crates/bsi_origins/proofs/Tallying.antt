@@ -1,12 +1,12 @@
--- The feeders of rows and their tallies, with one more row.
-use Rattle.std.proofs.Common.{◌≡◌, ℕ, ◌+◌, ◌-◌, ◌*◌, ◌%◌, ◌^◌, ◌<◌, ◌≤◌, ◌++◌, ◌∷◌, [], List, All, Bool, true, false, cond, length, replicate, take, set, get_or, refl, sym, ap, subst, ◌∙◌, arith, add-one, length-set, inl, inr}
+-- The feeders of rows and their tallies, with more rows.
+use Rattle.std.proofs.Common.{◌≡◌, ℕ, ◌+◌, ◌-◌, ◌*◌, ◌%◌, ◌^◌, ◌<◌, ◌≤◌, ◌++◌, [], List, All, Bool, true, false, cond, length, replicate, take, set, get_or, refl, sym, ap, subst, ◌∙◌, arith, add-one, get_or-set_same, get_or-set_other, inl, inr}
 use Rattle.std.specs.Prelude.{nat_le}
 use Rattle.std.proofs.Math.Nat.{eq-or-lt_of_le, mul-le-mul_left, mul-suc}
-use Rattle.std.proofs.lemmas.List.{get_or_append_left, get_or-append_right, get_or-take, length-append, length-take, length-take-le}
-use Rattle.std.proofs.lemmas.List.Elements.{All-from_get_or, All-push}
-use Rattle.std.proofs.Math.Seq.{get_or-append_seam}
+use Rattle.std.proofs.lemmas.List.{get_or_append_left, get_or-append_right, get_or-take, length-append, length-replicate, length-take, length-take-le}
+use Rattle.std.proofs.lemmas.Bool.{cases_eq}
+use Rattle.std.proofs.lemmas.List.Elements.{All-append, All-from_get_or}
 use Rattle.bsi_origins.specs.Origins.{count_before, tally_count, tally_len, AreCounts, AreTallies, HasRoomFor, IsTallied}
-use Rattle.bsi_origins.proofs.Numbers.{count_before-append, count_before-le, counted_more, counted_none}
+use Rattle.bsi_origins.proofs.Numbers.{count_before-append, count_before-le, count_before-others, count_before-run, counted_none}
 
 -- a tally has at most one count a feeder
 pub tally_len-le : (feeders : ℕ) → tally_len feeders ≤ feeders
@@ -23,55 +23,55 @@ tally_within len k f tallies before below =
     let more : len * (k + 1) ≡ len * k + len = ap (λ n. len * n) (add-one k) ∙ mul-suc len k in
     omega arith
 
-module _ (feeders : ℕ) (rows counts tallies : List ℕ) (is : IsTallied feeders rows counts tallies) (feeder : ℕ) (below : feeder < feeders) where
-  one : length (rows ++ feeder ∷ []) ≡ length rows + 1
-  one = length-append rows (feeder ∷ [])
+-- rows that go in within a stretch, and the counts of all rows then
+module _ (feeders : ℕ) (rows counts tallies : List ℕ) (is : IsTallied feeders rows counts tallies) (more now : List ℕ)
+    (from : All (λ f. f < feeders) more) (long : length now ≡ 64) (counted : AreCounts feeders (rows ++ more) (length (rows ++ more)) now)
+    (within : length rows % 512 + length more ≤ 512) where
+  all : length (rows ++ more) ≡ length rows + length more
+  all = length-append rows more
 
   -- whatever the tallies are then
-  with_tallies : (after : List ℕ) → length after ≡ tally_len feeders * tally_count (length rows + 1)
-      → AreTallies (tally_len feeders) (rows ++ feeder ∷ []) after
-      → IsTallied feeders (rows ++ feeder ∷ []) (set counts feeder (get_or counts feeder 0 + 1)) after
+  with_tallies : (after : List ℕ) → length after ≡ tally_len feeders * tally_count (length rows + length more)
+      → AreTallies (tally_len feeders) (rows ++ more) after
+      → IsTallied feeders (rows ++ more) now after
   with_tallies after many each = record {
     some = is.some;
     few = is.few;
-    from = All-push (λ f. f < feeders) rows feeder is.from below;
-    long = length-set counts feeder (get_or counts feeder 0 + 1) ∙ is.long;
-    counted = subst (λ k. AreCounts feeders (rows ++ feeder ∷ []) k (set counts feeder (get_or counts feeder 0 + 1))) (sym one)
-        (subst (λ s. AreCounts feeders (rows ++ feeder ∷ []) (length rows + 1) (set counts s (get_or counts s 0 + 1))) (get_or-append_seam rows feeder [] 0)
-        (counted_more feeders counts (rows ++ feeder ∷ []) (length rows) (omega (arith, is.long, is.few)) (omega (arith, one))
-        (subst (λ s. s < feeders) (sym (get_or-append_seam rows feeder [] 0)) below)
-        (λ f small. is.counted f small ∙ sym (count_before-append rows (feeder ∷ []) (length rows) f (omega arith)))));
-    many = many ∙ ap (λ k. tally_len feeders * tally_count k) (sym one);
+    from = All-append (λ f. f < feeders) rows more is.from from;
+    long = long;
+    counted = counted;
+    many = many ∙ ap (λ k. tally_len feeders * tally_count k) (sym all);
     each = each;
   }
 
   -- within a stretch the tallies stay
-  pub tallied_within : 0 < length rows % 512 → IsTallied feeders (rows ++ feeder ∷ []) (set counts feeder (get_or counts feeder 0 + 1)) tallies
-  tallied_within within =
-      let same : tally_count (length rows) ≡ tally_count (length rows + 1) = omega arith in
+  pub tallied_within : 0 < length rows % 512 → IsTallied feeders (rows ++ more) now tallies
+  tallied_within begun =
+      let same : tally_count (length rows) ≡ tally_count (length rows + length more) = omega (arith, within, begun) in
       with_tallies tallies (is.many ∙ ap (λ k. tally_len feeders * k) same)
       (λ k f before small.
-      let there : 512 * k < length rows = omega (arith, one, before) in
-      is.each k f there small ∙ sym (count_before-append rows (feeder ∷ []) (512 * k) f (omega arith)))
+      let there : 512 * k < length rows = omega (arith, all, before, within, begun) in
+      is.each k f there small ∙ sym (count_before-append rows more (512 * k) f (omega arith)))
 
   -- where a stretch begins, its tally has the counts
-  pub tallied_begun : length rows % 512 ≡ 0
-      → IsTallied feeders (rows ++ feeder ∷ []) (set counts feeder (get_or counts feeder 0 + 1)) (tallies ++ take (tally_len feeders) counts)
-  tallied_begun begins =
+  pub tallied_begun : length rows % 512 ≡ 0 → 0 < length more
+      → IsTallied feeders (rows ++ more) now (tallies ++ take (tally_len feeders) counts)
+  tallied_begun begins some =
       let len : ℕ = tally_len feeders in
       let whole : length (take len counts) ≡ len = length-take-le len counts (omega (arith, tally_len-le feeders, is.long, is.few)) in
-      let next : tally_count (length rows + 1) ≡ tally_count (length rows) + 1 = omega arith in
-      let more : len * (tally_count (length rows) + 1) ≡ len * tally_count (length rows) + len = ap (λ k. len * k) (add-one (tally_count (length rows))) ∙ mul-suc len (tally_count (length rows)) in
+      let next : tally_count (length rows + length more) ≡ tally_count (length rows) + 1 = omega (arith, begins, some, within) in
+      let larger : len * (tally_count (length rows) + 1) ≡ len * tally_count (length rows) + len = ap (λ k. len * k) (add-one (tally_count (length rows))) ∙ mul-suc len (tally_count (length rows)) in
       with_tallies (tallies ++ take len counts)
-      (omega (arith, length-append tallies (take len counts), whole, is.many, more, ap (λ k. len * k) next))
+      (omega (arith, length-append tallies (take len counts), whole, is.many, larger, ap (λ k. len * k) next))
       (λ k f before small.
-      let same : count_before (rows ++ feeder ∷ []) (512 * k) f ≡ count_before rows (512 * k) f = count_before-append rows (feeder ∷ []) (512 * k) f (omega (arith, one, before)) in
-      elim (eq-or-lt_of_le (reached k before)) [
+      let reached : 512 * k ≤ length rows = omega (arith, all, before, begins, within) in
+      let same : count_before (rows ++ more) (512 * k) f ≡ count_before rows (512 * k) f = count_before-append rows more (512 * k) f reached in
+      elim (eq-or-lt_of_le reached) [
         | inr there ↦
-            let within : len * k + f < length tallies = omega (arith, is.many, tally_within len k f (tally_count (length rows)) (omega arith) small) in
-            get_or_append_left tallies (take len counts) 0 (len * k + f) within ∙ is.each k f there small ∙ sym same
+            let inside : len * k + f < length tallies = omega (arith, is.many, tally_within len k f (tally_count (length rows)) (omega (arith, there)) small) in
+            get_or_append_left tallies (take len counts) 0 (len * k + f) inside ∙ is.each k f there small ∙ sym same
         | inl last ↦
-            let at : k ≡ tally_count (length rows) = omega arith in
+            let at : k ≡ tally_count (length rows) = omega (arith, last) in
             let behind : length tallies ≡ len * k = is.many ∙ ap (λ j. len * j) (sym at) in
             get_or-append_right tallies (take len counts) (len * k) (len * k + f) 0 behind (omega arith)
             ∙ ap (λ j. get_or (take len counts) j 0) (omega arith)
@@ -79,33 +79,46 @@ module _ (feeders : ℕ) (rows counts tallies : List ℕ) (is : IsTallied feeder
             ∙ is.counted f (omega (arith, small, tally_len-le feeders))
             ∙ ap (λ r. count_before rows r f) (sym last) ∙ sym same
       ])
-    where
-      reached : (k : ℕ) → 512 * k < length (rows ++ feeder ∷ []) → 512 * k ≤ length rows
-      reached k before = omega (arith, one, before)
 
 -- and the room that is left
-pub room_less : (room kept tallies feeders : ℕ) (rows : List ℕ) (feeder : ℕ) → 0 < room → HasRoomFor room (length rows) feeders kept tallies
-    → HasRoomFor (room - 1) (length (rows ++ feeder ∷ [])) feeders kept tallies
-room_less room kept tallies feeders rows feeder some has =
-    let same : length (rows ++ feeder ∷ []) + (room - 1) ≡ length rows + room = omega (arith, length-append rows (feeder ∷ [])) in
+room_less : (room kept tallies now held feeders count : ℕ) (rows more : List ℕ) → length more ≡ count → count ≤ room → HasRoomFor room (length rows) feeders kept tallies → kept ≤ now → tallies ≤ held
+    → HasRoomFor (room - count) (length (rows ++ more)) feeders now held
+room_less room kept tallies now held feeders count rows more long enough has no_less as_many =
+    let same : length (rows ++ more) + (room - count) ≡ length rows + room = omega (arith, length-append rows more, long, enough) in
     record {
       within = omega (arith, same, has.within);
-      rows_fit = omega (arith, same, has.rows_fit);
-      tallies_fit = subst (λ k. tally_len feeders * tally_count k ≤ tallies) (sym same) has.tallies_fit;
+      rows_fit = omega (arith, same, has.rows_fit, no_less);
+      tallies_fit = omega (arith, ap (λ k. tally_len feeders * tally_count k) same, has.tallies_fit, as_many);
     }
 
--- what is kept so stays so with one more row, whatever its tallies are then
-pub tallied_push : (feeders room kept capacity feeder : ℕ) (rows counts items after : List ℕ) → HasRoomFor room (length rows) feeders kept capacity → 0 < room
-    → items ≡ rows ++ feeder ∷ [] → (now held : ℕ) → now ≡ kept → held ≡ capacity
-    → IsTallied feeders (rows ++ feeder ∷ []) (set counts feeder (get_or counts feeder 0 + 1)) after
-    → IsTallied feeders items (set counts feeder (get_or counts feeder 0 + 1)) after × HasRoomFor (room - 1) (length items) feeders now held
-tallied_push feeders room kept capacity feeder rows counts items after has some are now held now_is held_is tallied = (
-  subst (λ xs. IsTallied feeders xs (set counts feeder (get_or counts feeder 0 + 1)) after) (sym are) tallied,
-  subst (λ k. HasRoomFor (room - 1) (length items) feeders k held) (sym now_is)
-      (subst (λ k. HasRoomFor (room - 1) (length items) feeders kept k) (sym held_is)
-      (subst (λ xs. HasRoomFor (room - 1) (length xs) feeders kept capacity) (sym are)
-      (room_less room kept capacity feeders rows feeder some has))),
+-- what is kept so stays so with more rows, whatever its tallies are then
+pub tallied_push : (feeders room kept capacity count : ℕ) (rows more counts items after : List ℕ) → HasRoomFor room (length rows) feeders kept capacity → length more ≡ count → count ≤ room
+    → items ≡ rows ++ more → (now held : ℕ) → kept ≤ now → capacity ≤ held
+    → IsTallied feeders (rows ++ more) counts after
+    → IsTallied feeders items counts after × HasRoomFor (room - count) (length items) feeders now held
+tallied_push feeders room kept capacity count rows more counts items after has long enough are now held no_less as_many tallied = (
+  subst (λ xs. IsTallied feeders xs counts after) (sym are) tallied,
+  subst (λ xs. HasRoomFor (room - count) (length xs) feeders now held) (sym are)
+      (room_less room kept capacity now held feeders count rows more long enough has no_less as_many),
 )
+
+-- a run of one feeder's rows adds to its count
+pub counted_run : (feeders : ℕ) (rows counts : List ℕ) (feeder n : ℕ) → length counts ≡ 64 → feeders ≤ 64 → feeder < feeders → AreCounts feeders rows (length rows) counts
+    → AreCounts feeders (rows ++ replicate n feeder) (length (rows ++ replicate n feeder)) (set counts feeder (get_or counts feeder 0 + n))
+counted_run feeders rows counts feeder n long few below counted f small =
+    let run : length (rows ++ replicate n feeder) ≡ length rows + n = length-append rows (replicate n feeder) ∙ ap (λ k. length rows + k) (length-replicate n feeder) in
+    elim (cases_eq f feeder) [
+      | inl same ↦
+          ap (λ k. get_or (set counts feeder (get_or counts feeder 0 + n)) k 0) same
+          ∙ get_or-set_same counts feeder (get_or counts feeder 0 + n) 0 (omega (arith, long, few, below))
+          ∙ ap (λ k. k + n) (counted feeder below)
+          ∙ sym (ap (λ r. count_before (rows ++ replicate n feeder) r feeder) run ∙ count_before-run rows feeder n n (omega arith))
+          ∙ ap (λ k. count_before (rows ++ replicate n feeder) (length (rows ++ replicate n feeder)) k) (sym same)
+      | inr other ↦
+          get_or-set_other counts feeder f (get_or counts feeder 0 + n) 0 other
+          ∙ counted f small
+          ∙ sym (ap (λ r. count_before (rows ++ replicate n feeder) r f) run ∙ count_before-others rows feeder f n n other (omega arith))
+    ]
 
 -- before the first row
 pub tallied_none : (feeders : ℕ) (rows tallies : List ℕ) → (1 ≤ feeders) × (feeders ≤ 64) → rows ≡ [] → tallies ≡ [] → IsTallied feeders rows (replicate 64 0) tallies
@@ -129,6 +142,17 @@ room_none feeders rows kept tallies none =
     let count : tally_count (length rows + 0) ≡ 0 = omega arith in
     let tallies_are : tally_len feeders * tally_count (length rows + 0) ≡ 0 = ap (λ k. tally_len feeders * k) count ∙ omega arith in
     record { within = omega arith; rows_fit = omega arith; tallies_fit = omega (arith, tallies_are) }
+
+-- room for the rows that went out too
+pub room_emptied : (feeders room kept tallies kept' tallies' len : ℕ) (rows none : List ℕ) → HasRoomFor room (length rows) feeders kept tallies
+    → none ≡ [] → len ≡ length rows → kept' ≡ kept → tallies' ≡ tallies → HasRoomFor (room + len) (length none) feeders kept' tallies'
+room_emptied feeders room kept tallies kept' tallies' len rows none was empty long same_kept same_tallies =
+    let all : length none + (room + len) ≡ length rows + room = omega (arith, ap length empty, long) in
+    record {
+      within = omega (arith, all, was.within);
+      rows_fit = omega (arith, all, was.rows_fit, same_kept);
+      tallies_fit = omega (arith, ap (λ n. tally_len feeders * tally_count n) all, was.tallies_fit, same_tallies);
+    }
 
 -- counts of fewer than 2^32 rows take 32 bits
 pub tally_small : (feeders : ℕ) (rows counts tallies : List ℕ) → IsTallied feeders rows counts tallies → (len : ℕ) → len ≡ tally_len feeders

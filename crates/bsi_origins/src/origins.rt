@@ -4,7 +4,7 @@
 //! rows before came from it, in 4 bytes. A tally costs 0.008 bytes a row and feeder, and a row that stands alone is
 //! numbered by one tally and up to 511 bytes.
 
-ghost use Rattle.std.specs.Prelude.{◌≡◌, ◌+◌, ◌-◌, ◌*◌, ◌<◌, ◌≤◌, ◌^◌, ◌++◌, ◌∷◌, [], All, IfOk, IsOk, OnErr, OnOk, length, min, replicate, slice_index, vec_len, vec_capacity};
+ghost use Rattle.std.specs.Prelude.{◌≡◌, ◌+◌, ◌-◌, ◌*◌, ◌%◌, ◌<◌, ◌≤◌, ◌^◌, ◌++◌, ◌∷◌, [], All, IfOk, IsOk, OnErr, OnOk, length, min, replicate, slice_index, take, vec_len, vec_capacity};
 ghost use Rattle.bsi_bits.specs.BitList.{max_len};
 ghost use Rattle.bsi_origins.specs.Origins.{max_feeders, tally_len, AreCounts};
 
@@ -117,6 +117,18 @@ impl Origins {
         Ok(())
     }
 
+    /// Removes all rows. It takes no memory and keeps the room.
+    pub fn clear(&mut self)
+        ensures rows { self.new.rows ≡ [] }
+        ensures feeders { self.new.feeders ≡ self.old.feeders }
+        ensures room { length self.old.rows + self.old.room ≤ self.new.room }
+    {
+        self.room += self.len();
+        self.row_feeders.clear();
+        self.counts = [0; MAX_FEEDERS as usize];
+        self.tallies.clear();
+    }
+
     /// Appends a row of a feeder, into room that is already there.
     pub fn push_reserved(&mut self, feeder: u8)
         requires feeder { feeder < self.old.feeders }
@@ -134,7 +146,7 @@ impl Origins {
     }
 
     /// Appends all rows of another list, in their order, into room that is already there. The other list has no more
-    /// feeders.
+    /// feeders. It goes by runs of one feeder.
     pub fn push_all_reserved(&mut self, other: &Origins)
         requires feeders { other.now.feeders ≤ self.old.feeders }
         requires room { length other.now.rows ≤ self.old.room }
@@ -142,12 +154,16 @@ impl Origins {
         ensures feeders { self.new.feeders ≡ self.old.feeders }
         ensures room { self.new.room + length other.now.rows ≡ self.old.room }
     {
-        'rows: for feeder in &other.row_feeders {
-            self.push_reserved(*feeder);
+        let feeders = &other.row_feeders;
+        let mut at = 0;
+        'runs: while at < feeders.len() {
+            let run = run_len(&feeders[at..]);
+            self.push_many_reserved(feeders[at], run as u64);
+            at += run;
         }
     }
 
-    /// Appends so many rows of one feeder, into room that is already there.
+    /// Appends so many rows of one feeder, into room that is already there. It goes stretch by stretch.
     pub fn push_many_reserved(&mut self, feeder: u8, rows: u64)
         requires feeder { feeder < self.old.feeders }
         requires room { rows ≤ self.old.room }
@@ -155,9 +171,35 @@ impl Origins {
         ensures feeders { self.new.feeders ≡ self.old.feeders }
         ensures room { self.new.room + rows ≡ self.old.room }
     {
-        'rows: for _ in 0..rows {
+        // Of one row this is what costs least.
+        if rows == 1 {
             self.push_reserved(feeder);
+            return;
         }
+        let mut left = rows;
+        'stretches: while left > 0 {
+            let run = left.min(STRETCH_ROWS - self.len() % STRETCH_ROWS);
+            self.push_run(feeder, run);
+            left -= run;
+        }
+    }
+
+    /// Appends so many rows of one feeder, one at least, which are all in one stretch, into room that is already there.
+    fn push_run(&mut self, feeder: u8, rows: u64)
+        requires feeder { feeder < self.old.feeders }
+        requires some { 0 < rows }
+        requires within { length self.old.rows % 512 + rows ≤ 512 }
+        requires room { rows ≤ self.old.room }
+        ensures rows { self.new.rows ≡ self.old.rows ++ replicate rows feeder }
+        ensures feeders { self.new.feeders ≡ self.old.feeders }
+        ensures room { self.new.room + rows ≡ self.old.room }
+    {
+        if self.row_feeders.len() as u64 % STRETCH_ROWS == 0 {
+            push_tally(&mut self.tallies, &self.counts[..tally_len(self.feeders)]);
+        }
+        push_feeder(&mut self.row_feeders, feeder, rows);
+        self.counts[feeder as usize] += rows;
+        self.room -= rows;
     }
 
     /// Writes how many of the rows before stretch `k` came from each feeder. It requires several feeders.
@@ -190,11 +232,36 @@ impl Origins {
     }
 }
 
+/// Returns how many of the first rows came from the feeder of the first.
+fn run_len(feeders: &[u8]) -> usize
+    requires { 0 < length feeders.now }
+    ensures some { (0 < result) × (result ≤ length feeders.now) }
+    ensures same { take result feeders.now ≡ replicate result (slice_index feeders.now 0) }
+{
+    let first = feeders[0];
+    'rows: for at in 1..feeders.len() {
+        if feeders[at] != first {
+            return at;
+        }
+    }
+    feeders.len()
+}
+
 /// Returns how many counts a tally has.
 fn tally_len(feeders: u32) -> usize
     ensures { result ≡ tally_len feeders }
 {
     if feeders > 1 { feeders as usize } else { 0 }
+}
+
+/// Appends a feeder so many times, into room that is already there.
+fn push_feeder(row_feeders: &mut Vec<u8>, feeder: u8, rows: u64)
+    requires { vec_len row_feeders.old + rows ≤ vec_capacity row_feeders.old }
+    ensures items { row_feeders.new.items ≡ row_feeders.old.items ++ replicate rows feeder }
+    ensures capacity { vec_capacity row_feeders.old ≤ vec_capacity row_feeders.new }
+{
+    let all = row_feeders.len() + rows as usize;
+    row_feeders.resize(all, feeder).unwrap();
 }
 
 /// Appends counts below 2^32 to the tallies, into room that is already there.

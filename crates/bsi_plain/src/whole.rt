@@ -67,6 +67,10 @@ impl<E: Encoding> Encoding for WholeVectors<E> {
         self.inner.reserve(more)
     }
 
+    fn clear(&mut self) {
+        self.inner.clear();
+    }
+
     fn push_reserved(&mut self, digit: u32) {
         self.inner.push_reserved(digit);
     }

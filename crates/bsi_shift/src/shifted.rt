@@ -117,6 +117,16 @@ impl Shifted {
         self.stored.reserve(more)
     }
 
+    /// Removes all entries. It takes no memory and keeps the room.
+    pub fn clear(&mut self)
+        ensures entries { shifted_entries self.new ≡ [] }
+        ensures alike { IsAlike self.old self.new }
+        ensures room { length (shifted_entries self.old) + shifted_room self.old
+            ≤ shifted_room self.new }
+    {
+        self.stored.clear();
+    }
+
     /// Returns whether one more entry can be appended without allocating memory.
     pub fn has_room(&self) -> bool
         ensures { result ≡ nat_lt 0 (shifted_room self.now) }

@@ -95,6 +95,12 @@ pub trait Column: Drop {
         ensures refused { OnErr result (room_of self.new < more) }
         ensures succeeds { more ≤ room_of self.old → IsOk result };
 
+    /// Removes all entries. It takes no memory and keeps the room.
+    fn clear(&mut self)
+        ensures entries { entries self.new ≡ [] }
+        ensures form { form_of self.new ≡ form_of self.old }
+        ensures room { length (entries self.old) + room_of self.old ≤ room_of self.new };
+
     /// Appends a number below the size, or a null, into room that is already there.
     fn push_reserved(&mut self, entry: Option<u64>)
         requires room { 0 < room_of self.old }

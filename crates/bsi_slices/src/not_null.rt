@@ -1,7 +1,7 @@
 //! The not-null bitmap of a column, and whether any row is null.
 //!
-//! Where no row is null, a comparison of a block does not read the bitmap. The flag is set by the first null and never
-//! cleared, since rows are only appended.
+//! Where no row is null, a comparison of a block does not read the bitmap. The flag is set by the first null, and cleared
+//! with all rows, since a single row is never removed.
 
 ghost use Rattle.std.specs.Prelude.{◌≡◌, ◌↔◌, ℕ, ◌+◌, ◌*◌, ◌^◌, ◌≤◌, ◌<◌, ◌&&◌, [], ◌∷◌, ◌++◌, length, false, slice_index_or, IsTrue, IfOk, IsOk, OnOk, OnErr};
 ghost use Rattle.std.specs.Int.{bit_at};
@@ -85,6 +85,15 @@ impl NotNull {
         ensures succeeds { more ≤ self.old.room → IsOk result }
     {
         self.bits.reserve(more)
+    }
+
+    /// Removes all rows. It takes no memory and keeps the room.
+    pub fn clear(&mut self)
+        ensures bits { self.new.bits ≡ [] }
+        ensures room { length self.old.bits + self.old.room ≤ self.new.room }
+    {
+        self.bits.clear();
+        self.has_null = false;
     }
 
     /// Appends a row, which has a number or not, into room that is already there.

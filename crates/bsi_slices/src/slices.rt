@@ -124,6 +124,10 @@ impl Column for Slices {
         reserve_rows(&mut self.slices, &mut self.not_null, more)
     }
 
+    fn clear(&mut self) {
+        clear_rows(&mut self.slices, &mut self.not_null);
+    }
+
     fn push_reserved(&mut self, entry: Option<u64>) {
         push_row(&mut self.slices, &mut self.not_null, entry);
     }
@@ -216,6 +220,19 @@ fn reserve_rows(slices: &mut Bitmaps, not_null: &mut NotNull, more: u64) -> Resu
         slices.reserve(more)?;
         not_null.reserve(more)
     }
+}
+
+/// Removes all rows, and keeps the room.
+fn clear_rows(slices: &mut Bitmaps, not_null: &mut NotNull)
+    requires sliced { IsSliced not_null.old.bits slices.old.vectors }
+    ensures sliced { IsSliced not_null.new.bits slices.new.vectors }
+    ensures width { length slices.new.vectors ≡ length slices.old.vectors }
+    ensures entries { entries_in not_null.new.bits slices.new.vectors ≡ [] }
+    ensures room { length not_null.old.bits + min slices.old.room not_null.old.room
+        ≤ min slices.new.room not_null.new.room }
+{
+    slices.clear();
+    not_null.clear();
 }
 
 /// Appends a row into room that is already there: each slice gets its binary place of the number, which is 0 if the row

@@ -7,7 +7,7 @@ use Rattle.std.proofs.lemmas.List.{length-append, length-map}
 use Rattle.std.proofs.lemmas.List.Elements.{All-append, All-cons, All-get_or, All-map, All-nil, All-weaker}
 use Rattle.bsi_columns.specs.declared.any.AnyColumn.{AnyColumn}
 use Rattle.bsi_columns.specs.AnyRows.{any_entries, any_form, any_size, size_in_form}
-use Rattle.bsi_shift.specs.Shifted.{number_of, shifted_entries, shifted_size, IsInRange, OffsetColumn}
+use Rattle.bsi_shift.specs.Shifted.{number_of, shifted_entries, shifted_size, IsAlike, IsInRange, OffsetColumn}
 use Rattle.bsi_schema.specs.declared.form.Form.{Form}
 use Rattle.bsi_schema.specs.declared.form.Form.TheVariants.{Slices, Equality, Range}
 use Rattle.bsi_schema.specs.Columns.{column_at, fits, is_taken_by, size_in, NamedColumn}
@@ -65,6 +65,17 @@ module _ (column : NamedColumn) (old : OffsetColumn) (n : ℕ) (keeps : Keeps co
     low = keeps.low;
     high = keeps.high;
     range = in_range_of new same.alike.form same.alike.offset (shifted_entries old) same.entries keeps.range;
+  }
+
+  -- no entry
+  pub keeps_none : (new : OffsetColumn) → IsAlike old new → shifted_entries new ≡ [] → Keeps column new 0
+  keeps_none new alike none = record {
+    form = alike.form ∙ keeps.form;
+    offset = alike.offset ∙ keeps.offset;
+    rows = ap length none;
+    low = keeps.low;
+    high = keeps.high;
+    range = in_range_of new alike.form alike.offset [] none (All-nil (IsInRange old.offset (shifted_size old)));
   }
 
   -- more entries

@@ -63,6 +63,18 @@ pub(crate) fn reserve_each(columns: &mut [Shifted], more: u64) -> Result<(), NoM
     Ok(())
 }
 
+/// Removes all entries of each column.
+pub(crate) fn clear_each(columns: &mut [Shifted])
+    ensures long { length columns.new ≡ length columns.old }
+    ensures alike { AreAlikeColumns columns.old columns.new }
+    ensures empty { (k : ℕ) → k < length columns.old →
+        shifted_entries (kept_at columns.new k) ≡ [] }
+{
+    'columns: for c in 0..columns.len() {
+        columns[c].clear();
+    }
+}
+
 /// Appends to each column its entry of a row, into room that is already there.
 pub(crate) fn push_each(columns: &mut [Shifted], values: &[Option<i128>])
     requires long { length values.now ≡ length columns.old }

@@ -1,4 +1,5 @@
-//! The growth of an index: the columns take the entries of further rows, and the origins their feeders.
+//! The growth of an index: the columns take the entries of further rows, and the origins their feeders. Rows go out all at
+//! once.
 
 ghost use Rattle.std.specs.Prelude.{◌≡◌, ℕ, ◌+◌, ◌<◌, ◌≤◌, ◌^◌, ◌++◌, ◌∷◌, [], All, length, replicate, OnOk};
 ghost use Rattle.bsi_origins.specs.Origins.{max_feeders};
@@ -7,7 +8,7 @@ ghost use Rattle.bsi_shift.specs.Shifted.{shifted_entries};
 ghost use Rattle.bsi_table.specs.Rows.{feeders_of};
 ghost use Rattle.bsi_table.specs.Table.{kept_at, AreAlikeColumns, AreFrom, AreI64, AreInRange, AreSameColumns, HasMore, HaveMore, HaveOneMore, HaveRoom, HaveRows, TakesRow};
 
-use crate::columns::{push_all_each, push_block_each, push_each, reserve_each};
+use crate::columns::{clear_each, push_all_each, push_block_each, push_each, reserve_each};
 use crate::{Block, NoMemory};
 use bsi_origins::Origins;
 use bsi_shift::Shifted;
@@ -30,6 +31,19 @@ pub(crate) fn reserve_rows(
 {
     reserve_each(columns, more)?;
     origins.reserve(more)
+}
+
+/// Removes all rows.
+pub(crate) fn clear_rows(columns: &mut Vec<Shifted>, origins: &mut Origins)
+    ensures long { length columns.new.items ≡ length columns.old.items }
+    ensures alike { AreAlikeColumns columns.old.items columns.new.items }
+    ensures empty { (k : ℕ) → k < length columns.old.items →
+        shifted_entries (kept_at columns.new.items k) ≡ [] }
+    ensures rows { origins.new.rows ≡ [] }
+    ensures feeders { origins.new.feeders ≡ origins.old.feeders }
+{
+    clear_each(columns);
+    origins.clear();
 }
 
 /// Appends a row, into room that is already there.

@@ -13,7 +13,7 @@ ghost use Rattle.bsi_table.specs.Table.{max_rows, no_rows, with_row, with_rows, 
 
 use crate::columns::{are_alike, copy_each, make_each, read_row, select_one};
 use crate::found::{count_selected, find_rows};
-use crate::growth::{push_all, push_all_from, push_row, push_rows, reserve_rows};
+use crate::growth::{clear_rows, push_all, push_all_from, push_row, push_rows, reserve_rows};
 use crate::totals::answer_total;
 use crate::{
     Answer, AppendError, AskError, Block, IndexError, NoMemory, Pred, Query, Row, Schema, Total,
@@ -252,6 +252,13 @@ impl Index {
         ensures { self.new ≡ self.old }
     {
         reserve_rows(&mut self.columns, &mut self.origins, more)
+    }
+
+    /// Removes all rows. It takes no memory and keeps the room for as many.
+    pub fn clear(&mut self)
+        ensures { self.new ≡ no_rows self.old.schema self.old.feeders self.old.limit }
+    {
+        clear_rows(&mut self.columns, &mut self.origins);
     }
 
     /// Makes a block of no rows yet, for rows that this index takes.

@@ -55,6 +55,10 @@ impl Encoding for EqualityComponent {
         self.bitmaps.reserve(more)
     }
 
+    fn clear(&mut self) {
+        self.bitmaps.clear();
+    }
+
     fn push_reserved(&mut self, digit: u32) {
         let first = first_stored(self.base);
         let own = (self.base - first) as usize;

@@ -49,6 +49,10 @@ impl Encoding for RangeComponent {
         self.bitmaps.reserve(more)
     }
 
+    fn clear(&mut self) {
+        self.bitmaps.clear();
+    }
+
     fn push_reserved(&mut self, digit: u32) {
         let own = self.base as usize - 1;
         push_digit(&mut self.bitmaps, own, digit as usize, own, digit);

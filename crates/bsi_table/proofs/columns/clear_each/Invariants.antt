@@ -1,0 +1,13 @@
+use Rattle.std.proofs.Common.{◌≡◌, ℕ, ◌<◌, ◌≤◌, [], length}
+use Rattle.bsi_shift.specs.Shifted.{shifted_entries, IsAlike}
+use Rattle.bsi_table.specs.Table.{kept_at}
+use Rattle.bsi_table.proofs.columns.clear_each.Given as goal
+
+-- the columns so far are empty, and those behind them are those of the start
+abbrev pub invariant-columns : goal.invariant-columns
+invariant-columns l = record {
+  long : length l.columns ≡ length l.initial.columns;
+  empty : (k : ℕ) → k < l.c → shifted_entries (kept_at l.columns k) ≡ [];
+  alike : (k : ℕ) → k < l.c → IsAlike (kept_at l.initial.columns k) (kept_at l.columns k);
+  others : (k : ℕ) → l.c ≤ k → kept_at l.columns k ≡ kept_at l.initial.columns k;
+}

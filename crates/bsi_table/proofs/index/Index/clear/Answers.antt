@@ -1,0 +1,38 @@
+use Rattle.std.proofs.Common.{◌<◌, ℕ, List, length, ap, ap₂, sym, subst, arith, ◌∙◌}
+use Rattle.std.specs.Prelude.{All}
+use Rattle.std.proofs.lemmas.List.Elements.{All-nil}
+use Rattle.bsi_schema.specs.Columns.{column_at}
+use Rattle.bsi_table.specs.Rows.{FedRow}
+use Rattle.bsi_table.specs.Table.{kept_at, no_rows, AreKept, Table}
+use Rattle.bsi_table.proofs.Keeping.{keeps_none}
+use Rattle.bsi_table.proofs.TableRows.{fed_rows-none}
+use Rattle.bsi_table.proofs.index.Index.clear.Goals as goal
+
+-- the columns are kept as they were, with no row
+pub invariant_of-self : goal.invariant_of-self
+invariant_of-self c =
+    let i = c.self.inside in
+    let was = c.self.invariant in
+    let e = c.clear_rows.ensures in
+    let columns = i.schema.value.columns in
+    let new = c.clear_rows.new.columns.items in
+    let kept : AreKept columns new 0 = record {
+      long = e.long ∙ was.columns_are.long;
+      each = λ k below.
+          let there : k < length i.columns.items = omega (arith, below, was.columns_are.long) in
+          keeps_none (column_at columns k) (kept_at i.columns.items k) (length i.origins.rows) (was.columns_are.each k below) (kept_at new k) (e.alike k there) (e.empty k there);
+    } in
+    record {
+      columns_are = subst (AreKept columns new) (sym (ap length e.rows)) kept;
+      few = omega (arith, e.feeders, was.few);
+      from = subst (All (λ source. source < c.clear_rows.new.origins.feeders)) (sym e.rows) (All-nil (λ source. source < c.clear_rows.new.origins.feeders));
+      within = omega (arith, ap length e.rows);
+      small = was.small;
+    }
+
+pub returns : goal.returns
+returns c =
+    let i = c.self.inside in
+    let table : ℕ → List FedRow → Table = λ feeders rows. record { schema = i.schema.value; feeders = feeders; limit = i.limit; rows = rows } in
+    ap₂ table c.clear_rows.ensures.feeders (fed_rows-none c.clear_rows.new.origins.rows c.clear_rows.new.columns.items c.clear_rows.ensures.rows)
+    ∙ ap (λ t. no_rows t.schema t.feeders t.limit) c.self.view_is
