@@ -24,7 +24,7 @@ use Rattle.bsi_table.specs.Rows.{FedRow}
 use Rattle.bsi_files.specs.AskLines.{IsAskLine}
 use Rattle.bsi_files.specs.Faults.{is_late, text_fault}
 use Rattle.bsi_files.specs.declared.faults.FilesFault.{FilesFault}
-use Rattle.bsi_files.specs.declared.faults.FilesFault.TheVariants.{Read, TooLong, Readers, NoMemory, Write}
+use Rattle.bsi_files.specs.declared.faults.FilesFault.TheVariants.{Read, TooLong, NoMemory, Write}
 use Rattle.bsi_files.specs.declared.faults.Which.TheVariants.{AsksFile}
 use Rattle.bsi_files.specs.Matching.{AreMatched}
 use Rattle.bsi_files.specs.Runs.{fed_lines, AreLines}
@@ -291,8 +291,6 @@ pub leaves_follows : {Is Too : List (List Field) → List (List ℕ) → Type 0}
 leaves_follows follows asked (Read AsksFile) before after part = part_follows follows asked (Read AsksFile) before after part
 leaves_follows follows asked (TooLong AsksFile) before after part = part_follows follows asked (TooLong AsksFile) before after part
 leaves_follows follows asked Write before after part = part_follows follows asked Write before after part
-leaves_follows follows asked Readers before after (inl same) = inl same
-leaves_follows follows asked Readers before after (inr part) = inr (part_follows follows asked Readers before after part)
 leaves_follows follows asked NoMemory before after (inl same) = inl same
 leaves_follows follows asked NoMemory before after (inr part) = inr (part_follows follows asked NoMemory before after part)
 leaves_follows follows asked fault before after same = same
@@ -303,6 +301,5 @@ pub leaves_late : (Is : List (List Field) → List (List ℕ) → Type 0) (asked
 leaves_late Is asked (Read AsksFile) before after late part = part
 leaves_late Is asked (TooLong AsksFile) before after late part = part
 leaves_late Is asked Write before after late part = part
-leaves_late Is asked Readers before after late part = inr part
 leaves_late Is asked NoMemory before after late part = inr part
 leaves_late Is asked fault before after late part = absurd (cc (late))

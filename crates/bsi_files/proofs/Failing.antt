@@ -56,7 +56,6 @@ module _ {R : Type 0} (rem : R → Option (List ℕ)) (stops : Bool) (limit : �
   late_run (run.Read which.AsksFile) late = tt
   late_run (run.TooLong which.AsksFile) late = tt
   late_run run.Write late = tt
-  late_run run.Readers late = tt
   late_run run.NoMemory late = tt
   late_run fault late = absurd (cc (late))
 
@@ -68,8 +67,8 @@ pub leaves_loaded : (Is : List (List Field) → List (List ℕ) → Type 0) {R :
 leaves_loaded Is rem stops limit sources asked (run.Source number e) before after met same = same
 leaves_loaded Is rem stops limit sources asked (run.NotClosed number) before after met same = same
 leaves_loaded Is rem stops limit sources asked run.IndexFull before after met same = same
-leaves_loaded Is rem stops limit sources asked run.Readers before after met same = inl same
 leaves_loaded Is rem stops limit sources asked run.NoMemory before after met same = inl same
+leaves_loaded Is rem stops limit sources asked run.Readers before after met same = same
 leaves_loaded Is rem stops limit sources asked fault before after met same = absurd met
 
 -- ---- from what was kept of an end to its source

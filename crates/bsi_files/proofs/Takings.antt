@@ -320,24 +320,18 @@ module _ {R : Type 0} (rem : R → Option (List ℕ)) where
     fed_all stops rows takings system (suc n) feeders sources ends feds from (omega arith) own.1 are.1 loaded.1 (All-tail (IsFine stops) fed feds fine),
   )
 
-  -- after the last publish
-  pub all_fed : (stops : Bool) (limit : ℕ) (loaded now : Loading) (system : System) (feeders : List Sending) (sources : List (Source R)) (ends : List FeedEnd) (feds : List Fed)
-      → now ≡ published_all loaded → AlwaysHolds now → loaded.system ≡ system → length system.channels ≡ length feeders → length sources ≡ length feeders
+  -- all rows that were taken
+  pub all_fed : (stops : Bool) (limit : ℕ) (loaded : Loading) (system : System) (feeders : List Sending) (sources : List (Source R)) (ends : List FeedEnd) (feds : List Fed)
+      → AlwaysHolds loaded → loaded.system ≡ system → length system.channels ≡ length feeders → length sources ≡ length feeders
       → AreFeeders system 0 feeders → AreEndsOf rem (tasks feeders sources) ends → AreLoaded loaded.takings 0 ends feds → All (IsFine stops) feds
-      → length now.published ≤ now.system.limit → system.limit ≡ limit → IsAllFed rem stops limit now.published sources feds
-  all_fed stops limit loaded now system feeders sources ends feds is always same channels many own are taken fine few most =
-      let takings_is : now.takings ≡ loaded.takings = ap (λ (s : Loading). s.takings) is in
-      let held_is : now.held ≡ [] = ap (λ (s : Loading). s.held) is in
-      let system_is : now.system ≡ system = ap (λ (s : Loading). s.system) is ∙ same in
-      let from : (f : ℕ) → rows_from f now.published ≡ (taking_at loaded.takings f).taken =
-      λ f. ap (λ rows. rows_from f rows) (sym (ap (λ rows. now.published ++ rows) held_is ∙ append-nil now.published))
-      ∙ (always.balanced f ∙ ap (λ ts. (taking_at ts f).taken) takings_is) in
-      let long : length loaded.takings ≡ length sources =
-      sym (ap (λ (ts : List Taking). length ts) takings_is) ∙ (always.many ∙ (ap (λ (s : System). length s.channels) system_is ∙ (channels ∙ sym many))) in
+      → length (loaded.published ++ loaded.held) ≤ loaded.system.limit → system.limit ≡ limit → IsAllFed rem stops limit (loaded.published ++ loaded.held) sources feds
+  all_fed stops limit loaded system feeders sources ends feds always same channels many own are taken fine few most =
+      let rows : List FedRow = loaded.published ++ loaded.held in
+      let long : length loaded.takings ≡ length sources = always.many ∙ (ap (λ (s : System). length s.channels) same ∙ (channels ∙ sym many)) in
       record {
-        each = fed_all stops now.published loaded.takings system 0 feeders sources ends feds from many own are taken fine;
-        none = λ f le. from f ∙ past loaded.takings f (omega arith);
-        within = subst (λ k. length now.published ≤ k) (ap (λ (s : System). s.limit) system_is ∙ most) few;
+        each = fed_all stops rows loaded.takings system 0 feeders sources ends feds always.balanced many own are taken fine;
+        none = λ f le. always.balanced f ∙ past loaded.takings f (omega arith);
+        within = subst (λ k. length rows ≤ k) (ap (λ (s : System). s.limit) same ∙ most) few;
       }
     where
       past : (ts : List Taking) (f : ℕ) → length ts ≤ f → (taking_at ts f).taken ≡ []

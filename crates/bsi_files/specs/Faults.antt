@@ -32,7 +32,6 @@ is_of_headers fault = false
 abbrev pub is_late : FilesFault → Bool
 is_late (Read AsksFile) = true
 is_late (TooLong AsksFile) = true
-is_late Readers = true
 is_late NoMemory = true
 is_late Write = true
 is_late fault = false

@@ -10,7 +10,7 @@ use Rattle.bsi_text.specs.Sources.{max_records}
 use Rattle.bsi_text.specs.Texts.{AreAllRecords, AreFirstRecords}
 use Rattle.bsi_text.specs.Waiting.{IsCut}
 use Rattle.bsi_files.specs.declared.faults.FilesFault.{FilesFault}
-use Rattle.bsi_files.specs.declared.faults.FilesFault.TheVariants.{Read, TooLong, Readers, NoMemory, Write}
+use Rattle.bsi_files.specs.declared.faults.FilesFault.TheVariants.{Read, TooLong, NoMemory, Write}
 use Rattle.bsi_files.specs.declared.faults.Which.TheVariants.{AsksFile}
 
 -- the lines for all records of the asks text, at most 1,000,000, were put after what a writer held
@@ -52,7 +52,6 @@ abbrev pub Leaves : (List (List Field) → List (List ℕ) → Type 0) → List 
 Leaves IsOf asked (Read AsksFile) before after = WritesPart IsOf asked (Read AsksFile) before after
 Leaves IsOf asked (TooLong AsksFile) before after = WritesPart IsOf asked (TooLong AsksFile) before after
 Leaves IsOf asked Write before after = WritesPart IsOf asked Write before after
-Leaves IsOf asked Readers before after = (after ≡ before) ⊎ WritesPart IsOf asked Readers before after
 Leaves IsOf asked NoMemory before after = (after ≡ before) ⊎ WritesPart IsOf asked NoMemory before after
 Leaves IsOf asked fault before after = after ≡ before
 

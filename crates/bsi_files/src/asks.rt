@@ -24,46 +24,34 @@ use crate::loading::Fed;
 use crate::{FilesFault, NoMemory, Which};
 use bsi_load::Reply;
 use bsi_origins::arrange;
-use bsi_system::{Analyst, AnalystRefused, Naming, Told};
-use bsi_table::{Answer, AskError, Query, Schema};
+use bsi_table::{Answer, Index};
 use bsi_text::{RecordSource, read_query, write_bad, write_bytes, write_fed, write_reply};
 use csv::ByteRecord;
 use std::alloc::Global;
 use std::io::{Read, Write};
 
 /// Writes a line for each feeder, and then a line for each record of the text: the answer to its question over the rows
-/// that were told, or that it is bad.
-pub(crate) fn answer_all<B: Naming, A: Read + Drop, W: Write>(
+/// of the table, or that it is bad.
+pub(crate) fn answer_all<A: Read + Drop, W: Write>(
     alloc: Global,
-    schema: &Schema,
-    analyst: &mut Analyst<B>,
-    told: &Told<B>,
+    table: &Index,
     fed: &[Fed],
     asks: A,
     writer: &mut W,
 ) -> Result<(), FilesFault>
-    requires schema { schema.now ≡ B.about.schema }
     requires few { length fed.now ≤ max_feeders }
     ensures late { IfErr result (λ fault. is_late fault ≡ true) }
     ensures ok { OnOk result (IfSome (A.remaining asks) (λ bytes.
-        WritesAll (AreLines B.about.schema told.now (map fed_counts fed.now)) bytes
+        WritesAll (AreLines table.now.schema table.now.rows (map fed_counts fed.now)) bytes
         (W.contents writer.old) (W.contents writer.new))) }
     ensures part { IfErr result (λ fault. IfSome (A.remaining asks) (λ bytes.
-        WritesPart (AreLines B.about.schema told.now (map fed_counts fed.now)) bytes fault
+        WritesPart (AreLines table.now.schema table.now.rows (map fed_counts fed.now)) bytes fault
         (W.contents writer.old) (W.contents writer.new))) }
 {
     let mut line = Vec::new(alloc);
     tell_all(fed, &mut line, writer)?;
     let mut records = RecordSource::new(alloc, asks);
-    answer_records(
-        alloc,
-        schema,
-        analyst,
-        told,
-        &mut records,
-        &mut line,
-        writer,
-    )
+    answer_records(alloc, table, &mut records, &mut line, writer)
 }
 
 /// Writes a line for each feeder.
@@ -92,24 +80,21 @@ fn tell(feeder: u32, end: &Fed, line: &mut Vec<u8>) -> Result<(), NoMemory>
 }
 
 /// Writes a line for each record of a text of which no record was read.
-fn answer_records<B: Naming, A: Read + Drop, W: Write>(
+fn answer_records<A: Read + Drop, W: Write>(
     alloc: Global,
-    schema: &Schema,
-    analyst: &mut Analyst<B>,
-    told: &Told<B>,
+    table: &Index,
     records: &mut RecordSource<A>,
     line: &mut Vec<u8>,
     writer: &mut W,
 ) -> Result<(), FilesFault>
-    requires schema { schema.now ≡ B.about.schema }
     requires fresh { (records.old.taken ≡ 0) × (records.old.end ≡ None) }
     requires start { reader_state records.old.input ≡ st.StartRecord }
     ensures late { IfErr result (λ fault. is_late fault ≡ true) }
     ensures ok { OnOk result (FromText (source_of A.remaining records.old.input) (λ bytes.
-        WritesAll (AreMatched (IsAskLine B.about.schema told.now)) bytes
+        WritesAll (AreMatched (IsAskLine table.now.schema table.now.rows)) bytes
         (W.contents writer.old) (W.contents writer.new))) }
     ensures part { IfErr result (λ fault. FromText (source_of A.remaining records.old.input)
-        (λ bytes. WritesPart (AreMatched (IsAskLine B.about.schema told.now)) bytes fault
+        (λ bytes. WritesPart (AreMatched (IsAskLine table.now.schema table.now.rows)) bytes fault
         (W.contents writer.old) (W.contents writer.new))) }
 {
     let mut fields = ByteRecord::new(alloc);
@@ -120,7 +105,7 @@ fn answer_records<B: Naming, A: Read + Drop, W: Write>(
             Ok(false) => return Ok(()),
             Err(fault) => return Err(FilesFault::of_text(Which::AsksFile, fault)),
         }
-        answer(alloc, schema, analyst, told, &fields, line)?;
+        answer(alloc, table, &fields, line)?;
         write_bytes(writer, line.as_slice())?;
     }
     // No text has so many records, so the loop has returned.
@@ -128,45 +113,25 @@ fn answer_records<B: Naming, A: Read + Drop, W: Write>(
 }
 
 /// Makes `line` the line that answers a record.
-fn answer<B: Naming>(
+fn answer(
     alloc: Global,
-    schema: &Schema,
-    analyst: &mut Analyst<B>,
-    told: &Told<B>,
+    table: &Index,
     fields: &ByteRecord,
     line: &mut Vec<u8>,
 ) -> Result<(), FilesFault>
-    requires { schema.now ≡ B.about.schema }
     ensures late { IfErr result (λ fault. is_late fault ≡ true) }
     ensures short { IfErr result (λ fault. fault ≢ FilesFault.TooLong Which.AsksFile) }
     ensures line { OnOk result
-        (IsAskLine B.about.schema told.now (fields_of fields.now) line.new.items) }
+        (IsAskLine table.now.schema table.now.rows (fields_of fields.now) line.new.items) }
 {
     line.clear();
-    let Some(query) = read_query(alloc, schema, fields)? else {
+    let Some(query) = read_query(alloc, table.schema(), fields)? else {
         write_bad(line)?;
         return Ok(());
     };
-    let reply = ask(alloc, analyst, told, &query)?;
+    let reply = table.ask(&query).map(|answer| arranged(alloc, answer));
     write_reply(&Reply::Answered(reply), line)?;
     Ok(())
-}
-
-/// Asks the analyst. It answers rows in order of feeder, and then of their numbers.
-fn ask<B: Naming>(
-    alloc: Global,
-    analyst: &mut Analyst<B>,
-    told: &Told<B>,
-    query: &Query,
-) -> Result<Result<Answer, AskError>, FilesFault>
-    ensures late { IfErr result (λ fault. fault ≡ FilesFault.Readers) }
-    ensures reply { IfOk result (IsShownReply B.about.schema told.now query.now) }
-{
-    match analyst.ask_told(told, query) {
-        Ok(answer) => Ok(Ok(arranged(alloc, answer))),
-        Err(AnalystRefused::Ask(refused)) => Ok(Err(refused)),
-        Err(AnalystRefused::Gone) => Err(FilesFault::Readers),
-    }
 }
 
 /// Arranges the rows of an answer in order of feeder, and then of their numbers.

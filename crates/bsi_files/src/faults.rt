@@ -32,7 +32,7 @@ impl fmt::Display for Which {
 }
 
 /// Why a run over row files ends early; `run_files` says in which order it looks for the causes. A fault of the
-/// questions, of the analyst, of memory or of the writer may come after some lines were written; before the others,
+/// questions, of memory or of the writer may come after some lines were written; before the others,
 /// nothing was written.
 #[derive(Clone, Copy, Debug, PartialEq, Eq)]
 pub enum FilesFault {
@@ -54,8 +54,7 @@ pub enum FilesFault {
     /// The feeder of this number, from 0, is the first that left no closing. Where each left one, it is the first that
     /// was stopped though its gate stops none.
     NotClosed(u32),
-    /// No place was found for an analyst of the index, or no copy of it was given. No real run meets this: its one
-    /// analyst finds a place, and the loader lives.
+    /// No place was found for an analyst of the index. No run meets this: it opens none.
     Readers,
     /// Memory other than that of an answer was refused, or a thread could not be started.
     NoMemory,

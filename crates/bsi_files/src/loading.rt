@@ -1,11 +1,10 @@
 //! The loader's part of a run: beside the feeders, and for what is left when they have ended.
 //!
 //! It takes batches of a feeder until these have 256 rows before the next one's turn, so that no ring stays full because
-//! another is long. It publishes once, when all rows are held: nobody asks before, and the copy of the index that is not
-//! shown stays empty.
+//! another is long. It publishes nothing: nobody asks before all rows are held, and then the loader hands over its table.
 
 ghost use Rattle.std.specs.Prelude.{◌≡◌, ◌≢◌, ◌<◌, ◌≤◌, ℕ, [], All, Err, IfErr, IfOk, IfSome, None, OnErr, OnOk, Ok, Some, false, length, true};
-ghost use Rattle.bsi_system.specs.Running.{published_all, taking_at, AlwaysHolds, IsClosingOf};
+ghost use Rattle.bsi_system.specs.Running.{taking_at, AlwaysHolds, IsClosingOf};
 ghost use Rattle.bsi_files.specs.Ends.{AreClosings};
 ghost use Rattle.bsi_files.specs.Takings.{all_closed, AreGoing, AreTold, IsDrained, IsFine, IsFullAt, IsFullBefore, IsKept, KeepsOthers, KeepsTold, TakesOnlyOf};
 ghost use Rattle.bsi_files.specs.Faults.{is_early};
@@ -16,7 +15,7 @@ use crate::headers::file_number;
 use crate::threads::Watch;
 use crate::{FeedEnd, FilesFault, Gate, NoMemory};
 use bsi_feeding::Pause;
-use bsi_system::{Closing, LoadRefused, Loader, Naming, Told};
+use bsi_system::{Closing, LoadRefused, Loader, Naming};
 use bsi_text::SourceFault;
 use std::sync::Wait;
 
@@ -121,25 +120,6 @@ fn load_next<B: Naming>(loader: &mut Loader<B>, feeder: u32) -> Result<usize, Fi
         Err(LoadRefused::NoMemory) => Err(FilesFault::NoMemory),
         Err(LoadRefused::UnknownFeeder | LoadRefused::Ended | LoadRefused::Empty) => Ok(0),
     }
-}
-
-/// Publishes all rows that are held, and tells which rows are published then.
-pub(crate) fn publish_rest<B: Naming, R: Wait>(
-    rt: &R,
-    loader: &mut Loader<B>,
-) -> Result<Told<B>, FilesFault>
-    ensures early { IfErr result (λ fault. is_early fault ≡ true) }
-    ensures room { IfErr result (λ fault. fault ≢ FilesFault.IndexFull) }
-    ensures shown { OnOk result (loader.new ≡ published_all loader.old) }
-    ensures told { IfOk result (λ told. told ≡ loader.new.published) }
-    ensures within { OnOk result (length loader.new.published ≤ loader.new.system.limit) }
-    ensures system { loader.new.system ≡ loader.old.system }
-    ensures always { AlwaysHolds loader.new }
-{
-    loader.publish(rt)?;
-    // The proof takes from the counts that the rows are within the limit.
-    let _ = loader.counts();
-    Ok(loader.tell())
 }
 
 /// Tells the loader of each closing, in the order of the feeders.

@@ -2,9 +2,10 @@
 //!
 //! Its lines are stated over the rows of the files, one file after the other. The loader mixes them as the threads run; by
 //! `laws::any_mix` a line is the same for each mix. Only closings tie rows to files, so a full index is told once they are
-//! settled. Where a ring gave no closing, `NotClosed` or a source's fault is told in its place.
+//! settled. Where a ring gave no closing, `NotClosed` or a source's fault is told in its place. Nobody asks while the threads
+//! run, so nothing is published: the loader hands over its table, and the questions are put to it.
 
-ghost use Rattle.std.specs.Prelude.{◌≡◌, ◌≢◌, ◌<◌, ◌≤◌, ◌↔◌, [], Err, IfErr, IfOk, IfSome, OnOk, false, length, map, true};
+ghost use Rattle.std.specs.Prelude.{◌≡◌, ◌≢◌, ◌<◌, ◌≤◌, ◌↔◌, ◌++◌, [], Err, IfErr, IfOk, IfSome, OnOk, false, length, map, true};
 ghost use Rattle.bsi_table.specs.Table.{no_rows};
 ghost use Rattle.bsi_files.specs.Ends.{AreReady};
 ghost use Rattle.bsi_files.specs.Feds.{HasRun, IsAllFed};
@@ -13,15 +14,16 @@ ghost use Rattle.bsi_files.specs.RunFaults.{IsFaultOf, IsLoadFault, IsRunFault};
 ghost use Rattle.bsi_files.specs.Runs.{IsRun};
 ghost use Rattle.bsi_files.specs.Writing.{Leaves, WhereFilesKnown, WhereKnown, WritesAll};
 ghost use Rattle.bsi_origins.specs.Origins.{max_feeders};
+ghost use Rattle.bsi_system.specs.Running.{AlwaysHolds};
 
 use crate::asks::answer_all;
 use crate::headers::{begin_all, capacities, file_number};
-use crate::loading::{Fed, check_all, load_beside, load_rest, publish_rest, settle_all};
+use crate::loading::{Fed, check_all, load_beside, load_rest, settle_all};
 use crate::tables::read_table;
 use crate::threads::{Watch, join_all, start_all};
 use crate::{FilesFault, Gate, Stopping};
-use bsi_system::{Analyst, Feeder, History, Loader, Naming, OpenRefused, System, Told, open};
-use bsi_table::{MAX_FEEDERS, Schema};
+use bsi_system::{Feeder, History, Loader, Naming, OpenRefused, System, open};
+use bsi_table::{Index, MAX_FEEDERS, Schema};
 use bsi_text::RowSource;
 use std::alloc::Global;
 use std::io::{Read, Write};
@@ -37,12 +39,11 @@ use std::thread::{Scope, Threads};
 /// in their order, and one line for each record of the questions. No line depends on how the threads ran. A feeder that
 /// the gate stops is no fault, and the rows that it sent count.
 ///
-/// It looks for faults in this order: the number of files; the schema file; the header of each row file; an analyst
-/// of the index and a thread for each feeder; once the threads have ended the row limit, then, where a feeder was stopped
-/// though its gate stops none, the first feeder without a closing, then the first row file that gives no more rows,
-/// then the first feeder without a closing; and, while it writes answers, the questions, the analyst and the writer.
-/// Refused memory is answered where it is met. Lines that stand before a fault are whole, unless the writer fails. It
-/// keeps the index once, and all its rows once more, in batches.
+/// It looks for faults in this order: the number of files; the schema file; the header of each row file; a thread for
+/// each feeder; once the threads have ended the row limit, then, where a feeder was stopped though its gate stops none,
+/// the first feeder without a closing, then the first row file that gives no more rows, then the first feeder without a
+/// closing; and, while it writes answers, the questions and the writer. Refused memory is answered where it is met.
+/// Lines that stand before a fault are whole, unless the writer fails. It keeps each row once, in the index.
 pub fn run_files<
     R: Threads + Wait + AllocGlobal + Sync,
     S: Read + Drop,
@@ -78,16 +79,11 @@ pub fn run_files<
     let (schema, limit) = read_table(alloc, schema)?;
     let sources = begin_all(alloc, &schema, sources)?;
     let capacities = capacities(alloc, sources.len())?;
-    let columns = schema.copy()?;
-    let run = Run {
-        schema,
-        sources,
-        asks,
-    };
+    let run = Run { sources, asks };
     run_in::<Brand, R, A, I, W, G>(
         rt,
         History::new(),
-        columns,
+        schema,
         capacities,
         limit,
         run,
@@ -99,7 +95,6 @@ pub fn run_files<
 /// What a run reads, except for the schema file.
 #[derive(Drop)]
 struct Run<A: Drop, I: Read + Drop> {
-    schema: Schema,
     sources: Vec<RowSource<I>>,
     asks: A,
 }
@@ -115,7 +110,7 @@ fn run_in<
 >(
     rt: &R,
     history: History,
-    columns: Schema,
+    schema: Schema,
     capacities: Vec<u32>,
     limit: u64,
     run: Run<A, I>,
@@ -123,8 +118,7 @@ fn run_in<
     gate: &G,
 ) -> Result<(), FilesFault>
     requires history { history ≡ record { book = B.book; list = [] } }
-    requires about { B.about ≡ no_rows columns (length capacities.items) limit }
-    requires schema { run.schema ≡ columns }
+    requires about { B.about ≡ no_rows schema (length capacities.items) limit }
     requires many { length run.sources.items ≡ length capacities.items }
     requires few { length run.sources.items ≤ max_feeders }
     ensures counted { IfErr result (λ fault. fault ≢ FilesFault.TooManyFiles) }
@@ -132,24 +126,20 @@ fn run_in<
     ensures quiet { IfErr result (λ fault. is_late fault ≡ false →
         W.contents writer.new ≡ W.contents writer.old) }
     ensures lines { OnOk result (IfSome (A.remaining run.asks) (λ asked.
-        WritesAll (HasRun I.remaining G.STOPS columns limit run.sources.items) asked
+        WritesAll (HasRun I.remaining G.STOPS schema limit run.sources.items) asked
         (W.contents writer.old) (W.contents writer.new))) }
     ensures part { IfErr result (λ fault. IfSome (A.remaining run.asks) (λ asked.
-        Leaves (HasRun I.remaining G.STOPS columns limit run.sources.items) asked fault
+        Leaves (HasRun I.remaining G.STOPS schema limit run.sources.items) asked fault
         (W.contents writer.old) (W.contents writer.new))) }
 {
-    match open::<B>(rt.alloc(), history, columns, capacities, limit, 1) {
+    match open::<B>(rt.alloc(), history, schema, capacities, limit, 0) {
         Ok(
             System {
                 feeders,
-                mut loader,
-                analysts,
+                loader,
+                analysts: _analysts,
             },
-        ) => {
-            let ran = run_ends(rt, &mut loader, feeders, analysts, run, writer, gate);
-            loader.end(rt);
-            ran
-        }
+        ) => run_ends(rt, loader, feeders, run, writer, gate),
         // The sizes are in range, so only memory can be refused.
         Err(OpenRefused::Make(_)) => Err(FilesFault::NoMemory),
         Err(OpenRefused::Readers(loader)) => {
@@ -169,15 +159,14 @@ fn run_ends<
     G: Gate + Stopping + Sync,
 >(
     rt: &R,
-    loader: &mut Loader<B>,
+    loader: Loader<B>,
     feeders: Vec<Feeder>,
-    mut analysts: Vec<Analyst<B>>,
     run: Run<A, I>,
     writer: &mut W,
     gate: &G,
 ) -> Result<(), FilesFault>
-    requires ready { AreReady loader.old.system B.about.limit feeders.items run.sources.items }
-    requires schema { run.schema ≡ B.about.schema }
+    requires ready { AreReady loader.system B.about.limit feeders.items run.sources.items }
+    requires schema { loader.system.schema ≡ B.about.schema }
     ensures counted { IfErr result (λ fault. fault ≢ FilesFault.TooManyFiles) }
     ensures fault { IfErr result
         (IsRunFault I.remaining G.STOPS B.about.limit run.sources.items) }
@@ -190,21 +179,13 @@ fn run_ends<
         Leaves (HasRun I.remaining G.STOPS B.about.schema B.about.limit run.sources.items) asked fault
         (W.contents writer.old) (W.contents writer.new))) }
 {
-    let Run {
-        schema,
-        sources,
-        asks,
-    } = run;
-    let (fed, told) = feed_files(rt, loader, feeders, sources, gate)?;
-    let Some(mut analyst) = analysts.pop() else {
-        // The system was opened with one analyst.
-        return Err(FilesFault::Readers);
-    };
-    answer_all(rt.alloc(), &schema, &mut analyst, &told, &fed, asks, writer)
+    let Run { sources, asks } = run;
+    let (fed, table) = feed_files(rt, loader, feeders, sources, gate)?;
+    answer_all(rt.alloc(), &table, &fed, asks, writer)
 }
 
-/// Feeds the files, loads their rows, and returns what each feeder leaves, and which rows are published then. When it
-/// returns, all threads have ended.
+/// Feeds the files, loads their rows, and returns what each feeder leaves, and the table of the rows. When it returns, all
+/// threads have ended.
 fn feed_files<
     B: Naming,
     R: Threads + Wait + AllocGlobal + Sync,
@@ -212,34 +193,74 @@ fn feed_files<
     G: Gate + Stopping + Sync,
 >(
     rt: &R,
-    loader: &mut Loader<B>,
+    loader: Loader<B>,
     feeders: Vec<Feeder>,
     sources: Vec<RowSource<I>>,
     gate: &G,
-) -> Result<(Vec<Fed>, Told<B>), FilesFault>
-    requires { AreReady loader.old.system B.about.limit feeders.items sources.items }
+) -> Result<(Vec<Fed>, Index), FilesFault>
+    requires { AreReady loader.system B.about.limit feeders.items sources.items }
     ensures fault { IfErr result (IsLoadFault I.remaining G.STOPS B.about.limit sources.items) }
     ensures fed { IfOk result (λ run.
-        IsAllFed I.remaining G.STOPS B.about.limit run.1 sources.items run.0.items) }
+        IsAllFed I.remaining G.STOPS B.about.limit run.1.rows sources.items run.0.items) }
+    ensures schema { IfOk result (λ run. run.1.schema ≡ loader.system.schema) }
 {
     let watch = Watch::new(gate);
     let shared = &watch;
     thread::scope(
         thread::scope_env(),
         rt,
-        move |scope| -> Result<(Vec<Fed>, Told<B>), FilesFault>
-            requires { AreReady loader.now.system B.about.limit feeders.items sources.items }
+        move |scope| -> Result<(Vec<Fed>, Index), FilesFault>
+            requires { AreReady loader.system B.about.limit feeders.items sources.items }
             ensures fault { IfErr result
                 (IsLoadFault I.remaining G.STOPS B.about.limit sources.items) }
             ensures fed { IfOk result (λ run.
-                IsAllFed I.remaining G.STOPS B.about.limit run.1 sources.items run.0.items) }
+                IsAllFed I.remaining G.STOPS B.about.limit run.1.rows sources.items run.0.items) }
+            ensures schema { IfOk result (λ run. run.1.schema ≡ loader.system.schema) }
         { feed_in(scope, rt, shared, loader, feeders, sources) },
     )
 }
 
-/// Feeds the files by threads of a scope, loads their rows, and returns what each feeder leaves, and which rows are
-/// published then.
+/// Feeds the files by threads of a scope, loads their rows, and returns what each feeder leaves, and the table of the
+/// rows.
 fn feed_in<
+    's,
+    E,
+    B: Naming,
+    R: Threads + Wait + AllocGlobal + Sync + 's,
+    I: Read + Drop + Send + 's,
+    G: Gate + Stopping + Sync + 's,
+>(
+    scope: &Scope<'s, E>,
+    rt: &'s R,
+    watch: &'s Watch<'s, G>,
+    mut loader: Loader<B>,
+    feeders: Vec<Feeder>,
+    sources: Vec<RowSource<I>>,
+) -> Result<(Vec<Fed>, Index), FilesFault>
+    requires { AreReady loader.system B.about.limit feeders.items sources.items }
+    ensures fault { IfErr result (IsLoadFault I.remaining G.STOPS B.about.limit sources.items) }
+    ensures fed { IfOk result (λ run.
+        IsAllFed I.remaining G.STOPS B.about.limit run.1.rows sources.items run.0.items) }
+    ensures schema { IfOk result (λ run. run.1.schema ≡ loader.system.schema) }
+{
+    let fed = match load_files(scope, rt, watch, &mut loader, feeders, sources) {
+        Ok(fed) => fed,
+        Err(fault) => {
+            loader.end(rt);
+            return Err(fault);
+        }
+    };
+    match loader.into_table(rt) {
+        Ok(table) => Ok((fed, table)),
+        Err(loader) => {
+            loader.end(rt);
+            Err(FilesFault::NoMemory)
+        }
+    }
+}
+
+/// Feeds the files by threads of a scope, loads all their rows, and returns what each feeder leaves.
+fn load_files<
     's,
     E,
     B: Naming,
@@ -253,11 +274,14 @@ fn feed_in<
     loader: &mut Loader<B>,
     feeders: Vec<Feeder>,
     sources: Vec<RowSource<I>>,
-) -> Result<(Vec<Fed>, Told<B>), FilesFault>
+) -> Result<Vec<Fed>, FilesFault>
     requires { AreReady loader.old.system B.about.limit feeders.items sources.items }
     ensures fault { IfErr result (IsLoadFault I.remaining G.STOPS B.about.limit sources.items) }
-    ensures fed { IfOk result (λ run.
-        IsAllFed I.remaining G.STOPS B.about.limit run.1 sources.items run.0.items) }
+    ensures fed { IfOk result (λ fed. AlwaysHolds loader.new →
+        length (loader.new.published ++ loader.new.held) ≤ loader.new.system.limit →
+        IsAllFed I.remaining G.STOPS B.about.limit (loader.new.published ++ loader.new.held)
+        sources.items fed.items) }
+    ensures system { loader.new.system ≡ loader.old.system }
 {
     let files = feeders.len();
     let mut threads = Vec::with_capacity(rt.alloc(), files)?;
@@ -271,8 +295,7 @@ fn feed_in<
     settle_all(loader, ends, &mut fed)?;
     load_rest(rt, loader, &fed)?;
     check_all(&fed, G::STOPS)?;
-    let told = publish_rest(rt, loader)?;
-    Ok((fed, told))
+    Ok(fed)
 }
 
 /// Loads beside the feeders if all of them were started. Otherwise it tells those whose rings are full to stop.

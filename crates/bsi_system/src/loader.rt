@@ -3,7 +3,7 @@
 //! Rows that stand first are held while they are in the ring, and taken out only then: holding them may be refused memory,
 //! and rows that come back could not go to the front of the ring again.
 
-ghost use Rattle.std.specs.Prelude.{◌≡◌, ◌≢◌, ◌+◌, ◌≤◌, IfErr, IfOk, IfSome, OnErr, OnOk, length};
+ghost use Rattle.std.specs.Prelude.{◌≡◌, ◌≢◌, ◌+◌, ◌≤◌, ◌++◌, IfErr, IfOk, IfSome, OnErr, OnOk, length};
 ghost use Rattle.bsi_system.specs.Running.{published_all, seen, settled_as, told, AlwaysHolds, IsBatchLoadReply, IsClosingOf, IsLoaderReply, IsSeenWhere, LoadsMany, LoadsOne, Looks};
 
 use crate::NoMemory;
@@ -11,6 +11,7 @@ use crate::channels::{SettleRefused, find_first, settle_of, take_of};
 use crate::holding::{hold_first, hold_next};
 use bsi_load::LoadRefused;
 use bsi_rings::{Channel, Closing};
+use bsi_table::Index;
 use bsi_versions::{Analyst, Naming, Publisher, Told};
 use std::marker::Model;
 use std::sync::Wait;
@@ -125,6 +126,31 @@ impl<B: Naming> Loader<B> {
         ensures { IfOk result (λ analyst. analyst ≡ self.now.published) }
     {
         self.publisher.analyst()
+    }
+
+    /// Ends the loader, and hands over the table of all rows that were taken: those that are published, and then those
+    /// that are held. It drops the rows that are still in a ring. It waits for analysts that read, and an analyst that
+    /// asks later is answered `Gone`. A loader that has published nothing copies no batch for it. If memory is refused,
+    /// the loader comes back.
+    pub fn into_table<R: Wait>(self, rt: &R) -> Result<Index, Loader<B>>
+        ensures rows { IfOk result (λ table. table.rows ≡ self.published ++ self.held) }
+        ensures schema { IfOk result (λ table. table.schema ≡ self.system.schema) }
+        ensures limit { IfOk result (λ table. table.limit ≡ self.system.limit) }
+        ensures within { IfOk result (λ table. length table.rows ≤ table.limit) }
+        ensures err { IfErr result (λ loader. loader ≡ self) }
+        ensures always { AlwaysHolds self }
+    {
+        let Loader {
+            channels,
+            publisher,
+        } = self;
+        match publisher.into_table(rt) {
+            Ok(table) => Ok(table),
+            Err(publisher) => Err(Loader {
+                channels,
+                publisher,
+            }),
+        }
     }
 
     /// Ends the loader. It drops the rows that are held or still in a ring. It has no `ensures`, because nothing is

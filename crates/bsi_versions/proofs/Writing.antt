@@ -4,10 +4,9 @@ use Rattle.std.specs.Prelude.{fold, ◌⊎◌, OnErr, Result, Ok, Err}
 use Rattle.std.proofs.lemmas.List.{append-nil}
 use mathlib.Core.List.{IsPrefix}
 use Rattle.logbook.specs.Pages.{Book}
-use Rattle.bsi_table.specs.RowBlocks.{RowBlock}
 use Rattle.bsi_table.specs.Table.{with_rows, Table}
 use Rattle.bsi_versions.specs.Pages.{with_list, Edition, Known, Rows}
-use Rattle.bsi_versions.specs.Editions.{after, published_all, rows_of, written, HasStaged, IsFor, IsMarked, IsWriting, Stands, Written}
+use Rattle.bsi_versions.specs.Editions.{after, published_all, rows_of, written, HasStaged, IsMarked, IsStageOf, IsWriting, Stands, Written}
 use Rattle.bsi_versions.specs.declared.operation.Operation.{Operation}
 use Rattle.bsi_versions.specs.declared.operation.Operation.TheVariants.{Rows as rows_operation, Batch, Mark}
 use Rattle.bsi_versions.proofs.Growing.{prefix_self, prefix_trans, prefix_whole}
@@ -202,8 +201,8 @@ module _ (book : Book) (shown : Edition) (pending : List Operation) (n : ℕ) (i
 -- all that the writing end keeps to, where rows of the stage may have become pending
 pub staged_kept : (book : Book) (about : Table) (shown : Edition) (pending : List Operation) (stage : Rows) (history : Known) (free marked : ℕ)
     → IsWriting book about shown pending stage history free → IsMarked book shown pending marked
-    → (next : Edition) (more : List Operation) (left : RowBlock) → next ≡ shown → HasStaged pending stage more left.rows → IsFor next.table left
-    → IsWriting book about next more left.rows history free × IsFor next.table left × IsMarked book next more marked
+    → (next : Edition) (more : List Operation) (left : Table) → next ≡ shown → HasStaged pending stage more left.rows → IsStageOf next.table left
+    → IsWriting book about next more left.rows history free × IsStageOf next.table left × IsMarked book next more marked
 staged_kept book about shown pending stage history free marked writing is next more left same staged kind = (
   staged_shown book about shown pending stage history free writing next more left.rows same staged,
   kind,

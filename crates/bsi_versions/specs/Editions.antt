@@ -42,14 +42,14 @@ rows_of (rows_operation block ∷ pending) = block.rows ++ rows_of pending
 rows_of (Batch batch ∷ pending) = batch.rows ++ rows_of pending
 rows_of (Mark known ∷ pending) = rows_of pending
 
--- rows of a block, or of the stage, that this table takes
+-- rows of a block that this table takes
 pub record IsFor (table : Table) (block : RowBlock) : Type 0 where
   pub schema : block.schema ≡ table.schema
   pub feeders : block.feeders ≡ table.feeders
 
--- these rows stand last in the stage
-abbrev pub with_staged_rows : RowBlock → Rows → RowBlock
-with_staged_rows stage rows = record stage { rows = stage.rows ++ rows }
+-- but for their rows, the stage is the same table
+abbrev pub IsStageOf : Table → Table → Type 0
+IsStageOf table stage = emptied stage ≡ emptied table
 
 -- what contracts see of the writing end: the table that is published, and the rows that are held, in the order taken
 pub record Written : Type 0 where

@@ -71,6 +71,7 @@ pub(crate) fn append_batch<B: Naming>(
         (pending copies.new) batch.new.rows }
     ensures schema { batch.new.schema ≡ batch.old.schema }
     ensures feeders { batch.new.feeders ≡ batch.old.feeders }
+    ensures limit { batch.new.limit ≡ batch.old.limit }
     ensures ok { OnOk result (batch.new.rows ≡ []) }
 {
     let next = batch.new_like()?;

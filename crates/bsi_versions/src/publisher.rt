@@ -4,10 +4,10 @@
 //! that is tried again, or has nothing to show, adds no mark. Held rows go into the stage, and become an operation once
 //! there are some thousand, or at a publish. A stage in each copy would be part of what is shown.
 
-ghost use Rattle.std.specs.Prelude.{◌≡◌, ◌+◌, ◌<◌, ◌≤◌, [], IfOk, IsTrue, OnErr, OnOk, length, ◌↔◌};
+ghost use Rattle.std.specs.Prelude.{◌≡◌, ◌+◌, ◌<◌, ◌≤◌, [], IfErr, IfOk, IsTrue, OnErr, OnOk, length, ◌↔◌};
 ghost use Rattle.bsi_table.specs.Columns.{fits};
 ghost use Rattle.bsi_table.specs.RowBlocks.{entries_of};
-ghost use Rattle.bsi_table.specs.Table.{AreKeptAlike};
+ghost use Rattle.bsi_table.specs.Table.{with_rows, AreKeptAlike};
 ghost use Rattle.bsi_versions.specs.Editions.{max_analysts, published_all, with_held, with_held_rows};
 
 use crate::copies::{Copies, mark_all, show};
@@ -34,7 +34,7 @@ pub struct Publisher<B: Naming> {
 
 // Clauses see the table that is published, and the rows that are held.
 impl<B: Naming> Model for Publisher<B> {
-    ghost use Rattle.bsi_versions.specs.Editions.{pending, written, IsFor, IsMarked, IsWriting, Written};
+    ghost use Rattle.bsi_versions.specs.Editions.{pending, written, IsMarked, IsStageOf, IsWriting, Written};
 
     ghost Value = { Written };
 
@@ -42,7 +42,7 @@ impl<B: Naming> Model for Publisher<B> {
 
     ghost invariant = { λ p. IsWriting B.book B.about p.copies.desk.shown.value (pending p.copies)
         p.stage.rows p.history p.free
-        × IsFor p.copies.desk.shown.value.table p.stage
+        × IsStageOf p.copies.desk.shown.value.table p.stage
         × IsMarked B.book p.copies.desk.shown.value (pending p.copies) p.marked };
 }
 
@@ -109,7 +109,7 @@ impl<B: Naming> Publisher<B> {
         ensures ok { OnOk result (self.new ≡ with_held self.old feeder row.now) }
         ensures err { OnErr result (self.new ≡ self.old) }
     {
-        self.stage.make_place(&mut self.copies, 1)?;
+        self.stage.make_place(&mut self.copies)?;
         self.stage.push(feeder, row)?;
         self.free -= 1;
         Ok(())
@@ -126,10 +126,8 @@ impl<B: Naming> Publisher<B> {
             ≡ with_held_rows self.old feeder (entries_of batch.now.rows)) }
         ensures err { OnErr result (self.new ≡ self.old) }
     {
-        let more = batch.len();
-        self.stage.make_place(&mut self.copies, more)?;
         self.stage.push_batch(feeder, batch)?;
-        self.free -= more;
+        self.free -= batch.len();
         Ok(())
     }
 
@@ -164,9 +162,48 @@ impl<B: Naming> Publisher<B> {
         Ok(Analyst::new(reader, self.copies.published().known().again()))
     }
 
-    /// Ends the writing end. It drops the held rows, and waits for analysts that read. It has no `ensures`, because
-    /// nothing is left of which a clause could speak.
-    pub fn end<R: Wait>(self, rt: &R) {
+    /// Ends the writing end, and hands over the table with all its rows: those that are published, and then those that are
+    /// held. It waits for analysts that read, and an analyst that asks later is answered `Gone`. It copies no row where none
+    /// is published and none came singly since the last thousands. If memory is refused, the writing end comes back.
+    pub fn into_table<R: Wait>(self, rt: &R) -> Result<Index, Publisher<B>>
+        ensures ok { IfOk result (λ table. table ≡ with_rows self.table self.held) }
+        ensures within { IfOk result (λ table. length table.rows ≤ table.limit) }
+        ensures err { IfErr result (λ publisher. publisher ≡ self) }
+    {
+        let (published, held) = self.counts();
+        let mut publisher = self;
+        if !publisher.stage.has_len(published + held) {
+            return match publisher.publish(rt) {
+                Ok(_) => Ok(publisher.into_published(rt)),
+                Err(_) => Err(publisher),
+            };
+        }
+        let Publisher {
+            copies,
+            history,
+            stage,
+            free,
+            marked,
+        } = publisher;
+        match stage.into_table() {
+            Ok(table) => {
+                copies.take(rt);
+                Ok(table)
+            }
+            Err(stage) => Err(Publisher {
+                copies,
+                history,
+                stage,
+                free,
+                marked,
+            }),
+        }
+    }
+
+    /// Ends the writing end, and hands over the table that is published. It drops the held rows.
+    fn into_published<R: Wait>(self, rt: &R) -> Index
+        ensures { result ≡ self.table }
+    {
         let Publisher {
             copies,
             history: _history,
@@ -174,6 +211,12 @@ impl<B: Naming> Publisher<B> {
             free: _,
             marked: _,
         } = self;
-        copies.take(rt);
+        Box::into_inner(copies.take(rt)).into_index()
+    }
+
+    /// Ends the writing end. It drops the held rows, and waits for analysts that read. It has no `ensures`, because
+    /// nothing is left of which a clause could speak.
+    pub fn end<R: Wait>(self, rt: &R) {
+        self.into_published(rt);
     }
 }

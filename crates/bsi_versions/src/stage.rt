@@ -1,21 +1,22 @@
 //! The stage: the held rows that are no pending operation yet.
 //!
-//! A row goes into a block of 64. A full block goes into the batch, a small index of some 8,192 rows, which takes batches
-//! of feeders by words and has more only where one of these alone does. Each copy of the table then takes it by words too, bitmap after bitmap, where a block touches each
-//! long bitmap for one word alone. One of 8,192 rows and some hundred bitmaps fits a processor's second cache.
+//! A row goes into a block of 64, and a full block into the batch, which is an index. A block touches each bitmap for one
+//! word alone, so a batch that blocks go into has some 8,192 rows: with some hundred bitmaps it fits a processor's second
+//! cache. A feeder's batch is copied by words, and goes into a batch of any length. Each copy of the table takes the batch
+//! by words too, bitmap after bitmap, and so does nobody where all rows stand in it when the table is handed over.
 
-ghost use Rattle.std.specs.Prelude.{◌≡◌, ◌<◌, ◌++◌, [], IfOk, IsTrue, OnErr, OnOk};
+ghost use Rattle.std.specs.Prelude.{◌≡◌, ◌<◌, ◌++◌, [], IfErr, IfOk, IsTrue, OnErr, OnOk, length, ◌↔◌};
 ghost use Rattle.bsi_table.specs.Columns.{fits};
-ghost use Rattle.bsi_table.specs.RowBlocks.{emptied_block, entries_of, fed_as, no_block_rows, with_block_row};
-ghost use Rattle.bsi_table.specs.Table.{with_rows, AreKeptAlike};
-ghost use Rattle.bsi_versions.specs.Editions.{pending, with_staged_rows, HasStaged, IsFor};
+ghost use Rattle.bsi_table.specs.RowBlocks.{emptied_block, entries_of, fed_as};
+ghost use Rattle.bsi_table.specs.Table.{with_row, with_rows, AreKeptAlike};
+ghost use Rattle.bsi_versions.specs.Editions.{emptied, pending, HasStaged, IsFor, IsStageOf};
 
 use crate::copies::{Copies, append_batch, append_block};
 use crate::{Naming, NoMemory};
 use bsi_table::{Block, Index, MAX_BLOCK_ROWS, Row};
 use std::marker::Model;
 
-/// A batch goes to the pending operations before it has more rows.
+/// A batch goes to the pending operations before a row makes it longer than this.
 const MAX_STAGED_ROWS: u64 = 8_192;
 
 /// The held rows that are no pending operation yet: those of a batch, and behind them those of a block.
@@ -25,19 +26,14 @@ pub(crate) struct Stage {
     block: Block,
 }
 
-// Clauses see the schema and the number of feeders of the table, and the rows.
+// Clauses see the table of these rows.
 impl Model for Stage {
-    ghost use Rattle.std.specs.Prelude.{◌++◌};
-    ghost use Rattle.bsi_table.specs.RowBlocks.{RowBlock};
+    ghost use Rattle.bsi_table.specs.Table.{with_rows, Table};
     ghost use Rattle.bsi_versions.specs.Editions.{IsFor};
 
-    ghost Value = { RowBlock };
+    ghost Value = { Table };
 
-    ghost view = { λ s. record {
-      schema = s.batch.schema;
-      feeders = s.batch.feeders;
-      rows = s.batch.rows ++ s.block.rows;
-    } };
+    ghost view = { λ s. with_rows s.batch s.block.rows };
 
     ghost invariant = { λ s. IsFor s.batch s.block };
 }
@@ -45,8 +41,7 @@ impl Model for Stage {
 impl Stage {
     /// Makes a stage of no rows yet, for rows that a table takes.
     pub(crate) fn new(table: &Index) -> Result<Stage, NoMemory>
-        ensures { IfOk result (λ stage. stage
-            ≡ no_block_rows table.now.schema table.now.feeders) }
+        ensures { IfOk result (λ stage. stage ≡ emptied table.now) }
     {
         Ok(Stage {
             batch: table.new_like()?,
@@ -58,7 +53,7 @@ impl Stage {
     pub(crate) fn push(&mut self, feeder: u32, row: &Row) -> Result<(), NoMemory>
         requires fits { IsTrue (fits self.old.schema.columns row.now) }
         requires feeder { feeder < self.old.feeders }
-        ensures ok { OnOk result (self.new ≡ with_block_row self.old feeder row.now) }
+        ensures ok { OnOk result (self.new ≡ with_row self.old feeder row.now) }
         ensures err { OnErr result (self.new ≡ self.old) }
     {
         if self.block.len() == MAX_BLOCK_ROWS {
@@ -74,7 +69,7 @@ impl Stage {
         requires alike { AreKeptAlike self.old.schema other.now.schema }
         requires feeder { feeder < self.old.feeders }
         ensures ok { OnOk result (self.new
-            ≡ with_staged_rows self.old (fed_as feeder (entries_of other.now.rows))) }
+            ≡ with_rows self.old (fed_as feeder (entries_of other.now.rows))) }
         ensures err { OnErr result (self.new ≡ self.old) }
     {
         gather(&mut self.batch, &mut self.block)?;
@@ -85,20 +80,16 @@ impl Stage {
         Ok(())
     }
 
-    /// Appends the batch to the pending operations, if so many more rows make it too large.
-    pub(crate) fn make_place<B: Naming>(
-        &mut self,
-        copies: &mut Copies<B>,
-        more: u64,
-    ) -> Result<(), NoMemory>
-        requires kind { IsFor copies.old.desk.shown.value.table self.old }
+    /// Appends the batch to the pending operations, if a row more may make it too long.
+    pub(crate) fn make_place<B: Naming>(&mut self, copies: &mut Copies<B>) -> Result<(), NoMemory>
+        requires kind { IsStageOf copies.old.desk.shown.value.table self.old }
         ensures desk { copies.new.desk ≡ copies.old.desk }
         ensures staged { HasStaged (pending copies.old) self.old.rows
             (pending copies.new) self.new.rows }
-        ensures kind { IsFor copies.new.desk.shown.value.table self.new }
+        ensures kind { IsStageOf copies.new.desk.shown.value.table self.new }
     {
-        let wanted = more.saturating_add(self.block.len() as u64);
-        if self.batch.is_empty() || self.batch.len() <= MAX_STAGED_ROWS.saturating_sub(wanted) {
+        let longest = MAX_STAGED_ROWS - MAX_BLOCK_ROWS as u64;
+        if self.batch.len() <= longest {
             return Ok(());
         }
         append_batch(copies, &mut self.batch)
@@ -106,11 +97,11 @@ impl Stage {
 
     /// Appends all rows to the pending operations: those of the block with the batch, or alone where the batch is empty.
     pub(crate) fn empty<B: Naming>(&mut self, copies: &mut Copies<B>) -> Result<(), NoMemory>
-        requires kind { IsFor copies.old.desk.shown.value.table self.old }
+        requires kind { IsStageOf copies.old.desk.shown.value.table self.old }
         ensures desk { copies.new.desk ≡ copies.old.desk }
         ensures staged { HasStaged (pending copies.old) self.old.rows
             (pending copies.new) self.new.rows }
-        ensures kind { IsFor copies.new.desk.shown.value.table self.new }
+        ensures kind { IsStageOf copies.new.desk.shown.value.table self.new }
         ensures ok { OnOk result (self.new.rows ≡ []) }
     {
         if self.batch.is_empty() {
@@ -118,6 +109,28 @@ impl Stage {
         }
         gather(&mut self.batch, &mut self.block)?;
         append_batch(copies, &mut self.batch)
+    }
+
+    /// Returns whether it has so many rows.
+    pub(crate) fn has_len(&self, rows: u64) -> bool
+        ensures { IsTrue result ↔ (length self.now.rows ≡ rows) }
+    {
+        rows.checked_sub(self.batch.len()) == Some(self.block.len() as u64)
+    }
+
+    /// Hands over the table of these rows. If memory is refused, the stage comes back.
+    pub(crate) fn into_table(self) -> Result<Index, Stage>
+        ensures ok { IfOk result (λ table. table ≡ self) }
+        ensures err { IfErr result (λ stage. stage ≡ self) }
+    {
+        let Stage {
+            mut batch,
+            mut block,
+        } = self;
+        match gather(&mut batch, &mut block) {
+            Ok(()) => Ok(batch),
+            Err(_) => Err(Stage { batch, block }),
+        }
     }
 }
 

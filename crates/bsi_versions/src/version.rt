@@ -49,6 +49,13 @@ impl Version {
         &self.index
     }
 
+    /// Hands over the index.
+    pub(crate) fn into_index(self) -> Index
+        ensures { result ≡ self.table }
+    {
+        self.index
+    }
+
     /// Lends what is known of the history.
     pub(crate) fn known(&self) -> &Reached
         ensures { result.now ≡ self.now.known }

@@ -13,39 +13,39 @@ use Rattle.bsi_files.proofs.asks.answer_all.Goals as goal
 -- lines of the feeders alone were written
 pub returns-in_err-tell_all-clause-part : goal.returns-in_err-tell_all-clause-part
 returns-in_err-tell_all-clause-part g c =
-    let schema = g.B.Naming.about.schema in
+    let schema = c.args.table.now.schema in
     let counts = map fed_counts c.args.fed.now in
     let before = g.W.Write.contents c.args.writer.now in
     let after = g.W.Write.contents c.tell_all.new.writer in
     let short : IfErr c.from_residual.result (λ fault. fault ≢ TooLong AsksFile) = search rules in
     let out : IfErr c.from_residual.result (λ fault. AreOut fault (fed_lines 0 counts) before after) = search rules in
     if_err_both c.from_residual.result
-    (λ fault never went. if_some (λ bytes. WritesPart (AreLines schema c.args.told.now counts) bytes fault before after) (g.A.Read.remaining c.args.asks)
-    (λ bytes. head_part schema c.args.told.now counts bytes before after fault never went)) short out
+    (λ fault never went. if_some (λ bytes. WritesPart (AreLines schema c.args.table.now.rows counts) bytes fault before after) (g.A.Read.remaining c.args.asks)
+    (λ bytes. head_part schema c.args.table.now.rows counts bytes before after fault never went)) short out
 
 -- all of them were, and then the answers
 pub returns-clause-ok : goal.returns-clause-ok
 returns-clause-ok g c =
-    let schema = g.B.Naming.about.schema in
+    let schema = c.args.table.now.schema in
     let counts = map fed_counts c.args.fed.now in
     let before = g.W.Write.contents c.args.writer.now in
     let middle = g.W.Write.contents c.tell_all.new.writer in
     let after = g.W.Write.contents c.answer_records.new.writer in
     on_ok c.answer_records.result
     (λ from. from_known (g.A.Read.remaining c.args.asks) (source_of g.A.Read.remaining c.new-records.result.input)
-    (λ bytes. WritesAll (AreLines schema c.args.told.now counts) bytes before after) c.new-records.ensures.source
-    (λ bytes left. headed_all schema c.args.told.now counts bytes before middle after c.in_ok-tell_all.ensures.ok (from bytes left)))
+    (λ bytes. WritesAll (AreLines schema c.args.table.now.rows counts) bytes before after) c.new-records.ensures.source
+    (λ bytes left. headed_all schema c.args.table.now.rows counts bytes before middle after c.in_ok-tell_all.ensures.ok (from bytes left)))
     c.answer_records.ensures.ok
 
 pub returns-clause-part : goal.returns-clause-part
 returns-clause-part g c =
-    let schema = g.B.Naming.about.schema in
+    let schema = c.args.table.now.schema in
     let counts = map fed_counts c.args.fed.now in
     let before = g.W.Write.contents c.args.writer.now in
     let middle = g.W.Write.contents c.tell_all.new.writer in
     let after = g.W.Write.contents c.answer_records.new.writer in
     if_err c.answer_records.result
     (λ fault from. from_known (g.A.Read.remaining c.args.asks) (source_of g.A.Read.remaining c.new-records.result.input)
-    (λ bytes. WritesPart (AreLines schema c.args.told.now counts) bytes fault before after) c.new-records.ensures.source
-    (λ bytes left. headed_part schema c.args.told.now counts bytes before middle after fault c.in_ok-tell_all.ensures.ok (from bytes left)))
+    (λ bytes. WritesPart (AreLines schema c.args.table.now.rows counts) bytes fault before after) c.new-records.ensures.source
+    (λ bytes left. headed_part schema c.args.table.now.rows counts bytes before middle after fault c.in_ok-tell_all.ensures.ok (from bytes left)))
     c.answer_records.ensures.part

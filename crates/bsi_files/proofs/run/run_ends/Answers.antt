@@ -1,10 +1,12 @@
-use Rattle.std.proofs.Common.{◌≡◌, ◌≤◌, List, length, refl, rules, subst, sym}
-use Rattle.bsi_files.specs.Feds.{IsAllFed}
+use Rattle.std.proofs.Common.{◌≡◌, ◌≤◌, ◌∙◌, IfSome, List, length, refl, rules, subst, sym}
+use Rattle.bsi_files.specs.Feds.{HasRun, IsAllFed}
+use Rattle.bsi_files.specs.Writing.{Leaves, WritesAll}
 use Rattle.bsi_files.specs.declared.loading.Fed.{Fed}
 use Rattle.bsi_files.proofs.Asking.{all_follows, leaves_late, part_follows}
 use Rattle.bsi_files.proofs.Files.{few_fed, late_counted, late_quiet, run_lines}
 use Rattle.bsi_files.proofs.Passing.{if_err, if_err_both, if_some, if_some_follows, on_ok}
-use Rattle.std.specs.Prelude.{IfErr}
+use Rattle.std.specs.Prelude.{IfErr, OnOk}
+use Rattle.bsi_table.specs.Columns.{Declared}
 use Rattle.bsi_files.specs.RunFaults.{IsLoadFault}
 use Rattle.bsi_files.proofs.Failing.{late_run, leaves_loaded, load_counted, load_run}
 use Rattle.bsi_files.proofs.run.run_ends.Goals as goal
@@ -12,7 +14,7 @@ use Rattle.bsi_files.proofs.run.run_ends.Goals as goal
 pub answer_all-requires-clause-few : goal.answer_all-requires-clause-few
 answer_all-requires-clause-few g c =
     subst (λ (feds : List Fed). length feds ≤ 64) (sym c.deref.ensures.value)
-    (few_fed g.I.Read.remaining g.G.Stopping.STOPS g.B.Naming.about.limit c.in_ok-fed.told c.args.run.sources.items c.in_ok-fed.fed.items c.in_ok-fed.ensures.fed c.requires.ready.few)
+    (few_fed g.I.Read.remaining g.G.Stopping.STOPS g.B.Naming.about.limit c.in_ok-fed.table.rows c.args.run.sources.items c.in_ok-fed.fed.items c.in_ok-fed.ensures.fed c.requires.ready.few)
 
 -- rows were not all loaded
 pub returns-in_err-fed-clause-counted : goal.returns-in_err-fed-clause-counted
@@ -46,32 +48,34 @@ pub returns-clause-lines : goal.returns-clause-lines
 returns-clause-lines g c =
     let rem = g.I.Read.remaining in
     let stops = g.G.Stopping.STOPS in
-    let schema = g.B.Naming.about.schema in
+    let table = c.in_ok-fed.table in
     let limit = g.B.Naming.about.limit in
-    let told = c.in_ok-fed.told in
     let sources = c.args.run.sources.items in
     let feds = c.deref.result.now in
-    let fed : IsAllFed rem stops limit told sources feds = subst (λ (xs : List Fed). IsAllFed rem stops limit told sources xs) (sym c.deref.ensures.value) c.in_ok-fed.ensures.fed in
+    let fed : IsAllFed rem stops limit table.rows sources feds = subst (λ (xs : List Fed). IsAllFed rem stops limit table.rows sources xs) (sym c.deref.ensures.value) c.in_ok-fed.ensures.fed in
     let before = g.W.Write.contents c.args.writer.now in
     let after = g.W.Write.contents c.answer_all.new.writer in
-    on_ok c.answer_all.result
+    subst (λ (schema : Declared). OnOk c.answer_all.result (IfSome (g.A.Read.remaining c.args.run.asks) (λ asked. WritesAll (HasRun rem stops schema limit sources) asked before after)))
+    (c.in_ok-fed.ensures.schema ∙ c.requires.schema)
+    (on_ok c.answer_all.result
     (λ some. if_some_follows (g.A.Read.remaining c.args.run.asks) some
-    (λ asked all. all_follows (run_lines rem stops schema limit sources told feds fed) asked before after all))
-    c.answer_all.ensures.ok
+    (λ asked all. all_follows (run_lines rem stops table.schema limit sources table.rows feds fed) asked before after all))
+    c.answer_all.ensures.ok)
 
 pub returns-clause-part : goal.returns-clause-part
 returns-clause-part g c =
     let rem = g.I.Read.remaining in
     let stops = g.G.Stopping.STOPS in
-    let schema = g.B.Naming.about.schema in
+    let table = c.in_ok-fed.table in
     let limit = g.B.Naming.about.limit in
-    let told = c.in_ok-fed.told in
     let sources = c.args.run.sources.items in
     let feds = c.deref.result.now in
-    let fed : IsAllFed rem stops limit told sources feds = subst (λ (xs : List Fed). IsAllFed rem stops limit told sources xs) (sym c.deref.ensures.value) c.in_ok-fed.ensures.fed in
+    let fed : IsAllFed rem stops limit table.rows sources feds = subst (λ (xs : List Fed). IsAllFed rem stops limit table.rows sources xs) (sym c.deref.ensures.value) c.in_ok-fed.ensures.fed in
     let before = g.W.Write.contents c.args.writer.now in
     let after = g.W.Write.contents c.answer_all.new.writer in
-    if_err_both c.answer_all.result
+    subst (λ (schema : Declared). IfErr c.answer_all.result (λ fault. IfSome (g.A.Read.remaining c.args.run.asks) (λ asked. Leaves (HasRun rem stops schema limit sources) asked fault before after)))
+    (c.in_ok-fed.ensures.schema ∙ c.requires.schema)
+    (if_err_both c.answer_all.result
     (λ fault late some. if_some_follows (g.A.Read.remaining c.args.run.asks) some
-    (λ asked part. leaves_late _ asked fault before after late (part_follows (run_lines rem stops schema limit sources told feds fed) asked fault before after part)))
-    c.answer_all.ensures.late c.answer_all.ensures.part
+    (λ asked part. leaves_late _ asked fault before after late (part_follows (run_lines rem stops table.schema limit sources table.rows feds fed) asked fault before after part)))
+    c.answer_all.ensures.late c.answer_all.ensures.part)

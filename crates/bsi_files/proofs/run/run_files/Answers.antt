@@ -27,20 +27,17 @@ returns-clause-lines g c =
     let rem = g.I.Read.remaining in
     let stops = g.G.Stopping.STOPS in
     let schema = c.in_ok-schema.schema in
-    let columns = c.in_ok-columns.columns in
     let limit = c.in_ok-schema.limit in
     let readers = c.args.sources.items in
     let sources = c.in_ok-sources.sources.items in
     let before = g.W.Write.contents c.args.writer.now in
     let after = g.W.Write.contents c.run_in.new.writer in
-    let begin : AreMatched (Begins rem columns) readers sources =
-    subst (λ (s : Declared). AreMatched (Begins rem s) readers sources) (sym c.in_ok-columns.ensures) c.in_ok-sources.ensures.begun in
+    let begin = c.in_ok-sources.ensures.begun in
     on_ok c.run_in.result
     (λ lines never declared texts asked s i a.
     (let declares : IsSchemaFile declared schema limit = subst (λ (o : Option (List ℕ)). IfSome o (λ bytes. IsSchemaFile bytes schema limit)) s c.in_ok-schema.ensures.declared in
-    let schema_is : IsSchemaFile declared columns limit = subst (λ (d : Declared). IsSchemaFile declared d limit) (sym c.in_ok-columns.ensures) declares in
-    all_follows (run_of_bytes rem (is_whole rem) stops never columns limit readers sources declared texts schema_is begin i) asked before after
-    (subst (λ (o : Option (List ℕ)). IfSome o (λ bytes. WritesAll (HasRun rem stops columns limit sources) bytes before after)) a lines)))
+    all_follows (run_of_bytes rem (is_whole rem) stops never schema limit readers sources declared texts declares begin i) asked before after
+    (subst (λ (o : Option (List ℕ)). IfSome o (λ bytes. WritesAll (HasRun rem stops schema limit sources) bytes before after)) a lines)))
     c.run_in.ensures.lines
 
 pub returns-clause-part : goal.returns-clause-part
@@ -48,20 +45,17 @@ returns-clause-part g c =
     let rem = g.I.Read.remaining in
     let stops = g.G.Stopping.STOPS in
     let schema = c.in_ok-schema.schema in
-    let columns = c.in_ok-columns.columns in
     let limit = c.in_ok-schema.limit in
     let readers = c.args.sources.items in
     let sources = c.in_ok-sources.sources.items in
     let before = g.W.Write.contents c.args.writer.now in
     let after = g.W.Write.contents c.run_in.new.writer in
-    let begin : AreMatched (Begins rem columns) readers sources =
-    subst (λ (s : Declared). AreMatched (Begins rem s) readers sources) (sym c.in_ok-columns.ensures) c.in_ok-sources.ensures.begun in
+    let begin = c.in_ok-sources.ensures.begun in
     if_err c.run_in.result
     (λ fault leaves never declared texts asked s i a.
     (let declares : IsSchemaFile declared schema limit = subst (λ (o : Option (List ℕ)). IfSome o (λ bytes. IsSchemaFile bytes schema limit)) s c.in_ok-schema.ensures.declared in
-    let schema_is : IsSchemaFile declared columns limit = subst (λ (d : Declared). IsSchemaFile declared d limit) (sym c.in_ok-columns.ensures) declares in
-    leaves_follows (run_of_bytes rem (is_whole rem) stops never columns limit readers sources declared texts schema_is begin i) asked fault before after
-    (subst (λ (o : Option (List ℕ)). IfSome o (λ bytes. Leaves (HasRun rem stops columns limit sources) bytes fault before after)) a leaves)))
+    leaves_follows (run_of_bytes rem (is_whole rem) stops never schema limit readers sources declared texts declares begin i) asked fault before after
+    (subst (λ (o : Option (List ℕ)). IfSome o (λ bytes. Leaves (HasRun rem stops schema limit sources) bytes fault before after)) a leaves)))
     c.run_in.ensures.part
 
 -- ---- faults
@@ -89,22 +83,14 @@ returns-in_err-capacities-clause-fault g c =
     let refused : IfErr c.from_residual-in_err-capacities.result (λ fault. fault ≡ NoMemory) = search rules in
     if_err c.from_residual-in_err-capacities.result (λ fault is declared texts s i. subst (λ f. IsFaultOf g.G.Stopping.STOPS declared texts f) (sym is) tt) refused
 
-pub returns-in_err-columns-clause-fault : goal.returns-in_err-columns-clause-fault
-returns-in_err-columns-clause-fault g c =
-    let refused : IfErr c.from_residual-in_err-columns.result (λ fault. fault ≡ NoMemory) = search rules in
-    if_err c.from_residual-in_err-columns.result (λ fault is declared texts s i. subst (λ f. IsFaultOf g.G.Stopping.STOPS declared texts f) (sym is) tt) refused
-
 pub returns-clause-fault : goal.returns-clause-fault
 returns-clause-fault g c =
     let rem = g.I.Read.remaining in
     let schema = c.in_ok-schema.schema in
-    let columns = c.in_ok-columns.columns in
     let limit = c.in_ok-schema.limit in
     let readers = c.args.sources.items in
     let sources = c.in_ok-sources.sources.items in
-    let begin : AreMatched (Begins rem columns) readers sources =
-    subst (λ (s : Declared). AreMatched (Begins rem s) readers sources) (sym c.in_ok-columns.ensures) c.in_ok-sources.ensures.begun in
+    let begin = c.in_ok-sources.ensures.begun in
     if_err c.run_in.result (λ fault met declared texts s i.
     (let declares : IsSchemaFile declared schema limit = subst (λ (o : Option (List ℕ)). IfSome o (λ bytes. IsSchemaFile bytes schema limit)) s c.in_ok-schema.ensures.declared in
-    let schema_is : IsSchemaFile declared columns limit = subst (λ (d : Declared). IsSchemaFile declared d limit) (sym c.in_ok-columns.ensures) declares in
-    run_fault_of rem (is_whole rem) g.G.Stopping.STOPS declared columns limit readers sources texts schema_is begin i fault met)) c.run_in.ensures.fault
+    run_fault_of rem (is_whole rem) g.G.Stopping.STOPS declared schema limit readers sources texts declares begin i fault met)) c.run_in.ensures.fault

@@ -1,6 +1,6 @@
 use Rattle.std.proofs.Common.{◌+◌, ◌-◌, ◌≡◌, ◌∷◌, [], drop, length, ap, sym, ◌∙◌, subst, arith}
-use Rattle.bsi_table.specs.RowBlocks.{RowBlock}
-use Rattle.bsi_versions.specs.Editions.{rows_of, written, IsFor, IsMarked, IsWriting}
+use Rattle.bsi_table.specs.Table.{Table}
+use Rattle.bsi_versions.specs.Editions.{emptied, rows_of, written, IsStageOf, IsMarked, IsWriting}
 use Rattle.bsi_versions.specs.Pages.{Rows}
 use Rattle.bsi_versions.proofs.Writing.{free_places, held_view, held_writing, on_err, staged_kept, staged_marked, staged_view, staged_writing, with_more}
 use Rattle.bsi_versions.proofs.publisher.Publisher.hold.Goals as goal
@@ -30,7 +30,7 @@ invariant_of-self-in_err-push g c =
     let more = drop o.copies.behind o.copies.log.items in
     let kept = staged_kept g.B.Naming.book g.B.Naming.about p.copies.desk.shown.value (drop p.copies.behind p.copies.log.items) p.stage.rows p.history p.free p.marked
     c.self.invariant.0 c.self.invariant.2 next more o.self (ap (λ d. d.shown.value) c.make_place.ensures.desk) c.make_place.ensures.staged c.make_place.ensures.kind in
-    subst (λ (s : RowBlock). IsWriting g.B.Naming.book g.B.Naming.about next more s.rows p.history p.free × IsFor next.table s × IsMarked g.B.Naming.book next more p.marked)
+    subst (λ (s : Table). IsWriting g.B.Naming.book g.B.Naming.about next more s.rows p.history p.free × IsStageOf next.table s × IsMarked g.B.Naming.book next more p.marked)
     (sym c.in_err-push.ensures.err) kept
 
 pub returns-in_err-push-clause-err : goal.returns-in_err-push-clause-err
@@ -40,7 +40,7 @@ returns-in_err-push-clause-err g c =
     let next = o.copies.desk.shown.value in
     let more = drop o.copies.behind o.copies.log.items in
     on_err c.from_residual-in_err-push.result
-    (ap (λ (s : RowBlock). written next more s.rows) c.in_err-push.ensures.err
+    (ap (λ (s : Table). written next more s.rows) c.in_err-push.ensures.err
     ∙ staged_view p.copies.desk.shown.value (drop p.copies.behind p.copies.log.items) p.stage.rows next more o.self.rows
     (ap (λ d. d.shown.value) c.make_place.ensures.desk) c.make_place.ensures.staged ∙ c.self.view_is)
 
@@ -66,7 +66,7 @@ invariant_of-self-2 g c =
     let writing = staged_writing book about shown pending p.stage.rows p.history p.free c.self.invariant.0 more o.self.rows c.make_place.ensures.staged in (
       subst (λ e. IsWriting book about e more grown.rows p.history (p.free - 1)) (sym same)
           (held_writing book about shown more o.self.rows p.history p.free writing added grown.rows (p.free - 1) (ap (λ b. b.rows) grows) many),
-      record { schema = ap (λ b. b.schema) grows ∙ c.make_place.ensures.kind.schema; feeders = ap (λ b. b.feeders) grows ∙ c.make_place.ensures.kind.feeders },
+      ap emptied grows ∙ c.make_place.ensures.kind,
       subst (λ e. IsMarked book e more p.marked) (sym same)
           (staged_marked book shown pending p.marked c.self.invariant.2 more p.stage.rows o.self.rows c.make_place.ensures.staged),
     )

@@ -1,85 +1,34 @@
 use Rattle.std.proofs.Common.{◌+◌, ◌-◌, ◌≡◌, drop, length, ap, sym, ◌∙◌, subst, arith}
 use Rattle.std.proofs.lemmas.List.{length-map}
-use Rattle.bsi_table.specs.RowBlocks.{entries_of, fed_as, RowBlock}
-use Rattle.bsi_versions.specs.Editions.{rows_of, written, IsFor, IsMarked, IsWriting}
+use Rattle.bsi_table.specs.RowBlocks.{entries_of, fed_as}
+use Rattle.bsi_versions.specs.Editions.{emptied, rows_of, written}
 use Rattle.bsi_versions.specs.Pages.{Rows}
-use Rattle.bsi_versions.proofs.Writing.{free_places, held_view, held_writing, on_err, staged_kept, staged_marked, staged_view, staged_writing, with_more}
+use Rattle.bsi_versions.proofs.Writing.{free_places, held_view, held_writing, with_more}
 use Rattle.bsi_versions.proofs.publisher.Publisher.hold_batch.Goals as goal
 
--- the rows that are held stay, wherever they stand
-pub invariant_of-self : goal.invariant_of-self
-invariant_of-self g c =
-    let p = c.self.inside in
-    let o = c.make_place.new in
-    staged_kept g.B.Naming.book g.B.Naming.about p.copies.desk.shown.value (drop p.copies.behind p.copies.log.items) p.stage.rows p.history p.free p.marked
-    c.self.invariant.0 c.self.invariant.2 o.copies.desk.shown.value (drop o.copies.behind o.copies.log.items) o.self
-    (ap (λ d. d.shown.value) c.make_place.ensures.desk) c.make_place.ensures.staged c.make_place.ensures.kind
-
-pub returns-in_err-make_place-clause-err : goal.returns-in_err-make_place-clause-err
-returns-in_err-make_place-clause-err g c =
-    let p = c.self.inside in
-    let o = c.make_place.new in
-    on_err c.from_residual.result
-    (staged_view p.copies.desk.shown.value (drop p.copies.behind p.copies.log.items) p.stage.rows o.copies.desk.shown.value (drop o.copies.behind o.copies.log.items) o.self.rows
-    (ap (λ d. d.shown.value) c.make_place.ensures.desk) c.make_place.ensures.staged ∙ c.self.view_is)
-
-pub invariant_of-self-in_err-push_batch : goal.invariant_of-self-in_err-push_batch
-invariant_of-self-in_err-push_batch g c =
-    let p = c.self.inside in
-    let o = c.make_place.new in
-    let next = o.copies.desk.shown.value in
-    let more = drop o.copies.behind o.copies.log.items in
-    let kept = staged_kept g.B.Naming.book g.B.Naming.about p.copies.desk.shown.value (drop p.copies.behind p.copies.log.items) p.stage.rows p.history p.free p.marked
-    c.self.invariant.0 c.self.invariant.2 next more o.self (ap (λ d. d.shown.value) c.make_place.ensures.desk) c.make_place.ensures.staged c.make_place.ensures.kind in
-    subst (λ (s : RowBlock). IsWriting g.B.Naming.book g.B.Naming.about next more s.rows p.history p.free × IsFor next.table s × IsMarked g.B.Naming.book next more p.marked)
-    (sym c.in_err-push_batch.ensures.err) kept
-
-pub returns-in_err-push_batch-clause-err : goal.returns-in_err-push_batch-clause-err
-returns-in_err-push_batch-clause-err g c =
-    let p = c.self.inside in
-    let o = c.make_place.new in
-    let next = o.copies.desk.shown.value in
-    let more = drop o.copies.behind o.copies.log.items in
-    on_err c.from_residual-in_err-push_batch.result
-    (ap (λ (s : RowBlock). written next more s.rows) c.in_err-push_batch.ensures.err
-    ∙ staged_view p.copies.desk.shown.value (drop p.copies.behind p.copies.log.items) p.stage.rows next more o.self.rows
-    (ap (λ d. d.shown.value) c.make_place.ensures.desk) c.make_place.ensures.staged ∙ c.self.view_is)
-
--- and those behind them are held
+-- the rows of the batch are held, behind those that were
 pub invariant_of-self-2 : goal.invariant_of-self-2
 invariant_of-self-2 g c =
-    let book = g.B.Naming.book in
-    let about = g.B.Naming.about in
     let p = c.self.inside in
-    let o = c.make_place.new in
     let shown = p.copies.desk.shown.value in
     let pending = drop p.copies.behind p.copies.log.items in
-    let more = drop o.copies.behind o.copies.log.items in
-    let same = ap (λ d. d.shown.value) c.make_place.ensures.desk in
     let added : Rows = fed_as c.args.feeder (entries_of c.args.batch.now.rows) in
     let grown = c.push_batch.new.self in
     let grows = c.in_ok-push_batch.ensures.ok in
     let rows = ap (λ w. length w.table.rows) c.self.view_is in
     let held = ap (λ w. length w.held) c.self.view_is in
     let limit = ap (λ w. w.table.limit) c.self.view_is in
-    let free = free_places shown.table.rows (rows_of pending) p.stage.rows shown.table.limit p.free _ _ _ c.len-more.result rows held limit c.self.invariant.0.places (omega (arith, c.requires.room, c.len-more.ensures.len)) in
-    let many : (p.free - c.len-more.result) + length added ≡ p.free = ap (λ n. (p.free - c.len-more.result) + n) (length-map (entries_of c.args.batch.now.rows) _ ∙ length-map c.args.batch.now.rows _ ∙ sym c.len-more.ensures.len) ∙ free in
-    let writing = staged_writing book about shown pending p.stage.rows p.history p.free c.self.invariant.0 more o.self.rows c.make_place.ensures.staged in (
-      subst (λ e. IsWriting book about e more grown.rows p.history (p.free - c.len-more.result)) (sym same)
-          (held_writing book about shown more o.self.rows p.history p.free writing added grown.rows (p.free - c.len-more.result) (ap (λ b. b.rows) grows) many),
-      record { schema = ap (λ b. b.schema) grows ∙ c.make_place.ensures.kind.schema; feeders = ap (λ b. b.feeders) grows ∙ c.make_place.ensures.kind.feeders },
-      subst (λ e. IsMarked book e more p.marked) (sym same)
-          (staged_marked book shown pending p.marked c.self.invariant.2 more p.stage.rows o.self.rows c.make_place.ensures.staged),
+    let free = free_places shown.table.rows (rows_of pending) p.stage.rows shown.table.limit p.free _ _ _ c.len.result rows held limit c.self.invariant.0.places (omega (arith, c.requires.room, c.len.ensures.len)) in
+    let many : (p.free - c.len.result) + length added ≡ p.free = ap (λ n. (p.free - c.len.result) + n) (length-map (entries_of c.args.batch.now.rows) _ ∙ length-map c.args.batch.now.rows _ ∙ sym c.len.ensures.len) ∙ free in (
+      held_writing g.B.Naming.book g.B.Naming.about shown pending p.stage.rows p.history p.free c.self.invariant.0 added grown.rows (p.free - c.len.result) (ap (λ t. t.rows) grows) many,
+      ap emptied grows ∙ c.self.invariant.1,
+      c.self.invariant.2,
     )
 
 pub returns-clause-ok : goal.returns-clause-ok
 returns-clause-ok g c =
     let p = c.self.inside in
-    let o = c.make_place.new in
-    let next = o.copies.desk.shown.value in
-    let more = drop o.copies.behind o.copies.log.items in
+    let pending = drop p.copies.behind p.copies.log.items in
     let added : Rows = fed_as c.args.feeder (entries_of c.args.batch.now.rows) in
-    held_view next more o.self.rows c.push_batch.new.self.rows added (ap (λ b. b.rows) c.in_ok-push_batch.ensures.ok)
-    ∙ ap (λ w. with_more w added)
-    (staged_view p.copies.desk.shown.value (drop p.copies.behind p.copies.log.items) p.stage.rows next more o.self.rows
-    (ap (λ d. d.shown.value) c.make_place.ensures.desk) c.make_place.ensures.staged ∙ c.self.view_is)
+    held_view p.copies.desk.shown.value pending p.stage.rows c.push_batch.new.self.rows added (ap (λ t. t.rows) c.in_ok-push_batch.ensures.ok)
+    ∙ ap (λ w. with_more w added) c.self.view_is

@@ -1,5 +1,5 @@
 use Rattle.std.proofs.Common.{List, [], drop, ap, sym, subst, ◌∙◌, ◌≡◌}
-use Rattle.bsi_versions.specs.Editions.{IsMarked, IsWriting}
+use Rattle.bsi_versions.specs.Editions.{emptied, IsMarked, IsWriting}
 use Rattle.bsi_versions.specs.Pages.{Edition, Known}
 use Rattle.bsi_versions.specs.declared.operation.Operation.{Operation}
 use Rattle.bsi_versions.proofs.Writing.{first_marked, first_writing}
@@ -21,10 +21,7 @@ invariant_of-result g c =
       subst (λ (e : Edition). IsWriting book about e (drop copies.behind copies.log.items) stage c.args.history c.limit-free.result) (sym shown)
           (subst (λ (ops : List Operation). IsWriting book about first ops stage c.args.history c.limit-free.result) (sym none)
           (subst (λ (h : Known). IsWriting book about first [] stage h c.limit-free.result) c.known.ensures writing)),
-      record {
-        schema = ap (λ b. b.schema) c.in_ok-stage.ensures ∙ sym (ap (λ e. e.table.schema) shown);
-        feeders = ap (λ b. b.feeders) c.in_ok-stage.ensures ∙ sym (ap (λ e. e.table.feeders) shown);
-      },
+      ap emptied c.in_ok-stage.ensures ∙ sym (ap (λ e. emptied e.table) shown),
       subst (λ (e : Edition). IsMarked book e (drop copies.behind copies.log.items) 0) (sym shown)
           (subst (λ (ops : List Operation). IsMarked book first ops 0) (sym none) (first_marked book about c.args.index c.known.result known)),
     )

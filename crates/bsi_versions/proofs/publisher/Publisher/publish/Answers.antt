@@ -2,7 +2,7 @@ use Rattle.std.proofs.Common.{◌≡◌, ◌++◌, List, drop, length, ap, sym, 
 use Rattle.std.specs.Prelude.{fold}
 use Rattle.bsi_table.specs.Table.{Table}
 use Rattle.bsi_versions.specs.Pages.{Edition, Rows}
-use Rattle.bsi_versions.specs.Editions.{after, published_all, rows_of, IsFor, IsMarked, IsWriting, Stands}
+use Rattle.bsi_versions.specs.Editions.{after, emptied, published_all, rows_of, IsStageOf, IsMarked, IsWriting, Stands}
 use Rattle.bsi_versions.specs.declared.operation.Operation.{Operation}
 use Rattle.bsi_versions.proofs.Writing.{kept_writing, marked_stands, next_len, on_err, published_view, same_view, shown_marked, shown_writing, staged_marked, staged_shown, staged_view, table_after}
 use Rattle.bsi_versions.proofs.publisher.Publisher.publish.Goals as goal
@@ -59,7 +59,7 @@ invariant_of-self-in_err-mark_all g c =
       subst (λ (e : Edition). IsWriting g.B.Naming.book g.B.Naming.about e more c.empty.new.self.rows c.mark_all.new.history p.free) same
           (kept_writing g.B.Naming.book g.B.Naming.about o.desk.shown.value (drop o.behind o.log.items) c.empty.new.self.rows p.history p.free is
           c.mark_all.new.history more c.mark_all.ensures.history c.mark_all.ensures.rows),
-      subst (λ (e : Edition). IsFor e.table c.empty.new.self) same c.empty.ensures.kind,
+      subst (λ (e : Edition). IsStageOf e.table c.empty.new.self) same c.empty.ensures.kind,
       subst (λ (e : Edition). IsMarked g.B.Naming.book e more c.mark_all.new.marked) same c.mark_all.ensures.marked,
     )
 
@@ -109,7 +109,7 @@ invariant_of-self-in_err-show g c =
     let still = c.in_err-show.ensures.kept ∙ ap (λ d. d.shown.value) c.mark_all.ensures.desk in (
       subst (λ (e : Edition). IsWriting g.B.Naming.book g.B.Naming.about e more left c.mark_all.new.history p.free) (sym still)
           (kept_writing g.B.Naming.book g.B.Naming.about shown pending left p.history p.free is c.mark_all.new.history more c.mark_all.ensures.history rows),
-      subst (λ (e : Edition). IsFor e.table c.empty.new.self) (sym still) c.empty.ensures.kind,
+      subst (λ (e : Edition). IsStageOf e.table c.empty.new.self) (sym still) c.empty.ensures.kind,
       subst (λ (e : Edition). IsMarked g.B.Naming.book e more c.mark_all.new.marked) (sym still)
           (subst (λ (ops : List Operation). IsMarked g.B.Naming.book shown ops c.mark_all.new.marked) (sym c.in_err-show.ensures.pending) c.mark_all.ensures.marked),
     )
@@ -151,10 +151,7 @@ invariant_of-self-2 g c =
     let now : next ≡ fold after shown marks = c.in_ok-show.ensures.shown ∙ ap (λ d. fold after d.shown.value marks) c.mark_all.ensures.desk in (
       shown_writing g.B.Naming.book g.B.Naming.about shown pending left p.history p.free is c.mark_all.new.history marks next none c.mark_all.ensures.history c.mark_all.ensures.rows stands now
           c.in_ok-show.ensures.none,
-      record {
-        schema = c.empty.ensures.kind.schema ∙ sym (ap (λ e. e.table.schema) now ∙ ap (λ (t : Table). t.schema) (table_after shown marks));
-        feeders = c.empty.ensures.kind.feeders ∙ sym (ap (λ e. e.table.feeders) now ∙ ap (λ (t : Table). t.feeders) (table_after shown marks));
-      },
+      c.empty.ensures.kind ∙ sym (ap (λ e. emptied e.table) now ∙ ap emptied (table_after shown marks)),
       shown_marked g.B.Naming.book shown marks c.mark_all.new.marked c.mark_all.ensures.marked next none now c.in_ok-show.ensures.none,
     )
 
