@@ -36,17 +36,29 @@ digits_of bs v = map (digit_of bs v) (components bs)
 abbrev pub max_bases : ℕ
 max_bases = 63
 
+-- the greatest base of a list
+abbrev pub max_base : ℕ
+max_base = 1024
+
+-- the greatest sum of a list's bases
+abbrev pub max_sum : ℕ
+max_sum = 4096
+
 -- the most numbers that bases tell apart, or that a column takes
 abbrev pub max_size : ℕ
 max_size = 2 ^ 63
 
+-- the most that the least number and the size of a column add up to
+abbrev pub max_end : ℕ
+max_end = 2 ^ 63
+
 abbrev pub IsBase : ℕ → Type 0
-IsBase b = (2 ≤ b) × (b ≤ 1024)
+IsBase b = (2 ≤ b) × (b ≤ max_base)
 
 -- the lists of bases that are accepted
 pub record IsBaseList (bs : List ℕ) : Type 0 where
   pub some : 0 < length bs
   pub few : length bs ≤ max_bases
   pub each : EachIndex bs (λ i. IsBase (slice_index bs i))
-  pub narrow : sum bs ≤ 4096
+  pub narrow : sum bs ≤ max_sum
   pub small : product bs ≤ max_size

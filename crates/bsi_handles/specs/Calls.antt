@@ -8,7 +8,7 @@ use Rattle.bsi_records.specs.Numbers.{Field}
 use Rattle.bsi_records.specs.Predicates.{IsPredicate}
 use Rattle.bsi_table.specs.Answers.{IsAnswer}
 use Rattle.bsi_table.specs.Rows.{holds}
-use Rattle.bsi_table.specs.Table.{no_rows, with_rows, Table}
+use Rattle.bsi_table.specs.Table.{max_feeders, no_rows, with_rows, Table}
 use Rattle.bsi_table.specs.declared.query.Answer.{Answer}
 use Rattle.bsi_table.specs.declared.query.Answer.TheVariants.{Count as count_answer, Sum as sum_answer, Value as value_answer, Rows as rows_answer}
 use Rattle.bsi_table.specs.declared.query.Pred.{Pred}
@@ -43,7 +43,7 @@ IsTextRefusal text number NoMemory = number ≡ 0
 IsTextRefusal text number why = ⊥
 
 abbrev pub IsFeederCount : ℕ → Type 0
-IsFeederCount feeders = (1 ≤ feeders) × (feeders ≤ 64)
+IsFeederCount feeders = (1 ≤ feeders) × (feeders ≤ max_feeders)
 
 abbrev pub IsOpening : Option State → List ℕ → ℕ → ℕ → Option State → Ending → Type 0
 IsOpening before text feeders number after (Ok done) =

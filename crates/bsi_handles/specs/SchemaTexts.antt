@@ -6,6 +6,7 @@ use Rattle.csv.specs.declared.parser.State.{State}
 use Rattle.bsi_records.specs.Numbers.{Field}
 use Rattle.bsi_records.specs.Setups.{table_after}
 use Rattle.bsi_table.specs.Columns.{no_columns, Declared}
+use Rattle.bsi_table.specs.Table.{max_rows}
 use Rattle.bsi_text.specs.Sources.{max_records}
 use Rattle.bsi_text.specs.Texts.{AreAllRecords, AreFirstRecords}
 
@@ -17,7 +18,7 @@ table_declared before (fields ∷ records) =
 
 -- no column, and the greatest limit there is
 abbrev pub none_declared : Declared × ℕ
-none_declared = (no_columns, 4294967296)
+none_declared = (no_columns, max_rows)
 
 -- the records of these bytes, at most 1,000,000, declare this
 pub record Declares (bytes : List ℕ) (declared : Declared × ℕ) : Type 0 where

@@ -4,6 +4,7 @@ ghost use Rattle.std.specs.Prelude.{◌≡◌, ◌+◌, ◌%◌, ◌<◌, ◌≤
 ghost use Rattle.std.specs.List.{list_all};
 ghost use Rattle.bsi_handles.specs.Calls.{with_first, AreAppendable, IsAppended, IsRowsRefusal};
 ghost use Rattle.bsi_handles.specs.Columns.{are_columns, has_rows, row_count, row_of, rows_of, AreTaken};
+ghost use Rattle.bsi_table.specs.RowBlocks.{max_block_rows};
 ghost use Rattle.bsi_table.specs.Table.{with_rows};
 
 use crate::columns::{Column, are_columns, count_rows, entry};
@@ -49,7 +50,7 @@ fn fill_block(
     requires even { are_columns (length block.old.schema.columns) columns.now ≡ true }
     requires taken { AreTaken block.old.schema.columns columns.now (row_count columns.now) }
     requires within { from + count ≤ row_count columns.now }
-    requires few { count ≤ 64 }
+    requires few { count ≤ max_block_rows }
     ensures schema { block.new.schema ≡ block.old.schema }
     ensures feeders { block.new.feeders ≡ block.old.feeders }
     ensures rows { OnOk result (block.new.rows ≡ rows_of feeder columns.now from count) }
@@ -79,7 +80,7 @@ fn append_block(
     requires even { are_columns (length index.old.schema.columns) columns.now ≡ true }
     requires taken { AreTaken index.old.schema.columns columns.now (row_count columns.now) }
     requires within { from + count ≤ row_count columns.now }
-    requires few { count ≤ 64 }
+    requires few { count ≤ max_block_rows }
     requires schema { block.old.schema ≡ index.old.schema }
     requires feeders { block.old.feeders ≡ index.old.feeders }
     ensures schema { block.new.schema ≡ block.old.schema }

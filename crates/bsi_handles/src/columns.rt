@@ -20,7 +20,7 @@ fn has_rows(column: &Column, rows: usize) -> bool
     ensures { result ≡ has_rows rows column.now }
 {
     column.values.len() == rows
-        && (column.valid.len() == 0 || rows.div_ceil(8) <= column.valid.len())
+        && (column.valid.is_empty() || rows.div_ceil(8) <= column.valid.len())
 }
 
 /// Returns whether each column has so many numbers, and a bit for each.

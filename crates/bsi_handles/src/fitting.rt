@@ -6,30 +6,21 @@ ghost use Rattle.bsi_handles.specs.Columns.{entry_of, has_rows, row_of, AreTaken
 ghost use Rattle.bsi_table.specs.Columns.{fits, is_between};
 
 use crate::columns::{Column, entry};
+use bsi_schema::Limits;
 use bsi_table::Schema;
 
-/// Returns whether an entry is a null or one of `size` numbers from `least` up.
-fn is_between(least: i64, size: u64, entry: Option<i128>) -> bool
-    ensures { result ≡ is_between least size entry }
-{
-    let Some(number) = entry else {
-        return true;
-    };
-    let least = i128::from(least);
-    least <= number && number < least + i128::from(size)
-}
-
-/// Returns the first row before `end` whose entry is neither a null nor one of `size` numbers from `least` up. If there
-/// is none, it returns `end`.
-fn first_refused(column: &Column, rows: usize, end: usize, least: i64, size: u64) -> usize
+/// Returns the first row before `end` whose entry is not taken. If there is none, it returns `end`.
+fn first_refused(column: &Column, rows: usize, end: usize, limits: Limits) -> usize
     requires whole { has_rows rows column.now ≡ true }
     requires few { end ≤ rows }
     ensures within { result ≤ end }
-    ensures taken { (r : ℕ) → r < result → is_between least size (entry_of r column.now) ≡ true }
-    ensures refused { result < end → is_between least size (entry_of result column.now) ≡ false }
+    ensures taken { (r : ℕ) → r < result →
+        is_between limits.least limits.size (entry_of r column.now) ≡ true }
+    ensures refused { result < end →
+        is_between limits.least limits.size (entry_of result column.now) ≡ false }
 {
     'rows: for r in 0..end {
-        if !is_between(least, size, entry(column, rows, r)) {
+        if !limits.takes(entry(column, rows, r)) {
             return r;
         }
     }
@@ -44,10 +35,10 @@ pub(crate) fn first_misfit(schema: &Schema, columns: &[Column], rows: usize) -> 
     ensures taken { AreTaken schema.now.columns columns.now result }
     ensures misfit { result < rows → fits schema.now.columns (row_of columns.now result) ≡ false }
 {
+    let limits = schema.limits();
     let mut first = rows;
-    'columns: for c in 0..schema.columns() {
-        let column = &columns[c as usize];
-        first = first_refused(column, rows, first, schema.offset(c), schema.size(c));
+    'columns: for c in 0..limits.len() {
+        first = first_refused(&columns[c], rows, first, limits[c]);
     }
     first
 }

@@ -1,4 +1,6 @@
 //! The index behind a handle that C keeps: what each call of the C library does. The crate `bsi_c` exports the calls.
+//!
+//! C passes a schema and a query as scripts spell them, so that one reader, with its proofs, serves both.
 #![tactic(auto)]
 
 mod answers;

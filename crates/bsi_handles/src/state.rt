@@ -7,7 +7,8 @@ ghost use Rattle.bsi_handles.specs.States.{opened_in};
 use crate::columns::Column;
 use crate::opened::Opened;
 use crate::refusal::Refusal;
-use std::alloc::{AllocError, Global};
+use bsi_table::NoMemory;
+use std::alloc::Global;
 use std::mem;
 use std::sync::Arc;
 
@@ -79,7 +80,7 @@ impl State {
             State::Shared(opened) => opened,
             State::Moved => return Err(Refusal::Closed),
         };
-        let second: Result<Arc<Opened>, AllocError> = opened.clone();
+        let second: Result<Arc<Opened>, NoMemory> = opened.clone();
         *self = State::Shared(opened);
         *other = State::Shared(second?);
         Ok(other)

@@ -5,7 +5,7 @@ use Rattle.bsi_table.specs.declared.errors.AppendError.TheVariants as append
 use Rattle.bsi_table.specs.Answers.{IsReply}
 use Rattle.bsi_table.specs.Columns.{fits}
 use Rattle.bsi_table.specs.Rows.{Entries}
-use Rattle.bsi_table.specs.Table.{Table}
+use Rattle.bsi_table.specs.Table.{max_feeders, Table}
 use Rattle.bsi_load.specs.declared.event.CloseRefused.{CloseRefused}
 use Rattle.bsi_load.specs.declared.event.CloseRefused.TheVariants as close
 use Rattle.bsi_load.specs.declared.event.Event.{Event}
@@ -82,11 +82,15 @@ IsLawful s (Close f) (Closed reply) = reply ≡ close_reply s f
 IsLawful s (Ask query) (Answered reply) = IsReply s.index.schema s.index.rows query reply
 IsLawful s event reply = ⊥
 
+-- at most so many rows of a feeder wait
+abbrev pub max_waiting : ℕ
+max_waiting = 65536
+
 -- there are from 1 to 64 feeders, no more rows of each wait than may, and those that wait fit the schema
 pub record IsMachine (index : Table) (feeders : List Waiting) : Type 0 where
   pub as_many : index.feeders ≡ length feeders
   pub some : 1 ≤ length feeders
-  pub few : length feeders ≤ 64
+  pub few : length feeders ≤ max_feeders
   pub bounded : All (λ w. length w.rows ≤ w.capacity) feeders
-  pub small : All (λ w. w.capacity ≤ 65536) feeders
+  pub small : All (λ w. w.capacity ≤ max_waiting) feeders
   pub fitting : All (λ w. All (λ row. IsTrue (fits index.schema.columns row)) w.rows) feeders

@@ -5,14 +5,14 @@ use Rattle.bsi_table.specs.declared.errors.IndexError.{IndexError}
 use Rattle.bsi_table.specs.declared.errors.IndexError.TheVariants as index
 use Rattle.bsi_table.specs.Columns.{Declared}
 use Rattle.bsi_table.specs.Refusals.{index_refusal}
-use Rattle.bsi_table.specs.Table.{no_rows}
+use Rattle.bsi_table.specs.Table.{max_feeders, no_rows}
 use Rattle.bsi_load.specs.declared.sizes.MakeError.{MakeError}
 use Rattle.bsi_load.specs.declared.sizes.MakeError.TheVariants.{NoFeeders, TooManyFeeders, CapacityOutOfRange, Index, NoMemory}
-use Rattle.bsi_load.specs.Shown.{Shown, Waiting}
+use Rattle.bsi_load.specs.Shown.{max_waiting, Shown, Waiting}
 
 -- a capacity that is not from 1 to 65,536
 abbrev pub is_out_of_range : ℕ → Bool
-is_out_of_range capacity = nat_eq capacity 0 || nat_lt 65536 capacity
+is_out_of_range capacity = nat_eq capacity 0 || nat_lt max_waiting capacity
 
 -- the first of the capacities that is out of range
 abbrev pub capacities_refusal : List ℕ → Option MakeError
@@ -22,7 +22,7 @@ capacities_refusal capacities = option_map CapacityOutOfRange (position is_out_o
 abbrev pub sizes_refusal : Declared → List ℕ → ℕ → Option MakeError
 sizes_refusal schema capacities limit =
     if nat_eq (length capacities) 0 then Some NoFeeders
-    else (if nat_lt 64 (length capacities) then Some TooManyFeeders
+    else (if nat_lt max_feeders (length capacities) then Some TooManyFeeders
     else option_or (capacities_refusal capacities) (option_map Index (index_refusal schema limit)))
 
 -- the refusal of a machine where its index is refused

@@ -3,6 +3,7 @@
 ghost use Rattle.std.specs.Prelude.{◌≡◌, ℕ, ◌≤◌, [], ◌∷◌, None, length, map, IfErr, IfOk, OnOk, if◌then◌else◌};
 ghost use Rattle.bsi_table.specs.Answers.{IsReply};
 ghost use Rattle.bsi_table.specs.Refusals.{IsFirstOr};
+ghost use Rattle.bsi_table.specs.Table.{max_feeders};
 ghost use Rattle.bsi_load.specs.declared.event.Event.TheVariants as event;
 ghost use Rattle.bsi_load.specs.declared.event.Reply.TheVariants as reply;
 ghost use Rattle.bsi_load.specs.Runs.{shown_after, past_of, past_at, AreLawful, IsConserved, StaysClosed};
@@ -59,7 +60,7 @@ impl Core {
     /// Returns the number of feeders, from 1 to 64.
     pub fn feeders(&self) -> u32
         ensures feeders { result ≡ length self.now.feeders }
-        ensures within { (1 ≤ result) × (result ≤ 64) }
+        ensures within { (1 ≤ result) × (result ≤ max_feeders) }
     {
         self.feeders.len() as u32
     }

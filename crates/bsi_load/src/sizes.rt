@@ -2,6 +2,7 @@
 
 ghost use Rattle.std.specs.Prelude.{◌≡◌, ◌≤◌, length, position};
 ghost use Rattle.std.specs.Result.{result_err};
+ghost use Rattle.bsi_table.specs.Table.{max_feeders};
 ghost use Rattle.bsi_load.specs.Sizes.{sizes_refusal, capacities_refusal, is_out_of_range};
 
 use bsi_table::{Index, IndexError, MAX_FEEDERS, Schema};
@@ -36,6 +37,7 @@ impl From<AllocError> for MakeError {
 }
 
 impl From<IndexError> for MakeError {
+    ghost use Rattle.bsi_table.specs.Table.{max_feeders};
     ghost use Rattle.bsi_load.specs.Sizes.{refusal_of_index};
 
     ghost from_gives = { λ refused e. e ≡ refusal_of_index refused };
@@ -65,7 +67,7 @@ pub fn check_sizes(schema: &Schema, capacities: &[u32], limit: u64) -> Result<()
 
 /// Refuses the first capacity that is out of range.
 fn check_capacities(capacities: &[u32]) -> Result<(), MakeError>
-    requires { length capacities.now ≤ 64 }
+    requires { length capacities.now ≤ max_feeders }
     ensures { result_err result ≡ capacities_refusal capacities.now }
 {
     if let Some(f) = first_out_of_range(capacities) {

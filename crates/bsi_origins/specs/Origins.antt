@@ -1,5 +1,5 @@
 -- The feeder of each row, and tallies: counts by feeder before every 512th row.
-use Rattle.std.specs.Prelude.{◌≡◌, ℕ, ◌+◌, ◌*◌, ◌/◌, ◌^◌, ◌<◌, ◌≤◌, List, All, length, take, count_by, nat_eq, nat_le, slice_index, if◌then◌else◌}
+use Rattle.std.specs.Prelude.{◌≡◌, ℕ, ◌+◌, ◌-◌, ◌*◌, ◌/◌, ◌^◌, ◌<◌, ◌≤◌, List, All, length, take, count_by, nat_eq, nat_le, slice_index, if◌then◌else◌}
 use Rattle.bsi_bits.specs.BitList.{max_len}
 
 -- at most so many feeders have rows in one table
@@ -25,15 +25,19 @@ AreCounts feeders rows r counts = (f : ℕ) → f < feeders → slice_index coun
 abbrev pub tally_len : ℕ → ℕ
 tally_len feeders = if nat_le feeders 1 then 0 else feeders
 
--- how many tallies so many rows have: one before each stretch of 512, the last of which may be cut short
-abbrev pub tally_count : ℕ → ℕ
-tally_count rows = (rows + 511) / 512
+-- a tally stands before each stretch of so many rows
+abbrev pub stretch_rows : ℕ
+stretch_rows = 512
 
--- tally k has the counts of the first 512 k rows; the tallies stand one after the other
+-- how many tallies so many rows have: one before each stretch, the last of which may be cut short
+abbrev pub tally_count : ℕ → ℕ
+tally_count rows = (rows + (stretch_rows - 1)) / stretch_rows
+
+-- tally k has the counts of the rows before stretch k; the tallies stand one after the other
 abbrev pub AreTallies : ℕ → List ℕ → List ℕ → Type 0
 AreTallies len rows tallies =
-    (k f : ℕ) → 512 * k < length rows → f < len
-    → slice_index tallies (len * k + f) ≡ count_before rows (512 * k) f
+    (k f : ℕ) → stretch_rows * k < length rows → f < len
+    → slice_index tallies (len * k + f) ≡ count_before rows (stretch_rows * k) f
 
 -- the feeders of rows are kept so: with the counts of all rows, and the tallies
 pub record IsTallied (feeders : ℕ) (rows counts tallies : List ℕ) : Type 0 where

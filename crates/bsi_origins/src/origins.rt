@@ -4,9 +4,9 @@
 //! rows before came from it, in 4 bytes. A tally costs 0.008 bytes a row and feeder, and a row that stands alone is
 //! numbered by one tally and up to 511 bytes.
 
-ghost use Rattle.std.specs.Prelude.{◌≡◌, ◌+◌, ◌-◌, ◌*◌, ◌%◌, ◌<◌, ◌≤◌, ◌^◌, ◌++◌, ◌∷◌, [], All, IfOk, IsOk, OnErr, OnOk, length, min, replicate, slice_index, take, vec_len, vec_capacity};
+ghost use Rattle.std.specs.Prelude.{◌≡◌, ◌↔◌, ◌+◌, ◌-◌, ◌*◌, ◌%◌, ◌<◌, ◌≤◌, ◌^◌, ◌++◌, ◌∷◌, [], All, IfOk, IsOk, IsTrue, OnErr, OnOk, length, min, replicate, slice_index, take, vec_len, vec_capacity};
 ghost use Rattle.bsi_bits.specs.BitList.{max_len};
-ghost use Rattle.bsi_origins.specs.Origins.{max_feeders, tally_len, AreCounts};
+ghost use Rattle.bsi_origins.specs.Origins.{max_feeders, stretch_rows, tally_len, AreCounts};
 
 use crate::NoMemory;
 use bsi_bits::room_to_make;
@@ -70,6 +70,13 @@ impl Origins {
         ensures within { result ≤ max_len }
     {
         self.row_feeders.len() as u64
+    }
+
+    /// Returns whether there is no row.
+    pub fn is_empty(&self) -> bool
+        ensures { IsTrue result ↔ (self.now.rows ≡ []) }
+    {
+        self.len() == 0
     }
 
     /// Returns the number of feeders, from 1 to 64. Each row came from one of them.
@@ -205,8 +212,8 @@ impl Origins {
     /// Writes how many of the rows before stretch `k` came from each feeder. It requires several feeders.
     pub(crate) fn read_tally(&self, k: u64, counts: &mut Counts)
         requires several { 1 < self.now.feeders }
-        requires there { 512 * k < length self.now.rows }
-        ensures { AreCounts self.now.feeders self.now.rows (512 * k) counts.new }
+        requires there { stretch_rows * k < length self.now.rows }
+        ensures { AreCounts self.now.feeders self.now.rows (stretch_rows * k) counts.new }
     {
         let len = self.feeders as usize;
         let start = len * k as usize;
@@ -267,7 +274,7 @@ fn push_feeder(row_feeders: &mut Vec<u8>, feeder: u8, rows: u64)
 /// Appends counts below 2^32 to the tallies, into room that is already there.
 fn push_tally(tallies: &mut Vec<u32>, counts: &[u64])
     requires room { vec_len tallies.old + length counts.now ≤ vec_capacity tallies.old }
-    requires small { All (λ count. count < max_len) counts.now }
+    requires small { All (λ count. count < 2 ^ 32) counts.now }
     ensures items { tallies.new.items ≡ tallies.old.items ++ counts.now }
     ensures capacity { vec_capacity tallies.new ≡ vec_capacity tallies.old }
 {

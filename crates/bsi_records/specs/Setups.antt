@@ -1,15 +1,17 @@
 -- What the records before `begin` declare, by the lists of their fields.
-use Rattle.std.specs.Prelude.{◌≡◌, is_some, unwrap_or, ℕ, ◌^◌, ◌≤◌, All, Bool, true, false, ◌&&◌, nat_lt, if◌then◌else◌, List, [], ◌∷◌, ◌++◌, length, reverse, Option, Some, None, option_map, option_and_then, codes, ℤ, pos, ◌+ℤ◌, int_le}
+use Rattle.std.specs.Prelude.{◌≡◌, is_some, unwrap_or, ℕ, ◌≤◌, All, Bool, true, false, ◌&&◌, nat_lt, if◌then◌else◌, List, [], ◌∷◌, ◌++◌, length, reverse, Option, Some, None, option_map, option_and_then, codes, ℤ, pos, ◌+ℤ◌, int_le}
 use Rattle.std.specs.Option.{is_none}
 use Rattle.std.specs.Str.{bytes_eq}
+use Rattle.bsi_digits.specs.Digits.{max_end}
 use Rattle.bsi_digits.specs.Refusal.{refusal}
-use Rattle.bsi_load.specs.Shown.{Shown}
+use Rattle.bsi_load.specs.Shown.{max_waiting, Shown}
 use Rattle.bsi_load.specs.Sizes.{new_machine}
 use Rattle.bsi_schema.specs.declared.form.ColumnSpec.{ColumnSpec}
 use Rattle.bsi_schema.specs.declared.form.Form.{Form}
 use Rattle.bsi_schema.specs.declared.form.Form.TheVariants.{Slices, Equality, Range}
-use Rattle.bsi_table.specs.Columns.{Declared, form_of, named_column, no_columns, size_in, with_column}
+use Rattle.bsi_table.specs.Columns.{max_slices, Declared, form_of, named_column, no_columns, size_in, with_column}
 use Rattle.bsi_table.specs.Refusals.{form_refusal, name_refusal}
+use Rattle.bsi_table.specs.Table.{max_feeders, max_rows}
 use Rattle.bsi_records.specs.Numbers.{Field, bases_of, number_between, offset_of}
 
 -- what was declared so far: the columns, the capacity of each feeder, and the most rows of the index
@@ -19,7 +21,7 @@ pub record Setup : Type 0 where
   pub limit : ℕ
 
 abbrev pub nothing_declared : Setup
-nothing_declared = record { schema = no_columns; capacities = []; limit = 4294967296 }
+nothing_declared = record { schema = no_columns; capacities = []; limit = max_rows }
 
 -- ---- a column
 
@@ -30,7 +32,7 @@ checked_bases bases = if is_none (refusal bases) then Some (reverse bases) else 
 -- the form that a word and a text give
 abbrev pub form_in : Field → Field → Option Form
 form_in word text =
-    if bytes_eq word (codes "slices") then option_map Slices (number_between 1 63 text)
+    if bytes_eq word (codes "slices") then option_map Slices (number_between 1 max_slices text)
     else (if bytes_eq word (codes "equality") then option_map Equality (option_and_then checked_bases (bases_of text))
     else (if bytes_eq word (codes "range") then option_map Range (option_and_then checked_bases (bases_of text))
     else None))
@@ -39,7 +41,7 @@ form_in word text =
 -- given
 abbrev pub one_more : Declared → Field → Bool → Form → ℤ → Option Declared
 one_more schema name signed form offset =
-    if is_none (name_refusal schema name) && int_le (offset +ℤ pos (size_in form)) (pos (2 ^ 63))
+    if is_none (name_refusal schema name) && int_le (offset +ℤ pos (size_in form)) (pos max_end)
     then Some (with_column schema (named_column name form offset) signed) else None
 
 -- `NAME,FORM,SIZES` and `NAME,FORM,SIZES,OFFSET`
@@ -60,10 +62,10 @@ only_number most fields = None
 -- the capacities after one more, of at most 64
 abbrev pub capacities_after : List ℕ → List Field → Option (List ℕ)
 capacities_after capacities fields =
-    if nat_lt (length capacities) 64 then option_map (λ n. capacities ++ n ∷ []) (only_number 65536 fields) else None
+    if nat_lt (length capacities) max_feeders then option_map (λ n. capacities ++ n ∷ []) (only_number max_waiting fields) else None
 
 abbrev pub limit_of : List Field → Option ℕ
-limit_of fields = only_number 4294967296 fields
+limit_of fields = only_number max_rows fields
 
 -- ---- a record
 
@@ -121,7 +123,7 @@ IsChange after old new done = (done ≡ is_some after) × (new ≡ unwrap_or aft
 
 -- what a setup keeps: at most 64 feeders, each capacity from 1 to 65,536, and a limit from 1 to 2^32
 pub record IsSetup (capacities : List ℕ) (limit : ℕ) : Type 0 where
-  pub few : length capacities ≤ 64
-  pub each : All (λ n. (1 ≤ n) × (n ≤ 65536)) capacities
+  pub few : length capacities ≤ max_feeders
+  pub each : All (λ n. (1 ≤ n) × (n ≤ max_waiting)) capacities
   pub some : 1 ≤ limit
-  pub most : limit ≤ 4294967296
+  pub most : limit ≤ max_rows

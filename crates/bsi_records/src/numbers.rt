@@ -2,8 +2,12 @@
 //!
 //! A `u64` holds whatever fewer than twenty digits spell, so each takes one test. Only the last digits of very great
 //! numbers take the checked multiplication.
+//!
+//! What a field of a row passes through is inlined by force: a second caller, in another crate, keeps the compiler from
+//! inlining it, and a field then costs twice as much.
 
-ghost use Rattle.std.specs.Prelude.{◌≡◌, ◌<◌, ◌≤◌, ◌^◌, ◌+ℤ◌, ◌≤ℤ◌, length, option_map, pos, IfOk, IfSome};
+ghost use Rattle.std.specs.Prelude.{◌≡◌, ◌<◌, ◌≤◌, ◌+ℤ◌, ◌≤ℤ◌, length, option_map, pos, IfOk, IfSome};
+ghost use Rattle.bsi_digits.specs.Digits.{max_end};
 ghost use Rattle.bsi_records.specs.Numbers.{bases_of, entry_in, feeder_of, number_between, number_in, offset_of, signed_of, small_of, spelled_number, value_in};
 
 use crate::NoMemory;
@@ -116,7 +120,7 @@ pub fn read_value(signed: bool, text: &[u8]) -> Option<Option<i128>>
 /// the column does not take. It allocates no memory.
 #[inline(always)]
 pub fn read_entry(signed: bool, limits: Limits, text: &[u8]) -> Option<Option<i64>>
-    requires { (limits.least +ℤ pos limits.size) ≤ℤ pos (2 ^ 63) }
+    requires { (limits.least +ℤ pos limits.size) ≤ℤ pos max_end }
     ensures { result ≡ entry_in signed limits text.now }
 {
     let value = read_value(signed, text)?;

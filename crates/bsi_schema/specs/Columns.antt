@@ -1,7 +1,7 @@
 -- The columns that a schema declares, and the rows that fit them.
 use Rattle.std.specs.Prelude.{ℕ, ◌^◌, ◌≤◌, Bool, true, false, ◌&&◌, ◌||◌, List, [], ◌∷◌, ◌++◌, length, position, All, Option, Some, None, reverse, slice_index_or, String, string_bytes, ℤ, pos, ◌+ℤ◌, ◌≤ℤ◌, int_le, int_lt, IsTrue}
 use Rattle.std.specs.Str.{bytes_eq}
-use Rattle.bsi_digits.specs.Digits.{product, IsBaseList}
+use Rattle.bsi_digits.specs.Digits.{max_end, product, IsBaseList}
 use Rattle.bsi_schema.specs.Names.{is_name}
 use Rattle.bsi_schema.specs.declared.form.ColumnSpec.{ColumnSpec}
 use Rattle.bsi_schema.specs.declared.form.ColumnSpec.TheVariants.{Slices as spec_slices, Equality as spec_equality, Range as spec_range}
@@ -15,9 +15,17 @@ size_in (Slices w) = 2 ^ w
 size_in (Equality bs) = product bs
 size_in (Range bs) = product bs
 
+-- the most slices of a column
+abbrev pub max_slices : ℕ
+max_slices = 63
+
+-- the most columns of a schema
+abbrev pub max_columns : ℕ
+max_columns = 64
+
 -- 1 to 63 slices, or a list of bases
 abbrev pub IsForm : Form → Type 0
-IsForm (Slices w) = (1 ≤ w) × (w ≤ 63)
+IsForm (Slices w) = (1 ≤ w) × (w ≤ max_slices)
 IsForm (Equality bs) = IsBaseList bs
 IsForm (Range bs) = IsBaseList bs
 
@@ -62,7 +70,7 @@ position_of columns name = position (λ column. bytes_eq name column.name) colum
 -- the form may be had, and each number of the column is below 2^63
 pub record IsColumn (column : NamedColumn) : Type 0 where
   pub form : IsForm column.form
-  pub below : (column.offset +ℤ pos (size_in column.form)) ≤ℤ pos (2 ^ 63)
+  pub below : (column.offset +ℤ pos (size_in column.form)) ≤ℤ pos max_end
 
 -- each has a name that columns may have
 abbrev pub AreNamed : List NamedColumn → Type 0
@@ -70,7 +78,7 @@ AreNamed columns = All (λ column. IsTrue (is_name column.name)) columns
 
 -- the schemas that can be had
 pub record IsSchema (columns : List NamedColumn) : Type 0 where
-  pub few : length columns ≤ 64
+  pub few : length columns ≤ max_columns
   pub named : AreNamed columns
   pub each : All IsColumn columns
 

@@ -1,6 +1,7 @@
 -- Which refusal of a further column comes first.
-use Rattle.std.specs.Prelude.{ℕ, ◌^◌, not, ◌+ℤ◌, ℤ, pos, int_lt, List, length, Option, Some, None, is_some, option_map, nat_eq, nat_lt, nat_le, if◌then◌else◌}
+use Rattle.std.specs.Prelude.{ℕ, not, ◌+ℤ◌, ℤ, pos, int_lt, List, length, Option, Some, None, is_some, option_map, nat_eq, nat_lt, nat_le, if◌then◌else◌}
 use Rattle.std.specs.Option.{option_or}
+use Rattle.bsi_digits.specs.Digits.{max_end}
 use Rattle.bsi_digits.specs.Refusal.{refusal}
 pub use Rattle.bsi_digits.specs.Refusal.{IsFirstOr}
 use Rattle.bsi_digits.specs.declared.bases_error.BasesError.{BasesError}
@@ -9,12 +10,12 @@ use Rattle.bsi_schema.specs.declared.form.ColumnSpec.{ColumnSpec}
 use Rattle.bsi_schema.specs.declared.form.ColumnSpec.TheVariants.{Slices, Equality, Range}
 use Rattle.bsi_schema.specs.declared.schema_error.SchemaError.{SchemaError}
 use Rattle.bsi_schema.specs.declared.schema_error.SchemaError.TheVariants.{BadName, NameTaken, TooManyColumns, BadBases, BadOffset}
-use Rattle.bsi_schema.specs.Columns.{Declared, position_of, form_of, size_in}
+use Rattle.bsi_schema.specs.Columns.{max_columns, max_slices, Declared, position_of, form_of, size_in}
 use Rattle.bsi_schema.specs.Names.{is_name}
 
 -- the first refusal of so many slices
 abbrev pub slices_refusal : ℕ → Option BasesError
-slices_refusal w = if nat_eq w 0 then Some Empty else (if nat_lt 63 w then Some TooMany else None)
+slices_refusal w = if nat_eq w 0 then Some Empty else (if nat_lt max_slices w then Some TooMany else None)
 
 -- the first refusal of a form that is asked for
 abbrev pub form_refusal : ColumnSpec → Option BasesError
@@ -27,12 +28,12 @@ abbrev pub name_refusal : Declared → List ℕ → Option SchemaError
 name_refusal schema name =
     if not (is_name name) then Some BadName
     else (if is_some (position_of schema.columns name) then Some NameTaken
-    else (if nat_le 64 (length schema.columns) then Some TooManyColumns else None))
+    else (if nat_le max_columns (length schema.columns) then Some TooManyColumns else None))
 
 -- the refusal of an offset beside a form
 abbrev pub offset_refusal : ℤ → ColumnSpec → Option SchemaError
 offset_refusal offset spec =
-    if int_lt (pos (2 ^ 63)) (offset +ℤ pos (size_in (form_of spec))) then Some BadOffset else None
+    if int_lt (pos max_end) (offset +ℤ pos (size_in (form_of spec))) then Some BadOffset else None
 
 -- the first refusal of one more column
 abbrev pub column_refusal : Declared → List ℕ → ColumnSpec → Option SchemaError

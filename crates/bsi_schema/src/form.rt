@@ -1,11 +1,11 @@
 //! The form in which a column stores its numbers.
 
-ghost use Rattle.std.specs.Prelude.{◌≡◌, ◌≤◌, ◌^◌, IfOk};
+ghost use Rattle.std.specs.Prelude.{◌≡◌, ◌≤◌, IfOk};
 ghost use Rattle.std.specs.Result.{result_err};
+ghost use Rattle.bsi_digits.specs.Digits.{max_size};
 
 use crate::{NoMemory, SchemaError};
 use bsi_digits::{Bases, BasesError};
-use std::alloc::AllocError;
 
 /// The most slices of a column.
 pub const MAX_SLICES: u32 = 63;
@@ -62,7 +62,7 @@ impl Form {
     pub(crate) fn size(&self) -> u64
         requires { IsForm self.now }
         ensures size { result ≡ size_in self.now }
-        ensures within { result ≤ 2 ^ 63 }
+        ensures within { result ≤ max_size }
     {
         match self {
             Form::Slices(width) => 1 << *width,
@@ -86,7 +86,7 @@ impl Form {
 impl Clone for Kind {
     ghost is_clone = { λ kind made. made ≡ kind };
 
-    fn clone(&self) -> Result<Kind, AllocError> {
+    fn clone(&self) -> Result<Kind, NoMemory> {
         Ok(Kind {
             form: self.form.copy()?,
             offset: self.offset,

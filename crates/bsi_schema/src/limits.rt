@@ -1,6 +1,7 @@
 //! The numbers that a column takes.
 
-ghost use Rattle.std.specs.Prelude.{◌≡◌, ◌↔◌, ◌^◌, ◌+ℤ◌, ◌≤ℤ◌, IsTrue, List, map, pos, true};
+ghost use Rattle.std.specs.Prelude.{◌≡◌, ◌↔◌, ◌+ℤ◌, ◌≤ℤ◌, IsTrue, List, map, pos, true};
+ghost use Rattle.bsi_digits.specs.Digits.{max_end};
 ghost use Rattle.bsi_schema.specs.Columns.{fits, is_between, size_in, IsForm, NamedColumn};
 ghost use Rattle.bsi_schema.specs.Limits.{limits_of};
 
@@ -40,7 +41,7 @@ impl Limits {
     /// Returns the same entry, as a number of 64 bits.
     pub fn narrow(self, entry: Option<i128>) -> Option<i64>
         requires taken { is_between self.least self.size entry ≡ true }
-        requires below { (self.least +ℤ pos self.size) ≤ℤ pos (2 ^ 63) }
+        requires below { (self.least +ℤ pos self.size) ≤ℤ pos max_end }
         ensures { result ≡ entry }
     {
         let number = entry?;

@@ -1,8 +1,9 @@
 //! The columns of an index: their names in order of declaration, their forms and offsets.
 
-ghost use Rattle.std.specs.Prelude.{◌≡◌, ◌<◌, ◌≤◌, ◌^◌, None, true, false, All, length, map, pos, ◌+ℤ◌, ◌≤ℤ◌, IfOk, IfErr, OnOk, OnErr, IsTrue};
+ghost use Rattle.std.specs.Prelude.{◌≡◌, ◌<◌, ◌≤◌, None, true, false, All, length, map, pos, ◌+ℤ◌, ◌≤ℤ◌, IfOk, IfErr, OnOk, OnErr, IsTrue};
 ghost use Rattle.std.specs.Result.{result_err};
-ghost use Rattle.bsi_schema.specs.Columns.{column_at, fits, form_of, named_column, no_columns, position_of, size_in, with_column, AreNamed, IsColumn, IsForm};
+ghost use Rattle.bsi_digits.specs.Digits.{max_end, max_size};
+ghost use Rattle.bsi_schema.specs.Columns.{column_at, fits, form_of, max_columns, named_column, no_columns, position_of, size_in, with_column, AreNamed, IsColumn, IsForm};
 ghost use Rattle.bsi_schema.specs.Limits.{limits_of};
 ghost use Rattle.bsi_schema.specs.Names.{is_name};
 ghost use Rattle.bsi_schema.specs.Refusals.{column_refusal, name_refusal, signed_refusal, IsFirstOr};
@@ -60,7 +61,7 @@ impl Schema {
     /// Returns the number of columns, at most 64.
     pub fn columns(&self) -> u32
         ensures columns { result ≡ length self.now.columns }
-        ensures within { result ≤ 64 }
+        ensures within { result ≤ max_columns }
         ensures named { AreNamed self.now.columns }
     {
         self.columns.len() as u32
@@ -115,7 +116,7 @@ impl Schema {
     pub fn size(&self, c: u32) -> u64
         requires { c < length self.now.columns }
         ensures size { result ≡ size_in (column_at self.now.columns c).form }
-        ensures within { result ≤ 2 ^ 63 }
+        ensures within { result ≤ max_size }
     {
         self.form(c).size()
     }
@@ -124,8 +125,8 @@ impl Schema {
     pub fn offset(&self, c: u32) -> i64
         requires { c < length self.now.columns }
         ensures offset { result ≡ (column_at self.now.columns c).offset }
-        ensures below { (result +ℤ pos (size_in (column_at self.now.columns c).form)) ≤ℤ pos
-            (2 ^ 63) }
+        ensures below { (result +ℤ pos (size_in (column_at self.now.columns c).form))
+            ≤ℤ pos max_end }
     {
         let (_, kind) = self.columns.get_index(c as usize).unwrap();
         kind.offset
@@ -215,9 +216,9 @@ impl Schema {
     fn push(&mut self, name: &str, kind: Kind, signed: bool) -> Result<(), NoMemory>
         requires fresh { position_of self.old.columns name.now ≡ None }
         requires name { IsTrue (is_name name.now) }
-        requires few { length self.old.columns < 64 }
+        requires few { length self.old.columns < max_columns }
         requires form { IsForm kind.form }
-        requires below { (kind.offset +ℤ pos (size_in kind.form)) ≤ℤ pos (2 ^ 63) }
+        requires below { (kind.offset +ℤ pos (size_in kind.form)) ≤ℤ pos max_end }
         ensures ok { OnOk result (self.new
             ≡ with_column self.old (named_column name.now kind.form kind.offset) signed) }
         ensures err { OnErr result (self.new ≡ self.old) }

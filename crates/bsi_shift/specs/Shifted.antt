@@ -1,7 +1,7 @@
 -- A column of whole numbers, each of which is stored less an offset.
-use Rattle.std.specs.Prelude.{◌≡◌, ℕ, ◌<◌, ◌≤◌, ◌^◌, All, ℤ, pos, ◌+ℤ◌, ◌≤ℤ◌, ◌<ℤ◌, List, Option, IfSome, map}
+use Rattle.std.specs.Prelude.{◌≡◌, ℕ, ◌<◌, ◌≤◌, All, ℤ, pos, ◌+ℤ◌, ◌≤ℤ◌, ◌<ℤ◌, List, Option, IfSome, map}
 use Rattle.std.specs.Option.{option_map}
-use Rattle.bsi_digits.specs.Digits.{max_size}
+use Rattle.bsi_digits.specs.Digits.{max_end, max_size}
 use Rattle.bsi_columns.specs.declared.any.AnyColumn.{AnyColumn}
 use Rattle.bsi_columns.specs.AnyRows.{any_entries, any_form, any_room, any_size}
 use Rattle.bsi_slices.specs.Rows.{number_or_zero}
@@ -41,5 +41,5 @@ pub record IsShifted (stored : AnyColumn) (offset : ℤ) (size : ℕ) : Type 0 w
   pub size_is : size ≡ any_size stored
   pub small : size ≤ max_size
   pub some : 2 ≤ size
-  pub within : (offset +ℤ pos size) ≤ℤ pos (2 ^ 63)
+  pub within : (offset +ℤ pos size) ≤ℤ pos max_end
   pub below : All (λ e. number_or_zero e < size) (any_entries stored)

@@ -6,7 +6,7 @@
 
 ghost use Rattle.std.specs.Prelude.{◌≡◌, ℕ, pos, ◌+ℤ◌, ◌≤ℤ◌, ◌+◌, ◌<◌, ◌≤◌, ◌^◌, [], ◌∷◌, ◌++◌, All, length, map, None, slice_index_or, is_some, nat_lt, ◌↔◌, IsOk, IsTrue, IfOk, OnOk, OnErr};
 ghost use Rattle.std.specs.Option.{option_map};
-ghost use Rattle.bsi_digits.specs.Digits.{max_size};
+ghost use Rattle.bsi_digits.specs.Digits.{max_end, max_size};
 ghost use Rattle.bsi_bits.specs.BitList.{max_block, max_len};
 ghost use Rattle.bsi_columns.specs.AnyRows.{any_entries, any_size};
 ghost use Rattle.bsi_shift.specs.Shifted.{shifted_entries, shifted_size, shifted_room, number_of, IsAlike, IsInRange};
@@ -44,7 +44,7 @@ impl Shifted {
     /// last of them is below 2^63. It allocates no memory.
     pub fn new(stored: AnyColumn, offset: i64) -> Shifted
         requires empty { any_entries stored ≡ [] }
-        requires within { (offset +ℤ pos (any_size stored)) ≤ℤ pos (2 ^ 63) }
+        requires within { (offset +ℤ pos (any_size stored)) ≤ℤ pos max_end }
         ensures { result ≡ record { stored = stored; offset = offset } }
     {
         let size = stored.size();
@@ -234,7 +234,7 @@ fn store_block(offset: i64, block: &[Option<i64>], stored: &mut [Option<u64>; 64
         option_map (number_of offset) (slice_index_or stored.new r None)
         ≡ slice_index_or block.now r None }
 {
-    'entries: for r in 0..block.len() {
-        stored[r] = stored_from(offset, block[r]);
+    'entries: for (r, entry) in block.iter().enumerate() {
+        stored[r] = stored_from(offset, *entry);
     }
 }

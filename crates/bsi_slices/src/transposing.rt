@@ -17,8 +17,8 @@ pub fn place_numbers(block: &[Option<u64>], numbers: &mut [u64; 64])
         slice_index numbers.new r ≡ number_or_zero (slice_index_or block.now r None) }
 {
     numbers.fill(0);
-    'entries: for r in 0..block.len() {
-        numbers[r] = block[r].unwrap_or(0);
+    'entries: for (r, entry) in block.iter().enumerate() {
+        numbers[r] = entry.unwrap_or(0);
     }
 }
 

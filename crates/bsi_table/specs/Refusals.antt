@@ -5,14 +5,14 @@ use Rattle.bsi_table.specs.declared.errors.IndexError.TheVariants.{NoColumns, Li
 use Rattle.bsi_table.specs.declared.errors.AppendError.{AppendError}
 use Rattle.bsi_table.specs.declared.errors.AppendError.TheVariants.{IndexFull}
 use Rattle.bsi_schema.specs.Columns.{Declared}
-use Rattle.bsi_table.specs.Table.{Table}
+use Rattle.bsi_table.specs.Table.{max_rows, Table}
 pub use Rattle.bsi_schema.specs.Refusals.{column_refusal, form_refusal, name_refusal, signed_refusal, IsFirstOr}
 
 -- of an index of this schema with this row limit
 abbrev pub index_refusal : Declared → ℕ → Option IndexError
 index_refusal schema limit =
     if nat_eq (length schema.columns) 0 then Some NoColumns
-    else (if nat_eq limit 0 || nat_lt 0x1_0000_0000 limit then Some LimitOutOfRange else None)
+    else (if nat_eq limit 0 || nat_lt max_rows limit then Some LimitOutOfRange else None)
 
 -- of one more row
 abbrev pub row_refusal : Table → Option AppendError

@@ -1,7 +1,8 @@
 -- A table, and the columns that keep its rows.
 use Rattle.std.specs.Prelude.{◌≡◌, ℕ, ◌^◌, ◌<◌, ◌≤◌, List, [], ◌∷◌, ◌++◌, Option, None, All, length, map, slice_index, slice_index_or, ℤ, pos, neg_ℤ, ◌+ℤ◌, ◌≤ℤ◌, ◌<ℤ◌, IfSome, IsTrue}
 use Rattle.std.specs.List.{range_with_len}
-use Rattle.bsi_origins.specs.Origins.{max_feeders}
+pub use Rattle.bsi_origins.specs.Origins.{max_feeders}
+use Rattle.bsi_digits.specs.Digits.{max_end}
 use Rattle.bsi_bits.specs.BitList.{max_len}
 use Rattle.bsi_columns.specs.declared.any.AnyColumn.{AnyColumn}
 use Rattle.bsi_columns.specs.declared.any.AnyColumn.TheVariants.{Slices as kept_slices}
@@ -87,8 +88,8 @@ pub record Keeps (column : NamedColumn) (kept : OffsetColumn) (n : ℕ) : Type 0
   pub form : IsInForm column.form kept.stored
   pub offset : kept.offset ≡ column.offset
   pub rows : length (shifted_entries kept) ≡ n
-  pub low : neg_ℤ (pos (2 ^ 63)) ≤ℤ column.offset
-  pub high : (column.offset +ℤ pos (size_in column.form)) ≤ℤ pos (2 ^ 63)
+  pub low : neg_ℤ (pos max_end) ≤ℤ column.offset
+  pub high : (column.offset +ℤ pos (size_in column.form)) ≤ℤ pos max_end
   pub range : All (IsInRange kept.offset (shifted_size kept)) (shifted_entries kept)
 
 -- each column of a schema is kept so

@@ -2,8 +2,12 @@
 //!
 //! The entries of column `c` stand in 64 places from place `64 * c` on, so a row is written without moving another, and
 //! each column is lent as one slice.
+//!
+//! A block carries the feeder of each row, so one block serves all feeders. It holds its schema by an `Arc`, where a
+//! ghost snapshot would do for the proofs: what has a snapshot can't be shown to go to another thread.
 
-ghost use Rattle.std.specs.Prelude.{◌≡◌, ◌≢◌, ◌↔◌, [], ℕ, ◌+◌, ◌*◌, ◌<◌, ◌≤◌, ◌^◌, ◌+ℤ◌, ◌≤ℤ◌, All, List, None, Some, IfOk, IsTrue, length, pos, slice_get, slice_index_or, true, false};
+ghost use Rattle.std.specs.Prelude.{◌≡◌, ◌≢◌, ◌↔◌, [], ℕ, ◌+◌, ◌*◌, ◌<◌, ◌≤◌, ◌+ℤ◌, ◌≤ℤ◌, All, List, None, Some, IfOk, IsTrue, length, pos, slice_get, slice_index_or, true, false};
+ghost use Rattle.bsi_digits.specs.Digits.{max_end};
 ghost use Rattle.bsi_schema.specs.Columns.{entry_at, fits, is_between};
 ghost use Rattle.bsi_schema.specs.declared.limits.Limits.{Limits};
 ghost use Rattle.bsi_table.specs.RowBlocks.{emptied_block, entries_of, max_block_rows, no_block_rows, placed_row, with_block_row, AreAlike};
@@ -138,7 +142,7 @@ impl Block {
         ensures { IfOk result (λ row. slice_get (entries_of self.now.rows) r ≡ Some row) }
     {
         let alloc = *self.places.allocator();
-        Ok(Row::new(read_row(alloc, self.limits.len(), r, &self.places)?))
+        Ok(Row::new(read_entries(alloc, self.limits.len(), r, &self.places)?))
     }
 
     /// Lends the feeder of each row.
@@ -167,7 +171,7 @@ fn write_row(limits: &[Limits], values: &[Option<i128>], at: usize, places: &mut
     requires wide { length values.now ≡ length limits.now }
     requires below { (c : ℕ) (d : Limits) → c < length limits.now →
         ((slice_index_or limits.now c d).least +ℤ pos (slice_index_or limits.now c d).size)
-        ≤ℤ pos (2 ^ 63) }
+        ≤ℤ pos max_end }
     requires taken { (c : ℕ) (d : Limits) → c < length limits.now →
         is_between (slice_index_or limits.now c d).least (slice_index_or limits.now c d).size
         (entry_at values.now c) ≡ true }
@@ -200,7 +204,7 @@ fn write_entries(entries: &[Option<i64>], at: usize, places: &mut Vec<Option<i64
 }
 
 /// Reads the entries of a row, each from place `at` of its column's.
-fn read_row(
+fn read_entries(
     alloc: Global,
     columns: usize,
     at: usize,

@@ -57,8 +57,8 @@ pub(crate) fn reserve_each(columns: &mut [Shifted], more: u64) -> Result<(), NoM
     ensures same { AreSameColumns columns.old columns.new }
     ensures ok { OnOk result (HaveRoom columns.new (length columns.old) more) }
 {
-    'columns: for c in 0..columns.len() {
-        columns[c].reserve(more)?;
+    'columns: for column in columns.iter_mut() {
+        column.reserve(more)?;
     }
     Ok(())
 }

@@ -1,4 +1,7 @@
 //! The index: rows from feeders, stored column by column, and the answers to queries over them.
+//!
+//! A contract sees one list of rows, each with its feeder: what the columns hold (`fed_rows`). So answers are stated
+//! over rows, and no second promise says that the rows went into the columns.
 
 ghost use Rattle.std.specs.Prelude.{◌≡◌, ◌≢◌, ◌↔◌, [], ◌+◌, ◌<◌, ◌≤◌, ◌^◌, None, Some, length, map, slice_get, IfErr, IfOk, IsOk, IsTrue, true, OnErr, OnOk};
 ghost use Rattle.std.specs.Result.{result_err};
@@ -64,7 +67,7 @@ impl Index {
     {
         Index::check(&schema, limit)?;
         let schema = share(alloc, schema)?;
-        Index::with_schema(alloc, &schema, feeders, limit)
+        Ok(Index::with_no_rows(alloc, schema, feeders, limit)?)
     }
 
     /// Makes an index of no rows, of a schema that has other owners too.
@@ -81,8 +84,22 @@ impl Index {
             (IsFirstOr IndexError.NoMemory (index_refusal schema.now.value limit)) }
     {
         Index::check(schema, limit)?;
-        let columns = make_each(alloc, schema)?;
         let schema = Arc::try_clone(schema)?;
+        Ok(Index::with_no_rows(alloc, schema, feeders, limit)?)
+    }
+
+    /// Makes an index of no rows, of a schema and a limit that need no check.
+    fn with_no_rows(
+        alloc: Global,
+        schema: Arc<Schema, Global>,
+        feeders: u32,
+        limit: u64,
+    ) -> Result<Index, NoMemory>
+        requires feeders { (1 ≤ feeders) × (feeders ≤ max_feeders) }
+        requires within { limit ≤ max_rows }
+        ensures { IfOk result (λ index. index ≡ no_rows schema.value feeders limit) }
+    {
+        let columns = make_each(alloc, &schema)?;
         Ok(Index {
             schema,
             columns,
@@ -242,8 +259,9 @@ impl Index {
         ensures { IfOk result (λ index. index
             ≡ no_rows self.now.schema self.now.feeders self.now.limit) }
     {
+        let schema = Arc::try_clone(&self.schema)?;
         let alloc = *self.columns.allocator();
-        Index::with_schema(alloc, &self.schema, self.feeders(), self.limit()).map_err(|_| NoMemory)
+        Index::with_no_rows(alloc, schema, self.feeders(), self.limit())
     }
 
     /// Makes room for `more` further rows, so that each column grows once for them. Whatever the result, the rows stay.

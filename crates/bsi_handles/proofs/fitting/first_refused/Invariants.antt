@@ -5,4 +5,4 @@ use Rattle.bsi_handles.proofs.fitting.first_refused.Given as goal
 
 -- each entry so far is taken
 abbrev pub invariant-rows : goal.invariant-rows
-invariant-rows l = (k : ℕ) → k < l.r → is_between l.least l.size (entry_of k l.column) ≡ true
+invariant-rows l = (k : ℕ) → k < l.r → is_between l.limits.least l.limits.size (entry_of k l.column) ≡ true

@@ -7,5 +7,5 @@ use Rattle.bsi_table.proofs.columns.reserve_each.Given as goal
 abbrev pub invariant-columns : goal.invariant-columns
 invariant-columns l = record {
   same : (k : ℕ) → k < length l.columns → IsSameColumn (kept_at l.initial.columns k) (kept_at l.columns k);
-  room : (k : ℕ) → k < l.c → l.more ≤ shifted_room (kept_at l.columns k);
+  room : (k : ℕ) → k < l.column-index → l.more ≤ shifted_room (kept_at l.columns k);
 }

@@ -1,7 +1,7 @@
 use Rattle.std.proofs.Common.{◌+◌, ◌*◌, None, get_or, arith}
 use Rattle.std.proofs.lemmas.List.FromFn.{fill_by_all}
 use Rattle.bsi_table.specs.RowBlocks.{placed_row}
-use Rattle.bsi_table.proofs.block.read_row.Goals as goal
+use Rattle.bsi_table.proofs.block.read_entries.Goals as goal
 
 pub returns : goal.returns
 unfolding placed_row

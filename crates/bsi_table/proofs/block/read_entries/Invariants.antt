@@ -1,5 +1,5 @@
 use Rattle.std.proofs.Common.{◌≡◌, ℕ, ◌+◌, ◌*◌, ◌<◌, None, get_or, length}
-use Rattle.bsi_table.proofs.block.read_row.Given as goal
+use Rattle.bsi_table.proofs.block.read_entries.Given as goal
 
 -- the entries of the columns so far are read
 abbrev pub invariant-columns : goal.invariant-columns
