@@ -1,4 +1,7 @@
 //! A feeder that reads a row file: it sends each good row, and closes.
+//!
+//! What `feed` promises is said of what the source still had (`StillHas`, with the premise that its bytes are known),
+//! not of a whole text.
 
 ghost use Rattle.std.specs.Prelude.{◌≡◌, ◌<◌, ◌≤◌, ◌*◌, [], IfOk, IfSome, None, OnErr, length, true, false};
 ghost use Rattle.bsi_rings.specs.Rings.{with_sent, with_sent_rows, Closes};
@@ -12,7 +15,7 @@ use bsi_text::{RowSource, SourceFault};
 use std::io::Read;
 use std::sync::Wait;
 
-/// The most rows of a batch. A file's ring has places for one.
+/// The most rows of a batch. It agrees with `RING_CAPACITY` of `bsi_files`: a file's ring has places for one batch.
 const MAX_BATCH_ROWS: u64 = 1_024;
 
 /// The most turns of a feeder, each of at most a batch. No text has so many records.
@@ -178,6 +181,7 @@ fn gather<I: Read + Drop>(
         if let Err(fault) = source.fill(0, block) {
             return Ok(Some(fault));
         }
+        // The length, in place of `is_empty`: its clauses say that the rows fit.
         if block.len() == 0 {
             return Ok(None);
         }

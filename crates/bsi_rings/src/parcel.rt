@@ -49,7 +49,7 @@ impl Batch {
     ghost use Rattle.std.specs.Prelude.{◌≡◌, ◌↔◌, IsTrue};
     ghost use Rattle.bsi_rings.specs.Rings.{IsParcel};
 
-    /// Makes a batch of an index that has a row.
+    /// Makes a batch of an index that has a row. The clause proves the ghost field, so each batch is made here.
     pub(crate) fn new(index: Index) -> Batch
         requires { 0 < length index.rows }
         ensures { result.index ≡ index }
