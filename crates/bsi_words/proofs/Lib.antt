@@ -11,4 +11,5 @@ pub mod Narrowing
 pub mod PlaceRanks
 pub mod PlaceSums
 pub mod PlaceWords
+pub mod ShortBlocks
 pub mod Spelling

@@ -24,7 +24,7 @@ and_one : (a b : ℕ) → a < 2 → b < 2 → (min a b == 1) ≡ ((a == 1) && (b
 and_one a b first second = grind (arith, nat_tests)
 
 -- a bit that two words have
-and_bit : (a b k : ℕ) → (bit_at (bit_and a b) k == 1) ≡ ((bit_at a k == 1) && (bit_at b k == 1))
+pub and_bit : (a b k : ℕ) → (bit_at (bit_and a b) k == 1) ≡ ((bit_at a k == 1) && (bit_at b k == 1))
 and_bit a b k = ap (λ x. x == 1) (bit_at_and a b k) ∙ and_one (bit_at a k) (bit_at b k) (bit_at-lt a k) (bit_at-lt b k)
 
 three_bits : (a b c j : ℕ) → a < 2 → b < 2 → c < 2 → j < 8 → (((a == j % 2) && (b == j / 2 % 2)) && (c == j / 4)) ≡ (a + 2 * (b + 2 * (c + 2 * 0)) == j)

@@ -1,9 +1,9 @@
 //! A block of digits as words: bit `k` of word `j` tells something of digit `k`.
 //!
-//! A whole block of digits of at most six binary places is turned into the words of the places first, and these are spread
-//! over those of the digits. In any other block each digit is marked, and the words of the places are made of those of the
-//! digits: the upper half of these, joined, is the word of the greatest place, and the lower half, each word joined with one
-//! of the upper half, marks the digits but for that place.
+//! Digits of one to six binary places are turned into the words of these places first, which are spread over those of the
+//! digits. Of others each digit is marked, and the words of the places are made of those of the digits: the upper half of
+//! these, joined, is the word of the greatest place, and the lower half, each word joined with one of the upper half, marks
+//! the digits but for that place.
 
 ghost use Rattle.std.specs.Prelude.{◌≡◌, ℕ, List, [], ◌∷◌, ◌+◌, ◌-◌, ◌*◌, ◌^◌, ◌<◌, ◌≤◌, ◌==◌, bit_or, length, nat_lt, slice_index};
 ghost use Rattle.std.specs.Int.{bit_at};
@@ -88,11 +88,8 @@ fn mark_each(block: &[u32], base: usize, words: &mut [u64])
     if places > 7 {
         let mut folded = [0; 1024];
         mark_places(words, base, &mut folded);
-    } else if places > 5 {
-        let mut folded = [0; 128];
-        mark_places(words, base, &mut folded);
     } else if places > 0 {
-        let mut folded = [0; 32];
+        let mut folded = [0; 128];
         mark_places(words, base, &mut folded);
     }
 }
@@ -154,6 +151,7 @@ fn spread(places: &[u64; 6], words: &mut [u64])
 
 /// Writes the words of 64 digits below a base that has at most six binary places: one for each digit below it, and then
 /// one for each place for which there is a word left.
+#[inline(always)]
 fn spread_digits(block: &[u32], base: usize, words: &mut [u64])
     requires whole { length block.now ≡ 64 }
     requires within { base ≤ length words.old }
@@ -170,6 +168,24 @@ fn spread_digits(block: &[u32], base: usize, words: &mut [u64])
     know_fits(words);
 }
 
+/// Writes the words of fewer than 64 digits, as `spread_digits` does. It takes 0 for each digit that is missing, and
+/// clears its bit.
+fn spread_few(block: &[u32], base: usize, words: &mut [u64])
+    requires some { 0 < length block.now }
+    requires short { length block.now < 64 }
+    requires within { base ≤ length words.old }
+    requires enough { base ≤ 2 ^ (length words.old - base) }
+    requires few { length words.old ≤ base + 6 }
+    requires below { (k : ℕ) → k < length block.now → slice_index block.now k < base }
+    ensures long { length words.new ≡ length words.old }
+    ensures marks { AreDigitMarks (then_places base (λ j v. v == j)) block.now words.new }
+{
+    let mut digits = [0; 64];
+    digits[..block.len()].copy_from_slice(block);
+    spread_digits(&digits, base, words);
+    words[0] &= (1 << block.len()) - 1;
+}
+
 /// Writes the words of a block of digits below a base, which are 0 before: one for each digit below it, and then one for
 /// each binary place for which there is a word left.
 pub fn mark_digits(block: &[u32], base: usize, words: &mut [u64])
@@ -181,10 +197,12 @@ pub fn mark_digits(block: &[u32], base: usize, words: &mut [u64])
     ensures marks { AreDigitMarks (then_places base (λ j v. v == j)) block.now words.new }
 {
     let places = words.len() - base;
-    if block.len() == 64 && places > 0 && places <= 6 {
+    if block.is_empty() || places == 0 || places > 6 {
+        mark_each(block, base, words);
+    } else if block.len() == 64 {
         spread_digits(block, base, words);
     } else {
-        mark_each(block, base, words);
+        spread_few(block, base, words);
     }
 }
 

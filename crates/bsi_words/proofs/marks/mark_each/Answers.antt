@@ -9,23 +9,14 @@ mark_places-requires-clause-ample c =
     let most : 2 ^ (length c.mark.new.words - c.args.base) ≤ 2 ^ 10 = pow-le-pow_right (omega arith) few in
     most
 
-pub mark_places-requires-then-places-gt5-clause-ample : goal.mark_places-requires-then-places-gt5-clause-ample
-mark_places-requires-then-places-gt5-clause-ample c =
-    let few : length c.mark.new.words - c.args.base ≤ 7 = omega arith in
-    let most : 2 ^ (length c.mark.new.words - c.args.base) ≤ 2 ^ 7 = pow-le-pow_right (omega arith) few in
-    most
-
 pub mark_places-requires-then-places-gt0-clause-ample : goal.mark_places-requires-then-places-gt0-clause-ample
 mark_places-requires-then-places-gt0-clause-ample c =
-    let few : length c.mark.new.words - c.args.base ≤ 5 = omega arith in
-    let most : 2 ^ (length c.mark.new.words - c.args.base) ≤ 2 ^ 5 = pow-le-pow_right (omega arith) few in
+    let few : length c.mark.new.words - c.args.base ≤ 7 = omega arith in
+    let most : 2 ^ (length c.mark.new.words - c.args.base) ≤ 2 ^ 7 = pow-le-pow_right (omega arith) few in
     most
 
 pub mark_places-requires-clause-clear : goal.mark_places-requires-clause-clear
 mark_places-requires-clause-clear c = zeros 1024
 
-pub mark_places-requires-then-places-gt5-clause-clear : goal.mark_places-requires-then-places-gt5-clause-clear
-mark_places-requires-then-places-gt5-clause-clear c = zeros 128
-
 pub mark_places-requires-then-places-gt0-clause-clear : goal.mark_places-requires-then-places-gt0-clause-clear
-mark_places-requires-then-places-gt0-clause-clear c = zeros 32
+mark_places-requires-then-places-gt0-clause-clear c = zeros 128
