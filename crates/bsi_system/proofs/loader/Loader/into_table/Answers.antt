@@ -1,0 +1,10 @@
+use Rattle.std.proofs.Common.{subst}
+use Rattle.bsi_system.specs.Running.{AlwaysHolds}
+use Rattle.bsi_system.proofs.Takings.{always_holds}
+use Rattle.bsi_system.proofs.loader.Loader.into_table.Goals as goal
+
+pub returns-in-Ok-clause-always : goal.returns-in-Ok-clause-always
+returns-in-Ok-clause-always g c = subst AlwaysHolds c.self.view_is (always_holds c.self.inside.channels.items c.self.inside.publisher c.self.invariant)
+
+pub returns-in-Err-clause-always : goal.returns-in-Err-clause-always
+returns-in-Err-clause-always g c = subst AlwaysHolds c.self.view_is (always_holds c.self.inside.channels.items c.self.inside.publisher c.self.invariant)
