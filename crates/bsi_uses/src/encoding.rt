@@ -75,6 +75,13 @@ impl Encoding for ByBase {
         }
     }
 
+    fn clear(&mut self) {
+        match &mut self.form {
+            Form::Range(component) => component.clear(),
+            Form::Equality(component) => component.clear(),
+        }
+    }
+
     fn push_reserved(&mut self, digit: u32) {
         match &mut self.form {
             Form::Range(component) => component.push_reserved(digit),
