@@ -7,7 +7,7 @@ use Rattle.std.proofs.lemmas.List.{append-nil}
 use Rattle.std.proofs.lemmas.List.Elements.{All-head, All-tail}
 use Rattle.bsi_load.specs.Runs.{rows_from}
 use Rattle.bsi_rings.specs.Rings.{new_feeders, new_sending, ChannelName, Sending, Sent}
-use Rattle.bsi_system.specs.Running.{settled_as, taking_at, with_taken, published_all, AlwaysHolds, IsClosingOf, IsFeederOf, IsLoaderReply, Loading, LoadsOne, Looks, MayLoad, System, Taking}
+use Rattle.bsi_system.specs.Running.{settled_as, taking_at, with_taken, AlwaysHolds, IsClosingOf, IsFeederOf, IsLoaderReply, Loading, LoadsOne, Looks, MayLoad, System, Taking}
 use Rattle.bsi_table.specs.Rows.{Entries, FedRow}
 use Rattle.bsi_text.specs.Sources.{Source}
 use Rattle.bsi_files.specs.Ends.{tasks, AreClosings, AreEndsOf, AreFeeders, IsEndOf}

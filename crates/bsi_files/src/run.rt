@@ -21,7 +21,7 @@ use crate::headers::{begin_all, capacities, file_number};
 use crate::loading::{Fed, check_all, load_beside, load_rest, settle_all};
 use crate::tables::read_table;
 use crate::threads::{Watch, join_all, start_all};
-use crate::{FilesFault, Gate, Stopping};
+use crate::{FilesFault, Gate, NoMemory, Stopping};
 use bsi_system::{Feeder, History, Loader, Naming, OpenRefused, System, open};
 use bsi_table::{Index, MAX_FEEDERS, Schema};
 use bsi_text::RowSource;
@@ -149,6 +149,38 @@ fn run_in<
     }
 }
 
+/// A loader that ends where it is dropped, so that the closure of a scope may own it.
+struct OwnedLoader<'r, B: Naming, R: Wait> {
+    loader: Loader<B>,
+    rt: &'r R,
+}
+
+impl<B: Naming, R: Wait> Drop for OwnedLoader<'_, B, R> {
+    fn drop(self) {
+        let OwnedLoader { loader, rt } = self;
+        loader.end(rt);
+    }
+}
+
+impl<B: Naming, R: Wait> OwnedLoader<'_, B, R> {
+    /// Hands over the table of all rows that were taken.
+    fn into_table(self) -> Result<Index, NoMemory>
+        ensures rows { IfOk result (λ table. table.rows ≡ self.entry.loader.published ++ self.entry.loader.held) }
+        ensures schema { IfOk result (λ table. table.schema ≡ self.entry.loader.system.schema) }
+        ensures within { IfOk result (λ table. length table.rows ≤ self.entry.loader.system.limit) }
+        ensures always { AlwaysHolds self.entry.loader }
+    {
+        let OwnedLoader { loader, rt } = self;
+        match loader.into_table(rt) {
+            Ok(table) => Ok(table),
+            Err(loader) => {
+                loader.end(rt);
+                Err(NoMemory)
+            }
+        }
+    }
+}
+
 /// Loads all rows of the files, and answers the questions.
 fn run_ends<
     B: Naming,
@@ -206,17 +238,18 @@ fn feed_files<
 {
     let watch = Watch::new(gate);
     let shared = &watch;
+    let owned = OwnedLoader { loader, rt };
     thread::scope(
         thread::scope_env(),
         rt,
         move |scope| -> Result<(Vec<Fed>, Index), FilesFault>
-            requires { AreReady loader.system B.about.limit feeders.items sources.items }
+            requires { AreReady owned.loader.system B.about.limit feeders.items sources.items }
             ensures fault { IfErr result
                 (IsLoadFault I.remaining G.STOPS B.about.limit sources.items) }
             ensures fed { IfOk result (λ run.
                 IsAllFed I.remaining G.STOPS B.about.limit run.1.rows sources.items run.0.items) }
-            ensures schema { IfOk result (λ run. run.1.schema ≡ loader.system.schema) }
-        { feed_in(scope, rt, shared, loader, feeders, sources) },
+            ensures schema { IfOk result (λ run. run.1.schema ≡ owned.entry.loader.system.schema) }
+        { feed_in(scope, rt, shared, owned, feeders, sources) },
     )
 }
 
@@ -233,30 +266,19 @@ fn feed_in<
     scope: &Scope<'s, E>,
     rt: &'s R,
     watch: &'s Watch<'s, G>,
-    mut loader: Loader<B>,
+    mut owned: OwnedLoader<'s, B, R>,
     feeders: Vec<Feeder>,
     sources: Vec<RowSource<I>>,
 ) -> Result<(Vec<Fed>, Index), FilesFault>
-    requires { AreReady loader.system B.about.limit feeders.items sources.items }
+    requires { AreReady owned.loader.system B.about.limit feeders.items sources.items }
     ensures fault { IfErr result (IsLoadFault I.remaining G.STOPS B.about.limit sources.items) }
     ensures fed { IfOk result (λ run.
         IsAllFed I.remaining G.STOPS B.about.limit run.1.rows sources.items run.0.items) }
-    ensures schema { IfOk result (λ run. run.1.schema ≡ loader.system.schema) }
+    ensures schema { IfOk result (λ run. run.1.schema ≡ owned.entry.loader.system.schema) }
 {
-    let fed = match load_files(scope, rt, watch, &mut loader, feeders, sources) {
-        Ok(fed) => fed,
-        Err(fault) => {
-            loader.end(rt);
-            return Err(fault);
-        }
-    };
-    match loader.into_table(rt) {
-        Ok(table) => Ok((fed, table)),
-        Err(loader) => {
-            loader.end(rt);
-            Err(FilesFault::NoMemory)
-        }
-    }
+    let fed = load_files(scope, rt, watch, &mut owned.loader, feeders, sources)?;
+    let table = owned.into_table()?;
+    Ok((fed, table))
 }
 
 /// Feeds the files by threads of a scope, loads all their rows, and returns what each feeder leaves.

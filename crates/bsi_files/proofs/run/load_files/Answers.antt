@@ -8,7 +8,6 @@ use Rattle.bsi_files.proofs.Passing.{if_err, if_err_both}
 use Rattle.bsi_files.specs.declared.faults.FilesFault.TheVariants.{IndexFull}
 use Rattle.bsi_system.specs.Running.{System}
 use Rattle.bsi_files.specs.Ends.{tasks, AreClosings, AreEndsOf}
-use Rattle.bsi_files.specs.Feds.{IsAllFed}
 use Rattle.bsi_files.specs.Takings.{all_closed, IsDrained, IsFine, IsFullBefore}
 use Rattle.bsi_files.specs.declared.loading.Fed.{Fed}
 use Rattle.bsi_files.proofs.Takings.{all_fed, closings_of, loaded_all}

@@ -11,10 +11,11 @@ use Rattle.bsi_files.specs.RunFaults.{IsLoadFault}
 use Rattle.bsi_files.proofs.Failing.{late_run, leaves_loaded, load_counted, load_run}
 use Rattle.bsi_files.proofs.run.run_ends.Goals as goal
 
-pub answer_all-requires-clause-few : goal.answer_all-requires-clause-few
-answer_all-requires-clause-few g c =
-    subst (λ (feds : List Fed). length feds ≤ 64) (sym c.deref.ensures.value)
-    (few_fed g.I.Read.remaining g.G.Stopping.STOPS g.B.Naming.about.limit c.in_ok-fed.table.rows c.args.run.sources.items c.in_ok-fed.fed.items c.in_ok-fed.ensures.fed c.requires.ready.few)
+pub answer_all-requires : goal.answer_all-requires
+answer_all-requires g c = record {
+  few = subst (λ (feds : List Fed). length feds ≤ 64) (sym c.deref.ensures.value)
+      (few_fed g.I.Read.remaining g.G.Stopping.STOPS g.B.Naming.about.limit c.in_ok-fed.table.rows c.args.run.sources.items c.in_ok-fed.fed.items c.in_ok-fed.ensures.fed c.requires.ready.few);
+}
 
 -- rows were not all loaded
 pub returns-in_err-fed-clause-counted : goal.returns-in_err-fed-clause-counted

@@ -1,6 +1,5 @@
-use Rattle.std.proofs.Common.{◌≡◌, ℕ, List, Option, IfSome, arith, map, rules, true, subst, sym}
+use Rattle.std.proofs.Common.{◌≡◌, ◌≤◌, ℕ, List, Option, IfSome, map, rules, true, subst, sym, ◌∙◌}
 use Rattle.std.specs.Prelude.{IfErr}
-use Rattle.bsi_table.specs.Columns.{Declared}
 use Rattle.bsi_files.specs.Faults.{is_of_schema}
 use Rattle.bsi_files.specs.Headers.{IsHeadersFault}
 use Rattle.bsi_files.specs.RunFaults.{IsFaultOf}
@@ -8,7 +7,6 @@ use Rattle.bsi_files.specs.declared.faults.FilesFault.TheVariants.{NoMemory}
 use Rattle.bsi_files.proofs.Failing.{headers_fault_of, run_fault_of, schema_fault_of}
 use Rattle.bsi_files.specs.Begun.{Begins}
 use Rattle.bsi_files.specs.Feds.{HasRun}
-use Rattle.bsi_files.specs.Matching.{AreMatched}
 use Rattle.bsi_files.specs.SchemaFiles.{none_declared, IsSchemaFault, IsSchemaFile}
 use Rattle.bsi_files.specs.Writing.{Leaves, WritesAll}
 use Rattle.bsi_text.proofs.Joining.{is_whole}
@@ -20,7 +18,7 @@ use Rattle.bsi_files.proofs.run.run_files.Goals as goal
 pub run_in-requires-clause-few : goal.run_in-requires-clause-few
 run_in-requires-clause-few g c =
     let many = matched_long (Begins g.I.Read.remaining c.in_ok-schema.schema) c.args.sources.items c.in_ok-sources.sources.items c.in_ok-sources.ensures.begun in
-    omega (arith, many)
+    λ κs within. subst (λ n. n ≤ 64) (c.len.ensures ∙ (c.args.sources.ok.0 ∙ many)) c.if-len.false
 
 pub returns-clause-lines : goal.returns-clause-lines
 returns-clause-lines g c =

@@ -4,4 +4,4 @@ use Rattle.bsi_files.proofs.run.run_files.Given as goal
 
 -- the system whose history was just made
 abbrev pub ghosts-run_in : goal.ghosts-run_in
-ghosts-run_in g a = record { book = a.history.book; about = no_rows a.columns (length a.capacities.items) a.limit }
+ghosts-run_in g a = record { book = a.history.book; about = no_rows a.schema (length a.capacities.items) a.limit }

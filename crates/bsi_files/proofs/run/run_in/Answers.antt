@@ -1,4 +1,4 @@
-use Rattle.std.proofs.Common.{◌≡◌, All, List, IfSome, length, ap, subst, sym, ◌∙◌}
+use Rattle.std.proofs.Common.{◌≡◌, All, List, IfSome, inl, length, ap, refl, subst, sym, ◌∙◌}
 use Rattle.std.specs.Prelude.{IfErr, OnOk}
 use Rattle.bsi_rings.specs.Rings.{Sending}
 use Rattle.bsi_system.specs.Running.{IsFeederOf, Loading}
@@ -7,6 +7,7 @@ use Rattle.bsi_files.specs.Ends.{AreFeeders, AreReady}
 use Rattle.bsi_files.specs.Feds.{HasRun}
 use Rattle.bsi_files.specs.RunFaults.{IsRunFault}
 use Rattle.bsi_files.specs.Writing.{Leaves, WritesAll}
+use Rattle.bsi_files.proofs.Passing.{if_some}
 use Rattle.bsi_files.proofs.Takings.{feeders_are, feeders_long}
 use Rattle.bsi_files.proofs.run.run_in.Goals as goal
 
@@ -43,3 +44,7 @@ returns-in-Ok-clause-part g c =
 pub returns-in-Ok-clause-fault : goal.returns-in-Ok-clause-fault
 returns-in-Ok-clause-fault g c =
     subst (λ (t : Table). IfErr c.run_ends.result (IsRunFault g.I.Read.remaining g.G.Stopping.STOPS t.limit c.args.run.sources.items)) c.requires.about c.run_ends.ensures.fault
+
+-- nothing was written where nothing is opened
+pub returns-in-Err-Make-clause-part : goal.returns-in-Err-Make-clause-part
+returns-in-Err-Make-clause-part g c = if_some _ (g.A.Read.remaining c.args.run.asks) (λ asked. inl refl)
