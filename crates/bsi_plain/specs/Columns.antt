@@ -2,6 +2,7 @@
 use Rattle.std.specs.Prelude.{◌≡◌, ◌≤◌, List, ℕ, None, reverse}
 use Rattle.bsi_columns.specs.AnyRows.{AnyForm, slices_of, equality_under, range_under}
 use Rattle.bsi_digits.specs.Refusal.{refusal}
+use Rattle.bsi_schema.specs.Columns.{max_slices}
 use Rattle.bsi_plain.specs.declared.columns.Form.{Form}
 use Rattle.bsi_plain.specs.declared.columns.Form.TheVariants.{Slices, Equality, Range}
 use Rattle.bsi_plain.specs.declared.columns.Wide.{Wide}
@@ -14,7 +15,7 @@ column_form Range wide = range_under (reverse wide.bases.now)
 
 -- a column can have so many slices
 abbrev pub IsWidth : ℕ → Type 0
-IsWidth width = (1 ≤ width) × (width ≤ 63)
+IsWidth width = (1 ≤ width) × (width ≤ max_slices)
 
 -- a list is one of bases, as written
 abbrev pub AreBases : List ℕ → Type 0

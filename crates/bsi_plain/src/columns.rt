@@ -1,6 +1,7 @@
 //! Columns of every form as the tests make them, and what the tests ask of them. A refused allocation is tried again.
 
-ghost use Rattle.std.specs.Prelude.{◌≡◌, ◌↔◌, ◌<◌, ◌++◌, ◌∷◌, [], reverse, length, map, IsTrue, All, IfOk, OnOk, OnErr, IsOkUnless, ◌^◌, ◌+◌, ◌≤◌};
+ghost use Rattle.std.specs.Prelude.{◌≡◌, ◌↔◌, ◌<◌, ◌++◌, ◌∷◌, [], reverse, length, map, IsTrue, All, IfOk, OnOk, OnErr, IsOkUnless, ◌+◌, ◌≤◌};
+ghost use Rattle.bsi_bits.specs.BitList.{max_len};
 ghost use Rattle.bsi_columns.specs.AnyRows.{any_entries, any_form};
 ghost use Rattle.bsi_columns.specs.Rows.{number_or_zero, selects};
 ghost use Rattle.bsi_plain.specs.Columns.{column_form, AreBases, IsWidth, IsWide};
@@ -120,7 +121,7 @@ fn push<C: Column>(column: &mut C, entry: Option<u64>) -> Result<(), MakingError
     ensures pushed { OnOk result (C.entries column.new ≡ C.entries column.old ++ entry ∷ []) }
     ensures form { C.form_of column.new ≡ C.form_of column.old }
     ensures kept { OnErr result (C.entries column.new ≡ C.entries column.old) }
-    ensures err { length (C.entries column.old) < 2 ^ 32
+    ensures err { length (C.entries column.old) < max_len
         → number_or_zero entry < C.size_of (C.form_of column.old)
         → IsOkUnless result MakingError.NoMemory }
 {
@@ -139,7 +140,7 @@ fn push<C: Column>(column: &mut C, entry: Option<u64>) -> Result<(), MakingError
 pub fn append<C: Column>(column: &mut C, entries: &[Option<u64>]) -> Result<(), MakingError>
     ensures entries { OnOk result (C.entries column.new ≡ C.entries column.old ++ entries.now) }
     ensures form { C.form_of column.new ≡ C.form_of column.old }
-    ensures err { length (C.entries column.old) + length entries.now ≤ 2 ^ 32
+    ensures err { length (C.entries column.old) + length entries.now ≤ max_len
         → All (λ e. number_or_zero e < C.size_of (C.form_of column.old)) entries.now
         → IsOkUnless result MakingError.NoMemory }
 {

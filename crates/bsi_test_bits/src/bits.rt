@@ -1,11 +1,12 @@
 //! Bits on worked rows. Each test tolerates one refused allocation, and then makes the same call again.
-ghost use Rattle.std.specs.Prelude.{◌≤◌, ◌^◌};
+ghost use Rattle.std.specs.Prelude.{◌≤◌};
+ghost use Rattle.bsi_bits.specs.BitList.{max_len};
 
 use bsi_bits::{Bits, NoMemory};
 use std::alloc::Global;
 
 fn filled(alloc: Global, n: u64, bit: bool) -> Result<Bits, NoMemory>
-    requires { n ≤ 2 ^ 32 }
+    requires { n ≤ max_len }
 {
     match Bits::filled(alloc, n, bit) {
         Err(_) => Bits::filled(alloc, n, bit),

@@ -1,13 +1,15 @@
 //! Components of both encodings on worked digits, called through the trait `Encoding`.
 
-ghost use Rattle.std.specs.Prelude.{◌≤◌, ◌^◌};
+ghost use Rattle.std.specs.Prelude.{◌≤◌};
+ghost use Rattle.bsi_bits.specs.BitList.{max_len};
+ghost use Rattle.bsi_components.specs.Bitmaps.{max_base};
 
 use bsi_bits::Bits;
 use bsi_components::{Encoding, EqualityComponent, NoMemory, RangeComponent};
 use std::alloc::Global;
 
 fn filled(alloc: Global, n: u64, bit: bool) -> Result<Bits, NoMemory>
-    requires { n ≤ 2 ^ 32 }
+    requires { n ≤ max_len }
 {
     match Bits::filled(alloc, n, bit) {
         Err(_) => Bits::filled(alloc, n, bit),
@@ -29,7 +31,7 @@ fn shows(bits: &Bits, wanted: &[bool]) -> bool {
 }
 
 fn make<E: Encoding>(alloc: Global, base: u32) -> Result<E, NoMemory>
-    requires { (2 ≤ base) × (base ≤ 1024) }
+    requires { (2 ≤ base) × (base ≤ max_base) }
 {
     match E::make(alloc, base) {
         Err(_) => E::make(alloc, base),
@@ -84,7 +86,7 @@ fn push<E: Encoding>(component: &mut E, digit: u32) -> Result<(), NoMemory> {
 
 // A component of these digits.
 fn component_of<E: Encoding>(alloc: Global, base: u32, digits: &[u32]) -> Result<E, NoMemory>
-    requires { (2 ≤ base) × (base ≤ 1024) }
+    requires { (2 ≤ base) × (base ≤ max_base) }
 {
     let mut component = make::<E>(alloc, base)?;
     for digit in digits {
@@ -171,7 +173,7 @@ fn equality_stores(
     digits: &[u32],
     expected: &[bool],
 ) -> Result<bool, NoMemory>
-    requires { (2 ≤ base) × (base ≤ 1024) }
+    requires { (2 ≤ base) × (base ≤ max_base) }
 {
     let component = component_of::<EqualityComponent>(alloc, base, digits)?;
     Ok(equality_shows(&component, 1, expected))

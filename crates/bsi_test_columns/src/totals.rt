@@ -1,6 +1,7 @@
 //! Sums, and the least, the greatest and the median numbers, on worked rows.
 
-ghost use Rattle.std.specs.Prelude.{◌≡◌, ◌≤◌, ◌^◌, length};
+ghost use Rattle.std.specs.Prelude.{◌≡◌, ◌≤◌, length};
+ghost use Rattle.bsi_bits.specs.BitList.{max_len};
 
 use crate::comparisons::{column_of, selects};
 use bsi_bits::Bits;
@@ -39,7 +40,7 @@ fn totals_of<C: Column>(column: &C, found: &Bits) -> Result<Totals, NoMemory> {
 type Found = (u64, Totals);
 
 fn found_once(alloc: Global, word: u64, rows: u64) -> Result<Bits, NoMemory>
-    requires { rows ≤ 2 ^ 32 }
+    requires { rows ≤ max_len }
 {
     let words = vec![in alloc; word; rows.div_ceil(64) as usize]?;
     Ok(Bits::from_words(words, rows))
@@ -47,7 +48,7 @@ fn found_once(alloc: Global, word: u64, rows: u64) -> Result<Bits, NoMemory>
 
 // So many rows, of which those are found that the word says of each 64.
 fn found_rows(alloc: Global, word: u64, rows: u64) -> Result<Bits, NoMemory>
-    requires { rows ≤ 2 ^ 32 }
+    requires { rows ≤ max_len }
 {
     match found_once(alloc, word, rows) {
         Err(_) => found_once(alloc, word, rows),
