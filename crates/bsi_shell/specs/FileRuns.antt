@@ -1,4 +1,4 @@
--- What a run over files leaves in the output, and what it tells of a failure.
+-- What a run over files leaves in the output, and what it tells of a fault.
 use Rattle.std.specs.Io.KnownBytes.{Keeps}
 use Rattle.std.specs.Prelude.{◌≡◌, ◌<◌, ◌≤◌, ⊤, ◌⊎◌, ℕ, false, List, Option, length, map}
 use Rattle.bsi_files.specs.RunFaults.{IsFaultOf}
@@ -6,9 +6,10 @@ use Rattle.bsi_files.specs.Runs.{IsRun}
 use Rattle.bsi_files.specs.Writing.{Leaves, WhereKnown, WritesAll}
 use Rattle.bsi_files.specs.declared.faults.FilesFault.{FilesFault}
 use Rattle.bsi_files.specs.declared.faults.FilesFault.TheVariants.{NoMemory}
-use Rattle.bsi_shell.specs.FaultLines.{failure_line}
-use Rattle.bsi_shell.specs.declared.files.Failure.{Failure}
-use Rattle.bsi_shell.specs.declared.files.Failure.TheVariants.{CannotOpen, Run}
+use Rattle.bsi_origins.specs.Origins.{max_feeders}
+use Rattle.bsi_shell.specs.FaultLines.{fault_line}
+use Rattle.bsi_shell.specs.declared.files.RunFault.{RunFault}
+use Rattle.bsi_shell.specs.declared.files.RunFault.TheVariants.{CannotOpen, Run}
 use Rattle.bsi_text.specs.Waiting.{IsCut}
 
 -- some files were opened, 1 to 64 of them row files, and where it is known what they give, the lines of a run over them
@@ -18,7 +19,7 @@ pub record HasRunOver {S : Type 0} (rem : S → Option (List ℕ)) (before after
   pub asks : S
   pub rows : List S
   pub some : 0 < length rows
-  pub few : length rows ≤ 64
+  pub few : length rows ≤ max_feeders
   pub written : WhereKnown (rem schema) (map rem rows) (rem asks)
       (λ declared texts asked. WritesAll (IsRun declared texts) asked before after)
 
@@ -38,18 +39,18 @@ pub record HasFailedOver {S : Type 0} (rem : S → Option (List ℕ)) (fault : F
   pub written : WhereKnown (rem schema) (map rem rows) (rem asks)
       (λ declared texts asked. LeavesFlushed declared texts asked fault before after)
 
--- a failure that may be met while files are opened
-abbrev pub IsOpenFailure : Failure → Type 0
-IsOpenFailure (CannotOpen path) = ⊤
-IsOpenFailure (Run fault) = fault ≡ NoMemory
+-- a fault that may be met while files are opened
+abbrev pub IsOpenFault : RunFault → Type 0
+IsOpenFault (CannotOpen path) = ⊤
+IsOpenFault (Run fault) = fault ≡ NoMemory
 
--- a run ended early by a failure: before any file was read, and then nothing was written, or over files that were opened
-abbrev pub HasFailed : {S : Type 0} → (S → Option (List ℕ)) → Option (List ℕ) → Option (List ℕ) → Failure → Type 0
+-- a run ended early by a fault: before any file was read, and then nothing was written, or over files that were opened
+abbrev pub HasFailed : {S : Type 0} → (S → Option (List ℕ)) → Option (List ℕ) → Option (List ℕ) → RunFault → Type 0
 HasFailed rem before after (CannotOpen path) = Keeps before after
 HasFailed rem before after (Run fault) = ((fault ≡ NoMemory) × Keeps before after) ⊎ HasFailedOver rem fault before after
 
--- a run ended early, and a first part of the line of this failure was told
-pub record HasToldFailure {S : Type 0} (rem : S → Option (List ℕ)) (before after said told : Option (List ℕ)) : Type 0 where
-  pub failure : Failure
-  pub failed : HasFailed rem before after failure
-  pub line : IsCut said told (failure_line failure)
+-- a run ended early, and a first part of the line of this fault was told
+pub record HasToldFault {S : Type 0} (rem : S → Option (List ℕ)) (before after said told : Option (List ℕ)) : Type 0 where
+  pub fault : RunFault
+  pub failed : HasFailed rem before after fault
+  pub line : IsCut said told (fault_line fault)

@@ -1,6 +1,6 @@
 //! A run over files: it opens all files in the order of the words, and then reads them.
 ghost use Rattle.std.specs.Prelude.{◌≡◌, ◌<◌, IfErr, IfOk, OnOk, length};
-ghost use Rattle.bsi_shell.specs.FileRuns.{HasFailed, HasFailedOver, HasRunOver, IsOpenFailure};
+ghost use Rattle.bsi_shell.specs.FileRuns.{HasFailed, HasFailedOver, HasRunOver, IsOpenFault};
 
 use crate::paths::Paths;
 use bsi_files::{FilesFault, Go, run_files};
@@ -13,33 +13,33 @@ use std::thread::Threads;
 
 /// Why a run over files ended early.
 #[derive(Clone, Copy, Debug)]
-pub(crate) enum Failure<'a> {
+pub(crate) enum RunFault<'a> {
     /// The file of this path cannot be opened.
     CannotOpen(&'a str),
     /// The run met a fault.
     Run(FilesFault),
 }
 
-impl From<FilesFault> for Failure<'_> {
+impl From<FilesFault> for RunFault<'_> {
     ghost use Rattle.std.specs.Prelude.{◌≡◌};
-    ghost use Rattle.bsi_shell.specs.declared.files.Failure.TheVariants.{Run};
+    ghost use Rattle.bsi_shell.specs.declared.files.RunFault.TheVariants.{Run};
 
-    ghost from_gives = { λ fault failure. failure ≡ Run fault };
+    ghost from_gives = { λ fault run_fault. run_fault ≡ Run fault };
 
     fn from(fault: FilesFault) -> Self {
-        Failure::Run(fault)
+        RunFault::Run(fault)
     }
 }
 
-impl From<AllocError> for Failure<'_> {
+impl From<AllocError> for RunFault<'_> {
     ghost use Rattle.std.specs.Prelude.{◌≡◌};
     ghost use Rattle.bsi_files.specs.declared.faults.FilesFault.TheVariants.{NoMemory};
-    ghost use Rattle.bsi_shell.specs.declared.files.Failure.TheVariants.{Run};
+    ghost use Rattle.bsi_shell.specs.declared.files.RunFault.TheVariants.{Run};
 
-    ghost from_gives = { λ _ failure. failure ≡ Run NoMemory };
+    ghost from_gives = { λ _ fault. fault ≡ Run NoMemory };
 
     fn from(_refused: AllocError) -> Self {
-        Failure::Run(FilesFault::NoMemory)
+        RunFault::Run(FilesFault::NoMemory)
     }
 }
 
@@ -56,7 +56,7 @@ pub(crate) fn run_over<
     R: AllocGlobal + Files<File = S> + Threads + Wait + Sync,
     S: Read + Drop + Send,
     O: Write,
->(rt: &R, paths: &Paths<'a>, output: &mut O) -> Result<(), Failure<'a>>
+>(rt: &R, paths: &Paths<'a>, output: &mut O) -> Result<(), RunFault<'a>>
     ensures ran { OnOk result
         (HasRunOver S.remaining (O.contents output.old) (O.contents output.new)) }
     ensures failed { IfErr result (HasFailed S.remaining (O.contents output.old) (O.contents output.new)) }
@@ -89,9 +89,9 @@ fn run_opened<R: AllocGlobal + Threads + Wait + Sync, S: Read + Drop + Send, O: 
 fn open_all<'a, R: AllocGlobal + Files<File = S>, S: Read + Drop>(
     rt: &R,
     paths: &Paths<'a>,
-) -> Result<Opened<S>, Failure<'a>>
+) -> Result<Opened<S>, RunFault<'a>>
     ensures opened { IfOk result (λ opened. length opened.rows.items ≡ length paths.now.rows.items) }
-    ensures failed { IfErr result IsOpenFailure }
+    ensures failed { IfErr result IsOpenFault }
 {
     let schema = open_one(rt, paths.schema)?;
     let asks = open_one(rt, paths.asks)?;
@@ -104,8 +104,11 @@ fn open_all<'a, R: AllocGlobal + Files<File = S>, S: Read + Drop>(
 }
 
 /// Opens one file for reading.
-fn open_one<'a, R: Files<File = S>, S: Read + Drop>(rt: &R, path: &'a str) -> Result<S, Failure<'a>>
-    ensures { IfErr result IsOpenFailure }
+fn open_one<'a, R: Files<File = S>, S: Read + Drop>(
+    rt: &R,
+    path: &'a str,
+) -> Result<S, RunFault<'a>>
+    ensures { IfErr result IsOpenFault }
 {
-    fs::open(rt, path).map_err(|_| Failure::CannotOpen(path))
+    fs::open(rt, path).map_err(|_| RunFault::CannotOpen(path))
 }

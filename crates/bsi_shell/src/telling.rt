@@ -1,9 +1,9 @@
 //! The lines that tell of faults.
 ghost use Rattle.std.specs.Prelude.{◌≡◌, ◌++◌, IfSome, codes};
-ghost use Rattle.bsi_shell.specs.FaultLines.{failure_line, usage_line};
+ghost use Rattle.bsi_shell.specs.FaultLines.{fault_line, usage_line};
 ghost use Rattle.bsi_text.specs.Waiting.{IsCut};
 
-use crate::files::Failure;
+use crate::files::RunFault;
 use arrayvec::ArrayVec;
 use bsi_text::{WriteFault, write_bytes};
 use std::fmt::Display;
@@ -26,18 +26,18 @@ pub fn tell_fault<D: Display + Drop, F: Write>(fault: D, faults: &mut F) -> u8
     1
 }
 
-/// Writes the line of a failure, and returns its status.
-pub(crate) fn tell_failure<F: Write>(failure: Failure<'_>, faults: &mut F) -> u8
+/// Writes the line of a fault, and returns its status.
+pub(crate) fn tell_run_fault<F: Write>(fault: RunFault<'_>, faults: &mut F) -> u8
     ensures status { result ≡ 1 }
-    ensures told { IsCut (F.contents faults.old) (F.contents faults.new) (failure_line failure.entry) }
+    ensures told { IsCut (F.contents faults.old) (F.contents faults.new) (fault_line fault.entry) }
 {
-    match failure {
-        Failure::CannotOpen(path) => {
-            // The status tells of the failure, even if its line cannot be written.
+    match fault {
+        RunFault::CannotOpen(path) => {
+            // The status tells of the fault, even if its line cannot be written.
             let _ = write_unopened(path, faults);
             1
         }
-        Failure::Run(fault) => tell_fault(fault, faults),
+        RunFault::Run(fault) => tell_fault(fault, faults),
     }
 }
 

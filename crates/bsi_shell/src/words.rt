@@ -2,14 +2,14 @@
 ghost use Rattle.std.specs.Prelude.{◌≡◌, ◌≤◌, IfErr, OnErr, OnOk};
 ghost use Rattle.bsi_shell.specs.Commands.{BeginsWithFiles};
 ghost use Rattle.bsi_shell.specs.FaultLines.{usage_line};
-ghost use Rattle.bsi_shell.specs.FileRuns.{HasRunOver, HasToldFailure};
+ghost use Rattle.bsi_shell.specs.FileRuns.{HasRunOver, HasToldFault};
 ghost use Rattle.bsi_shell.specs.ScriptRuns.{HasToldScript, LeavesScript};
 ghost use Rattle.bsi_text.specs.Texts.{IfKnown, IsAnswered, IsBegun};
 ghost use Rattle.bsi_text.specs.Waiting.{IsCut};
 
-use crate::files::{Failure, run_over};
+use crate::files::{RunFault, run_over};
 use crate::request::{Request, read_request};
-use crate::telling::{tell_failure, tell_fault, tell_usage};
+use crate::telling::{tell_fault, tell_run_fault, tell_usage};
 use bsi_files::FilesFault;
 use bsi_text::{ScriptFault, run_script};
 use std::alloc::Global;
@@ -46,7 +46,7 @@ pub fn run_words<
     ensures ran { result ≡ 0 → BeginsWithFiles words.items →
         HasRunOver S.remaining (O.contents output.old) (O.contents output.new) }
     ensures told { result ≡ 1 → BeginsWithFiles words.items →
-        HasToldFailure S.remaining (O.contents output.old) (O.contents output.new)
+        HasToldFault S.remaining (O.contents output.old) (O.contents output.new)
         (F.contents faults.old) (F.contents faults.new) }
 
     // In each case: a run with no fault says nothing. After status 2 nothing was written, and `faults` has a first part
@@ -62,10 +62,10 @@ pub fn run_words<
         },
         Request::Files(paths) => match run_over(rt, &paths, output) {
             Ok(()) => 0,
-            Err(failure) => tell_failure(failure, faults),
+            Err(fault) => tell_run_fault(fault, faults),
         },
         Request::Wrong => tell_usage(faults),
-        Request::NoMemory => tell_failure(Failure::Run(FilesFault::NoMemory), faults),
+        Request::NoMemory => tell_run_fault(RunFault::Run(FilesFault::NoMemory), faults),
     }
 }
 

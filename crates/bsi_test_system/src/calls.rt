@@ -3,6 +3,7 @@
 ghost use Rattle.std.specs.Prelude.{◌≡◌, ◌≤◌, [], All, IfSome, length};
 ghost use Rattle.bsi_table.specs.Table.{no_rows};
 ghost use Rattle.bsi_system.specs.Running.{IsFeederOf};
+ghost use Rattle.bsi_versions.specs.Editions.{max_analysts};
 
 use bsi_system::{
     Analyst, AnalystRefused, Feeder, History, LoadRefused, Loader, Naming, OpenRefused, System,
@@ -52,7 +53,7 @@ pub(crate) fn opened<B: Naming, R: Wait>(
     limit: u64,
     analysts: u32,
 ) -> Option<System<B>>
-    requires few { analysts ≤ 8 }
+    requires few { analysts ≤ max_analysts }
     requires history { history ≡ record { book = B.book; list = [] } }
     requires about { B.about ≡ no_rows schema (length capacities.items) limit }
     ensures { IfSome result (λ s. All (λ f. IsFeederOf f s.loader.system) s.feeders.items) }

@@ -3,6 +3,7 @@
 ghost use Rattle.std.specs.Prelude.{◌≡◌, ◌≤◌, [], All, IfSome, length};
 ghost use Rattle.bsi_table.specs.Table.{no_rows};
 ghost use Rattle.bsi_system.specs.Running.{IsFeederOf};
+ghost use Rattle.bsi_versions.specs.Editions.{max_analysts};
 
 use crate::calls::{count_of, load, opened, publish};
 use bsi_system::{
@@ -50,7 +51,7 @@ fn make_board<B: Naming>(
     analysts: usize,
 ) -> Result<Arc<Board<B>, Global>, NoMemory> {
     let mut letters = Vec::with_capacity(alloc, analysts)?;
-    'letters: for _ in 0..analysts {
+    for _ in 0..analysts {
         letters.push(Mutex::new(None))?;
     }
     let board = Board {
@@ -318,7 +319,7 @@ fn watch<B: Naming>(analyst: Analyst<B>, place: usize, board: &Board<B>) -> Watc
     let mut analyst = analyst;
     let mut known = 0;
     let mut kept = true;
-    'looks: for _ in 0..u64::MAX {
+    for _ in 0..u64::MAX {
         let over = board.over.load(Ordering::SeqCst);
         match take_letter(board, place) {
             Some(letter) => match look(&mut analyst, letter, known) {
@@ -350,7 +351,7 @@ fn start_analysts<B: Naming + Send + Sync + 'static, R: Threads>(
     board: &Arc<Board<B>, Global>,
 ) -> Option<Vec<JoinHandle<Watched<B>>>> {
     let mut watchers = Vec::with_capacity(alloc, analysts.len()).ok()?;
-    'analysts: for (place, analyst) in analysts.into_iter().enumerate() {
+    for (place, analyst) in analysts.into_iter().enumerate() {
         let started = match start_analyst(rt, analyst, place, board) {
             Some(watcher) => watchers.push(watcher).is_ok(),
             None => false,
@@ -409,7 +410,7 @@ fn have_their_rows<B: Naming>(
     many: u32,
 ) -> bool {
     let mut right = true;
-    'values: for value in 0..values {
+    for value in 0..values {
         right &= has_its_rows(analyst, column, value, many);
     }
     right
@@ -439,7 +440,7 @@ fn join_analysts<B: Naming, R: Threads>(
 ) -> Option<Analyst<B>> {
     let mut right = true;
     let mut last = None;
-    'watchers: for watcher in watchers {
+    for watcher in watchers {
         last = join_analyst(rt, watcher, all);
         right &= last.is_some();
     }
@@ -548,7 +549,7 @@ fn run_in<B: Naming + Send + Sync + 'static, R: Threads + Wait>(
     schema: Schema,
     capacities: Vec<u32>,
 ) -> Option<bool>
-    requires few { crowd.analysts ≤ 8 }
+    requires few { crowd.analysts ≤ max_analysts }
     requires history { history ≡ record { book = B.book; list = [] } }
     requires about { B.about ≡ no_rows schema (length capacities.items) 1000 }
 {
@@ -573,14 +574,14 @@ fn senders_and_places(alloc: Global) -> Option<Schema> {
 /// Returns the capacities of the rings: one place and two places by turns.
 fn small_rings(alloc: Global, feeders: u32) -> Option<Vec<u32>> {
     let mut capacities = Vec::with_capacity(alloc, feeders as usize).ok()?;
-    'feeders: for feeder in 0..feeders {
+    for feeder in 0..feeders {
         capacities.push(1 + feeder % 2).ok()?;
     }
     Some(capacities)
 }
 
 fn run_once<R: Threads + Wait>(rt: &R, alloc: Global, crowd: Crowd) -> Option<bool>
-    requires { crowd.analysts ≤ 8 }
+    requires { crowd.analysts ≤ max_analysts }
 {
     let schema = senders_and_places(alloc)?;
     let capacities = small_rings(alloc, crowd.feeders)?;

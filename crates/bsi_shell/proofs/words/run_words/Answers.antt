@@ -1,7 +1,7 @@
 use Rattle.std.proofs.Common.{inl, refl, subst, sym}
 use Rattle.bsi_files.specs.declared.faults.FilesFault.TheVariants.{NoMemory}
 use Rattle.bsi_shell.specs.Commands.{BeginsWithFiles}
-use Rattle.bsi_shell.specs.declared.files.Failure.TheVariants.{Run}
+use Rattle.bsi_shell.specs.declared.files.RunFault.TheVariants.{Run}
 use Rattle.bsi_text.proofs.Standing.{nothing_begun}
 use Rattle.bsi_shell.proofs.Runs.{keeps_same, of_any}
 use Rattle.bsi_shell.proofs.words.run_words.Goals as goal
@@ -33,7 +33,7 @@ pub returns-clause-told : goal.returns-clause-told
 returns-clause-told g c = λ one files.
     let written = g.O.Write.contents c.args.output.now in
     record {
-      failure = Run NoMemory;
+      fault = Run NoMemory;
       failed = inl (refl, keeps_same written written refl);
-      line = c.tell_failure-in-NoMemory.ensures.told;
+      line = c.tell_run_fault-in-NoMemory.ensures.told;
     }
