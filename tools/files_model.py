@@ -105,7 +105,7 @@ def run(schema, asks, files):
 
 
 # What standard error may say where memory was refused.
-WANTS_MEMORY = re.compile(rb"bsi: (file \d+: )?no memory\n|bsi: no reader\n")
+WANTS_MEMORY = re.compile(rb"bsi: (file \d+: )?no memory\n")
 
 
 def fault_in_run(given, ran, refused):

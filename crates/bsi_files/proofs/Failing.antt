@@ -42,7 +42,6 @@ use Rattle.bsi_files.proofs.Takings.{get_lt}
 module _ {R : Type 0} (rem : R → Option (List ℕ)) (stops : Bool) (limit : ℕ) (sources : List (Source R)) where
   pub load_early : (fault : FilesFault) → is_early fault ≡ true → (fault ≡ run.IndexFull → AreOverLimit rem limit sources) → IsLoadFault rem stops limit sources fault
   load_early run.IndexFull early over = over refl
-  load_early run.Readers early over = tt
   load_early run.NoMemory early over = tt
   load_early fault early over = absurd (cc (early))
 
@@ -68,7 +67,6 @@ leaves_loaded Is rem stops limit sources asked (run.Source number e) before afte
 leaves_loaded Is rem stops limit sources asked (run.NotClosed number) before after met same = same
 leaves_loaded Is rem stops limit sources asked run.IndexFull before after met same = same
 leaves_loaded Is rem stops limit sources asked run.NoMemory before after met same = inl same
-leaves_loaded Is rem stops limit sources asked run.Readers before after met same = same
 leaves_loaded Is rem stops limit sources asked fault before after met same = absurd met
 
 -- ---- from what was kept of an end to its source
@@ -313,6 +311,7 @@ module _ {R : Type 0} (rem : R → Option (List ℕ)) where
       past = met.past;
     }
     run_fault_of run.NoMemory met = tt
+    run_fault_of run.Readers met = absurd met
     run_fault_of fault met = all_good
 
 -- at the schema file, and at the headers

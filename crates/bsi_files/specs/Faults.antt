@@ -1,7 +1,7 @@
 -- The faults of a run: when they are met, and those of its texts.
 use Rattle.std.specs.Prelude.{Bool, true, false}
 use Rattle.bsi_files.specs.declared.faults.FilesFault.{FilesFault}
-use Rattle.bsi_files.specs.declared.faults.FilesFault.TheVariants.{BadSchema, IndexFull, NoColumns, Read, Source, TooLong, Readers, NoMemory, Write}
+use Rattle.bsi_files.specs.declared.faults.FilesFault.TheVariants.{BadSchema, IndexFull, NoColumns, Read, Source, TooLong, NoMemory, Write}
 use Rattle.bsi_files.specs.declared.faults.Which.{Which}
 use Rattle.bsi_files.specs.declared.faults.Which.TheVariants.{AsksFile, SchemaFile}
 use Rattle.bsi_text.specs.declared.rows.SourceFault.{SourceFault}
@@ -10,7 +10,6 @@ use Rattle.bsi_text.specs.declared.rows.SourceFault.TheVariants as source
 -- a fault that may be met while rows are loaded, and that no source answered
 abbrev pub is_early : FilesFault → Bool
 is_early IndexFull = true
-is_early Readers = true
 is_early NoMemory = true
 is_early fault = false
 

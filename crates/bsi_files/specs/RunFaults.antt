@@ -92,7 +92,7 @@ pub record ArePastLimit (declared : List ℕ) (texts : List (List ℕ)) : Type 0
 
 -- what a fault tells of the bytes of the schema file and of the row files, where a gate may stop a feeder and where none
 -- does. One that is met once the headers are read, but for refused memory and for a row file that can't be read to its
--- end, tells that these are good.
+-- end, tells that these are good. No run ends with no reader.
 abbrev pub IsFaultOf : Bool → List ℕ → List (List ℕ) → FilesFault → Type 0
 IsFaultOf stops declared texts run.TooManyFiles = max_feeders < length texts
 IsFaultOf stops declared texts (run.Read which.SchemaFile) = ⊤
@@ -105,6 +105,7 @@ IsFaultOf stops declared texts (run.Source number fault) = AreGoodBefore declare
 IsFaultOf stops declared texts run.IndexFull = ArePastLimit declared texts
 IsFaultOf stops declared texts (run.NotClosed number) = AreGood declared texts × (number < length texts)
 IsFaultOf stops declared texts run.NoMemory = ⊤
+IsFaultOf stops declared texts run.Readers = ⊥
 IsFaultOf stops declared texts fault = AreGood declared texts
 
 -- ---- by the sources
@@ -154,7 +155,6 @@ IsLoadFault rem stops limit sources (run.Source number fault) =
     FailsAt rem sources number fault × (stops ≡ false → All (WasReadOut rem) (take number sources))
 IsLoadFault rem stops limit sources (run.NotClosed number) = number < length sources
 IsLoadFault rem stops limit sources run.IndexFull = AreOverLimit rem limit sources
-IsLoadFault rem stops limit sources run.Readers = ⊤
 IsLoadFault rem stops limit sources run.NoMemory = ⊤
 IsLoadFault rem stops limit sources fault = ⊥
 

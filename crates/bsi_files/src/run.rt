@@ -281,7 +281,8 @@ fn feed_in<
     Ok((fed, table))
 }
 
-/// Feeds the files by threads of a scope, loads all their rows, and returns what each feeder leaves.
+/// Feeds the files by threads of a scope, loads all their rows, and returns what each feeder leaves. What `fed` asks of the
+/// loader is what its `into_table` tells of each.
 fn load_files<
     's,
     E,

@@ -130,11 +130,12 @@ impl<B: Naming> Loader<B> {
 
     /// Ends the loader, and hands over the table of all rows that were taken: those that are published, and then those
     /// that are held. It drops the rows that are still in a ring. It waits for analysts that read, and an analyst that
-    /// asks later is answered `Gone`. A loader that has published nothing copies no batch for it. If memory is refused,
-    /// the loader comes back.
+    /// asks later is answered `Gone`. Of a loader that never tried to publish, and whose rows came in batches, it copies
+    /// no row. If memory is refused, the loader comes back.
     pub fn into_table<R: Wait>(self, rt: &R) -> Result<Index, Loader<B>>
         ensures rows { IfOk result (λ table. table.rows ≡ self.published ++ self.held) }
         ensures schema { IfOk result (λ table. table.schema ≡ self.system.schema) }
+        ensures feeders { IfOk result (λ table. table.feeders ≡ length self.system.channels) }
         ensures limit { IfOk result (λ table. table.limit ≡ self.system.limit) }
         ensures within { IfOk result (λ table. length table.rows ≤ table.limit) }
         ensures err { IfErr result (λ loader. loader ≡ self) }

@@ -1,6 +1,6 @@
 //! Opens a running system.
 
-ghost use Rattle.std.specs.Prelude.{◌≡◌, ◌≤◌, ◌++◌, [], All, IfErr, IfOk, None, OnOk, length, replicate};
+ghost use Rattle.std.specs.Prelude.{◌≡◌, ◌<◌, ◌≤◌, ◌++◌, [], All, IfErr, IfOk, None, OnErr, OnOk, length, replicate};
 ghost use Rattle.bsi_table.specs.Table.{no_rows};
 ghost use Rattle.bsi_load.specs.Sizes.{sizes_refusal};
 ghost use Rattle.bsi_rings.specs.Rings.{new_feeders};
@@ -36,7 +36,7 @@ pub fn open<B: Naming>(
     ensures analysts { IfOk result (λ s. s.analysts.items ≡ replicate analysts []) }
     ensures taken { OnOk result (sizes_refusal schema capacities.items limit ≡ None) }
     ensures refused { IfErr result
-        (IsOpenRefusal (sizes_refusal schema capacities.items limit) schema limit) }
+        (IsOpenRefusal (sizes_refusal schema capacities.items limit) schema limit analysts) }
 {
     let made = System::<B>::make(alloc, history, schema, &capacities, limit, analysts);
     let mut system = match made {
@@ -62,8 +62,9 @@ fn find_analysts<B: Naming>(
     analysts: &mut Vec<Analyst<B>>,
     count: u32,
 ) -> Result<(), NoMemory>
-    ensures { OnOk result (analysts.new.items
+    ensures ok { OnOk result (analysts.new.items
         ≡ analysts.old.items ++ replicate count loader.now.published) }
+    ensures err { OnErr result (0 < count) }
 {
     // The proof counts the places by this variable.
     'analysts: for found in 0..count {

@@ -56,7 +56,7 @@ pub(crate) fn wants_memory(ended: &Result<Ended, AllocError>) -> bool {
         Ok(ended) => match ended.run {
             Ok(()) => is_in(b"no memory", ended.output.as_slice()),
             Err(FilesFault::Source(_, SourceFault::NoMemory)) => true,
-            Err(fault) => fault == FilesFault::NoMemory || fault == FilesFault::Readers,
+            Err(fault) => fault == FilesFault::NoMemory,
         },
     }
 }

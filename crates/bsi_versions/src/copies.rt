@@ -45,7 +45,7 @@ pub(crate) fn append_block<B: Naming>(
     ensures kind { IsFor copies.new.desk.shown.value.table block.new }
     ensures ok { OnOk result (block.new.rows ≡ []) }
 {
-    if block.len() == 0 {
+    if block.is_empty() {
         return Ok(());
     }
     let next = copies.published().index().new_block()?;

@@ -1,8 +1,8 @@
 //! The writing end: it holds rows back, and makes them visible at one step.
 //!
 //! A pending operation is a list of rows or a mark, which says which list of the history the rows then are. A publish
-//! that is tried again, or has nothing to show, adds no mark. Held rows go into the stage, and become an operation once
-//! there are some thousand, or at a publish. A stage in each copy would be part of what is shown.
+//! that is tried again, or has nothing to show, adds no mark. Held rows go into the stage, and become an operation at a
+//! publish, or once some thousand have come singly. A stage in each copy would be part of what is shown.
 
 ghost use Rattle.std.specs.Prelude.{◌≡◌, ◌+◌, ◌<◌, ◌≤◌, [], IfErr, IfOk, IsTrue, OnErr, OnOk, length, ◌↔◌};
 ghost use Rattle.bsi_table.specs.Columns.{fits};
@@ -163,8 +163,9 @@ impl<B: Naming> Publisher<B> {
     }
 
     /// Ends the writing end, and hands over the table with all its rows: those that are published, and then those that are
-    /// held. It waits for analysts that read, and an analyst that asks later is answered `Gone`. It copies no row where none
-    /// is published and none came singly since the last thousands. If memory is refused, the writing end comes back.
+    /// held. It waits for analysts that read, and an analyst that asks later is answered `Gone`. If memory is refused, the
+    /// writing end comes back. Where no row is published or a pending operation, the stage's batch is the table; else it
+    /// publishes first.
     pub fn into_table<R: Wait>(self, rt: &R) -> Result<Index, Publisher<B>>
         ensures ok { IfOk result (λ table. table ≡ with_rows self.table self.held) }
         ensures within { IfOk result (λ table. length table.rows ≤ table.limit) }

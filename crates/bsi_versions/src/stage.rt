@@ -3,7 +3,7 @@
 //! A row goes into a block of 64, and a full block into the batch, which is an index. A block touches each bitmap for one
 //! word alone, so a batch that blocks go into has some 8,192 rows: with some hundred bitmaps it fits a processor's second
 //! cache. A feeder's batch is copied by words, and goes into a batch of any length. Each copy of the table takes the batch
-//! by words too, bitmap after bitmap, and so does nobody where all rows stand in it when the table is handed over.
+//! by words too, bitmap after bitmap. A batch that has all rows there are may itself become the table.
 
 ghost use Rattle.std.specs.Prelude.{◌≡◌, ◌<◌, ◌++◌, [], IfErr, IfOk, IsTrue, OnErr, OnOk, length, ◌↔◌};
 ghost use Rattle.bsi_table.specs.Columns.{fits};
@@ -141,6 +141,7 @@ fn gather(batch: &mut Index, block: &mut Block) -> Result<(), NoMemory>
         × (block.new ≡ emptied_block block.old)) }
     ensures err { OnErr result ((batch.new ≡ batch.old) × (block.new ≡ block.old)) }
 {
+    // The proof takes from `len` that the rows fit.
     if block.len() == 0 {
         return Ok(());
     }
@@ -150,7 +151,7 @@ fn gather(batch: &mut Index, block: &mut Block) -> Result<(), NoMemory>
     Ok(())
 }
 
-/// Makes room in a batch of no rows for all that it may get, so that each bitmap grows once.
+/// Makes room in a batch of no rows for all that blocks may bring, so that each bitmap grows once for them.
 fn make_room(batch: &mut Index) -> Result<(), NoMemory>
     ensures { batch.new ≡ batch.old }
 {
