@@ -250,6 +250,29 @@ fn play<B: Naming, R: Wait>(
     }
 }
 
+/// Ends a loader as its table. It returns whether that has all rows. It returns none if memory is refused.
+fn end_as_table<B: Naming, R: Wait>(rt: &R, loader: Loader<B>) -> Option<bool> {
+    let (published, held) = loader.counts();
+    match loader.into_table(rt) {
+        Ok(table) => Some(published.checked_add(held) == Some(table.len())),
+        Err(loader) => {
+            loader.end(rt);
+            None
+        }
+    }
+}
+
+/// Ends the loader of a test, as its table where memory may be taken. It returns whether all went as it should.
+fn end<B: Naming, R: Wait>(rt: &R, worked: Worked, loader: Loader<B>) -> Option<bool> {
+    match worked {
+        Worked::NoMemory => {
+            loader.end(rt);
+            Some(true)
+        }
+        _other => end_as_table(rt, loader),
+    }
+}
+
 /// Plays a test on a system of its own.
 fn work_in<B: Naming, R: Wait>(
     rt: &R,
@@ -269,8 +292,8 @@ fn work_in<B: Naming, R: Wait>(
         analysts,
     } = opened::<B, R>(rt, alloc, history, schema, capacities, limit, 2)?;
     let played = play(rt, alloc, worked, feeders, &mut loader, analysts);
-    loader.end(rt);
-    played
+    let ended = end(rt, worked, loader);
+    Some(played? && ended?)
 }
 
 /// Returns how many places the feeders' rings have, and the limit of rows.

@@ -85,10 +85,24 @@ fn joins_twice(index: &mut Index, batch: &Index) -> bool {
     first == Some(Ok(0)) && second == Some(Ok(70)) && sum == Ok(Answer::Sum(700))
 }
 
+// Whether a batch that is emptied takes rows again. It kept its room, so no memory can be refused, and no call is made
+// again.
+fn is_filled_again(alloc: Global, batch: &mut Index) -> Result<bool, NoMemory> {
+    let row = row_of(alloc, &[Some(7)])?;
+    let mut block = block_of(batch)?;
+    batch.clear();
+    if !fill(&mut block, 64, &row) || !batch.takes(&block) {
+        return Ok(false);
+    }
+    let first = batch.append_block(&block);
+    let sum = answer(batch, Total::Sum(0), Pred::All);
+    Ok(first == Ok(0) && sum == Ok(Answer::Sum(448)))
+}
+
 fn takes_a_batch(alloc: Global, index: &mut Index) -> Result<bool, IndexError> {
     let mut batch = batch_like(index)?;
     let filled = fill_batch(alloc, &mut batch)?;
-    Ok(filled && joins_twice(index, &batch))
+    Ok(filled && joins_twice(index, &batch) && is_filled_again(alloc, &mut batch)?)
 }
 
 fn takes_batches(alloc: Global, form: Form) -> Result<bool, IndexError> {
