@@ -7,6 +7,10 @@ use Rattle.std.specs.Simd.Lanes.{chunk}
 abbrev pub max_len : ℕ
 max_len = 2 ^ 32
 
+-- the most words of a vector: those of the most bits
+abbrev pub max_words : ℕ
+max_words = 2 ^ 26
+
 -- the most bits that go in at once as a block: those of a word
 abbrev pub max_block : ℕ
 max_block = 64

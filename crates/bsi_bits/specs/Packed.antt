@@ -2,7 +2,7 @@
 use Rattle.std.specs.Prelude.{◌≡◌, ℕ, ◌-◌, ◌*◌, ◌/◌, ◌%◌, ◌≤◌, ◌==◌, Bool, false, List, length, map, filter, min, slice_index}
 use Rattle.std.specs.Int.{bit_at}
 use Rattle.std.specs.List.{range_with_len}
-use Rattle.bsi_bits.specs.BitList.{max_len, word_count}
+use Rattle.bsi_bits.specs.BitList.{max_len, max_words, word_count}
 
 -- the bit at place i of the words: binary digit i % 64 of word i / 64, and off past the last word
 abbrev pub bit_of : List ℕ → ℕ → Bool
@@ -18,9 +18,9 @@ pub record IsPacked (n : ℕ) (words : List ℕ) : Type 0 where
   pub few : length words ≡ word_count n
   pub clear : (i : ℕ) → n ≤ i → bit_of words i ≡ false
 
--- so many more bits than n can be had in words of this capacity, of which none but the first 2^26 are filled
+-- so many more bits than n can be had in words of this capacity, of which at most `max_words` are filled
 abbrev pub room_behind : ℕ → ℕ → ℕ
-room_behind n capacity = 64 * min 0x400_0000 capacity - n
+room_behind n capacity = 64 * min max_words capacity - n
 
 -- the places from `at` up to the n-th that are set in the words, rising
 unfoldable pub places_from : ℕ → ℕ → List ℕ → List ℕ
