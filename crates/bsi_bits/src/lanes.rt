@@ -62,7 +62,7 @@ fn combine_twice<O: Operation, P: Operation>(a: &mut [u64], b: &[u64], c: &[u64]
 /// Returns the number of ones in four words.
 fn ones_in(words: u64x4) -> u64
     ensures ones { result ≡ sum_by count_ones words }
-    ensures few { result ≤ 256 }
+    ensures few { result ≤ 64 * LANES }
 {
     let [a, b, c, d] = words.to_array();
     (a.count_ones() + b.count_ones() + c.count_ones() + d.count_ones()) as u64
