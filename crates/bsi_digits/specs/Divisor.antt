@@ -1,7 +1,10 @@
 -- What is kept beside a divisor.
 use Rattle.std.specs.Prelude.{◌≡◌, ℕ, ◌+◌, ◌-◌, ◌/◌, ◌^◌, ◌≤◌}
 use Rattle.std.specs.Int.{w64, leading_zeros}
-use Rattle.bsi_digits.specs.Digits.{max_size}
+
+-- the greatest divisor; a number that is divided is below it, which makes the quotient exact
+abbrev pub max_divisor : ℕ
+max_divisor = 2 ^ 63
 
 -- the binary digits of the number before the divisor: the least power of two that is no smaller than the divisor
 abbrev pub shift_of : ℕ → ℕ
@@ -13,6 +16,6 @@ reciprocal_of d = (2 ^ (63 + shift_of d) + d - 1) / d
 
 pub record IsDivisor (divisor reciprocal shift : ℕ) : Type 0 where
   pub some : 1 ≤ divisor
-  pub small : divisor ≤ max_size
+  pub small : divisor ≤ max_divisor
   pub shift_is : shift ≡ shift_of divisor
   pub reciprocal_is : reciprocal ≡ reciprocal_of divisor

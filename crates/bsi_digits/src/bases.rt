@@ -75,7 +75,7 @@ impl Bases {
     /// other `w` as `new` refuses that list, before it asks for memory.
     pub fn twos(alloc: Global, w: u32) -> Result<Bases, BasesError>
         ensures empty { IsErrOf result BasesError.Empty ↔ (w ≡ 0) }
-        ensures too_many { IsErrOf result BasesError.TooMany ↔ (63 < w) }
+        ensures too_many { IsErrOf result BasesError.TooMany ↔ (max_bases < w) }
         ensures refused { IfErr result (IsFirstOr BasesError.NoMemory (refusal (replicate w 2))) }
         ensures ok { IfOk result (λ b. b ≡ replicate w 2) }
     {

@@ -3,7 +3,7 @@
 //! The reciprocal is rounded up, at 2^(63 + s), where 2^s is the least power of two that is no smaller than the
 //! divisor. That is exact for each number below 2^63. So a digit costs two multiplications and no division.
 ghost use Rattle.std.specs.Prelude.{◌≡◌, ℕ, ◌/◌, ◌<◌, ◌≤◌};
-ghost use Rattle.bsi_digits.specs.Digits.{max_size};
+ghost use Rattle.bsi_digits.specs.Divisor.{max_divisor};
 
 use std::marker::Model;
 
@@ -36,7 +36,7 @@ impl Model for Divisor {
 impl Divisor {
     /// Makes a divisor with its reciprocal. It costs a division.
     pub fn new(divisor: u64) -> Divisor
-        requires { (1 ≤ divisor) × (divisor ≤ max_size) }
+        requires { (1 ≤ divisor) × (divisor ≤ max_divisor) }
         ensures { result ≡ divisor }
     {
         let shift = 64 - (divisor - 1).leading_zeros();
@@ -58,7 +58,7 @@ impl Divisor {
 
     /// Returns the quotient of `v`, rounded down. It costs no division.
     pub fn quotient(&self, v: u64) -> u64
-        requires { v < max_size }
+        requires { v < max_divisor }
         ensures { result ≡ v / self.now }
     {
         let scaled = u128::from(v) * u128::from(self.reciprocal);
