@@ -31,7 +31,7 @@ const MAX_SIZE: u64 = 1 << 63;
 #[derive(Debug, Drop)]
 pub struct Bases {
     bases: Vec<u32>,
-    weights: [Divisor; 64],
+    weights: [Divisor; MAX_BASES + 1],
 }
 
 impl Model for Bases {
@@ -200,17 +200,17 @@ fn sum_of(bases: &[u32]) -> u64
 
 /// Returns the weight of each component and, after the last one, the product of all bases. The bases are least
 /// significant first. It returns `None` if the product is over the largest size.
-fn weights(bases: &[u32]) -> Option<[Divisor; 64]>
+fn weights(bases: &[u32]) -> Option<[Divisor; MAX_BASES + 1]>
     requires few { length bases.now ≤ max_bases }
     requires each { EachIndex bases.now (λ i. 1 ≤ slice_index bases.now i) }
     ensures none { IsNone result ↔ (max_size < product bases.now) }
     ensures some { IfSome result (HoldsWeights bases.now) }
 {
-    let mut kept = [Divisor::new(1); 64];
+    let mut kept = [Divisor::new(1); MAX_BASES + 1];
     let weights = &mut kept[..];
     let mut weight = 1u64;
-    for i in 0..bases.len() {
-        let next = u128::from(weight) * u128::from(bases[i]);
+    for (i, base) in bases.iter().enumerate() {
+        let next = u128::from(weight) * u128::from(*base);
         if next > u128::from(MAX_SIZE) {
             return None;
         }

@@ -1,5 +1,5 @@
-use Rattle.std.proofs.Common.{◌≡◌, ℕ, ◌^◌, ◌≤◌, length, slice_index}
-use Rattle.bsi_digits.specs.Digits.{weight}
+use Rattle.std.proofs.Common.{◌≡◌, ℕ, ◌≤◌, length, slice_index}
+use Rattle.bsi_digits.specs.Digits.{max_size, weight}
 use Rattle.bsi_digits.proofs.bases.weights.Given as goal
 
 abbrev pub invariant-loop-i : goal.invariant-loop-i
@@ -7,6 +7,6 @@ invariant-loop-i l = record {
   kept : (k : ℕ) → k ≤ l.i → slice_index l.weights k ≡ weight l.bases k;
   last : l.weight ≡ weight l.bases l.i;
   some : 1 ≤ l.weight;
-  small : l.weight ≤ 2 ^ 63;
+  small : l.weight ≤ max_size;
   long : length l.weights ≡ 64;
 }
