@@ -49,10 +49,10 @@ marks_of holds n block words all few marked = record {
 }
 
 -- no digit marks nothing
-pub marked_none : (block words : List ℕ) → ((j : ℕ) → get_or words j 0 ≡ 0) → Marked (λ j v. v == j) 0 block words
-marked_none block words clear = record {
+pub marked_none : (holds : ℕ → ℕ → Bool) (block words : List ℕ) → ((j : ℕ) → get_or words j 0 ≡ 0) → Marked holds 0 block words
+marked_none holds block words clear = record {
   each = λ j p within.
-      ap (λ w. bit_at w p == 1) (clear j) ∙ ap (λ b. b == 1) (bit_at-zero p) ∙ sym (ge_test p 0 (get_or block p 0 == j) (omega arith));
+      ap (λ w. bit_at w p == 1) (clear j) ∙ ap (λ b. b == 1) (bit_at-zero p) ∙ sym (ge_test p 0 (holds j (get_or block p 0)) (omega arith));
 }
 
 more_same : (p d j : ℕ) → d ≡ j → true ≡ (nat_lt p (p + 1) && (d == j))

@@ -1,25 +1,28 @@
 //! A block of digits as words: bit `k` of word `j` tells something of digit `k`.
 //!
-//! Digits of one to six binary places are turned into the words of these places first, which are spread over those of the
-//! digits. Of others each digit is marked, and the words of the places are made of those of the digits: the upper half of
-//! these, joined, is the word of the greatest place, and the lower half, each word joined with one of the upper half, marks
-//! the digits but for that place.
+//! Digits below a base from 4 to 64 are turned into the words of their binary places first, which are spread over those of
+//! the digits. Under another base each digit is marked. Bases 2 and 3 keep no places. From base 65 on the words of the
+//! places are made of those of the digits: the upper half of these, joined, is the word of the greatest place, and the
+//! lower half, each word joined with one of the upper half, marks the digits but for that place.
 
 ghost use Rattle.std.specs.Prelude.{◌≡◌, ℕ, List, [], ◌∷◌, ◌+◌, ◌-◌, ◌*◌, ◌^◌, ◌<◌, ◌≤◌, ◌==◌, bit_or, length, nat_lt, slice_index};
 ghost use Rattle.std.specs.Int.{bit_at};
 ghost use Rattle.bsi_bits.specs.BitList.{max_block};
-ghost use Rattle.bsi_words.specs.Places.{then_places, IsCount};
+ghost use Rattle.bsi_words.specs.Places.{max_digit_places, then_places, IsCount};
 ghost use Rattle.bsi_words.specs.Marks.{spelled, union_of, AreDigitMarks};
 
 use bsi_bits::know_fits;
 use std::simd::prelude::*;
 
+/// The most binary places of digits whose words are spread: those of the digits below 64.
+const SPREAD_PLACES: usize = 6;
+
 /// The most words of a block that stand in a small array, which is cleared sooner. A base of 64 takes as many: one for
 /// each digit and one for each binary place.
-pub const MAX_SMALL_WORDS: usize = 70;
+pub const SMALL_MARK_WORDS: usize = 70;
 
 /// The most words of a block, those of a base of 1,024. `bsi_digits` allows no greater base in a list.
-pub const MAX_WORDS: usize = 1034;
+pub const MAX_MARK_WORDS: usize = 1034;
 
 /// Sets in word `j`, of words that are 0, the bit of each digit that is `j`. For each digit it looks at one word.
 fn mark(block: &[u32], words: &mut [u64])
@@ -57,7 +60,7 @@ fn fold(words: &mut [u64], half: usize) -> u64
 fn mark_places(words: &mut [u64], base: usize, folded: &mut [u64])
     requires within { base ≤ length words.old }
     requires enough { base ≤ 2 ^ (length words.old - base) }
-    requires few { length words.old ≤ base + 10 }
+    requires few { length words.old ≤ base + max_digit_places }
     requires ample { 2 ^ (length words.old - base) ≤ length folded.old }
     requires clear { (j : ℕ) → slice_index folded.old j ≡ 0 }
     ensures long { length words.new ≡ length words.old }
@@ -95,15 +98,15 @@ fn mark_each(block: &[u32], base: usize, words: &mut [u64])
 }
 
 /// Returns the words of the six binary places of 64 digits, the least place first.
-fn place_words(block: &[u32]) -> [u64; 6]
-    requires whole { length block.now ≡ 64 }
-    requires below { (k : ℕ) → k < length block.now → slice_index block.now k < 64 }
-    ensures { (p k : ℕ) → p < 6 → k < 64 →
+fn place_words(block: &[u32]) -> [u64; SPREAD_PLACES]
+    requires whole { length block.now ≡ max_block }
+    requires below { (k : ℕ) → k < length block.now → slice_index block.now k < 2 ^ SPREAD_PLACES }
+    ensures { (p k : ℕ) → p < SPREAD_PLACES → k < max_block →
         bit_at (slice_index result p) k ≡ bit_at (slice_index block.now k) p }
 {
     let digits = u32x64::from_slice(block).cast::<u8>();
-    let mut words = [0; 6];
-    'places: for p in 0..6 {
+    let mut words = [0; SPREAD_PLACES];
+    'places: for p in 0..SPREAD_PLACES {
         let place = u8x64::splat(1 << p);
         words[p] = (digits & place).simd_eq(place).to_bitmask();
     }
@@ -113,14 +116,14 @@ fn place_words(block: &[u32]) -> [u64; 6]
 /// Returns the word of a binary place for 1, and that of the digits without it for 0.
 fn choose(place: u64, bit: usize) -> u64
     requires { bit < 2 }
-    ensures { (k : ℕ) → k < 64 → (bit_at result k == 1) ≡ (bit_at place k == bit) }
+    ensures { (k : ℕ) → k < max_block → (bit_at result k == 1) ≡ (bit_at place k == bit) }
 {
     if bit == 1 { place } else { !place }
 }
 
 /// Returns for each number below 8 the word of the digits of which three binary places spell it.
 fn spell(first: u64, second: u64, third: u64) -> [u64; 8]
-    ensures { (j k : ℕ) → j < 8 → k < 64 → (bit_at (slice_index result j) k == 1)
+    ensures { (j k : ℕ) → j < 8 → k < max_block → (bit_at (slice_index result j) k == 1)
         ≡ (spelled (first ∷ second ∷ third ∷ []) k == j) }
 {
     let mut words = [0; 8];
@@ -131,10 +134,10 @@ fn spell(first: u64, second: u64, third: u64) -> [u64; 8]
 }
 
 /// Writes in each word, by those of six binary places, the bits of the digits that are its number.
-fn spread(places: &[u64; 6], words: &mut [u64])
-    requires few { length words.old ≤ 64 }
+fn spread(places: &[u64; SPREAD_PLACES], words: &mut [u64])
+    requires few { length words.old ≤ 2 ^ SPREAD_PLACES }
     ensures long { length words.new ≡ length words.old }
-    ensures spelled { (j k : ℕ) → j < length words.new → k < 64 →
+    ensures spelled { (j k : ℕ) → j < length words.new → k < max_block →
         (bit_at (slice_index words.new j) k == 1) ≡ (spelled places.now k == j) }
 {
     let low = spell(places[0], places[1], places[2]);
@@ -153,10 +156,10 @@ fn spread(places: &[u64; 6], words: &mut [u64])
 /// one for each place for which there is a word left.
 #[inline(always)]
 fn spread_digits(block: &[u32], base: usize, words: &mut [u64])
-    requires whole { length block.now ≡ 64 }
+    requires whole { length block.now ≡ max_block }
     requires within { base ≤ length words.old }
     requires enough { base ≤ 2 ^ (length words.old - base) }
-    requires few { length words.old ≤ base + 6 }
+    requires few { length words.old ≤ base + SPREAD_PLACES }
     requires below { (k : ℕ) → k < length block.now → slice_index block.now k < base }
     ensures long { length words.new ≡ length words.old }
     ensures marks { AreDigitMarks (then_places base (λ j v. v == j)) block.now words.new }
@@ -172,10 +175,10 @@ fn spread_digits(block: &[u32], base: usize, words: &mut [u64])
 /// clears its bit.
 fn spread_few(block: &[u32], base: usize, words: &mut [u64])
     requires some { 0 < length block.now }
-    requires short { length block.now < 64 }
+    requires short { length block.now < max_block }
     requires within { base ≤ length words.old }
     requires enough { base ≤ 2 ^ (length words.old - base) }
-    requires few { length words.old ≤ base + 6 }
+    requires few { length words.old ≤ base + SPREAD_PLACES }
     requires below { (k : ℕ) → k < length block.now → slice_index block.now k < base }
     ensures long { length words.new ≡ length words.old }
     ensures marks { AreDigitMarks (then_places base (λ j v. v == j)) block.now words.new }
@@ -196,8 +199,11 @@ pub fn mark_digits(block: &[u32], base: usize, words: &mut [u64])
     ensures long { length words.new ≡ length words.old }
     ensures marks { AreDigitMarks (then_places base (λ j v. v == j)) block.now words.new }
 {
+    if block.is_empty() {
+        return;
+    }
     let places = words.len() - base;
-    if block.is_empty() || places == 0 || places > 6 {
+    if places == 0 || places > SPREAD_PLACES {
         mark_each(block, base, words);
     } else if block.len() == 64 {
         spread_digits(block, base, words);

@@ -5,7 +5,7 @@
 
 ghost use Rattle.std.specs.Prelude.{◌≡◌, ℕ, List, ◌+◌, ◌*◌, ◌^◌, ◌≤◌, ◌<◌, ◌&&◌, false, if◌then◌else◌, length, not, slice_index, sum_by, count_by, count_ones};
 ghost use Rattle.std.specs.Simd.Lanes.{zip2};
-ghost use Rattle.bsi_bits.specs.BitList.{without};
+ghost use Rattle.bsi_bits.specs.BitList.{max_words, without};
 ghost use Rattle.bsi_bits.specs.BitLists.{bits_at};
 ghost use Rattle.bsi_bits.specs.Packed.{bits_of, IsPacked};
 ghost use Rattle.bsi_words.specs.Places.{has_place, max_places, IsEncoded};
@@ -100,7 +100,7 @@ fn count_clear(found: &Bits, slice: &Bits) -> u64
 
 /// Counts in words as `count_clear` does. It passes over lines that have no row.
 fn count_words(words: &[u64], others: &[u64]) -> u64
-    requires few { length words.now ≤ 2 ^ 26 }
+    requires few { length words.now ≤ max_words }
     requires same { length others.now ≡ length words.now }
     ensures { result ≡ sum_by count_ones (zip2 (word_kept false) words.now others.now) }
 {
@@ -140,7 +140,7 @@ fn narrow(chosen: &mut [u64], slice: &Bits, is_set: bool, next: &Bits) -> u64
 
 /// Narrows words as `narrow` does. It passes over lines that have no chosen row any more.
 fn narrow_words(chosen: &mut [u64], words: &[u64], is_set: bool, next: &[u64]) -> u64
-    requires few { length chosen.old ≤ 2 ^ 26 }
+    requires few { length chosen.old ≤ max_words }
     requires same { length words.now ≡ length chosen.old }
     requires same_next { length next.now ≡ length chosen.old }
     ensures chosen { chosen.new ≡ zip2 (word_kept is_set) chosen.old words.now }

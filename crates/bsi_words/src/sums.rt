@@ -6,7 +6,7 @@
 
 ghost use Rattle.std.specs.Prelude.{◌≡◌, ℕ, List, ◌+◌, ◌^◌, ◌<◌, ◌≤◌, ◌↔◌, IsTrue, length, slice_index, sum};
 ghost use Rattle.std.specs.List.{items_where_true};
-ghost use Rattle.bsi_bits.specs.BitList.{in_words, max_len, word_count};
+ghost use Rattle.bsi_bits.specs.BitList.{in_words, max_len, max_words, word_count};
 ghost use Rattle.bsi_bits.specs.BitLists.{bits_at};
 ghost use Rattle.bsi_words.specs.Places.{has_place, max_places, IsEncoded};
 
@@ -56,7 +56,7 @@ struct Stretch {
 fn stretch_from(words: &[u64], at: usize, most: usize) -> Stretch
     requires at { at ≤ length words.now }
     requires most { (1 ≤ most) × (most ≤ MAX_STRETCH_WORDS) }
-    requires few { length words.now ≤ 2 ^ 26 }
+    requires few { length words.now ≤ max_words }
     ensures forward { (at ≤ result.start) × (result.start ≤ result.end) }
     ensures within { result.end ≤ length words.now }
     ensures more { at < length words.now → at < result.end }
@@ -75,7 +75,7 @@ fn stretch_from(words: &[u64], at: usize, most: usize) -> Stretch
 
 /// Returns the most words of the stretch after this one, if it begins at once.
 fn next_most(stretch: Stretch) -> usize
-    requires { (stretch.start ≤ stretch.end) × (stretch.end ≤ 2 ^ 26) }
+    requires { (stretch.start ≤ stretch.end) × (stretch.end ≤ max_words) }
     ensures { (1 ≤ result) × (result ≤ MAX_STRETCH_WORDS) }
 {
     let twice = 2 * (stretch.end - stretch.start);
@@ -85,7 +85,7 @@ fn next_most(stretch: Stretch) -> usize
 /// Returns whether the line of words from `at` on has no row.
 fn is_line_empty(words: &[u64], at: usize) -> bool
     requires within { at ≤ length words.now }
-    requires few { length words.now ≤ 2 ^ 26 }
+    requires few { length words.now ≤ max_words }
     ensures { IsTrue result →
         (k : ℕ) → at ≤ k → k < at + LINE_WORDS → slice_index words.now k ≡ 0 }
 {

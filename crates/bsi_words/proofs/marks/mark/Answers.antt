@@ -4,7 +4,7 @@ use Rattle.std.specs.Prelude.{◌==◌}
 use Rattle.bsi_words.proofs.marks.mark.Goals as goal
 
 pub digits-init : goal.digits-init
-digits-init c = record { long = refl; marked = marked_none c.args.block.now c.args.words.now c.requires.clear }
+digits-init c = record { long = refl; marked = marked_none (λ j v. v == j) c.args.block.now c.args.words.now c.requires.clear }
 
 pub digits-preserved : goal.digits-preserved
 digits-preserved c =
