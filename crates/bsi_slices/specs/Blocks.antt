@@ -2,6 +2,10 @@
 use Rattle.std.specs.Prelude.{◌≡◌, ℕ, ◌+◌, ◌*◌, ◌<◌, ◌≤◌, ◌&&◌, Bool, List, length, slice_index_or, Option, None}
 use Rattle.bsi_bits.specs.Packed.{bit_of}
 
+-- the most words that a step takes side by side: as many as the lanes of a `Simd` can be
+abbrev pub max_lanes : ℕ
+max_lanes = 64
+
 -- of the rows of the words `from` up to `to` some are kept, and the other words are as they were
 pub record IsKept (kept : ℕ → Bool) (from to : ℕ) (old now : List ℕ) : Type 0 where
   pub inside : (r : ℕ) → 64 * from ≤ r → r < 64 * to → bit_of now r ≡ (bit_of old r && kept r)

@@ -10,10 +10,10 @@ ghost use Rattle.std.specs.Prelude.{◌≡◌, ℕ, ◌+◌, ◌*◌, ◌-◌, �
 ghost use Rattle.std.specs.Int.{bit_not, w64};
 ghost use Rattle.std.specs.Simd.Lanes.{zip2};
 ghost use Rattle.bsi_words.specs.Places.{max_places};
-ghost use Rattle.bsi_bits.specs.BitList.{word_count};
+ghost use Rattle.bsi_bits.specs.BitList.{max_words, word_count};
 ghost use Rattle.bsi_bits.specs.BitLists.{bits_at};
 ghost use Rattle.bsi_bits.specs.Packed.{bit_of};
-ghost use Rattle.bsi_slices.specs.Blocks.{IsKept, KeepsRows};
+ghost use Rattle.bsi_slices.specs.Blocks.{max_lanes, IsKept, KeepsRows};
 ghost use Rattle.bsi_slices.specs.Decisions.{passes};
 ghost use Rattle.bsi_slices.specs.Rows.{selects};
 ghost use Rattle.bsi_slices.specs.Slices.{entries_in, number, IsSliced};
@@ -83,7 +83,7 @@ pub fn keep_selected(
 fn keep(slices: &[Bits], test: Test, start: usize, words: &mut [u64])
     requires few { length slices.now ≤ max_places }
     requires below { test.constant < 2 ^ length slices.now }
-    requires small { start + length words.old ≤ 2 ^ 26 }
+    requires small { start + length words.old ≤ max_words }
     requires long { (i : ℕ) → i < length slices.now →
         start + length words.old ≤ word_count (length (bits_at slices.now i)) }
     ensures { IsKept (λ r. passes test (number slices.now (64 * start + r))) 0 (length words.old)
@@ -102,11 +102,11 @@ fn keep_blocks<const N: usize>(
     from: usize,
     words: &mut [u64],
 )
-    requires blocks { (1 ≤ N) × (N ≤ 64) }
+    requires blocks { (1 ≤ N) × (N ≤ max_lanes) }
     requires few { length slices.now ≤ max_places }
     requires below { test.constant < 2 ^ length slices.now }
     requires within { from ≤ length words.old }
-    requires small { start + length words.old ≤ 2 ^ 26 }
+    requires small { start + length words.old ≤ max_words }
     requires long { (i : ℕ) → i < length slices.now →
         start + length words.old ≤ word_count (length (bits_at slices.now i)) }
     ensures { IsKept (λ r. passes test (number slices.now (64 * start + r))) from
@@ -127,7 +127,7 @@ fn kept_block<const N: usize>(
     at: usize,
     block: Simd<u64, N>,
 ) -> Simd<u64, N>
-    requires blocks { (1 ≤ N) × (N ≤ 64) }
+    requires blocks { (1 ≤ N) × (N ≤ max_lanes) }
     requires few { length slices.now ≤ max_places }
     requires below { test.constant < 2 ^ length slices.now }
     requires long { (i : ℕ) → i < length slices.now →
@@ -146,7 +146,7 @@ fn kept_block<const N: usize>(
 /// the least significant up. At a place that is 1 in the constant, a row stays above only if its slice is 1 too. At a
 /// place that is 0 in the constant, each row whose slice is 1 is above.
 fn above_block<const N: usize>(slices: &[Bits], constant: u64, at: usize) -> Simd<u64, N>
-    requires blocks { (1 ≤ N) × (N ≤ 64) }
+    requires blocks { (1 ≤ N) × (N ≤ max_lanes) }
     requires few { length slices.now ≤ max_places }
     requires below { constant < 2 ^ length slices.now }
     requires long { (i : ℕ) → i < length slices.now →
@@ -167,7 +167,7 @@ fn above_block<const N: usize>(slices: &[Bits], constant: u64, at: usize) -> Sim
 
 /// Returns for the rows of a block whether their numbers equal the constant.
 fn equal_block<const N: usize>(slices: &[Bits], constant: u64, at: usize) -> Simd<u64, N>
-    requires blocks { (1 ≤ N) × (N ≤ 64) }
+    requires blocks { (1 ≤ N) × (N ≤ max_lanes) }
     requires few { length slices.now ≤ max_places }
     requires below { constant < 2 ^ length slices.now }
     requires long { (i : ℕ) → i < length slices.now →
@@ -211,7 +211,7 @@ pub(super) fn cut<const N: usize>(
 fn words_at(slices: &[Bits], place: usize) -> &[u64]
     requires { place < length slices.now }
     ensures few { length result.now ≡ word_count (length (bits_at slices.now place)) }
-    ensures small { length result.now ≤ 2 ^ 26 }
+    ensures small { length result.now ≤ max_words }
     ensures places { (i : ℕ) →
         bit_of result.now i ≡ slice_index_or (bits_at slices.now place) i false }
     ensures fits { (k : ℕ) → slice_index result.now k < 2 ^ 64 }

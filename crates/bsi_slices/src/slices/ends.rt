@@ -12,6 +12,7 @@ ghost use Rattle.bsi_digits.specs.Digits.{max_size};
 ghost use Rattle.bsi_bits.specs.BitList.{word_count};
 ghost use Rattle.bsi_bits.specs.Packed.{bit_of};
 ghost use Rattle.bsi_bits.specs.Marked.{HasMarked};
+ghost use Rattle.bsi_slices.specs.Blocks.{max_lanes};
 ghost use Rattle.bsi_slices.specs.Ends.{comes_first, leads, yields, IsBetterIn, IsEndUpto, IsEndOf, first_is_clear, nearest_place, number_at};
 ghost use Rattle.bsi_slices.specs.Totals.{numbers_at};
 
@@ -70,7 +71,7 @@ impl Slices {
         from: usize,
         before: Option<u64>,
     ) -> Option<u64>
-        requires blocks { (1 ≤ N) × (N ≤ 64) }
+        requires blocks { (1 ≤ N) × (N ≤ max_lanes) }
         requires same { length self.now.entries ≡ length found.now.bits }
         requires within { from ≤ word_count (length found.now.bits) }
         requires before { IsEndUpto end found.now.bits self.now.entries (64 * from) before }
@@ -97,7 +98,7 @@ impl Slices {
         at: usize,
         best: Option<u64>,
     ) -> Option<u64>
-        requires blocks { (1 ≤ N) × (N ≤ 64) }
+        requires blocks { (1 ≤ N) × (N ≤ max_lanes) }
         requires within { at + N ≤ word_count (length self.now.entries) }
         ensures { IsBetterIn end (bit_of rows.entry) (λ p. number_at self.now.entries (64 * at + p))
             (64 * N) best result }
