@@ -1,5 +1,5 @@
 -- Which lists of bases are refused.
-use Rattle.std.proofs.Common.{◌≡◌, ℕ, ◌-◌, ◌^◌, ◌<◌, ◌≤◌, Bool, true, false, cond, nat_lt, nat_eq, List, length, get_or, reverse, sum, Option, Some, None, position, refl, sym, ◌∙◌, subst, arith, ◌⊎◌, inl, inr, if◌then◌else◌}
+use Rattle.std.proofs.Common.{◌≡◌, ℕ, ◌-◌, ◌<◌, ◌≤◌, Bool, true, false, cond, nat_lt, nat_eq, List, length, get_or, reverse, sum, Option, Some, None, position, refl, sym, ◌∙◌, subst, arith, ◌⊎◌, inl, inr, if◌then◌else◌}
 use Rattle.std.specs.List.{position_or_len}
 use Rattle.std.proofs.lemmas.Bool.{cases_lt}
 use Rattle.std.proofs.lemmas.Bool.Decides.{nat_tests}
@@ -8,7 +8,7 @@ use Rattle.std.proofs.lemmas.List.Sums.{fails_before_first, position_or_len_is}
 use Rattle.std.proofs.lemmas.List.Sorted.{IsPermutation-reverse, sum_by-IsPermutation}
 use Rattle.bsi_digits.specs.declared.bases_error.BasesError.{BasesError}
 use Rattle.bsi_digits.specs.declared.bases_error.BasesError.TheVariants.{Empty, TooMany, TooWide, ProductTooLarge}
-use Rattle.bsi_digits.specs.Digits.{max_base, max_sum, product, IsBase, IsBaseList}
+use Rattle.bsi_digits.specs.Digits.{max_base, max_bases, max_size, max_sum, product, IsBase, IsBaseList}
 use Rattle.bsi_digits.specs.Refusal.{refusal, refusal_by_place, is_bad_base}
 use Rattle.bsi_digits.proofs.Products.{product-reverse}
 
@@ -40,26 +40,26 @@ each_from_position bs none i h =
 -- bases that pass each test but that of the product
 pub record IsPastSum (bs : List ℕ) : Type 0 where
   pub some : 0 < length bs
-  pub few : length bs ≤ 63
+  pub few : length bs ≤ max_bases
   pub good : position is_bad_base bs ≡ None
   pub narrow : sum bs ≤ max_sum
 
-past_sum : (bs : List ℕ) → IsPastSum bs → refusal bs ≡ (if nat_lt (2 ^ 63) (product bs) then Some ProductTooLarge else None)
+past_sum : (bs : List ℕ) → IsPastSum bs → refusal bs ≡ (if nat_lt max_size (product bs) then Some ProductTooLarge else None)
 past_sum bs past =
     let one : nat_eq (length bs) 0 ≡ false = grind (arith, nat_tests) in
-    let two : nat_lt 63 (length bs) ≡ false = grind (arith, nat_tests) in
+    let two : nat_lt max_bases (length bs) ≡ false = grind (arith, nat_tests) in
     let good : position is_bad_base bs ≡ None = past.good in
     let four : nat_lt max_sum (sum bs) ≡ false = grind (arith, nat_tests) in
     rw (one, two, good, four) refl
 
-pub refusal_is_none : (bs : List ℕ) → IsPastSum bs → product bs ≤ 2 ^ 63 → refusal bs ≡ None
+pub refusal_is_none : (bs : List ℕ) → IsPastSum bs → product bs ≤ max_size → refusal bs ≡ None
 refusal_is_none bs past small =
-    let five : nat_lt (2 ^ 63) (product bs) ≡ false = grind (arith, nat_tests) in
+    let five : nat_lt max_size (product bs) ≡ false = grind (arith, nat_tests) in
     past_sum bs past ∙ rw five refl
 
-pub refusal_is_large : (bs : List ℕ) → IsPastSum bs → 2 ^ 63 < product bs → refusal bs ≡ Some ProductTooLarge
+pub refusal_is_large : (bs : List ℕ) → IsPastSum bs → max_size < product bs → refusal bs ≡ Some ProductTooLarge
 refusal_is_large bs past large =
-    let five : nat_lt (2 ^ 63) (product bs) ≡ true = grind (arith, nat_tests) in
+    let five : nat_lt max_size (product bs) ≡ true = grind (arith, nat_tests) in
     past_sum bs past ∙ rw five refl
 
 -- and the other way round
@@ -111,22 +111,22 @@ if_none true x rest none = (cc, cc)
 if_none false x rest none = (refl, none)
 
 by_place_none : (place : Option ℕ) (bs : List ℕ) → refusal_by_place place bs ≡ None →
-    (place ≡ None) × ((if nat_lt max_sum (sum bs) then Some TooWide else if nat_lt (2 ^ 63) (product bs) then Some ProductTooLarge else None) ≡ None)
+    (place ≡ None) × ((if nat_lt max_sum (sum bs) then Some TooWide else if nat_lt max_size (product bs) then Some ProductTooLarge else None) ≡ None)
 by_place_none (Some place) bs none = (cc, cc)
 by_place_none None bs none = (refl, none)
 
 base_list_as_written : (bs : List ℕ) → refusal bs ≡ None → IsBaseList bs
 base_list_as_written bs none =
     let past_place : Option BasesError = refusal_by_place (position is_bad_base bs) bs in
-    let past_empty = if_none (nat_eq (length bs) 0) Empty (if nat_lt 63 (length bs) then Some TooMany else past_place) none in
-    let past_many = if_none (nat_lt 63 (length bs)) TooMany past_place past_empty.1 in
+    let past_empty = if_none (nat_eq (length bs) 0) Empty (if nat_lt max_bases (length bs) then Some TooMany else past_place) none in
+    let past_many = if_none (nat_lt max_bases (length bs)) TooMany past_place past_empty.1 in
     let past_bases = by_place_none (position is_bad_base bs) bs past_many.1 in
-    let past_wide = if_none (nat_lt max_sum (sum bs)) TooWide (if nat_lt (2 ^ 63) (product bs) then Some ProductTooLarge else None) past_bases.1 in
-    let past_large = if_none (nat_lt (2 ^ 63) (product bs)) ProductTooLarge None past_wide.1 in
+    let past_wide = if_none (nat_lt max_sum (sum bs)) TooWide (if nat_lt max_size (product bs) then Some ProductTooLarge else None) past_bases.1 in
+    let past_large = if_none (nat_lt max_size (product bs)) ProductTooLarge None past_wide.1 in
     let one : nat_eq (length bs) 0 ≡ false = past_empty.0 in
-    let two : nat_lt 63 (length bs) ≡ false = past_many.0 in
+    let two : nat_lt max_bases (length bs) ≡ false = past_many.0 in
     let four : nat_lt max_sum (sum bs) ≡ false = past_wide.0 in
-    let five : nat_lt (2 ^ 63) (product bs) ≡ false = past_large.0 in
+    let five : nat_lt max_size (product bs) ≡ false = past_large.0 in
     record {
       some = grind (arith, nat_tests);
       few = grind (arith, nat_tests);

@@ -4,7 +4,7 @@ use Rattle.std.proofs.lemmas.Grind.{same_number_lists}
 use Rattle.std.proofs.lemmas.List.{get_or-reverse, length-reverse, length-replicate, get_or-replicate}
 use Rattle.std.proofs.lemmas.List.Folds.{sum_by-replicate}
 use Rattle.std.proofs.Math.Nat.{pow-le-pow_right}
-use Rattle.bsi_digits.specs.Digits.{weight, digit_of, IsBase, IsBaseList}
+use Rattle.bsi_digits.specs.Digits.{max_bases, weight, digit_of, IsBase, IsBaseList}
 use Rattle.bsi_digits.specs.Refusal.{refusal}
 use Rattle.bsi_digits.proofs.Products.{product-replicate}
 use Rattle.bsi_digits.proofs.Refusals.{refusal_from_base_list_as_written}
@@ -24,7 +24,7 @@ each_two w i h =
     let two : get_or (replicate {A = ℕ} w 2) i 0 ≡ 2 = get_or-replicate w i 2 0 (omega arith) in
     (omega arith, omega arith)
 
-pub IsBaseList-twos : (w : ℕ) → 1 ≤ w → w ≤ 63 → IsBaseList (replicate w 2)
+pub IsBaseList-twos : (w : ℕ) → 1 ≤ w → w ≤ max_bases → IsBaseList (replicate w 2)
 IsBaseList-twos w some few =
     let long : length (replicate {A = ℕ} w 2) ≡ w = length-replicate w 2 in
     record {
@@ -35,7 +35,7 @@ IsBaseList-twos w some few =
       small = rw (product-replicate w) (pow-le-pow_right (omega arith) few);
     }
 
-pub refusal-twos : (w : ℕ) → 1 ≤ w → w ≤ 63 → refusal (replicate w 2) ≡ None
+pub refusal-twos : (w : ℕ) → 1 ≤ w → w ≤ max_bases → refusal (replicate w 2) ≡ None
 refusal-twos w some few = refusal_from_base_list_as_written (replicate w 2) (IsBaseList-twos w some few)
 
 pub weight-twos : (w i : ℕ) → i ≤ w → weight (replicate w 2) i ≡ 2 ^ i

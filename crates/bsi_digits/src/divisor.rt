@@ -1,7 +1,7 @@
 //! A divisor that is stored with its reciprocal, so that a quotient is a multiplication and a shift.
 //!
 //! The reciprocal is rounded up, at 2^(63 + s), where 2^s is the least power of two that is no smaller than the
-//! divisor. That is exact for each number below 2^63. So a digit costs two multiplications and no division.
+//! divisor. That is exact for each number below 2^63.
 ghost use Rattle.std.specs.Prelude.{◌≡◌, ℕ, ◌/◌, ◌<◌, ◌≤◌};
 ghost use Rattle.bsi_digits.specs.Divisor.{max_divisor};
 

@@ -1,6 +1,6 @@
-use Rattle.std.proofs.Common.{◌≡◌, ℕ, ◌^◌, ◌<◌, ◌≤◌, List, sum, position, refl, sym, ◌∙◌, ap, arith}
+use Rattle.std.proofs.Common.{◌≡◌, ℕ, ◌<◌, ◌≤◌, List, sum, position, refl, sym, ◌∙◌, ap, arith}
 use Rattle.std.proofs.lemmas.Bool.Decides.{nat_tests}
-use Rattle.bsi_digits.specs.Digits.{product}
+use Rattle.bsi_digits.specs.Digits.{max_size, product}
 use Rattle.bsi_digits.specs.Refusal.{is_bad_base}
 use Rattle.bsi_digits.proofs.Products.{product-reverse}
 use Rattle.bsi_digits.proofs.Refusals.{IsPastSum, refusal_is_none, refusal_is_large}
@@ -26,11 +26,11 @@ turned c =
 pub returns-in-None-clause-refused : goal.returns-in-None-clause-refused
 returns-in-None-clause-refused c =
     let at = (goal.at.returns-in-None-clause-refused c).After-weights in
-    let over : 2 ^ 63 < product c.deref-3.result.now = c.in-None.ensures.none.0 refl in
+    let over : max_size < product c.deref-3.result.now = c.in-None.ensures.none.0 refl in
     sym (refusal_is_large c.args.bases.items (past_sum at) (omega (arith, turned at)))
 
 pub returns-in-Some-weights-clause-refused : goal.returns-in-Some-weights-clause-refused
 returns-in-Some-weights-clause-refused c =
     let at = (goal.at.returns-in-Some-weights-clause-refused c).After-weights in
-    let small : product c.deref-3.result.now ≤ 2 ^ 63 = grind (arith, c.in-Some-weights.ensures.none.1) in
+    let small : product c.deref-3.result.now ≤ max_size = grind (arith, c.in-Some-weights.ensures.none.1) in
     sym (refusal_is_none c.args.bases.items (past_sum at) (omega (arith, turned at)))
