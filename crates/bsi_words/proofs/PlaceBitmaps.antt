@@ -6,7 +6,7 @@ use Rattle.std.proofs.lemmas.Bool.Decides.{nat_tests}
 use Rattle.std.proofs.lemmas.List.{get_or-drop, length-drop}
 use Rattle.bsi_bits.specs.BitList.{BitList}
 use Rattle.bsi_bits.specs.BitLists.{bits_at, no_bits}
-use Rattle.bsi_words.specs.Places.{has_place, then_places, IsCount, IsEncoded}
+use Rattle.bsi_words.specs.Places.{has_place, max_digit_places, then_places, IsCount, IsEncoded}
 use Rattle.bsi_words.proofs.DigitMaps.{map_same}
 
 lt_is : (j n : ℕ) → j < n → nat_lt j n ≡ true
@@ -61,7 +61,7 @@ moved_equal base first j v low = elim (cases_lt j (base - first)) [
 pub count_same : (base own n m : ℕ) → m ≡ n → IsCount base own n → IsCount base own m
 count_same base own n m same count = subst (λ (k : ℕ). IsCount base own k) (sym same) count
 
-pub count_made : (base own places n : ℕ) → n ≡ own + places → places ≤ 10 → (1 ≤ places → base ≤ 2 ^ places) → (4 ≤ base → 1 ≤ places) → IsCount base own n
+pub count_made : (base own places n : ℕ) → n ≡ own + places → places ≤ max_digit_places → (1 ≤ places → base ≤ 2 ^ places) → (4 ≤ base → 1 ≤ places) → IsCount base own n
 count_made base own places n is few enough from = record {
   owned = omega arith;
   few = omega arith;

@@ -92,6 +92,7 @@ fn mark_each(block: &[u32], base: usize, words: &mut [u64])
         let mut folded = [0; 1024];
         mark_places(words, base, &mut folded);
     } else if places > 0 {
+        // A short array is cleared sooner.
         let mut folded = [0; 128];
         mark_places(words, base, &mut folded);
     }
