@@ -7,8 +7,7 @@ invariant-vectors l = record {
   long : length l.self-inside.vectors.items ≡ length l.initial.self-inside.vectors.items;
   room : l.self-inside.room ≡ l.initial.self-inside.room;
   done : (k : ℕ) → k < l.j → bits_at l.self-inside.vectors.items k ≡ bits_at l.initial.self-inside.vectors.items k ++ false ∷ [];
-  even : (k : ℕ) → k < l.j → length (bits_at l.self-inside.vectors.items k) ≡ length (bits_at l.initial.self-inside.vectors.items k) + 1;
-  spare : (k : ℕ) → k < l.j → room_at l.self-inside.vectors.items k + 1 ≡ room_at l.initial.self-inside.vectors.items k;
+  spare : (k : ℕ) → k < l.j → room_at l.initial.self-inside.vectors.items k ≤ room_at l.self-inside.vectors.items k + 1;
   rest : (k : ℕ) → l.j ≤ k → bits_at l.self-inside.vectors.items k ≡ bits_at l.initial.self-inside.vectors.items k;
   ample : (k : ℕ) → l.j ≤ k → room_at l.self-inside.vectors.items k ≡ room_at l.initial.self-inside.vectors.items k;
 }
