@@ -44,6 +44,7 @@ module _ (IsFit : ℕ → Type 0) (word_of : ℕ → ℕ → ℕ) (bit : Bool �
     (each : (x y i : ℕ) → IsFit y → i < 64 → (bit_at (word_of x y) i == 1) ≡ bit (bit_at x i == 1) (bit_at y i == 1))
     (less : (x y : ℕ) → word_of x y ≤ x)
     (block words : List ℕ) (fit : (k : ℕ) → IsFit (get_or words k 0)) (fits : (k : ℕ) → get_or block k 0 < 2 ^ 64) (at n : ℕ) (same : n ≡ length block) (within : at + n ≤ length words)
+    (bits : List Bool) (places : (k : ℕ) → bit_of words k ≡ get_or bits k false)
     (i seen : ℕ) (all : length block ≤ i) (state : IsSeen word_of block (chunk at n words) i seen) where
   abbrev made : List ℕ
   made = zip2 word_of block (chunk at n words)
@@ -57,15 +58,16 @@ module _ (IsFit : ℕ → Type 0) (word_of : ℕ → ℕ → ℕ) (bit : Bool �
   past : (k : ℕ) → length block ≤ k → get_or made k 0 ≡ 0
   past k above = get_or_past made k 0 (omega (arith, length-zip2 word_of block (chunk at n words) even))
 
-  pub none_seen : not (seen == 0) ≡ false → (p : ℕ) → p < 64 * length block → bit (bit_of block p) (bit_of words (64 * at + p)) ≡ false
+  pub none_seen : not (seen == 0) ≡ false → (p : ℕ) → p < 64 * length block → bit (bit_of block p) (get_or bits (64 * at + p) false) ≡ false
   none_seen test p below =
-      sym (stepped_place IsFit word_of bit each block words fit at n same within p below)
+      sym (ap (bit (bit_of block p)) (places (64 * at + p)))
+      ∙ sym (stepped_place IsFit word_of bit each block words fit at n same within p below)
       ∙ none_marked made (λ k. elim (cases_lt k (length block)) [
         | inl first ↦ read k first ∙ state.none (from_ne seen test) k (omega (arith, first, all))
         | inr above ↦ past k above
       ]) p
 
-  pub some_seen : not (seen == 0) ≡ true → HasMarked (λ p. bit (bit_of block p) (bit_of words (64 * at + p))) (64 * length block)
+  pub some_seen : not (seen == 0) ≡ true → HasMarked (λ p. bit (bit_of block p) (get_or bits (64 * at + p) false)) (64 * length block)
   some_seen test =
       let row = some_marked made
       (λ k. elim (cases_lt k (length block)) [
@@ -74,4 +76,5 @@ module _ (IsFit : ℕ → Type 0) (word_of : ℕ → ℕ → ℕ) (bit : Bool �
       ])
       (λ none. ne_zero seen test (state.empty (λ k first. sym (read k first) ∙ none k))) in
       let below : row.0 < 64 * length block = omega (arith, row.1, length-zip2 word_of block (chunk at n words) even) in
-      (row.0, below, sym (stepped_place IsFit word_of bit each block words fit at n same within row.0 below) ∙ row.2)
+      let there = sym (stepped_place IsFit word_of bit each block words fit at n same within row.0 below) ∙ row.2 in
+      (row.0, below, sym (ap (bit (bit_of block row.0)) (places (64 * at + row.0))) ∙ there)

@@ -1,8 +1,7 @@
-use Rattle.std.proofs.Common.{ℕ, ◌+◌, ◌-◌, ◌*◌, ◌&&◌, length, get_or, ap, sym, ◌∙◌, refl, arith}
+use Rattle.std.proofs.Common.{ℕ, ◌+◌, ◌-◌, ◌&&◌, length, get_or, refl, arith}
 use Rattle.std.specs.Prelude.{bit_and}
 use Rattle.std.specs.Simd.Lanes.{chunk}
 use Rattle.std.proofs.lemmas.Nat.{and_le_l}
-use Rattle.bsi_bits.specs.Packed.{bit_of}
 use Rattle.bsi_bits.proofs.Logic.{and_bitwise}
 use Rattle.bsi_words.proofs.BlockRows.{seen_more, none_seen, some_seen}
 use Rattle.bsi_words.proofs.blocks.meets.Goals as goal
@@ -15,15 +14,13 @@ words-preserved c =
 
 -- no word is left
 pub returns-clause-some : goal.returns-clause-some
-returns-clause-some c = λ test.
+returns-clause-some c =
     let n : ℕ = c.args.at + length c.args.block.now - c.args.at in
-    let row = some_seen (λ _. Unit {0}) bit_and ◌&&◌ and_bitwise.at and_le_l c.args.block.now c.words-words.result.now (λ k. tt) c.know_fits.ensures c.args.at n
-    (omega arith) (omega (arith, c.words-words.ensures.few, c.requires)) c.words.i c.words.seen c.words-test.false c.words.invariant test in
-    (row.0, row.1, sym (ap (◌&&◌ (bit_of c.args.block.now row.0)) (c.words-words.ensures.places (64 * c.args.at + row.0))) ∙ row.2)
+    some_seen (λ _. Unit {0}) bit_and ◌&&◌ and_bitwise.at and_le_l c.args.block.now c.words-words.result.now (λ k. tt) c.know_fits.ensures c.args.at n
+    (omega arith) (omega (arith, c.words-words.ensures.few, c.requires)) c.args.bitmap.now.bits c.words-words.ensures.places c.words.i c.words.seen c.words-test.false c.words.invariant
 
 pub returns-clause-none : goal.returns-clause-none
-returns-clause-none c = λ test p below.
+returns-clause-none c =
     let n : ℕ = c.args.at + length c.args.block.now - c.args.at in
-    sym (ap (◌&&◌ (bit_of c.args.block.now p)) (c.words-words.ensures.places (64 * c.args.at + p)))
-    ∙ none_seen (λ _. Unit {0}) bit_and ◌&&◌ and_bitwise.at and_le_l c.args.block.now c.words-words.result.now (λ k. tt) c.know_fits.ensures c.args.at n
-    (omega arith) (omega (arith, c.words-words.ensures.few, c.requires)) c.words.i c.words.seen c.words-test.false c.words.invariant test p below
+    none_seen (λ _. Unit {0}) bit_and ◌&&◌ and_bitwise.at and_le_l c.args.block.now c.words-words.result.now (λ k. tt) c.know_fits.ensures c.args.at n
+    (omega arith) (omega (arith, c.words-words.ensures.few, c.requires)) c.args.bitmap.now.bits c.words-words.ensures.places c.words.i c.words.seen c.words-test.false c.words.invariant
