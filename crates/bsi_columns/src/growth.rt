@@ -20,8 +20,8 @@ pub(crate) fn reserve_each<E: Encoding>(components: &mut Vec<E>, more: u64) -> R
     ensures ok { OnOk result ((i : ℕ) → i < length components.old.items →
         more ≤ slice_index (map E.room_of components.new.items) i) }
 {
-    for i in 0..components.len() {
-        components[i].reserve(more)?;
+    for component in components.iter_mut() {
+        component.reserve(more)?;
     }
     Ok(())
 }
@@ -36,8 +36,8 @@ pub(crate) fn clear_each<E: Encoding>(components: &mut Vec<E>)
         + slice_index (map E.room_of components.old.items) i
         ≤ slice_index (map E.room_of components.new.items) i }
 {
-    for i in 0..components.len() {
-        components[i].clear();
+    for component in components.iter_mut() {
+        component.clear();
     }
 }
 
@@ -56,8 +56,12 @@ pub(crate) fn push_digits<E: Encoding>(components: &mut Vec<E>, bases: &Bases, n
         slice_index (map E.room_of components.old.items) i
         ≤ slice_index (map E.room_of components.new.items) i + 1 }
 {
+    // What is left of the number above the digits that were appended.
+    let mut rest = number;
     for i in 0..bases.len() {
-        components[i as usize].push_reserved(bases.digit(number, i));
+        let (digit, above) = bases.next_digit(number, i, rest);
+        components[i as usize].push_reserved(digit);
+        rest = above;
     }
 }
 
