@@ -8,6 +8,10 @@ use Rattle.bsi_bits.specs.BitLists.{bits_at}
 abbrev pub max_places : ℕ
 max_places = 63
 
+-- the most binary places of a digit: those of the digits below 1,024, the greatest base
+abbrev pub max_digit_places : ℕ
+max_digit_places = 10
+
 -- bitmap j says of each number whether it holds there
 pub record IsEncoded (holds : ℕ → ℕ → Bool) (bitmaps : List BitList) (numbers : List ℕ) : Type 0 where
   pub each : (j : ℕ) → j < length bitmaps → bits_at bitmaps j ≡ map (holds j) numbers
