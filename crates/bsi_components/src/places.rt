@@ -1,7 +1,7 @@
 //! Which binary places of its digits a component keeps, and how a row's bits are appended.
 //!
 //! Their vectors stand behind the bitmaps in one list, so that one growth, one append and one relation serve both kinds.
-//! Sums count them, since no way of counting 124 bitmaps is faster than the scan of a list.
+//! A sum counts them, which are fewer than the bitmaps.
 
 ghost use Rattle.std.specs.Prelude.{◌≡◌, ℕ, ◌+◌, ◌-◌, ◌<◌, ◌≤◌, ◌^◌, ◌&&◌, Bool, List, false, [], ◌∷◌, ◌++◌, length, nat_le, nat_lt};
 ghost use Rattle.bsi_bits.specs.BitLists.{bits_at};
