@@ -1,6 +1,6 @@
 //! Components that grow together: each gets its digits of the numbers that are appended.
 
-ghost use Rattle.std.specs.Prelude.{◌≡◌, ℕ, ◌+◌, ◌^◌, ◌≤◌, ◌<◌, [], ◌∷◌, ◌++◌, All, length, map, slice_index, slice_index_or, OnOk};
+ghost use Rattle.std.specs.Prelude.{◌≡◌, ℕ, ◌+◌, ◌/◌, ◌%◌, ◌^◌, ◌≤◌, ◌<◌, [], ◌∷◌, ◌++◌, All, length, map, slice_index, slice_index_or, OnOk};
 ghost use Rattle.bsi_bits.specs.BitList.{max_block, max_len};
 ghost use Rattle.bsi_digits.specs.Digits.{digit_of, product, weight};
 ghost use Rattle.bsi_columns.specs.Decomposed.{AreQuotients};
@@ -20,8 +20,8 @@ pub(crate) fn reserve_each<E: Encoding>(components: &mut Vec<E>, more: u64) -> R
     ensures ok { OnOk result ((i : ℕ) → i < length components.old.items →
         more ≤ slice_index (map E.room_of components.new.items) i) }
 {
-    for i in 0..components.len() {
-        components[i].reserve(more)?;
+    for component in components.iter_mut() {
+        component.reserve(more)?;
     }
     Ok(())
 }
@@ -36,8 +36,8 @@ pub(crate) fn clear_each<E: Encoding>(components: &mut Vec<E>)
         + slice_index (map E.room_of components.old.items) i
         ≤ slice_index (map E.room_of components.new.items) i }
 {
-    for i in 0..components.len() {
-        components[i].clear();
+    for component in components.iter_mut() {
+        component.clear();
     }
 }
 
@@ -56,8 +56,12 @@ pub(crate) fn push_digits<E: Encoding>(components: &mut Vec<E>, bases: &Bases, n
         slice_index (map E.room_of components.old.items) i
         ≤ slice_index (map E.room_of components.new.items) i + 1 }
 {
+    // What is left of the number above the digits that were appended.
+    let mut rest = number;
     for i in 0..bases.len() {
-        components[i as usize].push_reserved(bases.digit(number, i));
+        let (digit, above) = bases.next_digit(number, i, rest);
+        components[i as usize].push_reserved(digit);
+        rest = above;
     }
 }
 
@@ -149,9 +153,33 @@ fn write_digits(bases: &Bases, i: u32, numbers: &[u64], rests: &mut [u64; 64], d
         slice_index digits.new r < slice_index bases.now i }
     ensures rests { AreQuotients numbers.now (weight bases.now (i + 1)) rests.new }
 {
+    let base = bases.base(i);
+    let places = base.trailing_zeros();
+    // The usual bases are powers of two, whose digits take no multiplication.
+    if base == 1 << places {
+        split_rests(places, rests, digits);
+        return;
+    }
     for r in 0..numbers.len() {
         let (digit, above) = bases.next_digit(numbers[r], i, rests[r]);
         digits[r] = digit;
         rests[r] = above;
+    }
+}
+
+/// Writes for each digit the lowest binary places of its rest, and leaves the rest what is above them.
+fn split_rests(places: u32, rests: &mut [u64; 64], digits: &mut [u32])
+    requires few { length digits.old ≤ max_block }
+    requires places { places < 32 }
+    ensures long { length digits.new ≡ length digits.old }
+    ensures digits { (r : ℕ) → r < length digits.old →
+        slice_index digits.new r ≡ slice_index rests.old r % 2 ^ places }
+    ensures rests { (r : ℕ) → r < length digits.old →
+        slice_index rests.new r ≡ slice_index rests.old r / 2 ^ places }
+{
+    let lowest = (1 << places) - 1;
+    for r in 0..digits.len() {
+        digits[r] = (rests[r] & lowest) as u32;
+        rests[r] >>= places;
     }
 }

@@ -1,6 +1,6 @@
 //! What a component is to a column: a list of digits below its base.
 
-ghost use Rattle.std.specs.Prelude.{◌≡◌, ◌↔◌, ℕ, ◌+◌, ◌*◌, ◌^◌, ◌≤◌, ◌<◌, ◌==◌, ◌&&◌, Bool, true, List, [], ◌∷◌, ◌++◌, length, map, sum, count_by, slice_index, nat_lt, nat_le, IfOk, OnOk, OnErr, IsOk, IsTrue};
+ghost use Rattle.std.specs.Prelude.{◌≡◌, ◌↔◌, ℕ, ◌+◌, ◌*◌, ◌≤◌, ◌<◌, ◌==◌, ◌&&◌, Bool, true, List, [], ◌∷◌, ◌++◌, length, map, sum, count_by, slice_index, nat_lt, nat_le, IfOk, OnOk, OnErr, IsOk, IsTrue};
 ghost use Rattle.std.specs.List.{items_where_true};
 ghost use Rattle.std.specs.Bool.{OnTrue, OnFalse};
 ghost use Rattle.bsi_bits.specs.BitList.{max_block, max_len, word_count};

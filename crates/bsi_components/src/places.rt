@@ -1,11 +1,11 @@
 //! Which binary places of its digits a component keeps, and how a row's bits are appended.
 //!
 //! Their vectors stand behind the bitmaps in one list, so that one growth, one append and one relation serve both kinds.
-//! Sums count them, since no way of counting 124 bitmaps is faster than the scan of a list.
+//! A sum counts them, which are fewer than the bitmaps.
 
 ghost use Rattle.std.specs.Prelude.{◌≡◌, ℕ, ◌+◌, ◌-◌, ◌<◌, ◌≤◌, ◌^◌, ◌&&◌, Bool, List, false, [], ◌∷◌, ◌++◌, length, nat_le, nat_lt};
 ghost use Rattle.bsi_bits.specs.BitLists.{bits_at};
-ghost use Rattle.bsi_words.specs.Places.{has_place, then_places};
+ghost use Rattle.bsi_words.specs.Places.{has_place, max_digit_places, then_places};
 ghost use Rattle.bsi_components.specs.Bitmaps.{kept_places, max_base};
 
 use bsi_bits::Bitmaps;
@@ -17,7 +17,7 @@ const MIN_BASE_WITH_PLACES: u32 = 4;
 pub(crate) fn place_count(base: u32) -> usize
     requires { (2 ≤ base) × (base ≤ max_base) }
     ensures kept { result ≡ kept_places base }
-    ensures few { result ≤ 10 }
+    ensures few { result ≤ max_digit_places }
     ensures enough { 0 < result → base ≤ 2 ^ result }
     ensures some { 4 ≤ base → 0 < result }
 {
@@ -34,7 +34,7 @@ pub(crate) fn push_digit(bitmaps: &mut Bitmaps, own: usize, from: usize, to: usi
     requires room { 0 < bitmaps.old.room }
     requires ones { (from ≤ to) × (to ≤ own) }
     requires within { (0 < own) × (own ≤ length bitmaps.old.vectors)
-        × (length bitmaps.old.vectors ≤ own + 10) }
+        × (length bitmaps.old.vectors ≤ own + max_digit_places) }
     ensures count { length bitmaps.new.vectors ≡ length bitmaps.old.vectors }
     ensures bits { (holds : ℕ → ℕ → Bool) →
         ((i : ℕ) → i < own → holds i digit ≡ (nat_le from i && nat_lt i to)) →
@@ -51,7 +51,7 @@ pub(crate) fn push_digit(bitmaps: &mut Bitmaps, own: usize, from: usize, to: usi
 /// Sets, behind the first `own` vectors, the last bit of each binary place of a digit that is 1.
 fn raise_places(bitmaps: &mut Bitmaps, own: usize, digit: u32)
     requires some { 0 < length (bits_at bitmaps.old.vectors 0) }
-    requires within { length bitmaps.old.vectors ≤ own + 10 }
+    requires within { length bitmaps.old.vectors ≤ own + max_digit_places }
     ensures count { length bitmaps.new.vectors ≡ length bitmaps.old.vectors }
     ensures own { (j : ℕ) → j < own →
         bits_at bitmaps.new.vectors j ≡ bits_at bitmaps.old.vectors j }

@@ -9,7 +9,7 @@ ghost use Rattle.bsi_bits.specs.BitList.{max_block, word_count};
 ghost use Rattle.bsi_bits.specs.BitLists.{bits_at};
 ghost use Rattle.bsi_bits.specs.Packed.{bit_of};
 ghost use Rattle.bsi_bits.specs.Marked.{HasMarked};
-ghost use Rattle.bsi_words.specs.Places.{has_place, then_places, IsCount, IsEncoded};
+ghost use Rattle.bsi_words.specs.Places.{has_place, max_digit_places, then_places, IsCount, IsEncoded};
 ghost use Rattle.bsi_components.specs.Bitmaps.{max_base};
 
 use bsi_bits::{Bitmaps, Bits};
@@ -129,7 +129,7 @@ impl RangeComponent {
     /// Returns the greatest digit.
     fn top(&self) -> u32
         ensures base { result + 1 ≡ self.now.base }
-        ensures within { (1 ≤ result) × (result ≤ 1023) }
+        ensures within { (1 ≤ result) × (result < max_base) }
         ensures most { (k : ℕ) → slice_index self.now.digits k ≤ result }
     {
         self.base - 1
@@ -138,7 +138,7 @@ impl RangeComponent {
     /// Lends the bit vectors of the binary places of the digits, the least first, if any are stored.
     fn places(&self) -> &[Bits]
         ensures places { IsEncoded has_place result.now self.now.digits }
-        ensures few { length result.now ≤ 10 }
+        ensures few { length result.now ≤ max_digit_places }
         ensures below { 0 < length result.now → (k : ℕ) →
             slice_index self.now.digits k < 2 ^ length result.now }
     {

@@ -1,5 +1,5 @@
 -- A column of whole numbers, each of which is stored less an offset.
-use Rattle.std.specs.Prelude.{◌≡◌, ℕ, ◌<◌, ◌≤◌, All, ℤ, pos, ◌+ℤ◌, ◌≤ℤ◌, ◌<ℤ◌, List, Option, IfSome, map}
+use Rattle.std.specs.Prelude.{◌≡◌, ℕ, ◌^◌, ◌<◌, ◌≤◌, All, ℤ, pos, ◌+ℤ◌, ◌≤ℤ◌, ◌<ℤ◌, List, Option, IfSome, map}
 use Rattle.std.specs.Option.{option_map}
 use Rattle.bsi_digits.specs.Digits.{max_end, max_size}
 use Rattle.bsi_columns.specs.declared.any.AnyColumn.{AnyColumn}
@@ -10,6 +10,10 @@ use Rattle.bsi_slices.specs.Rows.{number_or_zero}
 pub record OffsetColumn : Type 0 where
   pub stored : AnyColumn
   pub offset : ℤ
+
+-- what each number of an `i64` is below
+abbrev pub end_of_i64 : ℕ
+end_of_i64 = 2 ^ 63
 
 -- the number that is stored as n
 abbrev pub number_of : ℤ → ℕ → ℤ

@@ -35,10 +35,10 @@ impl<E: Encoding> Decomposed<E> {
         ensures { found.new.bits
             ≡ map (λ e. relates test.relation (number_or_zero e) test.constant) self.now.entries }
     {
-        let places = self.bases.len();
+        let count = self.bases.len();
         let lowest = self.bases.digit(test.constant, 0);
         first_into(&self.components[0], test.relation, lowest, found);
-        for i in 1..places {
+        for i in 1..count {
             let digit = self.bases.digit(test.constant, i);
             narrow_into(
                 &self.components[i as usize],

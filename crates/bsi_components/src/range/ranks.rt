@@ -1,7 +1,7 @@
 //! The digit of a rank in a range encoded component. A sample of the rows tells near which digit it is likely to be, and
 //! the search by halves is over after two counts where that is right.
 
-ghost use Rattle.std.specs.Prelude.{◌≡◌, ◌+◌, ◌-◌, ◌^◌, ◌≤◌, ◌<◌, ◌&&◌, length, count_by, nat_eq, IfSome};
+ghost use Rattle.std.specs.Prelude.{◌≡◌, ◌+◌, ◌-◌, ◌≤◌, ◌<◌, ◌&&◌, length, count_by, nat_eq, IfSome};
 ghost use Rattle.std.specs.Simd.Lanes.{zip2};
 ghost use Rattle.bsi_bits.specs.BitList.{max_len, word_count};
 ghost use Rattle.bsi_components.specs.Component.{IsRankedDigit};

@@ -2,13 +2,13 @@
 
 ghost use Rattle.std.specs.Prelude.{◌≡◌, pos, neg_ℤ, ◌+ℤ◌, ◌*ℤ◌, ◌≤ℤ◌, ◌<ℤ◌, ◌<◌, ◌≤◌, ◌^◌, length, IfOk, IfSome};
 ghost use Rattle.std.specs.Option.{option_map};
-ghost use Rattle.bsi_digits.specs.Digits.{max_end, max_size};
+ghost use Rattle.bsi_digits.specs.Digits.{max_size};
 ghost use Rattle.bsi_bits.specs.BitList.{max_len};
 ghost use Rattle.bsi_columns.specs.AnyRows.{any_entries};
 ghost use Rattle.bsi_slices.specs.Orders.{values_at};
 ghost use Rattle.bsi_slices.specs.Ranks.{IsOfRank};
 ghost use Rattle.bsi_slices.specs.Totals.{numbers_at};
-ghost use Rattle.bsi_shift.specs.Shifted.{shifted_entries, number_of};
+ghost use Rattle.bsi_shift.specs.Shifted.{end_of_i64, number_of, shifted_entries};
 ghost use Rattle.bsi_shift.specs.WholeNumbers.{signed_sum, IsSignedLeastOf, IsSignedGreatestOf, IsSignedMedianOf, IsSignedOfRank};
 
 use crate::{NoMemory, Shifted};
@@ -82,7 +82,7 @@ fn stored_of_rank(stored: &AnyColumn, found: &Bits, rank: Rank) -> Result<Option
 
 /// Returns the number that a stored number stands for, or none for a null.
 fn number_from(offset: i64, stored: Option<u64>) -> Option<i64>
-    requires { IfSome stored (λ n. (n < max_size) × (number_of offset n <ℤ pos max_end)) }
+    requires { IfSome stored (λ n. (n < max_size) × (number_of offset n <ℤ pos end_of_i64)) }
     ensures { result ≡ option_map (number_of offset) stored }
 {
     let number = stored?;

@@ -5,6 +5,7 @@ use Rattle.bsi_columns.proofs.growth.push_digits.Goals as goal
 
 pub loop-i-init : goal.loop-i-init
 loop-i-init g c = record {
+  quotient = omega arith;
   bases = c.requires.bases;
   done = λ k below. absurd (omega arith);
   rest = λ k from. refl;
@@ -32,9 +33,10 @@ loop-i-preserved g c =
     let within : at < length items = omega arith in
     let added : ℕ → List ℕ = λ k. digit_of c.args.bases.now c.args.number k ∷ [] in
     record {
+      quotient = c.next_digit-digit.ensures.above;
       bases = map_kept g.E.Encoding.base_of items at read new within c.index_mut.ensures.value c.push_reserved.ensures.base ∙ c.loop-i.invariant.bases;
       done = digits_more g.E.Encoding.digits items old at read new added within c.index_mut.ensures.value
-          (c.push_reserved.ensures.digits ∙ ap (λ d. g.E.Encoding.digits read ++ d ∷ []) c.digit.ensures.digit) c.loop-i.invariant.done c.loop-i.invariant.rest;
+          (c.push_reserved.ensures.digits ∙ ap (λ d. g.E.Encoding.digits read ++ d ∷ []) c.next_digit-digit.ensures.digit) c.loop-i.invariant.done c.loop-i.invariant.rest;
       rest = rest_after g.E.Encoding.digits items old at read new added within c.loop-i.invariant.rest;
       spent = room_spent g.E.Encoding.room_of items at read new within c.index_mut.ensures.value old (λ j. 1) c.push_reserved.ensures.room c.loop-i.invariant.spent c.loop-i.invariant.room;
       room = room_after g.E.Encoding.room_of items at read new within c.index_mut.ensures.value old c.loop-i.invariant.room;

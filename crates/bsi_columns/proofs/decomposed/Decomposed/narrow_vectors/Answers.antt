@@ -19,7 +19,7 @@ loop-i-init g c =
     sym (read_map g.E.Encoding.digits items 0 c.index.result.now [] few c.index.ensures) ∙ kept.digits_are 0 (omega arith) in
     let same : length entries ≡ length c.args.part.now.bits = rw (← c.self.view_is) at c.requires.same_part in
     rw (← c.self.view_is) (record {
-      found = low_answers_first c.len-places.ensures.valid c.args.test.relation c.args.test.constant entries
+      found = low_answers_first c.len-count.ensures.valid c.args.test.relation c.args.test.constant entries
           c.digit-lowest.result c.first_into.new.found.bits (g.E.Encoding.digits c.index.result.now) c.digit-lowest.ensures.digit digits c.first_into.ensures;
       part = sym same;
     })
@@ -44,7 +44,7 @@ narrow_into-requires-clause-same g c =
     let bs = inside.bases in
     let kept = c.self.invariant.0 in
     let entries = entries_of bs inside.not_null.bits (map g.E.Encoding.digits items) in
-    let valid = c.len-places.ensures.valid in
+    let valid = c.len-count.ensures.valid in
     let within : c.loop-i.i < length items = omega (arith, kept.count, length-map items g.E.Encoding.digits) in
     let digits : g.E.Encoding.digits c.index-in-loop-i.result.now ≡ map (λ e. digit_of bs (number_or_zero e) c.loop-i.i) entries =
     sym (read_map g.E.Encoding.digits items c.loop-i.i c.index-in-loop-i.result.now [] within c.index-in-loop-i.ensures) ∙ kept.digits_are c.loop-i.i (omega arith) in
@@ -58,7 +58,7 @@ loop-i-preserved g c =
     let bs = inside.bases in
     let kept = c.self.invariant.0 in
     let entries = entries_of bs inside.not_null.bits (map g.E.Encoding.digits items) in
-    let valid = c.len-places.ensures.valid in
+    let valid = c.len-count.ensures.valid in
     let within : c.loop-i.i < length items = omega (arith, kept.count, length-map items g.E.Encoding.digits) in
     let digits : g.E.Encoding.digits c.index-in-loop-i.result.now ≡ map (λ e. digit_of bs (number_or_zero e) c.loop-i.i) entries =
     sym (read_map g.E.Encoding.digits items c.loop-i.i c.index-in-loop-i.result.now [] within c.index-in-loop-i.ensures) ∙ kept.digits_are c.loop-i.i (omega arith) in
@@ -76,7 +76,7 @@ returns g c =
     let bs = inside.bases in
     let kept = c.self.invariant.0 in
     let entries = entries_of bs inside.not_null.bits (map g.E.Encoding.digits inside.components.items) in
-    let valid = c.len-places.ensures.valid in
+    let valid = c.len-count.ensures.valid in
     let found : c.loop-i.found.bits ≡ low_answers valid c.args.test.relation c.args.test.constant entries c.loop-i.i = rw (← c.self.view_is) at c.loop-i.invariant.found in
     let small : c.args.test.constant < product bs = rw (← c.self.view_is) at c.requires.below in
     let all : c.loop-i.i ≡ length bs = omega arith in
