@@ -37,7 +37,6 @@ impl From<AllocError> for MakeError {
 }
 
 impl From<IndexError> for MakeError {
-    ghost use Rattle.bsi_table.specs.Table.{max_feeders};
     ghost use Rattle.bsi_load.specs.Sizes.{refusal_of_index};
 
     ghost from_gives = { λ refused e. e ≡ refusal_of_index refused };

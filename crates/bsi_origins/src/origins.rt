@@ -4,7 +4,7 @@
 //! rows before came from it, in 4 bytes. A tally costs 0.008 bytes a row and feeder, and a row that stands alone is
 //! numbered by one tally and up to 511 bytes.
 
-ghost use Rattle.std.specs.Prelude.{◌≡◌, ◌↔◌, ◌+◌, ◌-◌, ◌*◌, ◌%◌, ◌<◌, ◌≤◌, ◌^◌, ◌++◌, ◌∷◌, [], All, IfOk, IsOk, IsTrue, OnErr, OnOk, length, min, replicate, slice_index, take, vec_len, vec_capacity};
+ghost use Rattle.std.specs.Prelude.{◌≡◌, ◌≢◌, ◌↔◌, ◌+◌, ◌-◌, ◌*◌, ◌%◌, ◌<◌, ◌≤◌, ◌^◌, ◌++◌, ◌∷◌, [], All, IfOk, IsOk, IsTrue, OnErr, OnOk, length, min, replicate, slice_index, take, vec_len, vec_capacity};
 ghost use Rattle.bsi_bits.specs.BitList.{max_len};
 ghost use Rattle.bsi_origins.specs.Origins.{max_feeders, stretch_rows, tally_len, AreCounts};
 
@@ -195,7 +195,7 @@ impl Origins {
     fn push_run(&mut self, feeder: u8, rows: u64)
         requires feeder { feeder < self.old.feeders }
         requires some { 0 < rows }
-        requires within { length self.old.rows % 512 + rows ≤ 512 }
+        requires within { length self.old.rows % stretch_rows + rows ≤ stretch_rows }
         requires room { rows ≤ self.old.room }
         ensures rows { self.new.rows ≡ self.old.rows ++ replicate rows feeder }
         ensures feeders { self.new.feeders ≡ self.old.feeders }
@@ -217,8 +217,8 @@ impl Origins {
     {
         let len = self.feeders as usize;
         let start = len * k as usize;
-        'feeders: for f in 0..len {
-            counts[f] = u64::from(self.tallies[start + f]);
+        'feeders: for (f, count) in self.tallies[start..start + len].iter().enumerate() {
+            counts[f] = u64::from(*count);
         }
     }
 
@@ -244,14 +244,12 @@ fn run_len(feeders: &[u8]) -> usize
     requires { 0 < length feeders.now }
     ensures some { (0 < result) × (result ≤ length feeders.now) }
     ensures same { take result feeders.now ≡ replicate result (slice_index feeders.now 0) }
+    ensures next { result < length feeders.now →
+        slice_index feeders.now result ≢ slice_index feeders.now 0 }
 {
     let first = feeders[0];
-    'rows: for at in 1..feeders.len() {
-        if feeders[at] != first {
-            return at;
-        }
-    }
-    feeders.len()
+    let end = feeders.iter().position(|feeder| *feeder != first);
+    end.unwrap_or(feeders.len())
 }
 
 /// Returns how many counts a tally has.

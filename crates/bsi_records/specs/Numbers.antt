@@ -5,15 +5,20 @@ use Rattle.std.specs.List.{list_all, slice_split}
 use Rattle.std.specs.Str.Parse.{digits_value}
 use Rattle.bsi_schema.specs.Columns.{is_between}
 use Rattle.bsi_schema.specs.declared.limits.Limits.{Limits}
+use Rattle.bsi_table.specs.Table.{least_i64}
 
 -- the bytes of a field
 abbrev pub Field : Type 0
 Field = List ℕ
 
+-- at most so many digits of a number
+abbrev pub max_digits : ℕ
+max_digits = 20
+
 -- one to twenty digits, whose value is below 2 ^ 64
 abbrev pub is_number : Field → Bool
 is_number text =
-    nat_lt 0 (length text) && nat_le (length text) 20 && list_all is_ascii_digit text
+    nat_lt 0 (length text) && nat_le (length text) max_digits && list_all is_ascii_digit text
     && nat_lt (digits_value 10 text) (2 ^ 64)
 
 -- the number that a text spells
@@ -72,5 +77,5 @@ feeder_of text = option_map (λ n. min n 4294967295) (spelled_number text)
 -- the least number of a column: a whole number of 64 bits
 abbrev pub offset_of : Field → Option ℤ
 offset_of text =
-    option_and_then (λ x. if int_le (neg_ℤ (pos (2 ^ 63))) x && int_lt x (pos (2 ^ 63)) then Some x else None)
+    option_and_then (λ x. if int_le least_i64 x && int_lt x (pos (2 ^ 63)) then Some x else None)
     (signed_of text)

@@ -1,5 +1,5 @@
 -- Which fields spell a predicate, in postfix order.
-use Rattle.std.specs.Prelude.{◌≡◌, ◌≤◌, List, [], ◌∷◌, ◌++◌, length, Some, codes}
+use Rattle.std.specs.Prelude.{◌≡◌, ℕ, ◌≤◌, List, [], ◌∷◌, ◌++◌, length, Some, codes}
 use Rattle.bsi_slices.specs.declared.column.Op.{Op}
 use Rattle.bsi_slices.specs.declared.column.Op.TheVariants.{Eq, Ne, Lt, Le, Gt, Ge}
 use Rattle.bsi_table.specs.Columns.{Declared, position_of}
@@ -31,6 +31,10 @@ Spells schema fields (Either' p first q second) =
     × Spells schema two second
 Spells schema fields (Not' p pred) = (one : List Field) × (fields ≡ one ++ codes "not" ∷ []) × Spells schema one pred
 
+-- at most so many fields of a predicate
+abbrev pub max_predicate_fields : ℕ
+max_predicate_fields = 1000
+
 -- a predicate of a record: at most 1,000 fields
 abbrev pub IsPredicate : Declared → List Field → Pred → Type 0
-IsPredicate schema fields pred = (length fields ≤ 1000) × Spells schema fields pred
+IsPredicate schema fields pred = (length fields ≤ max_predicate_fields) × Spells schema fields pred

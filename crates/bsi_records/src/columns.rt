@@ -6,6 +6,7 @@
 ghost use Rattle.std.specs.Prelude.{◌≡◌, ◌≢◌, drop, false, true, option_map, option_and_then, IfOk, IsErr, MatchResult, OnErr};
 ghost use Rattle.csv.specs.Records.{fields_of};
 ghost use Rattle.bsi_schema.specs.declared.form.Form.TheVariants.{Slices};
+ghost use Rattle.bsi_table.specs.Columns.{max_slices};
 ghost use Rattle.bsi_records.specs.Numbers.{number_between};
 ghost use Rattle.bsi_records.specs.Setups.{added_after, column_after, form_had, form_in, given_offset, IsChange};
 
@@ -34,7 +35,7 @@ fn read_form(alloc: Global, word: &[u8], text: &[u8]) -> Result<Option<ColumnSpe
 
 /// Reads the number of slices of a column.
 fn read_slices(text: &[u8]) -> Option<ColumnSpec>
-    ensures { option_and_then form_had result ≡ option_map Slices (number_between 1 63 text.now) }
+    ensures { option_and_then form_had result ≡ option_map Slices (number_between 1 max_slices text.now) }
 {
     let width = read_within(1, u64::from(MAX_SLICES), text)?;
     Some(ColumnSpec::Slices(width as u32))

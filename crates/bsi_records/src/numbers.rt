@@ -8,7 +8,7 @@
 
 ghost use Rattle.std.specs.Prelude.{◌≡◌, ◌<◌, ◌≤◌, ◌+ℤ◌, ◌≤ℤ◌, length, option_map, pos, IfOk, IfSome};
 ghost use Rattle.bsi_digits.specs.Digits.{max_end};
-ghost use Rattle.bsi_records.specs.Numbers.{bases_of, entry_in, feeder_of, number_between, number_in, offset_of, signed_of, small_of, spelled_number, value_in};
+ghost use Rattle.bsi_records.specs.Numbers.{bases_of, entry_in, feeder_of, max_digits, number_between, number_in, offset_of, signed_of, small_of, spelled_number, value_in};
 
 use crate::NoMemory;
 use bsi_schema::Limits;
@@ -37,7 +37,7 @@ pub fn read_number(text: &[u8]) -> Option<u64>
 
 /// Reads a number of fewer digits than the greatest `u64` has. A `u64` holds it, whatever its digits are.
 fn read_short(text: &[u8]) -> Option<u64>
-    requires { (0 < length text.now) × (length text.now < 20) }
+    requires { (0 < length text.now) × (length text.now < max_digits) }
     ensures { result ≡ spelled_number text.now }
 {
     let mut value = 0u64;
@@ -52,7 +52,7 @@ fn read_short(text: &[u8]) -> Option<u64>
 
 /// Reads a number of at most as many digits as the greatest `u64` has.
 fn read_long(text: &[u8]) -> Option<u64>
-    requires { (0 < length text.now) × (length text.now ≤ 20) }
+    requires { (0 < length text.now) × (length text.now ≤ max_digits) }
     ensures { result ≡ spelled_number text.now }
 {
     let mut value = 0u64;

@@ -1,5 +1,6 @@
 -- A row fits where it has as many entries as there are columns, and each column takes its entry.
 use Rattle.std.proofs.Common.{◌≡◌, ℕ, ◌<◌, zero, suc, Bool, true, false, ◌&&◌, List, [], ◌∷◌, length, drop, map, get_or, Option, ℤ, refl, sym, ap, ap₂, ◌∙◌, true≢false, arith}
+use Rattle.std.specs.List.{list_all, zip}
 use Rattle.std.proofs.lemmas.List.{get_or-map, length-map}
 use Rattle.bsi_schema.specs.Columns.{column_at, entry_at, fits, is_between, is_taken_by, no_column, NamedColumn}
 use Rattle.bsi_schema.specs.Limits.{limits_of}
@@ -33,6 +34,14 @@ fits-each [] (entry ∷ row) long each = absurd (omega arith)
 fits-each (column ∷ columns) [] long each = absurd (omega arith)
 fits-each (column ∷ columns) (entry ∷ row) long each =
     ap₂ (λ a b. a && b) (each 0 (omega arith)) (fits-each columns row (omega arith) (λ c within. each (suc c) (omega arith)))
+
+-- a row of the same length fits where each column takes its entry
+pub all_taken : (columns : List NamedColumn) (row : List (Option ℤ)) → length row ≡ length columns
+    → list_all (λ (p : Limits × Option ℤ). is_between p.0.least p.0.size p.1) (zip (map limits_of columns) row) ≡ fits columns row
+all_taken [] [] long = refl
+all_taken [] (entry ∷ row) long = absurd (omega arith)
+all_taken (column ∷ columns) [] long = absurd (omega arith)
+all_taken (column ∷ columns) (entry ∷ row) long = ap (λ b. is_taken_by column entry && b) (all_taken columns row (omega arith))
 
 -- a row of another length does not fit
 pub misfit-length : (columns : List NamedColumn) (row : List (Option ℤ)) → (length row ≡ length columns → ⊥) → false ≡ fits columns row

@@ -19,6 +19,10 @@ is_word text =
     bytes_eq text (codes "all") || bytes_eq text (codes "null") || bytes_eq text (codes "and")
     || bytes_eq text (codes "or") || bytes_eq text (codes "not")
 
+-- at most so many bytes of a name
+abbrev pub max_name_bytes : ℕ
+max_name_bytes = 32
+
 -- the text is a name
 abbrev pub is_name : List ℕ → Bool
-is_name text = begins_lower text && nat_le (length text) 32 && list_all is_name_byte text && not (is_word text)
+is_name text = begins_lower text && nat_le (length text) max_name_bytes && list_all is_name_byte text && not (is_word text)

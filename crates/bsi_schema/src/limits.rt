@@ -9,7 +9,7 @@ use crate::Row;
 use crate::form::Kind;
 
 /// This many numbers, from the least one up.
-#[derive(Clone, Copy)]
+#[derive(Clone, Copy, PartialEq, Eq)]
 pub struct Limits {
     least: i64,
     size: u64,
@@ -55,28 +55,16 @@ pub fn take_each(limits: &[Limits], row: &Row) -> bool
         result ≡ fits columns row.now }
 {
     let values = row.values();
-    if values.len() != limits.len() {
-        return false;
-    }
-    'columns: for c in 0..values.len() {
-        if !limits[c].takes(values[c]) {
-            return false;
-        }
-    }
-    true
+    values.len() == limits.len()
+        && limits
+            .iter()
+            .zip(values)
+            .all(|(limits, entry)| limits.takes(*entry))
 }
 
 /// Returns whether two lists of columns take the same numbers.
 pub fn are_same(first: &[Limits], second: &[Limits]) -> bool
     ensures { IsTrue result ↔ (first.now ≡ second.now) }
 {
-    if first.len() != second.len() {
-        return false;
-    }
-    'columns: for c in 0..first.len() {
-        if first[c].least != second[c].least || first[c].size != second[c].size {
-            return false;
-        }
-    }
-    true
+    first == second
 }

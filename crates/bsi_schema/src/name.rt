@@ -5,7 +5,7 @@ ghost use Rattle.std.specs.List.{list_all};
 ghost use Rattle.bsi_schema.specs.Names.{begins_lower, is_name, is_name_byte, is_word};
 
 /// The most bytes of a name.
-const MAX_NAME: usize = 32;
+const MAX_NAME_BYTES: usize = 32;
 
 /// Returns whether the text is a name. A name has at most 32 bytes: first a lower-case letter, then lower-case letters,
 /// digits or `_`. The words that predicates are written with are no names.
@@ -13,7 +13,7 @@ pub fn is_valid_name(text: &[u8]) -> bool
     ensures { result ≡ is_name text.now }
 {
     begins_lowercase(text)
-        && text.len() <= MAX_NAME
+        && text.len() <= MAX_NAME_BYTES
         && has_valid_bytes(text)
         && !is_predicate_word(text)
 }

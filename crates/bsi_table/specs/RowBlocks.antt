@@ -40,9 +40,9 @@ fed_as feeder rows = map (λ row. (feeder, row)) rows
 abbrev pub AreAlike : Declared → Declared → Type 0
 AreAlike first second = map limits_of first.columns ≡ map limits_of second.columns
 
--- the entries of row r, where each of so many columns has 64 places
+-- the entries of row r, where each of so many columns has as many places as a block has rows at most
 unfoldable pub placed_row : ℕ → List (Option ℤ) → ℕ → Entries
-placed_row columns places r = map (λ c. slice_index_or places (64 * c + r) None) (range_with_len 0 columns)
+placed_row columns places r = map (λ c. slice_index_or places (max_block_rows * c + r) None) (range_with_len 0 columns)
 
 -- the rows of a block, of which the r-th came from the r-th of these feeders
 unfoldable pub placed_rows : ℕ → List ℕ → List (Option ℤ) → List FedRow
@@ -60,6 +60,6 @@ pub record IsBlock (columns : List NamedColumn) (limits : List Limits) (feeders 
   pub limits_are : limits ≡ map limits_of columns
   pub columns_are : All IsColumn columns
   pub few : length sources ≤ max_block_rows
-  pub long : length places ≡ 64 * length columns
+  pub long : length places ≡ max_block_rows * length columns
   pub from : All (λ source. source < feeders) sources
   pub fitting : (r : ℕ) → r < length sources → fits columns (placed_row (length columns) places r) ≡ true

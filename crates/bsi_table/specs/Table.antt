@@ -83,12 +83,16 @@ rows_in kept n = map (row_in kept) (range_with_len 0 n)
 unfoldable pub fed_rows : List ℕ → List OffsetColumn → List FedRow
 fed_rows sources kept = map (λ r. (slice_index sources r, row_in kept r)) (range_with_len 0 (length sources))
 
+-- the least number of 64 bits
+abbrev pub least_i64 : ℤ
+least_i64 = neg_ℤ (pos (2 ^ 63))
+
 -- a column of a schema is kept so, with n rows; each of its numbers is one of 64 bits
 pub record Keeps (column : NamedColumn) (kept : OffsetColumn) (n : ℕ) : Type 0 where
   pub form : IsInForm column.form kept.stored
   pub offset : kept.offset ≡ column.offset
   pub rows : length (shifted_entries kept) ≡ n
-  pub low : neg_ℤ (pos max_end) ≤ℤ column.offset
+  pub low : least_i64 ≤ℤ column.offset
   pub high : (column.offset +ℤ pos (size_in column.form)) ≤ℤ pos max_end
   pub range : All (IsInRange kept.offset (shifted_size kept)) (shifted_entries kept)
 
@@ -135,7 +139,7 @@ AreInRange kept row =
 
 -- an entry is a null or a number of 64 bits
 abbrev pub IsI64 : Option ℤ → Type 0
-IsI64 entry = IfSome entry (λ x. (neg_ℤ (pos (2 ^ 63)) ≤ℤ x) × (x <ℤ pos (2 ^ 63)))
+IsI64 entry = IfSome entry (λ x. (least_i64 ≤ℤ x) × (x <ℤ pos (2 ^ 63)))
 
 -- each column's entry of a row is a null or a number of 64 bits
 abbrev pub AreI64 : List OffsetColumn → Entries → Type 0

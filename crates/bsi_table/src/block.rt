@@ -6,7 +6,7 @@
 //! A block carries the feeder of each row, so one block serves all feeders. It holds its schema by an `Arc`, where a
 //! ghost snapshot would do for the proofs: what has a snapshot can't be shown to go to another thread.
 
-ghost use Rattle.std.specs.Prelude.{◌≡◌, ◌≢◌, ◌↔◌, [], ℕ, ◌+◌, ◌*◌, ◌<◌, ◌≤◌, ◌+ℤ◌, ◌≤ℤ◌, All, List, None, Some, IfOk, IsTrue, length, pos, slice_get, slice_index_or, true, false};
+ghost use Rattle.std.specs.Prelude.{◌≡◌, ◌≢◌, ◌↔◌, [], ℕ, ◌+◌, ◌*◌, ◌<◌, ◌≤◌, ◌+ℤ◌, ◌≤ℤ◌, None, Some, IfOk, IsTrue, length, pos, slice_get, slice_index_or, true, false};
 ghost use Rattle.bsi_digits.specs.Digits.{max_end};
 ghost use Rattle.bsi_schema.specs.Columns.{entry_at, fits, is_between};
 ghost use Rattle.bsi_schema.specs.declared.limits.Limits.{Limits};
@@ -167,7 +167,7 @@ impl Block {
 /// Writes the entries of a row that fits, each into place `at` of its column's.
 fn write_row(limits: &[Limits], values: &[Option<i128>], at: usize, places: &mut Vec<Option<i64>>)
     requires at { at < max_block_rows }
-    requires long { length places.old.items ≡ 64 * length limits.now }
+    requires long { length places.old.items ≡ max_block_rows * length limits.now }
     requires wide { length values.now ≡ length limits.now }
     requires below { (c : ℕ) (d : Limits) → c < length limits.now →
         ((slice_index_or limits.now c d).least +ℤ pos (slice_index_or limits.now c d).size)
@@ -177,10 +177,10 @@ fn write_row(limits: &[Limits], values: &[Option<i128>], at: usize, places: &mut
         (entry_at values.now c) ≡ true }
     ensures long { length places.new.items ≡ length places.old.items }
     ensures others { (c r : ℕ) → r < max_block_rows → r ≢ at →
-        slice_index_or places.new.items (64 * c + r) None
-        ≡ slice_index_or places.old.items (64 * c + r) None }
+        slice_index_or places.new.items (max_block_rows * c + r) None
+        ≡ slice_index_or places.old.items (max_block_rows * c + r) None }
     ensures row { (c : ℕ) → c < length limits.now →
-        slice_index_or places.new.items (64 * c + at) None ≡ entry_at values.now c }
+        slice_index_or places.new.items (max_block_rows * c + at) None ≡ entry_at values.now c }
 {
     'columns: for c in 0..limits.len() {
         places[MAX_BLOCK_ROWS * c + at] = limits[c].narrow(values[c]);
@@ -190,16 +190,16 @@ fn write_row(limits: &[Limits], values: &[Option<i128>], at: usize, places: &mut
 /// Writes the entries of a row, each into place `at` of its column's.
 fn write_entries(entries: &[Option<i64>], at: usize, places: &mut Vec<Option<i64>>)
     requires at { at < max_block_rows }
-    requires long { length places.old.items ≡ 64 * length entries.now }
+    requires long { length places.old.items ≡ max_block_rows * length entries.now }
     ensures long { length places.new.items ≡ length places.old.items }
     ensures others { (c r : ℕ) → r < max_block_rows → r ≢ at →
-        slice_index_or places.new.items (64 * c + r) None
-        ≡ slice_index_or places.old.items (64 * c + r) None }
+        slice_index_or places.new.items (max_block_rows * c + r) None
+        ≡ slice_index_or places.old.items (max_block_rows * c + r) None }
     ensures row { (c : ℕ) → c < length entries.now →
-        slice_index_or places.new.items (64 * c + at) None ≡ entry_at entries.now c }
+        slice_index_or places.new.items (max_block_rows * c + at) None ≡ entry_at entries.now c }
 {
-    'columns: for c in 0..entries.len() {
-        places[MAX_BLOCK_ROWS * c + at] = entries[c];
+    'columns: for (c, entry) in entries.iter().enumerate() {
+        places[MAX_BLOCK_ROWS * c + at] = *entry;
     }
 }
 
@@ -211,7 +211,7 @@ fn read_entries(
     places: &[Option<i64>],
 ) -> Result<Vec<Option<i128>>, NoMemory>
     requires at { at < max_block_rows }
-    requires long { length places.now ≡ 64 * columns }
+    requires long { length places.now ≡ max_block_rows * columns }
     ensures { IfOk result (λ values. values.items ≡ placed_row columns places.now at) }
 {
     let mut values = Vec::with_capacity(alloc, columns)?;

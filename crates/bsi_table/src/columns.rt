@@ -2,13 +2,12 @@
 //!
 //! A block of rows goes in column by column. All columns and the list of feeders grow before the first is changed.
 
-ghost use Rattle.std.specs.Prelude.{◌≡◌, ℕ, ◌+◌, ◌<◌, ◌≤◌, ◌^◌, [], All, None, length, map, nat_eq, slice_index_or, true, IfOk, OnOk};
+ghost use Rattle.std.specs.Prelude.{◌≡◌, ℕ, ◌+◌, ◌<◌, ◌≤◌, [], All, None, length, map, nat_eq, slice_index_or, true, IfOk, OnOk};
 ghost use Rattle.std.specs.List.{range_with_len};
 ghost use Rattle.bsi_bits.specs.BitList.{max_len};
 ghost use Rattle.bsi_columns.specs.AnyRows.{any_entries};
 ghost use Rattle.bsi_shift.specs.Shifted.{shifted_entries, shifted_room};
 ghost use Rattle.bsi_schema.specs.Columns.{column_at, IsForm};
-ghost use Rattle.bsi_table.specs.Rows.{column_of, entry_at};
 ghost use Rattle.bsi_table.specs.Table.{kept_at, AreAlikeColumns, AreInRange, AreKept, AreI64, AreSameColumns, HasMore, HaveMore, HaveOneMore, HaveRoom, HaveRows, IsInForm, IsI64, Keeps, TakesRow, row_in};
 
 use crate::{Block, Form, NoMemory, Schema};
@@ -63,15 +62,18 @@ pub(crate) fn reserve_each(columns: &mut [Shifted], more: u64) -> Result<(), NoM
     Ok(())
 }
 
-/// Removes all entries of each column.
+/// Removes all entries of each column, and keeps its room.
 pub(crate) fn clear_each(columns: &mut [Shifted])
     ensures long { length columns.new ≡ length columns.old }
     ensures alike { AreAlikeColumns columns.old columns.new }
     ensures empty { (k : ℕ) → k < length columns.old →
         shifted_entries (kept_at columns.new k) ≡ [] }
+    ensures room { (k : ℕ) → k < length columns.old →
+        length (shifted_entries (kept_at columns.old k)) + shifted_room (kept_at columns.old k)
+        ≤ shifted_room (kept_at columns.new k) }
 {
-    'columns: for c in 0..columns.len() {
-        columns[c].clear();
+    'columns: for column in columns.iter_mut() {
+        column.clear();
     }
 }
 
@@ -123,15 +125,11 @@ pub(crate) fn are_alike(columns: &[Shifted], others: &[Shifted]) -> bool
     ensures all { length others.now ≡ length columns.now → AreAlikeColumns columns.now others.now →
         result ≡ true }
 {
-    if others.len() != columns.len() {
-        return false;
-    }
-    'columns: for c in 0..columns.len() {
-        if !columns[c].is_alike(&others[c]) {
-            return false;
-        }
-    }
-    true
+    columns.len() == others.len()
+        && columns
+            .iter()
+            .zip(others)
+            .all(|(column, other)| column.is_alike(other))
 }
 
 /// Returns the same entry, as a number of 64 bits.

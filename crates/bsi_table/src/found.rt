@@ -5,7 +5,7 @@
 //! call. A count narrows, trims and counts one block after the other in the same words, and takes memory for saved words
 //! alone.
 
-ghost use Rattle.std.specs.Prelude.{◌≡◌, ℕ, ◌+◌, ◌-◌, ◌^◌, ◌≤◌, ◌++◌, bit_or, bit_xor, count_by, drop, false, length, map, take, IfOk, IsFalse, IsOk, OnOk};
+ghost use Rattle.std.specs.Prelude.{◌≡◌, ℕ, ◌+◌, ◌-◌, ◌≤◌, ◌++◌, bit_or, bit_xor, count_by, drop, false, length, map, take, IfOk, IsFalse, IsOk, OnOk};
 ghost use Rattle.bsi_bits.specs.BitList.{max_len, word_count};
 ghost use Rattle.bsi_bits.specs.Packed.{bit_of, bits_of, IsPacked};
 ghost use Rattle.std.specs.Simd.Lanes.{zip2};

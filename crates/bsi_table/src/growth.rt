@@ -1,10 +1,10 @@
 //! The growth of an index: the columns take the entries of further rows, and the origins their feeders. Rows go out all at
 //! once.
 
-ghost use Rattle.std.specs.Prelude.{◌≡◌, ℕ, ◌+◌, ◌<◌, ◌≤◌, ◌^◌, ◌++◌, ◌∷◌, [], All, length, replicate, OnOk};
+ghost use Rattle.std.specs.Prelude.{◌≡◌, ℕ, ◌+◌, ◌<◌, ◌≤◌, ◌++◌, ◌∷◌, [], All, length, replicate, OnOk};
 ghost use Rattle.bsi_origins.specs.Origins.{max_feeders};
 ghost use Rattle.bsi_bits.specs.BitList.{max_len};
-ghost use Rattle.bsi_shift.specs.Shifted.{shifted_entries};
+ghost use Rattle.bsi_shift.specs.Shifted.{shifted_entries, shifted_room};
 ghost use Rattle.bsi_table.specs.Rows.{feeders_of};
 ghost use Rattle.bsi_table.specs.Table.{kept_at, AreAlikeColumns, AreFrom, AreI64, AreInRange, AreSameColumns, HasMore, HaveMore, HaveOneMore, HaveRoom, HaveRows, TakesRow};
 
@@ -33,14 +33,19 @@ pub(crate) fn reserve_rows(
     origins.reserve(more)
 }
 
-/// Removes all rows.
+/// Removes all rows, and keeps the room.
 pub(crate) fn clear_rows(columns: &mut Vec<Shifted>, origins: &mut Origins)
     ensures long { length columns.new.items ≡ length columns.old.items }
     ensures alike { AreAlikeColumns columns.old.items columns.new.items }
     ensures empty { (k : ℕ) → k < length columns.old.items →
         shifted_entries (kept_at columns.new.items k) ≡ [] }
+    ensures room { (k : ℕ) → k < length columns.old.items →
+        length (shifted_entries (kept_at columns.old.items k))
+        + shifted_room (kept_at columns.old.items k)
+        ≤ shifted_room (kept_at columns.new.items k) }
     ensures rows { origins.new.rows ≡ [] }
     ensures feeders { origins.new.feeders ≡ origins.old.feeders }
+    ensures reserved { length origins.old.rows + origins.old.room ≤ origins.new.room }
 {
     clear_each(columns);
     origins.clear();

@@ -3,7 +3,7 @@
 //! A contract sees one list of rows, each with its feeder: what the columns hold (`fed_rows`). So answers are stated
 //! over rows, and no second promise says that the rows went into the columns.
 
-ghost use Rattle.std.specs.Prelude.{◌≡◌, ◌≢◌, ◌↔◌, [], ◌+◌, ◌<◌, ◌≤◌, ◌^◌, None, Some, length, map, slice_get, IfErr, IfOk, IsOk, IsTrue, true, OnErr, OnOk};
+ghost use Rattle.std.specs.Prelude.{◌≡◌, ◌≢◌, ◌↔◌, [], ◌+◌, ◌<◌, ◌≤◌, None, Some, length, map, slice_get, IfErr, IfOk, IsOk, IsTrue, true, OnErr, OnOk};
 ghost use Rattle.std.specs.Result.{result_err};
 ghost use Rattle.bsi_origins.specs.Origins.{max_feeders};
 ghost use Rattle.bsi_shift.specs.Shifted.{shifted_entries};

@@ -1,10 +1,15 @@
-use Rattle.std.proofs.Common.{arith, pos, refl}
-use Rattle.std.proofs.lemmas.List.{ext_get_or}
+use Rattle.std.proofs.Common.{◌≡◌, rules}
+use Rattle.std.specs.Bool.{Decides}
+use Rattle.std.specs.Ordering.{int_eq}
+use Rattle.std.proofs.Common.{◌&&◌, nat_eq}
+use Rattle.std.proofs.lemmas.Slice.Eq.{slice_eq-Decides}
+use Rattle.std.proofs.lemmas.Bool.Decides.{Decides-int_eq, Decides-eqb}
+use Rattle.bsi_schema.specs.declared.limits.Limits.{Limits}
 use Rattle.bsi_schema.proofs.limits.are_same.Goals as goal
 
+-- limits are equal where both of their numbers are
+same_limits : (a b : Limits) → Decides (int_eq a.least b.least && nat_eq a.size b.size) (a ≡ b)
+same_limits a b = search (rules, Decides-int_eq, Decides-eqb)
+
 pub returns : goal.returns
-returns c = (
-  λ _. ext_get_or (record { least = pos 0; size = 0 }) c.args.first.now c.args.second.now c.if-first-second.false
-      (λ k below. c.columns.invariant k (omega (arith, below, c.columns-test.false)) _),
-  λ _. refl,
-)
+returns c = slice_eq-Decides same_limits _ _ _ c.eq.ensures

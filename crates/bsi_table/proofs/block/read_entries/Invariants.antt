@@ -1,9 +1,10 @@
 use Rattle.std.proofs.Common.{◌≡◌, ℕ, ◌+◌, ◌*◌, ◌<◌, None, get_or, length}
+use Rattle.bsi_table.specs.RowBlocks.{max_block_rows}
 use Rattle.bsi_table.proofs.block.read_entries.Given as goal
 
 -- the entries of the columns so far are read
 abbrev pub invariant-columns : goal.invariant-columns
 invariant-columns l = record {
   long : length l.values.items ≡ l.c;
-  row : (k : ℕ) → k < l.c → get_or l.values.items k None ≡ get_or l.places (64 * k + l.at) None;
+  row : (k : ℕ) → k < l.c → get_or l.values.items k None ≡ get_or l.places (max_block_rows * k + l.at) None;
 }

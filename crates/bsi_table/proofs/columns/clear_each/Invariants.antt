@@ -1,5 +1,5 @@
-use Rattle.std.proofs.Common.{◌≡◌, ℕ, ◌<◌, ◌≤◌, [], length}
-use Rattle.bsi_shift.specs.Shifted.{shifted_entries, IsAlike}
+use Rattle.std.proofs.Common.{◌≡◌, ℕ, ◌+◌, ◌<◌, ◌≤◌, [], length}
+use Rattle.bsi_shift.specs.Shifted.{shifted_entries, shifted_room, IsAlike}
 use Rattle.bsi_table.specs.Table.{kept_at}
 use Rattle.bsi_table.proofs.columns.clear_each.Given as goal
 
@@ -7,7 +7,8 @@ use Rattle.bsi_table.proofs.columns.clear_each.Given as goal
 abbrev pub invariant-columns : goal.invariant-columns
 invariant-columns l = record {
   long : length l.columns ≡ length l.initial.columns;
-  empty : (k : ℕ) → k < l.c → shifted_entries (kept_at l.columns k) ≡ [];
-  alike : (k : ℕ) → k < l.c → IsAlike (kept_at l.initial.columns k) (kept_at l.columns k);
-  others : (k : ℕ) → l.c ≤ k → kept_at l.columns k ≡ kept_at l.initial.columns k;
+  empty : (k : ℕ) → k < l.column-index → shifted_entries (kept_at l.columns k) ≡ [];
+  alike : (k : ℕ) → k < l.column-index → IsAlike (kept_at l.initial.columns k) (kept_at l.columns k);
+  room : (k : ℕ) → k < l.column-index → length (shifted_entries (kept_at l.initial.columns k)) + shifted_room (kept_at l.initial.columns k) ≤ shifted_room (kept_at l.columns k);
+  others : (k : ℕ) → l.column-index ≤ k → kept_at l.columns k ≡ kept_at l.initial.columns k;
 }
