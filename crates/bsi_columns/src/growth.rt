@@ -155,7 +155,7 @@ fn write_digits(bases: &Bases, i: u32, numbers: &[u64], rests: &mut [u64; 64], d
 {
     let base = bases.base(i);
     let places = base.trailing_zeros();
-    // The usual bases are powers of two, whose digits take no multiplication.
+    // A digit under a power of two takes no multiplication.
     if base == 1 << places {
         split_rests(places, rests, digits);
         return;

@@ -1,6 +1,6 @@
 //! Records before `begin`: columns, feeders and the row limit.
 
-ghost use Rattle.std.specs.Prelude.{◌≡◌, ◌≤◌, ◌<◌, [], None, Some, drop, if◌then◌else◌, IfNone, IfOk, IfSome, OnErr};
+ghost use Rattle.std.specs.Prelude.{◌≡◌, ◌≤◌, [], None, Some, drop, if◌then◌else◌, IfNone, IfOk, IfSome, OnErr};
 ghost use Rattle.csv.specs.Records.{fields_of};
 ghost use Rattle.bsi_table.specs.Columns.{no_columns};
 ghost use Rattle.bsi_records.specs.Setups.{can_begin, capacities_after, declared_after, is_begin, limit_of, machine_of, nothing_declared, only_number, table_after, IsChange};

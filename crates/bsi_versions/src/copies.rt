@@ -1,6 +1,6 @@
 //! The two copies of the table: the operations that wait for them, and the step that shows them.
 
-ghost use Rattle.std.specs.Prelude.{◌≡◌, ◌<◌, ◌≤◌, ◌++◌, ◌∷◌, [], ◌⊎◌, OnErr, OnOk, fold, length};
+ghost use Rattle.std.specs.Prelude.{◌≡◌, ◌++◌, ◌∷◌, [], ◌⊎◌, OnErr, OnOk, fold, length};
 ghost use mathlib.Core.List.{IsPrefix};
 ghost use Rattle.bsi_versions.specs.Pages.{with_list};
 ghost use Rattle.bsi_versions.specs.Editions.{after, pending, rows_of, HasStaged, IsFor, IsMarked, Stands};

@@ -153,7 +153,7 @@ impl Model for History {
 }
 
 impl History {
-    ghost use Rattle.std.specs.Prelude.{◌≡◌, ◌^◌, ◌<◌, IsTrue, None, false, length, []};
+    ghost use Rattle.std.specs.Prelude.{◌≡◌, IsTrue, None, false, length, []};
     ghost use mathlib.Core.List.{IsPrefix};
     ghost use Rattle.bsi_versions.specs.Pages.{with_list};
 

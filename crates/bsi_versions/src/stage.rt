@@ -5,7 +5,7 @@
 //! cache. A feeder's batch is copied by words, and goes into a batch of any length. Each copy of the table takes the batch
 //! by words too, bitmap after bitmap. A batch that has all rows there are may itself become the table.
 
-ghost use Rattle.std.specs.Prelude.{◌≡◌, ◌<◌, ◌++◌, [], IfErr, IfOk, IsTrue, OnErr, OnOk, length, ◌↔◌};
+ghost use Rattle.std.specs.Prelude.{◌≡◌, ◌<◌, [], IfErr, IfOk, IsTrue, OnErr, OnOk, length, ◌↔◌};
 ghost use Rattle.bsi_table.specs.Columns.{fits};
 ghost use Rattle.bsi_table.specs.RowBlocks.{emptied_block, entries_of, fed_as};
 ghost use Rattle.bsi_table.specs.Table.{with_row, with_rows, AreKeptAlike};

@@ -5,7 +5,7 @@
 //! places are made of those of the digits: the upper half of these, joined, is the word of the greatest place, and the
 //! lower half, each word joined with one of the upper half, marks the digits but for that place.
 
-ghost use Rattle.std.specs.Prelude.{◌≡◌, ℕ, List, [], ◌∷◌, ◌+◌, ◌-◌, ◌*◌, ◌^◌, ◌<◌, ◌≤◌, ◌==◌, bit_or, length, nat_lt, slice_index};
+ghost use Rattle.std.specs.Prelude.{◌≡◌, ℕ, List, [], ◌∷◌, ◌+◌, ◌-◌, ◌*◌, ◌^◌, ◌<◌, ◌≤◌, ◌==◌, bit_or, length, slice_index};
 ghost use Rattle.std.specs.Int.{bit_at};
 ghost use Rattle.bsi_bits.specs.BitList.{max_block};
 ghost use Rattle.bsi_words.specs.Places.{max_digit_places, then_places, IsCount};
