@@ -16,7 +16,7 @@ ghost use Rattle.bsi_components.specs.Equality.{first_digit, is_among};
 use crate::encoding::Encoding;
 use bsi_bits::{Bitmaps, Bits};
 use bsi_words::blocks::{add_in, drop_in, exceeds, meets};
-use bsi_words::marks::{MAX_MARK_WORDS, SMALL_MARK_WORDS, mark_digits};
+use bsi_words::marks::{MAX_MARK_WORDS, MAX_SPREAD_WORDS, mark_digits};
 use std::marker::Model;
 
 mod counts;
@@ -89,8 +89,8 @@ fn push_block(bitmaps: &mut Bitmaps, first: u32, base: u32, block: &[u32])
     ensures room { bitmaps.new.room + length block.now ≡ bitmaps.old.room }
 {
     let count = first as usize + bitmaps.as_slice().len();
-    if count <= SMALL_MARK_WORDS {
-        let mut words = [0; SMALL_MARK_WORDS];
+    if count <= MAX_SPREAD_WORDS {
+        let mut words = [0; MAX_SPREAD_WORDS];
         push_marked(bitmaps, first, base, block, &mut words[..count]);
     } else {
         let mut words = [0; MAX_MARK_WORDS];

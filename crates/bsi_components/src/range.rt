@@ -14,7 +14,7 @@ ghost use Rattle.bsi_components.specs.Bitmaps.{max_base};
 
 use bsi_bits::{Bitmaps, Bits};
 use bsi_words::blocks::{exceeds, meets};
-use bsi_words::marks::{MAX_MARK_WORDS, SMALL_MARK_WORDS, join, mark_digits};
+use bsi_words::marks::{MAX_MARK_WORDS, MAX_SPREAD_WORDS, join, mark_digits};
 use std::marker::Model;
 
 mod encoding;
@@ -78,8 +78,8 @@ fn push_block(bitmaps: &mut Bitmaps, base: u32, block: &[u32])
     ensures room { bitmaps.new.room + length block.now ≡ bitmaps.old.room }
 {
     let count = 1 + bitmaps.as_slice().len();
-    if count <= SMALL_MARK_WORDS {
-        let mut words = [0; SMALL_MARK_WORDS];
+    if count <= MAX_SPREAD_WORDS {
+        let mut words = [0; MAX_SPREAD_WORDS];
         push_marked(bitmaps, base, block, &mut words[..count]);
     } else {
         let mut words = [0; MAX_MARK_WORDS];

@@ -17,9 +17,9 @@ use std::simd::prelude::*;
 /// The most binary places of digits whose words are spread: those of the digits below 64.
 const SPREAD_PLACES: usize = 6;
 
-/// The most words of a block that stand in a small array, which is cleared sooner. A base of 64 takes as many: one for
-/// each digit and one for each binary place.
-pub const SMALL_MARK_WORDS: usize = 70;
+/// The most words of a block whose digits are spread, those of a base of 64: one for each digit and one for each binary
+/// place. An array of so few is cleared sooner.
+pub const MAX_SPREAD_WORDS: usize = 70;
 
 /// The most words of a block, those of a base of 1,024. `bsi_digits` allows no greater base in a list.
 pub const MAX_MARK_WORDS: usize = 1034;
