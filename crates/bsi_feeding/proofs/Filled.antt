@@ -1,4 +1,4 @@
--- What a source gives in one turn of its feeder: a row, or the rows of blocks.
+-- What a source gives at once: a row, or the rows of blocks.
 use Rattle.std.proofs.Common.{◌≡◌, ℕ, ◌<◌, ◌≤◌, List, [], ◌∷◌, ◌++◌, Option, Some, None, OnOk, IfErr, length, refl, sym, ap, ap₂, ◌∙◌, subst, arith}
 use Rattle.std.specs.Prelude.{◌≢◌, Result, Ok, Err, MatchOption}
 use Rattle.std.proofs.lemmas.List.{append-nil, length-map, map-append}

@@ -7,8 +7,8 @@ use Rattle.bsi_table.specs.Rows.{Entries}
 use Rattle.bsi_text.specs.Sources.{max_records, GivesFirst, GivesFirstRows, HasEnded, HasGivenRows, HasStopped, HasTaken, IsOver, Source, StillHas, Tally}
 use Rattle.bsi_text.specs.declared.rows.SourceFault.{SourceFault}
 use Rattle.bsi_feeding.specs.declared.feeding.FeedEnd.{FeedEnd}
-use Rattle.bsi_feeding.specs.declared.feeding.Turn.{Turn}
-use Rattle.bsi_feeding.specs.declared.feeding.Turn.TheVariants as turn
+use Rattle.bsi_feeding.specs.declared.feeding.Progress.{Progress}
+use Rattle.bsi_feeding.specs.declared.feeding.Progress.TheVariants as progress
 
 -- the rows are the first good ones that a source still had
 abbrev pub BeginsWith : {R : Type 0} → (R → Option (List ℕ)) → Source R → List Entries → Type 0
@@ -94,13 +94,13 @@ pub record IsGathered {R : Type 0} (rem : R → Option (List ℕ)) (old new : So
 abbrev pub max_batch_rows : ℕ
 max_batch_rows = 1024
 
--- what came of one turn: the first rows that the source still had were sent, at most a batch, or nothing was, and there is
--- then none left where the turn says so
-abbrev pub IsFeederTurn : {R : Type 0} → (R → Option (List ℕ)) → Sending → Source R → Turn → Sending → Source R → Type 0
-IsFeederTurn rem feeder source (turn.Sent many) after rest =
+-- what came of feeding the next rows: the first rows that the source still had were sent, at most a batch, or nothing was,
+-- and there is then none left where it is over
+abbrev pub IsProgress : {R : Type 0} → (R → Option (List ℕ)) → Sending → Source R → Progress → Sending → Source R → Type 0
+IsProgress rem feeder source (progress.Sent many) after rest =
     (rows : List Entries) × (length rows ≡ many) × (many ≤ max_batch_rows) × (after ≡ with_sent_rows feeder rows)
     × GivesNext rem source rest rows
-IsFeederTurn rem feeder source turn.Over after rest = (after ≡ feeder) × GivesFirst rem source rest None
+IsProgress rem feeder source progress.Over after rest = (after ≡ feeder) × GivesFirst rem source rest None
     × GivesNone rem source rest
-IsFeederTurn rem feeder source turn.Stopped after rest = after ≡ feeder
-IsFeederTurn rem feeder source (turn.Failed fault) after rest = (after ≡ feeder) × FailsNow rem source fault
+IsProgress rem feeder source progress.Stopped after rest = after ≡ feeder
+IsProgress rem feeder source (progress.Failed fault) after rest = (after ≡ feeder) × FailsNow rem source fault

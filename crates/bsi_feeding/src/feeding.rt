@@ -6,7 +6,7 @@
 ghost use Rattle.std.specs.Prelude.{◌≡◌, ◌<◌, ◌≤◌, ◌*◌, [], IfOk, IfSome, None, OnErr, length, true, false};
 ghost use Rattle.bsi_rings.specs.Rings.{with_sent, with_sent_rows, Closes};
 ghost use Rattle.bsi_table.specs.RowBlocks.{entries_of, max_block_rows, no_block_rows, AreAlike};
-ghost use Rattle.bsi_feeding.specs.Feeding.{HasFailed, HasFed, IsFeederTurn, IsGathered};
+ghost use Rattle.bsi_feeding.specs.Feeding.{HasFailed, HasFed, IsProgress, IsGathered};
 
 use crate::{Gate, Pause};
 use bsi_rings::{BatchRefused, Closing, Feeder, NoMemory, SubmitRefused};
@@ -18,8 +18,8 @@ use std::sync::Wait;
 /// The most rows of a batch. It agrees with `RING_CAPACITY` of `bsi_files`: a file's ring has places for one batch.
 const MAX_BATCH_ROWS: u64 = 1_024;
 
-/// The most turns of a feeder, each of at most a batch. No text has so many records.
-const MAX_TURNS: u64 = u64::MAX / MAX_BATCH_ROWS;
+/// The most batches of a feeder, of which a row that goes alone is one. No text has so many records.
+const MAX_BATCHES: u64 = u64::MAX / MAX_BATCH_ROWS;
 
 /// How often a feeder whose ring is full yields before it sleeps.
 const MAX_YIELDS: u32 = 16;
@@ -40,9 +40,9 @@ pub struct FeedEnd {
     pub closing: Option<Closing>,
 }
 
-/// The result of one turn of a feeder.
+/// What came of feeding the next rows.
 #[derive(Clone, Copy, Debug, PartialEq, Eq)]
-pub(crate) enum Turn {
+pub(crate) enum Progress {
     /// So many rows were sent, the next ones.
     Sent(u64),
     /// The next rows were not sent.
@@ -75,15 +75,15 @@ pub fn feed<R: Wait, I: Read + Drop, G: Gate>(
     ensures fault { IfSome result.fault (HasFailed I.remaining source result.accepted) }
 {
     let mut accepted = 0;
-    'turns: for _ in 0..MAX_TURNS {
+    'batches: for _ in 0..MAX_BATCHES {
         let (stopped, fault) = match feed_next(rt, &mut feeder, &mut source, gate, accepted) {
-            Turn::Sent(rows) => {
+            Progress::Sent(rows) => {
                 accepted += rows;
                 continue;
             }
-            Turn::Stopped => (true, None),
-            Turn::Over => (false, None),
-            Turn::Failed(fault) => (false, Some(fault)),
+            Progress::Stopped => (true, None),
+            Progress::Over => (false, None),
+            Progress::Failed(fault) => (false, Some(fault)),
         };
         return finish(rt, feeder, source, gate, accepted, stopped, fault);
     }
@@ -98,8 +98,8 @@ fn feed_next<R: Wait, I: Read + Drop, G: Gate>(
     source: &mut RowSource<I>,
     gate: &G,
     point: u64,
-) -> Turn
-    ensures { IsFeederTurn I.remaining feeder.old source.old result feeder.new source.new }
+) -> Progress
+    ensures { IsProgress I.remaining feeder.old source.old result feeder.new source.new }
 {
     match batch_for(feeder, source) {
         Some((block, batch)) => feed_batch(rt, feeder, source, block, batch, gate, point),
@@ -137,26 +137,26 @@ fn feed_batch<R: Wait, I: Read + Drop, G: Gate>(
     mut batch: Index,
     gate: &G,
     point: u64,
-) -> Turn
+) -> Progress
     requires block { block ≡ no_block_rows source.old.layout.schema 1 }
     requires batch { (batch.rows ≡ []) × (batch.feeders ≡ 1) }
     requires alike { AreAlike block.schema batch.schema }
     requires place { max_block_rows ≤ feeder.old.capacity }
-    ensures { IsFeederTurn I.remaining feeder.old source.old result feeder.new source.new }
+    ensures { IsProgress I.remaining feeder.old source.old result feeder.new source.new }
 {
     let most = u64::from(feeder.capacity()).min(MAX_BATCH_ROWS);
     let blocks = most / MAX_BLOCK_ROWS as u64;
     let Ok(fault) = gather(source, &mut block, &mut batch, blocks) else {
-        return Turn::Failed(SourceFault::NoMemory);
+        return Progress::Failed(SourceFault::NoMemory);
     };
     let rows = batch.len();
     if rows == 0 {
-        return fault.map_or(Turn::Over, Turn::Failed);
+        return fault.map_or(Progress::Over, Progress::Failed);
     }
     if !send_batch(rt, feeder, batch, gate, point) {
-        return Turn::Stopped;
+        return Progress::Stopped;
     }
-    Turn::Sent(rows)
+    Progress::Sent(rows)
 }
 
 /// Fills a block with the next rows of the source and appends it to the batch, so many times or until no row is left or
@@ -197,17 +197,17 @@ fn feed_one<R: Wait, I: Read + Drop, G: Gate>(
     source: &mut RowSource<I>,
     gate: &G,
     point: u64,
-) -> Turn
-    ensures { IsFeederTurn I.remaining feeder.old source.old result feeder.new source.new }
+) -> Progress
+    ensures { IsProgress I.remaining feeder.old source.old result feeder.new source.new }
 {
     match source.next_row() {
-        Err(fault) => Turn::Failed(fault),
-        Ok(None) => Turn::Over,
+        Err(fault) => Progress::Failed(fault),
+        Ok(None) => Progress::Over,
         Ok(Some(row)) => {
             if send(rt, feeder, row, gate, point) {
-                Turn::Sent(1)
+                Progress::Sent(1)
             } else {
-                Turn::Stopped
+                Progress::Stopped
             }
         }
     }

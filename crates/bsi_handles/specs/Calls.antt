@@ -7,6 +7,7 @@ use Rattle.bsi_records.specs.Events.{IsQuery}
 use Rattle.bsi_records.specs.Numbers.{Field}
 use Rattle.bsi_records.specs.Predicates.{IsPredicate}
 use Rattle.bsi_table.specs.Answers.{IsAnswer}
+use Rattle.bsi_table.specs.RowBlocks.{max_block_rows}
 use Rattle.bsi_table.specs.Rows.{holds}
 use Rattle.bsi_table.specs.Table.{max_feeders, no_rows, with_rows, Table}
 use Rattle.bsi_table.specs.declared.query.Answer.{Answer}
@@ -83,12 +84,12 @@ IsRowsRefusal table feeder columns row why = ⊥
 abbrev pub with_first : Table → ℕ → List Column → ℕ → Table
 with_first table feeder columns n = with_rows table (rows_of feeder columns 0 n)
 
--- an index takes rows: all of them, or, if memory is refused, those of the first blocks of 64, or none
+-- an index takes rows: all of them, or, if memory is refused, those of the first full blocks, or none
 abbrev pub IsAppended : Table → ℕ → List Column → ℕ → Table → Ending → Type 0
 IsAppended before feeder columns row after (Ok done) =
     AreAppendable before feeder columns × (row ≡ row_count columns) × (after ≡ with_first before feeder columns row)
 IsAppended before feeder columns row after (Err NoMemory) =
-    AreAppendable before feeder columns × (row ≤ row_count columns) × (row % 64 ≡ 0)
+    AreAppendable before feeder columns × (row ≤ row_count columns) × (row % max_block_rows ≡ 0)
     × (after ≡ with_first before feeder columns row)
 IsAppended before feeder columns row after (Err why) =
     IsRowsRefusal before feeder columns row why × (after ≡ before)

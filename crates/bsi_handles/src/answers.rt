@@ -1,6 +1,6 @@
 //! Answers as C has them.
 
-ghost use Rattle.std.specs.Prelude.{◌≡◌, ◌≢◌, ◌<◌, map, take, length, Err, IfErr, IfOk, OnErr, OnOk};
+ghost use Rattle.std.specs.Prelude.{◌≡◌, ◌≢◌, ◌<◌, map, take, length, Err, IfErr, OnErr, OnOk};
 ghost use Rattle.bsi_handles.specs.Calls.{as_pairs, IsReplied, IsShort, IsWritten};
 
 use crate::opened::Opened;
@@ -112,9 +112,9 @@ fn list(rows: &[(u32, u64)], places: &mut [Place]) -> Result<(), Refusal>
     if rows.len() > places.len() {
         return Err(Refusal::NoRoom);
     }
-    'rows: for r in 0..rows.len() {
-        let (feeder, row) = rows[r];
-        places[r] = Place { feeder, row };
+    'rows: for (place, row) in rows.iter().enumerate() {
+        let (feeder, row) = *row;
+        places[place] = Place { feeder, row };
     }
     Ok(())
 }

@@ -1,6 +1,6 @@
 //! Rows of columns that go into an index, block by block.
 
-ghost use Rattle.std.specs.Prelude.{◌≡◌, ◌+◌, ◌%◌, ◌<◌, ◌≤◌, length, true, IfErr, IfOk, OnErr, OnOk};
+ghost use Rattle.std.specs.Prelude.{◌≡◌, ◌+◌, ◌%◌, ◌<◌, ◌≤◌, length, true, IfErr, OnErr, OnOk};
 ghost use Rattle.std.specs.List.{list_all};
 ghost use Rattle.bsi_handles.specs.Calls.{with_first, AreAppendable, IsAppended, IsRowsRefusal};
 ghost use Rattle.bsi_handles.specs.Columns.{are_columns, has_rows, row_count, row_of, rows_of, AreTaken};
@@ -110,7 +110,7 @@ fn append_blocks(
     ensures rows { index.new ≡ with_first index.old feeder columns.now appended.new }
     ensures within { appended.new ≤ row_count columns.now }
     ensures all { OnOk result (appended.new ≡ row_count columns.now) }
-    ensures whole { OnErr result (appended.new % 64 ≡ 0) }
+    ensures whole { OnErr result (appended.new % max_block_rows ≡ 0) }
 {
     *appended = 0;
     let rows = count_rows(columns);

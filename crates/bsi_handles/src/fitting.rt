@@ -19,12 +19,8 @@ fn first_refused(column: &Column, rows: usize, end: usize, limits: Limits) -> us
     ensures refused { result < end →
         is_between limits.least limits.size (entry_of result column.now) ≡ false }
 {
-    'rows: for r in 0..end {
-        if !limits.takes(entry(column, rows, r)) {
-            return r;
-        }
-    }
-    end
+    let refused = (0..end).find(|r| !limits.takes(entry(column, rows, *r)));
+    refused.unwrap_or(end)
 }
 
 /// Returns the first row that does not fit the schema, or the number of rows. It goes over one column after the other.

@@ -8,26 +8,26 @@ use Rattle.bsi_feeding.proofs.Feeds.{failed_after, fed_first, of_some, sent_more
 use Rattle.bsi_feeding.proofs.feeding.feed.Goals.{in-Stopped, in-Over, in-Failed}
 use Rattle.bsi_feeding.proofs.feeding.feed.Goals as goal
 
-pub turns-init : goal.turns-init
-turns-init g c = record {
+pub batches-init : goal.batches-init
+batches-init g c = record {
   sent = sent_none g.I.Read.remaining c.args.feeder c.args.source (taken_none g.I.Read.remaining c.args.source.layout c.args.source.input c.args.source.tally);
   few = omega arith;
 }
 
-pub turns-preserved : goal.turns-preserved
-turns-preserved g c =
-    let turn = c.in-Sent.ensures in
+pub batches-preserved : goal.batches-preserved
+batches-preserved g c =
+    let sent = c.in-Sent.ensures in
     record {
-      sent = sent_more g.I.Read.remaining c.args.feeder c.args.source c.turns.accepted c.turns.feeder c.turns.source c.turns.invariant.sent (taken_both g.I.Read.remaining)
-          c.in-Sent.rows c.feed_next.new.feeder c.feed_next.new.source turn.0 turn.1 turn.3 turn.4;
-      few = omega (arith, c.turns.invariant.few, turn.2);
+      sent = sent_more g.I.Read.remaining c.args.feeder c.args.source c.batches.accepted c.batches.feeder c.batches.source c.batches.invariant.sent (taken_both g.I.Read.remaining)
+          c.in-Sent.rows c.feed_next.new.feeder c.feed_next.new.source sent.0 sent.1 sent.3 sent.4;
+      few = omega (arith, c.batches.invariant.few, sent.2);
     }
 
 -- the feeder stopped, no row is left, or the source failed
-pub returns-in-turns-clause-fed : goal.returns-in-turns-clause-fed
-returns-in-turns-clause-fed g c =
-    let fed = fed_first g.I.Read.remaining c.args.feeder c.args.source c.turns.accepted c.turns.feeder c.turns.source c.turns.invariant.sent (taken_both g.I.Read.remaining) c.finish.result in
-    let sent : c.feed_next.new.feeder ≡ c.turns.feeder → IfSome c.finish.result.closing (λ closing. closing.rows ≡ c.turns.feeder.sent) =
+pub returns-in-batches-clause-fed : goal.returns-in-batches-clause-fed
+returns-in-batches-clause-fed g c =
+    let fed = fed_first g.I.Read.remaining c.args.feeder c.args.source c.batches.accepted c.batches.feeder c.batches.source c.batches.invariant.sent (taken_both g.I.Read.remaining) c.finish.result in
+    let sent : c.feed_next.new.feeder ≡ c.batches.feeder → IfSome c.finish.result.closing (λ closing. closing.rows ≡ c.batches.feeder.sent) =
     λ same. of_some c.finish.result.closing c.finish.ensures.closing (λ closing closes. closes.rows ∙ ap (λ (s : Sending). s.sent) same) in
     elim c.match-feed_next.branch [
       | in-Stopped w ↦
@@ -42,21 +42,21 @@ returns-in-turns-clause-fed g c =
     ]
 
 -- a fault is the one that the source answered
-pub returns-in-turns-clause-fault : goal.returns-in-turns-clause-fault
-returns-in-turns-clause-fault g c =
+pub returns-in-batches-clause-fault : goal.returns-in-batches-clause-fault
+returns-in-batches-clause-fault g c =
     let fails = λ (fault : Option SourceFault). IfSome fault (HasFailed g.I.Read.remaining c.args.source c.finish.result.accepted) in
     elim c.match-feed_next.branch [
       | in-Stopped w ↦ subst fails (sym (c.finish.ensures.fault ∙ ap (λ (p : Bool × Option SourceFault). p.1) w.stopped-is)) tt
       | in-Over w ↦ subst fails (sym (c.finish.ensures.fault ∙ ap (λ (p : Bool × Option SourceFault). p.1) w.stopped-is)) tt
       | in-Failed w ↦
           subst fails (sym (c.finish.ensures.fault ∙ ap (λ (p : Bool × Option SourceFault). p.1) w.stopped-is))
-          (failed_after g.I.Read.remaining c.args.feeder c.args.source c.turns.accepted c.turns.feeder c.turns.source c.turns.invariant.sent c.finish.result.accepted w.in-Failed.fault
+          (failed_after g.I.Read.remaining c.args.feeder c.args.source c.batches.accepted c.batches.feeder c.batches.source c.batches.invariant.sent c.finish.result.accepted w.in-Failed.fault
           c.finish.ensures.accepted w.in-Failed.ensures.1)
     ]
 
 -- a text of so many records is never met
 pub returns-clause-fed : goal.returns-clause-fed
 returns-clause-fed g c =
-    fed_first g.I.Read.remaining c.args.feeder c.args.source c.turns.accepted c.turns.feeder c.turns.source c.turns.invariant.sent (taken_both g.I.Read.remaining) c.finish-2.result
+    fed_first g.I.Read.remaining c.args.feeder c.args.source c.batches.accepted c.batches.feeder c.batches.source c.batches.invariant.sent (taken_both g.I.Read.remaining) c.finish-2.result
     (of_some c.finish-2.result.closing c.finish-2.ensures.closing (λ closing closes. closes.rows)) c.finish-2.ensures.accepted
     (λ going fine. absurd (cc (c.finish-2.ensures.stopped, going)))

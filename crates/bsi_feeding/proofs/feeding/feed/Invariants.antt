@@ -3,8 +3,8 @@ use Rattle.bsi_feeding.proofs.Feeds.{HasSent}
 use Rattle.bsi_feeding.proofs.feeding.feed.Given as goal
 
 -- so many rows were sent, the first ones that the source still had
-abbrev pub invariant-turns : goal.invariant-turns
-invariant-turns g l = record {
+abbrev pub invariant-batches : goal.invariant-batches
+invariant-batches g l = record {
   sent : HasSent g.I.Read.remaining l.initial.feeder l.initial.source l.accepted l.feeder l.source;
   few : l.accepted ≤ 1024 * l.counter;
 }
