@@ -4,7 +4,7 @@
 //! stored column for `< 0` and the others for `>= 0`; past 64 bits the greatest constant stands for it, because each
 //! stored number is below 2^63.
 
-ghost use Rattle.std.specs.Prelude.{◌≡◌, ℕ, pos, ◌+ℤ◌, ◌≤ℤ◌, ◌+◌, ◌<◌, ◌≤◌, [], ◌∷◌, ◌++◌, All, length, map, None, slice_index_or, is_some, ◌↔◌, IsOk, IsTrue, IfOk, OnOk, OnErr};
+ghost use Rattle.std.specs.Prelude.{◌≡◌, ℕ, pos, ◌+ℤ◌, ◌≤ℤ◌, ◌+◌, ◌<◌, ◌≤◌, [], ◌∷◌, ◌++◌, All, length, map, None, slice_index_or, is_some, nat_lt, ◌↔◌, IsOk, IsTrue, IfOk, OnOk, OnErr};
 ghost use Rattle.std.specs.Option.{option_map};
 ghost use Rattle.bsi_digits.specs.Digits.{max_end, max_size};
 ghost use Rattle.bsi_bits.specs.BitList.{max_block, max_len};
@@ -125,6 +125,26 @@ impl Shifted {
             ≤ shifted_room self.new }
     {
         self.stored.clear();
+    }
+
+    /// Returns whether one more entry can be appended without allocating memory.
+    pub fn has_room(&self) -> bool
+        ensures { result ≡ nat_lt 0 (shifted_room self.now) }
+    {
+        self.stored.has_room()
+    }
+
+    /// Makes room for one more entry, as `reserve` does for many.
+    pub fn reserve_one(&mut self) -> Result<(), NoMemory>
+        requires { length (shifted_entries self.old) < max_len }
+        ensures entries { shifted_entries self.new ≡ shifted_entries self.old }
+        ensures alike { IsAlike self.old self.new }
+        ensures ok { OnOk result (0 < shifted_room self.new) }
+        ensures kept { shifted_room self.old ≤ shifted_room self.new }
+        ensures err { OnErr result (shifted_room self.new ≡ shifted_room self.old) }
+        ensures succeeds { 0 < shifted_room self.old → IsOk result }
+    {
+        self.stored.reserve_one()
     }
 
     /// Appends a null, or a number from the offset on that is below the sum of the offset and the size, into room that
