@@ -4,6 +4,7 @@ use Rattle.csv.specs.declared.parser.State.{State}
 use Rattle.bsi_records.specs.Numbers.{Field}
 use Rattle.bsi_records.specs.Setups.{table_after}
 use Rattle.bsi_table.specs.Columns.{no_columns, Declared}
+use Rattle.bsi_table.specs.Table.{max_rows}
 use Rattle.bsi_text.specs.Sources.{max_records}
 use Rattle.bsi_text.specs.Texts.{AreAllRecords, AreFirstRecords}
 use Rattle.bsi_files.specs.declared.faults.FilesFault.{FilesFault}
@@ -26,7 +27,7 @@ pub record Declares (bytes : List ℕ) (before after : Declared × ℕ) : Type 0
 
 -- no column, and the greatest limit there is
 abbrev pub none_declared : Declared × ℕ
-none_declared = (no_columns, 4294967296)
+none_declared = (no_columns, max_rows)
 
 -- these bytes declare this schema, of one column or more, and this limit
 pub record IsSchemaFile (bytes : List ℕ) (schema : Declared) (limit : ℕ) : Type 0 where

@@ -1,6 +1,6 @@
 //! The lines of a run: what each feeder read, and the answers to the questions.
 
-ghost use Rattle.std.specs.Prelude.{◌≡◌, ◌≢◌, ◌≤◌, [], List, None, IfErr, IfOk, IfSome, OnOk, length, map, true};
+ghost use Rattle.std.specs.Prelude.{◌≡◌, ◌≢◌, ◌≤◌, List, None, IfErr, IfSome, OnOk, length, map, true};
 ghost use Rattle.std.specs.Io.KnownBytes.{Appends};
 ghost use Rattle.std.specs.List.{concat};
 ghost use Rattle.csv.specs.Reading.{reader_state, source_of};
@@ -13,7 +13,7 @@ ghost use Rattle.bsi_files.specs.Faults.{is_late};
 ghost use Rattle.bsi_table.specs.Answers.{IsAnswer};
 ghost use Rattle.bsi_table.specs.Rows.{FedRow};
 ghost use Rattle.bsi_table.specs.declared.query.Query.{Query};
-ghost use Rattle.bsi_files.specs.AskLines.{IsAskLine, IsShownAnswer, IsShownReply};
+ghost use Rattle.bsi_files.specs.AskLines.{IsAskLine, IsShownAnswer};
 ghost use Rattle.bsi_files.specs.Matching.{AreMatched};
 ghost use Rattle.bsi_files.specs.Runs.{fed_lines, AreLines};
 ghost use Rattle.bsi_files.specs.Writing.{AreOut, WritesAll, WritesPart};
@@ -64,8 +64,8 @@ fn tell_all<W: Write>(fed: &[Fed], line: &mut Vec<u8>, writer: &mut W) -> Result
     ensures part { IfErr result (λ fault. AreOut fault (fed_lines 0 (map fed_counts fed.now))
         (W.contents writer.old) (W.contents writer.new)) }
 {
-    'feeders: for feeder in 0..fed.len() {
-        tell(file_number(feeder), &fed[feeder], line)?;
+    'feeders: for (feeder, end) in fed.iter().enumerate() {
+        tell(file_number(feeder), end, line)?;
         write_bytes(writer, line.as_slice())?;
     }
     Ok(())

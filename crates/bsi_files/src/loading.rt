@@ -3,8 +3,8 @@
 //! It takes batches of a feeder until these have 256 rows before the next one's turn, so that no ring stays full because
 //! another is long. It publishes nothing: nobody asks before all rows are held, and then the loader hands over its table.
 
-ghost use Rattle.std.specs.Prelude.{◌≡◌, ◌≢◌, ◌<◌, ◌≤◌, ℕ, [], All, Err, IfErr, IfOk, IfSome, None, OnErr, OnOk, Ok, Some, false, length, true};
-ghost use Rattle.bsi_system.specs.Running.{taking_at, AlwaysHolds, IsClosingOf};
+ghost use Rattle.std.specs.Prelude.{◌≡◌, ◌≢◌, ◌<◌, ◌≤◌, ℕ, [], All, Err, IfErr, IfSome, None, OnErr, OnOk, Ok, Some, false, length, true};
+ghost use Rattle.bsi_system.specs.Running.{taking_at, IsClosingOf};
 ghost use Rattle.bsi_files.specs.Ends.{AreClosings};
 ghost use Rattle.bsi_files.specs.Takings.{all_closed, AreGoing, AreTold, IsDrained, IsFine, IsFullAt, IsFullBefore, IsKept, KeepsOthers, KeepsTold, TakesOnlyOf};
 ghost use Rattle.bsi_files.specs.Faults.{is_early};

@@ -3,7 +3,6 @@
 ghost use Rattle.std.specs.Prelude.{◌≡◌, ◌<◌, None, IfErr, IfOk, IfSome, OnOk, length, true};
 ghost use Rattle.csv.specs.Reading.{reader_state, source_of};
 ghost use Rattle.csv.specs.declared.parser.State.TheVariants as st;
-ghost use Rattle.bsi_table.specs.Columns.{no_columns};
 ghost use Rattle.bsi_text.specs.Texts.{FromText};
 ghost use Rattle.bsi_files.specs.Faults.{is_of_schema};
 ghost use Rattle.bsi_files.specs.SchemaFiles.{none_declared, Declares, IsSchemaFault, IsSchemaFile};
