@@ -3,8 +3,8 @@
 //! The slices of one call have the same length. No kernel allocates memory, and each passes over its words once.
 //!
 //! One loop serves all operations, over a private trait that gives an operation on single words and on four side by
-//! side. A count reads the four quarters of its words side by side: four read streams use more memory bandwidth than
-//! one. It counts by parts of 2^57 words in 64 bits, since a slice may be longer than 2^58 words as far as its type
+//! side. A count of one slice reads its four quarters side by side: four read streams use more memory bandwidth than one.
+//! A count goes by parts of 2^57 words in 64 bits, since a slice may be longer than 2^58 words as far as its type
 //! says; no memory is, so there is one part.
 
 ghost use Rattle.std.specs.Prelude.{◌≡◌, ◌*◌, ◌^◌, ◌≤◌, ◌<◌, length, map, sum_by, bit_and, bit_or, bit_xor, count_ones};
@@ -19,7 +19,7 @@ mod operations;
 /// The number of words that a kernel takes at a time.
 const LANES: usize = 4;
 
-/// The most words whose ones are counted in 64 bits. No memory holds more, so a count goes over a single such block.
+/// The most words whose ones are counted in 64 bits. No memory holds more, so a count has a single such part.
 const MAX_COUNTED: usize = 1 << 57;
 
 /// Writes the operation's word for each pair of words into `a`.
@@ -169,8 +169,8 @@ pub fn not(a: &mut [u64])
 {
     let whole = a.len() / LANES;
     'fours: for k in 0..whole {
-        let turned = !u64x4::from_slice(&a[LANES * k..]);
-        turned.copy_to_slice(&mut a[LANES * k..]);
+        let inverted = !u64x4::from_slice(&a[LANES * k..]);
+        inverted.copy_to_slice(&mut a[LANES * k..]);
     }
     'rest: for i in LANES * whole..a.len() {
         a[i] = !a[i];

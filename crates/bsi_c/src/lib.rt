@@ -1,10 +1,11 @@
 //! The exports of the C library alone: each call takes a handle, and returns 0 or the number of a refusal.
 #![tactic(auto)]
 
-ghost use Rattle.std.specs.Prelude.{◌≡◌, ◌≢◌, None, map};
+ghost use Rattle.std.specs.Prelude.{◌≡◌, ◌≢◌, Err, None, map};
 ghost use Rattle.bsi_handles.specs.Calls.{IsAppending, IsAsking, IsClosing, IsCounting, IsDescribing, IsOpening, IsSelecting, IsSharing};
 ghost use Rattle.bsi_handles.specs.States.{opened_in};
-ghost use Rattle.bsi_handles.specs.Statuses.{Tells};
+ghost use Rattle.bsi_handles.specs.Statuses.{status_of, Tells};
+ghost use Rattle.bsi_handles.specs.declared.refusal.Refusal.TheVariants.{NoMemory, NoRoom};
 
 use bsi_handles::{
     Column, FlatAnswer, Handle, Place, append, ask, close, count, describe, open, select, share,
@@ -41,7 +42,7 @@ pub extern "C" fn bsi_append(
 ) -> u32
     ensures told { Tells result (IsAppending index.old.held.value feeder columns.now row.new
         index.new.held.value) }
-    ensures kept { result ≢ 0 → result ≢ 3 → index.new.held.value ≡ index.old.held.value }
+    ensures kept { result ≢ 0 → result ≢ status_of (Err NoMemory) → index.new.held.value ≡ index.old.held.value }
 {
     status_of(append(alloc, index, feeder, columns, row))
 }
@@ -58,7 +59,7 @@ pub extern "C" fn bsi_ask(
     ensures told { Tells result (IsAsking (opened_in index.old.held.value)
         (map (λ f. f.now) fields.now) answer.new places.new) }
     ensures kept { index.new.held.value ≡ index.old.held.value }
-    ensures left { result ≢ 0 → result ≢ 12 → answer.new ≡ answer.old }
+    ensures left { result ≢ 0 → result ≢ status_of (Err NoRoom) → answer.new ≡ answer.old }
     ensures unfilled { result ≢ 0 → places.new ≡ places.old }
 {
     status_of(ask(alloc, index, fields, answer, places))
@@ -102,7 +103,7 @@ pub extern "C" fn bsi_schema(
     ensures told { Tells result
         (IsDescribing (opened_in index.old.held.value) text.new size.new) }
     ensures kept { index.new.held.value ≡ index.old.held.value }
-    ensures left { result ≢ 0 → result ≢ 12 → size.new ≡ size.old }
+    ensures left { result ≢ 0 → result ≢ status_of (Err NoRoom) → size.new ≡ size.old }
     ensures unfilled { result ≢ 0 → text.new ≡ text.old }
 {
     status_of(describe(alloc, index, text, size))
@@ -113,7 +114,7 @@ pub extern "C" fn bsi_schema(
 pub extern "C" fn bsi_share(alloc: Global, index: &mut Handle, other: &mut Handle) -> u32
     ensures told { Tells result (IsSharing index.old.held.value other.old.held.value
         index.new.held.value other.new.held.value) }
-    ensures kept { result ≢ 0 → result ≢ 3 → index.new.held.value ≡ index.old.held.value }
+    ensures kept { result ≢ 0 → result ≢ status_of (Err NoMemory) → index.new.held.value ≡ index.old.held.value }
     ensures held { result ≢ 0 →
         opened_in index.new.held.value ≡ opened_in index.old.held.value }
     ensures left { result ≢ 0 → other.new.held.value ≡ other.old.held.value }

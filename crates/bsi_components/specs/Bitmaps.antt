@@ -4,6 +4,7 @@ use Rattle.std.specs.Int.Count.{count_leading_zeros}
 use Rattle.std.specs.List.{range_with_len}
 use Rattle.bsi_bits.specs.BitList.{BitList}
 use Rattle.bsi_bits.specs.BitLists.{bits_at}
+use Rattle.bsi_words.specs.Places.{min_base_with_places}
 
 -- the greatest base
 abbrev pub max_base : ℕ
@@ -22,6 +23,6 @@ first_set none at (bit ∷ bits) = if bit then at else first_set none (at + 1) b
 unfoldable pub digits_by : (List Bool → ℕ) → List BitList → List ℕ
 digits_by digit bitmaps = map (λ k. digit (row bitmaps k)) (range_with_len 0 (length (bits_at bitmaps 0)))
 
--- how many binary places of its digits a component of a base keeps: none below base 4, and else as many as they take
+-- how many binary places of its digits a component of a base keeps: as many as they take, or none below a least base
 abbrev pub kept_places : ℕ → ℕ
-kept_places base = if nat_lt base 4 then 0 else 32 - count_leading_zeros 32 (base - 1)
+kept_places base = if nat_lt base min_base_with_places then 0 else 32 - count_leading_zeros 32 (base - 1)

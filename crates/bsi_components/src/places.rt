@@ -5,7 +5,7 @@
 
 ghost use Rattle.std.specs.Prelude.{◌≡◌, ℕ, ◌+◌, ◌-◌, ◌<◌, ◌≤◌, ◌^◌, ◌&&◌, Bool, List, false, [], ◌∷◌, ◌++◌, length, nat_le, nat_lt};
 ghost use Rattle.bsi_bits.specs.BitLists.{bits_at};
-ghost use Rattle.bsi_words.specs.Places.{has_place, max_digit_places, then_places};
+ghost use Rattle.bsi_words.specs.Places.{has_place, max_digit_places, min_base_with_places, then_places};
 ghost use Rattle.bsi_components.specs.Bitmaps.{kept_places, max_base};
 
 use bsi_bits::Bitmaps;
@@ -19,7 +19,7 @@ pub(crate) fn place_count(base: u32) -> usize
     ensures kept { result ≡ kept_places base }
     ensures few { result ≤ max_digit_places }
     ensures enough { 0 < result → base ≤ 2 ^ result }
-    ensures some { 4 ≤ base → 0 < result }
+    ensures some { min_base_with_places ≤ base → 0 < result }
 {
     if base < MIN_BASE_WITH_PLACES {
         0

@@ -1,7 +1,7 @@
 //! The range encoded component: bitmap j says of each row whether its digit is at most j (Chan and Ioannidis 1998).
 //!
 //! A step reads one bitmap or two. The digit of a rank is found by halving, so by at most ten counts, since a base is
-//! at most 1,024. A sum counts the binary places of the digits, which stand behind the bitmaps.
+//! at most 1,024, or by two where a sample of the rows tells the digit; where it tells a wrong one, by both. A sum counts the binary places of the digits, which stand behind the bitmaps.
 
 ghost use Rattle.std.specs.Prelude.{◌≡◌, ℕ, ◌+◌, ◌-◌, ◌*◌, ◌^◌, ◌<◌, ◌≤◌, ◌&&◌, ◌++◌, length, map, nat_le, nat_lt, true, slice_index, sum, IsTrue, IsFalse};
 ghost use Rattle.std.specs.List.{items_where_true};

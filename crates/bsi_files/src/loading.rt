@@ -1,6 +1,6 @@
 //! The loader's part of a run: beside the feeders, and for what is left when they have ended.
 //!
-//! It takes batches of a feeder until these have 256 rows before the next one's turn, so that no ring stays full because
+//! It takes batches of a feeder until these have 256 rows before it goes on to the next one, so that no ring stays full because
 //! another is long. It publishes nothing: nobody asks before all rows are held, and then the loader hands over its table.
 
 ghost use Rattle.std.specs.Prelude.{◌≡◌, ◌≢◌, ◌<◌, ◌≤◌, ℕ, [], All, Err, IfErr, IfSome, None, OnErr, OnOk, Ok, Some, false, length, true};
@@ -19,8 +19,8 @@ use bsi_system::{Closing, LoadRefused, Loader, Naming};
 use bsi_text::SourceFault;
 use std::sync::Wait;
 
-/// Once so many rows of one feeder were taken, the next feeder has its turn.
-const ROWS_IN_TURN: usize = 256;
+/// Once so many rows of one feeder were taken, the next feeder comes.
+const ROWS_AT_ONCE: usize = 256;
 
 /// How often a loader that sees no row yields before it sleeps.
 const MAX_YIELDS: u32 = 256;
@@ -96,7 +96,7 @@ fn load_some<B: Naming>(loader: &mut Loader<B>, feeder: u32) -> Result<bool, Fil
     ensures early { IfErr result (λ fault. is_early fault ≡ true) }
 {
     let mut taken = 0usize;
-    'rows: while taken < ROWS_IN_TURN {
+    'rows: while taken < ROWS_AT_ONCE {
         let rows = load_next(loader, feeder)?;
         if rows == 0 {
             break;

@@ -19,7 +19,7 @@ ghost use Rattle.bsi_system.specs.Running.{AlwaysHolds};
 use crate::asks::answer_all;
 use crate::headers::{begin_all, capacities, file_number};
 use crate::loading::{Fed, check_all, load_beside, load_rest, settle_all};
-use crate::tables::read_table;
+use crate::tables::read_schema;
 use crate::threads::{Watch, join_all, start_all};
 use crate::{FilesFault, Gate, NoMemory, Stopping};
 use bsi_system::{Feeder, History, Loader, Naming, OpenRefused, System, open};
@@ -76,7 +76,7 @@ pub fn run_files<
         return Err(FilesFault::TooManyFiles);
     }
     let alloc = rt.alloc();
-    let (schema, limit) = read_table(alloc, schema)?;
+    let (schema, limit) = read_schema(alloc, schema)?;
     let sources = begin_all(alloc, &schema, sources)?;
     let capacities = capacities(alloc, sources.len())?;
     let run = Run { sources, asks };

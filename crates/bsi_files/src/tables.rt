@@ -15,7 +15,7 @@ use std::alloc::Global;
 use std::io::Read;
 
 /// Reads the columns and the row limit. Without a limit in the file, the limit is the greatest there is.
-pub(crate) fn read_table<S: Read + Drop>(
+pub(crate) fn read_schema<S: Read + Drop>(
     alloc: Global,
     reader: S,
 ) -> Result<(Schema, u64), FilesFault>

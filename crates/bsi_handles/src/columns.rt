@@ -9,7 +9,7 @@ ghost use Rattle.bsi_handles.specs.Columns.{are_columns, entry_of, has_rows, row
 #[repr(C)]
 #[derive(Drop)]
 pub struct Column<'a> {
-    /// The numbers, from the column's least number up.
+    /// The numbers, each at least the offset of the column that they are for.
     pub values: &'a [i64],
     /// The bitmap.
     pub valid: &'a [u8],

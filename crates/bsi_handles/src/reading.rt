@@ -28,7 +28,7 @@ pub(crate) fn open_text(
     ensures zero { OnOk result (bad_record.new ≡ 0) }
     ensures refused { IfErr result (IsTextRefusal text.now bad_record.new) }
 {
-    let (schema, limit) = read_table(alloc, text, bad_record)?;
+    let (schema, limit) = read_schema(alloc, text, bad_record)?;
     let Ok(index) = Index::new(alloc, schema, feeders, limit) else {
         // There is a column, and the limit is that of a record, so only memory can be refused.
         return Err(Refusal::NoMemory);
@@ -37,7 +37,7 @@ pub(crate) fn open_text(
 }
 
 /// Reads the columns and the row limit, which is the greatest there is where no record gives another.
-fn read_table(alloc: Global, text: &[u8], bad_record: &mut u64) -> Result<(Schema, u64), Refusal>
+fn read_schema(alloc: Global, text: &[u8], bad_record: &mut u64) -> Result<(Schema, u64), Refusal>
     requires { bad_record.old ≡ 0 }
     ensures declared { IfOk result (λ read. IsSchemaText text.now read.0 read.1) }
     ensures zero { OnOk result (bad_record.new ≡ 0) }

@@ -5,8 +5,7 @@ ghost use Rattle.bsi_handles.specs.Statuses.{status_of};
 
 use std::alloc::AllocError;
 
-/// The refusals of all calls, in the order of their statuses. A call looks for those that it has in this order, except
-/// that memory can be refused at any time, and that a shared index refuses rows first.
+/// The refusals of all calls, in the order of their statuses.
 #[derive(Clone, Copy, Debug, PartialEq, Eq)]
 pub enum Refusal {
     /// The handle is closed.

@@ -1,6 +1,6 @@
 //! The rows of a found set, each by its feeder and its number among the rows of that feeder.
 //!
-//! A list counts forward and keeps the counts of all feeders as it goes, so no byte is read twice. Where more than an
+//! A list counts forward and keeps the counts of all feeders as it goes, so no stretch is read twice. Where more than an
 //! eighth of the rows was found it tests each row's bit in one pass, which costs less than looking for the next set
 //! place.
 

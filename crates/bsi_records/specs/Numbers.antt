@@ -56,9 +56,13 @@ abbrev pub number_between : ℕ → ℕ → Field → Option ℕ
 number_between least most text =
     option_and_then (λ n. if nat_le least n && nat_le n most then Some n else None) (spelled_number text)
 
+-- the greatest number of 32 bits
+abbrev pub max_u32 : ℕ
+max_u32 = 4294967295
+
 -- a number of 32 bits
 abbrev pub small_of : Field → Option ℕ
-small_of text = number_between 0 4294967295 text
+small_of text = number_between 0 max_u32 text
 
 -- the numbers of 32 bits that fields spell, none where one of them is no such number
 unfoldable pub smalls_of : List Field → Option (List ℕ)
@@ -72,7 +76,7 @@ bases_of text = smalls_of (slice_split (λ byte. byte == 32) text)
 
 -- the number of a feeder, the greatest of 32 bits for one that 32 bits do not hold
 abbrev pub feeder_of : Field → Option ℕ
-feeder_of text = option_map (λ n. min n 4294967295) (spelled_number text)
+feeder_of text = option_map (λ n. min n max_u32) (spelled_number text)
 
 -- the least number of a column: a whole number of 64 bits
 abbrev pub offset_of : Field → Option ℤ

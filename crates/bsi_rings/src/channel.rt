@@ -170,7 +170,7 @@ impl Channel {
         let mut finished = closing.into_finished();
         self.ring.slots_after(&mut finished);
         match &mut self.finished {
-            // What was told before stays.
+            // What was told before stays. The proof takes from this call that both tell of the same rows.
             Some(first) => {
                 self.ring.slots_after(first);
             }

@@ -229,7 +229,7 @@ fn stored_from(offset: i64, entry: Option<i64>) -> Option<u64>
 fn store_block(offset: i64, block: &[Option<i64>], stored: &mut [Option<u64>; 64])
     requires few { length block.now ≤ max_block }
     requires range { All (IsInRange offset max_size) block.now }
-    ensures long { length stored.new ≡ 64 }
+    ensures long { length stored.new ≡ max_block }
     ensures each { (r : ℕ) → r < length block.now →
         option_map (number_of offset) (slice_index_or stored.new r None)
         ≡ slice_index_or block.now r None }

@@ -40,7 +40,7 @@ pub fn mark_not_null(block: &[Option<u64>]) -> u64
 pub(crate) fn transpose(words: &mut [u64; 64])
     ensures long { length words.new ≡ 64 }
     ensures fits { (k : ℕ) → slice_index words.new k < 2 ^ 64 }
-    ensures turned { (k r : ℕ) → k < 64 → r < 64 →
+    ensures transposed { (k r : ℕ) → k < 64 → r < 64 →
         bit_at (slice_index words.new k) r ≡ bit_at (slice_index words.old r) k }
 {
     exchange(words, 32, 0x0000_0000_ffff_ffff);
@@ -85,8 +85,8 @@ fn exchange_run(words: &mut [u64; 64], from: usize, s: usize, low: u64)
 {
     'rows: for k in from..from + s {
         let (first, second) = (words[k], words[k + s]);
-        let turned = (first >> s ^ second) & low;
-        words[k] = first ^ turned << s;
-        words[k + s] = second ^ turned;
+        let differing = (first >> s ^ second) & low;
+        words[k] = first ^ differing << s;
+        words[k + s] = second ^ differing;
     }
 }

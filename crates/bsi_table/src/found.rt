@@ -20,7 +20,7 @@ use bsi_shift::{MAX_BLOCK_WORDS, Shifted};
 use std::alloc::Global;
 
 /// The rows of a block. Its words, as many as a column takes, stay in the first cache while a predicate goes over them.
-const BLOCK_ROWS: u64 = 64 * MAX_BLOCK_WORDS as u64;
+const PASS_ROWS: u64 = 64 * MAX_BLOCK_WORDS as u64;
 
 /// Returns for each of `count` rows whether the predicate holds of it. Each column that it reads is there. It goes over
 /// the rows in blocks of 65,536, each by the whole predicate. It keeps one or two blocks for each `or` and `not` around
@@ -59,8 +59,8 @@ pub(crate) fn count_selected(
     let mut spare = Vec::new(alloc);
     let mut words = [u64::MAX; MAX_BLOCK_WORDS];
     let mut selected = 0;
-    'blocks: for k in 0..count.div_ceil(BLOCK_ROWS) {
-        let rows = BLOCK_ROWS.min(count - BLOCK_ROWS * k);
+    'blocks: for k in 0..count.div_ceil(PASS_ROWS) {
+        let rows = PASS_ROWS.min(count - PASS_ROWS * k);
         let block = &mut words[..rows.div_ceil(64) as usize];
         find_block(
             columns,
@@ -78,7 +78,7 @@ pub(crate) fn count_selected(
 /// Returns how many of the first `rows` places of a block are set. Its words are as few as hold them; it clears the
 /// places behind.
 fn count_block(block: &mut [u64], rows: u64) -> u64
-    requires within { rows ≤ BLOCK_ROWS }
+    requires within { rows ≤ PASS_ROWS }
     requires few { length block.old ≡ word_count rows }
     ensures { result ≡ count_by (λ b. b) (bits_of rows block.old) }
 {
@@ -89,7 +89,7 @@ fn count_block(block: &mut [u64], rows: u64) -> u64
 
 /// Clears the places of a block past the first `rows`.
 fn trim(block: &mut [u64], rows: u64)
-    requires within { rows ≤ BLOCK_ROWS }
+    requires within { rows ≤ PASS_ROWS }
     requires few { length block.old ≡ word_count rows }
     ensures packed { IsPacked rows block.new }
     ensures bits { bits_of rows block.new ≡ bits_of rows block.old }

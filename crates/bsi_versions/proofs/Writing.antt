@@ -6,9 +6,9 @@ use mathlib.Core.List.{IsPrefix}
 use Rattle.logbook.specs.Pages.{Book}
 use Rattle.bsi_table.specs.Table.{with_rows, Table}
 use Rattle.bsi_versions.specs.Pages.{with_list, Edition, Known, Rows}
-use Rattle.bsi_versions.specs.Editions.{after, published_all, rows_of, written, HasStaged, IsMarked, IsStageOf, IsWriting, Stands, Written}
+use Rattle.bsi_versions.specs.Editions.{after, published_all, rows_of, written, HasStaged, IsStamped, IsStageOf, IsWriting, Stands, Written}
 use Rattle.bsi_versions.specs.declared.operation.Operation.{Operation}
-use Rattle.bsi_versions.specs.declared.operation.Operation.TheVariants.{Rows as rows_operation, Batch, Mark}
+use Rattle.bsi_versions.specs.declared.operation.Operation.TheVariants.{Rows as rows_operation, Batch, Stamp}
 use Rattle.bsi_versions.proofs.Growing.{prefix_self, prefix_trans, prefix_whole}
 
 -- ---- pending operations
@@ -19,11 +19,11 @@ rows_of-append (rows_operation block ∷ xs) ys =
     ap (λ (all : Rows). block.rows ++ all) (rows_of-append xs ys) ∙ sym (append_assoc block.rows (rows_of xs) (rows_of ys))
 rows_of-append (Batch batch ∷ xs) ys =
     ap (λ (all : Rows). batch.rows ++ all) (rows_of-append xs ys) ∙ sym (append_assoc batch.rows (rows_of xs) (rows_of ys))
-rows_of-append (Mark known ∷ xs) ys = rows_of-append xs ys
+rows_of-append (Stamp known ∷ xs) ys = rows_of-append xs ys
 
--- a mark is no row
-pub rows_of-mark : (xs : List Operation) (known : Known) → rows_of (xs ++ Mark known ∷ []) ≡ rows_of xs
-rows_of-mark xs known = rows_of-append xs (Mark known ∷ []) ∙ append-nil (rows_of xs)
+-- a stamp is no row
+pub rows_of-stamp : (xs : List Operation) (known : Known) → rows_of (xs ++ Stamp known ∷ []) ≡ rows_of xs
+rows_of-stamp xs known = rows_of-append xs (Stamp known ∷ []) ∙ append-nil (rows_of xs)
 
 -- the rows of the operations stand last, in their order
 pub table_after : (e : Edition) (pending : List Operation) → (fold after e pending).table ≡ with_rows e.table (rows_of pending)
@@ -34,18 +34,18 @@ table_after e (rows_operation block ∷ pending) =
 table_after e (Batch batch ∷ pending) =
     table_after (after e (Batch batch)) pending
     ∙ ap (λ (all : Rows). record e.table { rows = all }) (append_assoc e.table.rows batch.rows (rows_of pending))
-table_after e (Mark known ∷ pending) = table_after (after e (Mark known)) pending
+table_after e (Stamp known ∷ pending) = table_after (after e (Stamp known)) pending
 
 fold-push : (e : Edition) (pending : List Operation) (x : Operation) → fold after e (pending ++ x ∷ []) ≡ after (fold after e pending) x
 fold-push e [] x = refl
 fold-push e (y ∷ pending) x = fold-push (after e y) pending x
 
--- the edition after the operations, and then a mark
-pub marked : (e : Edition) (pending : List Operation) (known : Known)
-    → fold after e (pending ++ Mark known ∷ []) ≡ record { table = with_rows e.table (rows_of pending); known = known }
-marked e pending known = fold-push e pending (Mark known) ∙ ap (λ (t : Table). record { table = t; known = known }) (table_after e pending)
+-- the edition after the operations, and then a stamp
+pub stamped : (e : Edition) (pending : List Operation) (known : Known)
+    → fold after e (pending ++ Stamp known ∷ []) ≡ record { table = with_rows e.table (rows_of pending); known = known }
+stamped e pending known = fold-push e pending (Stamp known) ∙ ap (λ (t : Table). record { table = t; known = known }) (table_after e pending)
 
--- a block of rows marks no list
+-- a block of rows stamps no list
 pub known_after : (e : Edition) (pending more : List Operation) (x : Operation) → more ≡ pending ++ x ∷ [] → ((d : Edition) → (after d x).known ≡ d.known)
     → (fold after e more).known ≡ (fold after e pending).known
 known_after e pending more x is keeps = ap (λ (xs : List Operation). (fold after e xs).known) is ∙ ap (λ (d : Edition). d.known) (fold-push e pending x) ∙ keeps (fold after e pending)
@@ -89,8 +89,8 @@ module _ (book : Book) (about : Table) where
     places = omega (arith, ap length empty, ap length none, all);
   }
 
-  pub first_marked : (t : Table) (known : Known) → known ≡ record { book = book; list = [] } → IsMarked book (record { table = t; known = known }) [] 0
-  first_marked t known is = record {
+  pub first_stamped : (t : Table) (known : Known) → known ≡ record { book = book; list = [] } → IsStamped book (record { table = t; known = known }) [] 0
+  first_stamped t known is = record {
     same_book = ap (λ k. k.book) is;
     begins = subst (λ (rows : Rows). IsPrefix rows (t.rows ++ [])) (sym (ap (λ k. k.list) is)) (t.rows ++ [], refl);
     many = ap (λ k. length k.list) is;
@@ -147,27 +147,27 @@ module _ (book : Book) (about : Table) where
     next_len limit same none = omega (arith, is.places, same, ap length none, length-append shown.table.rows (rows_of pending))
 
     -- all held rows are shown
-    pub shown_writing : (again : Known) (marks : List Operation) (next : Edition) (none : List Operation) → (again ≡ history) ⊎ (again ≡ with_list history next_list) → rows_of marks ≡ rows_of pending
-        → Stands book about (fold after shown marks) → next ≡ fold after shown marks → none ≡ [] → IsWriting book about next none stage again free
-    shown_writing again marks next none added rows stands now nothing =
-        let kept = kept_writing again marks added rows in
-        let table = table_after shown marks in
+    pub shown_writing : (again : Known) (stamps : List Operation) (next : Edition) (none : List Operation) → (again ≡ history) ⊎ (again ≡ with_list history next_list) → rows_of stamps ≡ rows_of pending
+        → Stands book about (fold after shown stamps) → next ≡ fold after shown stamps → none ≡ [] → IsWriting book about next none stage again free
+    shown_writing again stamps next none added rows stands now nothing =
+        let kept = kept_writing again stamps added rows in
+        let table = table_after shown stamps in
         subst (λ (x : Edition). IsWriting book about x none stage again free) (sym now)
-        (subst (λ (ops : List Operation). IsWriting book about (fold after shown marks) ops stage again free) (sym nothing)
+        (subst (λ (ops : List Operation). IsWriting book about (fold after shown stamps) ops stage again free) (sym nothing)
         (record {
           stands = stands;
           same_book = kept.same_book;
           begins = subst (λ (xs : Rows). IsPrefix again.list (xs ++ [])) (sym (ap (λ (t : Table). t.rows) table))
-              (subst (λ (xs : Rows). IsPrefix again.list xs) (sym (append-nil (shown.table.rows ++ rows_of marks))) kept.begins);
-          places = omega (arith, kept.places, ap (λ (t : Table). length t.rows) table, ap (λ (t : Table). t.limit) table, length-append shown.table.rows (rows_of marks));
+              (subst (λ (xs : Rows). IsPrefix again.list xs) (sym (append-nil (shown.table.rows ++ rows_of stamps))) kept.begins);
+          places = omega (arith, kept.places, ap (λ (t : Table). length t.rows) table, ap (λ (t : Table). t.limit) table, length-append shown.table.rows (rows_of stamps));
         }))
 
--- ---- the last list that is marked
+-- ---- the last list that is stamped
 
-module _ (book : Book) (shown : Edition) (pending : List Operation) (n : ℕ) (is : IsMarked book shown pending n) where
+module _ (book : Book) (shown : Edition) (pending : List Operation) (n : ℕ) (is : IsStamped book shown pending n) where
   -- it stays while rows of the stage become pending
-  pub staged_marked : (more : List Operation) (stage left : Rows) → HasStaged pending stage more left → IsMarked book shown more n
-  staged_marked more stage left staged =
+  pub staged_stamped : (more : List Operation) (stage left : Rows) → HasStaged pending stage more left → IsStamped book shown more n
+  staged_stamped more stage left staged =
       let same = staged.known shown in
       record {
         same_book = ap (λ (k : Known). k.book) same ∙ is.same_book;
@@ -178,8 +178,8 @@ module _ (book : Book) (shown : Edition) (pending : List Operation) (n : ℕ) (i
       }
 
   -- where it has all rows, the edition that it leads to may be shown
-  pub marked_stands : (about : Table) → Stands book about shown → n ≡ length (shown.table.rows ++ rows_of pending) → Stands book about (fold after shown pending)
-  marked_stands about stands all = record {
+  pub stamped_stands : (about : Table) → Stands book about shown → n ≡ length (shown.table.rows ++ rows_of pending) → Stands book about (fold after shown pending)
+  stamped_stands about stands all = record {
     book_is = is.same_book;
     list_is = prefix_whole (fold after shown pending).known.list (shown.table.rows ++ rows_of pending) is.begins (omega (arith, is.many, all))
         ∙ sym (ap (λ (t : Table). t.rows) (table_after shown pending));
@@ -187,10 +187,10 @@ module _ (book : Book) (shown : Edition) (pending : List Operation) (n : ℕ) (i
   }
 
   -- it is shown
-  pub shown_marked : (next : Edition) (none : List Operation) → next ≡ fold after shown pending → none ≡ [] → IsMarked book next none n
-  shown_marked next none now nothing =
-      subst (λ (e : Edition). IsMarked book e none n) (sym now)
-      (subst (λ (ops : List Operation). IsMarked book (fold after shown pending) ops n) (sym nothing)
+  pub shown_stamped : (next : Edition) (none : List Operation) → next ≡ fold after shown pending → none ≡ [] → IsStamped book next none n
+  shown_stamped next none now nothing =
+      subst (λ (e : Edition). IsStamped book e none n) (sym now)
+      (subst (λ (ops : List Operation). IsStamped book (fold after shown pending) ops n) (sym nothing)
       (record {
         same_book = is.same_book;
         begins = subst (λ (xs : Rows). IsPrefix (fold after shown pending).known.list (xs ++ [])) (sym (ap (λ (t : Table). t.rows) (table_after shown pending)))
@@ -199,24 +199,24 @@ module _ (book : Book) (shown : Edition) (pending : List Operation) (n : ℕ) (i
       }))
 
 -- all that the writing end keeps to, where rows of the stage may have become pending
-pub staged_kept : (book : Book) (about : Table) (shown : Edition) (pending : List Operation) (stage : Rows) (history : Known) (free marked : ℕ)
-    → IsWriting book about shown pending stage history free → IsMarked book shown pending marked
+pub staged_kept : (book : Book) (about : Table) (shown : Edition) (pending : List Operation) (stage : Rows) (history : Known) (free stamped : ℕ)
+    → IsWriting book about shown pending stage history free → IsStamped book shown pending stamped
     → (next : Edition) (more : List Operation) (left : Table) → next ≡ shown → HasStaged pending stage more left.rows → IsStageOf next.table left
-    → IsWriting book about next more left.rows history free × IsStageOf next.table left × IsMarked book next more marked
-staged_kept book about shown pending stage history free marked writing is next more left same staged kind = (
+    → IsWriting book about next more left.rows history free × IsStageOf next.table left × IsStamped book next more stamped
+staged_kept book about shown pending stage history free stamped writing is next more left same staged kind = (
   staged_shown book about shown pending stage history free writing next more left.rows same staged,
   kind,
-  subst (λ (e : Edition). IsMarked book e more marked) (sym same) (staged_marked book shown pending marked is more stage left.rows staged),
+  subst (λ (e : Edition). IsStamped book e more stamped) (sym same) (staged_stamped book shown pending stamped is more stage left.rows staged),
 )
 
--- a list that is to be shown is marked
-pub marked_all : (book : Book) (shown : Edition) (pending more : List Operation) (known : Known) (len : ℕ)
-    → more ≡ pending ++ Mark known ∷ [] → known.book ≡ book → known.list ≡ shown.table.rows ++ rows_of pending
-    → len ≡ length (shown.table.rows ++ rows_of pending) → IsMarked book shown more len
-marked_all book shown pending more known len is same list all =
+-- a list that is to be shown is stamped
+pub stamped_all : (book : Book) (shown : Edition) (pending more : List Operation) (known : Known) (len : ℕ)
+    → more ≡ pending ++ Stamp known ∷ [] → known.book ≡ book → known.list ≡ shown.table.rows ++ rows_of pending
+    → len ≡ length (shown.table.rows ++ rows_of pending) → IsStamped book shown more len
+stamped_all book shown pending more known len is same list all =
     let knows : (fold after shown more).known ≡ known =
-    ap (λ (xs : List Operation). (fold after shown xs).known) is ∙ ap (λ (e : Edition). e.known) (marked shown pending known) in
-    let rows : rows_of more ≡ rows_of pending = ap rows_of is ∙ rows_of-mark pending known in
+    ap (λ (xs : List Operation). (fold after shown xs).known) is ∙ ap (λ (e : Edition). e.known) (stamped shown pending known) in
+    let rows : rows_of more ≡ rows_of pending = ap rows_of is ∙ rows_of-stamp pending known in
     record {
       same_book = ap (λ (k : Known). k.book) knows ∙ same;
       begins = subst (λ (xs : Rows). IsPrefix xs (shown.table.rows ++ rows_of more)) (sym (ap (λ (k : Known). k.list) knows))
@@ -226,12 +226,12 @@ marked_all book shown pending more known len is same list all =
     }
 
 -- what contracts see once all held rows are shown
-pub published_view : (shown : Edition) (pending marks : List Operation) (stage : Rows) (next : Edition) (none : List Operation)
-    → next ≡ fold after shown marks → rows_of marks ≡ rows_of pending → none ≡ [] → stage ≡ [] → written next none stage ≡ published_all (written shown pending stage)
-published_view shown pending marks stage next none now rows nothing empty =
+pub published_view : (shown : Edition) (pending stamps : List Operation) (stage : Rows) (next : Edition) (none : List Operation)
+    → next ≡ fold after shown stamps → rows_of stamps ≡ rows_of pending → none ≡ [] → stage ≡ [] → written next none stage ≡ published_all (written shown pending stage)
+published_view shown pending stamps stage next none now rows nothing empty =
     ap (λ (ops : List Operation). written next ops stage) nothing
     ∙ ap (λ (e : Edition). written e [] stage) now
-    ∙ ap (λ (t : Table). record { table = t; held = stage }) (table_after shown marks)
+    ∙ ap (λ (t : Table). record { table = t; held = stage }) (table_after shown stamps)
     ∙ ap (λ (xs : Rows). record { table = with_rows shown.table xs; held = stage }) rows
     ∙ ap (λ (xs : Rows). record { table = with_rows shown.table (rows_of pending); held = xs }) empty
     ∙ ap (λ (xs : Rows). record { table = with_rows shown.table xs; held = [] }) (sym (append-nil (rows_of pending)) ∙ ap (λ (xs : Rows). rows_of pending ++ xs) (sym empty))

@@ -9,7 +9,7 @@ use Rattle.bsi_table.specs.Rows.{Entries}
 use Rattle.bsi_table.specs.Table.{no_rows, with_rows, Table}
 use Rattle.bsi_versions.specs.Pages.{Edition, Known, Rows}
 use Rattle.bsi_versions.specs.declared.operation.Operation.{Operation}
-use Rattle.bsi_versions.specs.declared.operation.Operation.TheVariants.{Rows as rows_operation, Batch, Mark}
+use Rattle.bsi_versions.specs.declared.operation.Operation.TheVariants.{Rows as rows_operation, Batch, Stamp}
 
 -- at most so many analysts of a system
 abbrev pub max_analysts : ℕ
@@ -19,7 +19,7 @@ max_analysts = 8
 abbrev pub after : Edition → Operation → Edition
 after e (rows_operation block) = record e { table = with_rows e.table block.rows }
 after e (Batch batch) = record e { table = with_rows e.table batch.rows }
-after e (Mark known) = record e { known = known }
+after e (Stamp known) = record e { known = known }
 
 -- the same table with no row
 abbrev pub emptied : Table → Table
@@ -40,7 +40,7 @@ abbrev pub rows_of : List Operation → Rows
 rows_of [] = []
 rows_of (rows_operation block ∷ pending) = block.rows ++ rows_of pending
 rows_of (Batch batch ∷ pending) = batch.rows ++ rows_of pending
-rows_of (Mark known ∷ pending) = rows_of pending
+rows_of (Stamp known ∷ pending) = rows_of pending
 
 -- rows of a block that this table takes
 pub record IsFor (table : Table) (block : RowBlock) : Type 0 where
@@ -73,17 +73,17 @@ abbrev pub published_all : Written → Written
 published_all w = record { table = record w.table { rows = w.table.rows ++ w.held }; held = [] }
 
 -- rows of the stage may have gone into the pending operations: held are the same rows, in the same order, and no list
--- was marked
+-- was stamped
 pub record HasStaged (pending : List Operation) (stage : Rows) (more : List Operation) (left : Rows) : Type 0 where
   pub held : rows_of more ++ left ≡ rows_of pending ++ stage
   pub begins : IsPrefix (rows_of pending) (rows_of more)
   pub known : (e : Edition) → (fold after e more).known ≡ (fold after e pending).known
 
--- the last list that is marked, or shown where none is pending, has so many rows: the first ones that are to be shown
-pub record IsMarked (book : Book) (shown : Edition) (pending : List Operation) (marked : ℕ) : Type 0 where
+-- the last list that is stamped, or shown where none is pending, has so many rows: the first ones that are to be shown
+pub record IsStamped (book : Book) (shown : Edition) (pending : List Operation) (stamped : ℕ) : Type 0 where
   pub same_book : (fold after shown pending).known.book ≡ book
   pub begins : IsPrefix (fold after shown pending).known.list (shown.table.rows ++ rows_of pending)
-  pub many : length (fold after shown pending).known.list ≡ marked
+  pub many : length (fold after shown pending).known.list ≡ stamped
 
 -- what the writing end keeps to, of the edition that is shown, the pending operations, the stage, the history, and the
 -- places that are free

@@ -3,8 +3,8 @@
 ghost use Rattle.std.specs.Prelude.{◌≡◌, ◌++◌, ◌∷◌, [], ◌⊎◌, OnErr, OnOk, fold, length};
 ghost use mathlib.Core.List.{IsPrefix};
 ghost use Rattle.bsi_versions.specs.Pages.{with_list};
-ghost use Rattle.bsi_versions.specs.Editions.{after, pending, rows_of, HasStaged, IsFor, IsMarked, Stands};
-ghost use Rattle.bsi_versions.specs.declared.operation.Operation.TheVariants.{Mark};
+ghost use Rattle.bsi_versions.specs.Editions.{after, pending, rows_of, HasStaged, IsFor, IsStamped, Stands};
+ghost use Rattle.bsi_versions.specs.declared.operation.Operation.TheVariants.{Stamp};
 
 use crate::history::{History, Page};
 use crate::naming::Covers;
@@ -56,7 +56,7 @@ pub(crate) fn append_block<B: Naming>(
             Err(NoMemory)
         }
         // A refused operation comes back as it was given, so this is none.
-        Err(Operation::Batch(_) | Operation::Mark(_)) => Err(NoMemory),
+        Err(Operation::Batch(_) | Operation::Stamp(_)) => Err(NoMemory),
     }
 }
 
@@ -82,15 +82,15 @@ pub(crate) fn append_batch<B: Naming>(
             Err(NoMemory)
         }
         // A refused operation comes back as it was given, so this is none.
-        Err(Operation::Rows(_) | Operation::Mark(_)) => Err(NoMemory),
+        Err(Operation::Rows(_) | Operation::Stamp(_)) => Err(NoMemory),
     }
 }
 
-/// Marks the list that is to be shown, unless a publish that was refused has marked it, or it is shown already.
-pub(crate) fn mark_all<B: Naming>(
+/// Stamps the list that is to be shown, unless a publish that was refused has stamped it, or it is shown already.
+pub(crate) fn stamp_all<B: Naming>(
     copies: &mut Copies<B>,
     history: &mut History,
-    marked: &mut u64,
+    stamped: &mut u64,
     len: u64,
 ) -> Result<(), NoMemory>
     requires begins { IsPrefix history.old.list (copies.old.desk.shown.value.table.rows
@@ -98,26 +98,26 @@ pub(crate) fn mark_all<B: Naming>(
     requires len { len ≡ length (copies.old.desk.shown.value.table.rows
         ++ rows_of (pending copies.old)) }
     requires book { history.old.book ≡ B.book }
-    requires marked { IsMarked B.book copies.old.desk.shown.value (pending copies.old) marked.old }
+    requires stamped { IsStamped B.book copies.old.desk.shown.value (pending copies.old) stamped.old }
     ensures desk { copies.new.desk ≡ copies.old.desk }
     ensures history { (history.new ≡ history.old)
         ⊎ (history.new ≡ with_list history.old (copies.old.desk.shown.value.table.rows
         ++ rows_of (pending copies.old))) }
     ensures rows { rows_of (pending copies.new) ≡ rows_of (pending copies.old) }
-    ensures marked { IsMarked B.book copies.old.desk.shown.value (pending copies.new) marked.new }
-    ensures once { marked.old ≡ len → pending copies.new ≡ pending copies.old }
-    ensures ok { OnOk result (marked.new ≡ len) }
+    ensures stamped { IsStamped B.book copies.old.desk.shown.value (pending copies.new) stamped.new }
+    ensures once { stamped.old ≡ len → pending copies.new ≡ pending copies.old }
+    ensures ok { OnOk result (stamped.new ≡ len) }
 {
-    if *marked == len {
+    if *stamped == len {
         return Ok(());
     }
-    mark(copies, history, len)?;
-    *marked = len;
+    stamp(copies, history, len)?;
+    *stamped = len;
     Ok(())
 }
 
-/// Adds to the history the list that is to be shown, and appends its mark after the pending rows.
-fn mark<B: Naming>(copies: &mut Copies<B>, history: &mut History, len: u64) -> Result<(), NoMemory>
+/// Adds to the history the list that is to be shown, and appends its stamp after the pending rows.
+fn stamp<B: Naming>(copies: &mut Copies<B>, history: &mut History, len: u64) -> Result<(), NoMemory>
     requires begins { IsPrefix history.old.list (copies.old.desk.shown.value.table.rows
         ++ rows_of (pending copies.old)) }
     requires len { len ≡ length (copies.old.desk.shown.value.table.rows
@@ -129,19 +129,19 @@ fn mark<B: Naming>(copies: &mut Copies<B>, history: &mut History, len: u64) -> R
     ensures list { OnOk result (history.new
         ≡ with_list history.old (copies.old.desk.shown.value.table.rows
         ++ rows_of (pending copies.old))) }
-    ensures ok { OnOk result (pending copies.new ≡ pending copies.old ++ Mark history.new ∷ []) }
+    ensures ok { OnOk result (pending copies.new ≡ pending copies.old ++ Stamp history.new ∷ []) }
     ensures err { OnErr result (pending copies.new ≡ pending copies.old) }
 {
     if !history.add::<Copies<B>, Next>(copies, len) {
         return Err(NoMemory);
     }
     copies
-        .append(Operation::Mark(history.known()))
+        .append(Operation::Stamp(history.known()))
         .map_err(|_| NoMemory)
 }
 
 /// Shows at one step the copy that has every pending operation.
-pub(crate) fn show<B: Naming, R: Wait>(copies: &mut Copies<B>, rt: &R) -> Result<(), NoMemory>
+pub(crate) fn exchange<B: Naming, R: Wait>(copies: &mut Copies<B>, rt: &R) -> Result<(), NoMemory>
     requires { Stands B.book B.about
         (fold after copies.old.desk.shown.value (pending copies.old)) }
     ensures shown { OnOk result (copies.new.desk.shown.value

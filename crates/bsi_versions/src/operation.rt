@@ -1,4 +1,4 @@
-//! What waits to be published: rows, and marks in the history.
+//! What waits to be published: rows, and stamps in the history.
 
 use crate::NoMemory;
 use crate::history::Reached;
@@ -14,7 +14,7 @@ pub enum Operation {
     /// The rows of a batch, each with its feeder.
     Batch(Index),
     /// The list in the history that the rows make at this point.
-    Mark(Reached),
+    Stamp(Reached),
 }
 
 impl Absorb<Operation> for Version {
@@ -30,8 +30,8 @@ impl Absorb<Operation> for Version {
         match operation {
             Operation::Rows(block) => self.append(block),
             Operation::Batch(batch) => self.append_batch(batch),
-            Operation::Mark(known) => {
-                self.mark(known);
+            Operation::Stamp(known) => {
+                self.stamp(known);
                 Ok(())
             }
         }

@@ -1,8 +1,8 @@
 //! The writing end: it holds rows back, and makes them visible at one step.
 //!
-//! A pending operation is a list of rows or a mark, which says which list of the history the rows then are. A publish
-//! that is tried again, or has nothing to show, adds no mark. Held rows go into the stage, and become an operation at a
-//! publish, or once some thousand have come singly. A stage in each copy would be part of what is shown.
+//! A pending operation is a list of rows or a stamp, which says which list of the history the rows then are. A publish
+//! that is tried again, or has nothing to show, adds no stamp. Held rows go into the stage, and become an operation at a
+//! publish, or once some 8,192 have come singly. A stage in each copy would be part of what is shown.
 
 ghost use Rattle.std.specs.Prelude.{◌≡◌, ◌+◌, ◌<◌, ◌≤◌, [], IfErr, IfOk, IsTrue, OnErr, OnOk, length, ◌↔◌};
 ghost use Rattle.bsi_table.specs.Columns.{fits};
@@ -10,7 +10,7 @@ ghost use Rattle.bsi_table.specs.RowBlocks.{entries_of};
 ghost use Rattle.bsi_table.specs.Table.{with_rows, AreKeptAlike};
 ghost use Rattle.bsi_versions.specs.Editions.{max_analysts, published_all, with_held, with_held_rows};
 
-use crate::copies::{Copies, mark_all, show};
+use crate::copies::{Copies, exchange, stamp_all};
 use crate::history::History;
 use crate::stage::Stage;
 use crate::version::Version;
@@ -28,13 +28,13 @@ pub struct Publisher<B: Naming> {
     stage: Stage,
     /// This many more rows may be held.
     free: u64,
-    /// The last list that is marked, or shown where none is pending, has so many rows.
-    marked: u64,
+    /// The last list that is stamped, or shown where none is pending, has so many rows.
+    stamped: u64,
 }
 
 // Clauses see the table that is published, and the rows that are held.
 impl<B: Naming> Model for Publisher<B> {
-    ghost use Rattle.bsi_versions.specs.Editions.{pending, written, IsMarked, IsStageOf, IsWriting, Written};
+    ghost use Rattle.bsi_versions.specs.Editions.{pending, written, IsStamped, IsStageOf, IsWriting, Written};
 
     ghost Value = { Written };
 
@@ -43,7 +43,7 @@ impl<B: Naming> Model for Publisher<B> {
     ghost invariant = { λ p. IsWriting B.book B.about p.copies.desk.shown.value (pending p.copies)
         p.stage.rows p.history p.free
         × IsStageOf p.copies.desk.shown.value.table p.stage
-        × IsMarked B.book p.copies.desk.shown.value (pending p.copies) p.marked };
+        × IsStamped B.book p.copies.desk.shown.value (pending p.copies) p.stamped };
 }
 
 impl<B: Naming> Publisher<B> {
@@ -70,7 +70,7 @@ impl<B: Naming> Publisher<B> {
             history,
             stage,
             free,
-            marked: 0,
+            stamped: 0,
         })
     }
 
@@ -141,8 +141,8 @@ impl<B: Naming> Publisher<B> {
     {
         let len = self.copies.published().index().limit() - self.free;
         self.stage.empty(&mut self.copies)?;
-        mark_all(&mut self.copies, &mut self.history, &mut self.marked, len)?;
-        show(&mut self.copies, rt)?;
+        stamp_all(&mut self.copies, &mut self.history, &mut self.stamped, len)?;
+        exchange(&mut self.copies, rt)?;
         Ok(len)
     }
 
@@ -184,7 +184,7 @@ impl<B: Naming> Publisher<B> {
             history,
             stage,
             free,
-            marked,
+            stamped,
         } = publisher;
         match stage.into_table() {
             Ok(table) => {
@@ -196,7 +196,7 @@ impl<B: Naming> Publisher<B> {
                 history,
                 stage,
                 free,
-                marked,
+                stamped,
             }),
         }
     }
@@ -210,7 +210,7 @@ impl<B: Naming> Publisher<B> {
             history: _history,
             stage: _stage,
             free: _,
-            marked: _,
+            stamped: _,
         } = self;
         Box::into_inner(copies.take(rt)).into_index()
     }

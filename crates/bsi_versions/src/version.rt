@@ -63,8 +63,8 @@ impl Version {
         &self.known
     }
 
-    /// Marks the version with another list, which it knows from then on.
-    pub(crate) fn mark(&mut self, known: &Reached)
+    /// Stamps the version with another list, which it knows from then on.
+    pub(crate) fn stamp(&mut self, known: &Reached)
         ensures { self.new ≡ record self.old { known = known.now } }
     {
         self.known = known.again();

@@ -12,6 +12,10 @@ max_places = 63
 abbrev pub max_digit_places : ℕ
 max_digit_places = 10
 
+-- the least base under which binary places are kept
+abbrev pub min_base_with_places : ℕ
+min_base_with_places = 4
+
 -- bitmap j says of each number whether it holds there
 pub record IsEncoded (holds : ℕ → ℕ → Bool) (bitmaps : List BitList) (numbers : List ℕ) : Type 0 where
   pub each : (j : ℕ) → j < length bitmaps → bits_at bitmaps j ≡ map (holds j) numbers
@@ -25,9 +29,9 @@ abbrev pub then_places : ℕ → (ℕ → ℕ → Bool) → ℕ → ℕ → Bool
 then_places own holds j number = if nat_lt j own then holds j number else has_place (j - own) number
 
 -- of so many bitmaps `own` are those of an encoding, and the others are enough for the binary places of the digits below
--- the base; from base 4 on there are others
+-- the base; from `min_base_with_places` on there are others
 pub record IsCount (base own count : ℕ) : Type 0 where
   pub owned : own ≤ count
   pub few : count ≤ own + max_digit_places
   pub enough : own < count → base ≤ 2 ^ (count - own)
-  pub some : 4 ≤ base → own < count
+  pub some : min_base_with_places ≤ base → own < count

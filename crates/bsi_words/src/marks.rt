@@ -115,7 +115,7 @@ fn place_words(block: &[u32]) -> [u64; SPREAD_PLACES]
 }
 
 /// Returns the word of a binary place for 1, and that of the digits without it for 0.
-fn choose(place: u64, bit: usize) -> u64
+fn place_or_rest(place: u64, bit: usize) -> u64
     requires { bit < 2 }
     ensures { (k : ℕ) → k < max_block → (bit_at result k == 1) ≡ (bit_at place k == bit) }
 {
@@ -129,7 +129,9 @@ fn spell(first: u64, second: u64, third: u64) -> [u64; 8]
 {
     let mut words = [0; 8];
     'words: for j in 0..8 {
-        words[j] = choose(first, j % 2) & choose(second, j / 2 % 2) & choose(third, j / 4);
+        words[j] = place_or_rest(first, j % 2)
+            & place_or_rest(second, j / 2 % 2)
+            & place_or_rest(third, j / 4);
     }
     words
 }

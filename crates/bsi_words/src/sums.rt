@@ -1,7 +1,7 @@
 //! The sum of the numbers at the rows of a found set, by counts in the bit vectors of their binary places.
 //!
-//! It goes by stretches of the found set, so that its words come from memory once for all the vectors that are counted
-//! within it. A line of a cache without a found row is passed over in all of them. The first stretch is one line, and each
+//! It goes by spans of the found set, so that its words come from memory once for all the vectors that are counted
+//! within it. A line of a cache without a found row is passed over in all of them. The first span is one line, and each
 //! is twice as long as the one before it, as long as no line is passed over.
 
 ghost use Rattle.std.specs.Prelude.{◌≡◌, ℕ, List, ◌+◌, ◌^◌, ◌<◌, ◌≤◌, ◌↔◌, IsTrue, length, slice_index, sum};
@@ -15,9 +15,9 @@ use bsi_bits::Bits;
 /// The number of words in a line of a cache.
 pub(crate) const LINE_WORDS: usize = 8;
 
-/// The greatest number of words of a stretch. They take 8 KiB, so they stay in the first cache while they are counted
+/// The greatest number of words of a span. They take 8 KiB, so they stay in the first cache while they are counted
 /// with one place after the other.
-const MAX_STRETCH_WORDS: usize = 1024;
+const MAX_SPAN_WORDS: usize = 1024;
 
 /// Returns the sum of the numbers at the rows of a found set. `places` has a vector for each of their binary places, the
 /// least first.
@@ -35,27 +35,27 @@ pub fn sum_by_places(places: &[Bits], found: &Bits) -> u128
     let words = found.words();
     let mut sum = 0;
     let (mut at, mut most) = (0, LINE_WORDS);
-    'stretches: while at < words.len() {
-        let stretch = stretch_from(words, at, most);
-        sum += sum_in(places, found, stretch.start, stretch.end);
-        at = stretch.end;
-        most = next_most(stretch);
+    'spans: while at < words.len() {
+        let span = span_from(words, at, most);
+        sum += sum_in(places, found, span.start, span.end);
+        at = span.end;
+        most = next_most(span);
     }
     sum
 }
 
 /// Words of a found set: where they begin, and where they end.
 #[derive(Clone, Copy)]
-struct Stretch {
+struct Span {
     start: usize,
     end: usize,
 }
 
-/// Returns the stretch that begins with the first line from word `at` on that has a row. It has up to `most` words if that
+/// Returns the span that begins with the first line from word `at` on that has a row. It has up to `most` words if that
 /// is the line at `at`, or else a line. There is none if no line has a row.
-fn stretch_from(words: &[u64], at: usize, most: usize) -> Stretch
+fn span_from(words: &[u64], at: usize, most: usize) -> Span
     requires at { at ≤ length words.now }
-    requires most { (1 ≤ most) × (most ≤ MAX_STRETCH_WORDS) }
+    requires most { (1 ≤ most) × (most ≤ MAX_SPAN_WORDS) }
     requires few { length words.now ≤ max_words }
     ensures forward { (at ≤ result.start) × (result.start ≤ result.end) }
     ensures within { result.end ≤ length words.now }
@@ -67,19 +67,19 @@ fn stretch_from(words: &[u64], at: usize, most: usize) -> Stretch
         start = words.len().min(start + LINE_WORDS);
     }
     let long = if start == at { most } else { LINE_WORDS };
-    Stretch {
+    Span {
         start,
         end: words.len().min(start + long),
     }
 }
 
-/// Returns the most words of the stretch after this one, if it begins at once.
-fn next_most(stretch: Stretch) -> usize
-    requires { (stretch.start ≤ stretch.end) × (stretch.end ≤ max_words) }
-    ensures { (1 ≤ result) × (result ≤ MAX_STRETCH_WORDS) }
+/// Returns the most words of the span after this one, if it begins at once.
+fn next_most(span: Span) -> usize
+    requires { (span.start ≤ span.end) × (span.end ≤ max_words) }
+    ensures { (1 ≤ result) × (result ≤ MAX_SPAN_WORDS) }
 {
-    let twice = 2 * (stretch.end - stretch.start);
-    twice.max(LINE_WORDS).min(MAX_STRETCH_WORDS)
+    let twice = 2 * (span.end - span.start);
+    twice.max(LINE_WORDS).min(MAX_SPAN_WORDS)
 }
 
 /// Returns whether the line of words from `at` on has no row.

@@ -92,6 +92,7 @@ impl Encoding for EqualityComponent {
             self.among_into(d + 1, base, out);
             out.flip();
         } else {
+            // All rows: those that a bitmap does not have, and those that it has.
             out.copy_from(self.bitmap(1));
             out.flip();
             out.or_with(self.bitmap(1));

@@ -82,6 +82,7 @@ impl Encoding for RangeComponent {
         if d < top {
             out.copy_from(self.bitmap(d));
         } else {
+            // All rows: those that a bitmap does not have, and those that it has.
             out.copy_from(self.bitmap(0));
             out.flip();
             out.or_with(self.bitmap(0));

@@ -19,7 +19,7 @@ exchange-requires-5-clause-low c = low_2
 pub exchange-requires-6-clause-low : goal.exchange-requires-6-clause-low
 exchange-requires-6-clause-low c = low_1
 
-pub returns-clause-turned : goal.returns-clause-turned
-returns-clause-turned c =
+pub returns-clause-transposed : goal.returns-clause-transposed
+returns-clause-transposed c =
     turned_by_six c.args.words.now c.exchange.new.words c.exchange-2.new.words c.exchange-3.new.words c.exchange-4.new.words c.exchange-5.new.words c.exchange-6.new.words
     c.exchange.ensures.exchanged c.exchange-2.ensures.exchanged c.exchange-3.ensures.exchanged c.exchange-4.ensures.exchanged c.exchange-5.ensures.exchanged c.exchange-6.ensures.exchanged

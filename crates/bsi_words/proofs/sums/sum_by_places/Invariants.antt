@@ -4,8 +4,8 @@ use Rattle.bsi_words.proofs.DigitBlocks.{sum_before}
 use Rattle.bsi_words.proofs.sums.sum_by_places.Given as goal
 
 -- the numbers in the words so far are added
-abbrev pub invariant-stretches : goal.invariant-stretches
-invariant-stretches l = record {
+abbrev pub invariant-spans : goal.invariant-spans
+invariant-spans l = record {
   within : l.at ≤ length l.words;
   some : 1 ≤ l.most;
   short : l.most ≤ 1024;
@@ -14,5 +14,5 @@ invariant-stretches l = record {
       → l.sum ≡ sum_before l.found.bits numbers l.at;
 }
 
-abbrev pub decreases-stretches : goal.decreases-stretches
-decreases-stretches l = length l.words - l.at
+abbrev pub decreases-spans : goal.decreases-spans
+decreases-spans l = length l.words - l.at

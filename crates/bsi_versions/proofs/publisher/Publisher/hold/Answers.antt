@@ -1,8 +1,8 @@
 use Rattle.std.proofs.Common.{◌+◌, ◌-◌, ◌≡◌, ◌∷◌, [], drop, length, ap, sym, ◌∙◌, subst, arith}
 use Rattle.bsi_table.specs.Table.{Table}
-use Rattle.bsi_versions.specs.Editions.{emptied, rows_of, written, IsStageOf, IsMarked, IsWriting}
+use Rattle.bsi_versions.specs.Editions.{emptied, rows_of, written, IsStageOf, IsStamped, IsWriting}
 use Rattle.bsi_versions.specs.Pages.{Rows}
-use Rattle.bsi_versions.proofs.Writing.{free_places, held_view, held_writing, on_err, staged_kept, staged_marked, staged_view, staged_writing, with_more}
+use Rattle.bsi_versions.proofs.Writing.{free_places, held_view, held_writing, on_err, staged_kept, staged_stamped, staged_view, staged_writing, with_more}
 use Rattle.bsi_versions.proofs.publisher.Publisher.hold.Goals as goal
 
 -- the rows that are held stay, wherever they stand
@@ -10,7 +10,7 @@ pub invariant_of-self : goal.invariant_of-self
 invariant_of-self g c =
     let p = c.self.inside in
     let o = c.make_place.new in
-    staged_kept g.B.Naming.book g.B.Naming.about p.copies.desk.shown.value (drop p.copies.behind p.copies.log.items) p.stage.rows p.history p.free p.marked
+    staged_kept g.B.Naming.book g.B.Naming.about p.copies.desk.shown.value (drop p.copies.behind p.copies.log.items) p.stage.rows p.history p.free p.stamped
     c.self.invariant.0 c.self.invariant.2 o.copies.desk.shown.value (drop o.copies.behind o.copies.log.items) o.self
     (ap (λ d. d.shown.value) c.make_place.ensures.desk) c.make_place.ensures.staged c.make_place.ensures.kind
 
@@ -28,9 +28,9 @@ invariant_of-self-in_err-push g c =
     let o = c.make_place.new in
     let next = o.copies.desk.shown.value in
     let more = drop o.copies.behind o.copies.log.items in
-    let kept = staged_kept g.B.Naming.book g.B.Naming.about p.copies.desk.shown.value (drop p.copies.behind p.copies.log.items) p.stage.rows p.history p.free p.marked
+    let kept = staged_kept g.B.Naming.book g.B.Naming.about p.copies.desk.shown.value (drop p.copies.behind p.copies.log.items) p.stage.rows p.history p.free p.stamped
     c.self.invariant.0 c.self.invariant.2 next more o.self (ap (λ d. d.shown.value) c.make_place.ensures.desk) c.make_place.ensures.staged c.make_place.ensures.kind in
-    subst (λ (s : Table). IsWriting g.B.Naming.book g.B.Naming.about next more s.rows p.history p.free × IsStageOf next.table s × IsMarked g.B.Naming.book next more p.marked)
+    subst (λ (s : Table). IsWriting g.B.Naming.book g.B.Naming.about next more s.rows p.history p.free × IsStageOf next.table s × IsStamped g.B.Naming.book next more p.stamped)
     (sym c.in_err-push.ensures.err) kept
 
 pub returns-in_err-push-clause-err : goal.returns-in_err-push-clause-err
@@ -67,8 +67,8 @@ invariant_of-self-2 g c =
       subst (λ e. IsWriting book about e more grown.rows p.history (p.free - 1)) (sym same)
           (held_writing book about shown more o.self.rows p.history p.free writing added grown.rows (p.free - 1) (ap (λ b. b.rows) grows) many),
       ap emptied grows ∙ c.make_place.ensures.kind,
-      subst (λ e. IsMarked book e more p.marked) (sym same)
-          (staged_marked book shown pending p.marked c.self.invariant.2 more p.stage.rows o.self.rows c.make_place.ensures.staged),
+      subst (λ e. IsStamped book e more p.stamped) (sym same)
+          (staged_stamped book shown pending p.stamped c.self.invariant.2 more p.stage.rows o.self.rows c.make_place.ensures.staged),
     )
 
 pub returns-clause-ok : goal.returns-clause-ok

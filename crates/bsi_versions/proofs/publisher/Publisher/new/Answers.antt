@@ -1,8 +1,8 @@
 use Rattle.std.proofs.Common.{List, [], drop, ap, sym, subst, ◌∙◌, ◌≡◌}
-use Rattle.bsi_versions.specs.Editions.{emptied, IsMarked, IsWriting}
+use Rattle.bsi_versions.specs.Editions.{emptied, IsStamped, IsWriting}
 use Rattle.bsi_versions.specs.Pages.{Edition, Known}
 use Rattle.bsi_versions.specs.declared.operation.Operation.{Operation}
-use Rattle.bsi_versions.proofs.Writing.{first_marked, first_writing}
+use Rattle.bsi_versions.proofs.Writing.{first_stamped, first_writing}
 use Rattle.bsi_versions.proofs.publisher.Publisher.new.Goals as goal
 
 -- nothing is shown, pending or held
@@ -22,6 +22,6 @@ invariant_of-result g c =
           (subst (λ (ops : List Operation). IsWriting book about first ops stage c.args.history c.limit-free.result) (sym none)
           (subst (λ (h : Known). IsWriting book about first [] stage h c.limit-free.result) c.known.ensures writing)),
       ap emptied c.in_ok-stage.ensures ∙ sym (ap (λ e. emptied e.table) shown),
-      subst (λ (e : Edition). IsMarked book e (drop copies.behind copies.log.items) 0) (sym shown)
-          (subst (λ (ops : List Operation). IsMarked book first ops 0) (sym none) (first_marked book about c.args.index c.known.result known)),
+      subst (λ (e : Edition). IsStamped book e (drop copies.behind copies.log.items) 0) (sym shown)
+          (subst (λ (ops : List Operation). IsStamped book first ops 0) (sym none) (first_stamped book about c.args.index c.known.result known)),
     )

@@ -3,7 +3,7 @@ use Rattle.std.specs.Prelude.{◌==◌}
 use Rattle.std.specs.Int.{bit_at, w64}
 use Rattle.std.proofs.lemmas.Nat.Bits.{bit_at-lt, bit_at_not}
 use Rattle.bsi_words.proofs.Spelling.{flipped}
-use Rattle.bsi_words.proofs.marks.choose.Goals as goal
+use Rattle.bsi_words.proofs.marks.place_or_rest.Goals as goal
 
 pub returns-else-bit-eq1 : goal.returns-else-bit-eq1
 returns-else-bit-eq1 c = λ k near.

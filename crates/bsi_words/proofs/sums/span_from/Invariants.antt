@@ -1,7 +1,7 @@
 use Rattle.std.proofs.Common.{◌≡◌, ℕ, ◌-◌, ◌≤◌, ◌<◌, length, get_or}
-use Rattle.bsi_words.proofs.sums.stretch_from.Given as goal
+use Rattle.bsi_words.proofs.sums.span_from.Given as goal
 
--- the lines before the stretch have no row
+-- the lines before the span have no row
 abbrev pub invariant-lines : goal.invariant-lines
 invariant-lines l = record {
   forward : l.at ≤ l.start;

@@ -1,6 +1,6 @@
 use Rattle.std.proofs.Common.{inl, inr, arith}
 use Rattle.std.proofs.lemmas.Bool.{cases_lt}
-use Rattle.bsi_words.proofs.sums.stretch_from.Goals as goal
+use Rattle.bsi_words.proofs.sums.span_from.Goals as goal
 
 -- one line more
 pub lines-preserved : goal.lines-preserved
