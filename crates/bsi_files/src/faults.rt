@@ -11,7 +11,7 @@ use std::fmt;
 /// One of the two texts beside the row files.
 #[derive(Clone, Copy, Debug, PartialEq, Eq)]
 pub enum Which {
-    /// The file that declares the columns and the row limit.
+    /// The file that declares the columns and the limit.
     SchemaFile,
     /// The file of questions.
     AsksFile,
@@ -42,14 +42,14 @@ pub enum FilesFault {
     Read(Which),
     /// The text has more than 1,000,000 records.
     TooLong(Which),
-    /// The schema's record of this number, from 1, declares neither a column nor the row limit, or cannot be carried
+    /// The schema's record of this number, from 1, declares neither a column nor the limit, or can't be carried
     /// out.
     BadSchema(u64),
     /// The schema declares no column.
     NoColumns,
     /// The row file of this number, from 0, is the first that gives no more rows.
     Source(u32, SourceFault),
-    /// There are more good rows than the row limit.
+    /// There are more good rows than the limit.
     IndexFull,
     /// The feeder of this number, from 0, is the first that left no closing. Where each left one, it is the first that
     /// was stopped though its gate stops none.

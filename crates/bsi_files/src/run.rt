@@ -40,7 +40,7 @@ use std::thread::{Scope, Threads};
 /// the gate stops is no fault, and the rows that it sent count.
 ///
 /// It looks for faults in this order: the number of files; the schema file; the header of each row file; a thread for
-/// each feeder; once the threads have ended the row limit, then, where a feeder was stopped though its gate stops none,
+/// each feeder; once the threads have ended the limit, then, where a feeder was stopped though its gate stops none,
 /// the first feeder without a closing, then the first row file that gives no more rows, then the first feeder without a
 /// closing; and, while it writes answers, the questions and the writer. Refused memory is answered where it is met.
 /// Lines that stand before a fault are whole, unless the writer fails. It keeps each row once, in the index.

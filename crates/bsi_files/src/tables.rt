@@ -1,4 +1,4 @@
-//! The schema file: the columns and the row limit that it declares.
+//! The schema file: the columns and the limit that it declares.
 
 ghost use Rattle.std.specs.Prelude.{◌≡◌, ◌<◌, None, IfErr, IfOk, IfSome, OnOk, length, true};
 ghost use Rattle.csv.specs.Reading.{reader_state, source_of};
@@ -14,7 +14,7 @@ use csv::ByteRecord;
 use std::alloc::Global;
 use std::io::Read;
 
-/// Reads the columns and the row limit. Without a limit in the file, the limit is the greatest there is.
+/// Reads the columns and the limit. Without a limit in the file, the limit is the greatest there is.
 pub(crate) fn read_schema<S: Read + Drop>(
     alloc: Global,
     reader: S,

@@ -155,7 +155,7 @@ IsAsking held fields answer places ending =
 
 -- ---- selecting
 
--- bit i of the words says whether the predicate holds of row i; past the last row it is off
+-- bit i of the words says whether the predicate holds of row i; past the last row it is clear
 pub record IsMask (table : Table) (pred : Pred) (words : List ℕ) : Type 0 where
   pub long : length words ≡ word_count (length table.rows)
   pub bits : (i : ℕ) → bit_of words i ≡ slice_index_or (map (λ row. holds pred row.1) table.rows) i false

@@ -65,7 +65,7 @@ fn fill_block(
     Ok(())
 }
 
-/// Appends so many rows from row `from` on, or none. Each fits, and the row limit leaves place for them.
+/// Appends so many rows from row `from` on, or none. Each fits, and the limit leaves place for them.
 fn append_block(
     alloc: Global,
     index: &mut Index,

@@ -11,7 +11,7 @@ use bsi_table::Index;
 use std::alloc::Global;
 use std::marker::Model;
 
-/// An index, and the text that declared its columns and its row limit.
+/// An index, and the text that declared its columns and its limit.
 #[derive(Drop)]
 pub struct Opened {
     text: Vec<u8>,

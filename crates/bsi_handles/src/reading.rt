@@ -36,7 +36,7 @@ pub(crate) fn open_text(
     Ok(Opened::new(text.to_vec(alloc)?, index))
 }
 
-/// Reads the columns and the row limit, which is the greatest there is where no record gives another.
+/// Reads the columns and the limit, which is the greatest there is where no record gives another.
 fn read_schema(alloc: Global, text: &[u8], bad_record: &mut u64) -> Result<(Schema, u64), Refusal>
     requires { bad_record.old ≡ 0 }
     ensures declared { IfOk result (λ read. IsSchemaText text.now read.0 read.1) }

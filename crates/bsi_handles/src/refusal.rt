@@ -14,7 +14,7 @@ pub enum Refusal {
     Open,
     /// Memory was refused.
     NoMemory,
-    /// A record of the schema text declares neither a column nor the row limit, or cannot be carried out.
+    /// A record of the schema text declares neither a column nor the limit, or can't be carried out.
     BadSchema,
     /// The schema text declares no column.
     NoColumns,
@@ -24,7 +24,7 @@ pub enum Refusal {
     BadColumns,
     /// A row does not fit the schema.
     BadRow,
-    /// There would be more rows than the row limit.
+    /// There would be more rows than the limit.
     IndexFull,
     /// Several handles hold the index, so it takes no rows.
     Shared,

@@ -20,7 +20,7 @@ pub enum MakeError {
     TooManyFeeders,
     /// The capacity of this feeder is not from 1 to 65,536. It is the first such feeder.
     CapacityOutOfRange(u32),
-    /// The index cannot be made of this schema and limit.
+    /// The index can't be made of this schema and limit.
     Index(IndexError),
     /// Memory was refused.
     NoMemory,

@@ -22,8 +22,7 @@ pub(crate) const STRETCH_ROWS: u64 = 512;
 /// A count for each feeder.
 pub(crate) type Counts = [u64; MAX_FEEDERS as usize];
 
-/// The feeder of each of at most 2^32 rows, one byte per row. If there are several feeders, a tally stands before each
-/// stretch of 512 rows. It tells how many of the rows before came from each feeder, in 4 bytes per feeder.
+/// The feeder of each of at most 2^32 rows, and the tallies before their stretches where there are several feeders.
 #[derive(Drop)]
 pub struct Origins {
     feeders: u32,

@@ -28,6 +28,7 @@ impl<E: Encoding> WholeVectors<E> {
         self.sums.get()
     }
 
+    /// Counts a call.
     fn count(&self) {
         self.calls.set(self.calls.get().saturating_add(1));
     }

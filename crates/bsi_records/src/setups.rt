@@ -1,4 +1,4 @@
-//! Records before `begin`: columns, feeders and the row limit.
+//! Records before `begin`: columns, feeders and the limit.
 
 ghost use Rattle.std.specs.Prelude.{◌≡◌, ◌≤◌, [], None, Some, drop, if◌then◌else◌, IfNone, IfOk, IfSome, OnErr};
 ghost use Rattle.csv.specs.Records.{fields_of};

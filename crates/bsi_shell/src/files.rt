@@ -14,7 +14,7 @@ use std::thread::Threads;
 /// Why a run over files ended early.
 #[derive(Clone, Copy, Debug)]
 pub(crate) enum RunFault<'a> {
-    /// The file of this path cannot be opened.
+    /// The file of this path can't be opened.
     CannotOpen(&'a str),
     /// The run met a fault.
     Run(FilesFault),

@@ -19,7 +19,7 @@ pub fn tell_fault<D: Display + Drop, F: Write>(fault: D, faults: &mut F) -> u8
         IsCut (F.contents faults.old) (F.contents faults.new) (text ++ codes "\n")) }
 {
     let mut line = ArrayVec::<u8, MAX_LINE>::new();
-    // The status tells of the fault, even if its line cannot be written.
+    // The status tells of the fault, even if its line can't be written.
     if writeln!(line, "{fault}").is_ok() {
         let _ = write_bytes(faults, line.as_slice());
     }
@@ -33,7 +33,7 @@ pub(crate) fn tell_run_fault<F: Write>(fault: RunFault<'_>, faults: &mut F) -> u
 {
     match fault {
         RunFault::CannotOpen(path) => {
-            // The status tells of the fault, even if its line cannot be written.
+            // The status tells of the fault, even if its line can't be written.
             let _ = write_unopened(path, faults);
             1
         }
@@ -41,7 +41,7 @@ pub(crate) fn tell_run_fault<F: Write>(fault: RunFault<'_>, faults: &mut F) -> u
     }
 }
 
-/// Writes the line of a path that cannot be opened.
+/// Writes the line of a path that can't be opened.
 fn write_unopened<F: Write>(path: &str, faults: &mut F) -> Result<(), WriteFault>
     ensures { IsCut (F.contents faults.old) (F.contents faults.new)
         (codes "bsi: cannot open " ++ path.now ++ codes "\n") }
@@ -57,7 +57,7 @@ pub(crate) fn tell_usage<F: Write>(faults: &mut F) -> u8
     ensures told { IsCut (F.contents faults.old) (F.contents faults.new) usage_line }
 {
     let usage = "usage: bsi script | bsi files --schema FILE --asks FILE CSV..\n";
-    // The status tells of the wrong words, even if the usage line cannot be written.
+    // The status tells of the wrong words, even if the usage line can't be written.
     let _ = write_bytes(faults, usage.as_bytes());
     2
 }

@@ -29,7 +29,7 @@ sliced_entry not_null slices r = if slice_index_or not_null r false then Some (n
 unfoldable pub entries_in : List Bool → List BitList → List (Option ℕ)
 entries_in not_null slices = map (sliced_entry not_null slices) (range_with_len 0 (length not_null))
 
--- there are 1 to 63 slices, each with a bit for each row, which is off where the row is null
+-- there are 1 to 63 slices, each with a bit for each row, which is clear where the row is null
 pub record IsSliced (not_null : List Bool) (slices : List BitList) : Type 0 where
   pub some : 1 ≤ length slices
   pub few : length slices ≤ max_places

@@ -171,7 +171,7 @@ pub trait Column: Drop {
         ensures within { result < 2 ^ 95 };
 
     /// Returns the number of rank `k`, from 0, among those at the rows of a found set: the one at place `k` when they
-    /// stand in order.
+    /// stand in order. Both forms copy the found set, a bit for each row.
     fn ranked(&self, found: &Bits, k: u64) -> Result<u64, NoMemory>
         requires same { length (entries self.now) ≡ length found.now.bits }
         requires there { k < length (numbers_at found.now.bits (entries self.now)) }
@@ -211,7 +211,8 @@ pub trait Column: Drop {
         self.of_rank(found, Rank::Greatest)
     }
 
-    /// Returns the lower median of the numbers at the rows of a found set, or none if there is no number.
+    /// Returns the lower median of the numbers at the rows of a found set, or none if there is no number. It takes memory
+    /// as `ranked` does.
     fn median(&self, found: &Bits) -> Result<Option<u64>, NoMemory>
         requires { length (entries self.now) ≡ length found.now.bits }
         ensures { IfOk result (IsMedianOf (numbers_at found.now.bits (entries self.now))) }

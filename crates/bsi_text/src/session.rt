@@ -33,7 +33,7 @@ impl Session {
     }
 
     /// Carries out what a record asks for, and makes `line` the line that answers it. A load or a query that is refused
-    /// memory is answered so. Every other refusal of memory is an error, after which the script cannot go on.
+    /// memory is answered so. Every other refusal of memory is an error, after which the script can't go on.
     pub(crate) fn answer(
         &mut self,
         alloc: Global,

@@ -57,7 +57,8 @@ impl Shifted {
         self.of_rank(found, Rank::Greatest)
     }
 
-    /// Returns the lower median of the numbers at the rows of a found set, or none if there is no number.
+    /// Returns the lower median of the numbers at the rows of a found set, or none if there is no number. It copies the
+    /// found set, a bit for each row.
     pub fn median(&self, found: &Bits) -> Result<Option<i64>, NoMemory>
         requires { length (shifted_entries self.now) ≡ length found.now.bits }
         ensures { IfOk result (IsSignedMedianOf

@@ -26,7 +26,7 @@ use bsi_bits::{Bits, know_fits};
 use std::alloc::Global;
 use std::simd::Simd;
 
-/// The number of words that go through all slices at once: they fill half of a processor's 16 registers of two words.
+/// The number of words that go through all slices at once.
 pub(crate) const REGISTER_WORDS: usize = 16;
 
 /// Returns for each row whether it is a number that satisfies the comparison `op` with `constant`. It reads no slice if
