@@ -29,7 +29,7 @@ check:
 	@ulimit -s 65536; RT_BACKEND=rattle rt all test --jobs "$$(nproc)" && tools/cases
 
 test:
-	@tools/gate
+	@tools/full
 
 install: build lib
 	install -d "$(BIN)" "$(MAN)" "$(BASH)" "$(ZSH)" "$(INCLUDE)" "$(LIB)/pkgconfig"
