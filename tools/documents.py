@@ -137,11 +137,14 @@ def fault_in_names(top):
 
 
 def fault_in_crates(top):
-    """Returns what differs between crates.txt, or the head of a crate's root file, and the list of crates in docs/ARCHITECTURE.md, or None."""
+    """Returns what differs between crates.txt, or the head of a crate's root file, and the crates of docs/ARCHITECTURE.md and crates.svg."""
     listed = re.findall(r"^(\w+)[^:#\n]*:", text_of(os.path.join(top, "crates.txt")), re.MULTILINE)
     rows = re.findall(r"^\| `(\w+)` \| ([^|;(]*)", text_of(os.path.join(top, "docs", "ARCHITECTURE.md")), re.MULTILINE)
     if [crate for crate, _ in rows] != listed:
         return f"crates.txt and docs/ARCHITECTURE.md list other crates: {dict(rows).keys() ^ set(listed)}"
+    drawn = re.findall(r">(\w+)</text>", text_of(os.path.join(top, "docs", "crates.svg")))
+    if sorted(drawn) != sorted(listed):
+        return f"crates.txt and docs/crates.svg have other crates: {set(drawn) ^ set(listed)}"
     for crate, idea in rows:
         (root,) = [path for name in ("lib", "main") for path in glob.glob(os.path.join(top, "crates", crate, "src", f"{name}.rt"))]
         head = " ".join(re.findall(r"^//! ?(.*)$", text_of(root), re.MULTILINE)).removeprefix("Tests of ")
