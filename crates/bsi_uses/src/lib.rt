@@ -1,4 +1,4 @@
-//! Examples of calls, which README.md and CALLING.md show. The full check proves and runs them, and no crate uses this one.
+//! Examples of calls, which README.md and CALLING.md show. `make test` proves and runs them, and no crate uses this one.
 #![tactic(auto)]
 
 #[cfg(test)]
