@@ -5,8 +5,11 @@
 - The version in VERSION is that of the manual page, whose date is that of the newest heading of CHANGELOG.md, of that
   heading, and of README.md.
 - The lines of a block ```rust stand so, one below the other, in a file of crates/bsi_uses/src.
+- Each clause of a block ```text after a line `fn NAME..` is one of a function of that name, where S stands for what self shows at the call,
+  and S' at the return.
 - examples/README.md names each file and folder of examples/. docs/ARCHITECTURE.md lists the crates of crates.txt, in its order, each by
-  the idea with which its root file begins. Each wrong body that docs/PROMISES.md names is there.
+  the idea with which its root file begins, and with its modules. docs/crates.svg draws them, and which of them the code of each uses.
+  Each wrong body that docs/PROMISES.md names is there.
 - A line `$ COMMAND` of a block ```console, run in examples/ with the program of the tarball of `make dist` on the path and no kit, prints
   the lines below it.
 """
@@ -24,6 +27,10 @@ LINK = re.compile(r"\]\(([^)\s]+)\)|(?:src|href)=\"([^\"]+)\"")
 NAMED = re.compile(r"\bdocs/[A-Z_-]+\.md\b")
 BLOCK = re.compile(r"^```(\w*)\n(.*?)^```$", re.MULTILINE | re.DOTALL)
 HEADING = re.compile(r"^#+ (.*)$", re.MULTILINE)
+# A crate's box in the drawing, its name, and which crates it also uses: some, or one to another of the list.
+BOX = re.compile(
+    r'<rect x="(\d+)" y="(\d+)" width="(\d+)" height="(\d+)"[^>]*/>\n<text[^>]*>(\w+)</text>(?:\n<text[^>]*>also ([^<]*)</text>)?'
+)
 VERSION = re.compile(r"\d+\.\d+\.\d+")
 # How many bytes a page may have, and how many those may have that are named.
 MAX_SIZE = 12_288
@@ -39,7 +46,8 @@ def text_of(path):
 
 def documents(top):
     """Returns the path of each document below the folder, from there."""
-    found = [path for pattern in ("*.md", "docs/*.md", "examples/*.md", "cases/*.md", "crates/*/*.md") for path in glob.glob(os.path.join(top, pattern))]
+    patterns = ("*.md", "docs/*.md", "examples/*.md", "cases/*.md", "crates/*/*.md")
+    found = [path for pattern in patterns for path in glob.glob(os.path.join(top, pattern))]
     return sorted(os.path.relpath(path, top) for path in found)
 
 
@@ -126,6 +134,33 @@ def fault_in_rattle(top):
     return None
 
 
+def as_quoted(clause):
+    """Returns a clause as a document quotes it."""
+    shown = re.sub(r"\bself\.new\b", "S'", clause)
+    shown = re.sub(r"\bself(\.old|\.now)?\b", "S", shown)
+    return " ".join(re.sub(r"(\w)\.(now|old)\b", r"\1", shown).split())
+
+
+def contracts_of(source):
+    """Returns the name of each function of a source with its clauses, as a document quotes them."""
+    for name, head in re.findall(r"\bfn (\w+)(.*?)\{$", source, re.MULTILINE | re.DOTALL):
+        clauses = re.findall(r"\b(requires|ensures) (\w* ?)\{(.*?)\}\s*(?=requires|ensures|//|$)", head, re.DOTALL)
+        yield name, {f"{kind} {label}".strip() + ": " + as_quoted(text) for kind, label, text in clauses}
+
+
+def fault_in_clauses(top):
+    """Returns which clauses that a document quotes are none of such a function, or None."""
+    sources = glob.glob(os.path.join(top, "crates", "*", "src", "**", "*.rt"), recursive=True)
+    contracts = [found for path in sources for found in contracts_of(text_of(path))]
+    for document, text in blocks(top, "text"):
+        for head, body in re.findall(r"^fn ([^\n]*)\n((?: {2}.*\n)*)", text, re.MULTILINE):
+            name = re.match(r"(?:\w+::)?(\w+)", head).group(1)
+            quoted = {" ".join(line.split()) for line in body.splitlines()}
+            if not any(name == found and quoted <= clauses for found, clauses in contracts):
+                return f"{document}: no function {name} has all of the clauses {sorted(quoted)}"
+    return None
+
+
 def fault_in_names(top):
     """Returns which example is not named in their README, or None."""
     folder = os.path.join(top, "examples")
@@ -136,21 +171,78 @@ def fault_in_names(top):
     return None
 
 
+def used_by(top, crate, listed):
+    """Returns which of the listed crates the code of a crate uses."""
+    sources = glob.glob(os.path.join(top, "crates", crate, "src", "**", "*.rt"), recursive=True)
+    code = re.sub(r"//.*|ghost use [^;]*;", "", "\n".join(map(text_of, sources)))
+    return {other for other in listed if other != crate and re.search(rf"(?<![\w.]){other}::|\buse {other}\b", code)}
+
+
+def fault_in_modules(top, crate, cell):
+    """Returns which module of a crate a cell does not name, or which name in it is no module and no function, or None."""
+    folder = os.path.join(top, "crates", crate, "src")
+    paths = glob.glob(os.path.join(folder, "**", "*.rt"), recursive=True)
+    sources = {os.path.relpath(path, folder)[:-3]: text_of(path) for path in paths}
+    modules = {module for module in sources if os.sep not in module} - {"lib", "main", "tests"}
+    named = set(re.findall(r"`([a-z_/]+)`", cell))
+    if cell.strip() and not modules <= named:
+        return f"{crate}: docs/ARCHITECTURE.md does not name the modules {sorted(modules - named)}"
+    known = {part for module in sources for part in (module, os.path.basename(module))}
+    told = {name for name in named - known if not re.search(rf"\b(fn|as) {name}\b|\buse {name}\b", "\n".join(sources.values()))}
+    return f"{crate}: docs/ARCHITECTURE.md names {sorted(told)}, which are not there" if told else None
+
+
+def boxes_of(drawing):
+    """Returns for each crate of the drawing its box, and the words in it of the crates that it also uses."""
+    return {name: (tuple(map(int, box)), also) for *box, name, also in BOX.findall(drawing)}
+
+
+def nearest(boxes, x, y):
+    """Returns the crate whose box is nearest to a point."""
+
+    def distance(crate):
+        (left, top, width, height), _ = boxes[crate]
+        return max(left - x, 0, x - left - width) + max(top - y, 0, y - top - height)
+
+    return min(boxes, key=distance)
+
+
+def fault_in_drawing(top, drawing, listed):
+    """Returns of which crate the drawing shows other uses than its code has, or None."""
+    boxes = boxes_of(drawing)
+    ends = [list(map(int, re.findall(r"-?\d+", line))) for line in re.findall(r'<path d="(M[^"]*)" marker-end', drawing)]
+    arrows = {(nearest(boxes, *end[:2]), nearest(boxes, *end[-2:])) for end in ends}
+    for crate, (_, also) in boxes.items():
+        used = used_by(top, crate, listed)
+        shown = {other for start, other in arrows if start == crate}
+        for words in filter(None, also.split(", ")):
+            first, _, last = words.partition(" to ")
+            places = sorted(place for place, other in enumerate(listed) if other.removeprefix("bsi_") in (first, last))
+            shown |= {other for other in listed[places[0] : places[-1] + 1] if not last or other in used}
+        if shown != used:
+            return f"docs/crates.svg shows that {crate} uses {sorted(shown - used)}, and not {sorted(used - shown)}"
+    return None
+
+
 def fault_in_crates(top):
-    """Returns what differs between crates.txt, or the head of a crate's root file, and the crates of docs/ARCHITECTURE.md and crates.svg."""
+    """Returns what differs between crates.txt, or the sources, and the crates of docs/ARCHITECTURE.md and crates.svg, or None."""
     listed = re.findall(r"^(\w+)[^:#\n]*:", text_of(os.path.join(top, "crates.txt")), re.MULTILINE)
-    rows = re.findall(r"^\| `(\w+)` \| ([^|;(]*)", text_of(os.path.join(top, "docs", "ARCHITECTURE.md")), re.MULTILINE)
-    if [crate for crate, _ in rows] != listed:
-        return f"crates.txt and docs/ARCHITECTURE.md list other crates: {dict(rows).keys() ^ set(listed)}"
-    drawn = re.findall(r">(\w+)</text>", text_of(os.path.join(top, "docs", "crates.svg")))
+    table = r"^\| `(\w+)` \| ([^|;(]*)[^|]*\|(.*)\|$"
+    rows = re.findall(table, text_of(os.path.join(top, "docs", "ARCHITECTURE.md")), re.MULTILINE)
+    if [crate for crate, *_ in rows] != listed:
+        return f"crates.txt and docs/ARCHITECTURE.md list other crates: {set(crate for crate, *_ in rows) ^ set(listed)}"
+    drawing = text_of(os.path.join(top, "docs", "crates.svg"))
+    drawn = re.findall(r">(\w+)</text>", drawing)
     if sorted(drawn) != sorted(listed):
         return f"crates.txt and docs/crates.svg have other crates: {set(drawn) ^ set(listed)}"
-    for crate, idea in rows:
+    for crate, idea, cell in rows:
         (root,) = [path for name in ("lib", "main") for path in glob.glob(os.path.join(top, "crates", crate, "src", f"{name}.rt"))]
         head = " ".join(re.findall(r"^//! ?(.*)$", text_of(root), re.MULTILINE)).removeprefix("Tests of ")
         if not head.lower().startswith(idea.strip().lower()):
             return f"{crate}: docs/ARCHITECTURE.md has {idea.strip()!r}, and the crate begins with {head[:80]!r}"
-    return None
+        if fault := fault_in_modules(top, crate, cell):
+            return fault
+    return fault_in_drawing(top, drawing, listed)
 
 
 def fault_in_wrong_bodies(top):
@@ -192,10 +284,10 @@ def fault_in_runs(top, program="bin/bsi"):
 
 
 def fault_in_tarball(top):
-    """Returns what is wrong with the tarball of `make dist`, or which command of a document prints something else by its program, or None."""
+    """Returns what is wrong with the tarball of `make dist`, or which command of a document its program answers otherwise, or None."""
     with tempfile.TemporaryDirectory(prefix="bsi-dist-") as room:
-        line = f"make -s -o build -o lib -o wheel dist && cd out/dist && sha256sum --check --quiet SHA256SUMS && tar -xzf *.tar.gz -C {room}"
-        ran = workspace.run(["sh", "-c", line], folder=top)
+        unpack = f"cd out/dist && sha256sum --check --quiet SHA256SUMS && tar -xzf *.tar.gz -C {room}"
+        ran = workspace.run(["sh", "-c", f"make -s -o build -o lib -o wheel dist && {unpack}"], folder=top)
         if ran.status:
             return f"make dist: {workspace.ending(ran.status)}: {ran.err.decode(errors='replace').strip()}"
         return fault_in_runs(top, *glob.glob(os.path.join(room, "*", "bin", "bsi")))
@@ -206,6 +298,7 @@ CHECKS = (
     ("links within the repository", fault_in_links),
     ("the version", fault_in_version),
     ("lines of Rattle", fault_in_rattle),
+    ("quoted clauses", fault_in_clauses),
     ("names of examples", fault_in_names),
     ("the list of crates", fault_in_crates),
     ("wrong bodies", fault_in_wrong_bodies),

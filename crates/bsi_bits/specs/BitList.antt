@@ -15,6 +15,10 @@ max_words = 2 ^ 26
 abbrev pub max_block : ℕ
 max_block = 64
 
+-- what a sum of as many numbers is below, each of at most 63 binary places
+abbrev pub sum_end : ℕ
+sum_end = 2 ^ 95
+
 -- the bits from place 0 up, and how many more can be appended with no memory
 pub record BitList : Type 0 where
   pub bits : List Bool

@@ -91,8 +91,8 @@ impl Bitmaps {
     }
 
     /// Makes room for `more` further bits in each vector. Whatever the result, the bits stay and there is no less room
-    /// than before. It allocates memory only if there is not enough room already; then there is room for at least twice
-    /// the bits, within 2^32.
+    /// than before. It takes memory only if there is not enough room already; if that is granted, there is then room for
+    /// at least twice the bits, within 2^32.
     pub fn reserve(&mut self, more: u64) -> Result<(), NoMemory>
         requires { length (bits_at self.old.vectors 0) + more ≤ max_len }
         ensures same { AreSame self.old.vectors self.new.vectors }
@@ -163,8 +163,8 @@ impl Bitmaps {
             bits_at self.new.vectors j ≡ bits_at self.old.vectors j ++ false ∷ [] }
         ensures room { self.new.room + 1 ≡ self.old.room }
     {
-        'vectors: for j in 0..self.vectors.len() {
-            self.vectors[j].push_reserved(false);
+        'vectors: for vector in self.vectors.iter_mut() {
+            vector.push_reserved(false);
         }
         self.room -= 1;
     }
@@ -178,8 +178,8 @@ impl Bitmaps {
             bits_at self.new.vectors j ≡ bits_at self.old.vectors j ++ false ∷ [] }
         ensures room { self.new.room + 1 ≡ self.old.room }
     {
-        'vectors: for j in 0..self.vectors.len() {
-            self.vectors[j].lengthen();
+        'vectors: for vector in self.vectors.iter_mut() {
+            vector.lengthen();
         }
         self.room -= 1;
     }

@@ -13,13 +13,16 @@ use std::marker::Model;
 mod logic;
 
 /// The most bits that a vector holds.
-const MAX_LEN: u64 = 1 << 32;
+pub const MAX_LEN: u64 = 1 << 32;
 
-/// The least room for bits that a vector has once it has grown: that of the four words that a `Vec` begins with.
+/// The most bits that are appended at once, as a block: those of a word.
+pub const MAX_BLOCK: usize = 64;
+
+/// The least room that a growth makes, within `MAX_LEN`: that of the four words that a `Vec` begins with.
 const MIN_ROOM: u64 = 256;
 
-/// The most words that a vector fills: those of 2^32 bits.
-const MAX_WORDS: u64 = 1 << 26;
+/// The most words that a vector fills.
+const MAX_WORDS: u64 = MAX_LEN / 64;
 
 /// A vector of at most 2^32 bits, 64 to a word.
 #[derive(Drop)]
@@ -162,8 +165,8 @@ impl Bits {
     }
 
     /// Makes room for `more` further bits. Whatever the result, the bits stay and there is no less room than before. It
-    /// allocates memory only if there is not enough room already; then there is room for at least twice the bits,
-    /// within 2^32.
+    /// takes memory only if there is not enough room already; if that is granted, there is then room for at least twice
+    /// the bits, within 2^32.
     pub fn reserve(&mut self, more: u64) -> Result<(), NoMemory>
         requires { length self.old.bits + more ≤ max_len }
         ensures bits { self.new.bits ≡ self.old.bits }
@@ -246,8 +249,8 @@ impl Bits {
     }
 }
 
-/// Returns for how many more bits to make room after `len` bits if `more` are needed: as many as there are bits, so
-/// that they double, or the least room if that is more. There are never more than 2^32 in all.
+/// Returns for how many more bits to make room after `len` bits if `more` are needed: as many as are needed, or as there
+/// are bits, so that they double, or the least room, whichever is most. There are never more than 2^32 in all.
 pub fn room_to_make(len: u64, more: u64) -> u64
     requires { len + more ≤ max_len }
     ensures enough { more ≤ result }

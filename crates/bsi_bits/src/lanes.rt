@@ -1,11 +1,11 @@
-//! Kernels over slices of words: Boolean operations in place and population counts, four words at a time.
+//! Kernels over lists of words: Boolean operations in place and population counts, four words at a time.
 //!
-//! The slices of one call have the same length. No kernel allocates memory, and each passes over its words once.
+//! The lists of one call have the same length. No kernel allocates memory, and each passes over its words once.
 //!
-//! One loop serves all operations, over a private trait that gives an operation on single words and on four side by
-//! side. A count of one slice reads its four quarters side by side: four read streams use more memory bandwidth than one.
-//! A count goes by parts of 2^57 words in 64 bits, since a slice may be longer than 2^58 words as far as its type
-//! says; no memory is, so there is one part.
+//! A kernel takes its operation as a parameter, of a private trait that gives it on single words and on four side by
+//! side. A count of one list reads its four quarters side by side: four read streams use more memory bandwidth than one.
+//! A count goes by parts whose ones 64 bits hold, since the type of a list allows more words; no memory has them, so
+//! there is one part.
 
 ghost use Rattle.std.specs.Prelude.{◌≡◌, ◌*◌, ◌^◌, ◌≤◌, ◌<◌, length, map, sum_by, bit_and, bit_or, bit_xor, count_ones};
 ghost use Rattle.std.specs.Int.{bit_not, w64};
@@ -72,7 +72,7 @@ fn ones_in(words: u64x4) -> u64
 /// count.
 fn count_few_combined<O: Operation>(a: &[u64], b: &[u64]) -> u64
     requires same { length a.now ≡ length b.now }
-    requires few { length a.now < 2 ^ 58 }
+    requires few { length a.now ≤ MAX_COUNTED }
     ensures ones { result ≡ sum_by count_ones (zip2 O.word_of a.now b.now) }
     ensures few { result ≤ 64 * length a.now }
 {
@@ -177,10 +177,9 @@ pub fn not(a: &mut [u64])
     }
 }
 
-/// Counts the ones in few enough words that 64 bits hold the count. It reads four quarters side by side, since one
-/// reader alone does not ask for all that memory can deliver.
+/// Counts the ones in few enough words that 64 bits hold the count.
 fn count_few(a: &[u64]) -> u64
-    requires { length a.now < 2 ^ 58 }
+    requires { length a.now ≤ MAX_COUNTED }
     ensures ones { result ≡ sum_by count_ones a.now }
     ensures few { result ≤ 64 * length a.now }
 {

@@ -8,7 +8,8 @@ mod ones;
 mod packing;
 
 pub use bitmaps::Bitmaps;
-pub use bits::Bits;
+pub use bits::{Bits, MAX_BLOCK, MAX_LEN};
+// For lists of the crates above that grow as these vectors do.
 #[doc(hidden)]
 pub use bits::room_to_make;
 pub use ones::Ones;

@@ -92,6 +92,7 @@ pub fn push_all(words: &mut Vec<u64>, n: u64, more: &[u64], count: u64)
 {
     let place = n % 64;
     if place == 0 {
+        // There is room, so no memory is asked for.
         words.extend_from_slice(more).unwrap();
         return;
     }

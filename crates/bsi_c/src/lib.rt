@@ -1,4 +1,5 @@
-//! The exports of the C library alone: each call takes a handle, and returns 0 or the number of a refusal.
+//! The exports of the C library alone: each call takes a handle, and returns 0 or the number of a refusal, which
+//! `include/bsi.h` lists.
 #![tactic(auto)]
 
 ghost use Rattle.std.specs.Prelude.{◌≡◌, ◌≢◌, Err, None, map};
@@ -8,8 +9,8 @@ ghost use Rattle.bsi_handles.specs.Statuses.{status_of, Tells};
 ghost use Rattle.bsi_handles.specs.declared.refusal.Refusal.TheVariants.{NoMemory, NoRoom};
 
 use bsi_handles::{
-    Column, FlatAnswer, Handle, Place, append, ask, close, count, describe, open, select, share,
-    status_of,
+    FlatAnswer, GivenColumn, Handle, Place, append, ask, close, count, describe, open, select,
+    share, status_of,
 };
 use std::alloc::Global;
 
@@ -37,12 +38,13 @@ pub extern "C" fn bsi_append(
     alloc: Global,
     index: &mut Handle,
     feeder: u32,
-    columns: &[Column],
+    columns: &[GivenColumn],
     row: &mut u64,
 ) -> u32
     ensures told { Tells result (IsAppending index.old.held.value feeder columns.now row.new
         index.new.held.value) }
-    ensures kept { result ≢ 0 → result ≢ status_of (Err NoMemory) → index.new.held.value ≡ index.old.held.value }
+    ensures kept { result ≢ 0 → result ≢ status_of (Err NoMemory) →
+        index.new.held.value ≡ index.old.held.value }
 {
     status_of(append(alloc, index, feeder, columns, row))
 }
@@ -114,7 +116,8 @@ pub extern "C" fn bsi_schema(
 pub extern "C" fn bsi_share(alloc: Global, index: &mut Handle, other: &mut Handle) -> u32
     ensures told { Tells result (IsSharing index.old.held.value other.old.held.value
         index.new.held.value other.new.held.value) }
-    ensures kept { result ≢ 0 → result ≢ status_of (Err NoMemory) → index.new.held.value ≡ index.old.held.value }
+    ensures kept { result ≢ 0 → result ≢ status_of (Err NoMemory) →
+        index.new.held.value ≡ index.old.held.value }
     ensures held { result ≢ 0 →
         opened_in index.new.held.value ≡ opened_in index.old.held.value }
     ensures left { result ≢ 0 → other.new.held.value ≡ other.old.held.value }

@@ -1,7 +1,7 @@
 -- What a test says of entries, from what it says of their numbers.
 use Rattle.std.proofs.Common.{◌≡◌, ℕ, ◌+◌, ◌-◌, ◌%◌, ◌<◌, ◌≤◌, ◌≢◌, Bool, true, false, List, [], ◌∷◌, length, map, replicate, refl, sym, ap, ap₂, ◌∙◌, arith}
 use Rattle.std.specs.Result.{IfOk}
-use Rattle.std.specs.Prelude.{Result, Option, Some, None, not, is_some, is_none, ◌&&◌, ◌||◌, ◌==◌, nat_eq, nat_lt, nat_le}
+use Rattle.std.specs.Prelude.{Result, Option, Some, None, not, is_some, ◌&&◌, ◌||◌, ◌==◌, nat_eq, nat_lt, nat_le}
 use Rattle.std.specs.Simd.Lanes.{zip2}
 use Rattle.std.specs.Prelude.{All}
 use Rattle.std.proofs.lemmas.Bool.Decides.{nat_tests}
@@ -19,11 +19,6 @@ use Rattle.bsi_slices.specs.Decisions.{as_wanted, relates}
 use Rattle.bsi_columns.specs.DigitTests.{relates_from, answers}
 
 -- a row that is not not a null
-pub nulls_are : (es : List (Option ℕ)) → map not (map is_some es) ≡ map is_none es
-nulls_are [] = refl
-nulls_are (None ∷ es) = ap (λ xs. not (is_some {T = ℕ} None) ∷ xs) (nulls_are es)
-nulls_are (Some x ∷ es) = ap (λ xs. not (is_some (Some x)) ∷ xs) (nulls_are es)
-
 -- no row is selected
 pub none_selected : (test : ℕ → Bool) (wanted : Bool) (es : List (Option ℕ)) → ((x : ℕ) → as_wanted wanted (test x) ≡ false)
     → replicate (length es) false ≡ map (answers test wanted) es

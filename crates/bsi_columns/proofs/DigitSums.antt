@@ -6,7 +6,7 @@ use Rattle.std.proofs.Math.Nat.{zero-div, zero-mod}
 use Rattle.bsi_digits.specs.Digits.{weight, digit_of, IsBaseList}
 use Rattle.bsi_digits.proofs.CallerLemmas.{low_more}
 use Rattle.bsi_columns.specs.Rows.{number_or_zero}
-use Rattle.bsi_columns.specs.Totals.{numbers_at}
+use Rattle.bsi_columns.specs.Orders.{values_at}
 use Rattle.bsi_columns.proofs.Adding.{none_below_one, sum_found, sum_parts}
 
 -- at first no digit is added
@@ -20,11 +20,11 @@ zero_digit_of bs valid i within =
 
 -- one component more
 pub sum_digits : (bs : List ℕ) → IsBaseList bs → (i : ℕ) → i < length bs → (found : List Bool) (entries : List (Option ℕ)) (digits : List ℕ) (total digit_sum w : ℕ)
-    → total ≡ sum_by (λ n. n % weight bs i) (numbers_at found entries)
+    → total ≡ sum_by (λ n. n % weight bs i) (values_at found entries)
     → digits ≡ map (λ e. digit_of bs (number_or_zero e) i) entries → digit_sum ≡ sum (items_where_true found digits) → w ≡ weight bs i
-    → total + digit_sum * w ≡ sum_by (λ n. n % weight bs (i + 1)) (numbers_at found entries)
+    → total + digit_sum * w ≡ sum_by (λ n. n % weight bs (i + 1)) (values_at found entries)
 sum_digits bs valid i within found entries digits total digit_sum w total_is digits_is digit_sum_is w_is =
-    let numbers = numbers_at found entries in
+    let numbers = values_at found entries in
     let zero_digit : digit_of bs 0 i ≡ 0 = zero_digit_of bs valid i within in
     let summed = digit_sum_is ∙ ap (λ ds. sum (items_where_true found ds)) digits_is ∙ sum_found (λ n. digit_of bs n i) zero_digit found entries in
     let parts = sum_parts (λ n. n % weight bs (i + 1)) (λ n. digit_of bs n i) (λ n. n % weight bs i) (weight bs i) (λ n. low_more valid n i within) numbers in

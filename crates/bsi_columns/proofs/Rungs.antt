@@ -7,7 +7,7 @@ use Rattle.bsi_digits.specs.Digits.{weight, product, digit_of, IsBaseList}
 use Rattle.bsi_digits.proofs.CallerLemmas.{high_all, weight_all, weight_more, weight_pos}
 use Rattle.bsi_components.specs.Component.{count_where}
 use Rattle.bsi_columns.specs.Rows.{number_or_zero}
-use Rattle.bsi_columns.specs.Totals.{numbers_at}
+use Rattle.bsi_columns.specs.Orders.{values_at}
 use Rattle.bsi_columns.proofs.Ranking.{IsNarrowed, narrowed_start, narrowed_step, next_small}
 
 -- the number fits where the size does
@@ -22,7 +22,7 @@ pub record IsRung (bs : List ℕ) (found : List Bool) (entries : List (Option �
 
 module _ (bs : List ℕ) (valid : IsBaseList bs) (found : List Bool) (entries : List (Option ℕ)) (k : ℕ) where
   pub rung_start : (chosen : List Bool) → All (λ e. number_or_zero e < product bs) entries → chosen ≡ zip2 ◌&&◌ found (map is_some entries)
-      → k < length (numbers_at found entries) → IsRung bs found entries k (length bs) 0 k chosen
+      → k < length (values_at found entries) → IsRung bs found entries k (length bs) 0 k chosen
   rung_start chosen below chosen_is there = record {
     within = omega arith;
     narrowed = narrowed_start found entries k (weight bs (length bs)) chosen (λ i d within. high_all bs (number_or_zero (get_or entries i d)) (below i d within)) chosen_is there;

@@ -30,7 +30,7 @@ any_entries (Slices c) = c.entries
 any_entries (Equality c) = c.entries
 any_entries (Range c) = c.entries
 
--- how many more entries can be appended with no memory
+-- how many more entries there is room for
 abbrev pub any_room : AnyColumn → ℕ
 any_room (Slices c) = c.room
 any_room (Equality c) = c.room

@@ -5,8 +5,8 @@ use Rattle.bsi_bits.specs.BitList.{max_len}
 use Rattle.bsi_digits.specs.Digits.{product, digit_of, components, weighted_sum}
 use Rattle.bsi_columns.specs.Rows.{number_or_zero}
 
--- what a contract sees of a decomposed column: its bases, least significant first, its entries, and how many more can
--- be appended with no memory
+-- what a contract sees of a decomposed column: its bases, least significant first, its entries, and how many more there
+-- is room for
 pub record Decomposition : Type 0 where
   pub bases : List ℕ
   pub entries : List (Option ℕ)

@@ -20,16 +20,17 @@ use bsi_words::blocks::drop_in;
 pub enum AnyColumn {
     /// A bit slice for each binary place.
     Slices(Slices),
-    /// A bitmap for each digit of each component.
+    /// For each component, a bitmap for each digit, of the rows with it.
     Equality(Decomposed<EqualityComponent>),
-    /// A bitmap for the digits up to each one, of each component.
+    /// For each component, a bitmap for each digit but the greatest, of the rows with at most it.
     Range(Decomposed<RangeComponent>),
 }
 
 impl AnyColumn {
     /// Keeps in a block of at most 1,024 words the rows whose number satisfies the comparison `op` with `constant`,
     /// which may be past the size. The first word stands for the 64 rows from row `64 * at` on. A null row is not kept,
-    /// nor a bit past the last row. It allocates no memory.
+    /// nor a bit past the last row. It takes no memory, and always succeeds. It answers a `Result` as a decomposed
+    /// column does, which takes memory under an encoding that works on whole vectors alone.
     pub fn keep_selected(
         &self,
         op: Op,
@@ -175,11 +176,11 @@ impl Column for AnyColumn {
         }
     }
 
-    fn ranked(&self, found: &Bits, k: u64) -> Result<u64, NoMemory> {
+    fn ranked(&self, found: &Bits, rank: u64) -> Result<u64, NoMemory> {
         match self {
-            AnyColumn::Slices(column) => column.ranked(found, k),
-            AnyColumn::Equality(column) => column.ranked(found, k),
-            AnyColumn::Range(column) => column.ranked(found, k),
+            AnyColumn::Slices(column) => column.ranked(found, rank),
+            AnyColumn::Equality(column) => column.ranked(found, rank),
+            AnyColumn::Range(column) => column.ranked(found, rank),
         }
     }
 
@@ -196,14 +197,6 @@ impl Column for AnyColumn {
             AnyColumn::Slices(column) => column.greatest(found),
             AnyColumn::Equality(column) => column.greatest(found),
             AnyColumn::Range(column) => column.greatest(found),
-        }
-    }
-
-    fn nulls_into(&self, out: &mut Bits) {
-        match self {
-            AnyColumn::Slices(column) => column.nulls_into(out),
-            AnyColumn::Equality(column) => column.nulls_into(out),
-            AnyColumn::Range(column) => column.nulls_into(out),
         }
     }
 

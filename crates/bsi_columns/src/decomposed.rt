@@ -1,14 +1,15 @@
-//! A column of numbers that keeps the digits of each number under a list of bases, a component a digit.
+//! A column of numbers that keeps the digits of each number under a list of bases, a component a digit (Chan and
+//! Ioannidis 1998).
 
 ghost use Rattle.std.specs.Prelude.{◌≡◌, ℕ, ◌<◌, List, [], All, length, map, replicate, slice_index, IfOk};
 ghost use Rattle.bsi_digits.specs.Digits.{digit_of, product};
 ghost use Rattle.bsi_columns.specs.Rows.{number_or_zero};
 
 use crate::growth::{clear_each, push_all_digits, push_blocks, push_digits, reserve_each};
-use crate::{Column, Encoding, NoMemory, Op, Rank};
-use bsi_bits::{Bits, room_to_make};
+use crate::{Column, Encoding, NoMemory, Op, OrderStatistic};
+use bsi_bits::{Bits, MAX_BLOCK, room_to_make};
 use bsi_digits::Bases;
-use bsi_slices::transposing::{mark_not_null, place_numbers};
+use bsi_slices::transposing::{mark_not_null, write_numbers};
 use bsi_slices::{End, NotNull};
 use std::alloc::Global;
 use std::marker::Model;
@@ -20,6 +21,7 @@ mod totals;
 mod vectors;
 
 pub use compare::MAX_BLOCK_WORDS;
+use ends::NoBlocks;
 
 /// A column of numbers below the product of its bases, which keeps a component for each base.
 #[derive(Drop)]
@@ -132,8 +134,8 @@ impl<E: Encoding> Column for Decomposed<E> {
     }
 
     fn push_block_reserved(&mut self, block: &[Option<u64>]) {
-        let mut numbers = [0; 64];
-        place_numbers(block, &mut numbers);
+        let mut numbers = [0; MAX_BLOCK];
+        write_numbers(block, &mut numbers);
         push_blocks(&mut self.components, &self.bases, &numbers[..block.len()]);
         let count = block.len() as u64;
         self.not_null
@@ -155,29 +157,24 @@ impl<E: Encoding> Column for Decomposed<E> {
         self.sum_found(found)
     }
 
-    fn ranked(&self, found: &Bits, k: u64) -> Result<u64, NoMemory> {
-        self.number_of_rank(found, k)
+    fn ranked(&self, found: &Bits, rank: u64) -> Result<u64, NoMemory> {
+        self.number_of_rank(found, rank)
     }
 
     // It passes once over the components, and takes no memory, where each works on blocks.
     fn least(&self, found: &Bits) -> Result<Option<u64>, NoMemory> {
         match self.end_found(found, End::Least) {
-            Some(answer) => Ok(answer),
-            None => self.of_rank(found, Rank::Least),
+            Ok(answer) => Ok(answer),
+            Err(NoBlocks) => self.order_statistic(found, OrderStatistic::Least),
         }
     }
 
     // It passes once over the components, and takes no memory, where each works on blocks.
     fn greatest(&self, found: &Bits) -> Result<Option<u64>, NoMemory> {
         match self.end_found(found, End::Greatest) {
-            Some(answer) => Ok(answer),
-            None => self.of_rank(found, Rank::Greatest),
+            Ok(answer) => Ok(answer),
+            Err(NoBlocks) => self.order_statistic(found, OrderStatistic::Greatest),
         }
-    }
-
-    fn nulls_into(&self, out: &mut Bits) {
-        out.copy_from(self.not_null.bits());
-        out.flip();
     }
 
     fn not_null(&self) -> &Bits {
@@ -201,7 +198,7 @@ fn make_each<E: Encoding>(alloc: Global, bases: &Bases) -> Result<Vec<E>, NoMemo
 {
     let mut components = Vec::with_capacity(alloc, bases.len() as usize)?;
     for i in 0..bases.len() {
-        components.push(E::make(alloc, bases.base(i))?)?;
+        components.push_reserved(E::make(alloc, bases.base(i))?);
     }
     Ok(components)
 }
@@ -214,7 +211,7 @@ fn copy_each<E: Encoding>(components: &Vec<E>) -> Result<Vec<E>, NoMemory>
 {
     let mut copies = Vec::with_capacity(*components.allocator(), components.len())?;
     for component in components {
-        copies.push(component.copy()?)?;
+        copies.push_reserved(component.copy()?);
     }
     Ok(copies)
 }

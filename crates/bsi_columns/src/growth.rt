@@ -6,6 +6,7 @@ ghost use Rattle.bsi_digits.specs.Digits.{digit_of, product, weight};
 ghost use Rattle.bsi_columns.specs.Decomposed.{AreQuotients};
 
 use crate::{Encoding, NoMemory};
+use bsi_bits::MAX_BLOCK;
 use bsi_digits::Bases;
 
 /// Makes room for `more` further digits in each component. Whatever the result, the digits stay and no component has
@@ -83,7 +84,7 @@ pub(crate) fn push_blocks<E: Encoding>(components: &mut Vec<E>, bases: &Bases, n
         ≤ slice_index (map E.room_of components.new.items) i + length numbers.now }
 {
     // Of each number what is left above the digits that were appended.
-    let mut rests = [0; 64];
+    let mut rests = [0; MAX_BLOCK];
     rests[..numbers.len()].copy_from_slice(numbers);
     for i in 0..bases.len() {
         let component = &mut components[i as usize];
@@ -120,7 +121,7 @@ fn push_block<E: Encoding>(
     bases: &Bases,
     i: u32,
     numbers: &[u64],
-    rests: &mut [u64; 64],
+    rests: &mut [u64; MAX_BLOCK],
 )
     requires within { i < length bases.now }
     requires base { E.base_of component.old ≡ slice_index bases.now i }
@@ -135,13 +136,19 @@ fn push_block<E: Encoding>(
     ensures room { E.room_of component.old ≤ E.room_of component.new + length numbers.now }
     ensures rests { AreQuotients numbers.now (weight bases.now (i + 1)) rests.new }
 {
-    let mut digits = [0; 64];
+    let mut digits = [0; MAX_BLOCK];
     write_digits(bases, i, numbers, rests, &mut digits[..numbers.len()]);
     component.push_block_reserved(&digits[..numbers.len()]);
 }
 
 /// Writes for each number its digit of component `i`. The rests are as `push_block` has them.
-fn write_digits(bases: &Bases, i: u32, numbers: &[u64], rests: &mut [u64; 64], digits: &mut [u32])
+fn write_digits(
+    bases: &Bases,
+    i: u32,
+    numbers: &[u64],
+    rests: &mut [u64; MAX_BLOCK],
+    digits: &mut [u32],
+)
     requires within { i < length bases.now }
     requires few { length numbers.now ≤ max_block }
     requires same { length digits.old ≡ length numbers.now }
@@ -155,7 +162,8 @@ fn write_digits(bases: &Bases, i: u32, numbers: &[u64], rests: &mut [u64; 64], d
 {
     let base = bases.base(i);
     let places = base.trailing_zeros();
-    // A digit under a power of two takes no multiplication.
+    // A digit under a power of two takes no multiplication. This is not `is_power_of_two`, since the kit has no lemma
+    // from that to a power.
     if base == 1 << places {
         split_rests(places, rests, digits);
         return;
@@ -168,7 +176,7 @@ fn write_digits(bases: &Bases, i: u32, numbers: &[u64], rests: &mut [u64; 64], d
 }
 
 /// Writes for each digit the lowest binary places of its rest, and leaves the rest what is above them.
-fn split_rests(places: u32, rests: &mut [u64; 64], digits: &mut [u32])
+fn split_rests(places: u32, rests: &mut [u64; MAX_BLOCK], digits: &mut [u32])
     requires few { length digits.old ≤ max_block }
     requires places { places < 32 }
     ensures long { length digits.new ≡ length digits.old }

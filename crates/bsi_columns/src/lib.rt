@@ -8,6 +8,6 @@ mod growth;
 
 pub use any::AnyColumn;
 pub use bsi_components::{Encoding, EndDigit, EqualityComponent, RangeComponent, RankedRows};
-pub use bsi_slices::{Column, Op, Rank, Slices};
+pub use bsi_slices::{Column, Op, OrderStatistic, Slices};
 pub use decomposed::{Decomposed, MAX_BLOCK_WORDS};
 pub use std::alloc::AllocError as NoMemory;

@@ -1,4 +1,4 @@
--- The bitmaps of a component as a list of digits.
+-- The vectors of a component, its bitmaps and then its binary places, as a list of digits.
 use Rattle.std.specs.Prelude.{ℕ, ◌+◌, ◌-◌, Bool, false, List, [], ◌∷◌, length, map, nat_lt, slice_index_or, if◌then◌else◌}
 use Rattle.std.specs.Int.Count.{count_leading_zeros}
 use Rattle.std.specs.List.{range_with_len}
@@ -6,11 +6,7 @@ use Rattle.bsi_bits.specs.BitList.{BitList}
 use Rattle.bsi_bits.specs.BitLists.{bits_at}
 use Rattle.bsi_words.specs.Places.{min_base_with_places}
 
--- the greatest base
-abbrev pub max_base : ℕ
-max_base = 1024
-
--- the bits of row k, a bitmap each
+-- the bits of row k, one of each vector
 abbrev pub row : List BitList → ℕ → List Bool
 row bitmaps k = map (λ b. slice_index_or b.bits k false) bitmaps
 

@@ -3,7 +3,7 @@ use Rattle.std.specs.Prelude.{◌≡◌, ℕ, ◌+◌, ◌<◌, Bool, List, ◌&
 use Rattle.std.specs.Simd.Lanes.{zip2}
 use Rattle.bsi_components.specs.declared.answers.RankedDigit.{RankedDigit}
 
--- what a contract sees of a component: its base, its digits, and how many more can be appended with no memory
+-- what a contract sees of a component: its base, its digits, and how many more there is room for
 pub record Component : Type 0 where
   pub base : ℕ
   pub digits : List ℕ
@@ -17,8 +17,8 @@ at_most_from low digit constant = nat_lt digit constant || nat_eq digit constant
 abbrev pub count_where : (ℕ → Bool) → List Bool → List ℕ → ℕ
 count_where p found digits = count_by (λ b. b) (zip2 (λ f digit. f && p digit) found digits)
 
--- of the rows of a found set, in order of their digits, the row of rank k has this digit, and this rank among the rows
--- that have it
-pub record IsRankedDigit (k : ℕ) (found : List Bool) (digits : List ℕ) (ranked : RankedDigit) : Type 0 where
-  pub rank_is : k ≡ count_where (λ v. nat_lt v ranked.digit) found digits + ranked.rank
-  pub there : k < count_where (λ v. nat_le v ranked.digit) found digits
+-- of the rows of a found set, in order of their digits, the row of this rank has this digit, and this rank among the
+-- rows that have it
+pub record IsRankedDigit (rank : ℕ) (found : List Bool) (digits : List ℕ) (ranked : RankedDigit) : Type 0 where
+  pub rank_is : rank ≡ count_where (λ v. nat_lt v ranked.digit) found digits + ranked.rank
+  pub there : rank < count_where (λ v. nat_le v ranked.digit) found digits

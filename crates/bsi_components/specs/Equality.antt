@@ -2,24 +2,25 @@
 use Rattle.std.specs.Prelude.{◌≡◌, ℕ, ◌+◌, ◌-◌, ◌<◌, ◌≤◌, ◌==◌, ◌&&◌, Bool, nat_le, nat_lt, List, length, slice_index, if◌then◌else◌}
 use Rattle.bsi_bits.specs.BitList.{BitList}
 use Rattle.bsi_words.specs.Places.{IsCount, IsEncoded, then_places}
-use Rattle.bsi_components.specs.Bitmaps.{digits_by, first_set, kept_places, max_base}
+use Rattle.bsi_digits.specs.Digits.{max_base}
+use Rattle.bsi_components.specs.Bitmaps.{digits_by, first_set, kept_places}
 
 -- the first digit that has a bitmap: base 2 stores that of digit 1 alone
-abbrev pub first_digit : ℕ → ℕ
-first_digit base = if base == 2 then 1 else 0
+abbrev pub first_stored : ℕ → ℕ
+first_stored base = if base == 2 then 1 else 0
 
 -- the digits: the first whose bitmap has the row, and 0 where none has
 abbrev pub equality_digits : ℕ → List BitList → List ℕ
-equality_digits base bitmaps = digits_by (first_set 0 (first_digit base)) bitmaps
+equality_digits base bitmaps = digits_by (first_set 0 (first_stored base)) bitmaps
 
--- the bitmaps are those of the digits below the base, from the first that has one, and then those of the binary places
+-- the vectors are the bitmaps of the digits below the base, from the first that has one, and then the binary places
 pub record IsEquality (base : ℕ) (bitmaps : List BitList) (digits : List ℕ) : Type 0 where
-  pub count : IsCount base (base - first_digit base) (length bitmaps)
-  pub many : length bitmaps ≡ base - first_digit base + kept_places base
+  pub count : IsCount base (base - first_stored base) (length bitmaps)
+  pub many : length bitmaps ≡ base - first_stored base + kept_places base
   pub least : 2 ≤ base
   pub most : base ≤ max_base
   pub below : (k : ℕ) → slice_index digits k < base
-  pub encoded : IsEncoded (then_places (base - first_digit base) (λ j v. v == first_digit base + j)) bitmaps digits
+  pub encoded : IsEncoded (then_places (base - first_stored base) (λ j v. v == first_stored base + j)) bitmaps digits
 
 -- the digit is from `from` on and below `to`
 abbrev pub is_among : ℕ → ℕ → ℕ → Bool

@@ -5,10 +5,10 @@ ghost use Rattle.std.specs.List.{items_where_true};
 ghost use Rattle.std.specs.Bool.{OnTrue, OnFalse};
 ghost use Rattle.bsi_bits.specs.BitList.{max_block, max_len, word_count};
 ghost use Rattle.bsi_bits.specs.Packed.{bit_of};
-ghost use Rattle.bsi_components.specs.Bitmaps.{max_base};
-ghost use Rattle.bsi_components.specs.Component.{at_most_from, count_where};
-ghost use Rattle.bsi_words.specs.Ranks.{IsRankedRows};
 ghost use Rattle.bsi_bits.specs.Marked.{HasMarked};
+ghost use Rattle.bsi_digits.specs.Digits.{max_base};
+ghost use Rattle.bsi_words.specs.Ranks.{IsRankedRows};
+ghost use Rattle.bsi_components.specs.Component.{at_most_from, count_where};
 ghost use Rattle.bsi_components.specs.EndDigits.{AnswersLeast, AnswersGreatest};
 
 use crate::NoMemory;
@@ -25,7 +25,7 @@ pub trait Encoding: Drop {
     /// The digits, each below the base, in order of the rows.
     ghost digits: { Self → List ℕ };
 
-    /// How many more digits can be appended with no memory.
+    /// How many more digits there is room for: to append these takes no memory.
     ghost room_of: { Self → ℕ };
 
     /// Whether the calls on blocks of words are done. An encoding without them works on whole vectors alone.
@@ -54,13 +54,13 @@ pub trait Encoding: Drop {
         self.len() == 0
     }
 
-    /// Returns how many more digits can be appended with no memory.
+    /// Returns how many more digits there is room for: to append these takes no memory.
     fn room(&self) -> u64
         ensures room { result ≡ room_of self.now }
         ensures within { length (digits self.now) + result ≤ max_len };
 
     /// Makes room for `more` further digits. Whatever the result, the digits stay and there is no less room than
-    /// before. If it is refused, the room is as it was. It allocates memory only if there is not enough room already.
+    /// before. If it is refused, the room is as it was. It takes memory only if there is not enough room already.
     fn reserve(&mut self, more: u64) -> Result<(), NoMemory>
         requires { length (digits self.old) + more ≤ max_len }
         ensures digits { digits self.new ≡ digits self.old }
@@ -108,7 +108,7 @@ pub trait Encoding: Drop {
         ensures base { base_of self.new ≡ base_of self.old }
         ensures room { room_of self.old ≤ room_of self.new + length (digits other.now) };
 
-    /// Returns whether one more digit can be appended with no memory.
+    /// Returns whether there is room for one more digit: to append it takes no memory.
     fn has_room(&self) -> bool
         ensures { result ≡ nat_lt 0 (room_of self.now) }
     {

@@ -1,17 +1,17 @@
-//! The equality encoded component: a bitmap for each digit says which rows have it.
+//! The equality encoded component: a bitmap for each digit says which rows have it (Chan and Ioannidis 1998).
 //!
-//! A step reads the bitmaps up to the digit or those past it, whichever are fewer. A sum counts the binary places of the
-//! digits, which stand behind the bitmaps, and a rank goes down them. Under base 2 or 3, which has none, a rank is counted
-//! one digit after another.
+//! A step reads the bitmaps up to the digit or those past it, whichever are fewer. A sum counts the binary places of
+//! the digits, which stand behind the bitmaps, and a rank goes down them. Under base 2 or 3, which has none, a rank is
+//! counted one digit after another.
 
 ghost use Rattle.std.specs.Prelude.{◌≡◌, ◌≢◌, ℕ, ◌+◌, ◌-◌, ◌*◌, ◌^◌, ◌<◌, ◌≤◌, ◌==◌, ◌&&◌, ◌||◌, not, ◌++◌, length, map, true, slice_index, IsTrue, IsFalse};
 ghost use Rattle.bsi_bits.specs.BitList.{max_block, word_count};
 ghost use Rattle.bsi_bits.specs.BitLists.{bits_at};
 ghost use Rattle.bsi_bits.specs.Packed.{bit_of};
 ghost use Rattle.bsi_bits.specs.Marked.{HasMarked};
+ghost use Rattle.bsi_digits.specs.Digits.{max_base};
 ghost use Rattle.bsi_words.specs.Places.{has_place, max_digit_places, then_places, IsCount, IsEncoded};
-ghost use Rattle.bsi_components.specs.Bitmaps.{max_base};
-ghost use Rattle.bsi_components.specs.Equality.{first_digit, is_among};
+ghost use Rattle.bsi_components.specs.Equality.{first_stored, is_among};
 
 use crate::encoding::Encoding;
 use bsi_bits::{Bitmaps, Bits};
@@ -49,13 +49,13 @@ impl Model for EqualityComponent {
 
 /// Returns the first digit that has a bitmap.
 fn first_stored(base: u32) -> u32
-    ensures { result ≡ first_digit base }
+    ensures { result ≡ first_stored base }
 {
     if base == 2 { 1 } else { 0 }
 }
 
-/// Appends a block of digits below a base to the bitmaps, of which the first is that of digit `first`. There is a word
-/// for each bitmap, and one for each digit before `first`, all 0.
+/// Appends a block of digits below a base to the vectors, of which the first is the bitmap of digit `first`. There is a
+/// word for each vector, and one for each digit before `first`, all 0.
 fn push_marked(bitmaps: &mut Bitmaps, first: u32, base: u32, block: &[u32], words: &mut [u64])
     requires long { length words.old ≡ first + length bitmaps.old.vectors }
     requires clear { (j : ℕ) → slice_index words.old j ≡ 0 }
@@ -74,7 +74,7 @@ fn push_marked(bitmaps: &mut Bitmaps, first: u32, base: u32, block: &[u32], word
     bitmaps.push_words(&words[first as usize..], block.len() as u64);
 }
 
-/// Appends a block of digits below a base to the bitmaps, of which the first is that of digit `first`.
+/// Appends a block of digits below a base to the vectors, of which the first is the bitmap of digit `first`.
 fn push_block(bitmaps: &mut Bitmaps, first: u32, base: u32, block: &[u32])
     requires within { first ≤ base }
     requires small { base ≤ max_base }
@@ -106,6 +106,16 @@ impl EqualityComponent {
         ensures { result.now.bits ≡ map (λ v. v == j) self.now.digits }
     {
         &self.bitmaps.as_slice()[(j - first_stored(self.base)) as usize]
+    }
+
+    /// Returns whether the digit `d` has a bitmap: under base 2 digit 1 alone has one.
+    fn is_stored(&self, d: u32) -> bool
+        requires { d < self.now.base }
+        ensures some { IsTrue result → self.now.base ≡ 2 → d ≡ 1 }
+        ensures none { IsFalse result → (self.now.base ≡ 2) × (d ≡ 0) }
+        ensures few { IsFalse result → (k : ℕ) → slice_index self.now.digits k ≤ 1 }
+    {
+        d >= first_stored(self.base())
     }
 
     /// Lends the bit vectors of the binary places of the digits, the least first, if any are stored.
@@ -145,10 +155,10 @@ impl EqualityComponent {
         ensures none { IsFalse result → (p : ℕ) → p < 64 * length block.now →
             bit_of block.now p ≡ true → slice_index self.now.digits (64 * at + p) ≢ d }
     {
-        if d == 0 && self.base() == 2 {
-            exceeds(self.bitmap(1), at, block)
-        } else {
+        if self.is_stored(d) {
             meets(self.bitmap(d), at, block)
+        } else {
+            exceeds(self.bitmap(1), at, block)
         }
     }
 

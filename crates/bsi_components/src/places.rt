@@ -1,12 +1,13 @@
 //! Which binary places of its digits a component keeps, and how a row's bits are appended.
 //!
-//! Their vectors stand behind the bitmaps in one list, so that one growth, one append and one relation serve both kinds.
-//! A sum counts them, which are fewer than the bitmaps.
+//! Their vectors stand behind the bitmaps in one list, so that one growth and one append serve both kinds. A sum counts
+//! them, which are fewer than the bitmaps.
 
 ghost use Rattle.std.specs.Prelude.{◌≡◌, ℕ, ◌+◌, ◌-◌, ◌<◌, ◌≤◌, ◌^◌, ◌&&◌, Bool, List, false, [], ◌∷◌, ◌++◌, length, nat_le, nat_lt};
 ghost use Rattle.bsi_bits.specs.BitLists.{bits_at};
+ghost use Rattle.bsi_digits.specs.Digits.{max_base};
 ghost use Rattle.bsi_words.specs.Places.{has_place, max_digit_places, min_base_with_places, then_places};
-ghost use Rattle.bsi_components.specs.Bitmaps.{kept_places, max_base};
+ghost use Rattle.bsi_components.specs.Bitmaps.{kept_places};
 
 use bsi_bits::Bitmaps;
 
@@ -14,7 +15,7 @@ use bsi_bits::Bitmaps;
 const MIN_BASE_WITH_PLACES: u32 = 4;
 
 /// Returns how many binary places of its digits a component of a base keeps: as many as they take, or none.
-pub(crate) fn place_count(base: u32) -> usize
+pub(crate) fn kept_places(base: u32) -> usize
     requires { (2 ≤ base) × (base ≤ max_base) }
     ensures kept { result ≡ kept_places base }
     ensures few { result ≤ max_digit_places }
@@ -60,6 +61,7 @@ fn raise_places(bitmaps: &mut Bitmaps, own: usize, digit: u32)
         bits_at bitmaps.new.vectors j ≡ front ++ has_place (j - own) digit ∷ [] }
     ensures room { bitmaps.new.room ≡ bitmaps.old.room }
 {
+    // How many places are kept. It saturates, so no clause has to say that there are `own` vectors.
     let count = bitmaps.as_slice().len().saturating_sub(own);
     let mut left = digit;
     'ones: while left != 0 {

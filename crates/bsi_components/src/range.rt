@@ -1,7 +1,8 @@
 //! The range encoded component: bitmap j says of each row whether its digit is at most j (Chan and Ioannidis 1998).
 //!
 //! A step reads one bitmap or two. The digit of a rank is found by halving, so by at most ten counts, since a base is
-//! at most 1,024, or by two where a sample of the rows tells the digit; where it tells a wrong one, by both. A sum counts the binary places of the digits, which stand behind the bitmaps.
+//! at most 1,024, or by two where a sample of the rows tells the digit; where it tells a wrong one, by both. A sum
+//! counts the binary places of the digits, which stand behind the bitmaps.
 
 ghost use Rattle.std.specs.Prelude.{◌≡◌, ℕ, ◌+◌, ◌-◌, ◌*◌, ◌^◌, ◌<◌, ◌≤◌, ◌&&◌, ◌++◌, length, map, nat_le, nat_lt, true, slice_index, sum, IsTrue, IsFalse};
 ghost use Rattle.std.specs.List.{items_where_true};
@@ -9,12 +10,12 @@ ghost use Rattle.bsi_bits.specs.BitList.{max_block, word_count};
 ghost use Rattle.bsi_bits.specs.BitLists.{bits_at};
 ghost use Rattle.bsi_bits.specs.Packed.{bit_of};
 ghost use Rattle.bsi_bits.specs.Marked.{HasMarked};
+ghost use Rattle.bsi_digits.specs.Digits.{max_base};
 ghost use Rattle.bsi_words.specs.Places.{has_place, max_digit_places, then_places, IsCount, IsEncoded};
-ghost use Rattle.bsi_components.specs.Bitmaps.{max_base};
 
 use bsi_bits::{Bitmaps, Bits};
 use bsi_words::blocks::{exceeds, meets};
-use bsi_words::marks::{MAX_MARK_WORDS, MAX_SPREAD_WORDS, join, mark_digits};
+use bsi_words::marks::{MAX_MARK_WORDS, MAX_SPREAD_WORDS, mark_below, mark_digits};
 use std::marker::Model;
 
 mod encoding;
@@ -43,7 +44,7 @@ impl Model for RangeComponent {
         (range_digits c.base c.bitmaps.vectors) };
 }
 
-/// Appends a block of digits below a base to the bitmaps. There is a word for each bitmap, and one before them, all 0.
+/// Appends a block of digits below a base to the vectors. There is a word for each vector, and one before them, all 0.
 fn push_marked(bitmaps: &mut Bitmaps, base: u32, block: &[u32], words: &mut [u64])
     requires long { length words.old ≡ 1 + length bitmaps.old.vectors }
     requires clear { (j : ℕ) → slice_index words.old j ≡ 0 }
@@ -59,11 +60,11 @@ fn push_marked(bitmaps: &mut Bitmaps, base: u32, block: &[u32], words: &mut [u64
     ensures room { bitmaps.new.room + length block.now ≡ bitmaps.old.room }
 {
     mark_digits(block, base as usize, words);
-    join(words, base as usize);
+    mark_below(words, base as usize);
     bitmaps.push_words(&words[1..], block.len() as u64);
 }
 
-/// Appends a block of digits below a base to the bitmaps.
+/// Appends a block of digits below a base to the vectors.
 fn push_block(bitmaps: &mut Bitmaps, base: u32, block: &[u32])
     requires least { 2 ≤ base }
     requires small { base ≤ max_base }
@@ -145,7 +146,8 @@ impl RangeComponent {
         &self.bitmaps.as_slice()[self.base as usize - 1..]
     }
 
-    /// Returns the sum of the digits of the found rows: for each bitmap, the number of these rows that it does not have.
+    /// Returns the sum of the digits of the found rows: for each bitmap, the number of these rows that it does not
+    /// have.
     fn sum_by_bitmaps(&self, found: &Bits) -> u128
         requires { length self.now.digits ≡ length found.now.bits }
         ensures { result ≡ sum (items_where_true found.now.bits self.now.digits) }

@@ -6,7 +6,8 @@ use Rattle.std.specs.Int.{w64, leading_zeros}
 abbrev pub max_divisor : ℕ
 max_divisor = 2 ^ 63
 
--- the binary digits of the number before the divisor: the least power of two that is no smaller than the divisor
+-- how many binary digits the number before the divisor has: two to this power is the least power that is no smaller than
+-- the divisor
 abbrev pub shift_of : ℕ → ℕ
 shift_of d = 64 - leading_zeros w64 (d - 1)
 

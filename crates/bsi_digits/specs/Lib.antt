@@ -2,3 +2,4 @@ pub mod Digits
 pub mod Refusal
 pub mod Weights
 pub mod Divisor
+pub mod Signed

@@ -115,7 +115,7 @@ impl Bases {
         self.divisor(self.bases.len()).value()
     }
 
-    /// Returns the number of components, from 1 to 63.
+    /// Returns the number of components, from 1 to 63. A list is never empty.
     pub fn len(&self) -> u32
         ensures len { result ≡ length self.now }
         ensures within { (1 ≤ result) × (result ≤ max_bases) }
@@ -141,7 +141,8 @@ impl Bases {
         ensures below { result < slice_index self.now i }
     {
         let from_here = self.divisor(i as usize).quotient(v);
-        self.next_digit(v, i, from_here).0
+        let (digit, _) = self.next_digit(v, i, from_here);
+        digit
     }
 
     /// Returns the digit of component `i` of `v`, where `from_here` is the quotient of `v` by the weight of that
@@ -168,12 +169,13 @@ impl Bases {
         self.divisor(i as usize).value()
     }
 
-    /// Returns the weight of the component at `place` or, after the last component, the size.
+    /// Returns the divisor of the component at `place`, which is its weight or, after the last component, the size.
     fn divisor(&self, place: usize) -> &Divisor
         requires { place ≤ length self.now }
         ensures weight { result.now ≡ weight self.now place }
         ensures valid { IsBaseList self.now }
     {
+        // A slice: at an array's index the proof would have to bound a multiplication before it knows the place.
         let weights = &self.weights[..];
         &weights[place]
     }
@@ -207,7 +209,6 @@ fn weights(bases: &[u32]) -> Option<[Divisor; MAX_BASES + 1]>
     ensures some { IfSome result (HoldsWeights bases.now) }
 {
     let mut kept = [Divisor::new(1); MAX_BASES + 1];
-    let weights = &mut kept[..];
     let mut weight = 1u64;
     for (i, base) in bases.iter().enumerate() {
         let next = u128::from(weight) * u128::from(*base);
@@ -215,7 +216,7 @@ fn weights(bases: &[u32]) -> Option<[Divisor; MAX_BASES + 1]>
             return None;
         }
         weight = next as u64;
-        weights[i + 1] = Divisor::new(weight);
+        kept[i + 1] = Divisor::new(weight);
     }
     Some(kept)
 }

@@ -1,4 +1,5 @@
-//! A divisor that is stored with its reciprocal, so that a quotient is a multiplication and a shift.
+//! A divisor that is stored with its reciprocal, so that a quotient is a multiplication and a shift (Granlund and
+//! Montgomery 1994).
 //!
 //! The reciprocal is rounded up, at 2^(63 + s), where 2^s is the least power of two that is no smaller than the
 //! divisor. That is exact for each number below 2^63.

@@ -5,7 +5,7 @@ use Rattle.std.proofs.lemmas.List.{append_assoc, append-nil}
 use Rattle.bsi_rings.specs.Rings.{with_sent_rows, Sending}
 use Rattle.bsi_table.specs.Rows.{Entries}
 use Rattle.csv.specs.declared.reader.Reader.{Reader}
-use Rattle.bsi_text.specs.Sources.{End, GivesFirst, GivesFirstRows, HasEnded, HasEndedBy, HasGivenRows, HasStopped, HasTaken, IsWithoutFault, Layout, Source, Tally}
+use Rattle.bsi_text.specs.Sources.{max_records, Counts, End, GivesFirst, GivesFirstRows, HasEnded, HasEndedBy, HasGivenRows, HasStopped, HasTaken, IsWithoutFault, Layout, Source}
 use Rattle.bsi_text.specs.declared.rows.SourceFault.{SourceFault}
 use Rattle.bsi_feeding.specs.declared.feeding.FeedEnd.{FeedEnd}
 use Rattle.bsi_feeding.specs.Feeding.{FailsNow, GivesNext, GivesNone, GivesRows, HasFailed, HasFed, HasOnly, IsReadOut, StopsAfter}
@@ -18,21 +18,21 @@ of_some (Some x) is follows = follows x is
 module _ {R : Type 0} (rem : R → Option (List ℕ)) where
   -- what several calls took is taken as by one
   abbrev pub JoinsTaken : Type 0
-  JoinsTaken = (layout : Layout) → (a b c : Reader R) → (start middle end : Tally) → (xs ys : List Entries)
+  JoinsTaken = (layout : Layout) → (a b c : Reader R) → (start middle end : Counts) → (xs ys : List Entries)
       → HasTaken rem layout a b start middle xs → HasTaken rem layout b c middle end ys → HasTaken rem layout a c start end (xs ++ ys)
 
   -- where a source stands behind the rows that it gave
-  abbrev pub Behind : Layout → Reader R → Reader R → Tally → Tally → End → Type 0
+  abbrev pub Behind : Layout → Reader R → Reader R → Counts → Counts → End → Type 0
   Behind layout at new middle after end = MatchOption end ((at ≡ new) × (middle ≡ after)) (HasEndedBy rem layout at middle after)
 
   -- no record is counted twice
-  counts_up : (layout : Layout) (at new : Reader R) (middle after : Tally) (end : End) → Behind layout at new middle after end → middle.taken ≤ after.taken
-  counts_up layout at new middle after None behind = subst (λ (tally : Tally). middle.taken ≤ tally.taken) behind.1 (omega arith)
+  counts_up : (layout : Layout) (at new : Reader R) (middle after : Counts) (end : End) → Behind layout at new middle after end → middle.taken ≤ after.taken
+  counts_up layout at new middle after None behind = subst (λ (counts : Counts). middle.taken ≤ counts.taken) behind.1 (omega arith)
   counts_up layout at new middle after (Some (Ok done)) behind = omega (arith, behind.taken.taken)
   counts_up layout at new middle after (Some (Err fault)) behind = omega (arith, behind.taken.taken)
 
   -- rows that were taken, and then others
-  give_on : JoinsTaken → (layout : Layout) (a b c : Reader R) (start middle after : Tally) (xs ys : List Entries) (end : End)
+  give_on : JoinsTaken → (layout : Layout) (a b c : Reader R) (start middle after : Counts) (xs ys : List Entries) (end : End)
       → HasTaken rem layout a b start middle xs → HasGivenRows rem layout b c middle after ys end → HasGivenRows rem layout a c start after (xs ++ ys) end
   give_on join layout a b c start middle after xs ys end taken gave = record {
     at = gave.at;
@@ -44,40 +44,40 @@ module _ {R : Type 0} (rem : R → Option (List ℕ)) where
   -- a source has given these rows, and may go on or has ended
   pub record HasGone (old new : Source R) (rows : List Entries) : Type 0 where
     pub layout : new.layout ≡ old.layout
-    pub given : MatchOption old.end (HasGivenRows rem old.layout old.input new.input old.tally new.tally rows new.end) (λ end. (rows ≡ []) × (new ≡ old))
-    pub few : old.tally.taken ≤ 1000000 → new.tally.taken ≤ 1000000
+    pub given : MatchOption old.end (HasGivenRows rem old.layout old.input new.input old.counts new.counts rows new.end) (λ end. (rows ≡ []) × (new ≡ old))
+    pub few : old.counts.taken ≤ max_records → new.counts.taken ≤ max_records
 
   module _ (old new : Source R) (rows : List Entries) (gone : HasGone old new rows) where
     -- one that had not ended
-    pub was_open : old.end ≡ None → HasGivenRows rem old.layout old.input new.input old.tally new.tally rows new.end
+    pub was_open : old.end ≡ None → HasGivenRows rem old.layout old.input new.input old.counts new.counts rows new.end
     was_open going =
-        subst (λ end. MatchOption end (HasGivenRows rem old.layout old.input new.input old.tally new.tally rows new.end) (λ e. (rows ≡ []) × (new ≡ old))) going gone.given
+        subst (λ end. MatchOption end (HasGivenRows rem old.layout old.input new.input old.counts new.counts rows new.end) (λ e. (rows ≡ []) × (new ≡ old))) going gone.given
 
     -- one that may go on
-    pub is_open : new.end ≡ None → (old.end ≡ None) × HasTaken rem old.layout old.input new.input old.tally new.tally rows
+    pub is_open : new.end ≡ None → (old.end ≡ None) × HasTaken rem old.layout old.input new.input old.counts new.counts rows
     is_open going = by old.end refl
       where
-        by : (end : End) → old.end ≡ end → (old.end ≡ None) × HasTaken rem old.layout old.input new.input old.tally new.tally rows
+        by : (end : End) → old.end ≡ end → (old.end ≡ None) × HasTaken rem old.layout old.input new.input old.counts new.counts rows
         by None is =
             let gave = was_open is in
-            let behind = subst (Behind old.layout gave.at new.input gave.middle new.tally) going gave.behind in (
+            let behind = subst (Behind old.layout gave.at new.input gave.middle new.counts) going gave.behind in (
               is,
-              subst (λ (at : Reader R). HasTaken rem old.layout old.input at old.tally new.tally rows) behind.0
-                  (subst (λ (tally : Tally). HasTaken rem old.layout old.input gave.at old.tally tally rows) behind.1 gave.taken),
+              subst (λ (at : Reader R). HasTaken rem old.layout old.input at old.counts new.counts rows) behind.0
+                  (subst (λ (counts : Counts). HasTaken rem old.layout old.input gave.at old.counts counts rows) behind.1 gave.taken),
             )
         by (Some e) is =
-            let same = subst (λ end. MatchOption end (HasGivenRows rem old.layout old.input new.input old.tally new.tally rows new.end) (λ e. (rows ≡ []) × (new ≡ old))) is gone.given in
+            let same = subst (λ end. MatchOption end (HasGivenRows rem old.layout old.input new.input old.counts new.counts rows new.end) (λ e. (rows ≡ []) × (new ≡ old))) is gone.given in
             absurd (cc (is, going, ap (λ (s : Source R). s.end) same.1))
 
     -- a source that goes on gave rows more
     gone_on : JoinsTaken → (next : Source R) (more : List Entries) → GivesNext rem new next more → HasGone old next (rows ++ more)
     gone_on join next more gives =
         let open_ = is_open gives.before in
-        let gave = give_on join old.layout old.input new.input next.input old.tally new.tally next.tally rows more next.end open_.1
-        (subst (λ (l : Layout). HasGivenRows rem l new.input next.input new.tally next.tally more next.end) gone.layout gives.given) in
+        let gave = give_on join old.layout old.input new.input next.input old.counts new.counts next.counts rows more next.end open_.1
+        (subst (λ (l : Layout). HasGivenRows rem l new.input next.input new.counts next.counts more next.end) gone.layout gives.given) in
         record {
           layout = gives.layout ∙ gone.layout;
-          given = subst (λ end. MatchOption end (HasGivenRows rem old.layout old.input next.input old.tally next.tally (rows ++ more) next.end) (λ e. (rows ++ more ≡ []) × (next ≡ old)))
+          given = subst (λ end. MatchOption end (HasGivenRows rem old.layout old.input next.input old.counts next.counts (rows ++ more) next.end) (λ e. (rows ++ more ≡ []) × (next ≡ old)))
               (sym open_.0) gave;
           few = λ le. gives.few;
         }
@@ -86,7 +86,7 @@ module _ {R : Type 0} (rem : R → Option (List ℕ)) where
     gave_few : old.end ≡ None → GivesRows rem old rows
     gave_few going =
         let gave = was_open going in
-        record { at = gave.at; end = gave.middle; taken = gave.taken; few = λ le. omega (arith, gone.few le, counts_up old.layout gave.at new.input gave.middle new.tally new.end gave.behind) }
+        record { at = gave.at; end = gave.middle; taken = gave.taken; few = λ le. omega (arith, gone.few le, counts_up old.layout gave.at new.input gave.middle new.counts new.end gave.behind) }
 
   -- a source has given these rows, the first ones that it still had
   pub record HasPassed (old new : Source R) (rows : List Entries) : Type 0 where
@@ -94,20 +94,20 @@ module _ {R : Type 0} (rem : R → Option (List ℕ)) where
     pub gone : HasGone old new rows
 
   module _ (source : Source R) where
-    gone_none : HasTaken rem source.layout source.input source.input source.tally source.tally [] → HasGone source source []
+    gone_none : HasTaken rem source.layout source.input source.input source.counts source.counts [] → HasGone source source []
     gone_none none = record { layout = refl; given = by source.end refl; few = λ le. le }
       where
         by : (end : End) → source.end ≡ end
-            → MatchOption end (HasGivenRows rem source.layout source.input source.input source.tally source.tally [] source.end) (λ e. (◌≡◌ {A = List Entries} [] []) × (source ≡ source))
+            → MatchOption end (HasGivenRows rem source.layout source.input source.input source.counts source.counts [] source.end) (λ e. (◌≡◌ {A = List Entries} [] []) × (source ≡ source))
         by None is = record {
           at = source.input;
-          middle = source.tally;
+          middle = source.counts;
           taken = none;
-          behind = subst (Behind source.layout source.input source.input source.tally source.tally) (sym is) (refl, refl);
+          behind = subst (Behind source.layout source.input source.input source.counts source.counts) (sym is) (refl, refl);
         }
         by (Some e) is = (refl, refl)
 
-    pub passed_none : HasTaken rem source.layout source.input source.input source.tally source.tally [] → HasPassed source source []
+    pub passed_none : HasTaken rem source.layout source.input source.input source.counts source.counts [] → HasPassed source source []
     passed_none none = record {
       gives = λ all others still. (all, refl, λ fine. record { left = others; still = still; count = refl });
       gone = gone_none none;
@@ -137,7 +137,7 @@ module _ {R : Type 0} (rem : R → Option (List ℕ)) where
     pub passed : HasPassed source after rows
 
   module _ (feeder : Sending) (source : Source R) where
-    pub sent_none : HasTaken rem source.layout source.input source.input source.tally source.tally [] → HasSent feeder source 0 feeder source
+    pub sent_none : HasTaken rem source.layout source.input source.input source.counts source.counts [] → HasSent feeder source 0 feeder source
     sent_none none = record {
       rows = [];
       number = refl;
@@ -165,75 +165,75 @@ module _ {R : Type 0} (rem : R → Option (List ℕ)) where
         where
           stops : source.end ≡ None → (end : End) → after.end ≡ end → StopsAfter rem source many fault
           stops going None ends =
-              let failed = subst (λ end. MatchOption end ((t : Tally) × HasStopped rem after.layout after.input after.tally t fault) (λ e. e ≡ Err fault)) ends fails in
+              let failed = subst (λ end. MatchOption end ((t : Counts) × HasStopped rem after.layout after.input after.counts t fault) (λ e. e ≡ Err fault)) ends fails in
               record {
                 rows = has.rows;
                 number = has.many ∙ sym is;
                 at = after.input;
-                middle = after.tally;
+                middle = after.counts;
                 end = failed.0;
                 taken = (is_open source after has.rows has.passed.gone ends).1;
-                stopped = subst (λ (l : Layout). HasStopped rem l after.input after.tally failed.0 fault) has.passed.gone.layout failed.1;
+                stopped = subst (λ (l : Layout). HasStopped rem l after.input after.counts failed.0 fault) has.passed.gone.layout failed.1;
               }
           stops going (Some e) ends =
-              let failed = subst (λ end. MatchOption end ((t : Tally) × HasStopped rem after.layout after.input after.tally t fault) (λ e. e ≡ Err fault)) ends fails in
+              let failed = subst (λ end. MatchOption end ((t : Counts) × HasStopped rem after.layout after.input after.counts t fault) (λ e. e ≡ Err fault)) ends fails in
               let gave = was_open source after has.rows has.passed.gone going in
               record {
                 rows = has.rows;
                 number = has.many ∙ sym is;
                 at = gave.at;
                 middle = gave.middle;
-                end = after.tally;
+                end = after.counts;
                 taken = gave.taken;
-                stopped = subst (Behind source.layout gave.at after.input gave.middle after.tally) (ends ∙ ap (λ r. Some r) failed) gave.behind;
+                stopped = subst (Behind source.layout gave.at after.input gave.middle after.counts) (ends ∙ ap (λ r. Some r) failed) gave.behind;
               }
 
           by : (end : End) → source.end ≡ end → HasFailed rem source many fault
           by None going = subst (λ end. MatchOption end (StopsAfter rem source many fault) (λ e. e ≡ Err fault)) (sym going) (stops going after.end refl)
           by (Some e) ended =
-              let same = subst (λ end. MatchOption end (HasGivenRows rem source.layout source.input after.input source.tally after.tally has.rows after.end) (λ e. (has.rows ≡ []) × (after ≡ source)))
+              let same = subst (λ end. MatchOption end (HasGivenRows rem source.layout source.input after.input source.counts after.counts has.rows after.end) (λ e. (has.rows ≡ []) × (after ≡ source)))
               ended has.passed.gone.given in
-              let failed = subst (λ end. MatchOption end ((t : Tally) × HasStopped rem after.layout after.input after.tally t fault) (λ e. e ≡ Err fault))
+              let failed = subst (λ end. MatchOption end ((t : Counts) × HasStopped rem after.layout after.input after.counts t fault) (λ e. e ≡ Err fault))
               (ap (λ (s : Source R). s.end) same.1 ∙ ended) fails in
               subst (λ end. MatchOption end (StopsAfter rem source many fault) (λ e. e ≡ Err fault)) (sym ended) failed
 
       -- a source that gives no row more was read out
-      read_out : JoinsTaken → (rest : Source R) (bad : ℕ) → GivesNone rem after rest → bad ≡ rest.tally.bad → source.end ≡ None → IsReadOut rem source has.rows bad
+      read_out : JoinsTaken → (rest : Source R) (bad : ℕ) → GivesNone rem after rest → bad ≡ rest.counts.bad → source.end ≡ None → IsReadOut rem source has.rows bad
       read_out join rest bad none is going = by after.end refl
         where
-          out : (at over_at : Reader R) (middle end : Tally) → HasTaken rem source.layout source.input at source.tally middle has.rows
-              → HasTaken rem source.layout at over_at middle end [] → HasTaken rem source.layout source.input over_at source.tally end has.rows
+          out : (at over_at : Reader R) (middle end : Counts) → HasTaken rem source.layout source.input at source.counts middle has.rows
+              → HasTaken rem source.layout at over_at middle end [] → HasTaken rem source.layout source.input over_at source.counts end has.rows
           out at over_at middle end taken last =
-              subst (λ rows. HasTaken rem source.layout source.input over_at source.tally end rows) (append-nil has.rows)
-              (join source.layout source.input at over_at source.tally middle end has.rows [] taken last)
+              subst (λ rows. HasTaken rem source.layout source.input over_at source.counts end rows) (append-nil has.rows)
+              (join source.layout source.input at over_at source.counts middle end has.rows [] taken last)
 
           by : (end : End) → after.end ≡ end → IsReadOut rem source has.rows bad
           by None ends =
-              let ended = subst (λ end. MatchOption end (HasEnded rem after.layout after.input after.tally rest.tally) (λ e. (e ≡ Ok tt) × (rest ≡ after))) ends none.ended in
-              let last = subst (λ (l : Layout). HasTaken rem l after.input ended.at after.tally rest.tally []) has.passed.gone.layout ended.taken in
+              let ended = subst (λ end. MatchOption end (HasEnded rem after.layout after.input after.counts rest.counts) (λ e. (e ≡ Ok tt) × (rest ≡ after))) ends none.ended in
+              let last = subst (λ (l : Layout). HasTaken rem l after.input ended.at after.counts rest.counts []) has.passed.gone.layout ended.taken in
               record {
                 at = ended.at;
-                end = rest.tally;
-                taken = out after.input ended.at after.tally rest.tally (is_open source after has.rows has.passed.gone ends).1 last;
+                end = rest.counts;
+                taken = out after.input ended.at after.counts rest.counts (is_open source after has.rows has.passed.gone ends).1 last;
                 over = ended.over;
                 few = none.few;
                 bad_is = is;
               }
           by (Some e) ends =
-              let ended = subst (λ end. MatchOption end (HasEnded rem after.layout after.input after.tally rest.tally) (λ e. (e ≡ Ok tt) × (rest ≡ after))) ends none.ended in
+              let ended = subst (λ end. MatchOption end (HasEnded rem after.layout after.input after.counts rest.counts) (λ e. (e ≡ Ok tt) × (rest ≡ after))) ends none.ended in
               let gave = was_open source after has.rows has.passed.gone going in
-              let behind = subst (Behind source.layout gave.at after.input gave.middle after.tally) (ends ∙ ap (λ r. Some r) ended.0) gave.behind in
+              let behind = subst (Behind source.layout gave.at after.input gave.middle after.counts) (ends ∙ ap (λ r. Some r) ended.0) gave.behind in
               record {
                 at = behind.at;
-                end = after.tally;
-                taken = out gave.at behind.at gave.middle after.tally gave.taken behind.taken;
+                end = after.counts;
+                taken = out gave.at behind.at gave.middle after.counts gave.taken behind.taken;
                 over = behind.over;
-                few = subst (λ (s : Source R). s.tally.taken ≤ 1000000) ended.1 none.few;
-                bad_is = is ∙ ap (λ (s : Source R). s.tally.bad) ended.1;
+                few = subst (λ (s : Source R). s.counts.taken ≤ max_records) ended.1 none.few;
+                bad_is = is ∙ ap (λ (s : Source R). s.counts.bad) ended.1;
               }
 
       -- all rows were sent
-      sent_all : (rest : Source R) (bad : ℕ) → GivesFirst rem after rest None → GivesNone rem after rest → bad ≡ rest.tally.bad → HasOnly rem source has.rows bad
+      sent_all : (rest : Source R) (bad : ℕ) → GivesFirst rem after rest None → GivesNone rem after rest → bad ≡ rest.counts.bad → HasOnly rem source has.rows bad
       sent_all rest bad gives none is = λ all others still.
           let was = has.passed.gives all others still in
           let left = was.2 (fine after.end refl) in
@@ -243,12 +243,12 @@ module _ {R : Type 0} (rem : R → Option (List ℕ)) where
           fine : (end : End) → after.end ≡ end → IsWithoutFault after
           fine None ends = λ fault failed. absurd (cc (ends, failed))
           fine (Some e) ends = λ fault failed.
-              let ended = subst (λ end. MatchOption end (HasEnded rem after.layout after.input after.tally rest.tally) (λ e. (e ≡ Ok tt) × (rest ≡ after))) ends none.ended in
+              let ended = subst (λ end. MatchOption end (HasEnded rem after.layout after.input after.counts rest.counts) (λ e. (e ≡ Ok tt) × (rest ≡ after))) ends none.ended in
               absurd (cc (ends, failed, ended.0))
 
       -- a feeder that sends no more has sent the first rows, and all of them where the source gives none more
       pub fed_first : JoinsTaken → (end : FeedEnd) → IfSome end.closing (λ closing. closing.rows ≡ now.sent) → end.accepted ≡ n
-          → (end.stopped ≡ false → end.fault ≡ None → (rest : Source R) × GivesFirst rem after rest None × GivesNone rem after rest × (end.bad ≡ rest.tally.bad))
+          → (end.stopped ≡ false → end.fault ≡ None → (rest : Source R) × GivesFirst rem after rest None × GivesNone rem after rest × (end.bad ≡ rest.counts.bad))
           → HasFed rem source feeder.sent end
       fed_first join end sent many over = record {
         rows = has.rows;

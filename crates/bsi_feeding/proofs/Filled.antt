@@ -4,7 +4,7 @@ use Rattle.std.specs.Prelude.{◌≢◌, Result, Ok, Err, MatchOption}
 use Rattle.std.proofs.lemmas.List.{append-nil, length-map, map-append}
 use Rattle.bsi_table.specs.RowBlocks.{entries_of, fed_as, RowBlock}
 use Rattle.bsi_table.specs.Rows.{Entries, FedRow}
-use Rattle.bsi_text.specs.Sources.{End, Fills, GivesFirst, HasEnded, HasGivenRows, HasLeft, HasStopped, HasTaken, Source, Tally}
+use Rattle.bsi_text.specs.Sources.{max_records, Counts, End, Fills, GivesFirst, HasEnded, HasGivenRows, HasLeft, HasStopped, HasTaken, Source}
 use Rattle.bsi_text.specs.declared.rows.SourceFault.{SourceFault}
 use Rattle.bsi_text.specs.declared.rows.SourceFault.TheVariants.{NoMemory}
 use Rattle.bsi_feeding.specs.Feeding.{FailsNow, GivesNext, GivesNone}
@@ -19,8 +19,8 @@ module _ {R : Type 0} (rem : R → Option (List ℕ)) (old new : Source R) where
   -- one row
   pub one_next : (row : Entries) → ((fault : SourceFault) → old.end ≡ Some (Err fault) → (◌≡◌ {A = Result (Option Entries) SourceFault} (Ok (Some row)) (Err fault)) × (new ≡ old))
       → (old.end ≡ Some (Ok tt) → (◌≡◌ {A = Result (Option Entries) SourceFault} (Ok (Some row)) (Ok None)) × (new ≡ old))
-      → (old.end ≡ None → HasTaken rem old.layout old.input new.input old.tally new.tally (row ∷ []))
-      → (old.end ≡ None → new.end ≡ None) → new.layout ≡ old.layout → GivesFirst rem old new (Some row) → new.tally.taken ≤ 1000000
+      → (old.end ≡ None → HasTaken rem old.layout old.input new.input old.counts new.counts (row ∷ []))
+      → (old.end ≡ None → new.end ≡ None) → new.layout ≡ old.layout → GivesFirst rem old new (Some row) → new.counts.taken ≤ max_records
       → GivesNext rem old new (row ∷ [])
   one_next row failed ended given goes_on same first few = by old.end refl
     where
@@ -30,9 +30,9 @@ module _ {R : Type 0} (rem : R → Option (List ℕ)) (old new : Source R) where
         layout = same;
         given = record {
           at = new.input;
-          middle = new.tally;
+          middle = new.counts;
           taken = given is;
-          behind = subst (Behind rem old.layout new.input new.input new.tally new.tally) (sym (goes_on is)) (refl, refl);
+          behind = subst (Behind rem old.layout new.input new.input new.counts new.counts) (sym (goes_on is)) (refl, refl);
         };
         first = λ all others still. (let one = first all others still in (one.0, one.2, λ fine. record { left = one.1; still = one.3; count = one.4 }));
         few = few;
@@ -79,7 +79,7 @@ module _ {R : Type 0} (rem : R → Option (List ℕ)) (old new : Source R) where
             stops.1 ∙ sym (ap with_rows_of stops.1)
 
     -- a source that goes on gives the next rows, however many
-    going_next : (going : old.end ≡ None) → new.layout ≡ old.layout → new.tally.taken ≤ 1000000 → GivesNext rem old new (entries_of full.rows)
+    going_next : (going : old.end ≡ None) → new.layout ≡ old.layout → new.counts.taken ≤ max_records → GivesNext rem old new (entries_of full.rows)
     going_next going same few =
         let fills = filled going in
         subst (GivesNext rem old new) (sym (all_rows going)) (record {
@@ -91,7 +91,7 @@ module _ {R : Type 0} (rem : R → Option (List ℕ)) (old new : Source R) where
         })
 
     -- so that it has passed these too
-    pub passed_fill : JoinsTaken rem → IfErr r (λ fault. (new.end ≡ Some (Err fault)) × (full ≡ start)) → new.layout ≡ old.layout → new.tally.taken ≤ 1000000
+    pub passed_fill : JoinsTaken rem → IfErr r (λ fault. (new.end ≡ Some (Err fault)) × (full ≡ start)) → new.layout ≡ old.layout → new.counts.taken ≤ max_records
         → (source : Source R) (rows : List Entries) → HasPassed rem source old rows → HasPassed rem source new (rows ++ entries_of full.rows)
     passed_fill join stopped same few source rows has = by old.end refl
       where
@@ -118,17 +118,17 @@ module _ {R : Type 0} (rem : R → Option (List ℕ)) (old new : Source R) where
             let stops = subst (λ r. IfErr r (λ fault. (new.end ≡ Some (Err fault)) × (full ≡ start))) is stopped in
             let gave = (filled going).puts.given in
             let none = no_rows going (ap (λ (block : RowBlock). length block.rows) stops.1 ∙ ap length empty) in
-            let behind = subst (Behind rem old.layout gave.at new.input gave.middle new.tally) stops.0 gave.behind in
-            let taken = join old.layout old.input gave.at behind.at old.tally gave.middle new.tally [] [] (subst (HasTaken rem old.layout old.input gave.at old.tally gave.middle) none gave.taken) behind.taken in
-            subst (λ end. MatchOption end ((t : Tally) × HasStopped rem old.layout old.input old.tally t fault) (λ e. e ≡ Err fault)) (sym going)
-            (new.tally, record { at = behind.at; taken = taken; later = behind.later; too_long = behind.too_long })
+            let behind = subst (Behind rem old.layout gave.at new.input gave.middle new.counts) stops.0 gave.behind in
+            let taken = join old.layout old.input gave.at behind.at old.counts gave.middle new.counts [] [] (subst (HasTaken rem old.layout old.input gave.at old.counts gave.middle) none gave.taken) behind.taken in
+            subst (λ end. MatchOption end ((t : Counts) × HasStopped rem old.layout old.input old.counts t fault) (λ e. e ≡ Err fault)) (sym going)
+            (new.counts, record { at = behind.at; taken = taken; later = behind.later; too_long = behind.too_long })
         by (Some (Ok done)) going = absurd (cc (is, (ended going).0))
         by (Some (Err e)) going =
-            subst (λ end. MatchOption end ((t : Tally) × HasStopped rem old.layout old.input old.tally t fault) (λ e. e ≡ Err fault)) (sym going) (cc (is, (failed e going).0))
+            subst (λ end. MatchOption end ((t : Counts) × HasStopped rem old.layout old.input old.counts t fault) (λ e. e ≡ Err fault)) (sym going) (cc (is, (failed e going).0))
 
     module _ (later : OnOk r ((fault : SourceFault) → new.end ≡ Some (Err fault) → length start.rows < length full.rows)) (done : r ≡ Ok tt) where
       -- a call that puts no row there finds none
-      pub fill_over : JoinsTaken rem → new.tally.taken ≤ 1000000 → length full.rows ≡ 0 → GivesFirst rem old new None × GivesNone rem old new
+      pub fill_over : JoinsTaken rem → new.counts.taken ≤ max_records → length full.rows ≡ 0 → GivesFirst rem old new None × GivesNone rem old new
       fill_over join few none = by old.end refl
         where
           going_on : old.end ≡ None → (end : End) → new.end ≡ end → end ≡ Some (Ok tt)
@@ -144,16 +144,16 @@ module _ {R : Type 0} (rem : R → Option (List ℕ)) (old new : Source R) where
           by : (end : End) → old.end ≡ end → GivesFirst rem old new None × GivesNone rem old new
           by None going =
               let gave = (filled going).puts.given in
-              let behind = subst (Behind rem old.layout gave.at new.input gave.middle new.tally) (over going) gave.behind in
-              let taken = join old.layout old.input gave.at behind.at old.tally gave.middle new.tally [] []
-              (subst (HasTaken rem old.layout old.input gave.at old.tally gave.middle) (no_rows going none) gave.taken) behind.taken in (
+              let behind = subst (Behind rem old.layout gave.at new.input gave.middle new.counts) (over going) gave.behind in
+              let taken = join old.layout old.input gave.at behind.at old.counts gave.middle new.counts [] []
+              (subst (HasTaken rem old.layout old.input gave.at old.counts gave.middle) (no_rows going none) gave.taken) behind.taken in (
                 λ all others still.
                     let first = (filled going).first all others still in
                     let rest = first.2 (λ fault is. absurd (cc (is, over going))) in
                     let nothing = subst (λ end. MatchOption end (HasLeft rem new.layout new.input first.0 rest.left) (λ e. (first.0 ≡ []) × (rest.left ≡ 0))) (over going) rest.still in
                     (first.1 ∙ ap₂ (λ xs ys. xs ++ ys) (no_rows going none) nothing.0, omega (arith, rest.count, nothing.1)),
                 record {
-                  ended = subst (λ end. MatchOption end (HasEnded rem old.layout old.input old.tally new.tally) (λ e. (e ≡ Ok tt) × (new ≡ old))) (sym going)
+                  ended = subst (λ end. MatchOption end (HasEnded rem old.layout old.input old.counts new.counts) (λ e. (e ≡ Ok tt) × (new ≡ old))) (sym going)
                       (record { at = behind.at; taken = taken; over = behind.over });
                   few = few;
                 },
@@ -162,16 +162,16 @@ module _ {R : Type 0} (rem : R → Option (List ℕ)) (old new : Source R) where
               let same = (ended going).1 in (
                 λ all others still.
                     let nothing = subst (λ end. MatchOption end (HasLeft rem old.layout old.input all others) (λ e. (all ≡ []) × (others ≡ 0))) going still in
-                    (nothing.0, omega (arith, nothing.1, ap (λ (s : Source R). s.tally.bad) same)),
+                    (nothing.0, omega (arith, nothing.1, ap (λ (s : Source R). s.counts.bad) same)),
                 record {
-                  ended = subst (λ end. MatchOption end (HasEnded rem old.layout old.input old.tally new.tally) (λ e. (e ≡ Ok tt) × (new ≡ old))) (sym going) (refl, same);
+                  ended = subst (λ end. MatchOption end (HasEnded rem old.layout old.input old.counts new.counts) (λ e. (e ≡ Ok tt) × (new ≡ old))) (sym going) (refl, same);
                   few = few;
                 },
               )
           by (Some (Err fault)) going = absurd (cc (done, (failed fault going).0))
 
       -- one that puts some there gives the next ones
-      pub fill_next : new.layout ≡ old.layout → new.tally.taken ≤ 1000000 → length full.rows ≢ 0
+      pub fill_next : new.layout ≡ old.layout → new.counts.taken ≤ max_records → length full.rows ≢ 0
           → (length (entries_of full.rows) ≡ length full.rows) × GivesNext rem old new (entries_of full.rows)
       fill_next same few some = (length-map full.rows (λ row. row.1), by old.end refl)
         where
@@ -184,7 +184,7 @@ module _ {R : Type 0} (rem : R → Option (List ℕ)) (old new : Source R) where
 
 module _ {R : Type 0} (rem : R → Option (List ℕ)) (old new : Source R) (rows : List Entries) (has : HasPassed rem old new rows) where
   -- some rows that a source has given are the next ones
-  pub passed_next : new.tally.taken ≤ 1000000 → 0 < length rows → GivesNext rem old new rows
+  pub passed_next : new.counts.taken ≤ max_records → 0 < length rows → GivesNext rem old new rows
   passed_next few some = by old.end refl
     where
       by : (end : End) → old.end ≡ end → GivesNext rem old new rows
@@ -196,7 +196,7 @@ module _ {R : Type 0} (rem : R → Option (List ℕ)) (old new : Source R) (rows
         few = few;
       }
       by (Some e) is =
-          let none = subst (λ end. MatchOption end (HasGivenRows rem old.layout old.input new.input old.tally new.tally rows new.end) (λ e. (rows ≡ []) × (new ≡ old))) is has.gone.given in
+          let none = subst (λ end. MatchOption end (HasGivenRows rem old.layout old.input new.input old.counts new.counts rows new.end) (λ e. (rows ≡ []) × (new ≡ old))) is has.gone.given in
           absurd (omega (arith, some, ap length none.0))
 
   -- a source that goes on had not ended before
@@ -204,11 +204,11 @@ module _ {R : Type 0} (rem : R → Option (List ℕ)) (old new : Source R) (rows
   passed_open going = (is_open rem old new rows has.gone going).0
 
 -- a source that had not ended may stop where memory is refused
-pub refused_now : {R : Type 0} (rem : R → Option (List ℕ)) (source : Source R) → HasTaken rem source.layout source.input source.input source.tally source.tally []
+pub refused_now : {R : Type 0} (rem : R → Option (List ℕ)) (source : Source R) → HasTaken rem source.layout source.input source.input source.counts source.counts []
     → source.end ≡ None → FailsNow rem source NoMemory
 refused_now rem source none going =
-    subst (λ end. MatchOption end ((t : Tally) × HasStopped rem source.layout source.input source.tally t NoMemory) (λ e. e ≡ Err NoMemory)) (sym going)
-    (source.tally, record { at = source.input; taken = none; later = λ is. absurd (cc is); too_long = λ is. absurd (cc is) })
+    subst (λ end. MatchOption end ((t : Counts) × HasStopped rem source.layout source.input source.counts t NoMemory) (λ e. e ≡ Err NoMemory)) (sym going)
+    (source.counts, record { at = source.input; taken = none; later = λ is. absurd (cc is); too_long = λ is. absurd (cc is) })
 
 -- the entries of rows and of others behind them
 pub entries_append : (xs ys : List FedRow) → entries_of (xs ++ ys) ≡ entries_of xs ++ entries_of ys

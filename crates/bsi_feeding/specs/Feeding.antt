@@ -4,7 +4,7 @@ use Rattle.csv.specs.declared.reader.Reader.{Reader}
 use mathlib.Core.List.{IsPrefix}
 use Rattle.bsi_rings.specs.Rings.{with_sent_rows, Sending}
 use Rattle.bsi_table.specs.Rows.{Entries}
-use Rattle.bsi_text.specs.Sources.{max_records, GivesFirst, GivesFirstRows, HasEnded, HasGivenRows, HasStopped, HasTaken, IsOver, Source, StillHas, Tally}
+use Rattle.bsi_text.specs.Sources.{max_records, Counts, GivesFirst, GivesFirstRows, HasEnded, HasGivenRows, HasStopped, HasTaken, IsOver, Source, StillHas}
 use Rattle.bsi_text.specs.declared.rows.SourceFault.{SourceFault}
 use Rattle.bsi_feeding.specs.declared.feeding.FeedEnd.{FeedEnd}
 use Rattle.bsi_feeding.specs.declared.feeding.Progress.{Progress}
@@ -18,14 +18,14 @@ BeginsWith rem source rows = (all : List Entries) → (others : ℕ) → StillHa
 abbrev pub HasOnly : {R : Type 0} → (R → Option (List ℕ)) → Source R → List Entries → ℕ → Type 0
 HasOnly rem source rows bad =
     (all : List Entries) → (others : ℕ) → StillHas rem source all others
-    → (rows ≡ all) × (bad ≡ source.tally.bad + others)
+    → (rows ≡ all) × (bad ≡ source.counts.bad + others)
 
 -- a source was read from where it stood to its end: these are the rows, so many records are bad, and no more than
 -- 1,000,000 were taken
 pub record IsReadOut {R : Type 0} (rem : R → Option (List ℕ)) (source : Source R) (rows : List Entries) (bad : ℕ) : Type 0 where
   pub at : Reader R
-  pub end : Tally
-  pub taken : HasTaken rem source.layout source.input at source.tally end rows
+  pub end : Counts
+  pub taken : HasTaken rem source.layout source.input at source.counts end rows
   pub over : IsOver rem at
   pub few : end.taken ≤ max_records
   pub bad_is : bad ≡ end.bad
@@ -33,9 +33,9 @@ pub record IsReadOut {R : Type 0} (rem : R → Option (List ℕ)) (source : Sour
 -- a source gave these rows, the good ones of the records that were taken of it, at most 1,000,000 with those before
 pub record GivesRows {R : Type 0} (rem : R → Option (List ℕ)) (source : Source R) (rows : List Entries) : Type 0 where
   pub at : Reader R
-  pub end : Tally
-  pub taken : HasTaken rem source.layout source.input at source.tally end rows
-  pub few : source.tally.taken ≤ max_records → end.taken ≤ max_records
+  pub end : Counts
+  pub taken : HasTaken rem source.layout source.input at source.counts end rows
+  pub few : source.counts.taken ≤ max_records → end.taken ≤ max_records
 
 -- the rows that a feeder read of a source and sent after others, and how it says that it ended. A closing carries them
 pub record HasFed {R : Type 0} (rem : R → Option (List ℕ)) (source : Source R) (before : List Entries) (end : FeedEnd)
@@ -54,9 +54,9 @@ pub record StopsAfter {R : Type 0} (rem : R → Option (List ℕ)) (source : Sou
   pub rows : List Entries
   pub number : length rows ≡ many
   pub at : Reader R
-  pub middle : Tally
-  pub end : Tally
-  pub taken : HasTaken rem source.layout source.input at source.tally middle rows
+  pub middle : Counts
+  pub end : Counts
+  pub taken : HasTaken rem source.layout source.input at source.counts middle rows
   pub stopped : HasStopped rem source.layout at middle end fault
 
 -- the fault is that by which a source had ended, or at which it stopped once it had given so many rows
@@ -67,24 +67,24 @@ HasFailed rem source many fault = MatchOption source.end (StopsAfter rem source 
 pub record GivesNext {R : Type 0} (rem : R → Option (List ℕ)) (old new : Source R) (rows : List Entries) : Type 0 where
   pub before : old.end ≡ None
   pub layout : new.layout ≡ old.layout
-  pub given : HasGivenRows rem old.layout old.input new.input old.tally new.tally rows new.end
+  pub given : HasGivenRows rem old.layout old.input new.input old.counts new.counts rows new.end
   pub first : GivesFirstRows rem old new rows
-  pub few : new.tally.taken ≤ max_records
+  pub few : new.counts.taken ≤ max_records
 
 -- the fault is that by which a source had ended, or at which it stopped without giving a row more
 abbrev pub FailsNow : {R : Type 0} → (R → Option (List ℕ)) → Source R → SourceFault → Type 0
 FailsNow rem source fault =
-    MatchOption source.end ((end : Tally) × HasStopped rem source.layout source.input source.tally end fault)
+    MatchOption source.end ((end : Counts) × HasStopped rem source.layout source.input source.counts end fault)
     (λ end. end ≡ Err fault)
 
 -- a source gave no row more: all records that were left are bad, or it had ended with all that there is
 pub record GivesNone {R : Type 0} (rem : R → Option (List ℕ)) (old new : Source R) : Type 0 where
-  pub ended : MatchOption old.end (HasEnded rem old.layout old.input old.tally new.tally)
+  pub ended : MatchOption old.end (HasEnded rem old.layout old.input old.counts new.counts)
       (λ end. (end ≡ Ok tt) × (new ≡ old))
-  pub few : new.tally.taken ≤ max_records
+  pub few : new.counts.taken ≤ max_records
 
--- what was gathered in a batch: the next rows of a source. Where there is none, none is left, or the source answered the
--- fault
+-- what was gathered in a batch: the next rows of a source. Where there is none, none is left, or the source answered
+-- the fault
 pub record IsGathered {R : Type 0} (rem : R → Option (List ℕ)) (old new : Source R) (rows : List Entries)
     (fault : Option SourceFault) : Type 0 where
   pub some : 0 < length rows → GivesNext rem old new rows
@@ -94,8 +94,8 @@ pub record IsGathered {R : Type 0} (rem : R → Option (List ℕ)) (old new : So
 abbrev pub max_batch_rows : ℕ
 max_batch_rows = 1024
 
--- what came of feeding the next rows: the first rows that the source still had were sent, at most a batch, or nothing was,
--- and there is then none left where it is over
+-- what came of feeding the next rows: the first rows that the source still had were sent, at most a batch, or nothing
+-- was, and there is then none left where it is over
 abbrev pub IsProgress : {R : Type 0} → (R → Option (List ℕ)) → Sending → Source R → Progress → Sending → Source R → Type 0
 IsProgress rem feeder source (progress.Sent many) after rest =
     (rows : List Entries) × (length rows ≡ many) × (many ≤ max_batch_rows) × (after ≡ with_sent_rows feeder rows)

@@ -5,7 +5,7 @@
 
 ghost use Rattle.std.specs.Prelude.{◌≡◌, ◌<◌, ◌≤◌, ◌*◌, [], IfOk, IfSome, None, OnErr, length, true, false};
 ghost use Rattle.bsi_rings.specs.Rings.{with_sent, with_sent_rows, Closes};
-ghost use Rattle.bsi_table.specs.RowBlocks.{entries_of, max_block_rows, no_block_rows, AreAlike};
+ghost use Rattle.bsi_table.specs.RowBlocks.{entries_of, max_block_rows, no_block_rows, HaveSameLimits};
 ghost use Rattle.bsi_feeding.specs.Feeding.{HasFailed, HasFed, IsProgress, IsGathered};
 
 use crate::{Gate, Pause};
@@ -15,8 +15,8 @@ use bsi_text::{RowSource, SourceFault};
 use std::io::Read;
 use std::sync::Wait;
 
-/// The most rows of a batch. It agrees with `RING_CAPACITY` of `bsi_files`: a file's ring has places for one batch.
-const MAX_BATCH_ROWS: u64 = 1_024;
+/// The most rows of a batch. A ring with places for so many rows has them for each batch of a feeder.
+pub const MAX_BATCH_ROWS: u64 = 1_024;
 
 /// The most batches of a feeder, of which a row that goes alone is one. No text has so many records.
 const MAX_BATCHES: u64 = u64::MAX / MAX_BATCH_ROWS;
@@ -51,6 +51,13 @@ pub(crate) enum Progress {
     Over,
     /// The source answered a fault, or memory for the rows of a batch was refused.
     Failed(SourceFault),
+}
+
+/// A batch of no rows, and the block that fills it.
+#[derive(Drop)]
+struct EmptyBatch {
+    block: Block,
+    batch: Index,
 }
 
 /// Sends the rows of a source in their order, trying each until it is accepted, and closes the feeder. Where the ring
@@ -102,17 +109,19 @@ fn feed_next<R: Wait, I: Read + Drop, G: Gate>(
     ensures { IsProgress I.remaining feeder.old source.old result feeder.new source.new }
 {
     match batch_for(feeder, source) {
-        Some((block, batch)) => feed_batch(rt, feeder, source, block, batch, gate, point),
+        Some(EmptyBatch { block, batch }) => {
+            feed_batch(rt, feeder, source, block, batch, gate, point)
+        }
         None => feed_one(rt, feeder, source, gate, point),
     }
 }
 
-/// Makes a block and a batch for the next rows of the source. It returns none if the ring has fewer places than a block,
-/// if the rows are of another schema than the feeder's, of which each is to be tested, or if memory is refused.
-fn batch_for<I: Read + Drop>(feeder: &Feeder, source: &RowSource<I>) -> Option<(Block, Index)>
-    ensures block { IfSome result (λ made. made.0 ≡ no_block_rows source.now.layout.schema 1) }
-    ensures batch { IfSome result (λ made. (made.1.rows ≡ []) × (made.1.feeders ≡ 1)) }
-    ensures alike { IfSome result (λ made. AreAlike made.0.schema made.1.schema) }
+/// Makes a batch for the next rows of the source, and its block. It returns none if the ring has fewer places than a
+/// block, if the rows are of another schema than the feeder's, of which each is to be tested, or if memory is refused.
+fn batch_for<I: Read + Drop>(feeder: &Feeder, source: &RowSource<I>) -> Option<EmptyBatch>
+    ensures block { IfSome result (λ made. made.block ≡ no_block_rows source.now.layout.schema 1) }
+    ensures batch { IfSome result (λ made. (made.batch.rows ≡ []) × (made.batch.feeders ≡ 1)) }
+    ensures alike { IfSome result (λ made. HaveSameLimits made.block.schema made.batch.schema) }
     ensures place { IfSome result (λ made. max_block_rows ≤ feeder.now.capacity) }
 {
     if (feeder.capacity() as usize) < MAX_BLOCK_ROWS {
@@ -124,7 +133,7 @@ fn batch_for<I: Read + Drop>(feeder: &Feeder, source: &RowSource<I>) -> Option<(
         return None;
     }
     batch.reserve(MAX_BATCH_ROWS).ok()?;
-    Some((block, batch))
+    Some(EmptyBatch { block, batch })
 }
 
 /// Gathers the next rows of the source in a batch, and sends it. Where memory for its rows is refused they are not
@@ -140,7 +149,7 @@ fn feed_batch<R: Wait, I: Read + Drop, G: Gate>(
 ) -> Progress
     requires block { block ≡ no_block_rows source.old.layout.schema 1 }
     requires batch { (batch.rows ≡ []) × (batch.feeders ≡ 1) }
-    requires alike { AreAlike block.schema batch.schema }
+    requires alike { HaveSameLimits block.schema batch.schema }
     requires place { max_block_rows ≤ feeder.old.capacity }
     ensures { IsProgress I.remaining feeder.old source.old result feeder.new source.new }
 {
@@ -169,7 +178,7 @@ fn gather<I: Read + Drop>(
 ) -> Result<Option<SourceFault>, NoMemory>
     requires block { block.old ≡ no_block_rows source.old.layout.schema 1 }
     requires batch { (batch.old.rows ≡ []) × (batch.old.feeders ≡ 1) }
-    requires alike { AreAlike block.old.schema batch.old.schema }
+    requires alike { HaveSameLimits block.old.schema batch.old.schema }
     requires some { 0 < blocks }
     ensures few { length batch.new.rows ≤ max_block_rows * blocks }
     ensures given { IfOk result
@@ -286,7 +295,7 @@ fn finish<R: Wait, I: Read + Drop, G: Gate>(
 ) -> FeedEnd
     ensures closing { IfSome result.closing (Closes feeder) }
     ensures accepted { result.accepted ≡ accepted }
-    ensures bad { result.bad ≡ source.tally.bad }
+    ensures bad { result.bad ≡ source.counts.bad }
     ensures stopped { result.stopped ≡ stopped }
     ensures fault { result.fault ≡ fault }
 {

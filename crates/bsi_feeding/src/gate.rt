@@ -5,13 +5,13 @@ use std::sync::Wait;
 /// What a feeder calls while it reads a file, so that a test can decide which thread goes on, and when. The calls have
 /// no clauses, because what is proved of a feeder holds whatever its gate does.
 pub trait Gate {
-    /// Holds feeder `who` up for as long as it likes. The feeder calls it for each row, in their order, before its first
-    /// try of the row or of the batch that has it: `point` good rows of its source come before this one. It calls it
-    /// once more before it is closed, when `point` rows were accepted in all.
+    /// Holds feeder `who` up for as long as it likes. The feeder calls it for each row, in their order, before its
+    /// first try of the row or of the batch that has it: `point` good rows of its source come before this one. It calls
+    /// it once more before it is closed, when `point` rows were accepted in all.
     fn pass<R: Wait>(&self, rt: &R, who: u32, point: u64);
 
-    /// Returns whether feeder `who` is to try again. The feeder calls it after each try that found no place in the ring,
-    /// with the `point` of the row, or of the batch's first row.
+    /// Returns whether feeder `who` is to try again. The feeder calls it after each try that found no place in the
+    /// ring, with the `point` of the row, or of the batch's first row.
     fn again<R: Wait>(&self, rt: &R, who: u32, point: u64) -> bool;
 }
 

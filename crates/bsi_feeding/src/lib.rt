@@ -5,6 +5,6 @@ mod feeding;
 mod gate;
 mod pause;
 
-pub use feeding::{FeedEnd, feed};
+pub use feeding::{FeedEnd, MAX_BATCH_ROWS, feed};
 pub use gate::{Gate, Go, Stopping};
 pub use pause::Pause;

@@ -1,7 +1,7 @@
 //! How a thread waits that has nothing to do: it yields at first, and then it sleeps for short times.
 //!
-//! A ring fills in about the time of one sleep, so a loader yields for as long before it sleeps: one that sleeps after a
-//! few yields finds its rings full, and the feeders asleep. A feeder whose ring is full has longer to wait and sleeps
+//! A ring fills in about the time of one sleep, so a loader yields for as long before it sleeps: one that sleeps after
+//! a few yields finds its rings full, and the feeders asleep. A feeder whose ring is full has longer to wait and sleeps
 //! sooner, since feeders that go on yielding take the processor from the loader again and again. A sleep is
 //! `AtomicU64::park_timeout`, which needs `Wait` alone, where `thread::sleep` needs a clock.
 

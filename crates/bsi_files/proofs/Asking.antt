@@ -1,5 +1,5 @@
 -- Where the answers to the records of a text stand: the records that were read, and the lines that were written.
-use Rattle.std.proofs.Common.{◌≡◌, ℕ, ◌+◌, List, [], ◌∷◌, ◌++◌, length, min, take, Option, Some, None, IfSome, MatchOption, refl, ap, sym, ◌∙◌, subst, arith, ◌≤◌, true, inl, inr}
+use Rattle.std.proofs.Common.{◌≡◌, ℕ, ◌+◌, List, [], ◌∷◌, ◌++◌, length, min, take, Option, Some, IfSome, refl, ap, sym, ◌∙◌, subst, arith, ◌≤◌, true, inl, inr}
 use Rattle.std.specs.Prelude.{◌≢◌, IsSome}
 use Rattle.std.specs.Io.KnownBytes.{Appends}
 use Rattle.std.specs.List.{concat}
@@ -9,16 +9,15 @@ use Rattle.std.proofs.lemmas.List.Folds.{concat-append}
 use Rattle.csv.proofs.WriteFacts.{appends-more, appends-none}
 use Rattle.csv.specs.Machine.{next_record}
 use Rattle.csv.specs.Reading.{Reached, default_config, reader_state, source_of, strip_bom}
-use Rattle.csv.specs.declared.parser.Config.{Config}
 use Rattle.csv.specs.declared.parser.State.{State}
 use Rattle.csv.specs.declared.parser.State.TheVariants as st
 use Rattle.csv.specs.declared.reader.Reader.{Reader}
 use Rattle.bsi_records.specs.Numbers.{Field}
-use Rattle.bsi_text.specs.Sources.{HasNext, HasRead, IsOver}
+use Rattle.bsi_text.specs.Sources.{max_records, HasNext, HasRead, IsOver}
 use Rattle.bsi_text.specs.declared.rows.SourceFault.{SourceFault}
 use Rattle.bsi_text.specs.declared.rows.SourceFault.TheVariants as source
-use Rattle.bsi_text.specs.Texts.{AreAllRecords, AreFirstRecords}
 use Rattle.bsi_text.specs.Waiting.{IsCut}
+use Rattle.bsi_text.proofs.FirstRecords.{first_all, first_more, first_none, HasReadFirst}
 use Rattle.bsi_table.specs.Columns.{Declared}
 use Rattle.bsi_table.specs.Rows.{FedRow}
 use Rattle.bsi_files.specs.AskLines.{IsAskLine}
@@ -28,7 +27,7 @@ use Rattle.bsi_files.specs.declared.faults.FilesFault.TheVariants.{Read, TooLong
 use Rattle.bsi_files.specs.declared.faults.Which.TheVariants.{AsksFile}
 use Rattle.bsi_files.specs.Matching.{AreMatched}
 use Rattle.bsi_files.specs.Runs.{fed_lines, AreLines}
-use Rattle.bsi_files.specs.Writing.{AreOut, Leaves, WritesAll, WritesPart}
+use Rattle.bsi_files.specs.Writing.{AreOut, Leaves, WritesAll, WritesFirst}
 
 -- ---- lists that match
 
@@ -80,52 +79,6 @@ cut_front before after first more cut =
 concat_more : (lines : List (List ℕ)) (line : List ℕ) → concat (lines ++ line ∷ []) ≡ concat lines ++ line
 concat_more lines line = concat-append lines (line ∷ []) ∙ ap (λ last. concat lines ++ last) (append-nil line)
 
--- ---- records
-
-reach_on : (cfg : Config) (s s1 s2 : State) (xs ys zs : List ℕ) (first last : List (List Field))
-    → Reached cfg s xs first s1 ys → Reached cfg s1 ys last s2 zs → Reached cfg s xs (first ++ last) s2 zs
-unfolding Reached
-reach_on cfg s s1 s2 xs ys zs [] last h g = rw (h.0, h.1) g
-reach_on cfg s s1 s2 xs ys zs (r ∷ first) last h g = (h.0, h.1, h.2, reach_on cfg h.0.1 s1 s2 h.0.2 ys zs first last h.3 g)
-
--- the first records of a text were read, with what is left of it
-pub record HasBegun (bytes : List ℕ) (state : State) (source : Option (List ℕ)) (records : List (List Field)) : Type 0 where
-  pub rest : List ℕ
-  pub left : source ≡ Some rest
-  pub first : AreFirstRecords bytes records state rest
-
-pub begun_none : (bytes : List ℕ) (state : State) (source : Option (List ℕ)) → state ≡ st.StartRecord → source ≡ Some (strip_bom bytes)
-    → HasBegun bytes state source []
-unfolding Reached
-begun_none bytes state source start left = record { rest = strip_bom bytes; left = left; first = (sym start, refl) }
-
-module _ {R : Type 0} (rem : R → Option (List ℕ)) (bytes : List ℕ) (a b : Reader R) (records : List (List Field)) where
-  pub begun_join : (more : List (List Field)) → HasBegun bytes (reader_state a) (source_of rem a) records → HasRead rem a b more
-      → HasBegun bytes (reader_state b) (source_of rem b) (records ++ more)
-  begun_join more has read =
-      by (source_of rem b) refl (subst (λ o. IfSome o (λ xs. MatchOption (source_of rem b) ⊥ (λ ys. Reached default_config (reader_state a) xs more (reader_state b) ys))) has.left read)
-    where
-      by : (o : Option (List ℕ)) → source_of rem b ≡ o → MatchOption o ⊥ (λ ys. Reached default_config (reader_state a) has.rest more (reader_state b) ys)
-          → HasBegun bytes (reader_state b) (source_of rem b) (records ++ more)
-      by None is reached = absurd reached
-      by (Some ys) is reached = record {
-        rest = ys;
-        left = is;
-        first = reach_on default_config st.StartRecord (reader_state a) (reader_state b) (strip_bom bytes) has.rest ys records more has.first reached;
-      }
-
-  pub begun_more : (fields : List Field) → HasBegun bytes (reader_state a) (source_of rem a) records → HasRead rem a b (fields ∷ [])
-      → HasBegun bytes (reader_state b) (source_of rem b) (records ++ fields ∷ [])
-  begun_more fields has read = begun_join (fields ∷ []) has read
-
-  pub begun_all : HasBegun bytes (reader_state a) (source_of rem a) records → IsOver rem a → AreAllRecords bytes records
-  begun_all has over = (
-    reader_state a,
-    has.rest,
-    has.first,
-    subst (λ o. IfSome o (λ rest. next_record default_config (reader_state a) [] [] rest ≡ None)) has.left over,
-  )
-
 -- ---- records and their lines
 
 -- so many records were read, and the lines of all of them were written
@@ -133,7 +86,7 @@ pub record StandsAt (Is : List Field → List ℕ → Type 0) (bytes : List ℕ)
     (before now : Option (List ℕ)) : Type 0 where
   pub records : List (List Field)
   pub lines : List (List ℕ)
-  pub begun : HasBegun bytes state source records
+  pub begun : HasReadFirst bytes state source records
   pub many : length records ≡ taken
   pub each : AreMatched Is records lines
   pub written : Appends before now (concat lines)
@@ -143,20 +96,20 @@ pub stands_none : (Is : List Field → List ℕ → Type 0) (bytes : List ℕ) (
 stands_none Is bytes state source taken now start none left = record {
   records = [];
   lines = [];
-  begun = begun_none bytes state source start left;
+  begun = first_none bytes state source start left;
   many = sym none;
   each = tt;
   written = appends-none now;
 }
 
-module _ (Is : List Field → List ℕ → Type 0) {R : Type 0} (rem : R → Option (List ℕ)) (bytes : List ℕ) (a b : Reader R) (taken : ℕ) (few : taken ≤ 1000000)
+module _ (Is : List Field → List ℕ → Type 0) {R : Type 0} (rem : R → Option (List ℕ)) (bytes : List ℕ) (a b : Reader R) (taken : ℕ) (few : taken ≤ max_records)
     (before now : Option (List ℕ)) (stands : StandsAt Is bytes (reader_state a) (source_of rem a) taken before now) where
   pub stands_more : (fields : List Field) (line : List ℕ) (next : ℕ) (after : Option (List ℕ)) → HasRead rem a b (fields ∷ []) → next ≡ taken + 1
       → Is fields line → Appends now after line → StandsAt Is bytes (reader_state b) (source_of rem b) next before after
   stands_more fields line next after read one is written = record {
     records = stands.records ++ fields ∷ [];
     lines = stands.lines ++ line ∷ [];
-    begun = begun_more rem bytes a b stands.records fields stands.begun read;
+    begun = first_more rem bytes a b stands.records fields stands.begun read;
     many = omega (arith, length-append stands.records (fields ∷ []), stands.many, one);
     each = matched_push Is stands.records stands.lines fields line stands.each is;
     written = subst (Appends before after) (sym (concat_more stands.lines line)) (appends-more before now after (concat stands.lines) line stands.written written);
@@ -166,14 +119,14 @@ module _ (Is : List Field → List ℕ → Type 0) {R : Type 0} (rem : R → Opt
   stands_all over = record {
     records = stands.records;
     lines = stands.lines;
-    all = begun_all rem bytes a a stands.records stands.begun over;
+    all = first_all rem bytes a a stands.records stands.begun over;
     few = omega (arith, few, stands.many);
     are = stands.each;
     written = stands.written;
   }
 
   -- all lines so far stand before a fault; too many records were taken where one more is left
-  pub stands_part : (fault : FilesFault) → (fault ≡ TooLong AsksFile → (taken ≡ 1000000) × HasNext rem a) → WritesPart (AreMatched Is) bytes fault before now
+  pub stands_part : (fault : FilesFault) → (fault ≡ TooLong AsksFile → (taken ≡ max_records) × HasNext rem a) → WritesFirst (AreMatched Is) bytes fault before now
   stands_part fault long = record {
     records = stands.records;
     lines = stands.lines;
@@ -191,11 +144,11 @@ module _ (Is : List Field → List ℕ → Type 0) {R : Type 0} (rem : R → Opt
 
   -- where the writer fails, a first part of one more line went out
   pub stands_cut : (fields : List Field) (line : List ℕ) (next : ℕ) (after : Option (List ℕ)) (fault : FilesFault) → HasRead rem a b (fields ∷ [])
-      → next ≡ taken + 1 → next ≤ 1000000 → Is fields line → IsCut now after line → fault ≡ Write → WritesPart (AreMatched Is) bytes fault before after
+      → next ≡ taken + 1 → next ≤ max_records → Is fields line → IsCut now after line → fault ≡ Write → WritesFirst (AreMatched Is) bytes fault before after
   stands_cut fields line next after fault read one most is cut failed =
-      let begun = begun_more rem bytes a b stands.records fields stands.begun read in
+      let begun = first_more rem bytes a b stands.records fields stands.begun read in
       let whole = cut_whole before now after (concat stands.lines) line stands.written cut in
-      subst (λ f. WritesPart (AreMatched Is) bytes f before after) (sym failed) (record {
+      subst (λ f. WritesFirst (AreMatched Is) bytes f before after) (sym failed) (record {
         records = stands.records ++ fields ∷ [];
         lines = stands.lines ++ line ∷ [];
         state = reader_state b;
@@ -223,7 +176,7 @@ module _ (schema : Declared) (rows : List FedRow) (counts : List (ℕ × ℕ)) (
   }
 
   pub headed_part : (fault : FilesFault) → Appends before middle (concat (fed_lines 0 counts))
-      → WritesPart (AreMatched (IsAskLine schema rows)) bytes fault middle after → WritesPart (AreLines schema rows counts) bytes fault before after
+      → WritesFirst (AreMatched (IsAskLine schema rows)) bytes fault middle after → WritesFirst (AreLines schema rows counts) bytes fault before after
   headed_part fault written part = record {
     records = part.records;
     lines = fed_lines 0 counts ++ part.lines;
@@ -238,7 +191,7 @@ module _ (schema : Declared) (rows : List FedRow) (counts : List (ℕ × ℕ)) (
 
 -- some lines of the feeders alone
 pub head_part : (schema : Declared) (rows : List FedRow) (counts : List (ℕ × ℕ)) (bytes : List ℕ) (before after : Option (List ℕ)) (fault : FilesFault)
-    → fault ≢ TooLong AsksFile → AreOut fault (fed_lines 0 counts) before after → WritesPart (AreLines schema rows counts) bytes fault before after
+    → fault ≢ TooLong AsksFile → AreOut fault (fed_lines 0 counts) before after → WritesFirst (AreLines schema rows counts) bytes fault before after
 unfolding Reached
 head_part schema rows counts bytes before after fault short out = record {
   records = [];
@@ -273,7 +226,7 @@ all_follows follows asked before after all = record {
 }
 
 pub part_follows : {Is Too : List (List Field) → List (List ℕ) → Type 0} → ((records : List (List Field)) → (lines : List (List ℕ)) → Is records lines → Too records lines)
-    → (asked : List ℕ) (fault : FilesFault) (before after : Option (List ℕ)) → WritesPart Is asked fault before after → WritesPart Too asked fault before after
+    → (asked : List ℕ) (fault : FilesFault) (before after : Option (List ℕ)) → WritesFirst Is asked fault before after → WritesFirst Too asked fault before after
 part_follows follows asked fault before after part = record {
   records = part.records;
   lines = part.lines;
@@ -297,7 +250,7 @@ leaves_follows follows asked fault before after same = same
 
 -- while lines are written
 pub leaves_late : (Is : List (List Field) → List (List ℕ) → Type 0) (asked : List ℕ) (fault : FilesFault) (before after : Option (List ℕ)) → is_late fault ≡ true
-    → WritesPart Is asked fault before after → Leaves Is asked fault before after
+    → WritesFirst Is asked fault before after → Leaves Is asked fault before after
 leaves_late Is asked (Read AsksFile) before after late part = part
 leaves_late Is asked (TooLong AsksFile) before after late part = part
 leaves_late Is asked Write before after late part = part

@@ -18,15 +18,15 @@ use Rattle.bsi_table.specs.declared.query.Answer.TheVariants.{Count as count_ans
 use Rattle.bsi_table.specs.declared.query.Query.{Query}
 use Rattle.bsi_text.specs.Pasts.{FindMemory}
 use Rattle.bsi_text.specs.RowFiles.{bad_count, good_rows}
+use Rattle.bsi_text.specs.SchemaTexts.{none_declared, table_declared, Declares, IsSchemaText}
 use Rattle.bsi_text.specs.Texts.{AreAllRecords}
 use Rattle.bsi_text.proofs.Determined.{same_selected, same_total}
 use Rattle.bsi_text.proofs.Named.{table_named}
 use Rattle.bsi_files.specs.AskLines.{IsAskLine, IsShownAnswer, IsShownReply}
 use Rattle.bsi_files.specs.Matching.{AreMatched}
-use Rattle.bsi_files.specs.Mixes.{in_order}
-use Rattle.bsi_files.specs.RowFiles.{counts_of, rows_of, IsRowFile, RowFile}
+use Rattle.bsi_files.specs.Mixes.{file_by_file}
+use Rattle.bsi_files.specs.RowFiles.{file_counts, file_rows, IsRowFile, RowFile}
 use Rattle.bsi_files.specs.Runs.{fed_lines, AreLines, IsRun}
-use Rattle.bsi_files.specs.SchemaFiles.{none_declared, table_declared, Declares, IsSchemaFile}
 use Rattle.bsi_files.proofs.Places.{one_sorting}
 
 abbrev OneReading : Type 0
@@ -37,9 +37,9 @@ OneReading = (bytes : List ℕ) → (a b : List (List Field)) → AreAllRecords 
 some_same : {X : Type 0} (x y : X) → Some x ≡ Some y → x ≡ y
 some_same x y is = cc (is)
 
-one_table : OneReading → (bytes : List ℕ) (before a b : Declared × ℕ) → Declares bytes before a → Declares bytes before b → a ≡ b
-one_table reading bytes before a b one two =
-    some_same a b (sym one.declared ∙ (ap (λ records. table_declared before records) (reading bytes one.records two.records one.all two.all) ∙ two.declared))
+one_table : OneReading → (bytes : List ℕ) (a b : Declared × ℕ) → Declares bytes a → Declares bytes b → a ≡ b
+one_table reading bytes a b one two =
+    some_same a b (sym one.declared_is ∙ (ap (λ records. table_declared none_declared records) (reading bytes one.records two.records one.all two.all) ∙ two.declared_is))
 
 named_all : (before after : Declared × ℕ) (records : List (List Field)) → AreNamed before.0.columns → table_declared before records ≡ Some after → AreNamed after.0.columns
 named_all before after [] named is = subst (λ (d : Declared × ℕ). AreNamed d.0.columns) (some_same before after is) named
@@ -51,8 +51,8 @@ named_all before after (fields ∷ records) named is =
     by None now none go = absurd (cc (none))
     by (Some next) now rest go = go next now rest
 
-names_of : (bytes : List ℕ) (schema : Declared) (limit : ℕ) → IsSchemaFile bytes schema limit → AreNamed schema.columns
-names_of bytes schema limit is = named_all none_declared (schema, limit) is.declares.records (All-nil _) is.declares.declared
+names_of : (bytes : List ℕ) (schema : Declared) (limit : ℕ) → IsSchemaText bytes schema limit → AreNamed schema.columns
+names_of bytes schema limit is = named_all none_declared (schema, limit) is.declares.records (All-nil _) is.declares.declared_is
 
 -- ---- the row files
 
@@ -163,12 +163,12 @@ module _ (schema : Declared) (rows : List FedRow) where
 pub one_run : OneReading → (declared : List ℕ) (texts : List (List ℕ)) (records : List (List Field)) (a b : List (List ℕ)) → IsRun declared texts records a
     → IsRun declared texts records b → FindMemory a → FindMemory b → a ≡ b
 one_run reading declared texts records a b one two found_a found_b =
-    let table = one_table reading declared none_declared (one.schema, one.limit) (two.schema, two.limit) one.schema_is.declares two.schema_is.declares in
+    let table = one_table reading declared (one.schema, one.limit) (two.schema, two.limit) one.schema_is.declares two.schema_is.declares in
     let schema : one.schema ≡ two.schema = ap (λ (d : Declared × ℕ). d.0) table in
     let files : one.files ≡ two.files =
     one_files reading one.schema texts one.files two.files one.files_are (subst (λ d. AreMatched (IsRowFile d) texts two.files) (sym schema) two.files_are) in
-    let lines : AreLines one.schema (in_order 0 (map rows_of one.files)) (map counts_of one.files) records b =
-    subst (λ fs. AreLines one.schema (in_order 0 (map rows_of fs)) (map counts_of fs) records b) (sym files)
-    (subst (λ d. AreLines d (in_order 0 (map rows_of two.files)) (map counts_of two.files) records b) (sym schema) two.lines_are) in
-    all_lines one.schema (in_order 0 (map rows_of one.files)) (names_of declared one.schema one.limit one.schema_is) (map counts_of one.files) records a b one.lines_are lines
+    let lines : AreLines one.schema (file_by_file 0 (map file_rows one.files)) (map file_counts one.files) records b =
+    subst (λ fs. AreLines one.schema (file_by_file 0 (map file_rows fs)) (map file_counts fs) records b) (sym files)
+    (subst (λ d. AreLines d (file_by_file 0 (map file_rows two.files)) (map file_counts two.files) records b) (sym schema) two.lines_are) in
+    all_lines one.schema (file_by_file 0 (map file_rows one.files)) (names_of declared one.schema one.limit one.schema_is) (map file_counts one.files) records a b one.lines_are lines
     found_a found_b

@@ -7,24 +7,26 @@ use Rattle.std.proofs.lemmas.List.Elements.{All-cons, All-head, All-nil, All-tai
 use Rattle.csv.specs.Machine.{Read, next_record}
 use Rattle.csv.specs.Reading.{Reached, default_config, reader_state, source_of, strip_bom}
 use Rattle.csv.specs.declared.parser.State.TheVariants as st
+use Rattle.bsi_origins.specs.Origins.{max_feeders}
 use Rattle.bsi_rings.specs.Rings.{Sending}
 use Rattle.bsi_system.specs.Running.{Taking}
 use Rattle.bsi_records.specs.Numbers.{Field}
 use Rattle.bsi_table.specs.Columns.{Declared}
 use Rattle.bsi_table.specs.Rows.{Entries}
 use Rattle.bsi_text.specs.RowFiles.{good_rows}
-use Rattle.bsi_text.specs.Sources.{End, Source, StandsAfter, Tally}
+use Rattle.bsi_text.specs.SchemaTexts.{IsSchemaText}
+use Rattle.bsi_text.specs.Sources.{max_records, Counts, End, Source, StandsAfter}
 use Rattle.bsi_text.specs.declared.rows.SourceFault.{SourceFault}
 use Rattle.bsi_text.specs.declared.rows.SourceFault.TheVariants as source
+use Rattle.bsi_text.proofs.FirstRecords.{first_join, HasReadFirst}
 use Rattle.bsi_files.specs.Begun.{Begins}
 use Rattle.bsi_files.specs.Ends.{tasks, AreEndsOf}
-use Rattle.bsi_files.specs.Faults.{is_early, is_late, is_of_schema}
+use Rattle.bsi_files.specs.Faults.{is_early, is_late}
 use Rattle.bsi_feeding.specs.Feeding.{HasFailed, StopsAfter}
 use Rattle.bsi_files.specs.Headers.{HasHeader, IsBehindHeaders, IsHeadersFault}
 use Rattle.bsi_files.specs.Matching.{AreMatched}
 use Rattle.bsi_files.specs.RowFiles.{RowFile}
-use Rattle.bsi_files.specs.RunFaults.{AreGood, AreGoodBefore, AreOverLimit, AreRowFiles, FailsAt, HasFirstRows, HasGivenRows, IsFaultOf, IsKeptFault, IsLoadFault, IsRunFault, IsTooLong, WasReadOut}
-use Rattle.bsi_files.specs.SchemaFiles.{none_declared, IsSchemaFault, IsSchemaFile}
+use Rattle.bsi_files.specs.RunFaults.{AreGood, AreGoodBefore, AreOverLimit, AreRowFiles, FailsAt, GaveRows, HasFirstRows, IsFaultOf, IsKeptFault, IsLoadFault, IsRunFault, IsTooLongFile, WasReadOut}
 use Rattle.bsi_files.specs.Takings.{AreGoing, AreTold}
 use Rattle.bsi_files.specs.Writing.{Leaves}
 use Rattle.bsi_files.specs.declared.faults.FilesFault.{FilesFault}
@@ -32,7 +34,6 @@ use Rattle.bsi_files.specs.declared.faults.FilesFault.TheVariants as run
 use Rattle.bsi_files.specs.declared.faults.Which.TheVariants as which
 use Rattle.bsi_feeding.specs.declared.feeding.FeedEnd.{FeedEnd}
 use Rattle.bsi_files.specs.declared.loading.Fed.{Fed}
-use Rattle.bsi_files.proofs.Asking.{begun_join, HasBegun}
 use Rattle.bsi_files.proofs.Files.{matched_long, row_file, IsWholeLaw}
 use Rattle.bsi_files.proofs.Heading.{all_known, headers_of, map_long}
 use Rattle.bsi_files.proofs.Takings.{get_lt}
@@ -116,7 +117,7 @@ module _ {R : Type 0} (rem : R → Option (List ℕ)) where
       (let le = kept_many takings (suc k) feeders sources ends feds are.1 told.1 in omega arith)
 
   pub few_kept : (takings : List Taking) (feeders : List Sending) (sources : List (Source R)) (ends : List FeedEnd) (feds : List Fed)
-      → AreEndsOf rem (tasks feeders sources) ends → AreTold takings 0 ends feds → length sources ≤ 64 → length feds ≤ 64
+      → AreEndsOf rem (tasks feeders sources) ends → AreTold takings 0 ends feds → length sources ≤ max_feeders → length feds ≤ max_feeders
   few_kept takings feeders sources ends feds are told few = (let le = kept_many takings 0 feeders sources ends feds are told in omega arith)
 
   pub kept_load : (stops : Bool) (limit : ℕ) (takings : List Taking) (feeders : List Sending) (sources : List (Source R)) (ends : List FeedEnd) (feds : List Fed)
@@ -161,27 +162,27 @@ module _ {R : Type 0} (rem : R → Option (List ℕ)) where
 
   -- the header was read
   begun_header : (source : Source R) (text : List ℕ) → StandsAfter rem source.layout source.input (strip_bom text)
-      → HasBegun text (reader_state source.input) (source_of rem source.input) (source.layout.header ∷ [])
+      → HasReadFirst text (reader_state source.input) (source_of rem source.input) (source.layout.header ∷ [])
   unfolding Reached
   begun_header source text stands = by (next_record default_config st.StartRecord [] [] (strip_bom text)) refl stands
     where
       by : (o : Option Read) → next_record default_config st.StartRecord [] [] (strip_bom text) ≡ o
           → MatchOption o ⊥ (λ read. (source.layout.header ≡ read.0) × (reader_state source.input ≡ read.1) × (source_of rem source.input ≡ Some read.2))
-          → HasBegun text (reader_state source.input) (source_of rem source.input) (source.layout.header ∷ [])
+          → HasReadFirst text (reader_state source.input) (source_of rem source.input) (source.layout.header ∷ [])
       by None e h = absurd h
       by (Some read) e h = record { rest = read.2; left = h.2; first = (read, e, h.0, (sym h.1, refl)) }
 
   too_long : (schema : Declared) (reader : R) (s : Source R) (text : List ℕ) (many : ℕ) → Begins rem schema reader s → rem reader ≡ Some text
-      → StopsAfter rem s many source.TooLong → IsTooLong text
+      → StopsAfter rem s many source.TooLong → IsTooLongFile text
   too_long schema reader s text many begins known stops =
       let stands : StandsAfter rem s.layout s.input (strip_bom text) =
       subst (λ o. IfSome o (λ bytes. StandsAfter rem s.layout s.input (strip_bom bytes))) known begins.behind in
       let first = stops.taken.records in
       let last = stops.stopped.taken.records in
       let at = stops.stopped.at in
-      let begun = begun_join rem text s.input stops.at (s.layout.header ∷ []) first (begun_header s text stands) stops.taken.read in
-      let all = begun_join rem text stops.at at (s.layout.header ∷ first) last begun stops.stopped.taken.read in
-      let none : s.tally.taken ≡ 0 = ap (λ (t : Tally). t.taken) begins.tally_is in
+      let begun = first_join rem text s.input stops.at (s.layout.header ∷ []) first (begun_header s text stands) stops.taken.read in
+      let all = first_join rem text stops.at at (s.layout.header ∷ first) last begun stops.stopped.taken.read in
+      let none : s.counts.taken ≡ 0 = ap (λ (t : Counts). t.taken) begins.counts_are in
       let long = stops.stopped.too_long refl in
       record {
         header = s.layout.header;
@@ -201,7 +202,7 @@ module _ {R : Type 0} (rem : R → Option (List ℕ)) where
   headers_known schema readers sources texts begun is =
       all_known (HasHeader schema) texts (subst (λ os. All (λ other. IfSome other (HasHeader schema)) os) is (headers_of rem schema readers sources begun))
 
-  good : (declared : List ℕ) (schema : Declared) (limit : ℕ) (readers : List R) (sources : List (Source R)) (texts : List (List ℕ)) → IsSchemaFile declared schema limit
+  good : (declared : List ℕ) (schema : Declared) (limit : ℕ) (readers : List R) (sources : List (Source R)) (texts : List (List ℕ)) → IsSchemaText declared schema limit
       → AreMatched (Begins rem schema) readers sources → map rem readers ≡ map (λ text. Some text) texts → AreGood declared texts
   good declared schema limit readers sources texts schema_is begun is = record {
     schema = schema;
@@ -212,14 +213,14 @@ module _ {R : Type 0} (rem : R → Option (List ℕ)) where
 
   -- some first records behind the header
   first_rows : (schema : Declared) (reader : R) (s : Source R) (text : List ℕ) (rows : List Entries) → Begins rem schema reader s → rem reader ≡ Some text
-      → HasGivenRows rem s rows → HasFirstRows schema text rows
+      → GaveRows rem s rows → HasFirstRows schema text rows
   first_rows schema reader s text rows begins known given =
       let gives = given begins.end_is in
       let stands : StandsAfter rem s.layout s.input (strip_bom text) =
       subst (λ o. IfSome o (λ bytes. StandsAfter rem s.layout s.input (strip_bom bytes))) known begins.behind in
-      let all = begun_join rem text s.input gives.at (s.layout.header ∷ []) gives.taken.records (begun_header s text stands) gives.taken.read in
-      let none : s.tally.taken ≡ 0 = ap (λ (t : Tally). t.taken) begins.tally_is in
-      let few : gives.end.taken ≤ 1000000 = gives.few (omega (arith, none)) in
+      let all = first_join rem text s.input gives.at (s.layout.header ∷ []) gives.taken.records (begun_header s text stands) gives.taken.read in
+      let none : s.counts.taken ≡ 0 = ap (λ (t : Counts). t.taken) begins.counts_are in
+      let few : gives.end.taken ≤ max_records = gives.few (omega (arith, none)) in
       record {
         header = s.layout.header;
         records = gives.taken.records;
@@ -232,7 +233,7 @@ module _ {R : Type 0} (rem : R → Option (List ℕ)) where
       }
 
   all_first : (schema : Declared) (readers : List R) (sources : List (Source R)) (texts : List (List ℕ)) (lists : List (List Entries))
-      → AreMatched (Begins rem schema) readers sources → map rem readers ≡ map (λ text. Some text) texts → AreMatched (HasGivenRows rem) sources lists
+      → AreMatched (Begins rem schema) readers sources → map rem readers ≡ map (λ text. Some text) texts → AreMatched (GaveRows rem) sources lists
       → AreMatched (HasFirstRows schema) texts lists
   all_first schema [] [] [] [] begun is given = tt
   all_first schema [] [] [] (rows ∷ lists) begun is given = absurd given
@@ -267,7 +268,7 @@ module _ {R : Type 0} (rem : R → Option (List ℕ)) where
       ∙ (map_long rem readers ∙ matched_long (Begins rem schema) readers sources begun))
 
   module _ (law : IsWholeLaw rem) (stops : Bool) (declared : List ℕ) (schema : Declared) (limit : ℕ) (readers : List R) (sources : List (Source R))
-      (texts : List (List ℕ)) (schema_is : IsSchemaFile declared schema limit) (begun : AreMatched (Begins rem schema) readers sources)
+      (texts : List (List ℕ)) (schema_is : IsSchemaText declared schema limit) (begun : AreMatched (Begins rem schema) readers sources)
       (is : map rem readers ≡ map (λ text. Some text) texts) where
     all_good : AreGood declared texts
     all_good = good declared schema limit readers sources texts schema_is begun is
@@ -284,7 +285,7 @@ module _ {R : Type 0} (rem : R → Option (List ℕ)) where
           limit = limit;
           schema_is = schema_is;
           headers = headers_known schema readers sources texts begun is;
-          here = subst (λ o. MatchOption o ⊥ IsTooLong) (sym of.at) (too_long schema of.reader met.0.source of.text met.0.many of.begins of.known after);
+          here = subst (λ o. MatchOption o ⊥ IsTooLongFile) (sym of.at) (too_long schema of.reader met.0.source of.text met.0.many of.begins of.known after);
           before = λ never. row_files law schema readers sources texts n begun is (met.1 never);
         }
     run_fault_of (run.Source n fault) met =
@@ -314,17 +315,8 @@ module _ {R : Type 0} (rem : R → Option (List ℕ)) where
     run_fault_of run.Readers met = absurd met
     run_fault_of fault met = all_good
 
--- at the schema file, and at the headers
-pub schema_fault_of : (stops : Bool) (declared : List ℕ) (texts : List (List ℕ)) (fault : FilesFault) → is_of_schema fault ≡ true
-    → IsSchemaFault declared none_declared fault → IsFaultOf stops declared texts fault
-schema_fault_of stops declared texts (run.BadSchema n) first met = met
-schema_fault_of stops declared texts run.NoColumns first met = met
-schema_fault_of stops declared texts (run.TooLong which.SchemaFile) first met = met
-schema_fault_of stops declared texts (run.Read which.SchemaFile) first met = tt
-schema_fault_of stops declared texts run.NoMemory first met = tt
-schema_fault_of stops declared texts fault first met = absurd (cc (first))
-
-good_before : (declared : List ℕ) (texts : List (List ℕ)) (schema : Declared) (limit : ℕ) (n : ℕ) → IsSchemaFile declared schema limit
+-- at the headers
+good_before : (declared : List ℕ) (texts : List (List ℕ)) (schema : Declared) (limit : ℕ) (n : ℕ) → IsSchemaText declared schema limit
     → IsBehindHeaders schema (map (λ text. Some text) texts) n → AreGoodBefore declared texts n
 good_before declared texts schema limit n is met = record {
   schema = schema;
@@ -335,7 +327,7 @@ good_before declared texts schema limit n is met = record {
       (subst (λ os. All (λ other. IfSome other (HasHeader schema)) os) (take-map (λ text. Some text) n texts) met.headers);
 }
 
-pub headers_fault_of : (stops : Bool) (declared : List ℕ) (texts : List (List ℕ)) (schema : Declared) (limit : ℕ) → IsSchemaFile declared schema limit
+pub headers_fault_of : (stops : Bool) (declared : List ℕ) (texts : List (List ℕ)) (schema : Declared) (limit : ℕ) → IsSchemaText declared schema limit
     → (fault : FilesFault) → IsHeadersFault schema (map (λ text. Some text) texts) fault → IsFaultOf stops declared texts fault
 headers_fault_of stops declared texts schema limit is (run.Source n source.BadHeader) met = record { schema = schema; limit = limit; schema_is = is; first = met }
 headers_fault_of stops declared texts schema limit is (run.Source n source.TooLong) met = absurd met

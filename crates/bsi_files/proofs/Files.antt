@@ -7,21 +7,22 @@ use Rattle.bsi_files.specs.declared.faults.FilesFault.TheVariants.{TooManyFiles}
 use Rattle.csv.specs.Reading.{strip_bom}
 use Rattle.csv.specs.declared.reader.Reader.{Reader}
 use Rattle.bsi_load.specs.Runs.{rows_from}
+use Rattle.bsi_origins.specs.Origins.{max_feeders}
 use Rattle.bsi_records.specs.Numbers.{Field}
 use Rattle.bsi_table.specs.Columns.{Declared}
 use Rattle.bsi_table.specs.Rows.{Entries, FedRow}
 use Rattle.bsi_text.specs.RowFiles.{bad_count, good_rows}
-use Rattle.bsi_text.specs.Sources.{HasTaken, IsOver, IsWholeFile, Layout, Source, StandsAfter, Tally}
+use Rattle.bsi_text.specs.SchemaTexts.{IsSchemaText}
+use Rattle.bsi_text.specs.Sources.{Counts, HasTaken, IsOver, IsWholeFile, Layout, Source, StandsAfter}
 use Rattle.bsi_files.specs.Begun.{Begins}
 use Rattle.bsi_feeding.specs.Feeding.{IsReadOut}
 use Rattle.bsi_files.specs.Feds.{fed_counts, AreFedFrom, HasRun, IsAllFed, IsFedFrom}
 use Rattle.bsi_files.proofs.Mixing.{same_length}
-use Rattle.bsi_files.proofs.Showing.{in_order_too, lines_too}
+use Rattle.bsi_files.proofs.Showing.{file_by_file_too, lines_too}
 use Rattle.bsi_files.specs.Matching.{AreMatched}
-use Rattle.bsi_files.specs.Mixes.{in_order, IsMixOf}
-use Rattle.bsi_files.specs.RowFiles.{counts_of, file_at, rows_of, IsRowFile, RowFile}
+use Rattle.bsi_files.specs.Mixes.{file_by_file, IsMixOf}
+use Rattle.bsi_files.specs.RowFiles.{file_at, file_counts, file_rows, IsRowFile, RowFile}
 use Rattle.bsi_files.specs.Runs.{AreLines, IsRun}
-use Rattle.bsi_files.specs.SchemaFiles.{IsSchemaFile}
 use Rattle.bsi_files.specs.declared.loading.Fed.{Fed}
 
 -- the files that give the rows of a list
@@ -41,7 +42,7 @@ mixed_at rows n (fed ∷ feds) (suc k) none =
 
 module _ {R : Type 0} (rem : R → Option (List ℕ)) where
   counts_from : (stops : Bool) (rows : List FedRow) (n : ℕ) (sources : List (Source R)) (feds : List Fed) → AreFedFrom rem stops rows n sources feds
-      → map counts_of (files_from rows n feds) ≡ map fed_counts feds
+      → map file_counts (files_from rows n feds) ≡ map fed_counts feds
   unfolding files_from
   counts_from stops rows n [] [] fed = refl
   counts_from stops rows n [] (x ∷ feds) fed = absurd fed
@@ -58,7 +59,7 @@ module _ {R : Type 0} (rem : R → Option (List ℕ)) where
 
   -- what is read from after the header to the end of a text is the whole of it
   abbrev pub IsWholeLaw : Type 0
-  IsWholeLaw = (layout : Layout) → (a b : Reader R) → (text : List ℕ) → (start end : Tally) → (rows : List Entries)
+  IsWholeLaw = (layout : Layout) → (a b : Reader R) → (text : List ℕ) → (start end : Counts) → (rows : List Entries)
       → StandsAfter rem layout a text → HasTaken rem layout a b start end rows → IsOver rem b → IsWholeFile layout text start end rows
 
   -- the file of a source that was read out
@@ -67,10 +68,10 @@ module _ {R : Type 0} (rem : R → Option (List ℕ)) where
   row_file law schema reader source text rows bad begins is out =
       let stands : StandsAfter rem source.layout source.input (strip_bom text) =
       subst (λ o. IfSome o (λ bytes. StandsAfter rem source.layout source.input (strip_bom bytes))) is begins.behind in
-      let whole = law source.layout source.input out.at (strip_bom text) source.tally out.end rows stands out.taken out.over in
+      let whole = law source.layout source.input out.at (strip_bom text) source.counts out.end rows stands out.taken out.over in
       let schema_is : source.layout.schema ≡ schema = begins.schema_is in
-      let none : source.tally.taken ≡ 0 = ap (λ (t : Tally). t.taken) begins.tally_is in
-      let no_bad : source.tally.bad ≡ 0 = ap (λ (t : Tally). t.bad) begins.tally_is in
+      let none : source.counts.taken ≡ 0 = ap (λ (t : Counts). t.taken) begins.counts_are in
+      let no_bad : source.counts.bad ≡ 0 = ap (λ (t : Counts). t.bad) begins.counts_are in
       record {
         header = source.layout.header;
         records = whole.records;
@@ -105,7 +106,7 @@ module _ {R : Type 0} (rem : R → Option (List ℕ)) where
 
   run_of_files : IsWholeLaw → (schema : Declared) (limit : ℕ) (readers : List R) (sources : List (Source R)) (declared : List ℕ) (texts : List (List ℕ))
       (records : List (List Field)) (lines : List (List ℕ))
-      → IsSchemaFile declared schema limit → AreMatched (Begins rem schema) readers sources → map rem readers ≡ map (λ text. Some text) texts
+      → IsSchemaText declared schema limit → AreMatched (Begins rem schema) readers sources → map rem readers ≡ map (λ text. Some text) texts
       → HasRun rem false schema limit sources records lines → IsRun declared texts records lines
   run_of_files law schema limit readers sources declared texts records lines schema_is begin is has =
       let feds = has.feds in
@@ -114,15 +115,15 @@ module _ {R : Type 0} (rem : R → Option (List ℕ)) where
       let mix : IsMixOf files has.rows = λ f.
       (let at : 0 + f ≡ f = omega arith in
       sym (ap (λ m. rows_from m has.rows) at) ∙ mixed_at has.rows 0 feds f (λ g le. has.fed.none g (omega arith))) in
-      let alike = in_order_too files has.rows mix in
+      let alike = file_by_file_too files has.rows mix in
       record {
         schema = schema;
         limit = limit;
         files = files;
         schema_is = schema_is;
         files_are = all_files law schema readers sources texts has.rows 0 feds begin is has.fed.each;
-        within = subst (λ k. k ≤ limit) (same_length has.rows (in_order 0 (map rows_of files)) alike) has.fed.within;
-        lines_are = lines_too schema has.rows (in_order 0 (map rows_of files)) (map counts_of files) records lines alike
+        within = subst (λ k. k ≤ limit) (same_length has.rows (file_by_file 0 (map file_rows files)) alike) has.fed.within;
+        lines_are = lines_too schema has.rows (file_by_file 0 (map file_rows files)) (map file_counts files) records lines alike
             (subst (λ counts. AreLines schema has.rows counts records lines) (sym (counts_from false has.rows 0 sources feds has.fed.each)) has.are);
       }
 
@@ -134,7 +135,7 @@ module _ {R : Type 0} (rem : R → Option (List ℕ)) where
   run_lines stops schema limit sources told feds fed records lines are = record { rows = told; feds = feds; fed = fed; are = are }
 
   pub run_of_bytes : IsWholeLaw → (stops : Bool) → stops ≡ false → (schema : Declared) (limit : ℕ) (readers : List R) (sources : List (Source R))
-      (declared : List ℕ) (texts : List (List ℕ)) → IsSchemaFile declared schema limit → AreMatched (Begins rem schema) readers sources
+      (declared : List ℕ) (texts : List (List ℕ)) → IsSchemaText declared schema limit → AreMatched (Begins rem schema) readers sources
       → map rem readers ≡ map (λ text. Some text) texts
       → (records : List (List Field)) (lines : List (List ℕ)) → HasRun rem stops schema limit sources records lines → IsRun declared texts records lines
   run_of_bytes law stops never schema limit readers sources declared texts schema_is begin is records lines has =
@@ -142,7 +143,7 @@ module _ {R : Type 0} (rem : R → Option (List ℕ)) where
       (subst (λ b. HasRun rem b schema limit sources records lines) never has)
 
   pub few_fed : (stops : Bool) (limit : ℕ) (rows : List FedRow) (sources : List (Source R)) (feds : List Fed) → IsAllFed rem stops limit rows sources feds
-      → length sources ≤ 64 → length feds ≤ 64
+      → length sources ≤ max_feeders → length feds ≤ max_feeders
   few_fed stops limit rows sources feds fed few = (let many = as_many stops rows 0 sources feds fed.each in omega arith)
 
 -- ---- faults and lengths

@@ -1,15 +1,15 @@
 -- Headers that were read, and the first file that has none.
-use Rattle.std.proofs.Common.{◌≡◌, ◌≢◌, ◌<◌, ◌≤◌, ◌+◌, arith, length-append, ℕ, suc, true, List, [], ◌∷◌, ◌++◌, length, map, take, All, Option, Some, None, IfSome, MatchOption, refl, ap, sym, ◌∙◌, subst}
+use Rattle.std.proofs.Common.{◌≡◌, ◌<◌, ◌≤◌, ◌+◌, arith, length-append, ℕ, suc, true, List, [], ◌∷◌, ◌++◌, length, map, take, All, Option, Some, None, IfSome, MatchOption, refl, ap, sym, ◌∙◌, subst}
 use Rattle.std.proofs.lemmas.List.Elements.{All-cons, All-head, All-nil, All-tail}
 use Rattle.std.proofs.Math.Seq.{take-append_seam}
 use Rattle.csv.specs.Machine.{Read, next_record}
 use Rattle.csv.specs.Reading.{default_config, reader_state, source_of, strip_bom}
 use Rattle.csv.specs.declared.parser.State.TheVariants as st
+use Rattle.bsi_origins.specs.Origins.{max_feeders}
 use Rattle.bsi_records.specs.Numbers.{Field}
 use Rattle.bsi_table.specs.Columns.{Declared}
 use Rattle.bsi_text.specs.RowFiles.{is_header}
 use Rattle.bsi_text.specs.Sources.{Source, StandsAfter}
-use Rattle.bsi_text.specs.declared.rows.SourceFault.{SourceFault}
 use Rattle.bsi_text.specs.declared.rows.SourceFault.TheVariants as source
 use Rattle.bsi_files.specs.Begun.{Begins}
 use Rattle.bsi_files.specs.Headers.{HasHeader, IsBehindHeaders, IsFirstWithout, IsHeaderFault, IsHeadersFault, LacksHeader}
@@ -18,14 +18,6 @@ use Rattle.bsi_files.specs.declared.faults.FilesFault.{FilesFault}
 use Rattle.bsi_files.specs.declared.faults.FilesFault.TheVariants as files
 use Rattle.bsi_files.proofs.Files.{matched_long}
 use Rattle.bsi_files.proofs.Joining.{HasMatched}
-
--- what the header of one file was refused for
-pub header_fault : (schema : Declared) (file : Option (List ℕ)) (number : ℕ) (fault : SourceFault)
-    → (fault ≡ source.BadHeader → IfSome file (LacksHeader schema)) → fault ≢ source.TooLong → IsHeaderFault schema file number (files.Source number fault)
-header_fault schema file number source.BadHeader bad short = (refl, bad refl)
-header_fault schema file number source.Read bad short = refl
-header_fault schema file number source.NoMemory bad short = refl
-header_fault schema file number source.TooLong bad short = absurd (short refl)
 
 map_append : {X Y : Type 0} (f : X → Y) (xs ys : List X) → map f (xs ++ ys) ≡ map f xs ++ map f ys
 map_append f [] ys = refl
@@ -85,7 +77,7 @@ module _ {R : Type 0} (rem : R → Option (List ℕ)) (schema : Declared) where
       }
 
   numbered : (all left rest : List R) (reader : R) (sources : List (Source R)) (place number : ℕ) → HasMatched (Begins rem schema) all left sources
-      → left ≡ reader ∷ rest → place ≡ length sources → (place < 64 → number ≡ place) → length all ≤ 64 → number ≡ length sources
+      → left ≡ reader ∷ rest → place ≡ length sources → (place < max_feeders → number ≡ place) → length all ≤ max_feeders → number ≡ length sources
   numbered all left rest reader sources place number has is at named few =
       let done : length has.done ≡ length sources = matched_long (Begins rem schema) has.done sources has.matched in
       let parts : length all ≡ length has.done + length left = ap (λ (rs : List R). length rs) has.parts ∙ length-append has.done left in
@@ -93,7 +85,7 @@ module _ {R : Type 0} (rem : R → Option (List ℕ)) (schema : Declared) where
       named (omega arith) ∙ at
 
   pub headers_fault : (all left rest : List R) (reader : R) (sources : List (Source R)) (place number : ℕ) (fault : FilesFault) → HasMatched (Begins rem schema) all left sources
-      → left ≡ reader ∷ rest → place ≡ length sources → (place < 64 → number ≡ place) → length all ≤ 64 → IsHeaderFault schema (rem reader) number fault
+      → left ≡ reader ∷ rest → place ≡ length sources → (place < max_feeders → number ≡ place) → length all ≤ max_feeders → IsHeaderFault schema (rem reader) number fault
       → IsHeadersFault schema (map rem all) fault
   headers_fault all left rest reader sources place number (files.Source f source.BadHeader) has is at named few met =
       first_without all left rest reader sources f has is (met.0 ∙ numbered all left rest reader sources place number has is at named few) met.1

@@ -3,7 +3,7 @@ use Rattle.std.proofs.Common.{◌≡◌, ℕ, List, [], ◌∷◌, ◌++◌, Opt
 use Rattle.std.proofs.lemmas.List.{append-nil}
 use Rattle.bsi_rings.specs.Rings.{Sending}
 use Rattle.bsi_text.specs.Sources.{Source}
-use Rattle.bsi_files.specs.Ends.{tasks, AreEndsOf, IsEndOf, Task}
+use Rattle.bsi_files.specs.Ends.{tasks, AreEndsOf, IsFeedEnd, Task}
 use Rattle.bsi_files.specs.Matching.{AreMatched}
 use Rattle.bsi_feeding.specs.declared.feeding.FeedEnd.{FeedEnd}
 use Rattle.bsi_files.proofs.Asking.{matched_push}
@@ -43,7 +43,7 @@ module _ {A B : Type 0} {Is : A → B → Type 0} {all left : List A} {ys : List
 
 -- of threads and their ends, to the feeders, the sources and the ends
 pub ends_of : {R X : Type 0} (rem : R → Option (List ℕ)) (threads : List X) (ends : List FeedEnd) (f : X → Task R)
-    → AreMatched (λ thread end. IsEndOf rem (f thread).0 (f thread).1 end) threads ends → AreEndsOf rem (map f threads) ends
+    → AreMatched (λ thread end. IsFeedEnd rem (f thread).0 (f thread).1 end) threads ends → AreEndsOf rem (map f threads) ends
 ends_of rem [] [] f are = tt
 ends_of rem [] (end ∷ ends) f are = absurd are
 ends_of rem (thread ∷ threads) [] f are = absurd are

@@ -7,14 +7,14 @@ use Rattle.std.proofs.lemmas.List.Elements.{All-head, All-tail}
 use Rattle.std.proofs.lemmas.List.Sums.{sum_by-cons}
 use Rattle.bsi_load.specs.Runs.{rows_from}
 use Rattle.bsi_rings.specs.Rings.{Sending, Sent}
-use Rattle.bsi_system.specs.Running.{taking_at, AlwaysHolds, Loading, System, Taking}
+use Rattle.bsi_system.specs.Running.{taking_at, AlwaysHolds, Loading, SystemName, Taking}
 use Rattle.bsi_table.specs.Rows.{Entries, FedRow}
 use Rattle.bsi_text.specs.Sources.{Source}
-use Rattle.bsi_files.specs.Ends.{tasks, AreEndsOf, AreFeeders, IsEndOf}
+use Rattle.bsi_files.specs.Ends.{tasks, AreEndsOf, AreFeeders, IsFeedEnd}
 use Rattle.bsi_feeding.specs.Feeding.{HasFed}
 use Rattle.bsi_files.specs.Matching.{AreMatched}
-use Rattle.bsi_files.specs.Mixes.{in_order, AreAlike}
-use Rattle.bsi_files.specs.RunFaults.{AreOverLimit, HasGivenRows}
+use Rattle.bsi_files.specs.Mixes.{file_by_file, AreAlike}
+use Rattle.bsi_files.specs.RunFaults.{AreOverLimit, GaveRows}
 use Rattle.bsi_files.specs.Takings.{all_closed, AreTold, IsFullBefore, IsTold, KeepsTold}
 use Rattle.bsi_feeding.specs.declared.feeding.FeedEnd.{FeedEnd}
 use Rattle.bsi_files.specs.declared.loading.Fed.{Fed}
@@ -37,11 +37,11 @@ own_long : (n : ℕ) (rows : List Entries) → length (own n rows) ≡ length ro
 own_long n [] = refl
 own_long n (row ∷ rows) = ap suc (own_long n rows)
 
-in_order_long : (n : ℕ) (lists : Lists) → length (in_order n lists) ≡ sum_by length lists
-in_order_long n [] = refl
-in_order_long n (rows ∷ lists) =
-    length-append (own n rows) (in_order (suc n) lists)
-    ∙ (ap₂ (λ a b. a + b) (own_long n rows) (in_order_long (suc n) lists) ∙ sym (sum_by-cons length rows lists))
+file_by_file_long : (n : ℕ) (lists : Lists) → length (file_by_file n lists) ≡ sum_by length lists
+file_by_file_long n [] = refl
+file_by_file_long n (rows ∷ lists) =
+    length-append (own n rows) (file_by_file (suc n) lists)
+    ∙ (ap₂ (λ a b. a + b) (own_long n rows) (file_by_file_long (suc n) lists) ∙ sym (sum_by-cons length rows lists))
 
 no_more : (xs ys : Lists) → length xs ≡ length ys → ((k : ℕ) → k < length xs → length (at xs k) ≤ length (at ys k)) → sum_by length xs ≤ sum_by length ys
 unfolding at
@@ -87,10 +87,10 @@ many_taken : (s : Loading) → AlwaysHolds s → length s.published + length s.h
 unfolding at
 many_taken s always =
     let lists = taken_lists s.takings in
-    let alike : AreAlike (s.published ++ s.held) (in_order 0 lists) = λ f.
+    let alike : AreAlike (s.published ++ s.held) (file_by_file 0 lists) = λ f.
     (let here : 0 + f ≡ f = omega arith in
-    always.balanced f ∙ (sym (taken_at s.takings f) ∙ (sym (from_order 0 lists f) ∙ ap (λ k. rows_from k (in_order 0 lists)) here))) in
-    sym (length-append s.published s.held) ∙ (same_length (s.published ++ s.held) (in_order 0 lists) alike ∙ in_order_long 0 lists)
+    always.balanced f ∙ (sym (taken_at s.takings f) ∙ (sym (from_order 0 lists f) ∙ ap (λ k. rows_from k (file_by_file 0 lists)) here))) in
+    sym (length-append s.published s.held) ∙ (same_length (s.published ++ s.held) (file_by_file 0 lists) alike ∙ file_by_file_long 0 lists)
 
 -- of a beginning that is not the whole
 part_of : (xs ys : List Entries) → IsPrefix xs ys → length xs ≤ length ys
@@ -108,26 +108,26 @@ less_of xs ys begins other = by begins.0 begins.1
 module _ {R : Type 0} (rem : R → Option (List ℕ)) (takings : List Taking) where
   record AreGiven (n : ℕ) (sources : List (Source R)) (feds : List Fed) : Type 0 where
     rows : Lists
-    given : AreMatched (HasGivenRows rem) sources rows
-    told : (k : ℕ) → k < length rows → (taking_at takings (n + k)).told ≡ Some (at rows k)
+    given : AreMatched (GaveRows rem) sources rows
+    told : (k : ℕ) → k < length rows → (taking_at takings (n + k)).carried ≡ Some (at rows k)
     many : length rows ≡ length feds
 
-  one_given : (n : ℕ) (feeder : Sending) (source : Source R) (end : FeedEnd) (fed : Fed) → feeder.sent ≡ [] → IsEndOf rem feeder source end
+  one_given : (n : ℕ) (feeder : Sending) (source : Source R) (end : FeedEnd) (fed : Fed) → feeder.sent ≡ [] → IsFeedEnd rem feeder source end
       → IsTold takings n end fed → fed.closed ≡ true
-      → (rows : List Entries) × HasGivenRows rem source rows × ((taking_at takings n).told ≡ Some rows)
+      → (rows : List Entries) × GaveRows rem source rows × ((taking_at takings n).carried ≡ Some rows)
   one_given n feeder source end fed fresh is told closed = by end.closing refl is.fed.sent told.told
     where
       has : HasFed rem source feeder.sent end
       has = is.fed
 
       by : (o : Option Sent) → end.closing ≡ o → IfSome o (λ closing. closing.rows ≡ feeder.sent ++ has.rows)
-          → IfSome o (λ closing. (taking_at takings n).told ≡ Some closing.rows)
-          → (rows : List Entries) × HasGivenRows rem source rows × ((taking_at takings n).told ≡ Some rows)
+          → IfSome o (λ closing. (taking_at takings n).carried ≡ Some closing.rows)
+          → (rows : List Entries) × GaveRows rem source rows × ((taking_at takings n).carried ≡ Some rows)
       by None e sent t =
           let wrong : false ≡ true = sym (ap (λ o. is_some o) e) ∙ (sym told.kept.closed ∙ closed) in absurd (cc (wrong))
       by (Some closing) e sent t = (has.rows, has.given, t ∙ ap (λ xs. Some xs) (sent ∙ ap (λ xs. xs ++ has.rows) fresh))
 
-  all_given : (system : System) (n : ℕ) (feeders : List Sending) (sources : List (Source R)) (ends : List FeedEnd) (feds : List Fed)
+  all_given : (system : SystemName) (n : ℕ) (feeders : List Sending) (sources : List (Source R)) (ends : List FeedEnd) (feds : List Fed)
       → length sources ≡ length feeders → AreFeeders system n feeders → AreEndsOf rem (tasks feeders sources) ends → AreTold takings n ends feds
       → all_closed feds ≡ true → AreGiven n sources feds
   unfolding at
@@ -154,17 +154,17 @@ module _ {R : Type 0} (rem : R → Option (List ℕ)) (takings : List Taking) wh
       both true false is = absurd (cc (is))
       both false b is = absurd (cc (is))
 
-      at_each : (one : (rows : List Entries) × HasGivenRows rem source rows × ((taking_at takings n).told ≡ Some rows)) (rest : AreGiven (suc n) sources feds)
-          → (k : ℕ) → k < suc (length rest.rows) → (taking_at takings (n + k)).told ≡ Some (at (one.0 ∷ rest.rows) k)
-      at_each one rest zero lt = (let here : n + 0 ≡ n = add-zero n in ap (λ m. (taking_at takings m).told) here ∙ one.2)
+      at_each : (one : (rows : List Entries) × GaveRows rem source rows × ((taking_at takings n).carried ≡ Some rows)) (rest : AreGiven (suc n) sources feds)
+          → (k : ℕ) → k < suc (length rest.rows) → (taking_at takings (n + k)).carried ≡ Some (at (one.0 ∷ rest.rows) k)
+      at_each one rest zero lt = (let here : n + 0 ≡ n = add-zero n in ap (λ m. (taking_at takings m).carried) here ∙ one.2)
       at_each one rest (suc k) lt =
           let here : n + suc k ≡ suc n + k = omega arith in
-          ap (λ m. (taking_at takings m).told) here ∙ rest.told k (omega arith)
+          ap (λ m. (taking_at takings m).carried) here ∙ rest.told k (omega arith)
 
 -- ---- the limit is passed
 
 module _ {R : Type 0} (rem : R → Option (List ℕ)) where
-  pub over_limit : (before : List Taking) (limit : ℕ) (s : Loading) (system : System) (feeders : List Sending) (sources : List (Source R)) (ends : List FeedEnd)
+  pub over_limit : (before : List Taking) (limit : ℕ) (s : Loading) (system : SystemName) (feeders : List Sending) (sources : List (Source R)) (ends : List FeedEnd)
       (feds : List Fed) → IsFullBefore (length feds) s → s.system ≡ system → system.limit ≡ limit → length system.channels ≡ length feeders
       → length sources ≡ length feeders → AreFeeders system 0 feeders → AreEndsOf rem (tasks feeders sources) ends → AreTold before 0 ends feds
       → KeepsTold before s.takings → all_closed feds ≡ true → AreOverLimit rem limit sources
@@ -174,11 +174,11 @@ module _ {R : Type 0} (rem : R → Option (List ℕ)) where
       let f : ℕ = full.feeder in
       let taken = taken_lists s.takings in
       let wide : length s.takings ≡ length given.rows =
-      always.many ∙ (ap (λ (x : System). length x.channels) system_is ∙ (channels ∙ (sym many ∙ matched_long (HasGivenRows rem) sources given.rows given.given))) in
+      always.many ∙ (ap (λ (x : SystemName). length x.channels) system_is ∙ (channels ∙ (sym many ∙ matched_long (GaveRows rem) sources given.rows given.given))) in
       let as_wide : length taken ≡ length given.rows = taken_long s.takings ∙ wide in
-      let now : (k : ℕ) → k < length given.rows → (taking_at s.takings k).told ≡ Some (at given.rows k) =
+      let now : (k : ℕ) → k < length given.rows → (taking_at s.takings k).carried ≡ Some (at given.rows k) =
       λ k lt. (let here : 0 + k ≡ k = omega arith in
-      keeps k ∙ (ap (λ m. (taking_at before m).told) (sym here) ∙ given.told k lt)) in
+      keeps k ∙ (ap (λ m. (taking_at before m).carried) (sym here) ∙ given.told k lt)) in
       let begins : (k : ℕ) → k < length given.rows → IsPrefix (at taken k) (at given.rows k) =
       λ k lt. subst (λ xs. IsPrefix xs (at given.rows k)) (sym (taken_at s.takings k))
       (subst (λ o. IfSome o (λ sent. IsPrefix (taking_at s.takings k).taken sent)) (now k lt) (always.within k)) in
@@ -189,7 +189,7 @@ module _ {R : Type 0} (rem : R → Option (List ℕ)) where
       fewer taken given.rows as_wide (λ k lt. part_of (at taken k) (at given.rows k) (begins k (omega (arith, as_wide, lt)))) f (omega (arith, as_wide, here))
       (less_of (at taken f) (at given.rows f) (begins f here) other) in
       let all_taken : length s.published + length s.held ≡ sum_by length taken = many_taken s always in
-      let is_limit : s.system.limit ≡ limit = ap (λ (x : System). x.limit) system_is ∙ limit_is in
+      let is_limit : s.system.limit ≡ limit = ap (λ (x : SystemName). x.limit) system_is ∙ limit_is in
       record {
         rows = given.rows;
         given = given.given;

@@ -1,4 +1,5 @@
--- Two lists that have the same rows of each feeder: their rows, each with its feeder and its number, are the same in another order.
+-- Two lists that have the same rows of each feeder: their rows, each with its feeder and its number, are the same in
+-- another order.
 use Rattle.std.proofs.Common.{◌≡◌, ◌≢◌, ℕ, suc, Bool, true, false, cond, List, [], ◌∷◌, length, Some, None, refl, ap, ap₂, sym, ◌∙◌, subst, arith}
 use Rattle.std.specs.Prelude.{nat_eq, if◌then◌else◌}
 use Rattle.std.specs.List.{cons_option}
@@ -9,17 +10,17 @@ use Rattle.bsi_files.specs.Mixes.{AreAlike}
 use Rattle.bsi_files.proofs.Perms.{as_long, flipped, join, keep, stay, swap, Perm}
 
 -- how many rows of each feeder stood before
-abbrev pub Counts : Type 0
-Counts = ℕ → ℕ
+abbrev pub RowCounts : Type 0
+RowCounts = ℕ → ℕ
 
-abbrev pub bump : Counts → ℕ → Counts
+abbrev pub bump : RowCounts → ℕ → RowCounts
 bump c f = λ g. if nat_eq f g then suc (c g) else c g
 
 -- a row with its feeder and its number
 abbrev pub Tag : Type 0
 Tag = (ℕ × ℕ) × Entries
 
-abbrev pub tags : Counts → List FedRow → List Tag
+abbrev pub tags : RowCounts → List FedRow → List Tag
 tags c [] = []
 tags c (row ∷ rows) = ((row.0, c row.0), row.1) ∷ tags (bump c row.0) rows
 
@@ -37,10 +38,10 @@ ne_is f g e = λ same. absurd (cc (e, eq_self f, same))
 ne_flip : (f g : ℕ) → nat_eq f g ≡ false → nat_eq g f ≡ false
 ne_flip f g e = grind (arith, nat_tests)
 
-bump_other : (c : Counts) (f g : ℕ) → nat_eq f g ≡ false → bump c f g ≡ c g
+bump_other : (c : RowCounts) (f g : ℕ) → nat_eq f g ≡ false → bump c f g ≡ c g
 bump_other c f g e = ap (λ b. cond b (suc (c g)) (c g)) e
 
-bumps : (c : Counts) (f g : ℕ) → bump (bump c f) g ≡ bump (bump c g) f
+bumps : (c : RowCounts) (f g : ℕ) → bump (bump c f) g ≡ bump (bump c g) f
 bumps c f g i = λ h. at h i
   where
     both : (a b : Bool) (n : ℕ) → cond a (suc (cond b (suc n) n)) (cond b (suc n) n) ≡ cond b (suc (cond a (suc n) n)) (cond a (suc n) n)
@@ -61,13 +62,13 @@ pub rows_there : (f : ℕ) (row : FedRow) (rows : List FedRow) → nat_eq row.0 
 rows_there f row rows e = ap (λ b. cons_option (if b then Some row.1 else None) (rows_from f rows)) e
 
 -- the first row of a feeder can stand first
-pub record IsPulled (c : Counts) (b : List FedRow) (f : ℕ) (x : Entries) (rest : List Entries) : Type 0 where
+pub record IsPulled (c : RowCounts) (b : List FedRow) (f : ℕ) (x : Entries) (rest : List Entries) : Type 0 where
   pub others : List FedRow
   pub moved : Perm (tags c b) (((f, c f), x) ∷ tags (bump c f) others)
   pub own : rows_from f others ≡ rest
   pub same : (g : ℕ) → nat_eq f g ≡ false → rows_from g others ≡ rows_from g b
 
-module _ (c : Counts) (row : FedRow) (b : List FedRow) (f : ℕ) (x : Entries) (rest : List Entries) (is : rows_from f (row ∷ b) ≡ x ∷ rest) where
+module _ (c : RowCounts) (row : FedRow) (b : List FedRow) (f : ℕ) (x : Entries) (rest : List Entries) (is : rows_from f (row ∷ b) ≡ x ∷ rest) where
   pull_here : nat_eq row.0 f ≡ true → IsPulled c (row ∷ b) f x rest
   pull_here e =
       let here : row.1 ∷ rows_from f b ≡ x ∷ rest = sym (rows_here f row b e) ∙ is in
@@ -109,7 +110,7 @@ module _ (c : Counts) (row : FedRow) (b : List FedRow) (f : ℕ) (x : Entries) (
   pull_by true e pull = pull_here e
   pull_by false e pull = pull_there e pull
 
-pulled : (c : Counts) (b : List FedRow) (f : ℕ) (x : Entries) (rest : List Entries) → rows_from f b ≡ x ∷ rest → IsPulled c b f x rest
+pulled : (c : RowCounts) (b : List FedRow) (f : ℕ) (x : Entries) (rest : List Entries) → rows_from f b ≡ x ∷ rest → IsPulled c b f x rest
 pulled c [] f x rest is = absurd (cc (is))
 pulled c (row ∷ b) f x rest is = pull_by c row b f x rest is (nat_eq row.0 f) refl (λ there. pulled (bump c row.0) b f x rest there)
 
@@ -117,7 +118,7 @@ no_rows_left : (b : List FedRow) → ((f : ℕ) → [] ≡ rows_from f b) → b 
 no_rows_left [] none = refl
 no_rows_left (row ∷ b) none = (let no : [] ≡ row.1 ∷ rows_from row.0 b = none row.0 ∙ rows_here row.0 row b (eq_self row.0) in absurd (cc))
 
-module _ (row : FedRow) (a b : List FedRow) (alike : AreAlike (row ∷ a) b) (c : Counts) (one : IsPulled c b row.0 row.1 (rows_from row.0 a)) where
+module _ (row : FedRow) (a b : List FedRow) (alike : AreAlike (row ∷ a) b) (c : RowCounts) (one : IsPulled c b row.0 row.1 (rows_from row.0 a)) where
   alike_by : (g : ℕ) (t : Bool) → nat_eq row.0 g ≡ t → rows_from g a ≡ rows_from g one.others
   alike_by g true e = subst (λ h. rows_from h a ≡ rows_from h one.others) (eq_is row.0 g e) (sym one.own)
   alike_by g false e = sym (rows_there g row a e) ∙ (alike g ∙ sym (one.same g e))
@@ -131,18 +132,18 @@ module _ (row : FedRow) (a b : List FedRow) (alike : AreAlike (row ∷ a) b) (c 
       join (tags c (row ∷ a)) (tag ∷ tags (bump c row.0) one.others) (tags c b) (keep tag (tags (bump c row.0) a) (tags (bump c row.0) one.others) more)
       (flipped (tags c b) (tag ∷ tags (bump c row.0) one.others) one.moved)
 
-pub same_tags : (c : Counts) (a b : List FedRow) → AreAlike a b → Perm (tags c a) (tags c b)
+pub same_tags : (c : RowCounts) (a b : List FedRow) → AreAlike a b → Perm (tags c a) (tags c b)
 same_tags c [] b alike = subst (λ rows. Perm [] (tags c rows)) (sym (no_rows_left b alike)) (stay [])
 same_tags c (row ∷ a) b alike =
     let one = pulled c b row.0 row.1 (rows_from row.0 a) (sym (alike row.0) ∙ rows_here row.0 row a (eq_self row.0)) in
     joined row a b alike c one (same_tags (bump c row.0) a one.others (alike_behind row a b alike c one))
 
 -- they are equally long
-tags_long : (c : Counts) (rows : List FedRow) → length (tags c rows) ≡ length rows
+tags_long : (c : RowCounts) (rows : List FedRow) → length (tags c rows) ≡ length rows
 tags_long c [] = refl
 tags_long c (row ∷ rows) = ap suc (tags_long (bump c row.0) rows)
 
 pub same_length : (a b : List FedRow) → AreAlike a b → length a ≡ length b
 same_length a b alike =
-    let none : Counts = λ f. 0 in
+    let none : RowCounts = λ f. 0 in
     sym (tags_long none a) ∙ (as_long (tags none a) (tags none b) (same_tags none a b alike) ∙ tags_long none b)

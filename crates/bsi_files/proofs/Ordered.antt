@@ -6,7 +6,7 @@ use Rattle.std.proofs.lemmas.List.{append-nil}
 use Rattle.std.proofs.lemmas.List.Elements.{filter_map-append}
 use Rattle.bsi_load.specs.Runs.{rows_from}
 use Rattle.bsi_table.specs.Rows.{Entries, FedRow}
-use Rattle.bsi_files.specs.Mixes.{in_order}
+use Rattle.bsi_files.specs.Mixes.{file_by_file}
 use Rattle.bsi_files.proofs.Mixing.{rows_here, rows_there}
 
 abbrev own : ℕ → List Entries → List FedRow
@@ -33,22 +33,22 @@ apart_too : (f n : ℕ) → n < f → nat_eq n f ≡ false
 apart_too f n lt = grind (arith, nat_tests)
 
 -- no row of an earlier feeder
-before_none : (n : ℕ) (lists : List (List Entries)) (f : ℕ) → f < n → rows_from f (in_order n lists) ≡ []
+before_none : (n : ℕ) (lists : List (List Entries)) (f : ℕ) → f < n → rows_from f (file_by_file n lists) ≡ []
 before_none n [] f lt = refl
 before_none n (rows ∷ lists) f lt =
-    from_append f (own n rows) (in_order (suc n) lists)
+    from_append f (own n rows) (file_by_file (suc n) lists)
     ∙ ap₂ (λ xs ys. xs ++ ys) (own_other f n rows (apart f n lt)) (before_none (suc n) lists f (omega arith))
 
 -- the rows of each feeder are those of its list
-pub from_order : (n : ℕ) (lists : List (List Entries)) (k : ℕ) → rows_from (n + k) (in_order n lists) ≡ slice_index_or lists k []
+pub from_order : (n : ℕ) (lists : List (List Entries)) (k : ℕ) → rows_from (n + k) (file_by_file n lists) ≡ slice_index_or lists k []
 from_order n [] k = refl
 from_order n (rows ∷ lists) zero =
     let at : n + 0 ≡ n = add-zero n in
-    ap (λ f. rows_from f (in_order n (rows ∷ lists))) at
-    ∙ (from_append n (own n rows) (in_order (suc n) lists)
+    ap (λ f. rows_from f (file_by_file n (rows ∷ lists))) at
+    ∙ (from_append n (own n rows) (file_by_file (suc n) lists)
     ∙ (ap₂ (λ xs ys. xs ++ ys) (own_same n rows (self_eq n)) (before_none (suc n) lists n (omega arith)) ∙ append-nil rows))
 from_order n (rows ∷ lists) (suc k) =
     let at : suc n + k ≡ n + suc k = omega arith in
-    from_append (n + suc k) (own n rows) (in_order (suc n) lists)
-    ∙ (ap (λ xs. xs ++ rows_from (n + suc k) (in_order (suc n) lists)) (own_other (n + suc k) n rows (apart_too (n + suc k) n (omega arith)))
-    ∙ (ap (λ f. rows_from f (in_order (suc n) lists)) (sym at) ∙ from_order (suc n) lists k))
+    from_append (n + suc k) (own n rows) (file_by_file (suc n) lists)
+    ∙ (ap (λ xs. xs ++ rows_from (n + suc k) (file_by_file (suc n) lists)) (own_other (n + suc k) n rows (apart_too (n + suc k) n (omega arith)))
+    ∙ (ap (λ f. rows_from f (file_by_file (suc n) lists)) (sym at) ∙ from_order (suc n) lists k))

@@ -16,7 +16,7 @@ use Rattle.bsi_table.specs.declared.query.Total.{Total}
 use Rattle.bsi_table.specs.declared.query.Total.TheVariants.{Count, Sum, Least, Greatest, Median, Rows}
 use Rattle.bsi_files.specs.AskLines.{IsShownAnswer}
 use Rattle.bsi_files.specs.Mixes.{AreAlike}
-use Rattle.bsi_files.proofs.Mixing.{bump, same_tags, tags, Counts, Tag}
+use Rattle.bsi_files.proofs.Mixing.{bump, same_tags, tags, RowCounts, Tag}
 use Rattle.bsi_files.proofs.Perms.{as_long, chosen, filtered, flipped, is_permutation, mapped, of_none, same_sum, Perm}
 
 -- ---- lists
@@ -62,7 +62,7 @@ pick_map f p (x ∷ xs) = pick_by f x (filter (λ y. p (f y)) xs) (filter p (map
 tag_at : List FedRow → ℕ → Tag
 tag_at rows r = ((slice_index (feeders_of rows) r, number_within (feeders_of rows) r), (row_at rows r).1)
 
-abbrev counted : List FedRow → Counts
+abbrev counted : List FedRow → RowCounts
 counted before = λ g. count_by (λ f. nat_eq f g) (feeders_of before)
 
 tag_here : (before : List FedRow) (row : FedRow) (rows : List FedRow) → tag_at (before ++ row ∷ rows) (length before) ≡ ((row.0, counted before row.0), row.1)
@@ -101,7 +101,7 @@ tags_are before (row ∷ rows) =
     let long : length more ≡ length before + 1 = omega (arith, length-append before (row ∷ [])) in
     let rest : map (tag_at (before ++ row ∷ rows)) (range_with_len (length before + 1) (length rows)) ≡ tags (bump (counted before) row.0) rows =
     ap₂ (λ (all : List FedRow) n. map (tag_at all) (range_with_len n (length rows))) (sym whole) (sym long)
-    ∙ (tags_are more rows ∙ ap (λ (c : Counts). tags c rows) (counted_push before row)) in
+    ∙ (tags_are more rows ∙ ap (λ (c : RowCounts). tags c rows) (counted_push before row)) in
     ap₂ (λ (t : Tag) ts. t ∷ ts) (tag_here before row rows) rest
 
 -- ---- what a predicate finds

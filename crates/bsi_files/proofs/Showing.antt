@@ -10,7 +10,7 @@ use Rattle.bsi_table.specs.declared.query.Answer.{Answer}
 use Rattle.bsi_table.specs.declared.query.Query.{Query}
 use Rattle.bsi_files.specs.AskLines.{IsAskLine, IsShownReply}
 use Rattle.bsi_files.specs.Matching.{AreMatched}
-use Rattle.bsi_files.specs.Mixes.{in_order, AreAlike, IsMixOf}
+use Rattle.bsi_files.specs.Mixes.{file_by_file, AreAlike, IsMixOf}
 use Rattle.bsi_files.specs.RowFiles.{file_at, RowFile}
 use Rattle.bsi_files.specs.Runs.{AreLines}
 use Rattle.bsi_files.proofs.Ordered.{from_order}
@@ -54,8 +54,8 @@ rows_at (file ∷ files) zero = refl
 rows_at (file ∷ files) (suc f) = rows_at files f
 
 -- so they are those of the files' rows, one file after the other
-pub in_order_too : (files : List RowFile) (rows : List FedRow) → IsMixOf files rows → AreAlike rows (in_order 0 (map (λ file. file.rows) files))
-in_order_too files rows mix f =
+pub file_by_file_too : (files : List RowFile) (rows : List FedRow) → IsMixOf files rows → AreAlike rows (file_by_file 0 (map (λ file. file.rows) files))
+file_by_file_too files rows mix f =
     let at : 0 + f ≡ f = omega arith in
     mix f ∙ (sym (rows_at files f) ∙ (sym (from_order 0 (map (λ (file : RowFile). file.rows) files) f)
-    ∙ ap (λ g. rows_from g (in_order 0 (map (λ (file : RowFile). file.rows) files))) at))
+    ∙ ap (λ g. rows_from g (file_by_file 0 (map (λ (file : RowFile). file.rows) files))) at))

@@ -7,12 +7,12 @@ use Rattle.std.proofs.lemmas.List.{append-nil}
 use Rattle.std.proofs.lemmas.List.Elements.{All-head, All-tail}
 use Rattle.bsi_load.specs.Runs.{rows_from}
 use Rattle.bsi_rings.specs.Rings.{new_feeders, new_sending, ChannelName, Sending, Sent}
-use Rattle.bsi_system.specs.Running.{settled_as, taking_at, with_taken, AlwaysHolds, IsClosingOf, IsFeederOf, IsLoaderReply, Loading, LoadsOne, Looks, MayLoad, System, Taking}
+use Rattle.bsi_system.specs.Running.{settled_as, taking_at, with_taken, AlwaysHolds, IsClosingOf, IsFeederOf, IsLoaderReply, Loading, LoadsOne, Looks, MayLoad, SystemName, Taking}
 use Rattle.bsi_table.specs.Rows.{Entries, FedRow}
 use Rattle.bsi_text.specs.Sources.{Source}
-use Rattle.bsi_files.specs.Ends.{tasks, AreClosings, AreEndsOf, AreFeeders, IsEndOf}
+use Rattle.bsi_files.specs.Ends.{tasks, AreClosings, AreEndsOf, AreFeeders, IsFeedEnd}
 use Rattle.bsi_files.specs.Feds.{AreFedFrom, IsAllFed, IsFedFrom}
-use Rattle.bsi_files.specs.Takings.{all_taken, AreLoaded, AreTold, IsDrained, IsFine, IsFullAt, IsKept, IsLoaded, IsTold, KeepsOthers, KeepsTold, TakesOnlyOf}
+use Rattle.bsi_files.specs.Takings.{all_taken, AreLoaded, AreTold, IsDrained, IsFine, IsFullAt, IsFedOf, IsLoaded, IsTold, KeepsOthers, KeepsTold, TakesOnlyOf}
 use Rattle.bsi_feeding.specs.Feeding.{HasFed, IsReadOut}
 use Rattle.bsi_feeding.specs.declared.feeding.FeedEnd.{FeedEnd}
 use Rattle.bsi_files.specs.declared.loading.Fed.{Fed}
@@ -31,7 +31,7 @@ set_same [] f t lt = absurd (omega arith)
 set_same (x ∷ ts) zero t lt = refl
 set_same (x ∷ ts) (suc f) t lt = set_same ts f t (omega arith)
 
-set_told : (ts : List Taking) (f : ℕ) (row : Entries) → (taking_at (slice_set ts f (with_taken (taking_at ts f) row)) f).told ≡ (taking_at ts f).told
+set_told : (ts : List Taking) (f : ℕ) (row : Entries) → (taking_at (slice_set ts f (with_taken (taking_at ts f) row)) f).carried ≡ (taking_at ts f).carried
 set_told [] f row = refl
 set_told (x ∷ ts) zero row = refl
 set_told (x ∷ ts) (suc f) row = set_told ts f row
@@ -46,7 +46,7 @@ get_lt (y ∷ xs) (suc f) x is = (let rest = get_lt xs f x is in omega arith)
 pub takes_none : (f : ℕ) (old new : List Taking) → new ≡ old → TakesOnlyOf f old new
 takes_none f old new same = record {
   others = λ k other. ap (λ ts. taking_at ts k) same;
-  told = ap (λ ts. (taking_at ts f).told) same;
+  told = ap (λ ts. (taking_at ts f).carried) same;
 }
 
 pub takes_one : (f : ℕ) (old new : Loading) → LoadsOne old f new → TakesOnlyOf f old.takings new.takings
@@ -54,7 +54,7 @@ takes_one f old new loads =
     let is : new.takings ≡ slice_set old.takings f (with_taken (taking_at old.takings f) loads.0) = ap (λ (s : Loading). s.takings) loads.2 in
     record {
       others = λ k other. ap (λ ts. taking_at ts k) is ∙ set_other old.takings f k (with_taken (taking_at old.takings f) loads.0) other;
-      told = ap (λ ts. (taking_at ts f).told) is ∙ set_told old.takings f loads.0;
+      told = ap (λ ts. (taking_at ts f).carried) is ∙ set_told old.takings f loads.0;
     }
 
 pub takes_more : (f : ℕ) (a b c : List Taking) → TakesOnlyOf f a b → TakesOnlyOf f b c → TakesOnlyOf f a c
@@ -74,17 +74,17 @@ module _ (old told new : Loading) (closing : Sent) (is : told ≡ settled_as old
   settled_others : KeepsOthers closing.number old.takings told.takings
   settled_others k other =
       ap (λ (s : Loading). taking_at s.takings k) is
-      ∙ set_other old.takings closing.number k (record { taken = (taking_at old.takings closing.number).taken; told = Some closing.rows }) other
+      ∙ set_other old.takings closing.number k (record { taken = (taking_at old.takings closing.number).taken; carried = Some closing.rows }) other
 
-  settled_told : (taking_at told.takings closing.number).told ≡ Some closing.rows
+  settled_told : (taking_at told.takings closing.number).carried ≡ Some closing.rows
   settled_told =
-      let t : Taking = record { taken = (taking_at old.takings closing.number).taken; told = Some closing.rows } in
+      let t : Taking = record { taken = (taking_at old.takings closing.number).taken; carried = Some closing.rows } in
       let within : closing.number < length old.system.channels = get_lt old.system.channels closing.number closing.channel of in
-      let many : length told.takings ≡ length old.system.channels = always.many ∙ ap (λ (s : System). length s.channels) same in
+      let many : length told.takings ≡ length old.system.channels = always.many ∙ ap (λ (s : SystemName). length s.channels) same in
       let ts : told.takings ≡ slice_set old.takings closing.number t = ap (λ (s : Loading). s.takings) is in
       let long : length (slice_set old.takings closing.number t) ≡ length old.takings = set_length old.takings closing.number t in
       let l : length told.takings ≡ length old.takings = ap length ts ∙ long in
-      ap (λ xs. (taking_at xs closing.number).told) ts ∙ ap (λ (x : Taking). x.told) (set_same old.takings closing.number t (omega arith))
+      ap (λ xs. (taking_at xs closing.number).carried) ts ∙ ap (λ (x : Taking). x.carried) (set_same old.takings closing.number t (omega arith))
     where
       set_length : (ts : List Taking) (f : ℕ) (t : Taking) → length (slice_set ts f t) ≡ length ts
       set_length [] f t = refl
@@ -97,12 +97,12 @@ module _ (old told new : Loading) (closing : Sent) (is : told ≡ settled_as old
   pub all_is_taken : IsDrained closing.number new.takings → taking_at new.takings closing.number ≡ all_taken closing.rows
   all_is_taken drained =
       let now : Taking = taking_at new.takings closing.number in
-      let told_is : now.told ≡ Some closing.rows = takes.told ∙ settled_told in
+      let told_is : now.carried ≡ Some closing.rows = takes.told ∙ settled_told in
       let taken_is : now.taken ≡ closing.rows = subst (λ o. IfSome o (λ sent. now.taken ≡ sent)) told_is drained in
-      by now.taken now.told taken_is told_is
+      by now.taken now.carried taken_is told_is
     where
       by : (rows : List Entries) (told : Option (List Entries)) → rows ≡ closing.rows → told ≡ Some closing.rows
-          → record { taken = rows; told = told } ≡ all_taken closing.rows
+          → record { taken = rows; carried = told } ≡ all_taken closing.rows
       by rows told r t = cc
 
 -- ---- all closings
@@ -120,9 +120,9 @@ told_in ts us n (end ∷ ends) (fed ∷ feds) same all = (
   told_in ts us (suc n) ends feds (λ k lt. same k (omega arith)) all.1,
 )
   where
-    by : (o : Option Sent) → IfSome o (λ closing. (taking_at ts n).told ≡ Some closing.rows) → IfSome o (λ closing. (taking_at us n).told ≡ Some closing.rows)
+    by : (o : Option Sent) → IfSome o (λ closing. (taking_at ts n).carried ≡ Some closing.rows) → IfSome o (λ closing. (taking_at us n).carried ≡ Some closing.rows)
     by None told = tt
-    by (Some closing) told = ap (λ (t : Taking). t.told) (same n (omega arith)) ∙ told
+    by (Some closing) told = ap (λ (t : Taking). t.carried) (same n (omega arith)) ∙ told
 
 told_push : (ts : List Taking) (n : ℕ) (ends : List FeedEnd) (feds : List Fed) (end : FeedEnd) (fed : Fed)
     → AreTold ts n ends feds → IsTold ts (n + length ends) end fed → AreTold ts n (ends ++ end ∷ []) (feds ++ fed ∷ [])
@@ -134,13 +134,13 @@ told_push ts n (x ∷ ends) (y ∷ feds) end fed all one =
     (all.0, told_push ts (suc n) ends feds end fed all.1 (subst (λ k. IsTold ts k end fed) at one))
 
 -- the first closings were told, and these ends are left
-pub record HasTold (system : System) (all left : List FeedEnd) (takings : List Taking) (feds : List Fed) : Type 0 where
+pub record HasTold (system : SystemName) (all left : List FeedEnd) (takings : List Taking) (feds : List Fed) : Type 0 where
   pub done : List FeedEnd
   pub parts : all ≡ done ++ left
   pub told : AreTold takings 0 done feds
   pub closings : AreClosings system (length done) left
 
-pub told_none : (system : System) (all left : List FeedEnd) (takings : List Taking) (feds : List Fed) → left ≡ all → feds ≡ [] → AreClosings system 0 all
+pub told_none : (system : SystemName) (all left : List FeedEnd) (takings : List Taking) (feds : List Fed) → left ≡ all → feds ≡ [] → AreClosings system 0 all
     → HasTold system all left takings feds
 told_none system all left takings feds same none closings = record {
   done = [];
@@ -150,7 +150,7 @@ told_none system all left takings feds same none closings = record {
 }
 
 -- what is so of the first closing that is left
-pub closing_of : (system : System) (n : ℕ) (left : List FeedEnd) (end : FeedEnd) (rest : List FeedEnd) → left ≡ end ∷ rest → AreClosings system n left
+pub closing_of : (system : SystemName) (n : ℕ) (left : List FeedEnd) (end : FeedEnd) (rest : List FeedEnd) → left ≡ end ∷ rest → AreClosings system n left
     → IfSome end.closing (λ closing. IsClosingOf closing system)
 closing_of system n left end rest is closings = by end.closing (subst (λ xs. AreClosings system n xs) is closings).0
   where
@@ -158,9 +158,9 @@ closing_of system n left end rest is closings = by end.closing (subst (λ xs. Ar
     by None of = tt
     by (Some closing) of = of.1
 
-pub told_more : (system : System) (all left rest : List FeedEnd) (old new : List Taking) (feds more : List Fed) (end : FeedEnd) (fed : Fed)
-    → HasTold system all left old feds → left ≡ end ∷ rest → more ≡ feds ++ fed ∷ [] → IsKept end fed
-    → IfSome end.closing (λ closing. (taking_at new closing.number).told ≡ Some closing.rows)
+pub told_more : (system : SystemName) (all left rest : List FeedEnd) (old new : List Taking) (feds more : List Fed) (end : FeedEnd) (fed : Fed)
+    → HasTold system all left old feds → left ≡ end ∷ rest → more ≡ feds ++ fed ∷ [] → IsFedOf end fed
+    → IfSome end.closing (λ closing. (taking_at new closing.number).carried ≡ Some closing.rows)
     → IfSome end.closing (λ closing. KeepsOthers closing.number old new) → (end.closing ≡ None → new ≡ old)
     → HasTold system all rest new more
 told_more system all left rest old new feds more end fed has is pushed kept told others same =
@@ -187,11 +187,11 @@ told_more system all left rest old new feds more end fed has is pushed kept told
     stays (Some closing) e of keeps k lt = keeps k (λ eq. absurd (omega (arith, eq, of.0)))
 
     at : (o : Option Sent) → IfSome o (λ closing. (closing.number ≡ length has.done) × IsClosingOf closing system)
-        → IfSome o (λ closing. (taking_at new closing.number).told ≡ Some closing.rows) → IfSome o (λ closing. (taking_at new (length has.done)).told ≡ Some closing.rows)
+        → IfSome o (λ closing. (taking_at new closing.number).carried ≡ Some closing.rows) → IfSome o (λ closing. (taking_at new (length has.done)).carried ≡ Some closing.rows)
     at None of is = tt
-    at (Some closing) of is = subst (λ k. (taking_at new k).told ≡ Some closing.rows) of.0 is
+    at (Some closing) of is = subst (λ k. (taking_at new k).carried ≡ Some closing.rows) of.0 is
 
-pub told_all : (system : System) (all left : List FeedEnd) (takings : List Taking) (feds : List Fed) → HasTold system all left takings feds → left ≡ []
+pub told_all : (system : SystemName) (all left : List FeedEnd) (takings : List Taking) (feds : List Fed) → HasTold system all left takings feds → left ≡ []
     → AreTold takings 0 all feds
 told_all system all left takings feds has none =
     subst (λ xs. AreTold takings 0 xs feds) (sym (has.parts ∙ (ap (λ xs. has.done ++ xs) none ∙ append-nil has.done))) has.told
@@ -204,9 +204,9 @@ keeps_none ts k = refl
 pub keeps_more : (f : ℕ) (a b c : List Taking) → KeepsTold a b → TakesOnlyOf f b c → KeepsTold a c
 keeps_more f a b c keeps takes k = by (nat_eq k f) refl
   where
-    by : (t : Bool) → nat_eq k f ≡ t → (taking_at c k).told ≡ (taking_at a k).told
-    by true e = (let same : k ≡ f = grind (arith, nat_tests) in ap (λ m. (taking_at c m).told) same ∙ (takes.told ∙ (ap (λ m. (taking_at b m).told) (sym same) ∙ keeps k)))
-    by false e = (let other : k ≢ f = λ same. absurd (grind (arith, nat_tests)) in ap (λ (t : Taking). t.told) (takes.others k other) ∙ keeps k)
+    by : (t : Bool) → nat_eq k f ≡ t → (taking_at c k).carried ≡ (taking_at a k).carried
+    by true e = (let same : k ≡ f = grind (arith, nat_tests) in ap (λ m. (taking_at c m).carried) same ∙ (takes.told ∙ (ap (λ m. (taking_at b m).carried) (sym same) ∙ keeps k)))
+    by false e = (let other : k ≢ f = λ same. absurd (grind (arith, nat_tests)) in ap (λ (t : Taking). t.carried) (takes.others k other) ∙ keeps k)
 
 pub drained_more : (n : ℕ) (a b : List Taking) → ((f : ℕ) → f < n → IsDrained f a) → TakesOnlyOf n a b → IsDrained n b → (f : ℕ) → f < n + 1 → IsDrained f b
 drained_more n a b before takes here f lt = by (nat_eq f n) refl
@@ -215,7 +215,7 @@ drained_more n a b before takes here f lt = by (nat_eq f n) refl
     by true e = (let same : n ≡ f = grind (arith, nat_tests) in subst (λ m. IsDrained m b) same here)
     by false e =
         let other : f ≢ n = λ same. absurd (grind (arith, nat_tests)) in
-        subst (λ (t : Taking). IfSome t.told (λ sent. t.taken ≡ sent)) (sym (takes.others f other)) (before f (omega (arith, lt, other)))
+        subst (λ (t : Taking). IfSome t.carried (λ sent. t.taken ≡ sent)) (sym (takes.others f other)) (before f (omega (arith, lt, other)))
 
 -- a row of this feeder was refused, since the table is full
 pub full_at : (f : ℕ) (old new : Loading) → IsLoaderReply old f (Err load.IndexFull) → Looks old f new → AlwaysHolds new → IsFullAt f new
@@ -236,20 +236,20 @@ loaded_all ts us n (end ∷ ends) (fed ∷ feds) told keeps drained = (
   loaded_all ts us (suc n) ends feds told.1 keeps (λ f lt. drained f (omega arith)),
 )
   where
-    whole : (t : Taking) (rows : List Entries) → t.told ≡ Some rows → IfSome t.told (λ sent. t.taken ≡ sent) → t ≡ all_taken rows
-    whole t rows is taken = made t.taken t.told (subst (λ o. IfSome o (λ sent. t.taken ≡ sent)) is taken) is
+    whole : (t : Taking) (rows : List Entries) → t.carried ≡ Some rows → IfSome t.carried (λ sent. t.taken ≡ sent) → t ≡ all_taken rows
+    whole t rows is taken = made t.taken t.carried (subst (λ o. IfSome o (λ sent. t.taken ≡ sent)) is taken) is
       where
-        made : (xs : List Entries) (o : Option (List Entries)) → xs ≡ rows → o ≡ Some rows → record { taken = xs; told = o } ≡ all_taken rows
+        made : (xs : List Entries) (o : Option (List Entries)) → xs ≡ rows → o ≡ Some rows → record { taken = xs; carried = o } ≡ all_taken rows
         made xs o one two = cc
 
-    by : (o : Option Sent) → IfSome o (λ closing. (taking_at ts n).told ≡ Some closing.rows) → IfSome o (λ closing. taking_at us n ≡ all_taken closing.rows)
+    by : (o : Option Sent) → IfSome o (λ closing. (taking_at ts n).carried ≡ Some closing.rows) → IfSome o (λ closing. taking_at us n ≡ all_taken closing.rows)
     by None is = tt
     by (Some closing) is = whole (taking_at us n) closing.rows (keeps n ∙ is) (drained n (omega arith))
 
 -- ---- from the ends of threads to what a run has
 
 -- feeders as they are opened
-pub feeders_are : (system : System) (n : ℕ) (channels : List ChannelName) (capacities : List ℕ) → All (λ feeder. IsFeederOf feeder system) (new_feeders n channels capacities)
+pub feeders_are : (system : SystemName) (n : ℕ) (channels : List ChannelName) (capacities : List ℕ) → All (λ feeder. IsFeederOf feeder system) (new_feeders n channels capacities)
     → AreFeeders system n (new_feeders n channels capacities)
 feeders_are system n [] capacities own = tt
 feeders_are system n (channel ∷ channels) [] own = tt
@@ -266,7 +266,7 @@ feeders_long n (channel ∷ channels) [] same = absurd (omega arith)
 feeders_long n (channel ∷ channels) (capacity ∷ capacities) same = ap suc (feeders_long (suc n) channels capacities (omega arith))
 
 module _ {R : Type 0} (rem : R → Option (List ℕ)) where
-  pub closings_of : (system : System) (n : ℕ) (feeders : List Sending) (sources : List (Source R)) (ends : List FeedEnd) → AreFeeders system n feeders
+  pub closings_of : (system : SystemName) (n : ℕ) (feeders : List Sending) (sources : List (Source R)) (ends : List FeedEnd) → AreFeeders system n feeders
       → AreEndsOf rem (tasks feeders sources) ends → AreClosings system n ends
   closings_of system n feeders sources [] own are = tt
   closings_of system n [] sources (end ∷ ends) own are = absurd are
@@ -283,7 +283,7 @@ module _ {R : Type 0} (rem : R → Option (List ℕ)) where
       )
 
   fed_one : (stops : Bool) (rows : List FedRow) (takings : List Taking) (n : ℕ) (feeder : Sending) (source : Source R) (end : FeedEnd) (fed : Fed)
-      → rows_from n rows ≡ (taking_at takings n).taken → feeder.sent ≡ [] → IsEndOf rem feeder source end → IsLoaded takings n end fed → IsFine stops fed
+      → rows_from n rows ≡ (taking_at takings n).taken → feeder.sent ≡ [] → IsFeedEnd rem feeder source end → IsLoaded takings n end fed → IsFine stops fed
       → IsFedFrom rem stops rows n source fed
   fed_one stops rows takings n feeder source end fed from fresh is loaded fine = by end.closing refl is.fed.sent loaded.taken
     where
@@ -304,7 +304,7 @@ module _ {R : Type 0} (rem : R → Option (List ℕ)) where
                 subst (λ xs. IsReadOut rem source xs fed.bad) same (subst (λ b. IsReadOut rem source has.rows b) (sym loaded.kept.bad) out);
           }
 
-  pub fed_all : (stops : Bool) (rows : List FedRow) (takings : List Taking) (system : System) (n : ℕ) (feeders : List Sending) (sources : List (Source R))
+  pub fed_all : (stops : Bool) (rows : List FedRow) (takings : List Taking) (system : SystemName) (n : ℕ) (feeders : List Sending) (sources : List (Source R))
       (ends : List FeedEnd) (feds : List Fed)
       → ((f : ℕ) → rows_from f rows ≡ (taking_at takings f).taken) → length sources ≡ length feeders → AreFeeders system n feeders
       → AreEndsOf rem (tasks feeders sources) ends → AreLoaded takings n ends feds → All (IsFine stops) feds → AreFedFrom rem stops rows n sources feds
@@ -321,17 +321,17 @@ module _ {R : Type 0} (rem : R → Option (List ℕ)) where
   )
 
   -- all rows that were taken
-  pub all_fed : (stops : Bool) (limit : ℕ) (loaded : Loading) (system : System) (feeders : List Sending) (sources : List (Source R)) (ends : List FeedEnd) (feds : List Fed)
+  pub all_fed : (stops : Bool) (limit : ℕ) (loaded : Loading) (system : SystemName) (feeders : List Sending) (sources : List (Source R)) (ends : List FeedEnd) (feds : List Fed)
       → AlwaysHolds loaded → loaded.system ≡ system → length system.channels ≡ length feeders → length sources ≡ length feeders
       → AreFeeders system 0 feeders → AreEndsOf rem (tasks feeders sources) ends → AreLoaded loaded.takings 0 ends feds → All (IsFine stops) feds
       → length (loaded.published ++ loaded.held) ≤ loaded.system.limit → system.limit ≡ limit → IsAllFed rem stops limit (loaded.published ++ loaded.held) sources feds
   all_fed stops limit loaded system feeders sources ends feds always same channels many own are taken fine few most =
       let rows : List FedRow = loaded.published ++ loaded.held in
-      let long : length loaded.takings ≡ length sources = always.many ∙ (ap (λ (s : System). length s.channels) same ∙ (channels ∙ sym many)) in
+      let long : length loaded.takings ≡ length sources = always.many ∙ (ap (λ (s : SystemName). length s.channels) same ∙ (channels ∙ sym many)) in
       record {
         each = fed_all stops rows loaded.takings system 0 feeders sources ends feds always.balanced many own are taken fine;
         none = λ f le. always.balanced f ∙ past loaded.takings f (omega arith);
-        within = subst (λ k. length rows ≤ k) (ap (λ (s : System). s.limit) same ∙ most) few;
+        within = subst (λ k. length rows ≤ k) (ap (λ (s : SystemName). s.limit) same ∙ most) few;
       }
     where
       past : (ts : List Taking) (f : ℕ) → length ts ≤ f → (taking_at ts f).taken ≡ []

@@ -1,4 +1,4 @@
--- The line that answers a record of the asks text.
+-- The line that answers a record of the asks file.
 use Rattle.std.specs.Prelude.{◌≡◌, ◌≢◌, ◌⊎◌, ℕ, List, None, Result, Ok, Err, length}
 use Rattle.std.specs.List.Sorted.{IsPermutation, IsSorted}
 use Rattle.bsi_records.specs.Events.{IsQuery}

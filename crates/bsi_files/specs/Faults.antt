@@ -6,6 +6,8 @@ use Rattle.bsi_files.specs.declared.faults.Which.{Which}
 use Rattle.bsi_files.specs.declared.faults.Which.TheVariants.{AsksFile, SchemaFile}
 use Rattle.bsi_text.specs.declared.rows.SourceFault.{SourceFault}
 use Rattle.bsi_text.specs.declared.rows.SourceFault.TheVariants as source
+use Rattle.bsi_text.specs.declared.schema_text.SchemaFault.{SchemaFault}
+use Rattle.bsi_text.specs.declared.schema_text.SchemaFault.TheVariants as schema
 
 -- a fault that may be met while rows are loaded, and that no source answered
 abbrev pub is_early : FilesFault → Bool
@@ -13,15 +15,7 @@ is_early IndexFull = true
 is_early NoMemory = true
 is_early fault = false
 
--- a fault that may be met at the schema file, and one at the headers of the row files
-abbrev pub is_of_schema : FilesFault → Bool
-is_of_schema (Read SchemaFile) = true
-is_of_schema (TooLong SchemaFile) = true
-is_of_schema (BadSchema number) = true
-is_of_schema NoColumns = true
-is_of_schema NoMemory = true
-is_of_schema fault = false
-
+-- a fault that may be met at the headers of the row files
 abbrev pub is_of_headers : FilesFault → Bool
 is_of_headers (Source number fault) = true
 is_of_headers NoMemory = true
@@ -40,3 +34,9 @@ abbrev pub text_fault : Which → SourceFault → FilesFault
 text_fault which source.TooLong = TooLong which
 text_fault which source.NoMemory = NoMemory
 text_fault which fault = Read which
+
+-- the fault of a run for a schema file that declares no schema
+abbrev pub schema_fault : SchemaFault → FilesFault
+schema_fault (schema.BadRecord number) = BadSchema number
+schema_fault schema.NoColumns = NoColumns
+schema_fault (schema.Source fault) = text_fault SchemaFile fault

@@ -14,12 +14,13 @@ fed_counts fed = (fed.accepted, fed.bad)
 
 -- the rows of a feeder in a list are as many as were accepted and, where no gate stops it, those of its source, which
 -- was read out
-pub record IsFedFrom {R : Type 0} (rem : R → Option (List ℕ)) (stops : Bool) (rows : List FedRow) (n : ℕ) (source : Source R) (fed : Fed)
-    : Type 0 where
+pub record IsFedFrom {R : Type 0} (rem : R → Option (List ℕ)) (stops : Bool) (rows : List FedRow) (n : ℕ)
+    (source : Source R) (fed : Fed) : Type 0 where
   pub many : length (rows_from n rows) ≡ fed.accepted
   pub out : stops ≡ false → source.end ≡ None → IsReadOut rem source (rows_from n rows) fed.bad
 
-abbrev pub AreFedFrom : {R : Type 0} → (R → Option (List ℕ)) → Bool → List FedRow → ℕ → List (Source R) → List Fed → Type 0
+abbrev pub AreFedFrom : {R : Type 0} → (R → Option (List ℕ)) → Bool → List FedRow → ℕ → List (Source R) → List Fed
+    → Type 0
 AreFedFrom rem stops rows n [] [] = ⊤
 AreFedFrom rem stops rows n (source ∷ sources) (fed ∷ feds) =
     IsFedFrom rem stops rows n source fed × AreFedFrom rem stops rows (suc n) sources feds

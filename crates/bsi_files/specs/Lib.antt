@@ -10,6 +10,5 @@ pub mod Mixes
 pub mod RowFiles
 pub mod RunFaults
 pub mod Runs
-pub mod SchemaFiles
 pub mod Takings
 pub mod Writing

@@ -5,9 +5,9 @@ use Rattle.bsi_table.specs.Rows.{Entries, FedRow}
 use Rattle.bsi_files.specs.RowFiles.{file_at, RowFile}
 
 -- the rows of files, one file after the other; those of the first have this feeder
-abbrev pub in_order : ℕ → List (List Entries) → List FedRow
-in_order n [] = []
-in_order n (rows ∷ lists) = map (λ row. (n, row)) rows ++ in_order (suc n) lists
+abbrev pub file_by_file : ℕ → List (List Entries) → List FedRow
+file_by_file n [] = []
+file_by_file n (rows ∷ lists) = map (λ row. (n, row)) rows ++ file_by_file (suc n) lists
 
 -- a list of the rows of all files: those of each file are in their order, and nothing is said of how the files mix
 abbrev pub IsMixOf : List RowFile → List FedRow → Type 0

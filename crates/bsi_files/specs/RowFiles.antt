@@ -22,12 +22,12 @@ pub record IsRowFile (schema : Declared) (bytes : List ℕ) (file : RowFile) : T
   pub rows_are : file.rows ≡ good_rows schema header records
   pub bad_is : file.bad ≡ bad_count schema header records
 
-abbrev pub rows_of : RowFile → List Entries
-rows_of file = file.rows
+abbrev pub file_rows : RowFile → List Entries
+file_rows file = file.rows
 
 -- how many good rows and how many bad records a file has
-abbrev pub counts_of : RowFile → ℕ × ℕ
-counts_of file = (length file.rows, file.bad)
+abbrev pub file_counts : RowFile → ℕ × ℕ
+file_counts file = (length file.rows, file.bad)
 
 abbrev pub no_file : RowFile
 no_file = record { rows = []; bad = 0 }

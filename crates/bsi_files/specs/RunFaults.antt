@@ -6,17 +6,16 @@ use Rattle.bsi_records.specs.Numbers.{Field}
 use Rattle.bsi_table.specs.Columns.{Declared}
 use Rattle.bsi_table.specs.Rows.{Entries}
 use Rattle.bsi_text.specs.RowFiles.{good_rows, is_header}
+use Rattle.bsi_text.specs.SchemaTexts.{DeclaresNoColumn, DeclaresTooLong, IsBadRecord, IsSchemaText}
 use Rattle.bsi_text.specs.Sources.{max_records, Source}
-use Rattle.bsi_text.specs.Texts.{AreFirstRecords}
+use Rattle.bsi_text.specs.Texts.{AreFirstRecords, AreTooMany}
 use Rattle.bsi_text.specs.declared.rows.SourceFault.{SourceFault}
 use Rattle.bsi_text.specs.declared.rows.SourceFault.TheVariants as source
 use Rattle.bsi_feeding.specs.Feeding.{GivesRows, HasFailed, IsReadOut}
 use Rattle.bsi_files.specs.Headers.{HasHeader, IsFirstWithout}
 use Rattle.bsi_files.specs.Matching.{AreMatched}
 use Rattle.bsi_files.specs.RowFiles.{IsRowFile, RowFile}
-use Rattle.bsi_files.specs.SchemaFiles.{none_declared, DeclaresNoColumn, DeclaresTooLong, IsBadRecord, IsSchemaFile}
 use Rattle.bsi_files.specs.Takings.{AreGoing}
-use Rattle.bsi_files.specs.Writing.{AreTooMany}
 use Rattle.bsi_files.specs.declared.faults.FilesFault.{FilesFault}
 use Rattle.bsi_files.specs.declared.faults.FilesFault.TheVariants as run
 use Rattle.bsi_files.specs.declared.faults.Which.TheVariants as which
@@ -29,11 +28,11 @@ use Rattle.bsi_origins.specs.Origins.{max_feeders}
 pub record HasBadHeader (declared : List ℕ) (texts : List (List ℕ)) (number : ℕ) : Type 0 where
   pub schema : Declared
   pub limit : ℕ
-  pub schema_is : IsSchemaFile declared schema limit
+  pub schema_is : IsSchemaText declared schema limit
   pub first : IsFirstWithout schema (map (λ text. Some text) texts) number
 
 -- these bytes are a first record, 1,000,000 records after it, and one more
-pub record IsTooLong (bytes : List ℕ) : Type 0 where
+pub record IsTooLongFile (bytes : List ℕ) : Type 0 where
   pub header : List Field
   pub records : List (List Field)
   pub state : State
@@ -45,14 +44,14 @@ pub record IsTooLong (bytes : List ℕ) : Type 0 where
 pub record AreGood (declared : List ℕ) (texts : List (List ℕ)) : Type 0 where
   pub schema : Declared
   pub limit : ℕ
-  pub schema_is : IsSchemaFile declared schema limit
+  pub schema_is : IsSchemaText declared schema limit
   pub headers : All (HasHeader schema) texts
 
 -- a schema is declared, this number is that of a file, and each file before it has a header of the schema
 pub record AreGoodBefore (declared : List ℕ) (texts : List (List ℕ)) (number : ℕ) : Type 0 where
   pub schema : Declared
   pub limit : ℕ
-  pub schema_is : IsSchemaFile declared schema limit
+  pub schema_is : IsSchemaText declared schema limit
   pub names : number < length texts
   pub headers : All (HasHeader schema) (take number texts)
 
@@ -65,9 +64,9 @@ AreRowFiles schema texts = (files : List RowFile) × AreMatched (IsRowFile schem
 pub record IsFirstTooLong (stops : Bool) (declared : List ℕ) (texts : List (List ℕ)) (number : ℕ) : Type 0 where
   pub schema : Declared
   pub limit : ℕ
-  pub schema_is : IsSchemaFile declared schema limit
+  pub schema_is : IsSchemaText declared schema limit
   pub headers : All (HasHeader schema) texts
-  pub here : MatchOption (slice_get texts number) ⊥ IsTooLong
+  pub here : MatchOption (slice_get texts number) ⊥ IsTooLongFile
   pub before : stops ≡ false → AreRowFiles schema (take number texts)
 
 -- these are the good rows of some first records behind the header of these bytes, at most 1,000,000
@@ -85,20 +84,20 @@ pub record HasFirstRows (schema : Declared) (bytes : List ℕ) (rows : List Entr
 pub record ArePastLimit (declared : List ℕ) (texts : List (List ℕ)) : Type 0 where
   pub schema : Declared
   pub limit : ℕ
-  pub schema_is : IsSchemaFile declared schema limit
+  pub schema_is : IsSchemaText declared schema limit
   pub rows : List (List Entries)
   pub first : AreMatched (HasFirstRows schema) texts rows
   pub past : limit < sum_by length rows
 
--- what a fault tells of the bytes of the schema file and of the row files, where a gate may stop a feeder and where none
--- does. One that is met once the headers are read, but for refused memory and for a row file that can't be read to its
--- end, tells that these are good. No run ends with no reader.
+-- what a fault tells of the bytes of the schema file and of the row files, where a gate may stop a feeder and where
+-- none does. One that is met once the headers are read, but for refused memory and for a row file that can't be read to
+-- its end, tells that these are good. No run ends with no reader.
 abbrev pub IsFaultOf : Bool → List ℕ → List (List ℕ) → FilesFault → Type 0
 IsFaultOf stops declared texts run.TooManyFiles = max_feeders < length texts
 IsFaultOf stops declared texts (run.Read which.SchemaFile) = ⊤
-IsFaultOf stops declared texts (run.BadSchema number) = IsBadRecord declared none_declared number
-IsFaultOf stops declared texts (run.TooLong which.SchemaFile) = DeclaresTooLong declared none_declared
-IsFaultOf stops declared texts run.NoColumns = DeclaresNoColumn declared none_declared
+IsFaultOf stops declared texts (run.BadSchema number) = IsBadRecord declared number
+IsFaultOf stops declared texts (run.TooLong which.SchemaFile) = DeclaresTooLong declared
+IsFaultOf stops declared texts run.NoColumns = DeclaresNoColumn declared
 IsFaultOf stops declared texts (run.Source number source.BadHeader) = HasBadHeader declared texts number
 IsFaultOf stops declared texts (run.Source number source.TooLong) = IsFirstTooLong stops declared texts number
 IsFaultOf stops declared texts (run.Source number fault) = AreGoodBefore declared texts number
@@ -119,13 +118,13 @@ pub record FailsAt {R : Type 0} (rem : R → Option (List ℕ)) (sources : List 
   pub failed : HasFailed rem source many fault
 
 -- a source of which more was to be read gave these rows
-abbrev pub HasGivenRows : {R : Type 0} → (R → Option (List ℕ)) → Source R → List Entries → Type 0
-HasGivenRows rem source rows = source.end ≡ None → GivesRows rem source rows
+abbrev pub GaveRows : {R : Type 0} → (R → Option (List ℕ)) → Source R → List Entries → Type 0
+GaveRows rem source rows = source.end ≡ None → GivesRows rem source rows
 
 -- the rows that the sources gave are more than the limit
 pub record AreOverLimit {R : Type 0} (rem : R → Option (List ℕ)) (limit : ℕ) (sources : List (Source R)) : Type 0 where
   pub rows : List (List Entries)
-  pub given : AreMatched (HasGivenRows rem) sources rows
+  pub given : AreMatched (GaveRows rem) sources rows
   pub past : limit < sum_by length rows
 
 -- a source of which more was to be read was read out
@@ -143,8 +142,8 @@ abbrev pub IsNotClosed : List Fed → FilesFault → Type 0
 IsNotClosed feds (run.NotClosed number) = number < length feds
 IsNotClosed feds fault = ⊥
 
--- the fault is that one of these feeders was not closed, or the first one of a source; then no feeder was stopped where no
--- gate does
+-- the fault is that one of these feeders was not closed, or the first one of a source; then no feeder was stopped where
+-- no gate does
 abbrev pub IsKeptFault : Bool → List Fed → FilesFault → Type 0
 IsKeptFault stops feds (run.NotClosed number) = number < length feds
 IsKeptFault stops feds fault = IsSourceFault feds fault × (stops ≡ false → AreGoing feds)

@@ -4,18 +4,18 @@ use Rattle.bsi_records.specs.Lines.{fed_line}
 use Rattle.bsi_records.specs.Numbers.{Field}
 use Rattle.bsi_table.specs.Columns.{Declared}
 use Rattle.bsi_table.specs.Rows.{FedRow}
+use Rattle.bsi_text.specs.SchemaTexts.{IsSchemaText}
 use Rattle.bsi_files.specs.AskLines.{IsAskLine}
 use Rattle.bsi_files.specs.Matching.{AreMatched}
-use Rattle.bsi_files.specs.Mixes.{in_order}
-use Rattle.bsi_files.specs.RowFiles.{counts_of, rows_of, IsRowFile, RowFile}
-use Rattle.bsi_files.specs.SchemaFiles.{IsSchemaFile}
+use Rattle.bsi_files.specs.Mixes.{file_by_file}
+use Rattle.bsi_files.specs.RowFiles.{file_counts, file_rows, IsRowFile, RowFile}
 
 -- the line of each file, of which the first has this number
 abbrev pub fed_lines : ℕ → List (ℕ × ℕ) → List (List ℕ)
 fed_lines n [] = []
 fed_lines n (counts ∷ more) = fed_line n counts.0 counts.1 ∷ fed_lines (suc n) more
 
--- the lines of a run: one for each file, and then one for each record of the asks text
+-- the lines of a run: one for each file, and then one for each record of the asks file
 pub record AreLines (schema : Declared) (rows : List FedRow) (counts : List (ℕ × ℕ)) (records : List (List Field))
     (lines : List (List ℕ)) : Type 0 where
   pub answers : List (List ℕ)
@@ -28,7 +28,7 @@ pub record IsRun (declared : List ℕ) (texts : List (List ℕ)) (records : List
   pub schema : Declared
   pub limit : ℕ
   pub files : List RowFile
-  pub schema_is : IsSchemaFile declared schema limit
+  pub schema_is : IsSchemaText declared schema limit
   pub files_are : AreMatched (IsRowFile schema) texts files
-  pub within : length (in_order 0 (map rows_of files)) ≤ limit
-  pub lines_are : AreLines schema (in_order 0 (map rows_of files)) (map counts_of files) records lines
+  pub within : length (file_by_file 0 (map file_rows files)) ≤ limit
+  pub lines_are : AreLines schema (file_by_file 0 (map file_rows files)) (map file_counts files) records lines

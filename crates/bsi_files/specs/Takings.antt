@@ -8,7 +8,7 @@ use Rattle.bsi_files.specs.declared.loading.Fed.{Fed}
 
 -- all that the closing carried
 abbrev pub all_taken : List Entries → Taking
-all_taken rows = record { taken = rows; told = Some rows }
+all_taken rows = record { taken = rows; carried = Some rows }
 
 -- what was taken of the other feeders stays, and what was told of them
 abbrev pub KeepsOthers : ℕ → List Taking → List Taking → Type 0
@@ -17,14 +17,14 @@ KeepsOthers f old new = (k : ℕ) → k ≢ f → taking_at new k ≡ taking_at 
 -- rows of this feeder alone may have been taken, and no closing was told
 pub record TakesOnlyOf (f : ℕ) (old new : List Taking) : Type 0 where
   pub others : KeepsOthers f old new
-  pub told : (taking_at new f).told ≡ (taking_at old f).told
+  pub told : (taking_at new f).carried ≡ (taking_at old f).carried
 
 -- if the feeder's closing was told, all that it carried was taken
 abbrev pub IsDrained : ℕ → List Taking → Type 0
-IsDrained f takings = IfSome (taking_at takings f).told (λ sent. (taking_at takings f).taken ≡ sent)
+IsDrained f takings = IfSome (taking_at takings f).carried (λ sent. (taking_at takings f).taken ≡ sent)
 
 -- what is kept of an end
-pub record IsKept (end : FeedEnd) (fed : Fed) : Type 0 where
+pub record IsFedOf (end : FeedEnd) (fed : Fed) : Type 0 where
   pub accepted : fed.accepted ≡ end.accepted
   pub bad : fed.bad ≡ end.bad
   pub stopped : fed.stopped ≡ end.stopped
@@ -33,8 +33,8 @@ pub record IsKept (end : FeedEnd) (fed : Fed) : Type 0 where
 
 -- the closing of the feeder with this number was told
 pub record IsTold (takings : List Taking) (n : ℕ) (end : FeedEnd) (fed : Fed) : Type 0 where
-  pub kept : IsKept end fed
-  pub told : IfSome end.closing (λ closing. (taking_at takings n).told ≡ Some closing.rows)
+  pub kept : IsFedOf end fed
+  pub told : IfSome end.closing (λ closing. (taking_at takings n).carried ≡ Some closing.rows)
 
 abbrev pub AreTold : List Taking → ℕ → List FeedEnd → List Fed → Type 0
 AreTold takings n [] [] = ⊤
@@ -43,7 +43,7 @@ AreTold takings n ends feds = ⊥
 
 -- no closing was told
 abbrev pub KeepsTold : List Taking → List Taking → Type 0
-KeepsTold old new = (k : ℕ) → (taking_at new k).told ≡ (taking_at old k).told
+KeepsTold old new = (k : ℕ) → (taking_at new k).carried ≡ (taking_at old k).carried
 
 -- each feeder left a closing
 abbrev pub all_closed : List Fed → Bool
@@ -63,7 +63,7 @@ pub record IsFullBefore (n : ℕ) (s : Loading) : Type 0 where
 
 -- all rows of the feeder with this number were taken
 pub record IsLoaded (takings : List Taking) (n : ℕ) (end : FeedEnd) (fed : Fed) : Type 0 where
-  pub kept : IsKept end fed
+  pub kept : IsFedOf end fed
   pub taken : IfSome end.closing (λ closing. taking_at takings n ≡ all_taken closing.rows)
 
 abbrev pub AreLoaded : List Taking → ℕ → List FeedEnd → List Fed → Type 0

@@ -1,19 +1,17 @@
 -- What a run puts after what a writer held.
-use Rattle.std.specs.Prelude.{◌≡◌, ◌≤◌, ◌⊎◌, ℕ, List, [], Option, Some, IsSome, length, map, take}
+use Rattle.std.specs.Prelude.{◌≡◌, ◌≤◌, ◌⊎◌, ℕ, List, Option, Some, length, map, take}
 use Rattle.std.specs.List.{concat}
 use Rattle.std.specs.Io.KnownBytes.{Appends}
-use Rattle.csv.specs.Machine.{next_record}
-use Rattle.csv.specs.Reading.{default_config}
 use Rattle.csv.specs.declared.parser.State.{State}
 use Rattle.bsi_records.specs.Numbers.{Field}
 use Rattle.bsi_text.specs.Sources.{max_records}
-use Rattle.bsi_text.specs.Texts.{AreAllRecords, AreFirstRecords}
+use Rattle.bsi_text.specs.Texts.{AreAllRecords, AreFirstRecords, AreTooMany}
 use Rattle.bsi_text.specs.Waiting.{IsCut}
 use Rattle.bsi_files.specs.declared.faults.FilesFault.{FilesFault}
 use Rattle.bsi_files.specs.declared.faults.FilesFault.TheVariants.{Read, TooLong, NoMemory, Write}
 use Rattle.bsi_files.specs.declared.faults.Which.TheVariants.{AsksFile}
 
--- the lines for all records of the asks text, at most 1,000,000, were put after what a writer held
+-- the lines for all records of the asks file, at most 1,000,000, were put after what a writer held
 pub record WritesAll (IsOf : List (List Field) → List (List ℕ) → Type 0) (asked : List ℕ) (before after : Option (List ℕ))
     : Type 0 where
   pub records : List (List Field)
@@ -23,19 +21,16 @@ pub record WritesAll (IsOf : List (List Field) → List (List ℕ) → Type 0) (
   pub are : IsOf records lines
   pub written : Appends before after (concat lines)
 
--- which of these lines went out before a fault: only the writer's cuts a line, and all stand before one of the asks text
+-- which of these lines went out before a fault: only the writer's cuts a line, and all stand before one of the asks
+-- file
 abbrev pub AreOut : FilesFault → List (List ℕ) → Option (List ℕ) → Option (List ℕ) → Type 0
 AreOut Write lines before after = IsCut before after (concat lines)
 AreOut (Read AsksFile) lines before after = Appends before after (concat lines)
 AreOut (TooLong AsksFile) lines before after = Appends before after (concat lines)
 AreOut fault lines before after = (n : ℕ) × Appends before after (concat (take n lines))
 
--- these are 1,000,000 records, and the text has one more
-abbrev pub AreTooMany : List (List Field) → State → List ℕ → Type 0
-AreTooMany records state rest = (length records ≡ max_records) × IsSome (next_record default_config state [] [] rest)
-
--- lines for some first records of the asks text went out before a fault
-pub record WritesPart (IsOf : List (List Field) → List (List ℕ) → Type 0) (asked : List ℕ) (fault : FilesFault)
+-- lines for some first records of the asks file went out before a fault
+pub record WritesFirst (IsOf : List (List Field) → List (List ℕ) → Type 0) (asked : List ℕ) (fault : FilesFault)
     (before after : Option (List ℕ)) : Type 0 where
   pub records : List (List Field)
   pub lines : List (List ℕ)
@@ -48,11 +43,12 @@ pub record WritesPart (IsOf : List (List Field) → List (List ℕ) → Type 0) 
   pub out : AreOut fault lines before after
 
 -- what a run leaves that ends by a fault: nothing is written before the questions are answered
-abbrev pub Leaves : (List (List Field) → List (List ℕ) → Type 0) → List ℕ → FilesFault → Option (List ℕ) → Option (List ℕ) → Type 0
-Leaves IsOf asked (Read AsksFile) before after = WritesPart IsOf asked (Read AsksFile) before after
-Leaves IsOf asked (TooLong AsksFile) before after = WritesPart IsOf asked (TooLong AsksFile) before after
-Leaves IsOf asked Write before after = WritesPart IsOf asked Write before after
-Leaves IsOf asked NoMemory before after = (after ≡ before) ⊎ WritesPart IsOf asked NoMemory before after
+abbrev pub Leaves : (List (List Field) → List (List ℕ) → Type 0) → List ℕ → FilesFault → Option (List ℕ)
+    → Option (List ℕ) → Type 0
+Leaves IsOf asked (Read AsksFile) before after = WritesFirst IsOf asked (Read AsksFile) before after
+Leaves IsOf asked (TooLong AsksFile) before after = WritesFirst IsOf asked (TooLong AsksFile) before after
+Leaves IsOf asked Write before after = WritesFirst IsOf asked Write before after
+Leaves IsOf asked NoMemory before after = (after ≡ before) ⊎ WritesFirst IsOf asked NoMemory before after
 Leaves IsOf asked fault before after = after ≡ before
 
 -- what is so of the bytes of the schema file and of the row files, where all of them are known
@@ -60,8 +56,9 @@ abbrev pub WhereFilesKnown : Option (List ℕ) → List (Option (List ℕ)) → 
 WhereFilesKnown schema files Is =
     (declared : List ℕ) → (texts : List (List ℕ)) → schema ≡ Some declared → files ≡ map Some texts → Is declared texts
 
--- and of the asks text
-abbrev pub WhereKnown : Option (List ℕ) → List (Option (List ℕ)) → Option (List ℕ) → (List ℕ → List (List ℕ) → List ℕ → Type 0) → Type 0
+-- and of the asks file
+abbrev pub WhereKnown : Option (List ℕ) → List (Option (List ℕ)) → Option (List ℕ)
+    → (List ℕ → List (List ℕ) → List ℕ → Type 0) → Type 0
 WhereKnown schema files asks Is =
     (declared : List ℕ) → (texts : List (List ℕ)) → (asked : List ℕ)
     → schema ≡ Some declared → files ≡ map Some texts → asks ≡ Some asked → Is declared texts asked

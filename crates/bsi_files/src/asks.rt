@@ -16,7 +16,7 @@ ghost use Rattle.bsi_table.specs.declared.query.Query.{Query};
 ghost use Rattle.bsi_files.specs.AskLines.{IsAskLine, IsShownAnswer};
 ghost use Rattle.bsi_files.specs.Matching.{AreMatched};
 ghost use Rattle.bsi_files.specs.Runs.{fed_lines, AreLines};
-ghost use Rattle.bsi_files.specs.Writing.{AreOut, WritesAll, WritesPart};
+ghost use Rattle.bsi_files.specs.Writing.{AreOut, WritesAll, WritesFirst};
 ghost use Rattle.bsi_origins.specs.Origins.{max_feeders};
 
 use crate::headers::file_number;
@@ -45,7 +45,7 @@ pub(crate) fn answer_all<A: Read + Drop, W: Write>(
         WritesAll (AreLines table.now.schema table.now.rows (map fed_counts fed.now)) bytes
         (W.contents writer.old) (W.contents writer.new))) }
     ensures part { IfErr result (λ fault. IfSome (A.remaining asks) (λ bytes.
-        WritesPart (AreLines table.now.schema table.now.rows (map fed_counts fed.now)) bytes fault
+        WritesFirst (AreLines table.now.schema table.now.rows (map fed_counts fed.now)) bytes fault
         (W.contents writer.old) (W.contents writer.new))) }
 {
     let mut line = Vec::new(alloc);
@@ -94,7 +94,7 @@ fn answer_records<A: Read + Drop, W: Write>(
         WritesAll (AreMatched (IsAskLine table.now.schema table.now.rows)) bytes
         (W.contents writer.old) (W.contents writer.new))) }
     ensures part { IfErr result (λ fault. FromText (source_of A.remaining records.old.input)
-        (λ bytes. WritesPart (AreMatched (IsAskLine table.now.schema table.now.rows)) bytes fault
+        (λ bytes. WritesFirst (AreMatched (IsAskLine table.now.schema table.now.rows)) bytes fault
         (W.contents writer.old) (W.contents writer.new))) }
 {
     let mut fields = ByteRecord::new(alloc);

@@ -1,9 +1,9 @@
 //! Why a run over row files ends early.
 
 ghost use Rattle.std.specs.Prelude.{◌≡◌, true};
-ghost use Rattle.bsi_files.specs.Faults.{is_late, is_of_schema, text_fault};
+ghost use Rattle.bsi_files.specs.Faults.{is_late, text_fault};
 
-use bsi_text::{SourceFault, WriteFault};
+use bsi_text::{SchemaFault, SourceFault, WriteFault};
 use std::alloc::AllocError;
 use std::error::Error;
 use std::fmt;
@@ -107,10 +107,23 @@ impl From<WriteFault> for FilesFault {
     }
 }
 
+impl From<SchemaFault> for FilesFault {
+    ghost use Rattle.bsi_files.specs.Faults.{schema_fault};
+
+    ghost from_gives = { λ fault e. e ≡ schema_fault fault };
+
+    fn from(fault: SchemaFault) -> FilesFault {
+        match fault {
+            SchemaFault::BadRecord(record) => FilesFault::BadSchema(record),
+            SchemaFault::NoColumns => FilesFault::NoColumns,
+            SchemaFault::Source(fault) => FilesFault::of_text(Which::SchemaFile, fault),
+        }
+    }
+}
+
 impl FilesFault {
     /// Returns the fault of a run for a text whose records were not all read.
     pub(crate) fn of_text(which: Which, fault: SourceFault) -> FilesFault
-        ensures schema { which ≡ Which.SchemaFile → is_of_schema result ≡ true }
         ensures asks { which ≡ Which.AsksFile → is_late result ≡ true }
         ensures text { result ≡ text_fault which fault }
     {

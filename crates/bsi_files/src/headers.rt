@@ -8,13 +8,11 @@ ghost use Rattle.bsi_files.specs.Headers.{IsHeaderFault, IsHeadersFault};
 ghost use Rattle.bsi_origins.specs.Origins.{max_feeders};
 
 use crate::{FilesFault, NoMemory};
+use bsi_feeding::MAX_BATCH_ROWS;
 use bsi_table::Schema;
 use bsi_text::RowSource;
 use std::alloc::Global;
 use std::io::Read;
-
-/// The capacity of each file's ring: how many of its rows may wait for the loader.
-const RING_CAPACITY: u32 = 1_024;
 
 /// Returns the number of the file at a place. There are at most 64 files.
 pub(crate) fn file_number(place: usize) -> u32
@@ -57,19 +55,12 @@ fn begin<I: Read + Drop>(
     ensures fault { IfErr result (IsHeaderFault schema.now (I.remaining reader) number) }
     ensures begun { IfOk result (Begins I.remaining schema.now reader) }
 {
-    match RowSource::begin(alloc, schema, reader) {
-        Ok(source) => Ok(source),
-        Err(fault) => Err(FilesFault::Source(number, fault)),
-    }
+    RowSource::begin(alloc, schema, reader).map_err(|fault| FilesFault::Source(number, fault))
 }
 
-/// Returns the capacity of each file's ring.
+/// Returns the capacity of each file's ring: as many of its rows may wait for the loader as a batch has.
 pub(crate) fn capacities(alloc: Global, files: usize) -> Result<Vec<u32>, NoMemory>
     ensures { IfOk result (λ made. length made.items ≡ files) }
 {
-    let mut capacities = Vec::with_capacity(alloc, files)?;
-    'files: for _ in 0..files {
-        capacities.push(RING_CAPACITY)?;
-    }
-    Ok(capacities)
+    vec![in alloc; MAX_BATCH_ROWS as u32; files]
 }

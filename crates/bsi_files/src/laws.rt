@@ -5,7 +5,7 @@ ghost use Rattle.bsi_records.specs.Numbers.{Field};
 ghost use Rattle.bsi_table.specs.Columns.{Declared};
 ghost use Rattle.bsi_table.specs.Rows.{FedRow};
 ghost use Rattle.bsi_text.specs.Pasts.{FindMemory};
-ghost use Rattle.bsi_files.specs.Mixes.{in_order, AreAlike, IsMixOf};
+ghost use Rattle.bsi_files.specs.Mixes.{file_by_file, AreAlike, IsMixOf};
 ghost use Rattle.bsi_files.specs.RowFiles.{RowFile};
 ghost use Rattle.bsi_files.specs.Runs.{AreLines, IsRun};
 
@@ -16,7 +16,7 @@ pub fn any_mix()
         (records : List (List Field)) → (lines : List (List ℕ)) → AreAlike a b →
         AreLines schema a counts records lines → AreLines schema b counts records lines }
     ensures order { (files : List RowFile) → (rows : List FedRow) → IsMixOf files rows →
-        AreAlike rows (in_order 0 (map (λ file. file.rows) files)) }
+        AreAlike rows (file_by_file 0 (map (λ file. file.rows) files)) }
 {}
 
 /// States that the bytes of a run's files and the records of its questions have one list of lines, if no line says that

@@ -1,18 +1,19 @@
 //! The loader's part of a run: beside the feeders, and for what is left when they have ended.
 //!
-//! It takes batches of a feeder until these have 256 rows before it goes on to the next one, so that no ring stays full because
-//! another is long. It publishes nothing: nobody asks before all rows are held, and then the loader hands over its table.
+//! It takes batches of a feeder until these have 256 rows before it goes on to the next one, so that no ring stays full
+//! because another is long. It publishes nothing: nobody asks before all rows are held, and then the loader hands over
+//! its table.
 
 ghost use Rattle.std.specs.Prelude.{◌≡◌, ◌≢◌, ◌<◌, ◌≤◌, ℕ, [], All, Err, IfErr, IfSome, None, OnErr, OnOk, Ok, Some, false, length, true};
 ghost use Rattle.bsi_system.specs.Running.{taking_at, IsClosingOf};
 ghost use Rattle.bsi_files.specs.Ends.{AreClosings};
-ghost use Rattle.bsi_files.specs.Takings.{all_closed, AreGoing, AreTold, IsDrained, IsFine, IsFullAt, IsFullBefore, IsKept, KeepsOthers, KeepsTold, TakesOnlyOf};
+ghost use Rattle.bsi_files.specs.Takings.{all_closed, AreGoing, AreTold, IsDrained, IsFine, IsFullAt, IsFullBefore, IsFedOf, KeepsOthers, KeepsTold, TakesOnlyOf};
 ghost use Rattle.bsi_files.specs.Faults.{is_early};
 ghost use Rattle.bsi_files.specs.RunFaults.{IsKeptFault, IsNotClosed, IsSourceFault};
 ghost use Rattle.bsi_origins.specs.Origins.{max_feeders};
 
 use crate::headers::file_number;
-use crate::threads::Watch;
+use crate::threads::RunFlags;
 use crate::{FeedEnd, FilesFault, Gate, NoMemory};
 use bsi_feeding::Pause;
 use bsi_system::{Closing, LoadRefused, Loader, Naming};
@@ -36,13 +37,13 @@ pub(crate) struct Fed {
 }
 
 /// Goes from feeder to feeder, round after round, and takes rows until each feeder has ended. It stops at a row that is
-/// refused, unless the cause is that no row is seen. From then on, feeders whose rings are full stop. A full index is no
-/// fault yet: once the feeders have ended, their closings tell whether they sent more rows than the limit.
+/// refused, unless the cause is that no row is seen. From then on, feeders whose rings are full stop. A full index is
+/// no fault yet: once the feeders have ended, their closings tell whether they sent more rows than the limit.
 pub(crate) fn load_beside<B: Naming, R: Wait, G: Gate>(
     rt: &R,
     loader: &mut Loader<B>,
     feeders: u32,
-    watch: &Watch<'_, G>,
+    flags: &RunFlags<'_, G>,
 ) -> Result<(), FilesFault>
     ensures system { loader.new.system ≡ loader.old.system }
     ensures early { IfErr result (λ fault. is_early fault ≡ true) }
@@ -50,15 +51,15 @@ pub(crate) fn load_beside<B: Naming, R: Wait, G: Gate>(
 {
     let mut pause = Pause::new(MAX_YIELDS);
     'rounds: for _ in rt.forever() {
-        if watch.ended() >= u64::from(feeders) {
+        if flags.ended() >= u64::from(feeders) {
             return Ok(());
         }
         match load_round(loader, feeders) {
             Ok(true) => pause = Pause::new(MAX_YIELDS),
             Ok(false) => pause.wait(rt),
             Err(fault) => {
-                watch.refuse();
-                return after_table(fault);
+                flags.refuse();
+                return unless_full(fault);
             }
         }
     }
@@ -67,7 +68,7 @@ pub(crate) fn load_beside<B: Naming, R: Wait, G: Gate>(
 }
 
 /// Returns the fault that a row was refused for, unless the index is full.
-fn after_table(fault: FilesFault) -> Result<(), FilesFault>
+fn unless_full(fault: FilesFault) -> Result<(), FilesFault>
     requires { is_early fault ≡ true }
     ensures early { IfErr result (λ fault. is_early fault ≡ true) }
     ensures room { IfErr result (λ fault. fault ≢ FilesFault.IndexFull) }
@@ -144,9 +145,9 @@ pub(crate) fn settle_all<B: Naming>(
 fn settle_end<B: Naming>(loader: &mut Loader<B>, end: FeedEnd) -> Fed
     requires { IfSome end.closing (λ closing. IsClosingOf closing loader.old.system) }
     ensures system { loader.new.system ≡ loader.old.system }
-    ensures kept { IsKept end result }
+    ensures kept { IsFedOf end result }
     ensures told { IfSome end.closing
-        (λ closing. (taking_at loader.new.takings closing.number).told ≡ Some closing.rows) }
+        (λ closing. (taking_at loader.new.takings closing.number).carried ≡ Some closing.rows) }
     ensures others { IfSome end.closing
         (λ closing. KeepsOthers closing.number loader.old.takings loader.new.takings) }
     ensures same { end.closing ≡ None → loader.new.takings ≡ loader.old.takings }
@@ -175,7 +176,7 @@ fn settle_end<B: Naming>(loader: &mut Loader<B>, end: FeedEnd) -> Fed
 fn settle<B: Naming>(loader: &mut Loader<B>, closing: Closing)
     requires { IsClosingOf closing loader.old.system }
     ensures system { loader.new.system ≡ loader.old.system }
-    ensures told { (taking_at loader.new.takings closing.number).told ≡ Some closing.rows }
+    ensures told { (taking_at loader.new.takings closing.number).carried ≡ Some closing.rows }
     ensures others { KeepsOthers closing.number loader.old.takings loader.new.takings }
 {
     let feeder = closing.feeder();

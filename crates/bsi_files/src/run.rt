@@ -1,9 +1,9 @@
 //! A run over row files, from their headers to the answers.
 //!
-//! Its lines are stated over the rows of the files, one file after the other. The loader mixes them as the threads run; by
-//! `laws::any_mix` a line is the same for each mix. Only closings tie rows to files, so a full index is told once they are
-//! settled. Where a ring gave no closing, `NotClosed` or a source's fault is told in its place. Nobody asks while the threads
-//! run, so nothing is published: the loader hands over its table, and the questions are put to it.
+//! Its lines are stated over the rows of the files, one file after the other. The loader mixes them as the threads run;
+//! by `laws::any_mix` a line is the same for each mix. Only closings tie rows to files, so a full index is told once
+//! they are settled. Where a ring gave no closing, `NotClosed` or a source's fault is told in its place. Nobody asks
+//! while the threads run, so nothing is published: the loader hands over its table, and the questions are put to it.
 
 ghost use Rattle.std.specs.Prelude.{◌≡◌, ◌≢◌, ◌<◌, ◌≤◌, ◌↔◌, ◌++◌, [], Err, IfErr, IfOk, IfSome, OnOk, false, length, map, true};
 ghost use Rattle.bsi_table.specs.Table.{no_rows};
@@ -19,12 +19,11 @@ ghost use Rattle.bsi_system.specs.Running.{AlwaysHolds};
 use crate::asks::answer_all;
 use crate::headers::{begin_all, capacities, file_number};
 use crate::loading::{Fed, check_all, load_beside, load_rest, settle_all};
-use crate::tables::read_schema;
-use crate::threads::{Watch, join_all, start_all};
+use crate::threads::{RunFlags, join_all, start_all};
 use crate::{FilesFault, Gate, NoMemory, Stopping};
 use bsi_system::{Feeder, History, Loader, Naming, OpenRefused, System, open};
 use bsi_table::{Index, MAX_FEEDERS, Schema};
-use bsi_text::RowSource;
+use bsi_text::{RowSource, read_schema};
 use std::alloc::Global;
 use std::io::{Read, Write};
 use std::marker::Brand;
@@ -34,16 +33,16 @@ use std::thread::{Scope, Threads};
 
 /// Loads the good rows of at most 64 files into one index, and answers the questions over all of them.
 ///
-/// The schema file declares the columns and the most rows. A feeder on a thread of its own reads each file, and sends
+/// The schema file declares the columns and the limit. A feeder on a thread of its own reads each file, and sends
 /// its rows through a ring of 1,024 rows; the calling thread takes the rows out. Then it writes one line for each file,
 /// in their order, and one line for each record of the questions. No line depends on how the threads ran. A feeder that
 /// the gate stops is no fault, and the rows that it sent count.
 ///
 /// It looks for faults in this order: the number of files; the schema file; the header of each row file; a thread for
-/// each feeder; once the threads have ended the limit, then, where a feeder was stopped though its gate stops none,
-/// the first feeder without a closing, then the first row file that gives no more rows, then the first feeder without a
-/// closing; and, while it writes answers, the questions and the writer. Refused memory is answered where it is met.
-/// Lines that stand before a fault are whole, unless the writer fails. It keeps each row once, in the index.
+/// each feeder; the limit; a row file that gives no more rows; a feeder without a closing; the questions and the
+/// writer. Where a feeder was stopped though its gate stops none, it looks for a feeder without a closing before it
+/// looks at the row files. Of several row files or feeders it tells the first. Refused memory is answered where it is
+/// met. Lines that stand before a fault are whole, unless the writer fails. It keeps each row once, in the index.
 pub fn run_files<
     R: Threads + Wait + AllocGlobal + Sync,
     S: Read + Drop,
@@ -139,7 +138,7 @@ fn run_in<
                 loader,
                 analysts: _analysts,
             },
-        ) => run_ends(rt, loader, feeders, run, writer, gate),
+        ) => load_and_answer(rt, loader, feeders, run, writer, gate),
         // The sizes are in range, so only memory can be refused.
         Err(OpenRefused::Make(_)) => Err(FilesFault::NoMemory),
         Err(OpenRefused::Readers(loader)) => {
@@ -182,7 +181,7 @@ impl<B: Naming, R: Wait> OwnedLoader<'_, B, R> {
 }
 
 /// Loads all rows of the files, and answers the questions.
-fn run_ends<
+fn load_and_answer<
     B: Naming,
     R: Threads + Wait + AllocGlobal + Sync,
     A: Read + Drop,
@@ -212,12 +211,18 @@ fn run_ends<
         (W.contents writer.old) (W.contents writer.new))) }
 {
     let Run { sources, asks } = run;
-    let (fed, table) = feed_files(rt, loader, feeders, sources, gate)?;
-    answer_all(rt.alloc(), &table, &fed, asks, writer)
+    let loaded = feed_files(rt, loader, feeders, sources, gate)?;
+    answer_all(rt.alloc(), &loaded.table, &loaded.fed, asks, writer)
 }
 
-/// Feeds the files, loads their rows, and returns what each feeder leaves, and the table of the rows. When it returns, all
-/// threads have ended.
+/// What the feeders of a run left, and the table of all their rows.
+#[derive(Drop)]
+struct Loaded {
+    fed: Vec<Fed>,
+    table: Index,
+}
+
+/// Feeds the files, and loads their rows. When it returns, all threads have ended.
 fn feed_files<
     B: Naming,
     R: Threads + Wait + AllocGlobal + Sync,
@@ -229,32 +234,32 @@ fn feed_files<
     feeders: Vec<Feeder>,
     sources: Vec<RowSource<I>>,
     gate: &G,
-) -> Result<(Vec<Fed>, Index), FilesFault>
+) -> Result<Loaded, FilesFault>
     requires { AreReady loader.system B.about.limit feeders.items sources.items }
     ensures fault { IfErr result (IsLoadFault I.remaining G.STOPS B.about.limit sources.items) }
-    ensures fed { IfOk result (λ run.
-        IsAllFed I.remaining G.STOPS B.about.limit run.1.rows sources.items run.0.items) }
-    ensures schema { IfOk result (λ run. run.1.schema ≡ loader.system.schema) }
+    ensures fed { IfOk result (λ loaded. IsAllFed I.remaining G.STOPS B.about.limit
+        loaded.table.rows sources.items loaded.fed.items) }
+    ensures schema { IfOk result (λ loaded. loaded.table.schema ≡ loader.system.schema) }
 {
-    let watch = Watch::new(gate);
-    let shared = &watch;
+    let flags = RunFlags::new(gate);
+    let shared = &flags;
     let owned = OwnedLoader { loader, rt };
     thread::scope(
         thread::scope_env(),
         rt,
-        move |scope| -> Result<(Vec<Fed>, Index), FilesFault>
+        move |scope| -> Result<Loaded, FilesFault>
             requires { AreReady owned.loader.system B.about.limit feeders.items sources.items }
             ensures fault { IfErr result
                 (IsLoadFault I.remaining G.STOPS B.about.limit sources.items) }
-            ensures fed { IfOk result (λ run.
-                IsAllFed I.remaining G.STOPS B.about.limit run.1.rows sources.items run.0.items) }
-            ensures schema { IfOk result (λ run. run.1.schema ≡ owned.entry.loader.system.schema) }
+            ensures fed { IfOk result (λ loaded. IsAllFed I.remaining G.STOPS B.about.limit
+                loaded.table.rows sources.items loaded.fed.items) }
+            ensures schema { IfOk result (λ loaded.
+                loaded.table.schema ≡ owned.entry.loader.system.schema) }
         { feed_in(scope, rt, shared, owned, feeders, sources) },
     )
 }
 
-/// Feeds the files by threads of a scope, loads their rows, and returns what each feeder leaves, and the table of the
-/// rows.
+/// Feeds the files by threads of a scope, and loads their rows.
 fn feed_in<
     's,
     E,
@@ -265,24 +270,25 @@ fn feed_in<
 >(
     scope: &Scope<'s, E>,
     rt: &'s R,
-    watch: &'s Watch<'s, G>,
+    flags: &'s RunFlags<'s, G>,
     mut owned: OwnedLoader<'s, B, R>,
     feeders: Vec<Feeder>,
     sources: Vec<RowSource<I>>,
-) -> Result<(Vec<Fed>, Index), FilesFault>
+) -> Result<Loaded, FilesFault>
     requires { AreReady owned.loader.system B.about.limit feeders.items sources.items }
     ensures fault { IfErr result (IsLoadFault I.remaining G.STOPS B.about.limit sources.items) }
-    ensures fed { IfOk result (λ run.
-        IsAllFed I.remaining G.STOPS B.about.limit run.1.rows sources.items run.0.items) }
-    ensures schema { IfOk result (λ run. run.1.schema ≡ owned.entry.loader.system.schema) }
+    ensures fed { IfOk result (λ loaded. IsAllFed I.remaining G.STOPS B.about.limit
+        loaded.table.rows sources.items loaded.fed.items) }
+    ensures schema { IfOk result (λ loaded.
+        loaded.table.schema ≡ owned.entry.loader.system.schema) }
 {
-    let fed = load_files(scope, rt, watch, &mut owned.loader, feeders, sources)?;
+    let fed = load_files(scope, rt, flags, &mut owned.loader, feeders, sources)?;
     let table = owned.into_table()?;
-    Ok((fed, table))
+    Ok(Loaded { fed, table })
 }
 
-/// Feeds the files by threads of a scope, loads all their rows, and returns what each feeder leaves. What `fed` asks of the
-/// loader is what its `into_table` tells of each.
+/// Feeds the files by threads of a scope, loads all their rows, and returns what each feeder leaves. `into_table` gives
+/// both premises of `fed`.
 fn load_files<
     's,
     E,
@@ -293,7 +299,7 @@ fn load_files<
 >(
     scope: &Scope<'s, E>,
     rt: &'s R,
-    watch: &'s Watch<'s, G>,
+    flags: &'s RunFlags<'s, G>,
     loader: &mut Loader<B>,
     feeders: Vec<Feeder>,
     sources: Vec<RowSource<I>>,
@@ -310,8 +316,8 @@ fn load_files<
     let mut threads = Vec::with_capacity(rt.alloc(), files)?;
     let mut ends = Vec::with_capacity(rt.alloc(), files)?;
     let mut fed = Vec::with_capacity(rt.alloc(), files)?;
-    let started = start_all(scope, rt, watch, feeders, sources, &mut threads);
-    let beside = load_where(rt, loader, file_number(files), watch, started);
+    let started = start_all(scope, rt, flags, feeders, sources, &mut threads);
+    let beside = load_where(rt, loader, file_number(files), flags, started);
     let joined = join_all(rt, threads, &mut ends);
     beside?;
     joined?;
@@ -326,7 +332,7 @@ fn load_where<B: Naming, R: Wait, G: Gate>(
     rt: &R,
     loader: &mut Loader<B>,
     feeders: u32,
-    watch: &Watch<'_, G>,
+    flags: &RunFlags<'_, G>,
     started: bool,
 ) -> Result<(), FilesFault>
     ensures system { loader.new.system ≡ loader.old.system }
@@ -335,8 +341,8 @@ fn load_where<B: Naming, R: Wait, G: Gate>(
     ensures started { OnOk result (started ≡ true) }
 {
     if !started {
-        watch.refuse();
+        flags.refuse();
         return Err(FilesFault::NoMemory);
     }
-    load_beside(rt, loader, feeders, watch)
+    load_beside(rt, loader, feeders, flags)
 }

@@ -13,7 +13,7 @@ use Rattle.std.proofs.alloc.Global.TheLaws as heap
 use Rattle.bsi_handles.specs.contracts.state.State as Inner
 use Rattle.bsi_handles.proofs.state.State.TheLaws as inner
 use Rattle.bsi_handles.specs.contracts.held.parts.Parts as Parts
-use Rattle.bsi_handles.specs.contracts.held.Held as Held
+use Rattle.bsi_handles.specs.contracts.held.OwnedPointer as OwnedPointer
 
 abbrev pub E : Bx
 E = record { row = Inner.the_row; laws = inner.the_row_laws; al = record { row = Heap.the_row; laws = heap.the_row_laws; g = ghosts; d = dict; drops = impl [] tnil dnil } }
@@ -22,7 +22,7 @@ abbrev pub FromParts : Slot 0
 FromParts = plain (λ _. Parts.the_row Inner.the_row Heap.the_row ghosts)
 
 abbrev pub FromHeld : Slot 0
-FromHeld = plain (λ _. Held.the_row)
+FromHeld = plain (λ _. OwnedPointer.the_row)
 
 -- what is there is some value
 pub some_of : {X : Type 0} (held : Option X) → is_some held ≡ true → (x : X) × (held ≡ Some x)

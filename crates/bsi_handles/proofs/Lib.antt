@@ -1,5 +1,4 @@
 pub mod AsBox
-pub mod Declaring
 pub mod RowsOf
 pub mod Steps
 pub mod Telling

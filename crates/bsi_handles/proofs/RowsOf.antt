@@ -7,27 +7,27 @@ use Rattle.std.proofs.lemmas.List.Elements.{All-nil, All-push}
 use Rattle.bsi_table.specs.Columns.{fits, NamedColumn}
 use Rattle.bsi_table.specs.Rows.{FedRow}
 use Rattle.bsi_table.specs.Table.{with_rows, AreFitting, AreFrom, Table}
-use Rattle.bsi_handles.specs.declared.columns.Column.{Column}
+use Rattle.bsi_handles.specs.declared.columns.GivenColumn.{GivenColumn}
 use Rattle.bsi_handles.specs.Columns.{row_of, rows_of}
 
 -- one row more
-pub rows_of-more : (feeder : ℕ) (columns : List Column) (from n : ℕ)
+pub rows_of-more : (feeder : ℕ) (columns : List GivenColumn) (from n : ℕ)
     → rows_of feeder columns from (n + 1) ≡ rows_of feeder columns from n ++ (feeder, row_of columns (from + n)) ∷ []
 unfolding rows_of
 rows_of-more feeder columns from n = map-range_with_len_more (λ r. (feeder, row_of columns r)) from n (from + n) refl
 
 -- no row
-pub rows_of-none : (feeder : ℕ) (columns : List Column) (from : ℕ) → rows_of feeder columns from 0 ≡ []
+pub rows_of-none : (feeder : ℕ) (columns : List GivenColumn) (from : ℕ) → rows_of feeder columns from 0 ≡ []
 unfolding rows_of
 rows_of-none feeder columns from = refl
 
 -- as many as are asked for
-pub length-rows_of : (feeder : ℕ) (columns : List Column) (from n : ℕ) → length (rows_of feeder columns from n) ≡ n
+pub length-rows_of : (feeder : ℕ) (columns : List GivenColumn) (from n : ℕ) → length (rows_of feeder columns from n) ≡ n
 unfolding rows_of
 length-rows_of feeder columns from n = length-map-range_with_len (λ r. (feeder, row_of columns r)) from n
 
 -- a block behind another
-pub rows_of-append : (feeder : ℕ) (columns : List Column) (from a b : ℕ)
+pub rows_of-append : (feeder : ℕ) (columns : List GivenColumn) (from a b : ℕ)
     → rows_of feeder columns from (a + b) ≡ rows_of feeder columns from a ++ rows_of feeder columns (from + a) b
 rows_of-append feeder columns from a zero =
     let none : a + 0 ≡ a = omega arith in
@@ -44,12 +44,12 @@ rows_of-append feeder columns from a (suc b) =
     ∙ sym (rows_of-more feeder columns (from + a) b) ∙ ap (rows_of feeder columns (from + a)) one)
 
 -- an index with no row more
-pub with_none : (t : Table) (feeder : ℕ) (columns : List Column) → with_rows t (rows_of feeder columns 0 0) ≡ t
+pub with_none : (t : Table) (feeder : ℕ) (columns : List GivenColumn) → with_rows t (rows_of feeder columns 0 0) ≡ t
 with_none t feeder columns =
     ap (λ (more : List FedRow). record t { rows = t.rows ++ more }) (rows_of-none feeder columns 0) ∙ ap (λ (rows : List FedRow). record t { rows = rows }) (append-nil t.rows)
 
 -- an index with a block more
-pub with_block : (t u v : Table) (feeder : ℕ) (columns : List Column) (a b c : ℕ)
+pub with_block : (t u v : Table) (feeder : ℕ) (columns : List GivenColumn) (a b c : ℕ)
     → u ≡ with_rows t (rows_of feeder columns 0 a) → v ≡ with_rows u (rows_of feeder columns a b) → a + b ≡ c
     → v ≡ with_rows t (rows_of feeder columns 0 c)
 with_block t u v feeder columns a b c first next all =
@@ -60,7 +60,7 @@ with_block t u v feeder columns a b c first next all =
     (ap (λ (r : ℕ). rows_of feeder columns 0 a ++ rows_of feeder columns r b) (sym zero_first) ∙ sym (rows_of-append feeder columns 0 a b) ∙ ap (rows_of feeder columns 0) all)
 
 -- rows that fit
-pub fitting-rows_of : (declared : List NamedColumn) (feeder : ℕ) (columns : List Column) (from n : ℕ)
+pub fitting-rows_of : (declared : List NamedColumn) (feeder : ℕ) (columns : List GivenColumn) (from n : ℕ)
     → ((r : ℕ) → r < from + n → fits declared (row_of columns r) ≡ true) → AreFitting declared (rows_of feeder columns from n)
 fitting-rows_of declared feeder columns from zero each =
     subst (AreFitting declared) (sym (rows_of-none feeder columns from)) (All-nil (λ (row : FedRow). IsTrue (fits declared row.1)))
@@ -71,7 +71,7 @@ fitting-rows_of declared feeder columns from (suc n) each =
     (fitting-rows_of declared feeder columns from n (λ r within. each r (omega (arith, within)))) (each (from + n) (omega arith)))
 
 -- rows of a feeder that there is
-pub from-rows_of : (feeders feeder : ℕ) (columns : List Column) (from n : ℕ) → feeder < feeders → AreFrom feeders (rows_of feeder columns from n)
+pub from-rows_of : (feeders feeder : ℕ) (columns : List GivenColumn) (from n : ℕ) → feeder < feeders → AreFrom feeders (rows_of feeder columns from n)
 from-rows_of feeders feeder columns from zero there =
     subst (AreFrom feeders) (sym (rows_of-none feeder columns from)) (All-nil (λ (row : FedRow). row.0 < feeders))
 from-rows_of feeders feeder columns from (suc n) there =

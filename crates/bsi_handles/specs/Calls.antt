@@ -8,20 +8,20 @@ use Rattle.bsi_records.specs.Numbers.{Field}
 use Rattle.bsi_records.specs.Predicates.{IsPredicate}
 use Rattle.bsi_table.specs.Answers.{IsAnswer}
 use Rattle.bsi_table.specs.RowBlocks.{max_block_rows}
-use Rattle.bsi_table.specs.Rows.{holds}
+use Rattle.bsi_table.specs.Rows.{holds, row_entries}
 use Rattle.bsi_table.specs.Table.{max_feeders, no_rows, with_rows, Table}
 use Rattle.bsi_table.specs.declared.query.Answer.{Answer}
 use Rattle.bsi_table.specs.declared.query.Answer.TheVariants.{Count as count_answer, Sum as sum_answer, Value as value_answer, Rows as rows_answer}
 use Rattle.bsi_table.specs.declared.query.Pred.{Pred}
 use Rattle.bsi_table.specs.declared.query.Query.{Query}
+use Rattle.bsi_text.specs.SchemaTexts.{DeclaresNoColumn, DeclaresTooLong, IsBadRecord, IsSchemaText}
 use Rattle.bsi_handles.specs.Columns.{are_columns, row_count, rows_of, AreTaken, IsFirstMisfit}
 use Rattle.bsi_handles.specs.Opened.{Opened}
-use Rattle.bsi_handles.specs.SchemaTexts.{DeclaresNoColumn, HasBadRecord, IsSchemaText, IsTooLong}
 use Rattle.bsi_handles.specs.States.{is_shared, opened_in}
 use Rattle.bsi_handles.specs.Statuses.{Ending}
 use Rattle.bsi_handles.specs.declared.answers.FlatAnswer.{FlatAnswer}
 use Rattle.bsi_handles.specs.declared.answers.Place.{Place}
-use Rattle.bsi_handles.specs.declared.columns.Column.{Column}
+use Rattle.bsi_handles.specs.declared.columns.GivenColumn.{GivenColumn}
 use Rattle.bsi_handles.specs.declared.refusal.Refusal.{Refusal}
 use Rattle.bsi_handles.specs.declared.refusal.Refusal.TheVariants.{Closed, Open, NoMemory, BadSchema, NoColumns, BadFeeder, BadColumns, BadRow, IndexFull, Shared, BadQuery, NoRoom, BadText}
 use Rattle.bsi_handles.specs.declared.state.State.{State}
@@ -29,7 +29,7 @@ use Rattle.bsi_handles.specs.declared.state.State.TheVariants.{Alone, Shared as 
 
 -- ---- opening
 
--- an index of no rows, of the schema and the row limit that the text declares
+-- an index of no rows, of the schema and the limit that the text declares
 pub record IsNew (text : List ℕ) (feeders : ℕ) (opened : Opened) : Type 0 where
   pub text_is : opened.text ≡ text
   pub declared : IsSchemaText text opened.table.schema opened.table.limit
@@ -37,9 +37,9 @@ pub record IsNew (text : List ℕ) (feeders : ℕ) (opened : Opened) : Type 0 wh
 
 -- the text is refused; of a bad record this is the number, and else it is 0
 abbrev pub IsTextRefusal : List ℕ → ℕ → Refusal → Type 0
-IsTextRefusal text number BadSchema = HasBadRecord text number
+IsTextRefusal text number BadSchema = IsBadRecord text number
 IsTextRefusal text number NoColumns = DeclaresNoColumn text × (number ≡ 0)
-IsTextRefusal text number BadText = IsTooLong text × (number ≡ 0)
+IsTextRefusal text number BadText = DeclaresTooLong text × (number ≡ 0)
 IsTextRefusal text number NoMemory = number ≡ 0
 IsTextRefusal text number why = ⊥
 
@@ -59,18 +59,18 @@ IsOpening before text feeders number after (Err why) =
 -- ---- appending
 
 -- all rows of the columns can be appended
-pub record AreAppendable (table : Table) (feeder : ℕ) (columns : List Column) : Type 0 where
+pub record AreAppendable (table : Table) (feeder : ℕ) (columns : List GivenColumn) : Type 0 where
   pub fed : feeder < table.feeders
   pub even : are_columns (length table.schema.columns) columns ≡ true
   pub taken : AreTaken table.schema.columns columns (row_count columns)
   pub within : length table.rows + row_count columns ≤ table.limit
 
 -- the columns are of a feeder that there is, and of the index's number and one length
-abbrev pub AreOfIndex : Table → ℕ → List Column → Type 0
+abbrev pub AreOfIndex : Table → ℕ → List GivenColumn → Type 0
 AreOfIndex table feeder columns = (feeder < table.feeders) × (are_columns (length table.schema.columns) columns ≡ true)
 
 -- the rows are refused, for the first cause that applies; of one that does not fit this is the number, and else it is 0
-abbrev pub IsRowsRefusal : Table → ℕ → List Column → ℕ → Refusal → Type 0
+abbrev pub IsRowsRefusal : Table → ℕ → List GivenColumn → ℕ → Refusal → Type 0
 IsRowsRefusal table feeder columns row BadFeeder = (table.feeders ≤ feeder) × (row ≡ 0)
 IsRowsRefusal table feeder columns row BadColumns =
     (feeder < table.feeders) × (are_columns (length table.schema.columns) columns ≡ false) × (row ≡ 0)
@@ -81,28 +81,28 @@ IsRowsRefusal table feeder columns row IndexFull =
 IsRowsRefusal table feeder columns row why = ⊥
 
 -- the first so many rows of the columns were appended
-abbrev pub with_first : Table → ℕ → List Column → ℕ → Table
+abbrev pub with_first : Table → ℕ → List GivenColumn → ℕ → Table
 with_first table feeder columns n = with_rows table (rows_of feeder columns 0 n)
 
 -- an index takes rows: all of them, or, if memory is refused, those of the first full blocks, or none
-abbrev pub IsAppended : Table → ℕ → List Column → ℕ → Table → Ending → Type 0
-IsAppended before feeder columns row after (Ok done) =
+abbrev pub AppendsColumns : Table → ℕ → List GivenColumn → ℕ → Table → Ending → Type 0
+AppendsColumns before feeder columns row after (Ok done) =
     AreAppendable before feeder columns × (row ≡ row_count columns) × (after ≡ with_first before feeder columns row)
-IsAppended before feeder columns row after (Err NoMemory) =
+AppendsColumns before feeder columns row after (Err NoMemory) =
     AreAppendable before feeder columns × (row ≤ row_count columns) × (row % max_block_rows ≡ 0)
     × (after ≡ with_first before feeder columns row)
-IsAppended before feeder columns row after (Err why) =
+AppendsColumns before feeder columns row after (Err why) =
     IsRowsRefusal before feeder columns row why × (after ≡ before)
 
 -- the index of a handle, with the other table
 abbrev pub with_table : Opened → Table → Opened
 with_table opened table = record opened { table = table }
 
-abbrev pub IsAppending : Option State → ℕ → List Column → ℕ → Option State → Ending → Type 0
+abbrev pub IsAppending : Option State → ℕ → List GivenColumn → ℕ → Option State → Ending → Type 0
 IsAppending None feeder columns row after ending = (ending ≡ Err Closed) × (row ≡ 0) × (after ≡ None)
 IsAppending (Some (Alone opened)) feeder columns row after ending =
     (table : Table) × (after ≡ Some (Alone (with_table opened table)))
-    × IsAppended opened.table feeder columns row table ending
+    × AppendsColumns opened.table feeder columns row table ending
 IsAppending (Some (shared_state opened)) feeder columns row after ending =
     (ending ≡ Err Shared) × (row ≡ 0) × (after ≡ Some (shared_state opened))
 IsAppending (Some Moved) feeder columns row after ending = (ending ≡ Err Closed) × (row ≡ 0) × (after ≡ Some Moved)
@@ -113,21 +113,34 @@ IsAppending (Some Moved) feeder columns row after ending = (ending ≡ Err Close
 abbrev pub as_pairs : List Place → List (ℕ × ℕ)
 as_pairs places = map (λ place. (place.feeder, place.row)) places
 
+-- the kinds of an answer
+abbrev pub count_kind : ℕ
+count_kind = 1
+
+abbrev pub sum_kind : ℕ
+sum_kind = 2
+
+abbrev pub value_kind : ℕ
+value_kind = 3
+
+abbrev pub rows_kind : ℕ
+rows_kind = 4
+
 -- an answer is written so
 abbrev pub IsWritten : Answer → FlatAnswer → List Place → Type 0
-IsWritten (count_answer n) answer places = (answer.kind ≡ 1) × (answer.count ≡ n)
+IsWritten (count_answer n) answer places = (answer.kind ≡ count_kind) × (answer.count ≡ n)
 IsWritten (sum_answer s) answer places =
-    (answer.kind ≡ 2) × (answer.low + 2 ^ 64 * answer.high ≡ cast_unsigned w128 s)
-IsWritten (value_answer None) answer places = (answer.kind ≡ 3) × (answer.present ≡ false)
+    (answer.kind ≡ sum_kind) × (answer.low + 2 ^ 64 * answer.high ≡ cast_unsigned w128 s)
+IsWritten (value_answer None) answer places = (answer.kind ≡ value_kind) × (answer.present ≡ false)
 IsWritten (value_answer (Some x)) answer places =
-    (answer.kind ≡ 3) × (answer.present ≡ true) × (answer.value ≡ x)
+    (answer.kind ≡ value_kind) × (answer.present ≡ true) × (answer.value ≡ x)
 IsWritten (rows_answer rows) answer places =
-    (answer.kind ≡ 4) × (answer.count ≡ length rows.items) × (as_pairs (take answer.count places) ≡ rows.items)
+    (answer.kind ≡ rows_kind) × (answer.count ≡ length rows.items) × (as_pairs (take answer.count places) ≡ rows.items)
 
 -- the answer lists more rows than there are places, and how many is written
 abbrev pub IsShort : Answer → FlatAnswer → List Place → Type 0
 IsShort (rows_answer rows) answer places =
-    (answer.kind ≡ 4) × (answer.count ≡ length rows.items) × (length places < answer.count)
+    (answer.kind ≡ rows_kind) × (answer.count ≡ length rows.items) × (length places < answer.count)
 IsShort other answer places = ⊥
 
 -- of a query that the fields ask, and of its answer over the rows, this is so
@@ -158,7 +171,7 @@ IsAsking held fields answer places ending =
 -- bit i of the words says whether the predicate holds of row i; past the last row it is clear
 pub record IsMask (table : Table) (pred : Pred) (words : List ℕ) : Type 0 where
   pub long : length words ≡ word_count (length table.rows)
-  pub bits : (i : ℕ) → bit_of words i ≡ slice_index_or (map (λ row. holds pred row.1) table.rows) i false
+  pub bits : (i : ℕ) → bit_of words i ≡ slice_index_or (map (λ row. holds pred (row_entries row)) table.rows) i false
 
 abbrev pub IsMasked : Opened → List Field → List ℕ → Ending → Type 0
 IsMasked opened fields words (Ok done) =
@@ -181,7 +194,7 @@ IsCounted opened rows (Err why) = ⊥
 abbrev pub IsCounting : Option Opened → ℕ → Ending → Type 0
 IsCounting held rows ending = WhereOpen held (λ opened ending. IsCounted opened rows ending) ending
 
--- the first bytes are a text that declares the schema and the row limit
+-- the first bytes are a text that declares the schema and the limit
 abbrev pub IsDescribed : Opened → List ℕ → ℕ → Ending → Type 0
 IsDescribed opened bytes size (Ok done) =
     (size ≡ length opened.text) × (take size bytes ≡ opened.text)

@@ -2,7 +2,6 @@ pub mod Calls
 pub mod Columns
 pub mod Opened
 pub mod Owned
-pub mod SchemaTexts
 pub mod States
 pub mod Statuses
 pub use Rattle.bsi_table.specs.Answers

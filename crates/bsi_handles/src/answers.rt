@@ -10,14 +10,26 @@ use bsi_table::{Answer, AskError};
 use csv::ByteRecord;
 use std::alloc::Global;
 
-/// 2^64.
-const TWO_64: u128 = 1 << 64;
+/// The kind of a count.
+pub const COUNT: u32 = 1;
+
+/// The kind of a sum.
+pub const SUM: u32 = 2;
+
+/// The kind of a number or none.
+pub const VALUE: u32 = 3;
+
+/// The kind of rows.
+pub const ROWS: u32 = 4;
+
+/// What 1 in the high half of a sum stands for.
+const HIGH: u128 = 1 << 64;
 
 /// An answer without its rows.
 #[repr(C)]
 #[derive(Clone, Copy, Debug, PartialEq, Eq)]
 pub struct FlatAnswer {
-    /// 1 for a count, 2 for a sum, 3 for a number or none, 4 for rows.
+    /// `COUNT`, `SUM`, `VALUE` or `ROWS`.
     pub kind: u32,
     /// Whether there is a number.
     pub present: bool,
@@ -75,26 +87,26 @@ fn write(reply: &Answer, answer: &mut FlatAnswer, places: &mut [Place]) -> Resul
 {
     match reply {
         Answer::Count(count) => {
-            answer.kind = 1;
+            answer.kind = COUNT;
             answer.count = *count;
         }
         Answer::Sum(sum) => {
             let bits = sum.cast_unsigned();
-            answer.kind = 2;
-            answer.low = (bits % TWO_64) as u64;
-            answer.high = (bits / TWO_64) as u64;
+            answer.kind = SUM;
+            answer.low = (bits % HIGH) as u64;
+            answer.high = (bits / HIGH) as u64;
         }
         Answer::Value(None) => {
-            answer.kind = 3;
+            answer.kind = VALUE;
             answer.present = false;
         }
         Answer::Value(Some(value)) => {
-            answer.kind = 3;
+            answer.kind = VALUE;
             answer.present = true;
             answer.value = *value;
         }
         Answer::Rows(rows) => {
-            answer.kind = 4;
+            answer.kind = ROWS;
             answer.count = rows.len() as u64;
             return list(rows, places);
         }
@@ -112,9 +124,9 @@ fn list(rows: &[(u32, u64)], places: &mut [Place]) -> Result<(), Refusal>
     if rows.len() > places.len() {
         return Err(Refusal::NoRoom);
     }
-    'rows: for (place, row) in rows.iter().enumerate() {
+    'rows: for (at, row) in rows.iter().enumerate() {
         let (feeder, row) = *row;
-        places[place] = Place { feeder, row };
+        places[at] = Place { feeder, row };
     }
     Ok(())
 }

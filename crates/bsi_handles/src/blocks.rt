@@ -2,48 +2,43 @@
 
 ghost use Rattle.std.specs.Prelude.{◌≡◌, ◌+◌, ◌%◌, ◌<◌, ◌≤◌, length, true, IfErr, OnErr, OnOk};
 ghost use Rattle.std.specs.List.{list_all};
-ghost use Rattle.bsi_handles.specs.Calls.{with_first, AreAppendable, IsAppended, IsRowsRefusal};
+ghost use Rattle.bsi_handles.specs.Calls.{with_first, AreAppendable, AppendsColumns, IsRowsRefusal};
 ghost use Rattle.bsi_handles.specs.Columns.{are_columns, has_rows, row_count, row_of, rows_of, AreTaken};
 ghost use Rattle.bsi_table.specs.RowBlocks.{max_block_rows};
 ghost use Rattle.bsi_table.specs.Table.{with_rows};
 
-use crate::columns::{Column, are_columns, count_rows, entry};
+use crate::columns::{GivenColumn, are_columns, count_rows, entry};
 use crate::fitting::first_misfit;
 use crate::refusal::Refusal;
-use bsi_table::{Block, Index, MAX_BLOCK_ROWS, NoMemory, Row};
+use bsi_table::{Block, Index, MAX_BLOCK_ROWS, NoMemory};
 use std::alloc::Global;
-use std::mem;
 
-/// Makes `row` row `r` of the columns. It allocates no memory if the row has room.
-fn fill_row(
-    alloc: Global,
-    columns: &[Column],
+/// Reads the entries of row `r` of the columns. It takes no memory if there is room for an entry of each.
+fn read_entries(
+    columns: &[GivenColumn],
     rows: usize,
     r: usize,
-    row: &mut Row,
+    entries: &mut Vec<Option<i64>>,
 ) -> Result<(), NoMemory>
     requires whole { list_all (has_rows rows) columns.now ≡ true }
     requires within { r < rows }
-    ensures { OnOk result (row.new ≡ row_of columns.now r) }
+    ensures { OnOk result (entries.new.items ≡ row_of columns.now r) }
 {
-    let mut entries = mem::replace(row, Row::new(Vec::new(alloc))).into_values();
     entries.clear();
     entries.reserve(columns.len())?;
     'columns: for column in columns {
         entries.push_reserved(entry(column, rows, r));
     }
-    *row = Row::new(entries);
     Ok(())
 }
 
 /// Fills the block with so many rows of a feeder, from row `from` on. Each fits.
 fn fill_block(
-    alloc: Global,
     feeder: u32,
-    columns: &[Column],
+    columns: &[GivenColumn],
     from: usize,
     count: usize,
-    row: &mut Row,
+    entries: &mut Vec<Option<i64>>,
     block: &mut Block,
 ) -> Result<(), NoMemory>
     requires fed { feeder < block.old.feeders }
@@ -58,22 +53,20 @@ fn fill_block(
     block.clear();
     let rows = count_rows(columns);
     'rows: for k in 0..count {
-        fill_row(alloc, columns, rows, from + k, row)?;
-        // The row was tested, so it fits.
-        let _ = block.push(feeder, row);
+        read_entries(columns, rows, from + k, entries)?;
+        block.push_fitting(feeder, entries);
     }
     Ok(())
 }
 
-/// Appends so many rows from row `from` on, or none. Each fits, and the limit leaves place for them.
+/// Appends so many rows from row `from` on, or none. Each fits, and all are within the limit.
 fn append_block(
-    alloc: Global,
     index: &mut Index,
     feeder: u32,
-    columns: &[Column],
+    columns: &[GivenColumn],
     from: usize,
     count: usize,
-    row: &mut Row,
+    entries: &mut Vec<Option<i64>>,
     block: &mut Block,
 ) -> Result<(), NoMemory>
     requires fed { feeder < index.old.feeders }
@@ -89,12 +82,10 @@ fn append_block(
         (index.new ≡ with_rows index.old (rows_of feeder columns.now from count)) }
     ensures kept { OnErr result (index.new ≡ index.old) }
 {
-    fill_block(alloc, feeder, columns, from, count, row, block)?;
-    match index.append_block(block) {
-        Ok(_) => Ok(()),
-        // All rows were tested, so only memory can be refused.
-        Err(_) => Err(NoMemory),
-    }
+    fill_block(feeder, columns, from, count, entries, block)?;
+    // All rows were tested, so only memory can be refused.
+    index.append_block(block).map_err(|_| NoMemory)?;
+    Ok(())
 }
 
 /// Appends all rows of the columns, in blocks, and writes how many were appended. If memory is refused, these are those
@@ -103,7 +94,7 @@ fn append_blocks(
     alloc: Global,
     index: &mut Index,
     feeder: u32,
-    columns: &[Column],
+    columns: &[GivenColumn],
     appended: &mut u64,
 ) -> Result<(), NoMemory>
     requires { AreAppendable index.old feeder columns.now }
@@ -114,13 +105,19 @@ fn append_blocks(
 {
     *appended = 0;
     let rows = count_rows(columns);
-    let mut row = Row::new(Vec::new(alloc));
+    let mut entries = Vec::new(alloc);
     let mut block = index.new_block()?;
     'parts: for k in 0..rows.div_ceil(MAX_BLOCK_ROWS) {
         let from = MAX_BLOCK_ROWS * k;
         let count = (rows - from).min(MAX_BLOCK_ROWS);
         append_block(
-            alloc, index, feeder, columns, from, count, &mut row, &mut block,
+            index,
+            feeder,
+            columns,
+            from,
+            count,
+            &mut entries,
+            &mut block,
         )?;
         *appended = (from + count) as u64;
     }
@@ -129,7 +126,12 @@ fn append_blocks(
 
 /// Tests whether all rows of the columns can be appended. It writes the first row that does not fit, if that is why
 /// not.
-fn check_rows(index: &Index, feeder: u32, columns: &[Column], row: &mut u64) -> Result<(), Refusal>
+fn check_rows(
+    index: &Index,
+    feeder: u32,
+    columns: &[GivenColumn],
+    row: &mut u64,
+) -> Result<(), Refusal>
     requires { row.old ≡ 0 }
     ensures taken { OnOk result (AreAppendable index.now feeder columns.now) }
     ensures refused { IfErr result (IsRowsRefusal index.now feeder columns.now row.new) }
@@ -159,11 +161,11 @@ pub(crate) fn append_columns(
     alloc: Global,
     index: &mut Index,
     feeder: u32,
-    columns: &[Column],
+    columns: &[GivenColumn],
     row: &mut u64,
 ) -> Result<(), Refusal>
     requires { row.old ≡ 0 }
-    ensures { IsAppended index.old feeder columns.now row.new index.new result }
+    ensures { AppendsColumns index.old feeder columns.now row.new index.new result }
 {
     check_rows(index, feeder, columns, row)?;
     append_blocks(alloc, index, feeder, columns, row)?;

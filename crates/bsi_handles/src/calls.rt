@@ -5,7 +5,7 @@ ghost use Rattle.bsi_handles.specs.Calls.{IsAppending, IsAsking, IsClosing, IsCo
 ghost use Rattle.bsi_handles.specs.States.{opened_in};
 
 use crate::answers::{FlatAnswer, Place, reply};
-use crate::columns::Column;
+use crate::columns::GivenColumn;
 use crate::held::{Handle, put, take};
 use crate::reading::open_text;
 use crate::refusal::Refusal;
@@ -62,7 +62,7 @@ pub fn append(
     alloc: Global,
     index: &mut Handle,
     feeder: u32,
-    columns: &[Column],
+    columns: &[GivenColumn],
     row: &mut u64,
 ) -> Result<(), Refusal>
     ensures ending { IsAppending index.old.held.value feeder columns.now row.new

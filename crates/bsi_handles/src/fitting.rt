@@ -5,12 +5,12 @@ ghost use Rattle.std.specs.List.{list_all};
 ghost use Rattle.bsi_handles.specs.Columns.{entry_of, has_rows, row_of, AreTaken};
 ghost use Rattle.bsi_table.specs.Columns.{fits, is_between};
 
-use crate::columns::{Column, entry};
+use crate::columns::{GivenColumn, is_taken};
 use bsi_schema::Limits;
 use bsi_table::Schema;
 
 /// Returns the first row before `end` whose entry is not taken. If there is none, it returns `end`.
-fn first_refused(column: &Column, rows: usize, end: usize, limits: Limits) -> usize
+fn first_refused(column: &GivenColumn, rows: usize, end: usize, limits: Limits) -> usize
     requires whole { has_rows rows column.now ≡ true }
     requires few { end ≤ rows }
     ensures within { result ≤ end }
@@ -19,12 +19,12 @@ fn first_refused(column: &Column, rows: usize, end: usize, limits: Limits) -> us
     ensures refused { result < end →
         is_between limits.least limits.size (entry_of result column.now) ≡ false }
 {
-    let refused = (0..end).find(|r| !limits.takes(entry(column, rows, *r)));
+    let refused = (0..end).find(|r| !is_taken(column, rows, *r, limits));
     refused.unwrap_or(end)
 }
 
 /// Returns the first row that does not fit the schema, or the number of rows. It goes over one column after the other.
-pub(crate) fn first_misfit(schema: &Schema, columns: &[Column], rows: usize) -> usize
+pub(crate) fn first_misfit(schema: &Schema, columns: &[GivenColumn], rows: usize) -> usize
     requires many { length columns.now ≡ length schema.now.columns }
     requires whole { list_all (has_rows rows) columns.now ≡ true }
     ensures within { result ≤ rows }

@@ -23,36 +23,36 @@ pub struct Opaque {
 /// A pointer that owns what it points to, or null.
 #[repr(C)]
 #[derive(Drop)]
-pub struct Held {
+pub struct OwnedPointer {
     ptr: *mut Opaque,
     alloc: Global,
     pub ghost value: { HeldValue } by { held_coded },
 }
 
-impl Model for Held {
+impl Model for OwnedPointer {
     ghost also_owns = { λ h. held_owns h.alloc h.ptr h.value };
 }
 
 // Its proof is by hand: what it holds may go to another thread.
-unsafe impl Send for Held {}
+unsafe impl Send for OwnedPointer {}
 
-impl Held {
+impl OwnedPointer {
     /// Owns nothing.
-    fn none(alloc: Global) -> Held
+    fn none(alloc: Global) -> OwnedPointer
         ensures { result.value ≡ None }
     {
-        Held {
+        OwnedPointer {
             ptr: ptr::null_mut(),
             alloc,
         }
     }
 
     /// Owns what the box owned.
-    fn of_parts(parts: Parts<State, Global>) -> Held
+    fn of_parts(parts: Parts<State, Global>) -> OwnedPointer
         ensures { result.value ≡ Some parts.value }
     {
         let Parts { ptr, alloc } = parts;
-        Held {
+        OwnedPointer {
             ptr: ptr as *mut Opaque,
             alloc,
         }
@@ -63,7 +63,7 @@ impl Held {
         requires { is_some self.value ≡ true }
         ensures { Some result.value ≡ self.value }
     {
-        let Held { ptr, alloc } = self;
+        let OwnedPointer { ptr, alloc } = self;
         Parts {
             ptr: ptr as *mut State,
             alloc,
@@ -76,7 +76,7 @@ impl Held {
 #[derive(Drop)]
 pub struct Handle {
     /// The index that it holds, if it is open.
-    pub held: Held,
+    pub held: OwnedPointer,
     /// Whether it is open.
     pub full: bool,
     ghost is_full: { is_some held.value ≡ full },
@@ -88,7 +88,7 @@ pub(crate) fn take(handle: &mut Handle, alloc: Global) -> Option<Box<State>>
     ensures closed { handle.new.held.value ≡ None }
 {
     let closed = Handle {
-        held: Held::none(alloc),
+        held: OwnedPointer::none(alloc),
         full: false,
     };
     let Handle { held, full } = mem::replace(handle, closed);
@@ -105,7 +105,7 @@ pub(crate) fn put(handle: &mut Handle, state: Box<State>)
     ensures { handle.new.held.value ≡ Some state.value }
 {
     *handle = Handle {
-        held: Held::of_parts(Parts::of(state)),
+        held: OwnedPointer::of_parts(Parts::of(state)),
         full: true,
     };
 }

@@ -15,10 +15,10 @@ mod refusal;
 mod selection;
 mod state;
 
-pub use answers::{FlatAnswer, Place};
+pub use answers::{COUNT, FlatAnswer, Place, ROWS, SUM, VALUE};
 pub use calls::{append, ask, close, count, describe, open, select, share};
-pub use columns::Column;
-pub use held::{Handle, Held, Opaque};
+pub use columns::GivenColumn;
+pub use held::{Handle, Opaque, OwnedPointer};
 pub use opened::Opened;
 pub use refusal::{Refusal, status_of};
 pub use state::State;

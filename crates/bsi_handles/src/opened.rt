@@ -1,11 +1,11 @@
 //! An index that was opened, and the text of its schema.
 
 ghost use Rattle.std.specs.Prelude.{◌≡◌, IfErr, OnErr};
-ghost use Rattle.bsi_handles.specs.Calls.{with_table, IsAppended, IsDescribed};
-ghost use Rattle.bsi_handles.specs.SchemaTexts.{IsSchemaText};
+ghost use Rattle.bsi_text.specs.SchemaTexts.{IsSchemaText};
+ghost use Rattle.bsi_handles.specs.Calls.{with_table, AppendsColumns, IsDescribed};
 
 use crate::blocks::append_columns;
-use crate::columns::Column;
+use crate::columns::GivenColumn;
 use crate::refusal::Refusal;
 use bsi_table::Index;
 use std::alloc::Global;
@@ -20,8 +20,8 @@ pub struct Opened {
 
 // Clauses see the bytes of the text, and what the index shows.
 impl Model for Opened {
+    ghost use Rattle.bsi_text.specs.SchemaTexts.{IsSchemaText};
     ghost use Rattle.bsi_handles.specs.Opened.{Opened};
-    ghost use Rattle.bsi_handles.specs.SchemaTexts.{IsSchemaText};
 
     ghost Value = { Opened };
 
@@ -75,12 +75,12 @@ impl Opened {
         &mut self,
         alloc: Global,
         feeder: u32,
-        columns: &[Column],
+        columns: &[GivenColumn],
         row: &mut u64,
     ) -> Result<(), Refusal>
         requires { row.old ≡ 0 }
         ensures text { self.new ≡ with_table self.old self.new.table }
-        ensures rows { IsAppended self.old.table feeder columns.now row.new self.new.table result }
+        ensures rows { AppendsColumns self.old.table feeder columns.now row.new self.new.table result }
     {
         append_columns(alloc, &mut self.index, feeder, columns, row)
     }

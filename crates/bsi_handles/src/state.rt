@@ -4,7 +4,7 @@ ghost use Rattle.std.specs.Prelude.{◌≡◌, ◌≢◌, Some, option_map, IfEr
 ghost use Rattle.bsi_handles.specs.Calls.{HoldsShared, IsAppending, IsShareRefusal};
 ghost use Rattle.bsi_handles.specs.States.{opened_in};
 
-use crate::columns::Column;
+use crate::columns::GivenColumn;
 use crate::opened::Opened;
 use crate::refusal::Refusal;
 use bsi_table::NoMemory;
@@ -40,7 +40,7 @@ impl State {
         &mut self,
         alloc: Global,
         feeder: u32,
-        columns: &[Column],
+        columns: &[GivenColumn],
         row: &mut u64,
     ) -> Result<(), Refusal>
         ensures { IsAppending (Some self.old) feeder columns.now row.new (Some self.new) result }
@@ -78,10 +78,12 @@ impl State {
                 }
             },
             State::Shared(opened) => opened,
+            // Not met: an index was found above.
             State::Moved => return Err(Refusal::Closed),
         };
         let second: Result<Arc<Opened>, NoMemory> = opened.clone();
         *self = State::Shared(opened);
+        // Only now, when the index is back in its place.
         *other = State::Shared(second?);
         Ok(other)
     }

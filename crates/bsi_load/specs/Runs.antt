@@ -3,20 +3,26 @@
 use Rattle.std.specs.Prelude.{◌≡◌, ℕ, ◌+◌, Bool, true, false, ◌||◌, List, [], ◌∷◌, ◌++◌, Some, None, Ok, length, map, take, drop, filter_map, nat_eq, if◌then◌else◌, slice_get, ⊤}
 use Rattle.std.specs.List.{range_with_len}
 use Rattle.std.specs.Option.{option_map, option_to_list}
-use Rattle.bsi_table.specs.Rows.{Entries, FedRow}
+use Rattle.bsi_table.specs.Rows.{row_entries, row_feeder, Entries, FedRow}
 use Rattle.bsi_load.specs.declared.event.Event.{Event}
 use Rattle.bsi_load.specs.declared.event.Event.TheVariants.{Submit, Load, Close}
 use Rattle.bsi_load.specs.declared.event.Reply.{Reply}
 use Rattle.bsi_load.specs.declared.event.Reply.TheVariants.{Submitted, Loaded, Closed}
 use Rattle.bsi_load.specs.Shown.{Shown, Waiting, feeder_at, IsLawful}
 
--- the past of a run: each event and its reply, the newest first
+-- an event of a run, and its reply; the past of a run is a list of these, the newest first
 abbrev pub Done : Type 0
 Done = Event × Reply
 
+abbrev pub event_of : Done → Event
+event_of done = done.0
+
+abbrev pub reply_of : Done → Reply
+reply_of done = done.1
+
 -- the rows of a feeder, in their order
 abbrev pub rows_from : ℕ → List FedRow → List Entries
-rows_from f rows = filter_map (λ row. if nat_eq row.0 f then Some row.1 else None) rows
+rows_from f rows = filter_map (λ row. if nat_eq (row_feeder row) f then Some (row_entries row) else None) rows
 
 -- ---- what was accepted of a feeder, after what it had at the start
 
@@ -26,7 +32,7 @@ accepted_by f event reply = []
 
 unfoldable pub accepted : Shown → ℕ → List Done → List Entries
 accepted s f [] = rows_from f s.index.rows ++ (feeder_at s f).rows
-accepted s f (done ∷ past) = accepted s f past ++ accepted_by f done.0 done.1
+accepted s f (done ∷ past) = accepted s f past ++ accepted_by f (event_of done) (reply_of done)
 
 -- ---- how many of a feeder's rows were loaded, those in the index at the start among them
 
@@ -36,7 +42,7 @@ loaded_by f event reply = 0
 
 unfoldable pub loads : Shown → ℕ → List Done → ℕ
 loads s f [] = length (rows_from f s.index.rows)
-loads s f (done ∷ past) = loads s f past + loaded_by f done.0 done.1
+loads s f (done ∷ past) = loads s f past + loaded_by f (event_of done) (reply_of done)
 
 -- ---- the indexed rows: a load adds the first row of its feeder that was accepted and not loaded before
 
@@ -47,7 +53,7 @@ loaded_row s past event reply = []
 
 unfoldable pub indexed : Shown → List Done → List FedRow
 indexed s [] = s.index.rows
-indexed s (done ∷ past) = indexed s past ++ loaded_row s past done.0 done.1
+indexed s (done ∷ past) = indexed s past ++ loaded_row s past (event_of done) (reply_of done)
 
 -- ---- the rows of a feeder that wait: those accepted and not loaded
 
@@ -62,7 +68,7 @@ closed_by f event reply = false
 
 unfoldable pub closed : Shown → ℕ → List Done → Bool
 closed s f [] = (feeder_at s f).closed
-closed s f (done ∷ past) = closed s f past || closed_by f done.0 done.1
+closed s f (done ∷ past) = closed s f past || closed_by f (event_of done) (reply_of done)
 
 -- ---- what the machine shows after a run
 
@@ -79,7 +85,7 @@ shown_after s past = record {
 -- each reply is one that the machine may give, as it then stands
 unfoldable pub AreLawful : Shown → List Done → Type 0
 AreLawful s [] = ⊤
-AreLawful s (done ∷ past) = AreLawful s past × IsLawful (shown_after s past) done.0 done.1
+AreLawful s (done ∷ past) = AreLawful s past × IsLawful (shown_after s past) (event_of done) (reply_of done)
 
 -- ---- the events of a run and as many replies, as a past
 

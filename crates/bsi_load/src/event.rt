@@ -4,7 +4,7 @@ ghost use Rattle.std.specs.Prelude.{◌≡◌};
 
 use bsi_table::{Answer, AppendError, AskError, Query, Row};
 
-/// One step of a machine. Feeders go by their places, from 0.
+/// One step of a machine. Feeders go by their numbers, from 0.
 #[derive(Debug, Drop)]
 pub enum Event {
     /// Adds a row to those of this feeder that wait.
@@ -31,7 +31,8 @@ pub enum SubmitRefused {
 }
 
 /// Why no row is loaded, in the order of the checks. A running system answers the same, where the rows of a feeder wait
-/// in a ring: there `Empty` says that no row is seen, and `Ended` that the closing was told and all its rows are taken.
+/// in a ring: there `Empty` says that no row is seen, and `Ended` that the feeder is settled and all its rows are
+/// taken.
 #[derive(Clone, Copy, Debug, PartialEq, Eq)]
 pub enum LoadRefused {
     /// There is no such feeder.

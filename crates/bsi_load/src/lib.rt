@@ -2,9 +2,9 @@
 #![tactic(auto)]
 
 mod event;
-mod feeder;
 pub mod laws;
 mod machine;
+mod queue;
 mod sizes;
 
 pub use event::{CloseRefused, Event, LoadRefused, Reply, RunRefused, SubmitRefused};

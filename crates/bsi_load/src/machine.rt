@@ -12,7 +12,7 @@ ghost use Rattle.bsi_load.specs.Sizes.{new_feeder, new_machine, sizes_refusal};
 
 use crate::NoMemory;
 use crate::event::{CloseRefused, Event, LoadRefused, Reply, RunRefused, SubmitRefused};
-use crate::feeder::Feeder;
+use crate::queue::Queue;
 use crate::sizes::{MakeError, check_sizes};
 use bsi_table::{Answer, AskError, Index, Query, Row, Schema};
 use circular_buffer::HeapCircularBuffer;
@@ -23,7 +23,7 @@ use std::marker::Model;
 #[derive(Drop)]
 pub struct Core {
     index: Index,
-    feeders: Vec<Feeder>,
+    feeders: Vec<Queue>,
 }
 
 // Clauses see the index, and of each feeder the rows that wait, whether it was closed, and its capacity.
@@ -71,7 +71,7 @@ impl Core {
             (length (feeder_at self.now f).rows)) }
     {
         let feeder = self.feeders.get(f as usize)?;
-        Some(feeder.queue.len() as u32)
+        Some(feeder.rows.len() as u32)
     }
 
     /// Lends the schema of the index.
@@ -90,14 +90,14 @@ impl Core {
         if f >= self.feeders() {
             return Err(SubmitRefused::UnknownFeeder(row));
         }
-        let place = f as usize;
-        if self.feeders[place].closed {
+        let number = f as usize;
+        if self.feeders[number].closed {
             return Err(SubmitRefused::Closed(row));
         }
         if !self.index.schema().fits(&row) {
             return Err(SubmitRefused::Misfit(row));
         }
-        let queue = &mut self.feeders[place].queue;
+        let queue = &mut self.feeders[number].rows;
         queue.try_push_back(row).map_err(SubmitRefused::Full)
     }
 
@@ -110,12 +110,12 @@ impl Core {
         if f >= self.feeders() {
             return Err(LoadRefused::UnknownFeeder);
         }
-        let place = f as usize;
-        let Some(row) = self.feeders[place].queue.front() else {
-            return Err(self.feeders[place].end());
+        let number = f as usize;
+        let Some(row) = self.feeders[number].rows.front() else {
+            return Err(self.feeders[number].refusal());
         };
         let position = self.index.append(f, row)?;
-        self.feeders[place].queue.pop_front();
+        self.feeders[number].rows.pop_front();
         Ok(position)
     }
 
@@ -128,11 +128,11 @@ impl Core {
         if f >= self.feeders() {
             return Err(CloseRefused::UnknownFeeder);
         }
-        let place = f as usize;
-        if self.feeders[place].closed {
+        let number = f as usize;
+        if self.feeders[number].closed {
             return Err(CloseRefused::AlreadyClosed);
         }
-        self.feeders[place].closed = true;
+        self.feeders[number].closed = true;
         Ok(())
     }
 
@@ -143,8 +143,8 @@ impl Core {
         self.index.ask(query)
     }
 
-    /// Carries out one event, and returns its reply. Of a sequence of such steps the laws of `laws` say what they come to:
-    /// it is one run, and nothing is lost in it.
+    /// Carries out one event, and returns its reply. Of a sequence of such steps the laws of `laws` say what they come
+    /// to: it is one run, and nothing is lost in it.
     pub fn step(&mut self, event: Event) -> Reply
         ensures lawful { IsLawful self.old event result }
         ensures after { self.new ≡ shown_after self.old ((event, result) ∷ []) }
@@ -160,9 +160,9 @@ impl Core {
     /// Carries out a list of events in order, and returns their replies in the same order.
     ///
     /// For every list of submissions, loads, closings and queries, each feeder's indexed rows followed by its waiting
-    /// rows are exactly its accepted rows, each once and in order of submission; none submitted after its closing is
-    /// among them; and every answered selection and total equals the plain definition over the rows indexed at that
-    /// step, whatever bases and encodings were chosen.
+    /// rows are exactly its accepted rows, each once and in order of submission. No row submitted after its feeder's
+    /// closing is among them. Every answer is that of the plain definition over the rows indexed at that step, whatever
+    /// forms the columns have.
     ///
     /// A load or a query may be refused memory, and then it changes nothing. If memory is refused for the list of
     /// replies, the events are handed back and none of them takes place.
@@ -192,14 +192,14 @@ impl Core {
 }
 
 /// Makes an open feeder for each capacity.
-fn open_feeders(alloc: Global, capacities: &[u32]) -> Result<Vec<Feeder>, NoMemory>
+fn open_feeders(alloc: Global, capacities: &[u32]) -> Result<Vec<Queue>, NoMemory>
     ensures { IfOk result (λ feeders. feeders.items ≡ map new_feeder capacities.now) }
 {
     let mut feeders = Vec::with_capacity(alloc, capacities.len())?;
     'feeders: for capacity in capacities {
-        let queue = HeapCircularBuffer::with_capacity(alloc, *capacity as usize)?;
-        feeders.push_reserved(Feeder {
-            queue,
+        let rows = HeapCircularBuffer::with_capacity(alloc, *capacity as usize)?;
+        feeders.push_reserved(Queue {
+            rows,
             closed: false,
         });
     }

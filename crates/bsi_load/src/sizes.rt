@@ -75,7 +75,7 @@ fn check_capacities(capacities: &[u32]) -> Result<(), MakeError>
     Ok(())
 }
 
-/// Returns the place of the first capacity that is out of range, or none if there is no such capacity.
+/// Returns the number of the first feeder whose capacity is out of range, or none if there is no such feeder.
 fn first_out_of_range(capacities: &[u32]) -> Option<usize>
     ensures { result ≡ position is_out_of_range capacities.now }
 {

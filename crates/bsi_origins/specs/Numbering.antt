@@ -4,8 +4,8 @@ use Rattle.bsi_origins.specs.Origins.{count_before}
 
 -- the number of row r among its feeder's, of rows from these feeders: how many before it came from the same feeder
 abbrev pub number_within : List ℕ → ℕ → ℕ
-number_within feeders r = count_before feeders r (slice_index feeders r)
+number_within row_feeders r = count_before row_feeders r (slice_index row_feeders r)
 
 -- the rows at these positions, each by its feeder and its number among the feeder's
 abbrev pub numbered_at : List ℕ → List ℕ → List (ℕ × ℕ)
-numbered_at feeders positions = map (λ r. (slice_index feeders r, number_within feeders r)) positions
+numbered_at row_feeders positions = map (λ r. (slice_index row_feeders r, number_within row_feeders r)) positions

@@ -2,7 +2,7 @@
 use Rattle.std.specs.Prelude.{◌≡◌, ℕ, ◌+◌, ◌-◌, ◌*◌, ◌/◌, ◌<◌, ◌≤◌, List, All, length, take, count_by, nat_eq, nat_le, slice_index, if◌then◌else◌}
 use Rattle.bsi_bits.specs.BitList.{max_len}
 
--- at most so many feeders have rows in one table
+-- at most so many feeders have rows in one index
 abbrev pub max_feeders : ℕ
 max_feeders = 64
 
@@ -15,11 +15,11 @@ pub record OriginList : Type 0 where
 
 -- how many of the first r rows came from a feeder
 abbrev pub count_before : List ℕ → ℕ → ℕ → ℕ
-count_before rows r feeder = count_by (λ row_feeder. nat_eq row_feeder feeder) (take r rows)
+count_before row_feeders r feeder = count_by (λ row_feeder. nat_eq row_feeder feeder) (take r row_feeders)
 
 -- these are the counts of the first r rows, by feeder
 abbrev pub AreCounts : ℕ → List ℕ → ℕ → List ℕ → Type 0
-AreCounts feeders rows r counts = (f : ℕ) → f < feeders → slice_index counts f ≡ count_before rows r f
+AreCounts feeders row_feeders r counts = (f : ℕ) → f < feeders → slice_index counts f ≡ count_before row_feeders r f
 
 -- how many counts a tally has: one for each feeder, and none where there is one feeder alone
 abbrev pub tally_len : ℕ → ℕ
@@ -35,19 +35,19 @@ tally_count rows = (rows + (stretch_rows - 1)) / stretch_rows
 
 -- tally k has the counts of the rows before stretch k; the tallies stand one after the other
 abbrev pub AreTallies : ℕ → List ℕ → List ℕ → Type 0
-AreTallies len rows tallies =
-    (k f : ℕ) → stretch_rows * k < length rows → f < len
-    → slice_index tallies (len * k + f) ≡ count_before rows (stretch_rows * k) f
+AreTallies len row_feeders tallies =
+    (k f : ℕ) → stretch_rows * k < length row_feeders → f < len
+    → slice_index tallies (len * k + f) ≡ count_before row_feeders (stretch_rows * k) f
 
 -- the feeders of rows are kept so: with the counts of all rows, and the tallies
-pub record IsTallied (feeders : ℕ) (rows counts tallies : List ℕ) : Type 0 where
+pub record IsTallied (feeders : ℕ) (row_feeders counts tallies : List ℕ) : Type 0 where
   pub some : 1 ≤ feeders
   pub few : feeders ≤ max_feeders
-  pub from : All (λ feeder. feeder < feeders) rows
+  pub from : All (λ feeder. feeder < feeders) row_feeders
   pub long : length counts ≡ max_feeders
-  pub counted : AreCounts feeders rows (length rows) counts
-  pub many : length tallies ≡ tally_len feeders * tally_count (length rows)
-  pub each : AreTallies (tally_len feeders) rows tallies
+  pub counted : AreCounts feeders row_feeders (length row_feeders) counts
+  pub many : length tallies ≡ tally_len feeders * tally_count (length row_feeders)
+  pub each : AreTallies (tally_len feeders) row_feeders tallies
 
 -- there is room for so many more rows, where lists of these capacities keep the feeders and the tallies
 pub record HasRoomFor (room rows feeders kept tallies : ℕ) : Type 0 where

@@ -1,7 +1,7 @@
 //! The rows of a found set, each by its feeder and its number among the rows of that feeder.
 //!
-//! A list counts forward and keeps the counts of all feeders as it goes, so no stretch is read twice. Where more than an
-//! eighth of the rows was found it tests each row's bit in one pass, which costs less than looking for the next set
+//! A list counts forward and keeps the counts of all feeders as it goes, so no stretch is read twice. Where more than
+//! an eighth of the rows was found it tests each row's bit in one pass, which costs less than looking for the next set
 //! place.
 
 ghost use Rattle.std.specs.Prelude.{◌≡◌, ◌<◌, ◌≤◌, IfOk, length};
@@ -18,7 +18,7 @@ use std::alloc::Global;
 const MIN_ROWS_PER_FOUND: u64 = 8;
 
 /// Returns the rows of a found set in order, each by its feeder and its number among that feeder's rows. `origins`
-/// gives the feeder of each row of the table. If few rows were found, it reads, in each stretch of 512 rows, the
+/// gives the feeder of each row of the index. If few rows were found, it reads, in each stretch of 512 rows, the
 /// feeders up to the last found row, and none in a stretch with no found row.
 pub fn number_rows(
     alloc: Global,

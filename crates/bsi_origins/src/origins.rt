@@ -1,8 +1,9 @@
 //! The feeder of each row, and the counts by which a row's number among its feeder's rows is found.
 //!
 //! A feeder is a byte. Where there are several, a tally stands before each 512th row: for each feeder, how many of the
-//! rows before came from it, in 4 bytes. A tally costs 0.008 bytes a row and feeder, and a row that stands alone is
-//! numbered by one tally and up to 511 bytes.
+//! rows before came from it, in 4 bytes, as a rank directory has counts of the set bits before (Jacobson 1989). The
+//! tallies cost 4 bytes for each feeder and 512 rows. A row that stands alone is numbered by one tally and the feeders
+//! of up to 512 rows, its own among them.
 
 ghost use Rattle.std.specs.Prelude.{◌≡◌, ◌≢◌, ◌↔◌, ◌+◌, ◌-◌, ◌*◌, ◌%◌, ◌<◌, ◌≤◌, ◌^◌, ◌++◌, ◌∷◌, [], All, IfOk, IsOk, IsTrue, OnErr, OnOk, length, min, replicate, slice_index, take, vec_len, vec_capacity};
 ghost use Rattle.bsi_bits.specs.BitList.{max_len};
@@ -13,7 +14,7 @@ use bsi_bits::room_to_make;
 use std::alloc::Global;
 use std::marker::Model;
 
-/// The most feeders of a table.
+/// The most feeders of an index.
 pub const MAX_FEEDERS: u32 = 64;
 
 /// The number of rows from one tally to the next.
@@ -160,11 +161,11 @@ impl Origins {
         ensures feeders { self.new.feeders ≡ self.old.feeders }
         ensures room { self.new.room + length other.now.rows ≡ self.old.room }
     {
-        let feeders = &other.row_feeders;
+        let row_feeders = &other.row_feeders;
         let mut at = 0;
-        'runs: while at < feeders.len() {
-            let run = run_len(&feeders[at..]);
-            self.push_many_reserved(feeders[at], run as u64);
+        'runs: while at < row_feeders.len() {
+            let run = run_len(&row_feeders[at..]);
+            self.push_many_reserved(row_feeders[at], run as u64);
             at += run;
         }
     }
@@ -239,16 +240,16 @@ impl Origins {
 }
 
 /// Returns how many of the first rows came from the feeder of the first.
-fn run_len(feeders: &[u8]) -> usize
-    requires { 0 < length feeders.now }
-    ensures some { (0 < result) × (result ≤ length feeders.now) }
-    ensures same { take result feeders.now ≡ replicate result (slice_index feeders.now 0) }
-    ensures next { result < length feeders.now →
-        slice_index feeders.now result ≢ slice_index feeders.now 0 }
+fn run_len(row_feeders: &[u8]) -> usize
+    requires { 0 < length row_feeders.now }
+    ensures some { (0 < result) × (result ≤ length row_feeders.now) }
+    ensures same { take result row_feeders.now ≡ replicate result (slice_index row_feeders.now 0) }
+    ensures next { result < length row_feeders.now →
+        slice_index row_feeders.now result ≢ slice_index row_feeders.now 0 }
 {
-    let first = feeders[0];
-    let end = feeders.iter().position(|feeder| *feeder != first);
-    end.unwrap_or(feeders.len())
+    let first = row_feeders[0];
+    let end = row_feeders.iter().position(|feeder| *feeder != first);
+    end.unwrap_or(row_feeders.len())
 }
 
 /// Returns how many counts a tally has.
@@ -271,7 +272,7 @@ fn push_feeder(row_feeders: &mut Vec<u8>, feeder: u8, rows: u64)
 /// Appends counts below 2^32 to the tallies, into room that is already there.
 fn push_tally(tallies: &mut Vec<u32>, counts: &[u64])
     requires room { vec_len tallies.old + length counts.now ≤ vec_capacity tallies.old }
-    requires small { All (λ count. count < 2 ^ 32) counts.now }
+    requires small { All (λ count. count < max_len) counts.now }
     ensures items { tallies.new.items ≡ tallies.old.items ++ counts.now }
     ensures capacity { vec_capacity tallies.new ≡ vec_capacity tallies.old }
 {

@@ -7,12 +7,12 @@ use Rattle.bsi_schema.specs.Columns.{named_column, NamedColumn}
 use Rattle.bsi_table.specs.declared.query.Pred.{Pred}
 use Rattle.bsi_table.specs.Rows.{holds, Entries}
 use Rattle.bsi_plain.specs.declared.tables.DeclaredColumn.{DeclaredColumn}
-use Rattle.bsi_plain.specs.declared.columns.Form.{Form}
-use Rattle.bsi_plain.specs.declared.columns.Form.TheVariants.{Slices, Equality, Range}
+use Rattle.bsi_plain.specs.declared.columns.TestForm.{TestForm}
+use Rattle.bsi_plain.specs.declared.columns.TestForm.TheVariants.{Slices, Equality, Range}
 use Rattle.bsi_plain.specs.declared.columns.Wide.{Wide}
 
 -- the form that a column is kept in; its bases stand least significant first
-abbrev pub stored_form : Form → Wide → StoredForm
+abbrev pub stored_form : TestForm → Wide → StoredForm
 stored_form Slices wide = stored_slices wide.width
 stored_form Equality wide = stored_equality (reverse wide.bases.now)
 stored_form Range wide = stored_range (reverse wide.bases.now)

@@ -10,11 +10,12 @@ use crate::NoMemory;
 use bsi_bits::Bits;
 use bsi_columns::{AnyColumn, Column, Decomposed, Encoding, Op, Slices};
 use bsi_digits::Bases;
+use bsi_table::{MAX_ROWS, MAX_SLICES};
 use std::alloc::Global;
 
-/// The forms of a column.
+/// The forms of a column, as tests go through them.
 #[derive(Clone, Copy, Debug)]
-pub enum Form {
+pub enum TestForm {
     /// Slices.
     Slices,
     /// Equality encoded components.
@@ -24,7 +25,7 @@ pub enum Form {
 }
 
 /// Each form, once.
-pub const FORMS: [Form; 3] = [Form::Slices, Form::Equality, Form::Range];
+pub const FORMS: [TestForm; 3] = [TestForm::Slices, TestForm::Equality, TestForm::Range];
 
 /// How wide a column is: in slices, and in bases, most significant first.
 #[derive(Clone, Copy)]
@@ -82,7 +83,7 @@ pub fn no_slices(alloc: Global, width: u32) -> Result<Slices, MakingError>
     ensures width { IfOk result (λ column. column.width ≡ width) }
     ensures err { IsWidth width → IsOkUnless result MakingError.NoMemory }
 {
-    if width == 0 || width > 63 {
+    if width == 0 || width > MAX_SLICES {
         return Err(MakingError::BadWidth);
     }
     match Slices::new(alloc, width) {
@@ -104,15 +105,15 @@ pub fn no_digits<E: Encoding>(alloc: Global, list: &[u32]) -> Result<Decomposed<
 }
 
 /// Makes a column of this form and no rows.
-pub fn no_rows(alloc: Global, form: Form, wide: Wide) -> Result<AnyColumn, MakingError>
+pub fn no_rows(alloc: Global, form: TestForm, wide: Wide) -> Result<AnyColumn, MakingError>
     ensures entries { IfOk result (λ column. any_entries column ≡ []) }
     ensures form { IfOk result (λ column. any_form column ≡ column_form form wide.entry) }
     ensures err { IsWide form wide.entry → IsOkUnless result MakingError.NoMemory }
 {
     match form {
-        Form::Slices => Ok(AnyColumn::Slices(no_slices(alloc, wide.width)?)),
-        Form::Equality => Ok(AnyColumn::Equality(no_digits(alloc, wide.bases)?)),
-        Form::Range => Ok(AnyColumn::Range(no_digits(alloc, wide.bases)?)),
+        TestForm::Slices => Ok(AnyColumn::Slices(no_slices(alloc, wide.width)?)),
+        TestForm::Equality => Ok(AnyColumn::Equality(no_digits(alloc, wide.bases)?)),
+        TestForm::Range => Ok(AnyColumn::Range(no_digits(alloc, wide.bases)?)),
     }
 }
 
@@ -126,7 +127,7 @@ fn push<C: Column>(column: &mut C, entry: Option<u64>) -> Result<(), MakingError
         → IsOkUnless result MakingError.NoMemory }
 {
     let row = column.len();
-    if row == 1 << 32 || entry.unwrap_or(0) >= column.size() {
+    if row == MAX_ROWS || entry.unwrap_or(0) >= column.size() {
         return Err(MakingError::NotTaken(row));
     }
     if column.reserve_one().is_err() {

@@ -1,5 +1,5 @@
-//! What tests give to calls: columns, schemas, rows and predicates, a component without calls on blocks, and readers and
-//! writers that fail.
+//! What tests give to calls: columns, schemas, rows and predicates, a component without calls on blocks, and readers
+//! and writers that fail.
 #![tactic(auto)]
 
 mod columns;
@@ -8,7 +8,7 @@ mod tables;
 mod whole;
 
 pub use columns::{
-    FORMS, Form, MakingError, Wide, append, compared, no_digits, no_rows, no_slices, shows,
+    FORMS, MakingError, TestForm, Wide, append, compared, no_digits, no_rows, no_slices, shows,
 };
 pub use std::alloc::AllocError as NoMemory;
 pub use streams::{EMPTY, NarrowWriter, TextReader};

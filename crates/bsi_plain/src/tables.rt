@@ -6,7 +6,7 @@ ghost use Rattle.bsi_schema.specs.Columns.{form_of, with_column};
 ghost use Rattle.bsi_plain.specs.Tables.{as_column, has_offset, stored_form, IsBoth, IsNegation};
 
 use crate::NoMemory;
-use crate::columns::{Form, Wide};
+use crate::columns::{TestForm, Wide};
 use bsi_table::{ColumnSpec, Pred, Row, Schema, SchemaError};
 use std::alloc::Global;
 
@@ -16,7 +16,7 @@ pub struct DeclaredColumn<'a> {
     /// The name.
     pub name: &'a str,
     /// The form.
-    pub form: Form,
+    pub form: TestForm,
     /// How wide it is.
     pub wide: Wide<'a>,
     /// The least number.
@@ -26,7 +26,7 @@ pub struct DeclaredColumn<'a> {
 /// A column of three slices, for the numbers below 8.
 pub const QTY: DeclaredColumn<'static> = DeclaredColumn {
     name: "qty",
-    form: Form::Slices,
+    form: TestForm::Slices,
     wide: Wide {
         width: 3,
         bases: &[8],
@@ -35,13 +35,13 @@ pub const QTY: DeclaredColumn<'static> = DeclaredColumn {
 };
 
 /// Returns how a column of this form and width is declared.
-fn spec(alloc: Global, form: Form, wide: Wide) -> Result<ColumnSpec, NoMemory>
+fn spec(alloc: Global, form: TestForm, wide: Wide) -> Result<ColumnSpec, NoMemory>
     ensures { IfOk result (λ spec. form_of spec ≡ stored_form form wide.entry) }
 {
     match form {
-        Form::Slices => Ok(ColumnSpec::Slices(wide.width)),
-        Form::Equality => Ok(ColumnSpec::Equality(Vec::from_slice(alloc, wide.bases)?)),
-        Form::Range => Ok(ColumnSpec::Range(Vec::from_slice(alloc, wide.bases)?)),
+        TestForm::Slices => Ok(ColumnSpec::Slices(wide.width)),
+        TestForm::Equality => Ok(ColumnSpec::Equality(Vec::from_slice(alloc, wide.bases)?)),
+        TestForm::Range => Ok(ColumnSpec::Range(Vec::from_slice(alloc, wide.bases)?)),
     }
 }
 

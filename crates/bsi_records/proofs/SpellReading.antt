@@ -8,7 +8,7 @@ use Rattle.bsi_table.specs.declared.query.Pred.{Pred, All, Compare, Null, Both',
 use Rattle.bsi_records.specs.declared.predicates.Pending.{Pending}
 use Rattle.bsi_records.specs.declared.predicates.Pending.TheVariants.{Nothing, Column, Comparison}
 use Rattle.bsi_records.specs.Numbers.{Field, number_in}
-use Rattle.bsi_records.specs.Postfix.{after_field, after_fields, after_name, after_sign, after_word, begun, joined, joint, negated, nowhere, only_of, op_of, plain, ready, shown, State}
+use Rattle.bsi_records.specs.Postfix.{after_field, after_fields, after_name, after_sign, after_word, begun, joined, joint, negated, newest_first, nowhere, only_of, op_of, plain, ready, State}
 use Rattle.bsi_records.specs.Predicates.{IsPredicate, sign_of, Spells}
 use Rattle.bsi_records.specs.Reading.{IsReadAs}
 use Rattle.bsi_records.proofs.SpellWords.{if_same, mapped, name_leads, none_is_some, read_is_sign, sign_leads, some_same}
@@ -178,9 +178,9 @@ is_spelled_anywhere schema fields P is = spelled_anywhere schema P fields (is_sp
 
 -- where the fields lead nowhere, they spell nothing
 pub nothing_read : (schema : Declared) → AreNamed schema.columns → (fields : List Field) (stack : List Pred) → stack ≡ []
-    → None ≡ after_fields schema fields Nothing (shown stack) → (P : Pred) → IsPredicate schema fields P → ⊥
+    → None ≡ after_fields schema fields Nothing (newest_first stack) → (P : Pred) → IsPredicate schema fields P → ⊥
 nothing_read schema named fields stack empty leads P spelled =
-    let nowhere : None ≡ after_fields schema fields Nothing [] = leads ∙ ap (λ s. after_fields schema fields Nothing (shown s)) empty in
+    let nowhere : None ≡ after_fields schema fields Nothing [] = leads ∙ ap (λ s. after_fields schema fields Nothing (newest_first s)) empty in
     none_is_some _ (nowhere ∙ is_read schema named fields P spelled.1)
 
 -- a predicate that is alone
@@ -198,15 +198,15 @@ only_at (Some state) = only_of state.0 state.1
 
 -- what they lead to is what they spell
 pub only_read : (schema : Declared) → AreNamed schema.columns → (fields : List Field) (before stack : List Pred) (pending : Pending) (read : Option Pred)
-    → length fields ≤ 1000 → before ≡ [] → begun pending stack ≡ after_fields schema fields Nothing (shown before) → option_map plain read ≡ only_of pending stack
+    → length fields ≤ 1000 → before ≡ [] → begun pending stack ≡ after_fields schema fields Nothing (newest_first before) → option_map plain read ≡ only_of pending stack
     → IsReadAs (IsPredicate schema fields) read
 unfolding only_at
 only_read schema named fields before stack pending None few empty leads is = λ P spelled.
-    let state : begun pending stack ≡ after_fields schema fields Nothing [] = leads ∙ ap (λ s. after_fields schema fields Nothing (shown s)) empty in
+    let state : begun pending stack ≡ after_fields schema fields Nothing [] = leads ∙ ap (λ s. after_fields schema fields Nothing (newest_first s)) empty in
     let found : begun pending stack ≡ ready (plain P ∷ []) = state ∙ is_read schema named fields P spelled.1 in
     none_is_some (plain P) (is ∙ ap only_at found)
 only_read schema named fields before stack pending (Some P) few empty leads is =
-    let state : begun pending stack ≡ after_fields schema fields Nothing [] = leads ∙ ap (λ s. after_fields schema fields Nothing (shown s)) empty in
+    let state : begun pending stack ≡ after_fields schema fields Nothing [] = leads ∙ ap (λ s. after_fields schema fields Nothing (newest_first s)) empty in
     (few, is_spelled_anywhere schema fields P (sym state ∙ only_is pending stack (plain P) is))
 
 -- too many fields

@@ -1,4 +1,5 @@
--- Numbers and values, read from the first field to the last: what was read, and what is made of the fields that are left.
+-- Numbers and values, read from the first field to the last: what was read, and what is made of the fields that are
+-- left.
 use Rattle.std.proofs.Common.{◌≡◌, ℕ, ◌+◌, ◌<◌, ◌≤◌, Bool, List, [], ◌∷◌, ◌++◌, length, get_or, drop, Option, Some, None, option_map, option_and_then, sym, ◌∙◌, ap, refl, ℤ}
 use Rattle.std.proofs.lemmas.List.{at_drop_more, at_drop_all, append_assoc, append-nil}
 use Rattle.bsi_records.specs.Numbers.{Field, small_of, smalls_of, value_in, values_in}

@@ -19,14 +19,15 @@ total_of_column word =
     else (if bytes_eq word (codes "median") then Some Median
     else None)))
 
--- the total of a record that begins with this word, and the fields of its predicate: after the column's name, if it
--- reads one
+-- the total of a column that a record with this first word asks for, by the fields after the word, and the fields of
+-- its predicate, which stand after the column's name
 abbrev pub column_total : Declared → Field → List Field → Option (Total × List Field)
 column_total schema word [] = None
 column_total schema word (name ∷ rest) =
     option_and_then (λ total. option_map (λ c. (total c, rest)) (position_of schema.columns name))
     (total_of_column word)
 
+-- the total that a record asks for, and the fields of its predicate
 abbrev pub total_of : Declared → List Field → Option (Total × List Field)
 total_of schema [] = None
 total_of schema (word ∷ rest) =

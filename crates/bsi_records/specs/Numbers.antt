@@ -3,9 +3,9 @@ use Rattle.std.specs.Prelude.{ℕ, ◌^◌, Bool, ◌&&◌, ◌==◌, nat_lt, na
 use Rattle.std.specs.Char.{is_ascii_digit}
 use Rattle.std.specs.List.{list_all, slice_split}
 use Rattle.std.specs.Str.Parse.{digits_value}
+use Rattle.bsi_digits.specs.Signed.{end_of_i64, least_i64}
 use Rattle.bsi_schema.specs.Columns.{is_between}
 use Rattle.bsi_schema.specs.declared.limits.Limits.{Limits}
-use Rattle.bsi_table.specs.Table.{least_i64}
 
 -- the bytes of a field
 abbrev pub Field : Type 0
@@ -15,11 +15,15 @@ Field = List ℕ
 abbrev pub max_digits : ℕ
 max_digits = 20
 
--- one to twenty digits, whose value is below 2 ^ 64
+-- what each number of 64 bits is below
+abbrev pub end_of_u64 : ℕ
+end_of_u64 = 2 ^ 64
+
+-- one to twenty digits, whose value is a number of 64 bits
 abbrev pub is_number : Field → Bool
 is_number text =
     nat_lt 0 (length text) && nat_le (length text) max_digits && list_all is_ascii_digit text
-    && nat_lt (digits_value 10 text) (2 ^ 64)
+    && nat_lt (digits_value 10 text) end_of_u64
 
 -- the number that a text spells
 abbrev pub spelled_number : Field → Option ℕ
@@ -81,5 +85,5 @@ feeder_of text = option_map (λ n. min n max_u32) (spelled_number text)
 -- the least number of a column: a whole number of 64 bits
 abbrev pub offset_of : Field → Option ℤ
 offset_of text =
-    option_and_then (λ x. if int_le least_i64 x && int_lt x (pos (2 ^ 63)) then Some x else None)
+    option_and_then (λ x. if int_le least_i64 x && int_lt x (pos end_of_i64) then Some x else None)
     (signed_of text)

@@ -24,9 +24,9 @@ plain (Both' p first q second) = Both' nowhere (plain first) nowhere (plain seco
 plain (Either' p first q second) = Either' nowhere (plain first) nowhere (plain second)
 plain (Not' p pred) = Not' nowhere (plain pred)
 
--- predicates that stand oldest first, as they are shown here: the newest first, wherever their boxes lie
-abbrev pub shown : List Pred → List Pred
-shown preds = reverse (map plain preds)
+-- predicates that stand oldest first, here the newest first, and wherever their boxes lie
+abbrev pub newest_first : List Pred → List Pred
+newest_first preds = reverse (map plain preds)
 
 -- what the last fields have begun, and the predicates that the fields before them spell, the newest first
 abbrev pub State : Type 0
@@ -40,7 +40,7 @@ ready stack = begun Nothing stack
 
 -- what a call read, and the predicates that it leaves, oldest first; none where no predicate goes on so
 abbrev pub state_of : Option Pending → List Pred → Option State
-state_of read stack = option_map (λ next. (next, shown stack)) read
+state_of read stack = option_map (λ next. (next, newest_first stack)) read
 
 -- two predicates as one: that both hold, or else that one of them holds
 abbrev pub joint : Bool → Pred → Pred → Pred

@@ -1,7 +1,8 @@
 //! Records that declare a column.
 //!
 //! A list of bases is read before the schema looks at the name and the bases, which takes memory. So where memory is
-//! refused, that may be the answer to a record that would do nothing: to know sooner, the schema would have to look twice.
+//! refused, that may be the answer to a record that would do nothing: to know sooner, the schema would have to look
+//! twice.
 
 ghost use Rattle.std.specs.Prelude.{◌≡◌, ◌≢◌, drop, false, true, option_map, option_and_then, IfOk, IsErr, MatchResult, OnErr};
 ghost use Rattle.csv.specs.Records.{fields_of};

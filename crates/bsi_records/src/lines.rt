@@ -47,9 +47,9 @@ pub fn write_fed(feeder: u32, accepted: u64, bad: u64, line: &mut Vec<u8>) -> Re
 fn write_counts(feeder: u32, accepted: u64, bad: u64, line: &mut Vec<u8>) -> Result<(), NoMemory>
     ensures { IsAppended line.old.items line.new.items (fed_line feeder accepted bad) result }
 {
-    write_word(b"fed ", feeder, line)?;
-    write_word(b" ", accepted, line)?;
-    write_word(b" ", bad, line)?;
+    write_pair(b"fed ", feeder, line)?;
+    write_pair(b" ", accepted, line)?;
+    write_pair(b" ", bad, line)?;
     line.extend_from_slice(b"\n")
 }
 
@@ -62,7 +62,7 @@ fn write_parts(reply: &Reply, line: &mut Vec<u8>) -> Result<(), NoMemory>
         Reply::Loaded(reply) => write_loaded(*reply, line),
         Reply::Closed(reply) => write_closed(*reply, line),
         Reply::Answered(Ok(answer)) => write_answer(answer, line),
-        Reply::Answered(Err(AskError::BadColumn(_))) => line.extend_from_slice(b"bad\n"),
+        Reply::Answered(Err(AskError::BadColumn(_))) => write_bad(line),
         Reply::Answered(Err(AskError::NoMemory)) => line.extend_from_slice(b"no memory\n"),
     }
 }
@@ -85,7 +85,7 @@ fn write_loaded(reply: Result<u64, LoadRefused>, line: &mut Vec<u8>) -> Result<(
     ensures { IsAppended line.old.items line.new.items (load_line reply) result }
 {
     match reply {
-        Ok(position) => write_number(b"loaded ", position, line),
+        Ok(position) => write_line(b"loaded ", position, line),
         Err(LoadRefused::UnknownFeeder) => line.extend_from_slice(b"no feeder\n"),
         Err(LoadRefused::Ended) => line.extend_from_slice(b"ended\n"),
         Err(LoadRefused::Empty) => line.extend_from_slice(b"empty\n"),
@@ -110,16 +110,16 @@ fn write_answer(answer: &Answer, line: &mut Vec<u8>) -> Result<(), NoMemory>
     ensures { IsAppended line.old.items line.new.items (answer_line answer.now) result }
 {
     match answer {
-        Answer::Count(count) => write_number(b"count ", *count, line),
-        Answer::Sum(sum) => write_number(b"sum ", *sum, line),
+        Answer::Count(count) => write_line(b"count ", *count, line),
+        Answer::Sum(sum) => write_line(b"sum ", *sum, line),
         Answer::Value(None) => line.extend_from_slice(b"none\n"),
-        Answer::Value(Some(number)) => write_number(b"value ", i128::from(*number), line),
+        Answer::Value(Some(number)) => write_line(b"value ", i128::from(*number), line),
         Answer::Rows(rows) => write_rows(rows, line),
     }
 }
 
 /// Appends a word and a number.
-fn write_word<I: Integer>(word: &[u8], number: I, line: &mut Vec<u8>) -> Result<(), NoMemory>
+fn write_pair<I: Integer>(word: &[u8], number: I, line: &mut Vec<u8>) -> Result<(), NoMemory>
     ensures { IsAppended line.old.items line.new.items (word.now ++ I.text number) result }
 {
     let mut digits = Buffer::new();
@@ -128,15 +128,15 @@ fn write_word<I: Integer>(word: &[u8], number: I, line: &mut Vec<u8>) -> Result<
 }
 
 /// Appends a word and a number, and the line feed.
-fn write_number<I: Integer>(word: &[u8], number: I, line: &mut Vec<u8>) -> Result<(), NoMemory>
+fn write_line<I: Integer>(word: &[u8], number: I, line: &mut Vec<u8>) -> Result<(), NoMemory>
     ensures { IsAppended line.old.items line.new.items
         (word.now ++ I.text number ++ codes "\n") result }
 {
-    write_word(word, number, line)?;
+    write_pair(word, number, line)?;
     line.extend_from_slice(b"\n")
 }
 
-/// Appends the line of a selection.
+/// Appends the line that answers `list`.
 fn write_rows(rows: &[(u32, u64)], line: &mut Vec<u8>) -> Result<(), NoMemory>
     ensures { IsAppended line.old.items line.new.items
         (codes "rows" ++ rows_text rows.now ++ codes "\n") result }
@@ -151,7 +151,8 @@ fn write_each_row(rows: &[(u32, u64)], line: &mut Vec<u8>) -> Result<(), NoMemor
     ensures { IsAppended line.old.items line.new.items (rows_text rows.now) result }
 {
     'rows: for row in rows {
-        write_row(row.0, row.1, line)?;
+        let (feeder, number) = *row;
+        write_row(feeder, number, line)?;
     }
     Ok(())
 }
@@ -161,6 +162,6 @@ fn write_row(feeder: u32, number: u64, line: &mut Vec<u8>) -> Result<(), NoMemor
     ensures { IsAppended line.old.items line.new.items
         (codes " " ++ decimal feeder ++ codes ":" ++ decimal number) result }
 {
-    write_word(b" ", feeder, line)?;
-    write_word(b":", number, line)
+    write_pair(b" ", feeder, line)?;
+    write_pair(b":", number, line)
 }

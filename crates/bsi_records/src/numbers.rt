@@ -11,7 +11,7 @@ ghost use Rattle.bsi_digits.specs.Digits.{max_end};
 ghost use Rattle.bsi_records.specs.Numbers.{bases_of, entry_in, feeder_of, max_digits, number_between, number_in, offset_of, signed_of, small_of, spelled_number, value_in};
 
 use crate::NoMemory;
-use bsi_schema::Limits;
+use bsi_schema::{Limits, to_i64};
 use std::alloc::Global;
 
 /// The most digits of a number: those of the greatest `u64`.
@@ -127,7 +127,7 @@ pub fn read_entry(signed: bool, limits: Limits, text: &[u8]) -> Option<Option<i6
     if !limits.takes(value) {
         return None;
     }
-    Some(limits.narrow(value))
+    Some(to_i64(value))
 }
 
 /// Reads the number of a feeder. A number that no `u32` holds becomes the greatest `u32`, which is no feeder either.

@@ -1,12 +1,12 @@
 //! Predicates in postfix order: from the fields that spell a predicate to the predicate.
 //!
 //! A list in place of recursion keeps the predicates that the fields so far spell, so memory bounds their depth. Which
-//! fields spell a predicate is a relation by cases on the predicate (`IsPredicate`). The parser is proved against a parse
-//! (`specs/Postfix.antt`) that no public contract names.
+//! fields spell a predicate is a relation by cases on the predicate (`IsPredicate`). The parser is proved against a
+//! parse (`specs/Postfix.antt`) that no public contract names.
 
 ghost use Rattle.std.specs.Prelude.{◌≡◌, drop, option_map, IfOk};
 ghost use Rattle.csv.specs.Records.{fields_of};
-ghost use Rattle.bsi_records.specs.Postfix.{after_field, after_fields, after_name, after_sign, after_word, joined, negated, only_of, op_of, plain, shown, state_of};
+ghost use Rattle.bsi_records.specs.Postfix.{after_field, after_fields, after_name, after_sign, after_word, joined, negated, newest_first, only_of, op_of, plain, state_of};
 ghost use Rattle.bsi_records.specs.Predicates.{IsPredicate};
 ghost use Rattle.bsi_records.specs.Reading.{IsReadAs};
 
@@ -19,7 +19,7 @@ use csv::ByteRecord;
 use std::alloc::Global;
 
 /// The most fields of a predicate.
-const MAX_FIELDS: usize = 1_000;
+const MAX_PREDICATE_FIELDS: usize = 1_000;
 
 /// What the last fields have begun.
 #[derive(Clone, Copy, PartialEq, Eq)]
@@ -43,7 +43,7 @@ pub(crate) fn read_predicate(
     ensures { IfOk result (IsReadAs
         (IsPredicate schema.now (drop from (fields_of fields.now)))) }
 {
-    if fields.len().saturating_sub(from) > MAX_FIELDS {
+    if fields.len().saturating_sub(from) > MAX_PREDICATE_FIELDS {
         return Ok(None);
     }
     // The call makes the schema's invariant known to the proof: a column's name is none of the words.
@@ -66,7 +66,7 @@ fn read_fields(
 ) -> Result<Option<Pending>, NoMemory>
     ensures { IfOk result (λ read. state_of read stack.new.items
         ≡ after_fields schema.now (drop from (fields_of fields.now)) Pending.Nothing
-        (shown stack.old.items)) }
+        (newest_first stack.old.items)) }
 {
     let mut pending = Pending::Nothing;
     'fields: for place in from..fields.len() {
@@ -88,7 +88,7 @@ fn read_field(
     stack: &mut Vec<Pred>,
 ) -> Result<Option<Pending>, NoMemory>
     ensures { IfOk result (λ read. state_of read stack.new.items
-        ≡ after_field schema.now pending (shown stack.old.items) field.now) }
+        ≡ after_field schema.now pending (newest_first stack.old.items) field.now) }
 {
     match pending {
         Pending::Nothing => read_word(alloc, schema, field, stack),
@@ -105,7 +105,7 @@ fn read_word(
     stack: &mut Vec<Pred>,
 ) -> Result<Option<Pending>, NoMemory>
     ensures { IfOk result (λ read. state_of read stack.new.items
-        ≡ after_word schema.now (shown stack.old.items) field.now) }
+        ≡ after_word schema.now (newest_first stack.old.items) field.now) }
 {
     if field == b"all".as_slice() {
         stack.push(Pred::All)?;
@@ -126,7 +126,7 @@ fn read_word(
 /// Reads the field that follows the name of column `c`.
 fn read_after_name(c: u32, field: &[u8], stack: &mut Vec<Pred>) -> Result<Option<Pending>, NoMemory>
     ensures { IfOk result (λ read. state_of read stack.new.items
-        ≡ after_name c (shown stack.old.items) field.now) }
+        ≡ after_name c (newest_first stack.old.items) field.now) }
 {
     if field == b"null".as_slice() {
         stack.push(Pred::Null(c))?;
@@ -144,7 +144,7 @@ fn read_constant(
     stack: &mut Vec<Pred>,
 ) -> Result<Option<Pending>, NoMemory>
     ensures { IfOk result (λ read. state_of read stack.new.items
-        ≡ after_sign signed c op (shown stack.old.items) field.now) }
+        ≡ after_sign signed c op (newest_first stack.old.items) field.now) }
 {
     let Some(n) = read_in(signed, field) else {
         return Ok(None);
@@ -182,7 +182,7 @@ fn read_op(sign: &[u8]) -> Option<Op>
 /// holds.
 fn join(alloc: Global, both: bool, stack: &mut Vec<Pred>) -> Result<Option<Pending>, NoMemory>
     ensures { IfOk result (λ read. state_of read stack.new.items
-        ≡ joined both (shown stack.old.items)) }
+        ≡ joined both (newest_first stack.old.items)) }
 {
     let Some(second) = stack.pop() else {
         return Ok(None);
@@ -203,7 +203,7 @@ fn join(alloc: Global, both: bool, stack: &mut Vec<Pred>) -> Result<Option<Pendi
 /// Replaces the newest predicate by its negation.
 fn negate(alloc: Global, stack: &mut Vec<Pred>) -> Result<Option<Pending>, NoMemory>
     ensures { IfOk result (λ read. state_of read stack.new.items
-        ≡ negated (shown stack.old.items)) }
+        ≡ negated (newest_first stack.old.items)) }
 {
     let Some(pred) = stack.pop() else {
         return Ok(None);
@@ -215,7 +215,7 @@ fn negate(alloc: Global, stack: &mut Vec<Pred>) -> Result<Option<Pending>, NoMem
 
 /// Takes the only predicate, if there is one alone and nothing else has begun.
 fn take_only(pending: Pending, stack: &mut Vec<Pred>) -> Option<Pred>
-    ensures { option_map plain result ≡ only_of pending (shown stack.old.items) }
+    ensures { option_map plain result ≡ only_of pending (newest_first stack.old.items) }
 {
     if pending != Pending::Nothing {
         return None;

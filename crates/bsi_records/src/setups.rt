@@ -53,7 +53,7 @@ pub fn read_setup(
     Ok(false)
 }
 
-/// Sets the limit by a record `limit,ROWS`, and returns whether it did. A later limit replaces an earlier one.
+/// Sets the limit by a record `limit,N`, and returns whether it did. A later limit replaces an earlier one.
 fn declare_limit(limit: &mut u64, fields: &ByteRecord) -> bool
     ensures { IsChange (limit_of (drop 1 (fields_of fields.now))) limit.old limit.new result }
 {
@@ -147,7 +147,7 @@ fn only_memory(_refused: MakeError) -> NoMemory
     NoMemory
 }
 
-/// Declares the feeder of a record `feeder,CAPACITY`, if there are fewer than 64 feeders, and returns whether it did.
+/// Declares the feeder of a record `feeder,CAP`, if there are fewer than 64 feeders, and returns whether it did.
 fn declare_feeder(capacities: &mut Vec<u32>, fields: &ByteRecord) -> Result<bool, NoMemory>
     ensures done { IfOk result
         (IsChange (capacities_after capacities.old.items (drop 1 (fields_of fields.now)))

@@ -12,18 +12,18 @@ use Rattle.bsi_rings.specs.declared.parcel.Parcel.{Parcel}
 use Rattle.bsi_rings.specs.Rings.{all_rows, first_rows, intake, rows_of, with_more_taken, ChannelName, Intake, IsChannel, IsParcel, IsWhole, Ring}
 use Rattle.bsi_rings.proofs.Parcels.{all_rows-append, parcel_fits, some_rows}
 
--- where the parcels that were told are those that were taken, and then those that are seen, so are the rows
-pub whole_rows : (channel : ChannelName) (received known : List Parcel) (next : ℕ) (told : Option (List Parcel)) → IfSome told (λ sent. received ++ known ≡ sent) → IsWhole (intake channel received known next told)
+-- where the parcels that the closing carried are those that were taken, and then those that are seen, so are the rows
+pub whole_rows : (channel : ChannelName) (received known : List Parcel) (next : ℕ) (carried : Option (List Parcel)) → IfSome carried (λ sent. received ++ known ≡ sent) → IsWhole (intake channel received known next carried)
 whole_rows channel received known next None whole = tt
 whole_rows channel received known next (Some sent) whole =
     append_assoc (all_rows received) (take next (all_rows known)) (drop next (all_rows known))
     ∙ (ap (λ rows. all_rows received ++ rows) (take-append-drop next (all_rows known)) ∙ (sym (all_rows-append received known) ∙ ap all_rows whole))
 
--- where a parcel that no feeder of the schema sends stands first, no closing was told
-pub untold : (schema : Declared) (received known : List Parcel) (next : ℕ) (told : Option (List Parcel)) (p : Parcel)
-    → IsChannel schema received known next told → IsPrefix (p ∷ []) known → ¬ IsParcel schema p → told ≡ None
-untold schema received known next None p is first other = refl
-untold schema received known next (Some sent) p is first other =
+-- where a parcel that no feeder of the schema sends stands first, the channel is not settled
+pub none_carried : (schema : Declared) (received known : List Parcel) (next : ℕ) (carried : Option (List Parcel)) (p : Parcel)
+    → IsChannel schema received known next carried → IsPrefix (p ∷ []) known → ¬ IsParcel schema p → carried ≡ None
+none_carried schema received known next None p is first other = refl
+none_carried schema received known next (Some sent) p is first other =
     let parcels : sent ≡ received ++ (p ∷ first.0) = sym is.whole ∙ ap (λ ps. received ++ ps) (sym first.1) in
     absurd (other (All-contains (IsParcel schema) (received ++ (p ∷ first.0)) p (subst (All (IsParcel schema)) parcels is.fitting)
     (Contains-append_right received (p ∷ first.0) p (0, omega arith, refl))))
@@ -66,7 +66,7 @@ take_both n m rows =
     ap₂ (λ xs ys. xs ++ ys) (sym (take-take n (n + m) rows (omega arith))) (sym (drop-take n m rows)) ∙ take-append-drop n (take (n + m) rows)
 
 -- the same parcels, of which so many rows more are taken
-module _ (channel : ChannelName) (received known : List Parcel) (next : ℕ) (received_then known_then : List Parcel) (next_then rows : ℕ) (told : Option (List Parcel))
+module _ (channel : ChannelName) (received known : List Parcel) (next : ℕ) (received_then known_then : List Parcel) (next_then rows : ℕ) (carried : Option (List Parcel))
     (parcels : received_then ++ known_then ≡ received ++ known) (many : length (all_rows received_then) + next_then ≡ length (all_rows received) + next + rows) where
   taken_place : (r k : List Parcel) (n : ℕ) → all_rows r ++ take n (all_rows k) ≡ take (length (all_rows r) + n) (all_rows (r ++ k))
   taken_place r k n = sym (ap (take (length (all_rows r) + n)) (all_rows-append r k) ∙ take-append-add (all_rows r) (all_rows k) n)
@@ -87,13 +87,13 @@ module _ (channel : ChannelName) (received known : List Parcel) (next : ℕ) (re
       ∙ (ap₂ (λ n ps. drop n (all_rows ps)) many parcels
       ∙ (sym (drop-drop rows (length (all_rows received) + next) (all_rows (received ++ known))) ∙ ap (drop rows) (sym (seen_place received known next))))
 
-  pub taken_view : intake channel received_then known_then next_then told ≡ with_more_taken (intake channel received known next told) rows
+  pub taken_view : intake channel received_then known_then next_then carried ≡ with_more_taken (intake channel received known next carried) rows
   taken_view =
-      ap₂ (λ (taken seen : List Entries). record { channel = channel; taken = taken; seen = seen; told = option_map all_rows told }) taken_then seen_then
+      ap₂ (λ (taken seen : List Entries). record { channel = channel; taken = taken; seen = seen; carried = option_map all_rows carried }) taken_then seen_then
 
 -- ---- settling
 
--- where one closing was told, another one of the ring tells the same parcels
+-- where one closing settled the channel, another one of the ring carries the same parcels
 pub told_once : (taken seen taken_then seen_then taken_last seen_last first second : List Parcel) → taken_then ≡ taken → IsPrefix seen seen_then → taken_last ≡ taken_then → IsPrefix seen_then seen_last
     → taken ++ seen ≡ first → taken_then ++ seen_then ≡ second → taken_last ++ seen_last ≡ first → second ≡ first
 told_once taken seen taken_then seen_then taken_last seen_last first second a p b q all_first all_second all_last = by q.0 q.1
@@ -102,12 +102,12 @@ told_once taken seen taken_then seen_then taken_last seen_last first second a p 
     by [] e = sym all_second ∙ ap (λ xs. xs ++ seen_then) (sym b) ∙ ap (λ xs. taken_last ++ xs) (sym (append-nil seen_then) ∙ e) ∙ all_last
     by (x ∷ more) e = absurd (omega (arith, ap length p.1, ap length e, ap length a, ap length b, ap length all_first, ap length all_last, length-append seen p.0, length-append seen_then (x ∷ more), length-append taken seen, length-append taken_last seen_last))
 
--- a channel of the same ring, of which nothing was taken, and that was told of these rows
-pub told_view : (old : Intake) (ring before : Ring) (schema : Declared) (taken seen : List Entries) (told : Option (List Entries)) (rows : List Entries)
-    → ring ≡ before → record { ring = before; schema = schema } ≡ old.channel → taken ≡ old.taken → told ≡ Some rows
-    → record { channel = record { ring = ring; schema = schema }; taken = taken; seen = seen; told = told } ≡ record old { told = Some rows; seen = seen }
-told_view old ring before schema taken seen told rows same channel kept is =
-    ap (λ (r : Ring). record { channel = record { ring = r; schema = schema }; taken = taken; seen = seen; told = told }) same
-    ∙ ap (λ (l : ChannelName). record { channel = l; taken = taken; seen = seen; told = told }) channel
-    ∙ ap (λ (t : List Entries). record { channel = old.channel; taken = t; seen = seen; told = told }) kept
-    ∙ ap (λ (o : Option (List Entries)). record { channel = old.channel; taken = old.taken; seen = seen; told = o }) is
+-- a channel of the same ring, of which nothing was taken, and whose closing carried these rows
+pub carried_view : (old : Intake) (ring before : Ring) (schema : Declared) (taken seen : List Entries) (carried : Option (List Entries)) (rows : List Entries)
+    → ring ≡ before → record { ring = before; schema = schema } ≡ old.channel → taken ≡ old.taken → carried ≡ Some rows
+    → record { channel = record { ring = ring; schema = schema }; taken = taken; seen = seen; carried = carried } ≡ record old { carried = Some rows; seen = seen }
+carried_view old ring before schema taken seen carried rows same channel kept is =
+    ap (λ (r : Ring). record { channel = record { ring = r; schema = schema }; taken = taken; seen = seen; carried = carried }) same
+    ∙ ap (λ (l : ChannelName). record { channel = l; taken = taken; seen = seen; carried = carried }) channel
+    ∙ ap (λ (t : List Entries). record { channel = old.channel; taken = t; seen = seen; carried = carried }) kept
+    ∙ ap (λ (o : Option (List Entries)). record { channel = old.channel; taken = old.taken; seen = seen; carried = o }) is

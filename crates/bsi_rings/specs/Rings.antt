@@ -1,11 +1,11 @@
--- What contracts see of a ring's ends: what was sent, what was taken out, and what the closing tells.
+-- What contracts see of a ring's ends: what was sent, what was taken out, and what the closing carried.
 use Rattle.std.specs.Prelude.{◌≡◌, ℕ, suc, ◌+◌, ◌-◌, ◌<◌, ◌≤◌, false, All, IfSome, IsTrue, List, [], ◌∷◌, ◌++◌, Option, None, Some, Result, Ok, Err, drop, length, map, option_map, take}
 use Rattle.std.specs.declared.alloc.Global.{Global}
 use denote.RawPtr.{Ptr}
 use Rattle.rtrb.specs.Shared.{Names}
 use Rattle.rtrb.specs.declared.end.End.{End}
 use Rattle.bsi_table.specs.Columns.{fits, Declared}
-use Rattle.bsi_table.specs.RowBlocks.{entries_of, AreAlike}
+use Rattle.bsi_table.specs.RowBlocks.{entries_of, HaveSameLimits}
 use Rattle.bsi_table.specs.Rows.{Entries}
 use Rattle.bsi_table.specs.Table.{Table}
 use Rattle.bsi_rings.specs.declared.feeder.BatchRefused.{BatchRefused}
@@ -56,7 +56,7 @@ first_rows (p ∷ parcels) = rows_of p
 abbrev pub IsParcel : Declared → Parcel → Type 0
 IsParcel schema (parcel.Row row) = IsTrue (fits schema.columns row)
 IsParcel schema (parcel.Batch batch) =
-    AreAlike batch.index.schema schema × AllFit schema (entries_of batch.index.rows)
+    HaveSameLimits batch.index.schema schema × AllFit schema (entries_of batch.index.rows)
 
 -- ---- a feeder
 
@@ -70,13 +70,13 @@ pub record Sending : Type 0 where
 abbrev pub new_sending : ℕ → ChannelName → ℕ → Sending
 new_sending number channel capacity = record { number = number; channel = channel; capacity = capacity; sent = [] }
 
--- one more row was sent
-abbrev pub with_sent : Sending → Entries → Sending
-with_sent s row = record s { sent = s.sent ++ row ∷ [] }
-
 -- these rows were sent after the others
 abbrev pub with_sent_rows : Sending → List Entries → Sending
 with_sent_rows s rows = record s { sent = s.sent ++ rows }
+
+-- one more row was sent
+abbrev pub with_sent : Sending → Entries → Sending
+with_sent s row = with_sent_rows s (row ∷ [])
 
 -- the reply to a submission. A row that fits may be refused only once as many were sent as the ring has places
 abbrev pub IsSubmitReply : Sending → Entries → Result (Unit {0}) SubmitRefused → Type 0
@@ -88,10 +88,10 @@ IsSubmitReply s row (Err (Full back)) =
 -- the reply to a submission of a batch. One that is alike may be refused only once the rows that were sent and its own
 -- are more than the ring has places
 abbrev pub IsBatchReply : Sending → Table → Result (Unit {0}) BatchRefused → Type 0
-IsBatchReply s sent (Ok done) = AreAlike sent.schema s.channel.schema
-IsBatchReply s sent (Err (batch.Misfit back)) = (back ≡ sent) × ¬ AreAlike sent.schema s.channel.schema
+IsBatchReply s sent (Ok done) = HaveSameLimits sent.schema s.channel.schema
+IsBatchReply s sent (Err (batch.Misfit back)) = (back ≡ sent) × ¬ HaveSameLimits sent.schema s.channel.schema
 IsBatchReply s sent (Err (batch.Full back)) =
-    (back ≡ sent) × AreAlike sent.schema s.channel.schema × (s.capacity < length s.sent + length sent.rows)
+    (back ≡ sent) × HaveSameLimits sent.schema s.channel.schema × (s.capacity < length s.sent + length sent.rows)
 
 -- ---- a closing
 
@@ -113,32 +113,32 @@ pub record Intake : Type 0 where
   pub channel : ChannelName
   pub taken : List Entries  -- the rows that were taken out of the ring, the first one first
   pub seen : List Entries  -- the rows that were seen in the ring and not taken
-  pub told : Option (List Entries)  -- what the closing carried, once it was told
+  pub carried : Option (List Entries)  -- what the closing carried, once the channel is settled
 
--- nothing was taken, seen or told
+-- nothing was taken or seen, and it is not settled
 abbrev pub new_intake : ChannelName → Intake
-new_intake channel = record { channel = channel; taken = []; seen = []; told = None }
+new_intake channel = record { channel = channel; taken = []; seen = []; carried = None }
 
--- what was told is what was taken, and then what is seen in the ring
+-- what the closing carried is what was taken, and then what is seen in the ring
 abbrev pub IsWhole : Intake → Type 0
-IsWhole i = IfSome i.told (λ sent. i.taken ++ i.seen ≡ sent)
+IsWhole i = IfSome i.carried (λ sent. i.taken ++ i.seen ≡ sent)
 
--- what is seen of a channel: the parcels that were taken out of its ring, those that are seen in it, how many rows of the
--- first one of these are taken, and the parcels that the closing carried
+-- what is seen of a channel: the parcels that were taken out of its ring, those that are seen in it, how many rows of
+-- the first one of these are taken, and the parcels that the closing carried
 abbrev pub intake : ChannelName → List Parcel → List Parcel → ℕ → Option (List Parcel) → Intake
-intake channel received known next told = record {
+intake channel received known next carried = record {
   channel = channel;
   taken = all_rows received ++ take next (all_rows known);
   seen = drop next (all_rows known);
-  told = option_map all_rows told;
+  carried = option_map all_rows carried;
 }
 
--- what a channel keeps: a row is left of the parcel that stands first. Once its closing was told, that is what was taken
--- and then what is seen, and a feeder of this schema sent it
-pub record IsChannel (schema : Declared) (received known : List Parcel) (next : ℕ) (told : Option (List Parcel)) : Type 0 where
+-- what a channel keeps: a row is left of the parcel that stands first. What the closing carried is what was taken and
+-- then what is seen, and a feeder of this schema sent it
+pub record IsChannel (schema : Declared) (received known : List Parcel) (next : ℕ) (carried : Option (List Parcel)) : Type 0 where
   pub place : next ≤ length (first_rows known) - 1
-  pub whole : IfSome told (λ sent. received ++ known ≡ sent)
-  pub fitting : IfSome told (All (IsParcel schema))
+  pub whole : IfSome carried (λ sent. received ++ known ≡ sent)
+  pub fitting : IfSome carried (All (IsParcel schema))
 
 -- so many rows are seen in the ring, and nothing else changed
 abbrev pub with_seen : Intake → List Entries → Intake
@@ -148,16 +148,16 @@ with_seen i seen = record i { seen = seen }
 abbrev pub with_more_taken : Intake → ℕ → Intake
 with_more_taken i n = record i { taken = i.taken ++ take n i.seen; seen = drop n i.seen }
 
--- the closing was told: all that was sent and not taken is seen
+-- the channel is settled by this closing: all that was sent and not taken is seen
 abbrev pub Settles : Intake → Sent → Intake → Type 0
-Settles old closing new = new ≡ record old { told = Some closing.rows; seen = new.seen }
+Settles old closing new = new ≡ record old { carried = Some closing.rows; seen = new.seen }
 
 -- what stands at the front of a ring: a row that fits, nothing, or nothing for good
 abbrev pub IsFront : Intake → Front → Type 0
 IsFront i front.Row =
     (row : Entries) × (rest : List Entries) × (i.seen ≡ row ∷ rest) × IsTrue (fits i.channel.schema.columns row)
-IsFront i front.Empty = i.told ≡ None
-IsFront i front.Ended = i.told ≡ Some i.taken
+IsFront i front.Empty = i.carried ≡ None
+IsFront i front.Ended = i.carried ≡ Some i.taken
 
 -- ---- all rings of a system
 

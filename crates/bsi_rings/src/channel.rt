@@ -1,4 +1,4 @@
-//! A channel: the loader's end of one ring, and what the feeder's closing told about it.
+//! A channel: the loader's end of one ring, and what the feeder's closing carried.
 
 ghost use Rattle.std.specs.Prelude.{◌≡◌, ◌+◌, ◌-◌, ◌<◌, ◌≤◌, ◌↔◌, [], ◌∷◌, ◌++◌, IfOk, IfSome, IsTrue, length};
 ghost use Rattle.std.specs.Option.{option_copied};
@@ -22,11 +22,11 @@ pub enum Front {
     Row,
     /// No row that fits the schema is seen.
     Empty,
-    /// The closing was told, and all rows that were sent have been taken.
+    /// The channel is settled, and all rows that were sent have been taken.
     Ended,
 }
 
-/// The consumer end of a ring, and the closing of its feeder once it was told.
+/// The consumer end of a ring, and what is left of its feeder's end once it is settled.
 #[derive(Drop)]
 pub struct Channel {
     schema: Arc<Schema, Global>,
@@ -38,7 +38,8 @@ pub struct Channel {
     finished: Option<Finished<Parcel>>,
 }
 
-// Clauses see which ring it is, the rows that were taken, those that are seen in the ring, and what was told.
+// Clauses see which ring it is, the rows that were taken, those that are seen in the ring, and what the closing
+// carried.
 impl Model for Channel {
     ghost use Rattle.std.specs.Prelude.{◌≡◌, IfSome, option_map};
     ghost use Rattle.rtrb.specs.Ring.{all_sent, received, known_items};
@@ -55,7 +56,7 @@ impl Model for Channel {
 }
 
 impl Channel {
-    ghost use Rattle.bsi_table.specs.RowBlocks.{entries_of, AreAlike};
+    ghost use Rattle.bsi_table.specs.RowBlocks.{entries_of, HaveSameLimits};
     ghost use Rattle.bsi_rings.specs.Rings.{new_intake, ring_of, with_more_taken, with_seen, AllFit, IsFront, IsWhole, Settles};
 
     /// Makes the channel of a ring from which nothing has been taken.
@@ -83,6 +84,7 @@ impl Channel {
         ensures kept { self.new ≡ with_seen self.old self.new.seen }
     {
         if self.look() {
+            // Of a ring that is not settled nothing is known but its parcels, so they are tested again.
             if self.ring.peek_known().is_for(&self.schema) {
                 return Front::Row;
             }
@@ -94,7 +96,7 @@ impl Channel {
         Front::Empty
     }
 
-    /// Returns whether a row is seen in the ring. Once the closing was told, all rows are seen, and it does not read
+    /// Returns whether a row is seen in the ring. Once the channel is settled, all rows are seen, and it does not read
     /// the ring again.
     fn look(&mut self) -> bool
         ensures seen { IsTrue result ↔ (0 < length self.new.seen) }
@@ -118,7 +120,7 @@ impl Channel {
         }
     }
 
-    /// Makes a second row of that which stands first.
+    /// Makes a second row of that which stands first. If that is one of a batch, it passes over the whole batch.
     pub fn copy_first(&self) -> Result<Row, NoMemory>
         requires { 0 < length self.now.seen }
         ensures { IfOk result (λ row. IsPrefix (row ∷ []) self.now.seen) }
@@ -137,10 +139,11 @@ impl Channel {
             (λ batch. IsPrefix (entries_of batch.rows) self.now.seen) }
         ensures some { IfSome (option_copied result) (λ batch. 0 < length batch.rows) }
         ensures alike { IfSome (option_copied result)
-            (λ batch. AreAlike batch.schema self.now.channel.schema) }
+            (λ batch. HaveSameLimits batch.schema self.now.channel.schema) }
         ensures fitting { IfSome (option_copied result)
             (λ batch. AllFit self.now.channel.schema (entries_of batch.rows)) }
     {
+        // The batch is tested again, as a row is in `front`.
         match self.ring.peek_known() {
             Parcel::Batch(batch) if self.next == 0 && batch.is_for(&self.schema) => {
                 Some(&batch.index)
@@ -160,17 +163,17 @@ impl Channel {
     }
 
     /// Learns from the closing of the ring's feeder what was sent. It takes no row and allocates no memory. A second
-    /// closing of one ring would tell the same rows.
+    /// closing of one ring would carry the same rows.
     pub fn settle(&mut self, closing: Closing)
         requires { closing.channel ≡ self.old.channel }
         ensures settled { Settles self.old closing self.new }
         ensures whole { IsWhole self.new }
-        ensures once { IfSome self.old.told (λ sent. closing.rows ≡ sent) }
+        ensures once { IfSome self.old.carried (λ sent. closing.rows ≡ sent) }
     {
         let mut finished = closing.into_finished();
         self.ring.slots_after(&mut finished);
         match &mut self.finished {
-            // What was told before stays. The proof takes from this call that both tell of the same rows.
+            // The first closing stays. The proof takes from this call that both carried the same rows.
             Some(first) => {
                 self.ring.slots_after(first);
             }

@@ -1,6 +1,6 @@
 //! A feeder: the producer of one ring.
 
-ghost use Rattle.std.specs.Prelude.{◌≡◌, ◌+◌, ◌<◌, ◌≤◌, ◌^◌, [], IfOk, IfSome, OnErr, OnOk, false, length, true};
+ghost use Rattle.std.specs.Prelude.{◌≡◌, ◌+◌, ◌<◌, ◌≤◌, [], IfOk, IfSome, OnErr, OnOk, false, length, true};
 ghost use Rattle.rtrb.specs.Ring.{known_free, producer_capacity, sent, ProducerLooked};
 ghost use Rattle.bsi_rings.specs.Rings.{all_rows};
 
@@ -45,8 +45,9 @@ pub struct Feeder {
 // Clauses see the feeder's number, which ring it sends to, the schema, the ring's capacity, and the rows that were
 // sent.
 impl Model for Feeder {
-    ghost use Rattle.std.specs.Prelude.{◌<◌, ◌≤◌, ◌^◌, All, length};
+    ghost use Rattle.std.specs.Prelude.{◌<◌, ◌≤◌, All, length};
     ghost use Rattle.rtrb.specs.Ring.{sent};
+    ghost use Rattle.bsi_table.specs.Table.{end_of_u32};
     ghost use Rattle.bsi_rings.specs.Rings.{all_rows, ring_of, IsParcel, Sending};
 
     ghost Value = { Sending };
@@ -60,13 +61,13 @@ impl Model for Feeder {
 
     ghost invariant = { λ f. All (IsParcel f.schema.value) (sent f.ring)
         × (f.places.count ≤ length (all_rows (sent f.ring)))
-        × (f.ring.capacity < 2 ^ 32) };
+        × (f.ring.capacity < end_of_u32) };
 }
 
 impl Feeder {
     ghost use Rattle.bsi_table.specs.RowBlocks.{entries_of};
     ghost use Rattle.bsi_rings.specs.Rings.{new_sending, ring_of, with_sent, with_sent_rows, Closes, IsBatchReply, IsSubmitReply};
-    ghost use Rattle.bsi_table.specs.Table.{max_rows, no_rows};
+    ghost use Rattle.bsi_table.specs.Table.{end_of_u32, max_rows, no_rows};
 
     /// Makes the feeder of a ring to which nothing has been sent.
     pub(crate) fn new(
@@ -78,7 +79,7 @@ impl Feeder {
     ) -> Feeder
         requires ring { sent ring ≡ [] }
         requires places { places.count ≡ 0 }
-        requires small { producer_capacity ring < 2 ^ 32 }
+        requires small { producer_capacity ring < end_of_u32 }
         ensures { result ≡ new_sending number
             (record { ring = ring_of ring.end; schema = schema.value }) (producer_capacity ring) }
     {
@@ -105,8 +106,8 @@ impl Feeder {
         self.ring.capacity() as u32
     }
 
-    /// Makes a batch of no rows, an index of one feeder that keeps its columns as the table does: the loader takes its
-    /// rows by words.
+    /// Makes a batch of no rows, an index of one feeder that keeps its columns as the loader's does: the loader takes
+    /// its rows by words.
     pub fn batch(&self) -> Result<Index, NoMemory>
         ensures { IfOk result (λ batch. batch ≡ no_rows self.now.channel.schema 1 max_rows) }
     {
@@ -122,7 +123,7 @@ impl Feeder {
         if !self.schema.fits(&row) {
             return Err(SubmitRefused::Misfit(row));
         }
-        if !has_place(&mut self.ring, &mut self.places, 1) {
+        if !has_free(&mut self.ring, &mut self.places, 1) {
             return Err(SubmitRefused::Full(row));
         }
         self.ring.push_reserved(Parcel::Row(row));
@@ -131,8 +132,8 @@ impl Feeder {
     }
 
     /// Sends the rows of a batch, in their order, each as a row of this feeder, whatever feeders the batch has. It
-    /// allocates no memory and never waits. A batch of no row is sent by doing nothing. One that is not kept as the table
-    /// is, or has more feeders, is taken row by row, and each row costs a pass over the batch.
+    /// allocates no memory and never waits. A batch of no row is sent by doing nothing. One that is not kept as the
+    /// loader's index is, or has more feeders, is taken row by row, and each row costs a pass over the batch.
     pub fn submit_batch(&mut self, batch: Index) -> Result<(), BatchRefused>
         ensures reply { IsBatchReply self.old batch result }
         ensures sent { OnOk result (self.new ≡ with_sent_rows self.old (entries_of batch.rows)) }
@@ -145,7 +146,7 @@ impl Feeder {
         if rows == 0 {
             return Ok(());
         }
-        if !has_place(&mut self.ring, &mut self.places, rows) {
+        if !has_free(&mut self.ring, &mut self.places, rows) {
             return Err(BatchRefused::Full(batch));
         }
         self.ring.push_reserved(Parcel::Batch(Batch::new(batch)));
@@ -154,7 +155,7 @@ impl Feeder {
     }
 
     /// Ends the feeder, and returns the closing that tells the loader which rows were sent. It returns none if the ring
-    /// tells nothing, for example because the loader is gone.
+    /// gives none, for example because the loader is gone.
     pub fn close(self) -> Option<Closing>
         ensures { IfSome result (Closes self) }
     {
@@ -170,8 +171,8 @@ impl Feeder {
     }
 }
 
-/// Returns whether a ring has room for a parcel of so many rows, as far as its feeder knows.
-fn has_place(ring: &mut Producer<Parcel>, places: &mut Places, rows: usize) -> bool
+/// Returns whether a ring has free places for a parcel of so many rows, as far as its feeder knows.
+fn has_free(ring: &mut Producer<Parcel>, places: &mut Places, rows: usize) -> bool
     requires some { 0 < rows }
     requires count { places.old.count ≤ length (all_rows (sent ring.old)) }
     ensures refused { result ≡ false →
@@ -180,5 +181,5 @@ fn has_place(ring: &mut Producer<Parcel>, places: &mut Places, rows: usize) -> b
     ensures looked { ProducerLooked ring.old ring.new }
     ensures count { places.new.count ≡ places.old.count }
 {
-    places.have_room(ring.capacity(), rows) && !ring.is_full()
+    places.have_free(ring.capacity(), rows) && !ring.is_full()
 }

@@ -11,5 +11,5 @@ mod places;
 pub use channel::{Channel, Front};
 pub use closing::Closing;
 pub use feeder::{BatchRefused, Feeder, SubmitRefused};
-pub use making::open_rings;
+pub use making::{Rings, open_rings};
 pub use std::alloc::AllocError as NoMemory;

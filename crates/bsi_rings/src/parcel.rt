@@ -1,6 +1,6 @@
 //! What stands in one place of a ring: a row, or a batch of rows.
 //!
-//! A batch is a small index: its feeder builds the bitmaps, and the table takes them by words.
+//! A batch is a small index: its feeder builds the bitmaps, and the loader's index takes them by words.
 
 ghost use Rattle.std.specs.Prelude.{◌<◌, length};
 

@@ -1,7 +1,7 @@
 //! How many rows are on their way in a ring, as far as its feeder knows.
 //!
-//! The loader's end notes in a number that both ends share how many rows it has taken. Nothing is proved of that number:
-//! it only bounds the memory of the rows that are on their way.
+//! The loader's end notes in a number that both ends share how many rows it has taken. Nothing is proved of that
+//! number: it only bounds the memory of the rows that are on their way.
 
 ghost use Rattle.std.specs.Prelude.{◌≡◌, ◌+◌, ◌<◌, ◌≤◌, false};
 
@@ -29,21 +29,21 @@ impl Places {
         }
     }
 
-    /// Returns whether so many more rows may be on their way in a ring of this capacity. It reads the shared number only
-    /// where what it knows is too little.
-    pub(crate) fn have_room(&mut self, capacity: usize, rows: usize) -> bool
+    /// Returns whether so many places of a ring of this capacity are free. It reads the shared number only where too
+    /// few are known to be free.
+    pub(crate) fn have_free(&mut self, capacity: usize, rows: usize) -> bool
         ensures refused { result ≡ false → capacity < self.old.count + rows }
         ensures kept { self.new.count ≡ self.old.count }
     {
-        if self.are_free(capacity, rows) {
+        if self.are_known_free(capacity, rows) {
             return true;
         }
         self.known = self.noted.load(Ordering::SeqCst);
-        self.are_free(capacity, rows)
+        self.are_known_free(capacity, rows)
     }
 
-    /// Returns whether what is known gives room for so many more rows.
-    fn are_free(&self, capacity: usize, rows: usize) -> bool
+    /// Returns whether so many places are known to be free.
+    fn are_known_free(&self, capacity: usize, rows: usize) -> bool
         ensures { result ≡ false → capacity < self.now.count + rows }
     {
         let on_way = self.count.saturating_sub(self.known);

@@ -1,8 +1,12 @@
 -- A row fits where it has as many entries as there are columns, and each column takes its entry.
-use Rattle.std.proofs.Common.{◌≡◌, ℕ, ◌<◌, zero, suc, Bool, true, false, ◌&&◌, List, [], ◌∷◌, length, drop, map, get_or, Option, ℤ, refl, sym, ap, ap₂, ◌∙◌, true≢false, arith}
+use Rattle.std.proofs.Common.{◌≡◌, ℕ, ◌<◌, zero, suc, Bool, true, false, ◌&&◌, List, [], ◌∷◌, length, drop, map, get_or, Option, Some, None, ℤ, pos, ◌+ℤ◌, ◌≤ℤ◌, ◌<ℤ◌, refl, sym, ap, ap₂, ◌∙◌, true≢false, arith}
+use Rattle.std.specs.Prelude.{int_le, int_lt}
 use Rattle.std.specs.List.{list_all, zip}
+use Rattle.std.proofs.lemmas.Int.{ints}
 use Rattle.std.proofs.lemmas.List.{get_or-map, length-map}
-use Rattle.bsi_schema.specs.Columns.{column_at, entry_at, fits, is_between, is_taken_by, no_column, NamedColumn}
+use Rattle.bsi_schema.specs.Columns.{column_at, entry_at, fits, is_between, is_taken_by, no_column, size_in, NamedColumn}
+use Rattle.bsi_digits.specs.Digits.{max_end}
+use Rattle.bsi_digits.specs.Signed.{least_i64, IsI64}
 use Rattle.bsi_schema.specs.Limits.{limits_of}
 use Rattle.bsi_schema.specs.declared.limits.Limits.{Limits}
 
@@ -34,6 +38,18 @@ fits-each [] (entry ∷ row) long each = absurd (omega arith)
 fits-each (column ∷ columns) [] long each = absurd (omega arith)
 fits-each (column ∷ columns) (entry ∷ row) long each =
     ap₂ (λ a b. a && b) (each 0 (omega arith)) (fits-each columns row (omega arith) (λ c within. each (suc c) (omega arith)))
+
+-- two tests of a number
+pub within : (low x high : ℤ) → int_le low x && int_lt x high ≡ true → (low ≤ℤ x) × (x <ℤ high)
+within low x high both = (grind (arith, ints), grind (arith, ints))
+
+-- an entry that a column takes is a null or a number of 64 bits
+pub taken_small : (column : NamedColumn) → least_i64 ≤ℤ column.offset → (column.offset +ℤ pos (size_in column.form)) ≤ℤ pos max_end
+    → (entry : Option ℤ) → is_taken_by column entry ≡ true → IsI64 entry
+taken_small column low below None taken = tt
+taken_small column low below (Some x) taken =
+    let range = within column.offset x (column.offset +ℤ pos (size_in column.form)) taken in
+    (omega (arith, ints, range.0, low), omega (arith, ints, range.1, below))
 
 -- a row of the same length fits where each column takes its entry
 pub all_taken : (columns : List NamedColumn) (row : List (Option ℤ)) → length row ≡ length columns

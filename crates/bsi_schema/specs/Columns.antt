@@ -2,6 +2,7 @@
 use Rattle.std.specs.Prelude.{ℕ, ◌^◌, ◌≤◌, Bool, true, false, ◌&&◌, ◌||◌, List, [], ◌∷◌, ◌++◌, length, position, All, Option, Some, None, reverse, slice_index_or, String, string_bytes, ℤ, pos, ◌+ℤ◌, ◌≤ℤ◌, int_le, int_lt, IsTrue}
 use Rattle.std.specs.Str.{bytes_eq}
 use Rattle.bsi_digits.specs.Digits.{max_end, product, IsBaseList}
+use Rattle.bsi_digits.specs.Signed.{least_i64}
 use Rattle.bsi_schema.specs.Names.{is_name}
 use Rattle.bsi_schema.specs.declared.form.ColumnSpec.{ColumnSpec}
 use Rattle.bsi_schema.specs.declared.form.ColumnSpec.TheVariants.{Slices as spec_slices, Equality as spec_equality, Range as spec_range}
@@ -63,13 +64,14 @@ no_column = named_column [] (Slices 0) (pos 0)
 abbrev pub column_at : List NamedColumn → ℕ → NamedColumn
 column_at columns c = slice_index_or columns c no_column
 
--- the column of this name
+-- the place of the column of this name
 abbrev pub position_of : List NamedColumn → List ℕ → Option ℕ
 position_of columns name = position (λ column. bytes_eq name column.name) columns
 
--- the form may be had, and each number of the column is below 2^63
+-- the form may be had, and each number of the column has 64 bits
 pub record IsColumn (column : NamedColumn) : Type 0 where
   pub form : IsForm column.form
+  pub low : least_i64 ≤ℤ column.offset
   pub below : (column.offset +ℤ pos (size_in column.form)) ≤ℤ pos max_end
 
 -- each has a name that columns may have
@@ -104,7 +106,7 @@ abbrev pub is_taken_by : NamedColumn → Option ℤ → Bool
 is_taken_by column entry = is_between column.offset (size_in column.form) entry
 
 -- a row fits: it has one entry for each column, and the column takes it
-abbrev pub fits : List NamedColumn → List (Option ℤ) → Bool
+abbrev pub fits : List NamedColumn → Entries → Bool
 fits [] [] = true
 fits [] (entry ∷ row) = false
 fits (column ∷ columns) [] = false

@@ -4,7 +4,7 @@ ghost use Rattle.std.specs.Prelude.{◌≡◌, ◌≤◌, IfOk};
 ghost use Rattle.std.specs.Result.{result_err};
 ghost use Rattle.bsi_digits.specs.Digits.{max_size};
 
-use crate::{NoMemory, SchemaError};
+use crate::NoMemory;
 use bsi_digits::{Bases, BasesError};
 
 /// The most slices of a column.

@@ -9,7 +9,7 @@ mod schema;
 mod schema_error;
 
 pub use form::{ColumnSpec, Form, MAX_SLICES};
-pub use limits::{Limits, are_same, take_each};
+pub use limits::{Limits, have_same_limits, take_each, to_i64};
 pub use row::Row;
 pub use schema::Schema;
 pub use schema_error::SchemaError;

@@ -1,7 +1,7 @@
 //! The numbers that a column takes.
 
-ghost use Rattle.std.specs.Prelude.{◌≡◌, ◌↔◌, ◌+ℤ◌, ◌≤ℤ◌, IsTrue, List, map, pos, true};
-ghost use Rattle.bsi_digits.specs.Digits.{max_end};
+ghost use Rattle.std.specs.Prelude.{◌≡◌, ◌↔◌, IsTrue, List, map};
+ghost use Rattle.bsi_digits.specs.Signed.{IsI64};
 ghost use Rattle.bsi_schema.specs.Columns.{fits, is_between, size_in, IsForm, NamedColumn};
 ghost use Rattle.bsi_schema.specs.Limits.{limits_of};
 
@@ -37,16 +37,15 @@ impl Limits {
         let least = i128::from(self.least);
         least <= number && number < least + i128::from(self.size)
     }
+}
 
-    /// Returns the same entry, as a number of 64 bits.
-    pub fn narrow(self, entry: Option<i128>) -> Option<i64>
-        requires taken { is_between self.least self.size entry ≡ true }
-        requires below { (self.least +ℤ pos self.size) ≤ℤ pos max_end }
-        ensures { result ≡ entry }
-    {
-        let number = entry?;
-        Some(number as i64)
-    }
+/// Returns the same entry, as a number of 64 bits.
+pub fn to_i64(entry: Option<i128>) -> Option<i64>
+    requires { IsI64 entry }
+    ensures { result ≡ entry }
+{
+    let number = entry?;
+    Some(number as i64)
 }
 
 /// Returns whether a row has one entry for each of these columns, each a null or a number that its column takes.
@@ -63,7 +62,8 @@ pub fn take_each(limits: &[Limits], row: &Row) -> bool
 }
 
 /// Returns whether two lists of columns take the same numbers.
-pub fn are_same(first: &[Limits], second: &[Limits]) -> bool
+// It is a function because its clause says what `==` of two such lists means.
+pub fn have_same_limits(first: &[Limits], second: &[Limits]) -> bool
     ensures { IsTrue result ↔ (first.now ≡ second.now) }
 {
     first == second

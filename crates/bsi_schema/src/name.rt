@@ -9,17 +9,14 @@ const MAX_NAME_BYTES: usize = 32;
 
 /// Returns whether the text is a name. A name has at most 32 bytes: first a lower-case letter, then lower-case letters,
 /// digits or `_`. The words that predicates are written with are no names.
-pub fn is_valid_name(text: &[u8]) -> bool
+pub fn is_name(text: &[u8]) -> bool
     ensures { result ≡ is_name text.now }
 {
-    begins_lowercase(text)
-        && text.len() <= MAX_NAME_BYTES
-        && has_valid_bytes(text)
-        && !is_predicate_word(text)
+    begins_lower(text) && text.len() <= MAX_NAME_BYTES && has_name_bytes(text) && !is_word(text)
 }
 
 /// Returns whether the first byte is a lower-case letter.
-fn begins_lowercase(text: &[u8]) -> bool
+fn begins_lower(text: &[u8]) -> bool
     ensures { result ≡ begins_lower text.now }
 {
     match text {
@@ -29,21 +26,21 @@ fn begins_lowercase(text: &[u8]) -> bool
 }
 
 /// Returns whether each byte may stand in a name.
-fn has_valid_bytes(text: &[u8]) -> bool
+fn has_name_bytes(text: &[u8]) -> bool
     ensures { result ≡ list_all is_name_byte text.now }
 {
-    text.iter().all(|byte| is_valid_byte(*byte))
+    text.iter().all(|byte| is_name_byte(*byte))
 }
 
 /// Returns whether the byte is a lower-case letter, a digit or `_`.
-fn is_valid_byte(byte: u8) -> bool
+fn is_name_byte(byte: u8) -> bool
     ensures { result ≡ is_name_byte byte }
 {
     byte.is_ascii_lowercase() || byte.is_ascii_digit() || byte == b'_'
 }
 
 /// Returns whether the text is one of the words that predicates are written with.
-fn is_predicate_word(text: &[u8]) -> bool
+fn is_word(text: &[u8]) -> bool
     ensures { result ≡ is_word text.now }
 {
     text == b"all".as_slice()

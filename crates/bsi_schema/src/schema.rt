@@ -10,7 +10,7 @@ ghost use Rattle.bsi_schema.specs.Refusals.{column_refusal, name_refusal, signed
 
 use crate::form::{ColumnSpec, Form, Kind};
 use crate::limits::{Limits, take_each};
-use crate::name::is_valid_name;
+use crate::name::is_name;
 use crate::{NoMemory, Row, SchemaError};
 use indexmap::IndexMap;
 use std::alloc::Global;
@@ -108,8 +108,7 @@ impl Schema {
         ensures form { result.now ≡ (column_at self.now.columns c).form }
         ensures valid { IsForm result.now }
     {
-        let (_, kind) = self.columns.get_index(c as usize).unwrap();
-        &kind.form
+        &self.kind(c).form
     }
 
     /// Returns how many numbers column `c` tells apart, at most 2^63.
@@ -128,8 +127,18 @@ impl Schema {
         ensures below { (result +ℤ pos (size_in (column_at self.now.columns c).form))
             ≤ℤ pos max_end }
     {
+        self.kind(c).offset
+    }
+
+    /// Lends the form and the offset of column `c`.
+    fn kind(&self, c: u32) -> &Kind
+        requires { c < length self.now.columns }
+        ensures form { result.now.form ≡ (column_at self.now.columns c).form }
+        ensures offset { result.now.offset ≡ (column_at self.now.columns c).offset }
+        ensures valid { IsColumn (column_at self.now.columns c) }
+    {
         let (_, kind) = self.columns.get_index(c as usize).unwrap();
-        kind.offset
+        kind
     }
 
     /// Returns whether a row has one entry for each column, each a null or a number that its column takes.
@@ -200,7 +209,7 @@ impl Schema {
     fn check_name(&self, name: &str) -> Result<(), SchemaError>
         ensures { result_err result ≡ name_refusal self.now name.now }
     {
-        if !is_valid_name(name.as_bytes()) {
+        if !is_name(name.as_bytes()) {
             return Err(SchemaError::BadName);
         }
         if self.position(name).is_some() {

@@ -28,8 +28,8 @@ abbrev pub LeavesFlushed : List ℕ → List (List ℕ) → List ℕ → FilesFa
 LeavesFlushed declared texts asked fault before after =
     (middle : Option (List ℕ)) × Leaves (IsRun declared texts) asked fault before middle × Keeps middle after
 
--- some files were opened, one of them a row file or more, and where it is known what they give, they have the fault, and
--- the output what it leaves
+-- some files were opened, one of them a row file or more, and where it is known what they give, they have the fault,
+-- and the output what it leaves
 pub record HasFailedOver {S : Type 0} (rem : S → Option (List ℕ)) (fault : FilesFault) (before after : Option (List ℕ)) : Type 0 where
   pub schema : S
   pub asks : S
@@ -45,12 +45,12 @@ IsOpenFault (CannotOpen path) = ⊤
 IsOpenFault (Run fault) = fault ≡ NoMemory
 
 -- a run ended early by a fault: before any file was read, and then nothing was written, or over files that were opened
-abbrev pub HasFailed : {S : Type 0} → (S → Option (List ℕ)) → Option (List ℕ) → Option (List ℕ) → RunFault → Type 0
-HasFailed rem before after (CannotOpen path) = Keeps before after
-HasFailed rem before after (Run fault) = ((fault ≡ NoMemory) × Keeps before after) ⊎ HasFailedOver rem fault before after
+abbrev pub HasEndedEarly : {S : Type 0} → (S → Option (List ℕ)) → Option (List ℕ) → Option (List ℕ) → RunFault → Type 0
+HasEndedEarly rem before after (CannotOpen path) = Keeps before after
+HasEndedEarly rem before after (Run fault) = ((fault ≡ NoMemory) × Keeps before after) ⊎ HasFailedOver rem fault before after
 
 -- a run ended early, and a first part of the line of this fault was told
 pub record HasToldFault {S : Type 0} (rem : S → Option (List ℕ)) (before after said told : Option (List ℕ)) : Type 0 where
   pub fault : RunFault
-  pub failed : HasFailed rem before after fault
+  pub failed : HasEndedEarly rem before after fault
   pub line : IsCut said told (fault_line fault)

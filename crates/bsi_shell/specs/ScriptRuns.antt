@@ -7,8 +7,8 @@ use Rattle.bsi_text.specs.Waiting.{IsCut}
 use Rattle.bsi_text.specs.declared.script.ScriptFault.{ScriptFault}
 use Rattle.bsi_text.specs.declared.script.ScriptFault.TheVariants.{NoMemory, TooLong, Write}
 
--- what a fault leaves of the lines of an input: those of the first 1,000,000 records where there are more, and else some
--- first lines, of which only the writer's fault cuts one
+-- what a fault leaves of the lines of an input: those of the first 1,000,000 records where there are more, and else
+-- some first lines, of which only the writer's fault cuts one
 abbrev pub LeavesScript : Option (List ℕ) → ScriptFault → Option (List ℕ) → Option (List ℕ) → Type 0
 LeavesScript input TooLong before after = IfKnown input IsTooLong before after
 LeavesScript input Write before after = IfKnown input IsBegun before after

@@ -1,6 +1,6 @@
 //! A run over files: it opens all files in the order of the words, and then reads them.
 ghost use Rattle.std.specs.Prelude.{◌≡◌, ◌<◌, IfErr, IfOk, OnOk, length};
-ghost use Rattle.bsi_shell.specs.FileRuns.{HasFailed, HasFailedOver, HasRunOver, IsOpenFault};
+ghost use Rattle.bsi_shell.specs.FileRuns.{HasEndedEarly, HasFailedOver, HasRunOver, IsOpenFault};
 
 use crate::paths::Paths;
 use bsi_files::{FilesFault, Go, run_files};
@@ -44,7 +44,7 @@ impl From<AllocError> for RunFault<'_> {
 }
 
 /// The files of a run, each open for reading.
-struct Opened<S: Read + Drop> {
+struct OpenFiles<S: Read + Drop> {
     schema: S,
     asks: S,
     rows: Vec<S>,
@@ -59,7 +59,7 @@ pub(crate) fn run_over<
 >(rt: &R, paths: &Paths<'a>, output: &mut O) -> Result<(), RunFault<'a>>
     ensures ran { OnOk result
         (HasRunOver S.remaining (O.contents output.old) (O.contents output.new)) }
-    ensures failed { IfErr result (HasFailed S.remaining (O.contents output.old) (O.contents output.new)) }
+    ensures failed { IfErr result (HasEndedEarly S.remaining (O.contents output.old) (O.contents output.new)) }
 {
     let opened = open_all(rt, paths)?;
     run_opened(rt, opened, output)?;
@@ -70,7 +70,7 @@ pub(crate) fn run_over<
 /// no fault.
 fn run_opened<R: AllocGlobal + Threads + Wait + Sync, S: Read + Drop + Send, O: Write>(
     rt: &R,
-    opened: Opened<S>,
+    opened: OpenFiles<S>,
     output: &mut O,
 ) -> Result<(), FilesFault>
     requires { 0 < length opened.rows.items }
@@ -79,7 +79,7 @@ fn run_opened<R: AllocGlobal + Threads + Wait + Sync, S: Read + Drop + Send, O: 
     ensures failed { IfErr result (λ fault.
         HasFailedOver S.remaining fault (O.contents output.old) (O.contents output.new)) }
 {
-    let Opened { schema, asks, rows } = opened;
+    let OpenFiles { schema, asks, rows } = opened;
     let run = run_files(rt, schema, asks, rows, output, &Go);
     let flushed = output.flush().map_err(|_| FilesFault::Write);
     run.and(flushed)
@@ -89,7 +89,7 @@ fn run_opened<R: AllocGlobal + Threads + Wait + Sync, S: Read + Drop + Send, O: 
 fn open_all<'a, R: AllocGlobal + Files<File = S>, S: Read + Drop>(
     rt: &R,
     paths: &Paths<'a>,
-) -> Result<Opened<S>, RunFault<'a>>
+) -> Result<OpenFiles<S>, RunFault<'a>>
     ensures opened { IfOk result (λ opened. length opened.rows.items ≡ length paths.now.rows.items) }
     ensures failed { IfErr result IsOpenFault }
 {
@@ -100,7 +100,7 @@ fn open_all<'a, R: AllocGlobal + Files<File = S>, S: Read + Drop>(
         let file = open_one(rt, path)?;
         rows.push(file).map_err(|_| FilesFault::NoMemory)?;
     }
-    Ok(Opened { schema, asks, rows })
+    Ok(OpenFiles { schema, asks, rows })
 }
 
 /// Opens one file for reading.

@@ -12,7 +12,8 @@ use std::io::Write;
 /// The most bytes of the line of a fault that names no path.
 const MAX_LINE: usize = 64;
 
-/// Writes the line of a fault, at most 64 bytes, by one write where the writer takes all of it, and returns its status.
+/// Writes the line of a fault, at most 64 bytes, and returns its status. It makes one write where the writer takes the
+/// whole line.
 pub fn tell_fault<D: Display + Drop, F: Write>(fault: D, faults: &mut F) -> u8
     ensures status { result ≡ 1 }
     ensures told { IfSome (D.output fault) (λ text.

@@ -30,9 +30,9 @@ pub fn run_words<
 >(rt: &R, words: Vec<String>, input: I, output: &mut O, faults: &mut F) -> u8
     ensures status { result ≤ 2 }
 
-    // Where the first word is not `files`: a run with no fault has answered the whole input. After status 1 what was
-    // written is a first part of the lines that answer the whole input, what the fault leaves, and what is on `faults` is
-    // a first part of the line of this fault.
+    // Where the first word is not `files`, a run with no fault has answered the whole input. After status 1 the output
+    // has what the fault leaves: a first part of the lines that answer the whole input. Then `faults` has a first part
+    // of the line of this fault.
     ensures answered { result ≡ 0 → ¬ BeginsWithFiles words.items →
         IfKnown (I.remaining input) IsAnswered (O.contents output.old) (O.contents output.new) }
     ensures begun { result ≡ 1 → ¬ BeginsWithFiles words.items →
@@ -41,8 +41,8 @@ pub fn run_words<
         HasToldScript (I.remaining input) (O.contents output.old) (O.contents output.new)
         (F.contents faults.old) (F.contents faults.new) }
 
-    // Where it is `files`, a run with no fault over the files that were opened has answered all their asks. After status
-    // 1 the output has what a fault that the files have leaves, and `faults` a first part of the line of this fault.
+    // Where it is `files`, a run with no fault has answered all asks over the files that were opened. After status 1
+    // the output has what a fault of these files leaves, and `faults` a first part of the line of this fault.
     ensures ran { result ≡ 0 → BeginsWithFiles words.items →
         HasRunOver S.remaining (O.contents output.old) (O.contents output.new) }
     ensures told { result ≡ 1 → BeginsWithFiles words.items →

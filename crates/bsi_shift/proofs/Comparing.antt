@@ -13,10 +13,10 @@ use Rattle.bsi_slices.specs.Rows.{number_order}
 use Rattle.bsi_slices.specs.declared.column.Op.{Op}
 use Rattle.bsi_slices.specs.declared.column.Op.TheVariants.{Eq, Ne, Lt, Le, Gt, Ge}
 use Rattle.bsi_shift.specs.Shifted.{number_of}
-use Rattle.bsi_shift.specs.WholeNumbers.{whole_order}
+use Rattle.bsi_shift.specs.WholeNumbers.{signed_order}
 
 -- the constant less the offset is k
-pub compared_exactly : (op : Op) (offset constant : ℤ) (n k : ℕ) → offset +ℤ pos k ≡ constant → compares_by number_order op n k ≡ compares_by whole_order op (number_of offset n) constant
+pub compared_exactly : (op : Op) (offset constant : ℤ) (n k : ℕ) → offset +ℤ pos k ≡ constant → compares_by number_order op n k ≡ compares_by signed_order op (number_of offset n) constant
 compared_exactly Eq offset constant n k is = grind (arith, ints, nat_tests)
 compared_exactly Ne offset constant n k is = grind (arith, ints, nat_tests)
 compared_exactly Lt offset constant n k is = grind (arith, ints, nat_tests)
@@ -25,7 +25,7 @@ compared_exactly Gt offset constant n k is = grind (arith, ints, nat_tests)
 compared_exactly Ge offset constant n k is = grind (arith, ints, nat_tests)
 
 -- both are past the number
-pub compared_past : (op : Op) (x constant : ℤ) (n k : ℕ) → n < k → x <ℤ constant → compares_by number_order op n k ≡ compares_by whole_order op x constant
+pub compared_past : (op : Op) (x constant : ℤ) (n k : ℕ) → n < k → x <ℤ constant → compares_by number_order op n k ≡ compares_by signed_order op x constant
 compared_past Eq x constant n k small past = grind (arith, ints, nat_tests)
 compared_past Ne x constant n k small past = grind (arith, ints, nat_tests)
 compared_past Lt x constant n k small past = grind (arith, ints, nat_tests)
@@ -45,7 +45,7 @@ module _ (offset constant above : ℤ) (offset_fits : SFits w64 offset) (constan
   past_all not_negative too_large n small = grind (arith, ints, offset_fits, constant_fits)
 
   pub compared_after : {E : Type 0} (op : Op) (r : Result ℕ E) (k : ℕ) → lt_z above (pos 0) ≡ false → OkIff r (FitsUnsigned w64 above) (unsigned_abs above) → k ≡ result_unwrap_or r 18446744073709551615
-      → (n : ℕ) → n < 2 ^ 63 → compares_by number_order op n k ≡ compares_by whole_order op (number_of offset n) constant
+      → (n : ℕ) → n < 2 ^ 63 → compares_by number_order op n k ≡ compares_by signed_order op (number_of offset n) constant
   compared_after op (Ok x) k not_negative converted k_is n small =
       compared_exactly op offset constant n k (ap (λ m. offset +ℤ pos m) (k_is ∙ converted.1) ∙ at_exactly not_negative converted.0)
   compared_after op (Err e) k not_negative converted k_is n small =

@@ -9,10 +9,9 @@ use Rattle.bsi_columns.specs.AnyRows.{any_entries}
 use Rattle.bsi_columns.proofs.EntryReads.{map_read}
 use Rattle.bsi_slices.specs.Orders.{compares_by, values_at}
 use Rattle.bsi_slices.specs.Rows.{number_or_zero, number_order, selects}
-use Rattle.bsi_slices.specs.Totals.{numbers_at}
 use Rattle.bsi_slices.specs.declared.column.Op.{Op}
 use Rattle.bsi_shift.specs.Shifted.{OffsetColumn, shifted_entries, number_of, IsInRange}
-use Rattle.bsi_shift.specs.WholeNumbers.{whole_order, signed_selects}
+use Rattle.bsi_shift.specs.WholeNumbers.{signed_order, signed_selects}
 
 -- the entries of stored numbers and an offset
 abbrev pub entries_from : ℤ → List (Option ℕ) → List (Option ℤ)
@@ -33,7 +32,7 @@ not_null_from offset (None ∷ stored) = ap (λ bits. false ∷ bits) (not_null_
 not_null_from offset (Some n ∷ stored) = ap (λ bits. true ∷ bits) (not_null_from offset stored)
 
 -- the numbers that a found set has are those of the stored ones
-pub values_from : (offset : ℤ) (found : List Bool) (stored : List (Option ℕ)) → values_at found (entries_from offset stored) ≡ map (number_of offset) (numbers_at found stored)
+pub values_from : (offset : ℤ) (found : List Bool) (stored : List (Option ℕ)) → values_at found (entries_from offset stored) ≡ map (number_of offset) (values_at found stored)
 values_from offset [] stored = refl
 values_from offset (f ∷ found) [] = refl
 values_from offset (false ∷ found) (e ∷ stored) = values_from offset found stored
@@ -50,7 +49,7 @@ in_range_from offset size stored below = All-map (IsInRange offset size) (option
 
 -- a comparison that agrees on each stored number selects the same rows
 module _ (offset constant : ℤ) (op stored_op : Op) (stored_constant size : ℕ)
-    (agree : (n : ℕ) → n < size → compares_by number_order stored_op n stored_constant ≡ compares_by whole_order op (number_of offset n) constant) where
+    (agree : (n : ℕ) → n < size → compares_by number_order stored_op n stored_constant ≡ compares_by signed_order op (number_of offset n) constant) where
   -- of one entry
   pub selected_one : (e : Option ℕ) → number_or_zero e < size → selects stored_op stored_constant e ≡ signed_selects op constant (option_map (number_of offset) e)
   selected_one None below = refl
@@ -71,7 +70,7 @@ pub entries_from-push : (offset : ℤ) (stored : List (Option ℕ)) (entry : Opt
 entries_from-push offset stored entry = map-append (option_map (number_of offset)) stored (entry ∷ [])
 
 -- the numbers that a found set has
-pub values_at-shifted_entries : (c : OffsetColumn) (found : List Bool) → values_at found (shifted_entries c) ≡ map (number_of c.offset) (numbers_at found (any_entries c.stored))
+pub values_at-shifted_entries : (c : OffsetColumn) (found : List Bool) → values_at found (shifted_entries c) ≡ map (number_of c.offset) (values_at found (any_entries c.stored))
 values_at-shifted_entries c found = ap (values_at found) (shifted_entries-is c) ∙ values_from c.offset found (any_entries c.stored)
 
 -- a stored number below the size stands for one below 2^63

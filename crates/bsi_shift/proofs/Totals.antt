@@ -11,13 +11,14 @@ use Rattle.std.proofs.lemmas.List.Sums.{sum_by-cons}
 use mir.Syntax.{w64}
 use mir.Val.{SFits}
 use Rattle.bsi_slices.proofs.CallerLemmas.{count_cons}
+use Rattle.bsi_slices.specs.Orders.{values_at}
+use Rattle.bsi_slices.specs.OrderStatistics.{IsOrderStatistic}
 use Rattle.bsi_slices.specs.Rows.{number_or_zero}
-use Rattle.bsi_slices.specs.Totals.{numbers_at, IsLeastOf, IsGreatestOf, IsMedianOf}
-use Rattle.bsi_slices.specs.Ranks.{IsOfRank}
-use Rattle.bsi_slices.specs.declared.column.Rank.{Rank}
-use Rattle.bsi_slices.specs.declared.column.Rank.TheVariants.{Least, Greatest, Median}
+use Rattle.bsi_slices.specs.Totals.{IsLeastOf, IsGreatestOf, IsMedianOf}
+use Rattle.bsi_slices.specs.declared.column.OrderStatistic.{OrderStatistic}
+use Rattle.bsi_slices.specs.declared.column.OrderStatistic.TheVariants.{Least, Greatest, Median}
 use Rattle.bsi_shift.specs.Shifted.{number_of}
-use Rattle.bsi_shift.specs.WholeNumbers.{signed_sum, IsSignedLeastOf, IsSignedGreatestOf, IsSignedMedianOf, IsSignedOfRank}
+use Rattle.bsi_shift.specs.WholeNumbers.{signed_sum, IsSignedLeastOf, IsSignedGreatestOf, IsSignedMedianOf, IsSignedOrderStatistic}
 
 -- ---- sums
 
@@ -91,51 +92,51 @@ module _ (offset : ℤ) where
         fewer_below = omega (arith, is.fewer_below, many, count_from (λ n. nat_lt n m) (λ x. int_lt x (number_of offset m)) (λ n. below_from n m) numbers);
       }
 
-  pub of_rank_from : (rank : Rank) (numbers : List ℕ) (answer : Option ℕ) → IsOfRank rank numbers answer → IsSignedOfRank rank (map (number_of offset) numbers) (option_map (number_of offset) answer)
-  of_rank_from Least numbers answer is = least_from numbers answer is
-  of_rank_from Greatest numbers answer is = greatest_from numbers answer is
-  of_rank_from Median numbers answer is = median_from numbers answer is
+  pub order_statistic_from : (statistic : OrderStatistic) (numbers : List ℕ) (answer : Option ℕ) → IsOrderStatistic statistic numbers answer → IsSignedOrderStatistic statistic (map (number_of offset) numbers) (option_map (number_of offset) answer)
+  order_statistic_from Least numbers answer is = least_from numbers answer is
+  order_statistic_from Greatest numbers answer is = greatest_from numbers answer is
+  order_statistic_from Median numbers answer is = median_from numbers answer is
 
 -- ---- the answer is one of the numbers, so it is below the size
 
 module _ (size : ℕ) where
-  numbers_below : (found : List Bool) (stored : List (Option ℕ)) → All (λ e. number_or_zero e < size) stored → All (λ n. n < size) (numbers_at found stored)
+  numbers_below : (found : List Bool) (stored : List (Option ℕ)) → All (λ e. number_or_zero e < size) stored → All (λ n. n < size) (values_at found stored)
   numbers_below [] stored below = All-nil (λ n. n < size)
   numbers_below (f ∷ found) [] below = All-nil (λ n. n < size)
   numbers_below (false ∷ found) (e ∷ stored) below = numbers_below found stored (All-tail (λ e. number_or_zero e < size) e stored below)
   numbers_below (true ∷ found) (None ∷ stored) below = numbers_below found stored (All-tail (λ e. number_or_zero e < size) None stored below)
   numbers_below (true ∷ found) (Some n ∷ stored) below =
-      All-cons (λ n. n < size) n (numbers_at found stored) (All-head (λ e. number_or_zero e < size) (Some n) stored below)
+      All-cons (λ n. n < size) n (values_at found stored) (All-head (λ e. number_or_zero e < size) (Some n) stored below)
       (numbers_below found stored (All-tail (λ e. number_or_zero e < size) (Some n) stored below))
 
   module _ (found : List Bool) (stored : List (Option ℕ)) (below : All (λ e. number_or_zero e < size) stored) where
-    member_below : (m : ℕ) → Contains (numbers_at found stored) m → m < size
-    member_below m there = All-contains (λ n. n < size) (numbers_at found stored) m (numbers_below found stored below) there
+    member_below : (m : ℕ) → Contains (values_at found stored) m → m < size
+    member_below m there = All-contains (λ n. n < size) (values_at found stored) m (numbers_below found stored below) there
 
-    least_below : (answer : Option ℕ) → IsLeastOf (numbers_at found stored) answer → IfSome answer (λ m. m < size)
+    least_below : (answer : Option ℕ) → IsLeastOf (values_at found stored) answer → IfSome answer (λ m. m < size)
     least_below None none = tt
     least_below (Some m) is = member_below m is.member
 
-    greatest_below : (answer : Option ℕ) → IsGreatestOf (numbers_at found stored) answer → IfSome answer (λ m. m < size)
+    greatest_below : (answer : Option ℕ) → IsGreatestOf (values_at found stored) answer → IfSome answer (λ m. m < size)
     greatest_below None none = tt
     greatest_below (Some m) is = member_below m is.member
 
-    median_below : (answer : Option ℕ) → IsMedianOf (numbers_at found stored) answer → IfSome answer (λ m. m < size)
+    median_below : (answer : Option ℕ) → IsMedianOf (values_at found stored) answer → IfSome answer (λ m. m < size)
     median_below None none = tt
     median_below (Some m) is = member_below m is.member
 
-    pub of_rank_below : (rank : Rank) (answer : Option ℕ) → IsOfRank rank (numbers_at found stored) answer → IfSome answer (λ m. m < size)
-    of_rank_below Least answer is = least_below answer is
-    of_rank_below Greatest answer is = greatest_below answer is
-    of_rank_below Median answer is = median_below answer is
+    pub order_statistic_below : (statistic : OrderStatistic) (answer : Option ℕ) → IsOrderStatistic statistic (values_at found stored) answer → IfSome answer (λ m. m < size)
+    order_statistic_below Least answer is = least_below answer is
+    order_statistic_below Greatest answer is = greatest_below answer is
+    order_statistic_below Median answer is = median_below answer is
 
 -- ---- a sum of at most 2^32 numbers of 64 bits
 
 pub sum_within : (offset : ℤ) (size : ℕ) (found : List Bool) (stored : List (Option ℕ)) → SFits w64 offset → (offset +ℤ pos size) ≤ℤ pos (2 ^ 63)
-    → All (λ e. number_or_zero e < size) stored → length (numbers_at found stored) ≤ 2 ^ 32
-    → (neg_ℤ (pos (2 ^ 95)) ≤ℤ signed_sum (map (number_of offset) (numbers_at found stored))) × (signed_sum (map (number_of offset) (numbers_at found stored)) <ℤ pos (2 ^ 95))
+    → All (λ e. number_or_zero e < size) stored → length (values_at found stored) ≤ 2 ^ 32
+    → (neg_ℤ (pos (2 ^ 95)) ≤ℤ signed_sum (map (number_of offset) (values_at found stored))) × (signed_sum (map (number_of offset) (values_at found stored)) <ℤ pos (2 ^ 95))
 sum_within offset size found stored fits within below few =
-    let numbers = numbers_at found stored in
+    let numbers = values_at found stored in
     let each = All-map (λ x. (neg_ℤ (pos (2 ^ 63)) ≤ℤ x) × (x <ℤ pos (2 ^ 63))) (number_of offset) numbers
     (All-weaker (λ n. n < size) (λ n. (neg_ℤ (pos (2 ^ 63)) ≤ℤ number_of offset n) × (number_of offset n <ℤ pos (2 ^ 63)))
     (λ n small. (omega (arith, ints, fits), omega (arith, ints, small, within))) numbers (numbers_below size found stored below)) in

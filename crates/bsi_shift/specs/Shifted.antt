@@ -1,5 +1,5 @@
 -- A column of whole numbers, each of which is stored less an offset.
-use Rattle.std.specs.Prelude.{◌≡◌, ℕ, ◌^◌, ◌<◌, ◌≤◌, All, ℤ, pos, ◌+ℤ◌, ◌≤ℤ◌, ◌<ℤ◌, List, Option, IfSome, map}
+use Rattle.std.specs.Prelude.{◌≡◌, ℕ, ◌<◌, ◌≤◌, All, ℤ, pos, ◌+ℤ◌, ◌≤ℤ◌, ◌<ℤ◌, List, Option, IfSome, map}
 use Rattle.std.specs.Option.{option_map}
 use Rattle.bsi_digits.specs.Digits.{max_end, max_size}
 use Rattle.bsi_columns.specs.declared.any.AnyColumn.{AnyColumn}
@@ -10,10 +10,6 @@ use Rattle.bsi_slices.specs.Rows.{number_or_zero}
 pub record OffsetColumn : Type 0 where
   pub stored : AnyColumn
   pub offset : ℤ
-
--- what each number of an `i64` is below
-abbrev pub end_of_i64 : ℕ
-end_of_i64 = 2 ^ 63
 
 -- the number that is stored as n
 abbrev pub number_of : ℤ → ℕ → ℤ
@@ -27,7 +23,7 @@ shifted_entries c = map (option_map (number_of c.offset)) (any_entries c.stored)
 abbrev pub shifted_size : OffsetColumn → ℕ
 shifted_size c = any_size c.stored
 
--- how many more entries can be appended with no memory
+-- how many more entries there is room for
 abbrev pub shifted_room : OffsetColumn → ℕ
 shifted_room c = any_room c.stored
 

@@ -2,16 +2,16 @@
 use Rattle.std.specs.Prelude.{ℤ, pos, ◌+ℤ◌, Bool, List, [], ◌∷◌, Option, ◌&&◌, int_lt, int_le}
 use Rattle.bsi_slices.specs.Orders.{Order, selects_by, IsLeastBy, IsGreatestBy, IsLowerMedianBy, IsNoneOr}
 use Rattle.bsi_slices.specs.declared.column.Op.{Op}
-use Rattle.bsi_slices.specs.declared.column.Rank.{Rank}
-use Rattle.bsi_slices.specs.declared.column.Rank.TheVariants.{Least, Greatest, Median}
+use Rattle.bsi_slices.specs.declared.column.OrderStatistic.{OrderStatistic}
+use Rattle.bsi_slices.specs.declared.column.OrderStatistic.TheVariants.{Least, Greatest, Median}
 
 -- the whole numbers in their order
-abbrev pub whole_order : Order ℤ
-whole_order = record { same = λ x y. int_le x y && int_le y x; below = int_lt; at_most = int_le }
+abbrev pub signed_order : Order ℤ
+signed_order = record { same = λ x y. int_le x y && int_le y x; below = int_lt; at_most = int_le }
 
 -- the entry is not a null, and its number compares so with the constant
 abbrev pub signed_selects : Op → ℤ → Option ℤ → Bool
-signed_selects = selects_by whole_order
+signed_selects = selects_by signed_order
 
 unfoldable pub signed_sum : List ℤ → ℤ
 signed_sum [] = pos 0
@@ -19,16 +19,16 @@ signed_sum (x ∷ xs) = x +ℤ signed_sum xs
 
 -- the answer, which is none exactly where there is no number
 abbrev pub IsSignedLeastOf : List ℤ → Option ℤ → Type 0
-IsSignedLeastOf = IsNoneOr (IsLeastBy whole_order)
+IsSignedLeastOf = IsNoneOr (IsLeastBy signed_order)
 
 abbrev pub IsSignedGreatestOf : List ℤ → Option ℤ → Type 0
-IsSignedGreatestOf = IsNoneOr (IsGreatestBy whole_order)
+IsSignedGreatestOf = IsNoneOr (IsGreatestBy signed_order)
 
 abbrev pub IsSignedMedianOf : List ℤ → Option ℤ → Type 0
-IsSignedMedianOf = IsNoneOr (IsLowerMedianBy whole_order)
+IsSignedMedianOf = IsNoneOr (IsLowerMedianBy signed_order)
 
--- the answer is the one of this rank, and none exactly where there is no number
-abbrev pub IsSignedOfRank : Rank → List ℤ → Option ℤ → Type 0
-IsSignedOfRank Least numbers answer = IsSignedLeastOf numbers answer
-IsSignedOfRank Greatest numbers answer = IsSignedGreatestOf numbers answer
-IsSignedOfRank Median numbers answer = IsSignedMedianOf numbers answer
+-- the answer is this one, and none exactly where there is no number
+abbrev pub IsSignedOrderStatistic : OrderStatistic → List ℤ → Option ℤ → Type 0
+IsSignedOrderStatistic Least numbers answer = IsSignedLeastOf numbers answer
+IsSignedOrderStatistic Greatest numbers answer = IsSignedGreatestOf numbers answer
+IsSignedOrderStatistic Median numbers answer = IsSignedMedianOf numbers answer

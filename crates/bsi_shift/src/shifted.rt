@@ -1,8 +1,4 @@
 //! A column of whole numbers from an offset on, stored as the column of the numbers less the offset.
-//!
-//! A constant less the offset is below 0, or a number of 64 bits, or past them. Below 0, `=`, `<` and `<=` ask the
-//! stored column for `< 0` and the others for `>= 0`; past 64 bits the greatest constant stands for it, because each
-//! stored number is below 2^63.
 
 ghost use Rattle.std.specs.Prelude.{◌≡◌, ℕ, pos, ◌+ℤ◌, ◌≤ℤ◌, ◌+◌, ◌<◌, ◌≤◌, [], ◌∷◌, ◌++◌, All, length, map, None, slice_index_or, is_some, nat_lt, ◌↔◌, IsOk, IsTrue, IfOk, OnOk, OnErr};
 ghost use Rattle.std.specs.Option.{option_map};
@@ -12,7 +8,7 @@ ghost use Rattle.bsi_columns.specs.AnyRows.{any_entries, any_size};
 ghost use Rattle.bsi_shift.specs.Shifted.{shifted_entries, shifted_size, shifted_room, number_of, IsAlike, IsInRange};
 
 use crate::NoMemory;
-use bsi_bits::Bits;
+use bsi_bits::{Bits, MAX_BLOCK};
 use bsi_columns::{AnyColumn, Column};
 use std::marker::Model;
 
@@ -24,7 +20,7 @@ mod totals;
 pub struct Shifted {
     stored: AnyColumn,
     offset: i64,
-    // The size of the stored column.
+    // The size of the stored column, kept since that column multiplies its bases to tell it.
     size: u64,
 }
 
@@ -40,16 +36,16 @@ impl Model for Shifted {
 }
 
 impl Shifted {
-    /// Makes a column of no rows yet. Its numbers are those from `offset` on, as many as the size of `stored`, and the
-    /// last of them is below 2^63. It allocates no memory.
-    pub fn new(stored: AnyColumn, offset: i64) -> Shifted
-        requires empty { any_entries stored ≡ [] }
-        requires within { (offset +ℤ pos (any_size stored)) ≤ℤ pos max_end }
-        ensures { result ≡ record { stored = stored; offset = offset } }
+    /// Makes a column of no rows yet. Its numbers are those from `offset` on, as many as the size of `column`, which
+    /// stores them, and the last of them is below 2^63. It takes no memory.
+    pub fn new(column: AnyColumn, offset: i64) -> Shifted
+        requires empty { any_entries column ≡ [] }
+        requires within { (offset +ℤ pos (any_size column)) ≤ℤ pos max_end }
+        ensures { result ≡ record { stored = column; offset = offset } }
     {
-        let size = stored.size();
+        let size = column.size();
         Shifted {
-            stored,
+            stored: column,
             offset,
             size,
         }
@@ -94,7 +90,7 @@ impl Shifted {
         self.len() == 0
     }
 
-    /// Returns how many more entries can be appended without allocating memory.
+    /// Returns how many more entries there is room for: to append these takes no memory.
     pub fn room(&self) -> u64
         ensures room { result ≡ shifted_room self.now }
         ensures within { length (shifted_entries self.now) + result ≤ max_len }
@@ -103,7 +99,7 @@ impl Shifted {
     }
 
     /// Makes room for `more` further entries. Whatever the result, the entries stay and there is no less room than
-    /// before. If it is refused, the room is as it was. It allocates memory only if there is not enough room already.
+    /// before. If it is refused, the room is as it was. It takes memory only if there is not enough room already.
     pub fn reserve(&mut self, more: u64) -> Result<(), NoMemory>
         requires { length (shifted_entries self.old) + more ≤ max_len }
         ensures entries { shifted_entries self.new ≡ shifted_entries self.old }
@@ -127,7 +123,7 @@ impl Shifted {
         self.stored.clear();
     }
 
-    /// Returns whether one more entry can be appended without allocating memory.
+    /// Returns whether there is room for one more entry: to append it takes no memory.
     pub fn has_room(&self) -> bool
         ensures { result ≡ nat_lt 0 (shifted_room self.now) }
     {
@@ -156,8 +152,7 @@ impl Shifted {
         ensures alike { IsAlike self.old self.new }
         ensures room { shifted_room self.old ≤ shifted_room self.new + 1 }
     {
-        let stored = stored_from(self.offset, entry);
-        self.stored.push_reserved(stored);
+        self.stored.push_reserved(stored_from(self.offset, entry));
     }
 
     /// Appends a block of at most 64 entries, nulls and numbers as `push_reserved` takes them, into room that is
@@ -170,9 +165,9 @@ impl Shifted {
         ensures alike { IsAlike self.old self.new }
         ensures room { shifted_room self.old ≤ shifted_room self.new + length block.now }
     {
-        let mut stored = [None; 64];
-        store_block(self.offset, block, &mut stored);
-        self.stored.push_block_reserved(&stored[..block.len()]);
+        let mut entries = [None; MAX_BLOCK];
+        store_block(self.offset, block, &mut entries);
+        self.stored.push_block_reserved(&entries[..block.len()]);
     }
 
     /// Appends all entries of another column of the same offset and form, in their order, into room that is already
@@ -226,15 +221,15 @@ fn stored_from(offset: i64, entry: Option<i64>) -> Option<u64>
 }
 
 /// Writes what is stored of each entry of a block.
-fn store_block(offset: i64, block: &[Option<i64>], stored: &mut [Option<u64>; 64])
+fn store_block(offset: i64, block: &[Option<i64>], entries: &mut [Option<u64>; MAX_BLOCK])
     requires few { length block.now ≤ max_block }
     requires range { All (IsInRange offset max_size) block.now }
-    ensures long { length stored.new ≡ max_block }
+    ensures long { length entries.new ≡ max_block }
     ensures each { (r : ℕ) → r < length block.now →
-        option_map (number_of offset) (slice_index_or stored.new r None)
+        option_map (number_of offset) (slice_index_or entries.new r None)
         ≡ slice_index_or block.now r None }
 {
     'entries: for (r, entry) in block.iter().enumerate() {
-        stored[r] = stored_from(offset, *entry);
+        entries[r] = stored_from(offset, *entry);
     }
 }

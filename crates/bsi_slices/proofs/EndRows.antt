@@ -5,7 +5,7 @@ use Rattle.std.specs.Prelude.{nat_le, All, Contains}
 use Rattle.std.proofs.lemmas.Bool.{cases_lt}
 use Rattle.std.proofs.lemmas.Bool.Decides.{nat_tests}
 use Rattle.std.proofs.lemmas.List.{get_or-map, get_or_past, length-map}
-use Rattle.bsi_slices.specs.Totals.{numbers_at}
+use Rattle.bsi_slices.specs.Orders.{values_at}
 use Rattle.bsi_slices.specs.declared.slices.ends.End.{End}
 use Rattle.bsi_slices.specs.declared.slices.ends.End.TheVariants.{Least, Greatest}
 use Rattle.bsi_slices.specs.Ends.{comes_first, number_at, has_number, IsEndAmong, IsEndUpto, IsEndOf, IsBetterIn}
@@ -81,7 +81,7 @@ number_row found entries r = ap (λ b. get_or found r false && b) (elim (cases_l
 ])
 
 -- no row has a number, and so there is none
-none_at : (found : List Bool) (entries : List (Option ℕ)) → ((r : ℕ) → has_number found entries r ≡ false) → numbers_at found entries ≡ []
+none_at : (found : List Bool) (entries : List (Option ℕ)) → ((r : ℕ) → has_number found entries r ≡ false) → values_at found entries ≡ []
 none_at [] entries none = refl
 none_at (f ∷ found) [] none = refl
 none_at (false ∷ found) (e ∷ entries) none = none_at found entries (λ r. none (suc r))
@@ -89,7 +89,7 @@ none_at (true ∷ found) (None ∷ entries) none = none_at found entries (λ r. 
 none_at (true ∷ found) (Some n ∷ entries) none = absurd (let first = none 0 in cc)
 
 -- the number of a row is among them
-member_at : (found : List Bool) (entries : List (Option ℕ)) (r m : ℕ) → has_number found entries r ≡ true → number_at entries r ≡ m → Contains (numbers_at found entries) m
+member_at : (found : List Bool) (entries : List (Option ℕ)) (r m : ℕ) → has_number found entries r ≡ true → number_at entries r ≡ m → Contains (values_at found entries) m
 member_at [] entries r m there is = absurd (cc)
 member_at (f ∷ found) [] r m there is = absurd (off f found r there)
   where
@@ -111,12 +111,12 @@ all_cons P n numbers first rest zero d within = first
 all_cons P n numbers first rest (suc k) d within = rest k d (omega arith)
 
 -- what holds of the number of each row holds of all of them
-all_at : (P : ℕ → Type 0) (found : List Bool) (entries : List (Option ℕ)) → ((r : ℕ) → has_number found entries r ≡ true → P (number_at entries r)) → All P (numbers_at found entries)
+all_at : (P : ℕ → Type 0) (found : List Bool) (entries : List (Option ℕ)) → ((r : ℕ) → has_number found entries r ≡ true → P (number_at entries r)) → All P (values_at found entries)
 all_at P [] entries each = λ k d within. absurd (omega arith)
 all_at P (f ∷ found) [] each = λ k d within. absurd (omega arith)
 all_at P (false ∷ found) (e ∷ entries) each = all_at P found entries (λ r. each (suc r))
 all_at P (true ∷ found) (None ∷ entries) each = all_at P found entries (λ r. each (suc r))
-all_at P (true ∷ found) (Some n ∷ entries) each = all_cons P n (numbers_at found entries) (each 0 refl) (all_at P found entries (λ r. each (suc r)))
+all_at P (true ∷ found) (Some n ∷ entries) each = all_cons P n (values_at found entries) (each 0 refl) (all_at P found entries (λ r. each (suc r)))
 
 at_most_true : (a b : ℕ) → a ≤ b → nat_le a b ≡ true
 at_most_true a b low = grind (arith, nat_tests, low)
@@ -132,13 +132,13 @@ module _ (found : List Bool) (entries : List (Option ℕ)) (n : ℕ) (same : len
       off : (b : Bool) → (false && b) ≡ true → ⊥
       off b there = absurd (cc)
 
-  none_here : ((r : ℕ) → r < n → has_number found entries r ≡ false) → numbers_at found entries ≡ []
+  none_here : ((r : ℕ) → r < n → has_number found entries r ≡ false) → values_at found entries ≡ []
   none_here none = none_at found entries (λ r. elim (cases_lt r n) [
     | inl within ↦ none r within
     | inr past ↦ ap (λ b. b && is_some (get_or entries r None)) (get_or_past found r false (omega (arith, past)))
   ])
 
-  pub end_all : (end : End) (answer : Option ℕ) → IsEndUpto end found entries n answer → IsEndOf end (numbers_at found entries) answer
+  pub end_all : (end : End) (answer : Option ℕ) → IsEndUpto end found entries n answer → IsEndOf end (values_at found entries) answer
   end_all Least None none = none_here none
   end_all Greatest None none = none_here none
   end_all Least (Some m) is = record {

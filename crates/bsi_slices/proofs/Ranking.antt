@@ -12,7 +12,8 @@ use Rattle.std.proofs.lemmas.List.{nil_from_length}
 use Rattle.std.proofs.lemmas.List.Sums.{sum_by-cons, get_or-le-sum_by}
 use Rattle.std.proofs.lemmas.List.Elements.{All-from_get_or}
 use Rattle.bsi_slices.specs.Rows.{number_or_zero}
-use Rattle.bsi_slices.specs.Totals.{numbers_at, IsRanked, IsLeast, IsGreatest, IsLowerMedian}
+use Rattle.bsi_slices.specs.Orders.{values_at}
+use Rattle.bsi_slices.specs.Totals.{IsRanked, IsLeast, IsGreatest, IsLowerMedian}
 
 -- ---- counts of numbers that pass a test
 
@@ -118,7 +119,7 @@ abbrev pub narrowed : (ℕ → Bool) → List Bool → List (Option ℕ) → Lis
 narrowed p found entries = zip2 (λ f e. f && (is_some e && p (number_or_zero e))) found entries
 
 -- as many rows are left as numbers pass
-pub narrowed_count : (p : ℕ → Bool) (found : List Bool) (entries : List (Option ℕ)) → count_by (λ b. b) (narrowed p found entries) ≡ count_by p (numbers_at found entries)
+pub narrowed_count : (p : ℕ → Bool) (found : List Bool) (entries : List (Option ℕ)) → count_by (λ b. b) (narrowed p found entries) ≡ count_by p (values_at found entries)
 narrowed_count p [] entries = refl
 narrowed_count p (f ∷ found) [] = refl
 narrowed_count p (false ∷ found) (e ∷ entries) =
@@ -126,7 +127,7 @@ narrowed_count p (false ∷ found) (e ∷ entries) =
 narrowed_count p (true ∷ found) (None ∷ entries) =
     count_cons (λ b. b) false (narrowed p found entries) ∙ omega (arith, narrowed_count p found entries)
 narrowed_count p (true ∷ found) (Some n ∷ entries) =
-    count_cons (λ b. b) (p n) (narrowed p found entries) ∙ omega (arith, narrowed_count p found entries, count_cons p n (numbers_at found entries))
+    count_cons (λ b. b) (p n) (narrowed p found entries) ∙ omega (arith, narrowed_count p found entries, count_cons p n (values_at found entries))
 
 narrow_one : (p q r : ℕ → Bool) (g : ℕ → ℕ) → ((n : ℕ) → (p n && q (g n)) ≡ r n) → (f : Bool) (e : Option ℕ)
     → ((f && (is_some e && p (number_or_zero e))) && q (g (number_or_zero e))) ≡ (f && (is_some e && r (number_or_zero e)))
@@ -183,7 +184,7 @@ next_small number w b d s below small = omega (arith, mul-le (d + 1) w b w (omeg
 -- the rows that are left have this number above the weight, and the rank is that among them
 pub record IsNarrowed (weight : ℕ) (found : List Bool) (entries : List (Option ℕ)) (k number rank : ℕ) (chosen : List Bool) : Type 0 where
   pub chosen_is : chosen ≡ narrowed (λ n. nat_eq (n / weight) number) found entries
-  pub rank_is : k ≡ count_by (λ n. nat_lt (n / weight) number) (numbers_at found entries) + rank
+  pub rank_is : k ≡ count_by (λ n. nat_lt (n / weight) number) (values_at found entries) + rank
   pub there : rank < count_by (λ b. b) chosen
 
 module _ (weight base : ℕ) (found : List Bool) (entries : List (Option ℕ)) (k number rank : ℕ) (chosen : List Bool) (some : 0 < weight)
@@ -197,7 +198,7 @@ module _ (weight base : ℕ) (found : List Bool) (entries : List (Option ℕ)) (
 
   -- how many of the rows that are left have a digit that passes
   pub count_where_digit : (t : ℕ → Bool) → count_where t chosen (map (λ e. digit (number_or_zero e)) entries)
-      ≡ count_by (λ n. nat_eq (n / (weight * base)) number && t (digit n)) (numbers_at found entries)
+      ≡ count_by (λ n. nat_eq (n / (weight * base)) number && t (digit n)) (values_at found entries)
   count_where_digit t =
       ap (λ rows. count_where t rows (map (λ e. digit (number_or_zero e)) entries)) state.chosen_is
       ∙ ap (count_by (λ b. b)) (narrowed_more (λ n. nat_eq (n / (weight * base)) number) t (λ n. nat_eq (n / (weight * base)) number && t (digit n)) digit (λ n. refl) found entries)
@@ -210,7 +211,7 @@ module _ (weight base : ℕ) (found : List Bool) (entries : List (Option ℕ)) (
       → rank' < count_by (λ b. b) chosen'
       → IsNarrowed weight found entries k (number * base + d) rank' chosen'
   narrowed_step d rank' chosen' below chosen_is rank_is there =
-      let numbers = numbers_at found entries in
+      let numbers = values_at found entries in
       let one : (n : ℕ) → (nat_eq (n / (weight * base)) number && nat_eq (digit n) d) ≡ nat_eq (n / weight) (number * base + d) = λ n.
       ap (λ q. nat_eq q number && nat_eq (digit n) d) (sym (above n)) ∙ same_parts (n / weight) number base d below in
       let split = count_split
@@ -239,10 +240,10 @@ equal_test : (n : ℕ) → n ≡ 0 → nat_eq n 0 ≡ true
 equal_test n zero_is = grind (arith, nat_tests)
 
 -- the found rows that have a number are as many as the numbers
-pub count_numbers : (found : List Bool) (entries : List (Option ℕ)) → count_by (λ b. b) (zip2 ◌&&◌ found (map is_some entries)) ≡ length (numbers_at found entries)
+pub count_numbers : (found : List Bool) (entries : List (Option ℕ)) → count_by (λ b. b) (zip2 ◌&&◌ found (map is_some entries)) ≡ length (values_at found entries)
 count_numbers found entries =
     ap (count_by (λ b. b)) (start_narrowed (λ n. true) found entries (λ i d within. refl))
-    ∙ narrowed_count (λ n. true) found entries ∙ count_all (numbers_at found entries)
+    ∙ narrowed_count (λ n. true) found entries ∙ count_all (values_at found entries)
 
 pub no_numbers : (numbers : List ℕ) → length numbers ≡ 0 → numbers ≡ []
 no_numbers numbers none = nil_from_length numbers none
@@ -250,10 +251,10 @@ no_numbers numbers none = nil_from_length numbers none
 module _ (found : List Bool) (entries : List (Option ℕ)) (k : ℕ) where
   -- at first all found rows with a number are left
   pub narrowed_start : (size : ℕ) (chosen : List Bool) → All (λ e. number_or_zero e / size ≡ 0) entries
-      → chosen ≡ zip2 ◌&&◌ found (map is_some entries) → k < length (numbers_at found entries)
+      → chosen ≡ zip2 ◌&&◌ found (map is_some entries) → k < length (values_at found entries)
       → IsNarrowed size found entries k 0 k chosen
   narrowed_start size chosen below chosen_is there =
-      let numbers = numbers_at found entries in
+      let numbers = values_at found entries in
       let counted = ap (count_by (λ b. b)) chosen_is ∙ count_numbers found entries in
       record {
         chosen_is = chosen_is ∙ start_narrowed (λ n. nat_eq (n / size) 0) found entries (λ i d within. equal_test (number_or_zero (get_or entries i d) / size) (below i d within));
@@ -262,9 +263,9 @@ module _ (found : List Bool) (entries : List (Option ℕ)) (k : ℕ) where
       }
 
   -- in the end each row that is left has the number of the rank
-  pub narrowed_end : (number rank : ℕ) (chosen : List Bool) → IsNarrowed 1 found entries k number rank chosen → IsRanked (numbers_at found entries) k number
+  pub narrowed_end : (number rank : ℕ) (chosen : List Bool) → IsNarrowed 1 found entries k number rank chosen → IsRanked (values_at found entries) k number
   narrowed_end number rank chosen state =
-      let numbers = numbers_at found entries in
+      let numbers = values_at found entries in
       let whole : (n : ℕ) → n / 1 ≡ n = λ n. omega arith in
       let below = count_same (λ n. nat_lt (n / 1) number) (λ n. nat_lt n number) (λ n. ap (λ q. nat_lt q number) (whole n)) numbers in
       let same = count_same (λ n. nat_eq (n / 1) number) (λ n. nat_eq n number) (λ n. ap (λ q. nat_eq q number) (whole n)) numbers in

@@ -64,14 +64,10 @@ not_null_of not_null slices = by_entries is_some not_null slices false not_null 
     marked true m = refl
     marked false m = refl
 
-pub nulls_of : (not_null : List Bool) (slices : List BitList) → map not not_null ≡ map is_none (entries_in not_null slices)
-nulls_of not_null slices =
-    by_entries is_none not_null slices false (map not not_null) (length-map not_null not)
-    (λ r within. get_or-map not not_null r false false within ∙ marked (get_or not_null r false) (number slices r))
-  where
-    marked : (there : Bool) (m : ℕ) → not there ≡ is_none (if there then Some m else None)
-    marked true m = refl
-    marked false m = refl
+pub nulls_are : (es : List (Option ℕ)) → map not (map is_some es) ≡ map is_none es
+nulls_are [] = refl
+nulls_are (None ∷ es) = ap (λ xs. not (is_some {T = ℕ} None) ∷ xs) (nulls_are es)
+nulls_are (Some x ∷ es) = ap (λ xs. not (is_some (Some x)) ∷ xs) (nulls_are es)
 
 -- what is stored of row r
 pub stored_number : (not_null : List Bool) (slices : List BitList) → IsSliced not_null slices → (r : ℕ) → r < length not_null → number_or_zero (sliced_entry not_null slices r) ≡ number slices r

@@ -5,7 +5,8 @@ use Rattle.std.specs.Simd.Lanes.{zip2}
 use Rattle.std.proofs.Math.Nat.{div-eq_of_lt}
 use Rattle.bsi_words.specs.Ranks.{IsRankedRows}
 use Rattle.bsi_slices.specs.Rows.{number_or_zero}
-use Rattle.bsi_slices.specs.Totals.{numbers_at, IsRanked}
+use Rattle.bsi_slices.specs.Orders.{values_at}
+use Rattle.bsi_slices.specs.Totals.{IsRanked}
 use Rattle.bsi_slices.proofs.Ranking.{IsNarrowed, count_where, narrowed_start, narrowed_step, narrowed_end}
 
 -- a number below the size is its own digit
@@ -18,8 +19,8 @@ whole_digits size (e ∷ entries) below =
     ap₂ ◌∷◌ (sym (mod-eq_of_lt first) ∙ ap (λ q. q % size) whole) (whole_digits size entries (λ i d within. below (suc i) d (omega arith)))
 
 pub number_ranked : (size k number rank : ℕ) (found chosen : List Bool) (entries : List (Option ℕ)) (rows : List Bool) → All (λ e. number_or_zero e < size) entries → number < size
-    → chosen ≡ zip2 ◌&&◌ found (map is_some entries) → k < length (numbers_at found entries)
-    → IsRankedRows k chosen (map number_or_zero entries) number rank rows → IsRanked (numbers_at found entries) k number
+    → chosen ≡ zip2 ◌&&◌ found (map is_some entries) → k < length (values_at found entries)
+    → IsRankedRows k chosen (map number_or_zero entries) number rank rows → IsRanked (values_at found entries) k number
 number_ranked size k number rank found chosen entries rows below small chosen_is there ranked =
     let digits = whole_digits size entries below in
     let one : size ≡ 1 * size = omega arith in
@@ -30,4 +31,4 @@ number_ranked size k number rank found chosen entries rows below small chosen_is
     (ranked.rank_is ∙ ap (λ ds. count_where (λ v. nat_lt v number) chosen ds + rank) digits)
     ranked.there in
     let same : 0 * size + number ≡ number = omega arith in
-    subst (λ (m : ℕ). IsRanked (numbers_at found entries) k m) same (narrowed_end found entries k (0 * size + number) rank rows step)
+    subst (λ (m : ℕ). IsRanked (values_at found entries) k m) same (narrowed_end found entries k (0 * size + number) rank rows step)

@@ -3,8 +3,8 @@ pub mod Decisions
 pub mod Ends
 pub mod Exchanges
 pub mod NotNull
+pub mod OrderStatistics
 pub mod Orders
-pub mod Ranks
 pub mod Rows
 pub mod Slices
 pub mod Totals

@@ -5,8 +5,7 @@ use Rattle.bsi_words.specs.Places.{max_places}
 use Rattle.bsi_bits.specs.BitList.{max_len, BitList}
 use Rattle.bsi_bits.specs.BitLists.{bits_at}
 
--- what a contract sees of a column of slices: how many there are, its rows, and how many more can be appended with no
--- memory
+-- what a contract sees of a column of slices: how many there are, its rows, and how many more there is room for
 pub record SliceRows : Type 0 where
   pub width : ℕ
   pub entries : List (Option ℕ)

@@ -1,11 +1,7 @@
 -- The totals of the numbers that a found set has in a column.
-use Rattle.std.specs.Prelude.{ℕ, ◌<◌, ◌≤◌, Bool, List, Option, count_by, nat_lt, nat_le}
-use Rattle.bsi_slices.specs.Orders.{values_at, IsLeastBy, IsGreatestBy, IsLowerMedianBy, IsNoneOr}
+use Rattle.std.specs.Prelude.{ℕ, ◌<◌, ◌≤◌, List, Option, count_by, nat_lt, nat_le}
+use Rattle.bsi_slices.specs.Orders.{IsLeastBy, IsGreatestBy, IsLowerMedianBy, IsNoneOr}
 use Rattle.bsi_slices.specs.Rows.{number_order}
-
--- the numbers at the rows of a found set, in order of the rows; a null is none
-abbrev pub numbers_at : List Bool → List (Option ℕ) → List ℕ
-numbers_at = values_at
 
 -- a number that none is below
 abbrev pub IsLeast : List ℕ → ℕ → Type 0
@@ -19,10 +15,10 @@ IsGreatest = IsGreatestBy number_order
 abbrev pub IsLowerMedian : List ℕ → ℕ → Type 0
 IsLowerMedian = IsLowerMedianBy number_order
 
--- the number of rank k, from 0: at most k numbers are below it, and more than k are at most it
-pub record IsRanked (numbers : List ℕ) (k m : ℕ) : Type 0 where
-  pub low : count_by (λ n. nat_lt n m) numbers ≤ k
-  pub high : k < count_by (λ n. nat_le n m) numbers
+-- the number of a rank, from 0: at most as many numbers as the rank are below it, and more are at most it
+pub record IsRanked (numbers : List ℕ) (rank m : ℕ) : Type 0 where
+  pub low : count_by (λ n. nat_lt n m) numbers ≤ rank
+  pub high : rank < count_by (λ n. nat_le n m) numbers
 
 -- the answer, which is none exactly where there is no number
 abbrev pub IsLeastOf : List ℕ → Option ℕ → Type 0

@@ -1,15 +1,16 @@
 //! What a column is to an index: a list of optional numbers below its size.
 //!
 //! Least, greatest and median are provided calls over one required call, `ranked`; forms have their own least and
-//! greatest. `of_rank` is a call too, as a provided call can't pass its column to a function that takes any column. The
-//! form is the column's own type, because the trait can't name the encoding of a decomposed one.
+//! greatest. `order_statistic` is a call too, as a provided call can't pass its column to a function that takes any
+//! column. The form is the column's own type, because the trait can't name the encoding of a decomposed one.
 
 ghost use Rattle.std.specs.Prelude.{◌≡◌, ◌↔◌, ℕ, ◌^◌, ◌+◌, ◌≤◌, ◌<◌, List, Option, [], ◌∷◌, ◌++◌, All, length, map, is_some, is_none, nat_lt, sum, IfOk, OnOk, OnErr, IsOk, IsTrue};
 ghost use Rattle.bsi_digits.specs.Digits.{max_size};
-ghost use Rattle.bsi_bits.specs.BitList.{max_block, max_len};
+ghost use Rattle.bsi_bits.specs.BitList.{max_block, max_len, sum_end};
 ghost use Rattle.bsi_slices.specs.Rows.{number_or_zero, selects};
-ghost use Rattle.bsi_slices.specs.Totals.{numbers_at, IsRanked, IsLeastOf, IsGreatestOf, IsMedianOf};
-ghost use Rattle.bsi_slices.specs.Ranks.{IsOfRank};
+ghost use Rattle.bsi_slices.specs.Orders.{values_at};
+ghost use Rattle.bsi_slices.specs.OrderStatistics.{IsOrderStatistic};
+ghost use Rattle.bsi_slices.specs.Totals.{IsRanked, IsLeastOf, IsGreatestOf, IsMedianOf};
 
 use crate::NoMemory;
 use bsi_bits::Bits;
@@ -33,7 +34,7 @@ pub enum Op {
 
 /// Which of some numbers, taken in order.
 #[derive(Clone, Copy, Debug, PartialEq, Eq)]
-pub enum Rank {
+pub enum OrderStatistic {
     /// The first.
     Least,
     /// The last.
@@ -56,7 +57,7 @@ pub trait Column: Drop {
     /// The numbers and nulls, in order of the rows.
     ghost entries: { Self → List (Option ℕ) };
 
-    /// How many more entries can be appended without allocating memory.
+    /// How many more entries there is room for: to append these takes no memory.
     ghost room_of: { Self → ℕ };
 
     /// Returns the size, at most 2^63. Each number is below it.
@@ -78,13 +79,13 @@ pub trait Column: Drop {
         self.len() == 0
     }
 
-    /// Returns how many more entries can be appended without allocating memory.
+    /// Returns how many more entries there is room for: to append these takes no memory.
     fn room(&self) -> u64
         ensures room { result ≡ room_of self.now }
         ensures within { length (entries self.now) + result ≤ max_len };
 
     /// Makes room for `more` further entries. Whatever the result, the entries stay and there is no less room than
-    /// before. If it is refused, the room is as it was. It allocates memory only if there is not enough room already.
+    /// before. If it is refused, the room is as it was. It takes memory only if there is not enough room already.
     fn reserve(&mut self, more: u64) -> Result<(), NoMemory>
         requires { length (entries self.old) + more ≤ max_len }
         ensures entries { entries self.new ≡ entries self.old }
@@ -132,7 +133,7 @@ pub trait Column: Drop {
         ensures form { form_of self.new ≡ form_of self.old }
         ensures room { room_of self.old ≤ room_of self.new + length (entries other.now) };
 
-    /// Returns whether one more entry can be appended without allocating memory.
+    /// Returns whether there is room for one more entry: to append it takes no memory.
     fn has_room(&self) -> bool
         ensures { result ≡ nat_lt 0 (room_of self.now) }
     {
@@ -153,7 +154,7 @@ pub trait Column: Drop {
     }
 
     /// Returns for each row whether it is a number that satisfies the comparison `op` with `constant`, which may be
-    /// past the size. A null row is never selected.
+    /// past the size. A null row is never selected. The answer takes memory, a bit for each row.
     fn compare(&self, op: Op, constant: u64) -> Result<Bits, NoMemory>
         ensures { IfOk result (λ b. b.bits ≡ map (selects op constant) (entries self.now)) };
 
@@ -161,63 +162,74 @@ pub trait Column: Drop {
     fn nulls_into(&self, out: &mut Bits)
         requires { length (entries self.now) ≡ length out.old.bits }
         ensures bits { out.new.bits ≡ map is_none (entries self.now) }
-        ensures room { out.new.room ≡ out.old.room };
+        ensures room { out.new.room ≡ out.old.room }
+    {
+        out.copy_from(self.not_null());
+        out.flip();
+    }
 
-    /// Returns the sum of the numbers at the rows of a found set, below 2^95. A null counts for nothing. It allocates
-    /// no memory.
+    /// Returns the sum of the numbers at the rows of a found set, below 2^95. A null counts for nothing. It takes no
+    /// memory.
     fn sum(&self, found: &Bits) -> u128
         requires { length (entries self.now) ≡ length found.now.bits }
-        ensures sum { result ≡ sum (numbers_at found.now.bits (entries self.now)) }
-        ensures within { result < 2 ^ 95 };
+        ensures sum { result ≡ sum (values_at found.now.bits (entries self.now)) }
+        ensures within { result < sum_end };
 
-    /// Returns the number of rank `k`, from 0, among those at the rows of a found set: the one at place `k` when they
-    /// stand in order. Both forms copy the found set, a bit for each row.
-    fn ranked(&self, found: &Bits, k: u64) -> Result<u64, NoMemory>
+    /// Returns the number of a rank, from 0, among those at the rows of a found set: the one at that place when they
+    /// stand in order. Slices and components copy the found set, a bit for each row.
+    fn ranked(&self, found: &Bits, rank: u64) -> Result<u64, NoMemory>
         requires same { length (entries self.now) ≡ length found.now.bits }
-        requires there { k < length (numbers_at found.now.bits (entries self.now)) }
-        ensures { IfOk result (IsRanked (numbers_at found.now.bits (entries self.now)) k) };
+        requires there { rank < length (values_at found.now.bits (entries self.now)) }
+        ensures { IfOk result (IsRanked (values_at found.now.bits (entries self.now)) rank) };
 
-    /// Returns the number of a rank among those at the rows of a found set, or none if there is no number. The provided
-    /// body counts the numbers and asks for the one at that place in order.
-    fn of_rank(&self, found: &Bits, rank: Rank) -> Result<Option<u64>, NoMemory>
+    /// Returns the least, the greatest or the median number at the rows of a found set, or none if there is no number.
+    /// The provided body counts the numbers, which tells the rank, and asks `ranked` for the number.
+    fn order_statistic(
+        &self,
+        found: &Bits,
+        statistic: OrderStatistic,
+    ) -> Result<Option<u64>, NoMemory>
         requires { length (entries self.now) ≡ length found.now.bits }
-        ensures { IfOk result (IsOfRank rank (numbers_at found.now.bits (entries self.now))) }
+        ensures { IfOk result (IsOrderStatistic statistic
+            (values_at found.now.bits (entries self.now))) }
     {
-        let numbers = found.count_and(self.not_null());
-        if numbers == 0 {
+        let count = found.count_and(self.not_null());
+        if count == 0 {
             return Ok(None);
         }
-        let place = match rank {
-            Rank::Least => 0,
-            Rank::Greatest => numbers - 1,
-            Rank::Median => (numbers - 1) / 2,
+        let rank = match statistic {
+            OrderStatistic::Least => 0,
+            OrderStatistic::Greatest => count - 1,
+            OrderStatistic::Median => (count - 1) / 2,
         };
-        Ok(Some(self.ranked(found, place)?))
+        Ok(Some(self.ranked(found, rank)?))
     }
 
-    /// Returns the least number at the rows of a found set, or none if there is no number.
+    /// Returns the least number at the rows of a found set, or none if there is no number. The provided body takes
+    /// memory as `ranked` does. That of slices, and of components that work on blocks of words, takes no memory.
     fn least(&self, found: &Bits) -> Result<Option<u64>, NoMemory>
         requires { length (entries self.now) ≡ length found.now.bits }
-        ensures { IfOk result (IsLeastOf (numbers_at found.now.bits (entries self.now))) }
+        ensures { IfOk result (IsLeastOf (values_at found.now.bits (entries self.now))) }
     {
-        self.of_rank(found, Rank::Least)
+        self.order_statistic(found, OrderStatistic::Least)
     }
 
-    /// Returns the greatest number at the rows of a found set, or none if there is no number.
+    /// Returns the greatest number at the rows of a found set, or none if there is no number. It takes memory as
+    /// `least` does.
     fn greatest(&self, found: &Bits) -> Result<Option<u64>, NoMemory>
         requires { length (entries self.now) ≡ length found.now.bits }
-        ensures { IfOk result (IsGreatestOf (numbers_at found.now.bits (entries self.now))) }
+        ensures { IfOk result (IsGreatestOf (values_at found.now.bits (entries self.now))) }
     {
-        self.of_rank(found, Rank::Greatest)
+        self.order_statistic(found, OrderStatistic::Greatest)
     }
 
-    /// Returns the lower median of the numbers at the rows of a found set, or none if there is no number. It takes memory
-    /// as `ranked` does.
+    /// Returns the lower median of the numbers at the rows of a found set, or none if there is no number. It takes
+    /// memory as `ranked` does.
     fn median(&self, found: &Bits) -> Result<Option<u64>, NoMemory>
         requires { length (entries self.now) ≡ length found.now.bits }
-        ensures { IfOk result (IsMedianOf (numbers_at found.now.bits (entries self.now))) }
+        ensures { IfOk result (IsMedianOf (values_at found.now.bits (entries self.now))) }
     {
-        self.of_rank(found, Rank::Median)
+        self.order_statistic(found, OrderStatistic::Median)
     }
 
     /// Returns the not-null bitmap.

@@ -1,7 +1,5 @@
-//! The not-null bitmap of a column, and whether any row is null.
-//!
-//! Where no row is null, a comparison of a block does not read the bitmap. The flag is set by the first null, and cleared
-//! with all rows, since a single row is never removed.
+//! The not-null bitmap of a column, and whether any row is null. That flag is set by the first null, and cleared with
+//! all rows, since a single row is never removed.
 
 ghost use Rattle.std.specs.Prelude.{◌≡◌, ◌↔◌, ℕ, ◌+◌, ◌*◌, ◌^◌, ◌≤◌, ◌<◌, ◌&&◌, [], ◌∷◌, ◌++◌, length, false, slice_index_or, IsTrue, IfOk, IsOk, OnOk, OnErr};
 ghost use Rattle.std.specs.Int.{bit_at};
@@ -9,11 +7,12 @@ ghost use Rattle.bsi_bits.specs.BitList.{max_block, max_len, word_count};
 ghost use Rattle.bsi_bits.specs.Packed.{bit_of, bits_of};
 
 use crate::NoMemory;
-use bsi_bits::{Bits, lanes};
+use bsi_bits::Bits;
+use bsi_words::blocks;
 use std::alloc::Global;
 use std::marker::Model;
 
-/// The bitmap of the rows that have a number. If each row has one, a comparison of a block does not read it.
+/// The bitmap of the rows that have a number.
 #[derive(Drop)]
 pub struct NotNull {
     bits: Bits,
@@ -34,7 +33,7 @@ impl Model for NotNull {
 }
 
 impl NotNull {
-    /// Makes an empty bitmap. It allocates no memory until it grows.
+    /// Makes an empty bitmap. It takes no memory until it grows.
     pub fn new(alloc: Global) -> NotNull
         ensures { result.bits ≡ [] }
     {
@@ -67,7 +66,8 @@ impl NotNull {
         self.bits.is_empty()
     }
 
-    /// Returns how many more rows can be appended without allocating memory. There are never more than 2^32 in all.
+    /// Returns how many more rows there is room for: to append these takes no memory. There are never more than 2^32 in
+    /// all.
     pub fn room(&self) -> u64
         ensures room { result ≡ self.now.room }
         ensures within { length self.now.bits + result ≤ max_len }
@@ -152,10 +152,10 @@ impl NotNull {
             bit_of block.new p ≡ (bit_of block.old p
             && slice_index_or self.now.bits (64 * at + p) false) }
     {
-        let words = self.bits.words();
         if self.has_null {
-            lanes::and(block, &words[at..at + block.len()]);
+            blocks::keep_in(&self.bits, at, block);
         } else if !block.is_empty() {
+            let words = self.bits.words();
             let last = block.len() - 1;
             block[last] &= words[at + last];
         }
@@ -167,5 +167,5 @@ fn begins_with_ones(word: u64, count: u64) -> bool
     requires { count ≤ max_block }
     ensures { IsTrue result → (i : ℕ) → i < count → bit_at word i ≡ 1 }
 {
-    word == u64::MAX || word.trailing_ones() as u64 >= count
+    word.trailing_ones() as u64 >= count
 }

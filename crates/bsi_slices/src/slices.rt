@@ -1,19 +1,20 @@
-//! A column as bit slices: one bit vector for each binary place of its numbers, as O'Neil and Quass described in 1997.
+//! A column as bit slices: one bit vector for each binary place of its numbers (O'Neil and Quass 1997).
 
 ghost use Rattle.std.specs.Prelude.{◌≡◌, ℕ, ◌++◌, ◌∷◌, [], All, ◌<◌, ◌≤◌, ◌^◌, ◌+◌, ◌==◌, length, map, min, IfOk, IsOk, OnOk, OnErr};
 ghost use Rattle.std.specs.Int.{bit_at};
 ghost use Rattle.bsi_words.specs.Places.{max_places};
 ghost use Rattle.bsi_bits.specs.BitList.{max_block, max_len, word_count};
 ghost use Rattle.bsi_slices.specs.Blocks.{KeepsRows};
+ghost use Rattle.bsi_slices.specs.Orders.{values_at};
 ghost use Rattle.bsi_slices.specs.Rows.{number_or_zero, selects};
 ghost use Rattle.bsi_slices.specs.Slices.{entries_in, IsSliced};
-ghost use Rattle.bsi_slices.specs.Totals.{numbers_at, IsLeastOf, IsGreatestOf};
+ghost use Rattle.bsi_slices.specs.Totals.{IsLeastOf, IsGreatestOf};
 
 use crate::NoMemory;
 use crate::column::{Column, Op};
 use crate::not_null::NotNull;
-use crate::transposing::{mark_not_null, place_numbers, transpose};
-use bsi_bits::{Bitmaps, Bits};
+use crate::transposing::{mark_not_null, transpose, write_numbers};
+use bsi_bits::{Bitmaps, Bits, MAX_BLOCK, MAX_LEN};
 use compare::{keep_selected, select};
 use std::alloc::Global;
 use std::marker::Model;
@@ -23,6 +24,9 @@ mod ends;
 mod totals;
 
 pub use ends::End;
+
+/// The most slices of a column.
+const MAX_WIDTH: u32 = 63;
 
 /// A column of optional numbers below two to the power of its width. Slice `i` holds binary place `i` of the numbers,
 /// and is clear where a row is null.
@@ -80,8 +84,8 @@ impl Slices {
     }
 
     /// Keeps in a block of words the rows whose number satisfies the comparison `op` with `constant`, which may be past
-    /// the size. The first word stands for the 64 rows from row `64 * at` on. A null row is not kept, nor a bit past the
-    /// last row. It allocates no memory.
+    /// the size. The first word stands for the 64 rows from row `64 * at` on. A null row is not kept, nor a bit past
+    /// the last row. It takes no memory.
     pub fn keep_selected(&self, op: Op, constant: u64, at: usize, block: &mut [u64])
         requires { at + length block.old ≤ word_count (length self.now.entries) }
         ensures { KeepsRows (selects op constant) self.now.entries at block.old block.new }
@@ -140,7 +144,7 @@ impl Column for Slices {
         self.slices.push_all_reserved(&other.slices);
         self.not_null.push_all_reserved(&other.not_null);
         // The proof takes from this that there are at most 2^32 rows.
-        prove!(self.not_null.len() <= 1 << 32);
+        prove!(self.not_null.len() <= MAX_LEN);
     }
 
     fn compare(&self, op: Op, constant: u64) -> Result<Bits, NoMemory> {
@@ -157,14 +161,14 @@ impl Column for Slices {
         self.sum_found(found)
     }
 
-    fn ranked(&self, found: &Bits, k: u64) -> Result<u64, NoMemory> {
-        self.number_of_rank(found, k)
+    fn ranked(&self, found: &Bits, rank: u64) -> Result<u64, NoMemory> {
+        self.number_of_rank(found, rank)
     }
 
     // It passes once over the slices, and takes no memory.
     fn least(&self, found: &Bits) -> Result<Option<u64>, NoMemory>
         requires { length self.now.entries ≡ length found.now.bits }
-        ensures least { IfOk result (IsLeastOf (numbers_at found.now.bits self.now.entries)) }
+        ensures least { IfOk result (IsLeastOf (values_at found.now.bits self.now.entries)) }
         ensures succeeds { IsOk result }
     {
         Ok(self.end_found(found, End::Least))
@@ -173,15 +177,10 @@ impl Column for Slices {
     // It passes once over the slices, and takes no memory.
     fn greatest(&self, found: &Bits) -> Result<Option<u64>, NoMemory>
         requires { length self.now.entries ≡ length found.now.bits }
-        ensures greatest { IfOk result (IsGreatestOf (numbers_at found.now.bits self.now.entries)) }
+        ensures greatest { IfOk result (IsGreatestOf (values_at found.now.bits self.now.entries)) }
         ensures succeeds { IsOk result }
     {
         Ok(self.end_found(found, End::Greatest))
-    }
-
-    fn nulls_into(&self, out: &mut Bits) {
-        out.copy_from(self.not_null.bits());
-        out.flip();
     }
 
     fn not_null(&self) -> &Bits {
@@ -196,6 +195,8 @@ impl Column for Slices {
         })
     }
 }
+
+// What follows are functions over the two fields, so that their clauses and proofs speak of these and not of a column.
 
 /// Makes room for `more` further rows. Whatever the result, the rows stay and there is no less room than before. That
 /// which has less room grows last, so a refused growth leaves the room as it was.
@@ -251,7 +252,7 @@ fn push_row(slices: &mut Bitmaps, not_null: &mut NotNull, entry: Option<u64>)
     slices.push_places(number);
     not_null.push_reserved(entry.is_some());
     // The proof takes from this that there are at most 2^32 rows.
-    prove!(not_null.len() <= 1 << 32);
+    prove!(not_null.len() <= MAX_LEN);
 }
 
 /// Appends a block of rows into room that is already there: each slice gets the word of its binary place of the
@@ -268,12 +269,12 @@ fn push_rows(slices: &mut Bitmaps, not_null: &mut NotNull, block: &[Option<u64>]
     ensures room { min slices.old.room not_null.old.room
         ≤ min slices.new.room not_null.new.room + length block.now }
 {
-    let mut words = [0; 64];
-    place_numbers(block, &mut words);
+    let mut words = [0; MAX_BLOCK];
+    write_numbers(block, &mut words);
     transpose(&mut words);
     let count = block.len() as u64;
     slices.push_words(&words[..slices.as_slice().len()], count);
     not_null.push_word_reserved(mark_not_null(block), count);
     // The proof takes from this that there are at most 2^32 rows.
-    prove!(not_null.len() <= 1 << 32);
+    prove!(not_null.len() <= MAX_LEN);
 }

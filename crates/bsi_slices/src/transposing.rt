@@ -7,12 +7,12 @@ ghost use Rattle.bsi_bits.specs.Packed.{bits_of};
 ghost use Rattle.bsi_slices.specs.Exchanges.{across, IsLow};
 ghost use Rattle.bsi_slices.specs.Rows.{number_or_zero};
 
-use bsi_bits::know_fits;
+use bsi_bits::{MAX_BLOCK, know_fits};
 
 /// Writes the numbers of a block of entries, with a 0 for each null and for each place after the last entry.
-pub fn place_numbers(block: &[Option<u64>], numbers: &mut [u64; 64])
+pub fn write_numbers(block: &[Option<u64>], numbers: &mut [u64; MAX_BLOCK])
     requires { length block.now ≤ max_block }
-    ensures long { length numbers.new ≡ 64 }
+    ensures long { length numbers.new ≡ max_block }
     ensures numbers { (r : ℕ) →
         slice_index numbers.new r ≡ number_or_zero (slice_index_or block.now r None) }
 {
@@ -36,7 +36,7 @@ pub fn mark_not_null(block: &[Option<u64>]) -> u64
 }
 
 /// Exchanges the rows and the places of 64 words: place `k` of word `r` becomes place `r` of word `k`. The number of a
-/// row and that of a place have six binary places each, and each step exchanges those of one weight.
+/// row and that of a place have six binary places each, and each step exchanges those of one weight (Warren 2002).
 pub(crate) fn transpose(words: &mut [u64; 64])
     ensures long { length words.new ≡ 64 }
     ensures fits { (k : ℕ) → slice_index words.new k < 2 ^ 64 }

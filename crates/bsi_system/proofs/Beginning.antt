@@ -8,7 +8,7 @@ use Rattle.bsi_table.specs.Rows.{Entries}
 use Rattle.bsi_table.specs.Table.{no_rows}
 use Rattle.bsi_rings.specs.Rings.{channels_of, new_feeders, new_intake, new_sending, AreOpened, Intake, IsWhole, ChannelName, Sending}
 use Rattle.bsi_versions.specs.Editions.{Written}
-use Rattle.bsi_system.specs.Running.{loading, new_loading, no_taking, seen_of, taking_at, takings_of, IsFeederOf, IsLoader, System, Taking}
+use Rattle.bsi_system.specs.Running.{loading, new_loading, no_taking, seen_of, taking_at, takings_of, IsFeederOf, IsLoader, SystemName, Taking}
 
 takings-new : (channels : List ChannelName) → takings_of (map new_intake channels) ≡ map (λ (channel : ChannelName). no_taking) channels
 takings-new [] = refl
@@ -72,5 +72,5 @@ own_from before (channel ∷ channels) (capacity ∷ capacities) =
     assoc [] = refl
     assoc (b ∷ bs) = ap (λ (ls : List ChannelName). b ∷ ls) (assoc bs)
 
-pub own_feeders : (system : System) (capacities : List ℕ) (feeders : List Sending) → feeders ≡ new_feeders 0 system.channels capacities → All (λ (f : Sending). IsFeederOf f system) feeders
+pub own_feeders : (system : SystemName) (capacities : List ℕ) (feeders : List Sending) → feeders ≡ new_feeders 0 system.channels capacities → All (λ (f : Sending). IsFeederOf f system) feeders
 own_feeders system capacities feeders are = subst (All (λ (f : Sending). IsFeederOf f system)) (sym are) (own_from [] system.channels capacities)

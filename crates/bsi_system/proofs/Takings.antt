@@ -16,9 +16,9 @@ use Rattle.bsi_load.specs.Runs.{rows_from}
 use Rattle.bsi_rings.specs.declared.channel.Front.{Front}
 use Rattle.bsi_rings.specs.declared.channel.Front.TheVariants as front
 use Rattle.bsi_rings.specs.Rings.{channels_of, with_more_taken, with_seen, AllFit, ChannelName, Intake, IsWhole, Sent}
-use Rattle.bsi_versions.specs.Editions.{published_all, Written}
+use Rattle.bsi_versions.specs.Editions.{with_all_published, Written}
 use Rattle.bsi_system.specs.Channels.{AreFirstAt, AreUntaken, HasFirst, HoldsFirst, IsBatchAt, IsFirstAt, IsFirstReply, LooksAt, SettlesAt, TakesAt}
-use Rattle.bsi_system.specs.Running.{loading, no_taking, seen, seen_at, seen_of, settled_as, taken, taking, taking_at, takings_of, told, with_taken_rows, AlwaysHolds, Balanced, IsLoader, Loading, LoadsMany, LoadsOne, LoadsRows, Looks, MayLoad, Taking, WithinTold}
+use Rattle.bsi_system.specs.Running.{loading, no_taking, seen, seen_at, seen_of, settled_as, taken, taking, taking_at, takings_of, carried, with_taken_rows, AlwaysHolds, Balanced, IsLoader, Loading, LoadsMany, LoadsOne, LoadsRows, Looks, MayLoad, Taking, WithinCarried}
 
 -- ---- one place of a list
 
@@ -74,7 +74,7 @@ not_longer : (xs rest : List Entries) (row : Entries) → xs ++ (row ∷ rest) �
 not_longer xs rest row e = omega (arith, ap length e, length-append xs (row ∷ rest))
 
 -- a channel of which a row is seen is not settled
-unsettled : (i : Intake) (row : Entries) (rest : List Entries) → IsWhole i → i.seen ≡ row ∷ rest → (o : Option (List Entries)) → i.told ≡ o → o ≢ Some i.taken
+unsettled : (i : Intake) (row : Entries) (rest : List Entries) → IsWhole i → i.seen ≡ row ∷ rest → (o : Option (List Entries)) → i.carried ≡ o → o ≢ Some i.taken
 unsettled i row rest whole seen None is e = cc e
 unsettled i row rest whole seen (Some sent) is e =
     let all : i.taken ++ i.seen ≡ sent = subst (λ (t : Option (List Entries)). IfSome t (λ s. i.taken ++ i.seen ≡ s)) is whole in
@@ -87,16 +87,16 @@ module _ (old : List Intake) (f : ℕ) (new : List Intake) where
       let i = with_seen looks.before looks.seen in
       let is = taking_at-of old f looks.before looks.at in (
         there old f looks.before looks.at,
-        λ settled. unsettled i looks.found_is.0 looks.found_is.1 looks.whole looks.found_is.2 i.told refl (sym (ap (λ t. t.told) is) ∙ (settled ∙ ap (λ (t : Taking). Some t.taken) is)),
+        λ settled. unsettled i looks.found_is.0 looks.found_is.1 looks.whole looks.found_is.2 i.carried refl (sym (ap (λ t. t.carried) is) ∙ (settled ∙ ap (λ (t : Taking). Some t.taken) is)),
       )
 
   pub looks_empty : (full : Bool) → LooksAt old f front.Empty new → IsFirstReply (takings_of old) f full (Err load.Empty)
-  looks_empty full looks = (there old f looks.before looks.at, ap (λ t. t.told) (taking_at-of old f looks.before looks.at) ∙ looks.found_is)
+  looks_empty full looks = (there old f looks.before looks.at, ap (λ t. t.carried) (taking_at-of old f looks.before looks.at) ∙ looks.found_is)
 
   pub looks_ended : (full : Bool) → LooksAt old f front.Ended new → IsFirstReply (takings_of old) f full (Err load.Ended)
   looks_ended full looks =
       let is = taking_at-of old f looks.before looks.at in
-      (there old f looks.before looks.at, ap (λ t. t.told) is ∙ (looks.found_is ∙ sym (ap (λ (t : Taking). Some t.taken) is)))
+      (there old f looks.before looks.at, ap (λ t. t.carried) is ∙ (looks.found_is ∙ sym (ap (λ (t : Taking). Some t.taken) is)))
 
 -- ---- the rows of a feeder
 
@@ -119,20 +119,20 @@ rows_from-fed f g (row ∷ rows) false is =
 -- ---- the loader
 
 module _ (intakes : List Intake) (w : Written) (is : IsLoader intakes w) where
-  -- what was taken is within what was told
-  within_told : WithinTold (loading intakes w)
+  -- what was taken is within what the closing carried
+  within_told : WithinCarried (loading intakes w)
   within_told f = by (slice_get_cases intakes f).1
     where
-      prefix_of : (i : Intake) (o : Option (List Entries)) → i.told ≡ o → IsWhole i → IfSome o (λ sent. IsPrefix i.taken sent)
-      prefix_of i None told' whole = tt
-      prefix_of i (Some sent) told' whole = (i.seen, subst (λ (t : Option (List Entries)). IfSome t (λ s. i.taken ++ i.seen ≡ s)) told' whole)
+      prefix_of : (i : Intake) (o : Option (List Entries)) → i.carried ≡ o → IsWhole i → IfSome o (λ sent. IsPrefix i.taken sent)
+      prefix_of i None carried' whole = tt
+      prefix_of i (Some sent) carried' whole = (i.seen, subst (λ (t : Option (List Entries)). IfSome t (λ s. i.taken ++ i.seen ≡ s)) carried' whole)
 
       by : ((i : Intake) × (f < length intakes) × (slice_get intakes f ≡ Some i) × (get_or intakes f i ≡ i)) ⊎ ((length intakes ≤ f) × (slice_get intakes f ≡ None))
-          → IfSome (told (loading intakes w) f) (λ sent. IsPrefix (taken (loading intakes w) f) sent)
+          → IfSome (carried (loading intakes w) f) (λ sent. IsPrefix (taken (loading intakes w) f) sent)
       by (inl at) =
           let whole : IsWhole at.0 = subst IsWhole at.3 (All-get_or IsWhole intakes f at.0 at.1 is.whole) in
-          subst (λ (t : Taking). IfSome t.told (λ sent. IsPrefix t.taken sent)) (sym (taking_at-of intakes f at.0 at.2)) (prefix_of at.0 at.0.told refl whole)
-      by (inr past) = subst (λ (t : Taking). IfSome t.told (λ sent. IsPrefix t.taken sent)) (sym (taking_at-past intakes f past.0)) tt
+          subst (λ (t : Taking). IfSome t.carried (λ sent. IsPrefix t.taken sent)) (sym (taking_at-of intakes f at.0 at.2)) (prefix_of at.0 at.0.carried refl whole)
+      by (inr past) = subst (λ (t : Taking). IfSome t.carried (λ sent. IsPrefix t.taken sent)) (sym (taking_at-past intakes f past.0)) tt
 
   -- all that always holds
   pub always_holds : AlwaysHolds (loading intakes w)
@@ -143,7 +143,7 @@ module _ (intakes : List Intake) (w : Written) (is : IsLoader intakes w) where
   }
 
   -- the held rows are published, or all stays
-  pub published_loader : {E : Type 0} (new : Written) (r : Result ℕ E) → OnOk r (new ≡ published_all w) → OnErr r (new ≡ w) → IsLoader intakes new
+  pub published_loader : {E : Type 0} (new : Written) (r : Result ℕ E) → OnOk r (new ≡ with_all_published w) → OnErr r (new ≡ w) → IsLoader intakes new
   published_loader new (Ok len) ok err = subst (IsLoader intakes) (sym ok) (record {
     balanced = λ f. ap (rows_from f) (append-nil (w.table.rows ++ w.held)) ∙ is.balanced f;
     whole = is.whole;
@@ -317,7 +317,7 @@ module _ (intakes : List Intake) (w : Written) (f many : ℕ) (new : List Intake
     loads = looked_loads s (loading intakes w) (loading new next) f holds.rows looks takes_loads;
   }
 
--- ---- a closing is told
+-- ---- a feeder is settled
 
 settled_balanced : (s : Loading) (f : ℕ) (sent : List Entries) → f < length s.takings → Balanced s → Balanced (settled_as s f sent)
 settled_balanced s f sent within balanced g = balanced g ∙ by (nat_eq f g) refl
@@ -326,10 +326,10 @@ settled_balanced s f sent within balanced g = balanced g ∙ by (nat_eq f g) ref
     by true is =
         let same : f ≡ g = grind (arith, nat_tests) in
         subst (λ (h : ℕ). taken s h ≡ taken (settled_as s f sent) h) same
-        (ap (λ (t : Taking). t.taken) (sym (get_or-set_same s.takings f (record { taken = taken s f; told = Some sent }) no_taking within)))
+        (ap (λ (t : Taking). t.taken) (sym (get_or-set_same s.takings f (record { taken = taken s f; carried = Some sent }) no_taking within)))
     by false is =
         let other : g ≢ f = λ same. grind (arith, nat_tests) in
-        ap (λ (t : Taking). t.taken) (sym (get_or-set_other s.takings f g (record { taken = taken s f; told = Some sent }) no_taking other))
+        ap (λ (t : Taking). t.taken) (sym (get_or-set_other s.takings f g (record { taken = taken s f; carried = Some sent }) no_taking other))
 
 module _ (intakes : List Intake) (w : Written) (f : ℕ) (closing : Sent) (new : List Intake) (settles : SettlesAt intakes f closing new) where
   settles_channels : channels_of new ≡ channels_of intakes
@@ -341,8 +341,8 @@ module _ (intakes : List Intake) (w : Written) (f : ℕ) (closing : Sent) (new :
   settles_rest =
       let after = settles.after in
       let taken_is : after.taken ≡ taken (loading intakes w) f = ap (λ (i : Intake). i.taken) settles.settles ∙ ap (λ (t : Taking). t.taken) (sym (taking_at-of intakes f settles.before settles.at)) in
-      let told_is : after.told ≡ Some closing.rows = ap (λ (i : Intake). i.told) settles.settles in
-      let all : after.taken ++ after.seen ≡ closing.rows = subst (λ (o : Option (List Entries)). IfSome o (λ sent. after.taken ++ after.seen ≡ sent)) told_is settles.whole in
+      let carried_is : after.carried ≡ Some closing.rows = ap (λ (i : Intake). i.carried) settles.settles in
+      let all : after.taken ++ after.seen ≡ closing.rows = subst (λ (o : Option (List Entries)). IfSome o (λ sent. after.taken ++ after.seen ≡ sent)) carried_is settles.whole in
       sym (drop-append_seam after.taken after.seen) ∙ (ap (drop (length after.taken)) all ∙ ap (λ (xs : List Entries). drop (length xs) closing.rows) taken_is)
 
   settles_seen : seen_of new ≡ set (seen_of intakes) f (drop (length (taken (loading intakes w) f)) closing.rows)
@@ -351,17 +351,17 @@ module _ (intakes : List Intake) (w : Written) (f : ℕ) (closing : Sent) (new :
 
   pub settles_loading : loading new w ≡ settled_as (loading intakes w) f closing.rows
   settles_loading =
-      let after_is : taking settles.after ≡ record { taken = taken (loading intakes w) f; told = Some closing.rows } =
-      ap taking settles.settles ∙ ap (λ (t : Taking). record { taken = t.taken; told = Some closing.rows }) (sym (taking_at-of intakes f settles.before settles.at)) in
-      let takings : takings_of new ≡ set (takings_of intakes) f (record { taken = taken (loading intakes w) f; told = Some closing.rows }) =
+      let after_is : taking settles.after ≡ record { taken = taken (loading intakes w) f; carried = Some closing.rows } =
+      ap taking settles.settles ∙ ap (λ (t : Taking). record { taken = t.taken; carried = Some closing.rows }) (sym (taking_at-of intakes f settles.before settles.at)) in
+      let takings : takings_of new ≡ set (takings_of intakes) f (record { taken = taken (loading intakes w) f; carried = Some closing.rows }) =
       ap takings_of settles.now ∙ (map-set taking intakes f settles.after ∙ ap (set (takings_of intakes) f) after_is) in
       ap (λ (ts : List Taking). record { system = record { channels = channels_of new; schema = w.table.schema; limit = w.table.limit }; takings = ts; seen = seen_of new; published = w.table.rows; held = w.held }) takings
-      ∙ (ap (λ (ls : List ChannelName). record { system = record { channels = ls; schema = w.table.schema; limit = w.table.limit }; takings = set (takings_of intakes) f (record { taken = taken (loading intakes w) f; told = Some closing.rows }); seen = seen_of new; published = w.table.rows; held = w.held }) settles_channels
-      ∙ ap (λ (xs : List (List Entries)). record { system = record { channels = channels_of intakes; schema = w.table.schema; limit = w.table.limit }; takings = set (takings_of intakes) f (record { taken = taken (loading intakes w) f; told = Some closing.rows }); seen = xs; published = w.table.rows; held = w.held }) settles_seen)
+      ∙ (ap (λ (ls : List ChannelName). record { system = record { channels = ls; schema = w.table.schema; limit = w.table.limit }; takings = set (takings_of intakes) f (record { taken = taken (loading intakes w) f; carried = Some closing.rows }); seen = seen_of new; published = w.table.rows; held = w.held }) settles_channels
+      ∙ ap (λ (xs : List (List Entries)). record { system = record { channels = channels_of intakes; schema = w.table.schema; limit = w.table.limit }; takings = set (takings_of intakes) f (record { taken = taken (loading intakes w) f; carried = Some closing.rows }); seen = xs; published = w.table.rows; held = w.held }) settles_seen)
 
   -- a second closing tells the same rows
-  pub settles_once : IfSome (told (loading intakes w) f) (λ sent. closing.rows ≡ sent)
-  settles_once = subst (λ (t : Taking). IfSome t.told (λ sent. closing.rows ≡ sent)) (sym (taking_at-of intakes f settles.before settles.at)) settles.once
+  pub settles_once : IfSome (carried (loading intakes w) f) (λ sent. closing.rows ≡ sent)
+  settles_once = subst (λ (t : Taking). IfSome t.carried (λ sent. closing.rows ≡ sent)) (sym (taking_at-of intakes f settles.before settles.at)) settles.once
 
   pub settles_loader : IsLoader intakes w → IsLoader new w
   settles_loader is = record {

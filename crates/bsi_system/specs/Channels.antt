@@ -26,17 +26,17 @@ pub record TakesAt (old : List Intake) (f n : ℕ) (new : List Intake) : Type 0 
   pub now : new ≡ slice_set old f (with_more_taken before n)
   pub whole : IsWhole (with_more_taken before n)
 
--- the closing of one channel was told
+-- one channel was settled by this closing
 pub record SettlesAt (old : List Intake) (f : ℕ) (closing : Sent) (new : List Intake) : Type 0 where
   pub before : Intake
   pub after : Intake
   pub at : slice_get old f ≡ Some before
   pub now : new ≡ slice_set old f after
   pub settles : Settles before closing after
-  pub once : IfSome before.told (λ sent. closing.rows ≡ sent)
+  pub once : IfSome before.carried (λ sent. closing.rows ≡ sent)
   pub whole : IsWhole after
 
--- nothing was taken or told; what is seen of one channel may be different
+-- nothing was taken, and no channel was settled; what is seen of one channel may be different
 pub record AreUntaken (old : List Intake) (f : ℕ) (new : List Intake) : Type 0 where
   pub takings : takings_of new ≡ takings_of old
   pub channels : channels_of new ≡ channels_of old
@@ -77,6 +77,6 @@ abbrev pub IsFirstReply : List Taking → ℕ → Bool → Result (Unit {0}) Loa
 IsFirstReply takings f full (Ok found) = MayLoad takings f × (full ≡ false)
 IsFirstReply takings f full (Err load.UnknownFeeder) = length takings ≤ f
 IsFirstReply takings f full (Err load.Ended) = (f < length takings) × IsSettled takings f
-IsFirstReply takings f full (Err load.Empty) = (f < length takings) × ((taking_at takings f).told ≡ None)
+IsFirstReply takings f full (Err load.Empty) = (f < length takings) × ((taking_at takings f).carried ≡ None)
 IsFirstReply takings f full (Err load.IndexFull) = MayLoad takings f × (full ≡ true)
 IsFirstReply takings f full (Err load.NoMemory) = MayLoad takings f × (full ≡ false)

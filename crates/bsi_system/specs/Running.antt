@@ -11,20 +11,20 @@ use Rattle.bsi_rings.specs.Rings.{channels_of, AllFit, ChannelName, Intake, IsWh
 use Rattle.bsi_versions.specs.Editions.{Written}
 
 -- which rings a system has, the schema of its rows, and the most rows of its table
-pub record System : Type 0 where
+pub record SystemName : Type 0 where
   pub channels : List ChannelName
   pub schema : Declared
   pub limit : ℕ
 
--- the rows that were taken from a feeder's ring, and what its closing carried, once that was told
+-- the rows that were taken from a feeder's ring, and what its closing carried, once the feeder is settled
 pub record Taking : Type 0 where
   pub taken : List Entries
-  pub told : Option (List Entries)
+  pub carried : Option (List Entries)
 
 -- what is seen of a loader: its system, what was taken of each feeder, the rows that are seen in each ring and were not
 -- taken, the rows that are published, and those that are held
 pub record Loading : Type 0 where
-  pub system : System
+  pub system : SystemName
   pub takings : List Taking
   pub seen : List (List Entries)
   pub published : List FedRow
@@ -32,7 +32,7 @@ pub record Loading : Type 0 where
 
 -- of a feeder that is not there
 abbrev pub no_taking : Taking
-no_taking = record { taken = []; told = None }
+no_taking = record { taken = []; carried = None }
 
 abbrev pub taking_at : List Taking → ℕ → Taking
 taking_at takings f = slice_index_or takings f no_taking
@@ -40,8 +40,8 @@ taking_at takings f = slice_index_or takings f no_taking
 abbrev pub taken : Loading → ℕ → List Entries
 taken s f = (taking_at s.takings f).taken
 
-abbrev pub told : Loading → ℕ → Option (List Entries)
-told s f = (taking_at s.takings f).told
+abbrev pub carried : Loading → ℕ → Option (List Entries)
+carried s f = (taking_at s.takings f).carried
 
 abbrev pub seen_at : List (List Entries) → ℕ → List Entries
 seen_at seen f = slice_index_or seen f []
@@ -59,19 +59,19 @@ Balanced s = (f : ℕ) → rows_from f (s.published ++ s.held) ≡ taken s f
 abbrev pub AreAsMany : Loading → Type 0
 AreAsMany s = length s.takings ≡ length s.system.channels
 
--- what was taken of a feeder that was told of begins what its closing carried
-abbrev pub WithinTold : Loading → Type 0
-WithinTold s = (f : ℕ) → IfSome (told s f) (λ sent. IsPrefix (taken s f) sent)
+-- what was taken of a feeder begins what its closing carried
+abbrev pub WithinCarried : Loading → Type 0
+WithinCarried s = (f : ℕ) → IfSome (carried s f) (λ sent. IsPrefix (taken s f) sent)
 
 -- all of these
 pub record AlwaysHolds (s : Loading) : Type 0 where
   pub balanced : Balanced s
-  pub within : WithinTold s
+  pub within : WithinCarried s
   pub many : AreAsMany s
 
 -- ---- the beginning
 
--- nothing was taken, told, seen, published or held
+-- nothing was taken, seen, published or held, and no feeder is settled
 abbrev pub new_loading : List ChannelName → Declared → ℕ → Loading
 new_loading channels schema limit = record {
   system = record { channels = channels; schema = schema; limit = limit };
@@ -83,21 +83,21 @@ new_loading channels schema limit = record {
 
 -- ---- loads
 
--- the closing of the feeder was told, and all that it carried was taken
+-- all that the closing of the feeder carried was taken
 abbrev pub IsSettled : List Taking → ℕ → Type 0
-IsSettled takings f = (taking_at takings f).told ≡ Some (taking_at takings f).taken
+IsSettled takings f = (taking_at takings f).carried ≡ Some (taking_at takings f).taken
 
--- the feeder is there, and not settled
+-- the feeder is there, and not all that its closing carried was taken
 abbrev pub MayLoad : List Taking → ℕ → Type 0
 MayLoad takings f = (f < length takings) × ¬ IsSettled takings f
 
--- the reply to a load: there is no such feeder; it is settled; no row was seen, and none was told of; the published and
--- the held rows are as many as the limit; else the row is loaded, or there is no memory
+-- the reply to a load: there is no such feeder; all rows of its closing were taken; no row was seen, and it is not
+-- settled; the published and the held rows are as many as the limit; else the row is loaded, or there is no memory
 abbrev pub IsLoaderReply : Loading → ℕ → Result (Unit {0}) LoadRefused → Type 0
 IsLoaderReply s f (Ok done) = MayLoad s.takings f × (length s.published + length s.held < s.system.limit)
 IsLoaderReply s f (Err load.UnknownFeeder) = length s.takings ≤ f
 IsLoaderReply s f (Err load.Ended) = (f < length s.takings) × IsSettled s.takings f
-IsLoaderReply s f (Err load.Empty) = (f < length s.takings) × (told s f ≡ None)
+IsLoaderReply s f (Err load.Empty) = (f < length s.takings) × (carried s f ≡ None)
 IsLoaderReply s f (Err load.IndexFull) = MayLoad s.takings f × (length s.published + length s.held ≡ s.system.limit)
 IsLoaderReply s f (Err load.NoMemory) = MayLoad s.takings f × (length s.published + length s.held < s.system.limit)
 
@@ -116,23 +116,6 @@ IsSeenWhere seen refused = ⊤
 abbrev pub Looks : Loading → ℕ → Loading → Type 0
 Looks s f t = t ≡ record s { seen = slice_set s.seen f (seen t f) }
 
--- one row more was taken
-abbrev pub with_taken : Taking → Entries → Taking
-with_taken t row = record t { taken = t.taken ++ row ∷ [] }
-
--- the row is the next one that is taken of the feeder, and it is held, last
-abbrev pub Loads : Loading → ℕ → Entries → Loading → Type 0
-Loads s f row t =
-    t ≡ record s {
-      takings = slice_set s.takings f (with_taken (taking_at s.takings f) row);
-      seen = slice_set s.seen f (seen t f);
-      held = s.held ++ (f, row) ∷ [];
-    }
-
--- a row that fits is loaded
-abbrev pub LoadsOne : Loading → ℕ → Loading → Type 0
-LoadsOne s f t = (row : Entries) × IsTrue (fits s.system.schema.columns row) × Loads s f row t
-
 -- these rows more were taken
 abbrev pub with_taken_rows : Taking → List Entries → Taking
 with_taken_rows t rows = record t { taken = t.taken ++ rows }
@@ -146,6 +129,18 @@ LoadsRows s f rows t =
       held = s.held ++ fed_as f rows;
     }
 
+-- one row more was taken
+abbrev pub with_taken : Taking → Entries → Taking
+with_taken t row = with_taken_rows t (row ∷ [])
+
+-- the row is the next one that is taken of the feeder, and it is held, last
+abbrev pub Loads : Loading → ℕ → Entries → Loading → Type 0
+Loads s f row t = LoadsRows s f (row ∷ []) t
+
+-- a row that fits is loaded
+abbrev pub LoadsOne : Loading → ℕ → Loading → Type 0
+LoadsOne s f t = (row : Entries) × IsTrue (fits s.system.schema.columns row) × Loads s f row t
+
 -- so many rows are loaded, at least one, of which each fits
 pub record LoadsMany (s : Loading) (f many : ℕ) (t : Loading) : Type 0 where
   pub rows : List Entries
@@ -157,21 +152,21 @@ pub record LoadsMany (s : Loading) (f many : ℕ) (t : Loading) : Type 0 where
 -- ---- settling and publishing
 
 -- the channel stands at this number in the system
-abbrev pub IsChannelOf : ℕ → ChannelName → System → Type 0
+abbrev pub IsChannelOf : ℕ → ChannelName → SystemName → Type 0
 IsChannelOf number channel system = slice_get system.channels number ≡ Some channel
 
 -- a closing of a feeder of this system
-abbrev pub IsClosingOf : Sent → System → Type 0
+abbrev pub IsClosingOf : Sent → SystemName → Type 0
 IsClosingOf closing system = IsChannelOf closing.number closing.channel system
 
 -- a feeder of this system
-abbrev pub IsFeederOf : Sending → System → Type 0
+abbrev pub IsFeederOf : Sending → SystemName → Type 0
 IsFeederOf feeder system = IsChannelOf feeder.number feeder.channel system
 
--- the closing of the feeder was told, which carried these rows: those that were not taken are seen
+-- the feeder is settled by a closing that carried these rows: those that were not taken are seen
 abbrev pub settled_as : Loading → ℕ → List Entries → Loading
 settled_as s f sent = record s {
-  takings = slice_set s.takings f (record { taken = taken s f; told = Some sent });
+  takings = slice_set s.takings f (record { taken = taken s f; carried = Some sent });
   seen = slice_set s.seen f (drop (length (taken s f)) sent);
 }
 
@@ -182,7 +177,7 @@ published_all s = record s { published = s.published ++ s.held; held = [] }
 -- ---- the parts of a loader
 
 abbrev pub taking : Intake → Taking
-taking i = record { taken = i.taken; told = i.told }
+taking i = record { taken = i.taken; carried = i.carried }
 
 abbrev pub takings_of : List Intake → List Taking
 takings_of intakes = map taking intakes

@@ -29,11 +29,11 @@ pub(crate) fn find_first(
     ensures first { OnOk result (HasFirst channels.new.items feeder) }
     ensures seen { IfErr result (IsSeenWhere (seen_at (seen_of channels.new.items) feeder)) }
 {
-    let place = feeder as usize;
-    if place >= channels.len() {
+    let number = feeder as usize;
+    if number >= channels.len() {
         return Err(LoadRefused::UnknownFeeder);
     }
-    match front_of(channels, place) {
+    match front_of(channels, number) {
         Front::Row => {}
         Front::Empty => return Err(LoadRefused::Empty),
         Front::Ended => return Err(LoadRefused::Ended),
@@ -52,7 +52,7 @@ pub(crate) fn first_row_of(channels: &Vec<Channel>, feeder: u32) -> Option<&Row>
     channels[feeder as usize].first_row()
 }
 
-/// Makes a second row of that of a feeder that was found.
+/// Makes a second row of that of a feeder that was found. If that is one of a batch, it passes over the whole batch.
 pub(crate) fn copy_first_of(channels: &Vec<Channel>, feeder: u32) -> Result<Row, NoMemory>
     requires { HasFirst channels.now.items feeder }
     ensures { IfOk result (IsFirstAt channels.now.items feeder) }
@@ -60,7 +60,8 @@ pub(crate) fn copy_first_of(channels: &Vec<Channel>, feeder: u32) -> Result<Row,
     channels[feeder as usize].copy_first()
 }
 
-/// Lends the batch of a feeder that stands first, or none where a row does, or a row of the batch was taken.
+/// Lends the batch of a feeder that stands first. It returns none where a row stands first, or a row of the batch was
+/// taken, or the columns of the batch do not take the same numbers as those of the schema.
 pub(crate) fn first_batch_of(channels: &Vec<Channel>, feeder: u32) -> Option<&Index>
     requires { HasFirst channels.now.items feeder }
     ensures { IfSome (option_copied result) (IsBatchAt channels.now.items feeder) }
@@ -69,11 +70,11 @@ pub(crate) fn first_batch_of(channels: &Vec<Channel>, feeder: u32) -> Option<&In
 }
 
 /// Looks at what stands first in a ring.
-fn front_of(channels: &mut Vec<Channel>, place: usize) -> Front
-    requires { place < length channels.old.items }
-    ensures { LooksAt channels.old.items place result channels.new.items }
+fn front_of(channels: &mut Vec<Channel>, number: usize) -> Front
+    requires { number < length channels.old.items }
+    ensures { LooksAt channels.old.items number result channels.new.items }
 {
-    let channel = &mut channels[place];
+    let channel = &mut channels[number];
     channel.front()
 }
 

@@ -11,15 +11,15 @@ use bsi_rings::Channel;
 use bsi_table::Index;
 use bsi_versions::{Naming, Publisher};
 
-/// Holds the batch of a feeder that stands first, where the table takes it by words and has room for its rows, and else
-/// one row. It returns how many rows it holds.
+/// Holds the batch of a feeder that stands first, where the index takes it by words and its limit allows all rows, and
+/// else one row. It returns how many rows it holds.
 pub(crate) fn hold_next<B: Naming>(
     publisher: &mut Publisher<B>,
     channels: &Vec<Channel>,
     feeder: u32,
 ) -> Result<usize, NoMemory>
     requires first { HasFirst channels.now.items feeder }
-    requires room { length publisher.old.table.rows + length publisher.old.held
+    requires limit { length publisher.old.table.rows + length publisher.old.held
         < publisher.old.table.limit }
     requires loader { IsLoader channels.now.items publisher.old }
     ensures ok { IfOk result
@@ -45,7 +45,7 @@ pub(crate) fn hold_first<B: Naming>(
     feeder: u32,
 ) -> Result<(), NoMemory>
     requires first { HasFirst channels.now.items feeder }
-    requires room { length publisher.old.table.rows + length publisher.old.held
+    requires limit { length publisher.old.table.rows + length publisher.old.held
         < publisher.old.table.limit }
     requires loader { IsLoader channels.now.items publisher.old }
     ensures ok { OnOk result
@@ -58,13 +58,14 @@ pub(crate) fn hold_first<B: Naming>(
     }
 }
 
-/// Returns whether the table keeps its columns as a batch does, has as many feeders or more, and has room for its rows.
+/// Returns whether the index keeps its columns as a batch does, has as many feeders or more, and its limit allows the
+/// batch's rows.
 fn takes<B: Naming>(publisher: &Publisher<B>, batch: &Index) -> bool
-    ensures room { result ≡ true → length publisher.now.table.rows + length publisher.now.held
+    ensures limit { result ≡ true → length publisher.now.table.rows + length publisher.now.held
         + length batch.now.rows ≤ publisher.now.table.limit }
     ensures alike { result ≡ true → AreKeptAlike publisher.now.table.schema batch.now.schema }
 {
-    let table = publisher.published();
+    let index = publisher.published();
     let (published, held) = publisher.counts();
-    batch.len() <= table.limit() - published - held && table.is_kept_like(batch)
+    batch.len() <= index.limit() - published - held && index.is_kept_like(batch)
 }

@@ -1,10 +1,10 @@
 //! The loader: it takes rows out of the feeders' rings, holds them, and publishes them.
 //!
-//! Rows that stand first are held while they are in the ring, and taken out only then: holding them may be refused memory,
-//! and rows that come back could not go to the front of the ring again.
+//! Rows that stand first are held while they are in the ring, and taken out only then: holding them may be refused
+//! memory, and rows that come back could not go to the front of the ring again.
 
 ghost use Rattle.std.specs.Prelude.{◌≡◌, ◌≢◌, ◌+◌, ◌≤◌, ◌++◌, IfErr, IfOk, IfSome, OnErr, OnOk, length};
-ghost use Rattle.bsi_system.specs.Running.{published_all, seen, settled_as, told, AlwaysHolds, IsBatchLoadReply, IsClosingOf, IsLoaderReply, IsSeenWhere, LoadsMany, LoadsOne, Looks};
+ghost use Rattle.bsi_system.specs.Running.{carried, published_all, seen, settled_as, AlwaysHolds, IsBatchLoadReply, IsClosingOf, IsLoaderReply, IsSeenWhere, LoadsMany, LoadsOne, Looks};
 
 use crate::NoMemory;
 use crate::channels::{SettleRefused, find_first, settle_of, take_of};
@@ -16,13 +16,13 @@ use bsi_versions::{Analyst, Naming, Publisher, Told};
 use std::marker::Model;
 use std::sync::Wait;
 
-/// Loads the rows of all feeders into the table that analysts read. It is not `Drop`: end it by `end`.
+/// Loads the rows of all feeders into the index that analysts read. It is not `Drop`: end it by `end` or `into_table`.
 pub struct Loader<B: Naming> {
     pub(crate) channels: Vec<Channel>,
     pub(crate) publisher: Publisher<B>,
 }
 
-// Clauses see which rings there are, the schema and the limit, what was taken of each feeder and what its closing told,
+// Clauses see which rings there are, the schema and the limit, what was taken of each feeder and what its closing carried,
 // the rows that are seen in its ring, those that are published, and those that are held.
 impl<B: Naming> Model for Loader<B> {
     ghost use Rattle.bsi_system.specs.Running.{loading, IsLoader, Loading};
@@ -36,7 +36,7 @@ impl<B: Naming> Model for Loader<B> {
 
 impl<B: Naming> Loader<B> {
     /// Takes the next row out of a feeder's ring, and holds it. If it is refused, the row stays in the ring. It never
-    /// waits.
+    /// waits. A row of a batch costs a pass over the batch.
     pub fn load(&mut self, feeder: u32) -> Result<(), LoadRefused>
         ensures reply { IsLoaderReply self.old feeder result }
         ensures seen { IfErr result (IsSeenWhere (seen self.new feeder)) }
@@ -53,7 +53,7 @@ impl<B: Naming> Loader<B> {
     }
 
     /// Takes what stands first in a feeder's ring, and holds it: all rows of a batch at one step, where none of them
-    /// was taken, there is room for all below the limit, and the batch keeps its columns as the table does and has no
+    /// was taken, the limit allows all, and the batch keeps its columns as the index does and has no
     /// more feeders; and else one row. It returns how many rows it took. If it is refused, all rows stay in the ring.
     /// It never waits.
     pub fn load_batch(&mut self, feeder: u32) -> Result<usize, LoadRefused>
@@ -79,7 +79,7 @@ impl<B: Naming> Loader<B> {
         requires { IsClosingOf closing self.old.system }
         ensures ok { OnOk result ((closing.number ≡ feeder)
             × (self.new ≡ settled_as self.old feeder closing.rows)) }
-        ensures once { OnOk result (IfSome (told self.old feeder) (λ sent. closing.rows ≡ sent)) }
+        ensures once { OnOk result (IfSome (carried self.old feeder) (λ sent. closing.rows ≡ sent)) }
         ensures wrong { IfErr result (λ e. (e ≡ SettleRefused.WrongClosing closing)
             × (closing.number ≢ feeder)) }
         ensures kept { OnErr result (self.new ≡ self.old) }
@@ -128,10 +128,10 @@ impl<B: Naming> Loader<B> {
         self.publisher.analyst()
     }
 
-    /// Ends the loader, and hands over the table of all rows that were taken: those that are published, and then those
+    /// Ends the loader, and hands over the index of all rows that were taken: those that are published, and then those
     /// that are held. It drops the rows that are still in a ring. It waits for analysts that read, and an analyst that
-    /// asks later is answered `Gone`. Of a loader that never tried to publish, and whose rows came in batches, it copies
-    /// no row. If memory is refused, the loader comes back.
+    /// asks later is answered `Gone`. Of a loader that never tried to publish, and whose rows came in batches, it
+    /// copies no row. If memory is refused, the loader comes back.
     pub fn into_table<R: Wait>(self, rt: &R) -> Result<Index, Loader<B>>
         ensures rows { IfOk result (λ table. table.rows ≡ self.published ++ self.held) }
         ensures schema { IfOk result (λ table. table.schema ≡ self.system.schema) }

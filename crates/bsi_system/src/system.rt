@@ -10,7 +10,7 @@ ghost use Rattle.bsi_versions.specs.Editions.{max_analysts};
 
 use crate::Loader;
 use bsi_load::{MakeError, check_sizes};
-use bsi_rings::{Feeder, open_rings};
+use bsi_rings::{Feeder, Rings, open_rings};
 use bsi_table::{Index, Schema};
 use bsi_versions::{Analyst, History, Naming, Publisher};
 use std::alloc::Global;
@@ -20,7 +20,7 @@ use std::sync::Arc;
 pub struct System<B: Naming> {
     /// An end for each feeder, in the order of the capacities.
     pub feeders: Vec<Feeder>,
-    /// The one loader. End it by `end`.
+    /// The one loader. End it by `end` or `into_table`.
     pub loader: Loader<B>,
     /// The analysts.
     pub analysts: Vec<Analyst<B>>,
@@ -60,10 +60,10 @@ impl<B: Naming> System<B> {
             (IsFirstOr MakeError.NoMemory (sizes_refusal schema capacities.now limit)) }
     {
         check_sizes(&schema, capacities, limit)?;
-        let shared = Arc::new(alloc, schema.copy()?).map_err(|_| MakeError::NoMemory)?;
-        let (feeders, channels) = open_rings(alloc, &shared, capacities)?;
+        let shared = Arc::new(alloc, schema).map_err(|_| MakeError::NoMemory)?;
+        let Rings { feeders, channels } = open_rings(alloc, &shared, capacities)?;
         let places = Vec::with_capacity(alloc, analysts as usize)?;
-        let index = Index::new(alloc, schema, capacities.len() as u32, limit)?;
+        let index = Index::with_schema(alloc, &shared, capacities.len() as u32, limit)?;
         let publisher = Publisher::new(alloc, history, index, analysts)?;
         Ok(System {
             feeders,

@@ -6,7 +6,7 @@ use Rattle.std.proofs.lemmas.List.Elements.{All-weaker}
 use Rattle.bsi_schema.specs.Columns.{fits, Declared}
 use Rattle.bsi_schema.specs.Limits.{limits_of}
 use Rattle.bsi_schema.proofs.Fitting.{fits-alike}
-use Rattle.bsi_table.specs.RowBlocks.{AreAlike}
+use Rattle.bsi_table.specs.RowBlocks.{HaveSameLimits}
 use Rattle.bsi_table.specs.Rows.{FedRow}
 use Rattle.bsi_table.specs.Table.{with_row, with_rows, AreFitting, Table}
 
@@ -21,7 +21,7 @@ fold-with_row table (row ∷ rows) =
     fold-with_row (with_fed_row table row) rows ∙ ap (λ xs. record table { rows = xs }) (append_assoc table.rows (row ∷ []) rows)
 
 -- two schemas whose columns take the same numbers
-module _ (first second : Declared) (alike : AreAlike first second) where
+module _ (first second : Declared) (alike : HaveSameLimits first second) where
   -- have as many columns
   pub wide-alike : length first.columns ≡ length second.columns
   wide-alike = sym (length-map first.columns limits_of) ∙ ap length alike ∙ length-map second.columns limits_of

@@ -10,33 +10,33 @@ use Rattle.bsi_table.proofs.Keeping.{are_kept_same, are_kept_more, rows_taken}
 use Rattle.bsi_table.proofs.TableRows.{fed_rows-more, fed_rows-same}
 
 -- the columns got room, and then the entries of the rows
-module _ (columns : List NamedColumn) (feeders limit : ℕ) (sources : List ℕ) (old : List OffsetColumn) (is : IsTable columns feeders limit sources old)
+module _ (columns : List NamedColumn) (feeders limit : ℕ) (row_feeders : List ℕ) (old : List OffsetColumn) (is : IsTable columns feeders limit row_feeders old)
     (roomy : List OffsetColumn) (long : length roomy ≡ length old) (same : AreSameColumns old roomy)
     (rows : List FedRow) (fit : AreFitting columns rows) (from : AreFrom feeders rows) where
-  roomy_kept : AreKept columns roomy (length sources)
-  roomy_kept = are_kept_same columns old (length sources) is.columns_are roomy long same
+  roomy_kept : AreKept columns roomy (length row_feeders)
+  roomy_kept = are_kept_same columns old (length row_feeders) is.columns_are roomy long same
 
   pub taken : All (λ row. TakesRow roomy row.1) rows
-  taken = rows_taken columns roomy (length sources) roomy_kept rows fit
+  taken = rows_taken columns roomy (length row_feeders) roomy_kept rows fit
 
   module _ (grown : List OffsetColumn) (grown_long : length grown ≡ length roomy) (more : HaveMore roomy grown rows) where
-    length-sources : length (sources ++ feeders_of rows) ≡ length sources + length rows
-    length-sources = length-append sources (feeders_of rows) ∙ ap (λ n. length sources + n) (length-map rows (λ row. row.0))
+    length-sources : length (row_feeders ++ feeders_of rows) ≡ length row_feeders + length rows
+    length-sources = length-append row_feeders (feeders_of rows) ∙ ap (λ n. length row_feeders + n) (length-map rows (λ row. row.0))
 
-    pub grown_table : length sources + length rows ≤ limit → IsTable columns feeders limit (sources ++ feeders_of rows) grown
+    pub grown_table : length row_feeders + length rows ≤ limit → IsTable columns feeders limit (row_feeders ++ feeders_of rows) grown
     grown_table room = record {
       columns_are = subst (AreKept columns grown) (sym length-sources)
-          (are_kept_more columns roomy (length sources) roomy_kept grown grown_long rows
+          (are_kept_more columns roomy (length row_feeders) roomy_kept grown grown_long rows
           (All-weaker (λ row. TakesRow roomy row.1) (λ row. AreInRange roomy row.1) (λ row takes. takes.range) rows taken) more);
       few = is.few;
-      from = All-append (λ source. source < feeders) sources (feeders_of rows) is.from (All-map (λ source. source < feeders) (λ row. row.0) rows from);
+      from = All-append (λ feeder. feeder < feeders) row_feeders (feeders_of rows) is.from (All-map (λ feeder. feeder < feeders) (λ row. row.0) rows from);
       within = omega (arith, room, length-sources);
       small = is.small;
     }
 
-    pub grown_rows : fed_rows (sources ++ feeders_of rows) grown ≡ fed_rows sources old ++ rows
+    pub grown_rows : fed_rows (row_feeders ++ feeders_of rows) grown ≡ fed_rows row_feeders old ++ rows
     grown_rows =
-        fed_rows-more sources roomy grown rows grown_long
+        fed_rows-more row_feeders roomy grown rows grown_long
         (All-weaker (λ row. TakesRow roomy row.1) (λ row. length row.1 ≡ length roomy) (λ row takes. takes.wide) rows taken)
         (λ k within. (roomy_kept.each k (omega (arith, within, roomy_kept.long))).rows) more
-        ∙ ap (λ xs. xs ++ rows) (fed_rows-same sources old roomy long (λ k within. (same k within).entries))
+        ∙ ap (λ xs. xs ++ rows) (fed_rows-same row_feeders old roomy long (λ k within. (same k within).entries))

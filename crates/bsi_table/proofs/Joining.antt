@@ -8,7 +8,7 @@ use Rattle.bsi_schema.specs.Columns.{column_at, fits, no_column, Declared, Named
 use Rattle.bsi_schema.specs.Limits.{limits_of}
 use Rattle.bsi_schema.specs.declared.limits.Limits.{Limits}
 use Rattle.bsi_shift.specs.Shifted.{shifted_entries, OffsetColumn}
-use Rattle.bsi_table.specs.RowBlocks.{AreAlike}
+use Rattle.bsi_table.specs.RowBlocks.{HaveSameLimits}
 use Rattle.bsi_table.specs.Rows.{FedRow}
 use Rattle.bsi_table.specs.Table.{fed_rows, kept_as, kept_at, AreAlikeColumns, AreFitting, AreFrom, AreKept, AreKeptAlike, HasMore, HaveMore, HaveRows, IsTable}
 use Rattle.bsi_table.proofs.CallerLemmas.{fitting-alike}
@@ -57,29 +57,29 @@ limits-columns : (columns : List NamedColumn) → map limits_of columns ≡ map 
 limits-columns [] = refl
 limits-columns (column ∷ columns) = ap₂ (λ (x : Limits) (xs : List Limits). x ∷ xs) (sym (limits-kept_as column)) (limits-columns columns)
 
-pub alike-kept : (first second : Declared) → AreKeptAlike first second → AreAlike first second
+pub alike-kept : (first second : Declared) → AreKeptAlike first second → HaveSameLimits first second
 alike-kept first second alike = limits-columns first.columns ∙ ap (map limits_kept) alike ∙ sym (limits-columns second.columns)
 
 -- the rows of a table fit its columns
-pub fitting_rows : (columns : List NamedColumn) (feeders limit : ℕ) (sources : List ℕ) (kept : List OffsetColumn) → IsTable columns feeders limit sources kept
-    → AreFitting columns (fed_rows sources kept)
-fitting_rows columns feeders limit sources kept is =
-    All-fed_rows sources kept (λ row. fits columns row.1 ≡ true) (λ r below. row_in-fits columns kept (length sources) is.columns_are r below)
+pub fitting_rows : (columns : List NamedColumn) (feeders limit : ℕ) (row_feeders : List ℕ) (kept : List OffsetColumn) → IsTable columns feeders limit row_feeders kept
+    → AreFitting columns (fed_rows row_feeders kept)
+fitting_rows columns feeders limit row_feeders kept is =
+    All-fed_rows row_feeders kept (λ row. fits columns row.1 ≡ true) (λ r below. row_in-fits columns kept (length row_feeders) is.columns_are r below)
 
 -- and those of one that is kept alike
 pub fitting_others : (first second : Declared) → AreKeptAlike first second → (rows : List FedRow) → AreFitting second.columns rows → AreFitting first.columns rows
 fitting_others first second alike rows fitting = fitting-alike second first (sym (alike-kept first second alike)) rows fitting
 
 -- they came from its feeders
-pub from_feeders : (columns : List NamedColumn) (feeders limit more : ℕ) (sources : List ℕ) (kept : List OffsetColumn) → IsTable columns feeders limit sources kept
-    → feeders ≤ more → AreFrom more (fed_rows sources kept)
-from_feeders columns feeders limit more sources kept is few =
-    All-fed_rows sources kept (λ row. row.0 < more)
-    (λ r below. omega (arith, few, All-get_or (λ source. source < feeders) sources r 0 below is.from))
+pub from_feeders : (columns : List NamedColumn) (feeders limit more : ℕ) (row_feeders : List ℕ) (kept : List OffsetColumn) → IsTable columns feeders limit row_feeders kept
+    → feeders ≤ more → AreFrom more (fed_rows row_feeders kept)
+from_feeders columns feeders limit more row_feeders kept is few =
+    All-fed_rows row_feeders kept (λ row. row.0 < more)
+    (λ r below. omega (arith, few, All-get_or (λ feeder. feeder < feeders) row_feeders r 0 below is.from))
 
 -- columns that got the entries of others have their rows more
-pub have_more : (old new others : List OffsetColumn) (sources : List ℕ) → length others ≡ length old → HaveRows others (length sources)
-    → ((k : ℕ) → k < length old → HasMore (kept_at old k) (kept_at new k) (shifted_entries (kept_at others k))) → HaveMore old new (fed_rows sources others)
-have_more old new others sources long even each = λ k within.
+pub have_more : (old new others : List OffsetColumn) (row_feeders : List ℕ) → length others ≡ length old → HaveRows others (length row_feeders)
+    → ((k : ℕ) → k < length old → HasMore (kept_at old k) (kept_at new k) (shifted_entries (kept_at others k))) → HaveMore old new (fed_rows row_feeders others)
+have_more old new others row_feeders long even each = λ k within.
     let there : k < length others = omega (arith, within, long) in
-    subst (HasMore (kept_at old k) (kept_at new k)) (sym (column-fed_rows sources others k there (even k there))) (each k within)
+    subst (HasMore (kept_at old k) (kept_at new k)) (sym (column-fed_rows row_feeders others k there (even k there))) (each k within)

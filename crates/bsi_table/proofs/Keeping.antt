@@ -1,7 +1,7 @@
 -- What the columns of a table keep, through growth, appends and copies.
-use Rattle.std.proofs.Common.{◌≡◌, ℕ, ◌+◌, ◌^◌, ◌<◌, true, ◌&&◌, List, [], ◌∷◌, ◌++◌, All, Option, Some, None, length, map, ℤ, pos, neg_ℤ, ◌+ℤ◌, ◌≤ℤ◌, ◌<ℤ◌, refl, ap, sym, subst, ◌∙◌, arith}
+use Rattle.std.proofs.Common.{◌≡◌, ℕ, ◌+◌, ◌<◌, true, ◌&&◌, List, [], ◌∷◌, ◌++◌, All, Option, Some, None, length, map, ℤ, pos, ◌+ℤ◌, ◌≤ℤ◌, ◌<ℤ◌, refl, ap, sym, subst, ◌∙◌, arith}
 use Rattle.std.specs.Option.{option_map}
-use Rattle.std.specs.Prelude.{int_le, int_lt, slice_index_or, IfSome, IsTrue, OnErr, Result, Ok, Err}
+use Rattle.std.specs.Prelude.{int_le, int_lt, slice_index_or, IsTrue, OnErr, Result, Ok, Err}
 use Rattle.std.proofs.lemmas.Int.{ints}
 use Rattle.std.proofs.lemmas.List.{length-append, length-map}
 use Rattle.std.proofs.lemmas.List.Elements.{All-append, All-cons, All-get_or, All-map, All-nil, All-weaker}
@@ -13,7 +13,7 @@ use Rattle.bsi_schema.specs.declared.form.Form.TheVariants.{Slices, Equality, Ra
 use Rattle.bsi_schema.specs.Columns.{column_at, fits, is_taken_by, size_in, NamedColumn}
 use Rattle.bsi_table.specs.Rows.{column_of, entry_at, Entries, FedRow}
 use Rattle.bsi_table.specs.Table.{kept_at, kept_form, row_in, AreFitting, AreInRange, AreKept, AreI64, HasMore, HaveMore, IsInForm, IsSameColumn, Keeps, TakesRow}
-use Rattle.bsi_schema.proofs.Fitting.{fits-at, fits-each, fits-length}
+use Rattle.bsi_schema.proofs.Fitting.{fits-at, fits-each, fits-length, taken_small, within}
 use Rattle.bsi_table.proofs.TableRows.{entry-row_in}
 
 -- what holds anyway holds after a refusal
@@ -39,10 +39,6 @@ size-kept_form (Range bs) = refl
 -- a column has the size of its form
 pub size-IsInForm : (form : Form) (stored : AnyColumn) → IsInForm form stored → any_size stored ≡ size_in form
 size-IsInForm form stored kept = ap size_in_form kept ∙ size-kept_form form
-
--- two tests of a number
-within : (low x high : ℤ) → int_le low x && int_lt x high ≡ true → (low ≤ℤ x) × (x <ℤ high)
-within low x high both = (grind (arith, ints), grind (arith, ints))
 
 both_so : (low x high : ℤ) → low ≤ℤ x → x <ℤ high → int_le low x && int_lt x high ≡ true
 both_so low x high above below = grind (arith, ints)
@@ -98,13 +94,6 @@ module _ (column : NamedColumn) (old : OffsetColumn) (n : ℕ) (keeps : Keeps co
       (subst (λ size. IsInRange column.offset size (Some x)) (sym (size-IsInForm column.form old.stored keeps.form))
       (within column.offset x (column.offset +ℤ pos (size_in column.form)) taken))
 
-  -- and a number of 64 bits
-  pub taken_small : (entry : Option ℤ) → is_taken_by column entry ≡ true → IfSome entry (λ x. (neg_ℤ (pos (2 ^ 63)) ≤ℤ x) × (x <ℤ pos (2 ^ 63)))
-  taken_small None taken = tt
-  taken_small (Some x) taken =
-      let range = within column.offset x (column.offset +ℤ pos (size_in column.form)) taken in
-      (omega (arith, ints, range.0, keeps.low), omega (arith, ints, range.1, keeps.high))
-
   -- the column takes each entry that it has
   pub taken_at : (r : ℕ) → r < n → is_taken_by column (slice_index_or (shifted_entries old) r None) ≡ true
   taken_at r below = by (slice_index_or (shifted_entries old) r None) (All-get_or (IsInRange old.offset (shifted_size old)) (shifted_entries old) r None (omega (arith, keeps.rows)) keeps.range)
@@ -148,7 +137,8 @@ module _ (columns : List NamedColumn) (kept : List OffsetColumn) (n : ℕ) (are 
     pub row_small : AreI64 kept row
     row_small k within =
         let there : k < length columns = omega (arith, within, are.long) in
-        taken_small (column_at columns k) (kept_at kept k) n (are.each k there) (entry_at row k) (fits-at columns row k fitting there)
+        let keeps = are.each k there in
+        taken_small (column_at columns k) keeps.low keeps.high (entry_at row k) (fits-at columns row k fitting there)
 
     -- the columns take the row
     pub row_taken : TakesRow kept row

@@ -48,51 +48,51 @@ module _ (kept : List OffsetColumn) where
       map_twice (λ row. entry_at row c) (row_in kept) (range_with_len 0 n)
       ∙ sym (fill_by_all (λ r. entry_at (row_in kept r) c) (shifted_entries (kept_at kept c)) n None even (λ r below. sym (entry-row_in c r within)))
 
-module _ (sources : List ℕ) (kept : List OffsetColumn) where
-  pub length-fed_rows : length (fed_rows sources kept) ≡ length sources
+module _ (row_feeders : List ℕ) (kept : List OffsetColumn) where
+  pub length-fed_rows : length (fed_rows row_feeders kept) ≡ length row_feeders
   unfolding fed_rows
-  length-fed_rows = length-map-range_with_len (λ r. (slice_index sources r, row_in kept r)) 0 (length sources)
+  length-fed_rows = length-map-range_with_len (λ r. (slice_index row_feeders r, row_in kept r)) 0 (length row_feeders)
 
-  pub feeders-fed_rows : feeders_of (fed_rows sources kept) ≡ sources
+  pub feeders-fed_rows : feeders_of (fed_rows row_feeders kept) ≡ row_feeders
   unfolding fed_rows
   feeders-fed_rows =
-      map_twice (λ row. row.0) (λ r. (slice_index sources r, row_in kept r)) (range_with_len 0 (length sources))
-      ∙ sym (fill_by_all (λ r. slice_index sources r) sources (length sources) 0 refl (λ r below. refl))
+      map_twice (λ row. row.0) (λ r. (slice_index row_feeders r, row_in kept r)) (range_with_len 0 (length row_feeders))
+      ∙ sym (fill_by_all (λ r. slice_index row_feeders r) row_feeders (length row_feeders) 0 refl (λ r below. refl))
 
   -- the entries of row r
-  pub entries-fed_rows : (r : ℕ) → r < length sources → slice_get (map (λ row. row.1) (fed_rows sources kept)) r ≡ Some (row_in kept r)
+  pub entries-fed_rows : (r : ℕ) → r < length row_feeders → slice_get (map (λ row. row.1) (fed_rows row_feeders kept)) r ≡ Some (row_in kept r)
   unfolding fed_rows
   entries-fed_rows r below =
-      let rows = map (row_in kept) (range_with_len 0 (length sources)) in
-      ap (λ es. slice_get es r) (map_twice (λ row. row.1) (λ r. (slice_index sources r, row_in kept r)) (range_with_len 0 (length sources)))
-      ∙ slice_get-get_or rows r [] (omega (arith, below, length-map-range_with_len (row_in kept) 0 (length sources)))
-      ∙ ap Some (get_or-map-range_with_len (row_in kept) 0 (length sources) r r [] below (omega arith))
+      let rows = map (row_in kept) (range_with_len 0 (length row_feeders)) in
+      ap (λ es. slice_get es r) (map_twice (λ row. row.1) (λ r. (slice_index row_feeders r, row_in kept r)) (range_with_len 0 (length row_feeders)))
+      ∙ slice_get-get_or rows r [] (omega (arith, below, length-map-range_with_len (row_in kept) 0 (length row_feeders)))
+      ∙ ap Some (get_or-map-range_with_len (row_in kept) 0 (length row_feeders) r r [] below (omega arith))
 
   -- a function of the rows' entries
-  pub map-fed_rows : {X : Type 0} (f : Entries → X) → map (λ row. f row.1) (fed_rows sources kept) ≡ map f (rows_in kept (length sources))
+  pub map-fed_rows : {X : Type 0} (f : Entries → X) → map (λ row. f row.1) (fed_rows row_feeders kept) ≡ map f (rows_in kept (length row_feeders))
   unfolding fed_rows rows_in
   map-fed_rows f =
-      map_twice (λ row. f row.1) (λ r. (slice_index sources r, row_in kept r)) (range_with_len 0 (length sources))
-      ∙ sym (map_twice f (row_in kept) (range_with_len 0 (length sources)))
+      map_twice (λ row. f row.1) (λ r. (slice_index row_feeders r, row_in kept r)) (range_with_len 0 (length row_feeders))
+      ∙ sym (map_twice f (row_in kept) (range_with_len 0 (length row_feeders)))
 
   -- entries c of the rows are those of column c
-  pub column-fed_rows : (c : ℕ) → c < length kept → length (shifted_entries (kept_at kept c)) ≡ length sources
-      → column_of (fed_rows sources kept) c ≡ shifted_entries (kept_at kept c)
-  column-fed_rows c within even = map-fed_rows (λ row. entry_at row c) ∙ column-rows_in kept c (length sources) within even
+  pub column-fed_rows : (c : ℕ) → c < length kept → length (shifted_entries (kept_at kept c)) ≡ length row_feeders
+      → column_of (fed_rows row_feeders kept) c ≡ shifted_entries (kept_at kept c)
+  column-fed_rows c within even = map-fed_rows (λ row. entry_at row c) ∙ column-rows_in kept c (length row_feeders) within even
 
-  module _ (pred : Pred) (bits : List Bool) (found : bits ≡ map (λ row. holds pred row.1) (fed_rows sources kept))
-      (even : (k : ℕ) → k < length kept → length (shifted_entries (kept_at kept k)) ≡ length sources) where
+  module _ (pred : Pred) (bits : List Bool) (found : bits ≡ map (λ row. holds pred row.1) (fed_rows row_feeders kept))
+      (even : (k : ℕ) → k < length kept → length (shifted_entries (kept_at kept k)) ≡ length row_feeders) where
     -- a found set has a bit for each row
-    pub length-found : length bits ≡ length sources
-    length-found = ap length found ∙ length-map (fed_rows sources kept) _ ∙ length-fed_rows
+    pub length-found : length bits ≡ length row_feeders
+    length-found = ap length found ∙ length-map (fed_rows row_feeders kept) _ ∙ length-fed_rows
 
     -- so many rows are selected
-    pub count-found : count_by (λ b. b) bits ≡ length (selected pred (fed_rows sources kept))
-    count-found = ap (count_by (λ b. b)) found ∙ sym (length-places (0, []) (λ row. holds pred row.1) (fed_rows sources kept))
+    pub count-found : count_by (λ b. b) bits ≡ length (selected pred (fed_rows row_feeders kept))
+    count-found = ap (count_by (λ b. b)) found ∙ sym (length-places (0, []) (λ row. holds pred row.1) (fed_rows row_feeders kept))
 
     -- at these positions
-    pub set_places-found : set_places bits ≡ selected pred (fed_rows sources kept)
-    set_places-found = ap set_places found ∙ set_places-map (0, []) (λ row. holds pred row.1) (fed_rows sources kept)
+    pub set_places-found : set_places bits ≡ selected pred (fed_rows row_feeders kept)
+    set_places-found = ap set_places found ∙ set_places-map (0, []) (λ row. holds pred row.1) (fed_rows row_feeders kept)
 
     -- column c, as it is read, has an entry for each row
     module _ (c : ℕ) (column : OffsetColumn) (within : c < length kept) (read : column ≡ get_or kept c column) where
@@ -101,10 +101,10 @@ module _ (sources : List ℕ) (kept : List OffsetColumn) where
           ap (λ k. length (shifted_entries k)) (sym (kept_read kept c column within read)) ∙ even c within ∙ sym length-found
 
       -- and its numbers that a found set has are those of the rows that are selected
-      pub values-found : values_at bits (shifted_entries column) ≡ values c pred (fed_rows sources kept)
+      pub values-found : values_at bits (shifted_entries column) ≡ values c pred (fed_rows row_feeders kept)
       values-found =
           ap₂ values_at found (ap shifted_entries (sym (kept_read kept c column within read)) ∙ sym (column-fed_rows c within (even c within)))
-          ∙ values-places (0, []) (λ row. holds pred row.1) (λ row. entry_at row.1 c) (fed_rows sources kept)
+          ∙ values-places (0, []) (λ row. holds pred row.1) (λ row. entry_at row.1 c) (fed_rows row_feeders kept)
 
 -- columns of the same entries show the same rows
 pub rows_in-same : (old new : List OffsetColumn) (r : ℕ) → length new ≡ length old
@@ -115,62 +115,62 @@ rows_in-same old new r long each =
     let there : c < length new = omega (arith, length-map new (λ column. get_or (shifted_entries column) r None)) in
     entry-row_in new c r there ∙ ap (λ es. get_or es r None) (each c (omega arith)) ∙ sym (entry-row_in old c r (omega arith)))
 
-pub fed_rows-same : (sources : List ℕ) (old new : List OffsetColumn) → length new ≡ length old
-    → ((c : ℕ) → c < length old → shifted_entries (kept_at new c) ≡ shifted_entries (kept_at old c)) → fed_rows sources new ≡ fed_rows sources old
+pub fed_rows-same : (row_feeders : List ℕ) (old new : List OffsetColumn) → length new ≡ length old
+    → ((c : ℕ) → c < length old → shifted_entries (kept_at new c) ≡ shifted_entries (kept_at old c)) → fed_rows row_feeders new ≡ fed_rows row_feeders old
 unfolding fed_rows
-fed_rows-same sources old new long each =
-    same_below (0, []) (λ r. (slice_index sources r, row_in new r)) (λ r. (slice_index sources r, row_in old r)) (length sources)
-    (λ r below. ap (λ row. (slice_index sources r, row)) (rows_in-same old new r long each))
+fed_rows-same row_feeders old new long each =
+    same_below (0, []) (λ r. (slice_index row_feeders r, row_in new r)) (λ r. (slice_index row_feeders r, row_in old r)) (length row_feeders)
+    (λ r below. ap (λ row. (slice_index row_feeders r, row)) (rows_in-same old new r long each))
 
 -- a fact of each row, by its feeder and its entries
-pub All-fed_rows : (sources : List ℕ) (kept : List OffsetColumn) (P : FedRow → Type 0)
-    → ((r : ℕ) → r < length sources → P (slice_index sources r, row_in kept r)) → All P (fed_rows sources kept)
+pub All-fed_rows : (row_feeders : List ℕ) (kept : List OffsetColumn) (P : FedRow → Type 0)
+    → ((r : ℕ) → r < length row_feeders → P (slice_index row_feeders r, row_in kept r)) → All P (fed_rows row_feeders kept)
 unfolding fed_rows
-All-fed_rows sources kept P each =
-    let row : ℕ → FedRow = λ r. (slice_index sources r, row_in kept r) in
-    All-from_get_or P (map row (range_with_len 0 (length sources))) (0, [])
+All-fed_rows row_feeders kept P each =
+    let row : ℕ → FedRow = λ r. (slice_index row_feeders r, row_in kept r) in
+    All-from_get_or P (map row (range_with_len 0 (length row_feeders))) (0, [])
     (λ r below.
-    let there : r < length sources = omega (arith, below, length-map-range_with_len row 0 (length sources)) in
-    subst P (sym (get_or-map-range_with_len row 0 (length sources) r r (0, []) there (omega arith))) (each r there))
+    let there : r < length row_feeders = omega (arith, below, length-map-range_with_len row 0 (length row_feeders)) in
+    subst P (sym (get_or-map-range_with_len row 0 (length row_feeders) r r (0, []) there (omega arith))) (each r there))
 
 -- before the first there is none
-pub fed_rows-none : (sources : List ℕ) (kept : List OffsetColumn) → sources ≡ [] → fed_rows sources kept ≡ []
+pub fed_rows-none : (row_feeders : List ℕ) (kept : List OffsetColumn) → row_feeders ≡ [] → fed_rows row_feeders kept ≡ []
 unfolding fed_rows
-fed_rows-none sources kept none = ap (λ xs. fed_rows xs kept) none
+fed_rows-none row_feeders kept none = ap (λ xs. fed_rows xs kept) none
 
 -- and with more entries in each column, more rows
-pub fed_rows-more : (sources : List ℕ) (old new : List OffsetColumn) (rows : List FedRow) → length new ≡ length old
+pub fed_rows-more : (row_feeders : List ℕ) (old new : List OffsetColumn) (rows : List FedRow) → length new ≡ length old
     → All (λ row. length row.1 ≡ length old) rows
-    → ((c : ℕ) → c < length old → length (shifted_entries (kept_at old c)) ≡ length sources)
+    → ((c : ℕ) → c < length old → length (shifted_entries (kept_at old c)) ≡ length row_feeders)
     → HaveMore old new rows
-    → fed_rows (sources ++ feeders_of rows) new ≡ fed_rows sources old ++ rows
+    → fed_rows (row_feeders ++ feeders_of rows) new ≡ fed_rows row_feeders old ++ rows
 unfolding fed_rows
-fed_rows-more sources old new rows long wide even more =
-    sym (fill_by_all now (map then (range_with_len 0 (length sources)) ++ rows) (length (sources ++ feeders_of rows)) (0, []) longer
-    (λ r below. at r (omega (arith, below, all)) (nat_lt r (length sources)) refl))
+fed_rows-more row_feeders old new rows long wide even more =
+    sym (fill_by_all now (map then (range_with_len 0 (length row_feeders)) ++ rows) (length (row_feeders ++ feeders_of rows)) (0, []) longer
+    (λ r below. at r (omega (arith, below, all)) (nat_lt r (length row_feeders)) refl))
   where
     then : ℕ → FedRow
-    then r = (slice_index sources r, row_in old r)
+    then r = (slice_index row_feeders r, row_in old r)
 
     now : ℕ → FedRow
-    now r = (slice_index (sources ++ feeders_of rows) r, row_in new r)
+    now r = (slice_index (row_feeders ++ feeders_of rows) r, row_in new r)
 
     pair : ℕ → Entries → FedRow
     pair s entries = (s, entries)
 
-    before : length (map then (range_with_len 0 (length sources))) ≡ length sources
-    before = length-map-range_with_len then 0 (length sources)
+    before : length (map then (range_with_len 0 (length row_feeders))) ≡ length row_feeders
+    before = length-map-range_with_len then 0 (length row_feeders)
 
-    all : length (sources ++ feeders_of rows) ≡ length sources + length rows
-    all = length-append sources (feeders_of rows) ∙ ap (λ n. length sources + n) (length-map rows (λ row. row.0))
+    all : length (row_feeders ++ feeders_of rows) ≡ length row_feeders + length rows
+    all = length-append row_feeders (feeders_of rows) ∙ ap (λ n. length row_feeders + n) (length-map rows (λ row. row.0))
 
-    longer : length (map then (range_with_len 0 (length sources)) ++ rows) ≡ length (sources ++ feeders_of rows)
-    longer = length-append (map then (range_with_len 0 (length sources))) rows ∙ ap (λ n. n + length rows) before ∙ sym all
+    longer : length (map then (range_with_len 0 (length row_feeders)) ++ rows) ≡ length (row_feeders ++ feeders_of rows)
+    longer = length-append (map then (range_with_len 0 (length row_feeders))) rows ∙ ap (λ n. n + length rows) before ∙ sym all
 
     entry_then : (c r : ℕ) → c < length old → entry_at (row_in new r) c ≡ get_or (shifted_entries (kept_at old c) ++ column_of rows c) r None
     entry_then c r below = entry-row_in new c r (omega arith) ∙ ap (λ es. get_or es r None) (more c below).entries
 
-    earlier : (r : ℕ) → r < length sources → row_in new r ≡ row_in old r
+    earlier : (r : ℕ) → r < length row_feeders → row_in new r ≡ row_in old r
     earlier r first =
         ext_get_or None (row_in new r) (row_in old r) (length-map new _ ∙ long ∙ sym (length-map old _))
         (λ c below.
@@ -179,31 +179,31 @@ fed_rows-more sources old new rows long wide even more =
         ∙ get_or_append_left (shifted_entries (kept_at old c)) (column_of rows c) None r (omega (arith, even c there))
         ∙ sym (entry-row_in old c r there))
 
-    later : (j : ℕ) → j < length rows → row_in new (length sources + j) ≡ (row_at rows j).1
+    later : (j : ℕ) → j < length rows → row_in new (length row_feeders + j) ≡ (row_at rows j).1
     later j within =
         let row_wide : length (row_at rows j).1 ≡ length old = All-get_or (λ row. length row.1 ≡ length old) rows j (0, []) within wide in
-        ext_get_or None (row_in new (length sources + j)) (row_at rows j).1 (length-map new _ ∙ long ∙ sym row_wide)
+        ext_get_or None (row_in new (length row_feeders + j)) (row_at rows j).1 (length-map new _ ∙ long ∙ sym row_wide)
         (λ c below.
-        let there : c < length old = omega (arith, length-map new (λ column. get_or (shifted_entries column) (length sources + j) None)) in
-        entry_then c (length sources + j) there
+        let there : c < length old = omega (arith, length-map new (λ column. get_or (shifted_entries column) (length row_feeders + j) None)) in
+        entry_then c (length row_feeders + j) there
         ∙ ap (λ n. get_or (shifted_entries (kept_at old c) ++ column_of rows c) (n + j) None) (sym (even c there))
         ∙ get_or-append-add (shifted_entries (kept_at old c)) (column_of rows c) j None
         ∙ get_or-map (λ row. entry_at row.1 c) rows j (0, []) None within)
 
-    at : (r : ℕ) → r < length sources + length rows → (b : Bool) → nat_lt r (length sources) ≡ b
-        → get_or (map then (range_with_len 0 (length sources)) ++ rows) r (0, []) ≡ now r
+    at : (r : ℕ) → r < length row_feeders + length rows → (b : Bool) → nat_lt r (length row_feeders) ≡ b
+        → get_or (map then (range_with_len 0 (length row_feeders)) ++ rows) r (0, []) ≡ now r
     at r within true is =
-        let first : r < length sources = grind (arith, nat_tests) in
-        get_or_append_left (map then (range_with_len 0 (length sources))) rows (0, []) r (omega (arith, before, first))
-        ∙ get_or-map-range_with_len then 0 (length sources) r r (0, []) first (omega arith)
-        ∙ ap₂ pair (sym (get_or_append_left sources (feeders_of rows) 0 r first)) (sym (earlier r first))
+        let first : r < length row_feeders = grind (arith, nat_tests) in
+        get_or_append_left (map then (range_with_len 0 (length row_feeders))) rows (0, []) r (omega (arith, before, first))
+        ∙ get_or-map-range_with_len then 0 (length row_feeders) r r (0, []) first (omega arith)
+        ∙ ap₂ pair (sym (get_or_append_left row_feeders (feeders_of rows) 0 r first)) (sym (earlier r first))
     at r within false is =
-        let past : length sources ≤ r = grind (arith, nat_tests) in
-        let j = r - length sources in
-        let is_j : r ≡ length sources + j = omega (arith, past) in
+        let past : length row_feeders ≤ r = grind (arith, nat_tests) in
+        let j = r - length row_feeders in
+        let is_j : r ≡ length row_feeders + j = omega (arith, past) in
         let here : j < length rows = omega (arith, within, past) in
-        ap (λ n. get_or (map then (range_with_len 0 (length sources)) ++ rows) n (0, [])) (is_j ∙ ap (λ n. n + j) (sym before))
-        ∙ get_or-append-add (map then (range_with_len 0 (length sources))) rows j (0, [])
+        ap (λ n. get_or (map then (range_with_len 0 (length row_feeders)) ++ rows) n (0, [])) (is_j ∙ ap (λ n. n + j) (sym before))
+        ∙ get_or-append-add (map then (range_with_len 0 (length row_feeders))) rows j (0, [])
         ∙ ap₂ pair
-        (sym (get_or-map (λ row. row.0) rows j (0, []) 0 here) ∙ sym (get_or-append-add sources (feeders_of rows) j 0) ∙ ap (λ n. get_or (sources ++ feeders_of rows) n 0) (sym is_j))
+        (sym (get_or-map (λ row. row.0) rows j (0, []) 0 here) ∙ sym (get_or-append-add row_feeders (feeders_of rows) j 0) ∙ ap (λ n. get_or (row_feeders ++ feeders_of rows) n 0) (sym is_j))
         (sym (later j here) ∙ ap (row_in new) (sym is_j))

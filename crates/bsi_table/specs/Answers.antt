@@ -12,7 +12,7 @@ use Rattle.bsi_table.specs.declared.query.Query.{Query}
 use Rattle.bsi_table.specs.declared.query.Total.{Total}
 use Rattle.bsi_table.specs.declared.query.Total.TheVariants.{Count, Sum, Least, Greatest, Median, Rows}
 use Rattle.bsi_schema.specs.Columns.{Declared}
-use Rattle.bsi_table.specs.Rows.{FedRow, feeders_of, holds, selected, values}
+use Rattle.bsi_table.specs.Rows.{FedRow, feeders_of, holds, row_entries, selected, values}
 
 -- the answer is a number or none, and this is so of it
 abbrev pub IsValue : (Option ℤ → Type 0) → Answer → Type 0
@@ -35,15 +35,6 @@ IsTotal Rows pred rows answer = IsRows (numbered_at (feeders_of rows) (selected 
 
 abbrev pub IsAnswer : Query → List FedRow → Answer → Type 0
 IsAnswer query rows answer = IsTotal query.total query.pred rows answer
-
--- the total is answered without memory
-abbrev pub NeedsNoMemory : Total → Type 0
-NeedsNoMemory Count = Unit {0}
-NeedsNoMemory (Sum c) = Unit {0}
-NeedsNoMemory (Least c) = ⊥
-NeedsNoMemory (Greatest c) = ⊥
-NeedsNoMemory (Median c) = ⊥
-NeedsNoMemory Rows = ⊥
 
 -- the predicate has no `or` and no `not`
 abbrev pub IsConjunction : Pred → Type 0
@@ -96,10 +87,10 @@ IsReply schema rows query (Ok answer) =
 IsReply schema rows query (Err (BadColumn c)) = missing_column (length schema.columns) query ≡ Some c
 IsReply schema rows query (Err NoMemory) = missing_column (length schema.columns) query ≡ None
 
--- the reply to a predicate: for each row whether it holds of it, else the first column that is not there, or that memory
--- was refused
+-- the reply to a predicate: for each row whether it holds of it, else the first column that is not there, or that
+-- memory was refused
 abbrev pub IsSelection : Declared → List FedRow → Pred → Result BitList AskError → Type 0
 IsSelection schema rows pred (Ok found) =
-    (missing_of (length schema.columns) (columns_of_pred pred) ≡ None) × (found.bits ≡ map (λ row. holds pred row.1) rows)
+    (missing_of (length schema.columns) (columns_of_pred pred) ≡ None) × (found.bits ≡ map (λ row. holds pred (row_entries row)) rows)
 IsSelection schema rows pred (Err (BadColumn c)) = missing_of (length schema.columns) (columns_of_pred pred) ≡ Some c
 IsSelection schema rows pred (Err NoMemory) = missing_of (length schema.columns) (columns_of_pred pred) ≡ None

@@ -1,8 +1,8 @@
 pub mod Answers
-pub mod Blocks
 pub mod Refusals
 pub mod RowBlocks
 pub mod Rows
+pub mod Spans
 pub mod Table
 pub use Rattle.bsi_origins.specs.Numbering
 pub use Rattle.bsi_schema.specs.Columns

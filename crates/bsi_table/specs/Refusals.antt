@@ -8,7 +8,7 @@ use Rattle.bsi_schema.specs.Columns.{Declared}
 use Rattle.bsi_table.specs.Table.{max_rows, Table}
 pub use Rattle.bsi_schema.specs.Refusals.{column_refusal, form_refusal, name_refusal, signed_refusal, IsFirstOr}
 
--- of an index of this schema with this row limit
+-- of an index of this schema with this limit
 abbrev pub index_refusal : Declared → ℕ → Option IndexError
 index_refusal schema limit =
     if nat_eq (length schema.columns) 0 then Some NoColumns

@@ -9,9 +9,17 @@ use Rattle.bsi_table.specs.declared.query.Pred.{Pred, All, Compare, Null, Both',
 abbrev pub FedRow : Type 0
 FedRow = ℕ × Entries
 
+-- the feeder of a row
+abbrev pub row_feeder : FedRow → ℕ
+row_feeder row = row.0
+
+-- the entries of a row
+abbrev pub row_entries : FedRow → Entries
+row_entries row = row.1
+
 -- the feeders of rows
 abbrev pub feeders_of : List FedRow → List ℕ
-feeders_of rows = map (λ row. row.0) rows
+feeders_of rows = map (λ row. row_feeder row) rows
 
 -- the row at position r
 abbrev pub row_at : List FedRow → ℕ → FedRow
@@ -19,7 +27,7 @@ row_at rows r = slice_index_or rows r (0, [])
 
 -- the entries of column c, in order of the rows
 abbrev pub column_of : List FedRow → ℕ → Entries
-column_of rows c = map (λ row. entry_at row.1 c) rows
+column_of rows c = map (λ row. entry_at (row_entries row) c) rows
 
 -- the predicate holds of a row; a comparison holds of no null
 abbrev pub holds : Pred → Entries → Bool
@@ -32,8 +40,8 @@ holds (Not' p pred) row = not (holds pred row)
 
 -- the positions of the rows that a predicate selects, rising
 abbrev pub selected : Pred → List FedRow → List ℕ
-selected pred rows = filter (λ r. holds pred (row_at rows r).1) (range_with_len 0 (length rows))
+selected pred rows = filter (λ r. holds pred (row_entries (row_at rows r))) (range_with_len 0 (length rows))
 
 -- the numbers of column c in the rows that a predicate selects, in order; a null is none
 abbrev pub values : ℕ → Pred → List FedRow → List ℤ
-values c pred rows = filter_map (λ r. entry_at (row_at rows r).1 c) (selected pred rows)
+values c pred rows = filter_map (λ r. entry_at (row_entries (row_at rows r)) c) (selected pred rows)

@@ -1,8 +1,9 @@
 -- A table, and the columns that keep its rows.
-use Rattle.std.specs.Prelude.{◌≡◌, ℕ, ◌^◌, ◌<◌, ◌≤◌, List, [], ◌∷◌, ◌++◌, Option, None, All, length, map, slice_index, slice_index_or, ℤ, pos, neg_ℤ, ◌+ℤ◌, ◌≤ℤ◌, ◌<ℤ◌, IfSome, IsTrue}
+use Rattle.std.specs.Prelude.{◌≡◌, ℕ, ◌^◌, ◌<◌, ◌≤◌, List, [], ◌∷◌, ◌++◌, Option, None, All, length, map, slice_index, slice_index_or, ℤ, pos, ◌+ℤ◌, ◌≤ℤ◌, IsTrue}
 use Rattle.std.specs.List.{range_with_len}
 pub use Rattle.bsi_origins.specs.Origins.{max_feeders}
 use Rattle.bsi_digits.specs.Digits.{max_end}
+use Rattle.bsi_digits.specs.Signed.{least_i64, IsI64}
 use Rattle.bsi_bits.specs.BitList.{max_len}
 use Rattle.bsi_columns.specs.declared.any.AnyColumn.{AnyColumn}
 use Rattle.bsi_columns.specs.declared.any.AnyColumn.TheVariants.{Slices as kept_slices}
@@ -11,11 +12,15 @@ use Rattle.bsi_shift.specs.Shifted.{shifted_entries, shifted_room, shifted_size,
 use Rattle.bsi_schema.specs.declared.form.Form.{Form}
 use Rattle.bsi_schema.specs.declared.form.Form.TheVariants.{Slices, Equality, Range}
 use Rattle.bsi_schema.specs.Columns.{column_at, fits, size_in, Declared, NamedColumn}
-use Rattle.bsi_table.specs.Rows.{column_of, entry_at, Entries, FedRow}
+use Rattle.bsi_table.specs.Rows.{column_of, entry_at, row_entries, row_feeder, Entries, FedRow}
 
 -- at most so many rows of an index
 abbrev pub max_rows : ℕ
 max_rows = max_len
+
+-- what each number of 32 bits is below
+abbrev pub end_of_u32 : ℕ
+end_of_u32 = 2 ^ 32
 
 -- what a contract sees of an index: its schema, how many feeders there are, the most rows, and the rows
 pub record Table : Type 0 where
@@ -30,21 +35,21 @@ table schema feeders limit rows = record { schema = schema; feeders = feeders; l
 abbrev pub no_rows : Declared → ℕ → ℕ → Table
 no_rows schema feeders limit = table schema feeders limit []
 
--- one more row stands last
-abbrev pub with_row : Table → ℕ → Entries → Table
-with_row table feeder row = record table { rows = table.rows ++ (feeder, row) ∷ [] }
-
 -- these rows stand last, in their order
 abbrev pub with_rows : Table → List FedRow → Table
 with_rows table rows = record table { rows = table.rows ++ rows }
 
+-- one more row stands last
+abbrev pub with_row : Table → ℕ → Entries → Table
+with_row table feeder row = with_rows table ((feeder, row) ∷ [])
+
 -- each row fits the columns
 abbrev pub AreFitting : List NamedColumn → List FedRow → Type 0
-AreFitting columns rows = All (λ row. IsTrue (fits columns row.1)) rows
+AreFitting columns rows = All (λ row. IsTrue (fits columns (row_entries row))) rows
 
 -- each row came from one of the first so many feeders
 abbrev pub AreFrom : ℕ → List FedRow → Type 0
-AreFrom feeders rows = All (λ row. row.0 < feeders) rows
+AreFrom feeders rows = All (λ row. row_feeder row < feeders) rows
 
 -- the form that a column of a schema's form is kept in
 abbrev pub kept_form : Form → AnyForm
@@ -81,11 +86,7 @@ rows_in kept n = map (row_in kept) (range_with_len 0 n)
 
 -- the rows of kept columns, of which the r-th came from the r-th of these feeders
 unfoldable pub fed_rows : List ℕ → List OffsetColumn → List FedRow
-fed_rows sources kept = map (λ r. (slice_index sources r, row_in kept r)) (range_with_len 0 (length sources))
-
--- the least number of 64 bits
-abbrev pub least_i64 : ℤ
-least_i64 = neg_ℤ (pos (2 ^ 63))
+fed_rows row_feeders kept = map (λ r. (slice_index row_feeders r, row_in kept r)) (range_with_len 0 (length row_feeders))
 
 -- a column of a schema is kept so, with n rows; each of its numbers is one of 64 bits
 pub record Keeps (column : NamedColumn) (kept : OffsetColumn) (n : ℕ) : Type 0 where
@@ -102,12 +103,12 @@ pub record AreKept (columns : List NamedColumn) (kept : List OffsetColumn) (n : 
   pub each : (c : ℕ) → c < length columns → Keeps (column_at columns c) (kept_at kept c) n
 
 -- a table keeps its rows so: the feeder of each, and the columns
-pub record IsTable (columns : List NamedColumn) (feeders limit : ℕ) (sources : List ℕ) (kept : List OffsetColumn)
+pub record IsTable (columns : List NamedColumn) (feeders limit : ℕ) (row_feeders : List ℕ) (kept : List OffsetColumn)
     : Type 0 where
-  pub columns_are : AreKept columns kept (length sources)
+  pub columns_are : AreKept columns kept (length row_feeders)
   pub few : feeders ≤ max_feeders
-  pub from : All (λ source. source < feeders) sources
-  pub within : length sources ≤ limit
+  pub from : All (λ feeder. feeder < feeders) row_feeders
+  pub within : length row_feeders ≤ limit
   pub small : limit ≤ max_rows
 
 -- a column has the entries, the offset and the form of another
@@ -136,10 +137,6 @@ HaveRoom kept n more = (k : ℕ) → k < n → more ≤ shifted_room (kept_at ke
 abbrev pub AreInRange : List OffsetColumn → Entries → Type 0
 AreInRange kept row =
     (k : ℕ) → k < length kept → IsInRange (kept_at kept k).offset (shifted_size (kept_at kept k)) (entry_at row k)
-
--- an entry is a null or a number of 64 bits
-abbrev pub IsI64 : Option ℤ → Type 0
-IsI64 entry = IfSome entry (λ x. (least_i64 ≤ℤ x) × (x <ℤ pos (2 ^ 63)))
 
 -- each column's entry of a row is a null or a number of 64 bits
 abbrev pub AreI64 : List OffsetColumn → Entries → Type 0

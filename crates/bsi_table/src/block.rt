@@ -6,16 +6,15 @@
 //! A block carries the feeder of each row, so one block serves all feeders. It holds its schema by an `Arc`, where a
 //! ghost snapshot would do for the proofs: what has a snapshot can't be shown to go to another thread.
 
-ghost use Rattle.std.specs.Prelude.{◌≡◌, ◌≢◌, ◌↔◌, [], ℕ, ◌+◌, ◌*◌, ◌<◌, ◌≤◌, ◌+ℤ◌, ◌≤ℤ◌, None, Some, IfOk, IsTrue, length, pos, slice_get, slice_index_or, true, false};
-ghost use Rattle.bsi_digits.specs.Digits.{max_end};
-ghost use Rattle.bsi_schema.specs.Columns.{entry_at, fits, is_between};
-ghost use Rattle.bsi_schema.specs.declared.limits.Limits.{Limits};
-ghost use Rattle.bsi_table.specs.RowBlocks.{emptied_block, entries_of, max_block_rows, no_block_rows, placed_row, with_block_row, AreAlike};
+ghost use Rattle.std.specs.Prelude.{◌≡◌, ◌≢◌, ◌↔◌, [], ℕ, ◌+◌, ◌*◌, ◌<◌, ◌≤◌, None, Some, IfOk, IsTrue, length, slice_get, slice_index_or, true, false};
+ghost use Rattle.bsi_digits.specs.Signed.{IsI64};
+ghost use Rattle.bsi_schema.specs.Columns.{entry_at, fits};
+ghost use Rattle.bsi_table.specs.RowBlocks.{emptied_block, entries_of, max_block_rows, no_block_rows, placed_row, with_block_row, HaveSameLimits};
 ghost use Rattle.bsi_table.specs.Rows.{column_of, feeders_of};
 ghost use Rattle.bsi_table.specs.Table.{AreFitting, AreFrom};
 
 use crate::{NoMemory, Row, Schema};
-use bsi_schema::{Limits, are_same, take_each};
+use bsi_schema::{Limits, have_same_limits, take_each, to_i64};
 use std::alloc::Global;
 use std::marker::Model;
 use std::sync::Arc;
@@ -24,14 +23,15 @@ use std::sync::Arc;
 pub const MAX_BLOCK_ROWS: usize = 64;
 
 /// At most 64 rows that fit a schema, each from one of so many feeders. A row is tested once, as it is added. Filling
-/// the block again takes no memory. It takes 16 bytes for each of the 64 rows and each column.
+/// the block again takes no memory. For each of the 64 rows it takes 16 bytes a column, and 4 bytes for its feeder.
 #[derive(Drop)]
 pub struct Block {
     schema: Arc<Schema, Global>,
+    // What each column takes, beside the shared schema, so that a row is tested without it.
     limits: Vec<Limits>,
     feeders: u32,
     // The feeder of each row.
-    sources: Vec<u32>,
+    row_feeders: Vec<u32>,
     places: Vec<Option<i64>>,
 }
 
@@ -42,10 +42,10 @@ impl Model for Block {
 
     ghost Value = { RowBlock };
 
-    ghost view = { λ b. block_view b.schema.value b.feeders b.sources.items b.places.items };
+    ghost view = { λ b. block_view b.schema.value b.feeders b.row_feeders.items b.places.items };
 
-    ghost invariant = { λ b. IsBlock b.schema.value.columns b.limits.items b.feeders b.sources.items
-        b.places.items × (max_block_rows ≤ vec_capacity b.sources) };
+    ghost invariant = { λ b. IsBlock b.schema.value.columns b.limits.items b.feeders b.row_feeders.items
+        b.places.items × (max_block_rows ≤ vec_capacity b.row_feeders) };
 }
 
 impl Block {
@@ -55,13 +55,13 @@ impl Block {
     {
         let shared = Arc::try_clone(schema)?;
         let limits = Vec::from_slice(alloc, schema.limits())?;
-        let sources = Vec::with_capacity(alloc, MAX_BLOCK_ROWS)?;
+        let row_feeders = Vec::with_capacity(alloc, MAX_BLOCK_ROWS)?;
         let places = vec![in alloc; None; MAX_BLOCK_ROWS * schema.columns() as usize]?;
         Ok(Block {
             schema: shared,
             limits,
             feeders,
-            sources,
+            row_feeders,
             places,
         })
     }
@@ -73,7 +73,7 @@ impl Block {
         ensures fitting { AreFitting self.now.schema.columns self.now.rows }
         ensures from { AreFrom self.now.feeders self.now.rows }
     {
-        self.sources.len()
+        self.row_feeders.len()
     }
 
     /// Returns whether there is no row.
@@ -95,7 +95,7 @@ impl Block {
     pub fn clear(&mut self)
         ensures { self.new ≡ emptied_block self.old }
     {
-        self.sources.clear();
+        self.row_feeders.clear();
     }
 
     /// Adds a row of a feeder after the others, and returns whether it fits. If it does not, the block stays.
@@ -109,9 +109,9 @@ impl Block {
         if !take_each(&self.limits, row) {
             return false;
         }
-        let at = self.sources.len();
-        write_row(&self.limits, row.values(), at, &mut self.places);
-        self.sources.push_reserved(feeder);
+        let at = self.row_feeders.len();
+        write_row(row.values(), at, &mut self.places);
+        self.row_feeders.push_reserved(feeder);
         true
     }
 
@@ -122,18 +122,18 @@ impl Block {
         requires fits { IsTrue (fits self.old.schema.columns entries.now) }
         ensures { self.new ≡ with_block_row self.old feeder entries.now }
     {
-        let at = self.sources.len();
+        let at = self.row_feeders.len();
         write_entries(entries, at, &mut self.places);
-        self.sources.push_reserved(feeder);
+        self.row_feeders.push_reserved(feeder);
     }
 
     /// Returns whether the columns of a schema take the same numbers as those that the block was made for. It takes no
     /// memory.
     pub fn has_limits_of(&self, schema: &Schema) -> bool
-        ensures alike { IsTrue result ↔ AreAlike self.now.schema schema.now }
+        ensures alike { IsTrue result ↔ HaveSameLimits self.now.schema schema.now }
         ensures fits { IsTrue result → AreFitting schema.now.columns self.now.rows }
     {
-        are_same(&self.limits, schema.limits())
+        have_same_limits(&self.limits, schema.limits())
     }
 
     /// Makes row `r`, counted from 0, as a row of its own.
@@ -146,10 +146,10 @@ impl Block {
     }
 
     /// Lends the feeder of each row.
-    pub(crate) fn sources(&self) -> &[u32]
+    pub(crate) fn row_feeders(&self) -> &[u32]
         ensures { result.now ≡ feeders_of self.now.rows }
     {
-        &self.sources
+        &self.row_feeders
     }
 
     /// Lends the entries of column `c`, in order of the rows.
@@ -158,32 +158,26 @@ impl Block {
         ensures entries { result.now ≡ column_of self.now.rows c }
         ensures few { length result.now ≤ max_block_rows }
     {
-        let rows = self.sources.len();
+        let rows = self.row_feeders.len();
         let first = MAX_BLOCK_ROWS * c;
         &self.places[first..first + rows]
     }
 }
 
 /// Writes the entries of a row that fits, each into place `at` of its column's.
-fn write_row(limits: &[Limits], values: &[Option<i128>], at: usize, places: &mut Vec<Option<i64>>)
+fn write_row(values: &[Option<i128>], at: usize, places: &mut Vec<Option<i64>>)
     requires at { at < max_block_rows }
-    requires long { length places.old.items ≡ max_block_rows * length limits.now }
-    requires wide { length values.now ≡ length limits.now }
-    requires below { (c : ℕ) (d : Limits) → c < length limits.now →
-        ((slice_index_or limits.now c d).least +ℤ pos (slice_index_or limits.now c d).size)
-        ≤ℤ pos max_end }
-    requires taken { (c : ℕ) (d : Limits) → c < length limits.now →
-        is_between (slice_index_or limits.now c d).least (slice_index_or limits.now c d).size
-        (entry_at values.now c) ≡ true }
+    requires long { length places.old.items ≡ max_block_rows * length values.now }
+    requires small { (c : ℕ) → c < length values.now → IsI64 (entry_at values.now c) }
     ensures long { length places.new.items ≡ length places.old.items }
     ensures others { (c r : ℕ) → r < max_block_rows → r ≢ at →
         slice_index_or places.new.items (max_block_rows * c + r) None
         ≡ slice_index_or places.old.items (max_block_rows * c + r) None }
-    ensures row { (c : ℕ) → c < length limits.now →
+    ensures row { (c : ℕ) → c < length values.now →
         slice_index_or places.new.items (max_block_rows * c + at) None ≡ entry_at values.now c }
 {
-    'columns: for c in 0..limits.len() {
-        places[MAX_BLOCK_ROWS * c + at] = limits[c].narrow(values[c]);
+    'columns: for (c, value) in values.iter().enumerate() {
+        places[MAX_BLOCK_ROWS * c + at] = to_i64(*value);
     }
 }
 
@@ -216,7 +210,7 @@ fn read_entries(
 {
     let mut values = Vec::with_capacity(alloc, columns)?;
     'columns: for c in 0..columns {
-        values.push(to_i128(places[MAX_BLOCK_ROWS * c + at]))?;
+        values.push_reserved(to_i128(places[MAX_BLOCK_ROWS * c + at]));
     }
     Ok(values)
 }

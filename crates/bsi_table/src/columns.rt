@@ -1,4 +1,4 @@
-//! The columns of a table, side by side: each call is made on each of them.
+//! The columns of an index, side by side: each call is made on each of them.
 //!
 //! A block of rows goes in column by column. All columns and the list of feeders grow before the first is changed.
 
@@ -8,11 +8,13 @@ ghost use Rattle.bsi_bits.specs.BitList.{max_len};
 ghost use Rattle.bsi_columns.specs.AnyRows.{any_entries};
 ghost use Rattle.bsi_shift.specs.Shifted.{shifted_entries, shifted_room};
 ghost use Rattle.bsi_schema.specs.Columns.{column_at, IsForm};
-ghost use Rattle.bsi_table.specs.Table.{kept_at, AreAlikeColumns, AreInRange, AreKept, AreI64, AreSameColumns, HasMore, HaveMore, HaveOneMore, HaveRoom, HaveRows, IsInForm, IsI64, Keeps, TakesRow, row_in};
+ghost use Rattle.bsi_table.specs.Rows.{row_entries};
+ghost use Rattle.bsi_table.specs.Table.{kept_at, AreAlikeColumns, AreInRange, AreKept, AreI64, AreSameColumns, HasMore, HaveMore, HaveOneMore, HaveRoom, HaveRows, IsInForm, Keeps, TakesRow, row_in};
 
 use crate::{Block, Form, NoMemory, Schema};
 use bsi_bits::Bits;
 use bsi_columns::{AnyColumn, Decomposed, Slices};
+use bsi_schema::to_i64;
 use bsi_shift::Shifted;
 use std::alloc::Global;
 
@@ -22,7 +24,7 @@ pub(crate) fn make_each(alloc: Global, schema: &Schema) -> Result<Vec<Shifted>, 
 {
     let mut made = Vec::with_capacity(alloc, schema.columns() as usize)?;
     'columns: for c in 0..schema.columns() {
-        made.push(make_one(alloc, schema, c)?)?;
+        made.push_reserved(make_one(alloc, schema, c)?);
     }
     Ok(made)
 }
@@ -85,8 +87,8 @@ pub(crate) fn push_each(columns: &mut [Shifted], values: &[Option<i128>])
     requires small { AreI64 columns.old values.now }
     ensures { HaveOneMore columns.old columns.new values.now }
 {
-    'columns: for c in 0..columns.len() {
-        columns[c].push_reserved(to_i64(values[c]));
+    'columns: for (c, value) in values.iter().enumerate() {
+        columns[c].push_reserved(to_i64(*value));
     }
 }
 
@@ -94,7 +96,7 @@ pub(crate) fn push_each(columns: &mut [Shifted], values: &[Option<i128>])
 pub(crate) fn push_block_each(columns: &mut [Shifted], block: &Block)
     requires wide { length columns.old ≡ length block.now.schema.columns }
     requires room { HaveRoom columns.old (length columns.old) (length block.now.rows) }
-    requires taken { All (λ row. TakesRow columns.old row.1) block.now.rows }
+    requires taken { All (λ row. TakesRow columns.old (row_entries row)) block.now.rows }
     ensures { HaveMore columns.old columns.new block.now.rows }
 {
     'columns: for c in 0..columns.len() {
@@ -113,13 +115,13 @@ pub(crate) fn push_all_each(columns: &mut [Shifted], others: &[Shifted])
         HasMore (kept_at columns.old k) (kept_at columns.new k)
         (shifted_entries (kept_at others.now k)) }
 {
-    'columns: for c in 0..columns.len() {
-        columns[c].push_all_reserved(&others[c]);
+    'columns: for (c, other) in others.iter().enumerate() {
+        columns[c].push_all_reserved(other);
     }
 }
 
 /// Returns whether two lists have as many columns, each kept like the other list's.
-pub(crate) fn are_alike(columns: &[Shifted], others: &[Shifted]) -> bool
+pub(crate) fn are_kept_alike(columns: &[Shifted], others: &[Shifted]) -> bool
     ensures long { result ≡ true → length others.now ≡ length columns.now }
     ensures alike { result ≡ true → AreAlikeColumns columns.now others.now }
     ensures all { length others.now ≡ length columns.now → AreAlikeColumns columns.now others.now →
@@ -132,15 +134,6 @@ pub(crate) fn are_alike(columns: &[Shifted], others: &[Shifted]) -> bool
             .all(|(column, other)| column.is_alike(other))
 }
 
-/// Returns the same entry, as a number of 64 bits.
-fn to_i64(entry: Option<i128>) -> Option<i64>
-    requires { IsI64 entry }
-    ensures { result ≡ entry }
-{
-    let number = entry?;
-    Some(number as i64)
-}
-
 /// Makes a second list of the same columns.
 pub(crate) fn copy_each(alloc: Global, columns: &[Shifted]) -> Result<Vec<Shifted>, NoMemory>
     ensures long { IfOk result (λ copied. length copied.items ≡ length columns.now) }
@@ -148,7 +141,7 @@ pub(crate) fn copy_each(alloc: Global, columns: &[Shifted]) -> Result<Vec<Shifte
 {
     let mut copied = Vec::with_capacity(alloc, columns.len())?;
     'columns: for column in columns {
-        copied.push(column.copy()?)?;
+        copied.push_reserved(column.copy()?);
     }
     Ok(copied)
 }
@@ -180,7 +173,7 @@ pub(crate) fn read_row(
 {
     let mut row = Vec::with_capacity(alloc, columns.len())?;
     'columns: for column in columns {
-        row.push(read_entry(column, r, only))?;
+        row.push_reserved(read_entry(column, r, only));
     }
     Ok(row)
 }

@@ -1,11 +1,11 @@
-//! The growth of an index: the columns take the entries of further rows, and the origins their feeders. Rows go out all at
-//! once.
+//! The growth of an index: the columns take the entries of further rows, and the origins their feeders. Rows go out all
+//! at once.
 
 ghost use Rattle.std.specs.Prelude.{◌≡◌, ℕ, ◌+◌, ◌<◌, ◌≤◌, ◌++◌, ◌∷◌, [], All, length, replicate, OnOk};
 ghost use Rattle.bsi_origins.specs.Origins.{max_feeders};
 ghost use Rattle.bsi_bits.specs.BitList.{max_len};
 ghost use Rattle.bsi_shift.specs.Shifted.{shifted_entries, shifted_room};
-ghost use Rattle.bsi_table.specs.Rows.{feeders_of};
+ghost use Rattle.bsi_table.specs.Rows.{feeders_of, row_entries};
 ghost use Rattle.bsi_table.specs.Table.{kept_at, AreAlikeColumns, AreFrom, AreI64, AreInRange, AreSameColumns, HasMore, HaveMore, HaveOneMore, HaveRoom, HaveRows, TakesRow};
 
 use crate::columns::{clear_each, push_all_each, push_block_each, push_each, reserve_each};
@@ -79,7 +79,7 @@ pub(crate) fn push_rows(columns: &mut Vec<Shifted>, origins: &mut Origins, block
     requires room { HaveRoom columns.old.items (length columns.old.items)
         (length block.now.rows) }
     requires reserved { length block.now.rows ≤ origins.old.room }
-    requires taken { All (λ row. TakesRow columns.old.items row.1) block.now.rows }
+    requires taken { All (λ row. TakesRow columns.old.items (row_entries row)) block.now.rows }
     requires from { AreFrom origins.old.feeders block.now.rows }
     requires bytes { origins.old.feeders ≤ max_feeders }
     ensures long { length columns.new.items ≡ length columns.old.items }
@@ -88,7 +88,7 @@ pub(crate) fn push_rows(columns: &mut Vec<Shifted>, origins: &mut Origins, block
     ensures feeders { origins.new.feeders ≡ origins.old.feeders }
 {
     push_block_each(columns, block);
-    push_feeders(origins, block.sources());
+    push_feeders(origins, block.row_feeders());
 }
 
 /// Appends all rows of other columns, which are kept alike, and of the list of their feeders, into room that is already
@@ -97,24 +97,24 @@ pub(crate) fn push_all(
     columns: &mut Vec<Shifted>,
     origins: &mut Origins,
     others: &[Shifted],
-    sources: &Origins,
+    other_origins: &Origins,
 )
     requires long { length others.now ≡ length columns.old.items }
     requires alike { AreAlikeColumns columns.old.items others.now }
-    requires even { HaveRows others.now (length sources.now.rows) }
+    requires even { HaveRows others.now (length other_origins.now.rows) }
     requires room { HaveRoom columns.old.items (length columns.old.items)
-        (length sources.now.rows) }
-    requires reserved { length sources.now.rows ≤ origins.old.room }
-    requires feeders { sources.now.feeders ≤ origins.old.feeders }
+        (length other_origins.now.rows) }
+    requires reserved { length other_origins.now.rows ≤ origins.old.room }
+    requires feeders { other_origins.now.feeders ≤ origins.old.feeders }
     ensures long { length columns.new.items ≡ length columns.old.items }
     ensures more { (k : ℕ) → k < length columns.old.items →
         HasMore (kept_at columns.old.items k) (kept_at columns.new.items k)
         (shifted_entries (kept_at others.now k)) }
-    ensures rows { origins.new.rows ≡ origins.old.rows ++ sources.now.rows }
+    ensures rows { origins.new.rows ≡ origins.old.rows ++ other_origins.now.rows }
     ensures feeders { origins.new.feeders ≡ origins.old.feeders }
 {
     push_all_each(columns, others);
-    origins.push_all_reserved(sources);
+    origins.push_all_reserved(other_origins);
 }
 
 /// Appends all rows of other columns, which are kept alike and have so many, as rows of one feeder, into room that is
@@ -144,14 +144,14 @@ pub(crate) fn push_all_from(
 }
 
 /// Appends the feeder of each row, into room that is already there.
-fn push_feeders(origins: &mut Origins, sources: &[u32])
-    requires reserved { length sources.now ≤ origins.old.room }
-    requires from { All (λ source. source < origins.old.feeders) sources.now }
+fn push_feeders(origins: &mut Origins, row_feeders: &[u32])
+    requires reserved { length row_feeders.now ≤ origins.old.room }
+    requires from { All (λ feeder. feeder < origins.old.feeders) row_feeders.now }
     requires bytes { origins.old.feeders ≤ max_feeders }
-    ensures rows { origins.new.rows ≡ origins.old.rows ++ sources.now }
+    ensures rows { origins.new.rows ≡ origins.old.rows ++ row_feeders.now }
     ensures feeders { origins.new.feeders ≡ origins.old.feeders }
 {
-    'rows: for source in sources {
-        origins.push_reserved(*source as u8);
+    'rows: for feeder in row_feeders {
+        origins.push_reserved(*feeder as u8);
     }
 }

@@ -10,11 +10,11 @@ ghost use Rattle.bsi_shift.specs.Shifted.{shifted_entries};
 ghost use Rattle.bsi_table.specs.Answers.{missing_column, CountsConjunction, IsAnswer, IsReply, IsSelection, ReadsAmong};
 ghost use Rattle.bsi_schema.specs.Columns.{column_at, fits};
 ghost use Rattle.bsi_table.specs.Refusals.{index_refusal, row_refusal, rows_refusal, IsFirstOr};
-ghost use Rattle.bsi_table.specs.RowBlocks.{entries_of, fed_as, no_block_rows, AreAlike};
-ghost use Rattle.bsi_table.specs.Rows.{column_of, holds};
+ghost use Rattle.bsi_table.specs.RowBlocks.{entries_of, fed_as, no_block_rows, HaveSameLimits};
+ghost use Rattle.bsi_table.specs.Rows.{column_of, holds, row_entries};
 ghost use Rattle.bsi_table.specs.Table.{max_rows, no_rows, with_row, with_rows, AreFitting, AreFrom, AreKeptAlike, IsInForm};
 
-use crate::columns::{are_alike, copy_each, make_each, read_row, select_one};
+use crate::columns::{are_kept_alike, copy_each, make_each, read_row, select_one};
 use crate::found::{count_selected, find_rows};
 use crate::growth::{clear_rows, push_all, push_all_from, push_row, push_rows, reserve_rows};
 use crate::totals::answer_total;
@@ -23,7 +23,7 @@ use crate::{
 };
 use bsi_bits::Bits;
 use bsi_origins::Origins;
-use bsi_schema::are_same;
+use bsi_schema::have_same_limits;
 use bsi_shift::Shifted;
 use std::alloc::Global;
 use std::marker::Model;
@@ -175,19 +175,16 @@ impl Index {
             (IsFirstOr AppendError.NoMemory (rows_refusal self.old (length block.now.rows))) }
         ensures kept { OnErr result (self.new ≡ self.old) }
     {
-        let first = self.len();
         let more = block.len() as u64;
-        if more > self.limit() - first {
-            return Err(AppendError::IndexFull);
-        }
+        let first = self.position_for(more)?;
         reserve_rows(&mut self.columns, &mut self.origins, more)?;
         push_rows(&mut self.columns, &mut self.origins, block);
         Ok(first)
     }
 
     /// Appends all rows of another index, in their order, and returns the row position of the first: the length before.
-    /// Either all rows are appended or none is. Each bitmap takes that of the other by words. It makes room for all rows
-    /// first, so a refused growth leaves the index as it was.
+    /// Either all rows are appended or none is. Each bitmap takes that of the other by words. It makes room for all
+    /// rows first, so a refused growth leaves the index as it was.
     pub fn append_index(&mut self, other: &Index) -> Result<u64, AppendError>
         requires alike { AreKeptAlike self.old.schema other.now.schema }
         requires feeders { other.now.feeders ≤ self.old.feeders }
@@ -198,11 +195,8 @@ impl Index {
             (IsFirstOr AppendError.NoMemory (rows_refusal self.old (length other.now.rows))) }
         ensures kept { OnErr result (self.new ≡ self.old) }
     {
-        let first = self.len();
         let more = other.len();
-        if more > self.limit() - first {
-            return Err(AppendError::IndexFull);
-        }
+        let first = self.position_for(more)?;
         reserve_rows(&mut self.columns, &mut self.origins, more)?;
         let (columns, origins) = (&other.columns, &other.origins);
         push_all(&mut self.columns, &mut self.origins, columns, origins);
@@ -222,14 +216,24 @@ impl Index {
             (IsFirstOr AppendError.NoMemory (rows_refusal self.old (length other.now.rows))) }
         ensures kept { OnErr result (self.new ≡ self.old) }
     {
-        let first = self.len();
         let more = other.len();
+        let first = self.position_for(more)?;
+        reserve_rows(&mut self.columns, &mut self.origins, more)?;
+        let (columns, feeder) = (&other.columns, feeder as u8);
+        push_all_from(&mut self.columns, &mut self.origins, columns, feeder, more);
+        Ok(first)
+    }
+
+    /// Returns the row position of the first of `more` further rows, or the refusal if they would pass the limit.
+    fn position_for(&self, more: u64) -> Result<u64, AppendError>
+        ensures position { IfOk result (λ position. position ≡ length self.now.rows) }
+        ensures within { OnOk result (length self.now.rows + more ≤ self.now.limit) }
+        ensures refused { result_err result ≡ rows_refusal self.now more }
+    {
+        let first = self.len();
         if more > self.limit() - first {
             return Err(AppendError::IndexFull);
         }
-        reserve_rows(&mut self.columns, &mut self.origins, more)?;
-        let (columns, source) = (&other.columns, feeder as u8);
-        push_all_from(&mut self.columns, &mut self.origins, columns, source, more);
         Ok(first)
     }
 
@@ -252,7 +256,7 @@ impl Index {
         ensures all { other.now.feeders ≤ self.now.feeders →
             AreKeptAlike self.now.schema other.now.schema → result ≡ true }
     {
-        other.feeders() <= self.feeders() && are_alike(&self.columns, &other.columns)
+        other.feeders() <= self.feeders() && are_kept_alike(&self.columns, &other.columns)
     }
 
     /// Makes an index of no rows yet that keeps its columns as this one does, with as many feeders and the same limit.
@@ -300,10 +304,10 @@ impl Index {
 
     /// Returns whether the columns of a schema take the same numbers as those of this index.
     pub fn has_limits_of(&self, schema: &Schema) -> bool
-        ensures alike { IsTrue result ↔ AreAlike self.now.schema schema.now }
+        ensures alike { IsTrue result ↔ HaveSameLimits self.now.schema schema.now }
         ensures fits { IsTrue result → AreFitting schema.now.columns self.now.rows }
     {
-        are_same(self.schema.limits(), schema.limits())
+        have_same_limits(self.schema.limits(), schema.limits())
     }
 
     /// Answers a query over all rows. A count by a predicate without `or` and `not` takes no memory.
@@ -331,12 +335,11 @@ impl Index {
     /// Returns for each row whether a predicate holds of it of which no column is missing.
     fn find(&self, pred: &Pred) -> Result<Bits, NoMemory>
         requires { ReadsAmong (length self.now.schema.columns) pred.now }
-        ensures { IfOk result (λ found. found.bits ≡ map (λ row. holds pred.now row.1) self.now.rows) }
+        ensures { IfOk result (λ found. found.bits ≡ map (λ row. holds pred.now (row_entries row)) self.now.rows) }
     {
         let columns: &[Shifted] = &self.columns;
         let rows = self.len();
-        let found = find_rows(*self.columns.allocator(), columns, rows, pred)?;
-        Ok(found)
+        find_rows(*self.columns.allocator(), columns, rows, pred)
     }
 
     /// Answers a query of which no column is missing. A count keeps no bit for each row.

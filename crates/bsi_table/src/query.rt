@@ -1,4 +1,4 @@
-//! Queries of a table, and their answers.
+//! Queries of an index, and their answers.
 
 ghost use Rattle.std.specs.Prelude.{◌≡◌};
 ghost use Rattle.bsi_table.specs.Answers.{columns_of_pred, columns_of_total, missing_column, missing_of};

@@ -1,8 +1,8 @@
 //! The total that a query asks for, of the rows that its predicate selects.
 
-ghost use Rattle.std.specs.Prelude.{◌≡◌, None, length, map, IfOk, IsOk};
-ghost use Rattle.bsi_table.specs.Answers.{columns_of_total, missing_of, IsAnswer, NeedsNoMemory};
-ghost use Rattle.bsi_table.specs.Rows.{holds};
+ghost use Rattle.std.specs.Prelude.{◌≡◌, None, length, map, IfOk};
+ghost use Rattle.bsi_table.specs.Answers.{columns_of_total, missing_of, IsAnswer};
+ghost use Rattle.bsi_table.specs.Rows.{holds, row_entries};
 ghost use Rattle.bsi_table.specs.Table.{fed_rows, HaveRows};
 
 use crate::{Answer, NoMemory, Query, Total};
@@ -22,10 +22,9 @@ pub(crate) fn answer_total(
 ) -> Result<Answer, NoMemory>
     requires even { HaveRows columns.now (length origins.now.rows) }
     requires found { found.now.bits
-        ≡ map (λ row. holds query.now.pred row.1) (fed_rows origins.now.rows columns.now) }
+        ≡ map (λ row. holds query.now.pred (row_entries row)) (fed_rows origins.now.rows columns.now) }
     requires there { missing_of (length columns.now) (columns_of_total query.now.total) ≡ None }
-    ensures answer { IfOk result (IsAnswer query.now (fed_rows origins.now.rows columns.now)) }
-    ensures succeeds { NeedsNoMemory query.now.total → IsOk result }
+    ensures { IfOk result (IsAnswer query.now (fed_rows origins.now.rows columns.now)) }
 {
     match query.total {
         Total::Count => Ok(Answer::Count(found.count())),

@@ -2,10 +2,10 @@
 ghost use Rattle.std.specs.Prelude.{◌≤◌};
 ghost use Rattle.bsi_bits.specs.BitList.{max_len};
 
-use bsi_bits::{Bits, NoMemory};
+use bsi_bits::{Bits, MAX_LEN, NoMemory};
 use std::alloc::Global;
 
-fn filled(alloc: Global, n: u64, bit: bool) -> Result<Bits, NoMemory>
+pub(crate) fn filled(alloc: Global, n: u64, bit: bool) -> Result<Bits, NoMemory>
     requires { n ≤ max_len }
 {
     match Bits::filled(alloc, n, bit) {
@@ -23,7 +23,7 @@ fn copied(bits: &Bits) -> Result<Bits, NoMemory> {
 
 // Appends a bit. A refused growth changes nothing, and the same call is made again.
 fn push(bits: &mut Bits, bit: bool) -> Result<bool, NoMemory> {
-    if bits.len() == 1 << 32 {
+    if bits.len() == MAX_LEN {
         return Ok(false);
     }
     let before = (bits.len(), bits.count());
@@ -67,19 +67,19 @@ fn count_and_not(a: &Bits, b: &Bits) -> Option<u64> {
     }
 }
 
-// Whether of turned bits none is set, and none in the bits before too.
-fn turn_to_none(bits: &Bits) -> Result<bool, NoMemory> {
-    let mut turned = copied(bits)?;
-    turned.flip();
-    Ok(turned.count() == 0 && count_and(bits, &turned) == Some(0))
+// Whether of flipped bits none is set, and none in the bits before too.
+fn flip_to_none(bits: &Bits) -> Result<bool, NoMemory> {
+    let mut flipped = copied(bits)?;
+    flipped.flip();
+    Ok(flipped.count() == 0 && count_and(bits, &flipped) == Some(0))
 }
 
-// Whether 65 ones turn to none, and grow to 66.
+// Whether 65 ones flip to none, and grow to 66.
 fn flip_and_grow(alloc: Global) -> Result<bool, NoMemory> {
     let mut bits = filled(alloc, 65, true)?;
-    let turn = turn_to_none(&bits)?;
+    let flipped = flip_to_none(&bits)?;
     let stayed = push(&mut bits, true)?;
-    Ok(turn && stayed && bits.len() == 66 && bits.count() == 66)
+    Ok(flipped && stayed && bits.len() == 66 && bits.count() == 66)
 }
 
 #[test]

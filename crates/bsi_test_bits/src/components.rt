@@ -1,21 +1,12 @@
 //! Components of both encodings on worked digits, called through the trait `Encoding`.
 
 ghost use Rattle.std.specs.Prelude.{◌≤◌};
-ghost use Rattle.bsi_bits.specs.BitList.{max_len};
-ghost use Rattle.bsi_components.specs.Bitmaps.{max_base};
+ghost use Rattle.bsi_digits.specs.Digits.{max_base};
 
-use bsi_bits::Bits;
+use crate::bits::filled;
+use bsi_bits::{Bits, MAX_LEN};
 use bsi_components::{Encoding, EqualityComponent, NoMemory, RangeComponent};
 use std::alloc::Global;
-
-fn filled(alloc: Global, n: u64, bit: bool) -> Result<Bits, NoMemory>
-    requires { n ≤ max_len }
-{
-    match Bits::filled(alloc, n, bit) {
-        Err(_) => Bits::filled(alloc, n, bit),
-        made => made,
-    }
-}
 
 fn is_set(bits: &Bits, place: u64) -> bool {
     place < bits.len() && bits.get(place)
@@ -72,7 +63,7 @@ fn digit_sum<E: Encoding>(component: &E, found: &Bits) -> Option<u128> {
 
 // Appends a digit. A refused growth leaves the component, and the same call is made again.
 fn push<E: Encoding>(component: &mut E, digit: u32) -> Result<(), NoMemory> {
-    if component.len() >= 1 << 32 || digit >= component.base() {
+    if component.len() >= MAX_LEN || digit >= component.base() {
         return Ok(());
     }
     if component.reserve_one().is_err() {

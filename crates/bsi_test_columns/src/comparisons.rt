@@ -2,7 +2,7 @@
 
 use bsi_bits::Bits;
 use bsi_columns::{AnyColumn, Column, NoMemory, Op};
-use bsi_plain::{FORMS, Form, MakingError, Wide, append, compared, no_rows, shows};
+use bsi_plain::{FORMS, MakingError, TestForm, Wide, append, compared, no_rows, shows};
 use std::alloc::Global;
 
 /// The comparisons of the entries 3, none and 2.
@@ -46,7 +46,7 @@ pub(crate) const FIFTEEN: Wide<'static> = Wide {
 /// Makes a column of these entries.
 pub(crate) fn column_of(
     alloc: Global,
-    form: Form,
+    form: TestForm,
     wide: Wide,
     entries: &[Option<u64>],
 ) -> Result<AnyColumn, MakingError> {
@@ -56,7 +56,7 @@ pub(crate) fn column_of(
 }
 
 /// Makes a column of the entries 3, none and 2.
-pub(crate) fn three_rows(alloc: Global, form: Form) -> Result<AnyColumn, MakingError> {
+pub(crate) fn three_rows(alloc: Global, form: TestForm) -> Result<AnyColumn, MakingError> {
     column_of(alloc, form, FIFTEEN, &[Some(3), None, Some(2)])
 }
 
@@ -79,7 +79,7 @@ fn answers_shown(column: &AnyColumn) -> Result<bool, MakingError> {
     Ok(selects_shown(column)? && nulls_are(column, &[false, true, false])?)
 }
 
-fn is_compared(alloc: Global, form: Form) -> Result<bool, MakingError> {
+fn is_compared(alloc: Global, form: TestForm) -> Result<bool, MakingError> {
     let column = three_rows(alloc, form)?;
     answers_shown(&column)
 }

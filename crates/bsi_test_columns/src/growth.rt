@@ -1,13 +1,14 @@
 //! What stays after a refused allocation, and that a copy is independent of its column.
 
 use crate::comparisons::{FIFTEEN, selects_shown, three_rows};
+use bsi_bits::MAX_LEN;
 use bsi_columns::{AnyColumn, Column, NoMemory};
-use bsi_plain::{FORMS, Form, MakingError, append, no_rows};
+use bsi_plain::{FORMS, MakingError, TestForm, append, no_rows};
 use std::alloc::Global;
 
 // Returns whether a growth succeeds.
 fn grows(column: &mut AnyColumn) -> bool {
-    column.len() < 1 << 32 && column.reserve_one().is_ok()
+    column.len() < MAX_LEN && column.reserve_one().is_ok()
 }
 
 // Returns what a refused growth must not change.
@@ -32,7 +33,7 @@ fn grows_to_257(column: &mut AnyColumn) -> Result<bool, MakingError> {
     Ok(stayed && column.len() == 257)
 }
 
-fn grows_by_rows(alloc: Global, form: Form) -> Result<bool, MakingError> {
+fn grows_by_rows(alloc: Global, form: TestForm) -> Result<bool, MakingError> {
     let mut column = no_rows(alloc, form, FIFTEEN)?;
     grows_to_257(&mut column)
 }
@@ -72,7 +73,7 @@ fn keeps_its_rows(column: &AnyColumn) -> Result<bool, MakingError> {
     Ok(is_copied(column)? && column.len() == 3 && selects_shown(column)?)
 }
 
-fn stands_apart(alloc: Global, form: Form) -> Result<bool, MakingError> {
+fn stands_apart(alloc: Global, form: TestForm) -> Result<bool, MakingError> {
     let column = three_rows(alloc, form)?;
     keeps_its_rows(&column)
 }

@@ -6,7 +6,7 @@ ghost use Rattle.bsi_bits.specs.BitList.{max_len};
 use crate::comparisons::{column_of, selects};
 use bsi_bits::Bits;
 use bsi_columns::{AnyColumn, Column, NoMemory, Op};
-use bsi_plain::{FORMS, Form, MakingError, Wide};
+use bsi_plain::{FORMS, MakingError, TestForm, Wide};
 use std::alloc::Global;
 
 /// The sum of some numbers, and the least, the greatest and the lower median, where there are numbers.
@@ -71,7 +71,7 @@ const NARROW: Wide<'static> = Wide {
 // Whether entries come to these totals.
 fn works(
     alloc: Global,
-    form: Form,
+    form: TestForm,
     entries: &[Option<u64>],
     wanted: Found,
 ) -> Result<bool, MakingError> {
@@ -93,7 +93,7 @@ const TABLE: [(&[Option<u64>], Found); 4] = [
     ),
 ];
 
-fn all_work(alloc: Global, form: Form) -> Result<bool, MakingError> {
+fn all_work(alloc: Global, form: TestForm) -> Result<bool, MakingError> {
     for (entries, wanted) in TABLE {
         if !works(alloc, form, entries, wanted)? {
             return Ok(false);
@@ -113,7 +113,7 @@ fn selects_numbers(column: &AnyColumn) -> Result<bool, MakingError> {
     Ok(selects(column, Op::Ge, 0, &[true, false, true])?)
 }
 
-fn selects_the_numbers(alloc: Global, form: Form) -> Result<bool, MakingError> {
+fn selects_the_numbers(alloc: Global, form: TestForm) -> Result<bool, MakingError> {
     let column = column_of(alloc, form, NARROW, &[Some(5), None, Some(0)])?;
     selects_numbers(&column)
 }

@@ -12,7 +12,7 @@ use std::thread::Threads;
 
 // How a command line ends: its status, what it wrote, and how often it flushed its output.
 #[derive(Drop)]
-struct Ended {
+struct LineEnd {
     status: u8,
     output: Vec<u8>,
     faults: Vec<u8>,
@@ -40,7 +40,7 @@ fn words_of(alloc: Global, line: &str) -> Result<Vec<String>, AllocError> {
 fn end_once<R: AllocGlobal + Files<File = S> + Threads + Wait + Sync, S: Read + Drop + Send>(
     rt: &R,
     line: Line<'_>,
-) -> Result<Ended, AllocError> {
+) -> Result<LineEnd, AllocError> {
     let words = words_of(rt.alloc(), line.words)?;
     let mut output = NarrowWriter {
         taken: Vec::with_capacity(rt.alloc(), 4096)?,
@@ -54,7 +54,7 @@ fn end_once<R: AllocGlobal + Files<File = S> + Threads + Wait + Sync, S: Read + 
         fails: line.is_broken,
         ..EMPTY
     };
-    Ok(Ended {
+    Ok(LineEnd {
         status: run_words(rt, words, reader, &mut output, &mut faults),
         flushes: output.flushes,
         output: output.taken,
@@ -66,7 +66,7 @@ fn end_once<R: AllocGlobal + Files<File = S> + Threads + Wait + Sync, S: Read + 
 fn end_of<R: AllocGlobal + Files<File = S> + Threads + Wait + Sync, S: Read + Drop + Send>(
     rt: &R,
     line: Line<'_>,
-) -> Result<Ended, AllocError> {
+) -> Result<LineEnd, AllocError> {
     match end_once(rt, line) {
         Ok(end) if end.faults.as_slice() != b"bsi: no memory\n".as_slice() => Ok(end),
         _ => end_once(rt, line),
@@ -82,7 +82,7 @@ const PLAIN: Line<'static> = Line {
     fails: false,
 };
 
-impl Ended {
+impl LineEnd {
     // Whether the line ends so, tells this on its faults, and flushes its output once.
     fn is(&self, status: u8, output: &str, faults: &str) -> bool {
         self.status == status
@@ -143,7 +143,7 @@ fn end_over<R: AllocGlobal + Files<File = S> + Threads + Wait + Sync, S: Read + 
     rt: &R,
     schema: &str,
     rows: &str,
-) -> io::Result<Ended> {
+) -> io::Result<LineEnd> {
     let words = format!(in rt.alloc(); "files --schema {schema} --asks /dev/null {rows}")?;
     let line = Line {
         words: words.as_str(),
@@ -156,7 +156,7 @@ fn end_over<R: AllocGlobal + Files<File = S> + Threads + Wait + Sync, S: Read + 
 // How a run over files ends that goes well, and whose flush fails.
 fn unflushed<R: AllocGlobal + Files<File = S> + Threads + Wait + Sync, S: Read + Drop + Send>(
     rt: &R,
-) -> io::Result<Ended> {
+) -> io::Result<LineEnd> {
     let (_schema, schema) = pipe_of(rt, "column,qty,slices,3\n")?;
     let (_rows, rows) = pipe_of(rt, "qty\n5\n")?;
     end_over(rt, schema.as_str(), rows.as_str())

@@ -1,7 +1,7 @@
 //! Runs that a reader or a writer ends.
 
 use crate::inputs::{QUANTITIES, broken, text};
-use crate::runs::{Files, ends};
+use crate::runs::{RunInputs, ends};
 use bsi_files::{FilesFault, Go, Which, run_files};
 use bsi_plain::NarrowWriter;
 use std::alloc::AllocError;
@@ -10,7 +10,7 @@ use std::thread::Threads;
 
 #[test]
 fn a_reader_of_questions_that_fails(rt: HostRuntime) {
-    let files = Files {
+    let files = RunInputs {
         schema: text(QUANTITIES),
         asks: broken("x\n"),
         rows: &[text("qty\n1\n")],

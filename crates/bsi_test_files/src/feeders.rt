@@ -110,8 +110,8 @@ fn loads_two<B: Naming>(loader: &mut Loader<B>) -> bool {
     one == Ok(()) && two == Ok(()) && none == Err(LoadRefused::Ended)
 }
 
-/// Feeds from a reader that fails behind two good rows and a bad one. It returns whether both good rows are accepted, and
-/// can be loaded.
+/// Feeds from a reader that fails behind two good rows and a bad one. It returns whether both good rows are accepted,
+/// and can be loaded.
 fn broken_reader<B: Naming, R: Wait>(
     rt: &R,
     alloc: Global,

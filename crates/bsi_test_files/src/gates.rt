@@ -5,8 +5,8 @@ use std::sync::Wait;
 use std::sync::atomic::{AtomicBool, AtomicU64, Ordering};
 use std::thread;
 
-/// The most turns that a held feeder waits.
-pub(crate) const MAX_TURNS: u64 = 10_000_000;
+/// How often a held feeder yields before it is late.
+pub(crate) const MAX_YIELDS: u64 = 10_000_000;
 
 // Holds feeder 0 before its first row until feeder 1 is before its second, and feeder 1 before its first until feeder 0
 // is before its first. On one thread, in whatever order, a feeder is late.
@@ -31,7 +31,7 @@ impl Meeting {
     }
 
     fn hold(&self, until: &AtomicBool) {
-        for _ in 0..MAX_TURNS {
+        for _ in 0..MAX_YIELDS {
             if until.load(Ordering::SeqCst) {
                 return;
             }

@@ -1,7 +1,7 @@
 //! Which fault of a run is told first, and which rows a run names to its gate.
 
 use crate::inputs::{QUANTITIES, broken, long, text};
-use crate::runs::{Files, end_once, ends};
+use crate::runs::{RunInputs, end_once, ends};
 use bsi_files::{FilesFault, Gate, Stopping};
 use bsi_text::SourceFault;
 use std::sync::Wait;
@@ -10,7 +10,7 @@ use std::thread::Threads;
 
 #[test]
 fn a_bad_schema_record_comes_before_the_reader_that_fails(rt: HostRuntime) {
-    let files = Files {
+    let files = RunInputs {
         schema: broken("column,qty,slices,3\nbegin\n"),
         asks: text(""),
         rows: &[text("qty\n1\n")],
@@ -20,7 +20,7 @@ fn a_bad_schema_record_comes_before_the_reader_that_fails(rt: HostRuntime) {
 
 #[test]
 fn the_first_row_file_that_fails_is_told(rt: HostRuntime) {
-    let files = Files {
+    let files = RunInputs {
         schema: text(QUANTITIES),
         asks: text(""),
         rows: &[text("qty\n1\n"), broken("qty\n1\n"), broken("qty\n")],
@@ -93,11 +93,11 @@ impl Stopping for Follower {
     ghost STOPS = { false };
 }
 
-// Whether a run ends so, behind this output, and its gate was called so often by feeder 1: each time for the next row, but
-// so many times for a row of a batch.
+// Whether a run ends so, behind this output, and its gate was called so often by feeder 1: each time for the next row,
+// but so many times for a row of a batch.
 fn is_followed_once<R: Threads + Wait + AllocGlobal + Sync>(
     rt: &R,
-    files: Files<'_>,
+    files: RunInputs<'_>,
     run: Result<(), FilesFault>,
     output: &[u8],
     (passes, stops): (u64, u64),
@@ -115,7 +115,7 @@ fn is_followed_once<R: Threads + Wait + AllocGlobal + Sync>(
 // Where memory was refused, the run is made again.
 fn is_followed<R: Threads + Wait + AllocGlobal + Sync>(
     rt: &R,
-    files: Files<'_>,
+    files: RunInputs<'_>,
     run: Result<(), FilesFault>,
     output: &[u8],
     counts: (u64, u64),
@@ -127,7 +127,7 @@ fn is_followed<R: Threads + Wait + AllocGlobal + Sync>(
 // Of 1,100 rows the ring takes a batch of 1,024, and the table 10 rows of it. The next batch finds no room.
 #[test]
 fn a_feeder_that_stops_names_its_row(rt: HostRuntime) {
-    let files = Files {
+    let files = RunInputs {
         schema: text("column,qty,slices,3\nlimit,10\n"),
         asks: text(""),
         rows: &[text("qty\n"), long("qty\n", "1\n", 1_100)],
@@ -138,7 +138,7 @@ fn a_feeder_that_stops_names_its_row(rt: HostRuntime) {
 
 #[test]
 fn a_feeder_at_its_end_names_how_many_it_sent(rt: HostRuntime) {
-    let files = Files {
+    let files = RunInputs {
         schema: text(QUANTITIES),
         asks: text(""),
         rows: &[text("qty\n"), text("qty\n1\n2\n3\n")],

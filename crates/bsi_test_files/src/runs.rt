@@ -1,6 +1,6 @@
 //! Whole runs over row files. Each tolerates one refused allocation, and then runs again.
 
-use crate::gates::{MAX_TURNS, Meeting, Patience};
+use crate::gates::{MAX_YIELDS, Meeting, Patience};
 use crate::inputs::{Input, QUANTITIES, long, text};
 use bsi_files::{FilesFault, Gate, Go, Stopping, run_files};
 use bsi_text::SourceFault;
@@ -10,7 +10,7 @@ use std::thread::Threads;
 
 // What a run reads.
 #[derive(Clone, Copy)]
-pub(crate) struct Files<'a> {
+pub(crate) struct RunInputs<'a> {
     pub(crate) schema: Input,
     pub(crate) asks: Input,
     pub(crate) rows: &'a [Input],
@@ -18,26 +18,26 @@ pub(crate) struct Files<'a> {
 
 // How a run ends, and what it wrote.
 #[derive(Drop)]
-pub(crate) struct Ended {
+pub(crate) struct RunEnd {
     pub(crate) run: Result<(), FilesFault>,
     pub(crate) output: Vec<u8>,
 }
 
 pub(crate) fn end_once<R: Threads + Wait + AllocGlobal + Sync, G: Gate + Stopping + Sync>(
     rt: &R,
-    files: Files<'_>,
+    files: RunInputs<'_>,
     gate: &G,
-) -> Result<Ended, AllocError> {
+) -> Result<RunEnd, AllocError> {
     let mut output = Vec::with_capacity(rt.alloc(), 4096)?;
     let rows = Vec::from_slice(rt.alloc(), files.rows)?;
     if rows.is_empty() {
         return Err(AllocError);
     }
     let run = run_files(rt, files.schema, files.asks, rows, &mut output, gate);
-    Ok(Ended { run, output })
+    Ok(RunEnd { run, output })
 }
 
-impl Ended {
+impl RunEnd {
     // Whether the run ends so, behind this output.
     pub(crate) fn is(&self, run: Result<(), FilesFault>, output: &[u8]) -> bool {
         self.run == run && self.output.as_slice() == output
@@ -49,8 +49,8 @@ fn is_in(part: &[u8], text: &[u8]) -> bool {
     (0..text.len()).any(|at| text[at..].starts_with(part))
 }
 
-// Whether a run wanted memory.
-pub(crate) fn wants_memory(ended: &Result<Ended, AllocError>) -> bool {
+// Whether a run was refused memory.
+pub(crate) fn was_refused(ended: &Result<RunEnd, AllocError>) -> bool {
     match ended {
         Err(_) => true,
         Ok(ended) => match ended.run {
@@ -61,22 +61,22 @@ pub(crate) fn wants_memory(ended: &Result<Ended, AllocError>) -> bool {
     }
 }
 
-// How a run ends; where memory was wanted, how it ends then.
+// How a run ends; where memory was refused, how it ends then.
 fn end_of<R: Threads + Wait + AllocGlobal + Sync>(
     rt: &R,
-    files: Files<'_>,
-) -> Result<Ended, AllocError> {
+    files: RunInputs<'_>,
+) -> Result<RunEnd, AllocError> {
     let ended = end_once(rt, files, &Go);
-    if wants_memory(&ended) {
+    if was_refused(&ended) {
         return end_once(rt, files, &Go);
     }
     ended
 }
 
-// Whether a run ends so, behind this output; where memory was wanted, whether it then does.
+// Whether a run ends so, behind this output; where memory was refused, whether it then does.
 pub(crate) fn ends<R: Threads + Wait + AllocGlobal + Sync>(
     rt: &R,
-    files: Files<'_>,
+    files: RunInputs<'_>,
     run: Result<(), FilesFault>,
     output: &[u8],
 ) -> bool {
@@ -87,23 +87,23 @@ pub(crate) fn ends<R: Threads + Wait + AllocGlobal + Sync>(
 }
 
 // Whether a run ends well, behind this output.
-fn is_fed(ended: &Result<Ended, AllocError>, output: &[u8]) -> bool {
+fn is_fed(ended: &Result<RunEnd, AllocError>, output: &[u8]) -> bool {
     match ended {
         Ok(ended) => ended.is(Ok(()), output),
         Err(_) => false,
     }
 }
 
-// Whether two files are fed so that each waits for the other. It gives none where memory was wanted.
+// Whether two files are fed so that each waits for the other. It gives none where memory was refused.
 fn is_met<R: Threads + Wait + AllocGlobal + Sync>(rt: &R) -> Option<bool> {
-    let files = Files {
+    let files = RunInputs {
         schema: text(QUANTITIES),
         asks: text("count,all\n"),
         rows: &[text("qty\n1\n2\n"), text("qty\n1\n2\n")],
     };
     let gate = Meeting::new();
     let ended = end_once(rt, files, &gate);
-    if wants_memory(&ended) {
+    if was_refused(&ended) {
         return None;
     }
     Some(is_fed(&ended, b"fed 0 2 0\nfed 1 2 0\ncount 4\n") && !gate.is_late())
@@ -118,16 +118,16 @@ fn two_files_are_fed_side_by_side(rt: HostRuntime) {
     assert!(rt; met == Some(true));
 }
 
-// Whether a file of more rows than its ring has places is fed. It gives none where memory was wanted.
+// Whether a file of more rows than its ring has places is fed. It gives none where memory was refused.
 fn goes_on<R: Threads + Wait + AllocGlobal + Sync>(rt: &R) -> Option<bool> {
-    let files = Files {
+    let files = RunInputs {
         schema: text(QUANTITIES),
         asks: text("count,all\n"),
         rows: &[long("qty\n", "1\n", 3_000)],
     };
-    let gate = Patience::new(MAX_TURNS);
+    let gate = Patience::new(MAX_YIELDS);
     let ended = end_once(rt, files, &gate);
-    if wants_memory(&ended) {
+    if was_refused(&ended) {
         return None;
     }
     Some(is_fed(&ended, b"fed 0 3000 0\ncount 3000\n") && gate.passes() == 3_001)

@@ -42,8 +42,8 @@ fn load_batch<B: Naming>(loader: &mut Loader<B>) -> Result<usize, LoadRefused> {
     }
 }
 
-/// Returns whether a row and a batch of two are loaded, each at one step, and another batch row by row, with nothing behind
-/// it.
+/// Returns whether a row and a batch of two are loaded, each at one step, and another batch row by row, with nothing
+/// behind it.
 fn load_all<B: Naming>(loader: &mut Loader<B>) -> bool {
     let whole = load_batch(loader) == Ok(1) && load_batch(loader) == Ok(2);
     let first = load(loader, 0).is_ok();
@@ -51,8 +51,8 @@ fn load_all<B: Naming>(loader: &mut Loader<B>) -> bool {
     whole && first && second == Ok(1) && load_batch(loader) == Err(LoadRefused::Empty)
 }
 
-/// Sends a row, two batches of two, and a batch for another column, which comes back. Returns whether just that is so, and
-/// what was taken can be read.
+/// Sends a row, two batches of two, and a batch for another column, which comes back. Returns whether just that is so,
+/// and what was taken can be read.
 pub(crate) fn send_batches<B: Naming, R: Wait>(
     rt: &R,
     alloc: Global,

@@ -223,7 +223,8 @@ fn refused_memory<B: Naming, R: Wait>(
     Some(sent && published && loaded && loader.counts() == (2, 1))
 }
 
-/// Plays a test, and returns whether all went as it should. It returns none if memory is refused for what the test needs.
+/// Plays a test, and returns whether all went as it should. It returns none if memory is refused for what the test
+/// needs.
 fn play<B: Naming, R: Wait>(
     rt: &R,
     alloc: Global,

@@ -1,9 +1,9 @@
-//! Blocks of rows that an index appends, and indexes that take all rows of another one. Where memory is refused, the same
-//! call is made again.
+//! Blocks of rows that an index appends, and indexes that take all rows of another one. Where memory is refused, the
+//! same call is made again.
 
 use crate::tables::{answer, index_of};
 use bsi_columns::NoMemory;
-use bsi_plain::{DeclaredColumn, FORMS, Form, QTY, row_of};
+use bsi_plain::{DeclaredColumn, FORMS, QTY, TestForm, row_of};
 use bsi_table::{Answer, AppendError, Block, Index, IndexError, Pred, Row, Total};
 use std::alloc::Global;
 
@@ -29,8 +29,8 @@ fn add(block: &mut Block, feeder: u32, row: &Row) -> bool {
 // Fills the block with so many times the same row, of two feeders by turns. Returns whether it takes them.
 fn fill(block: &mut Block, rows: u32, row: &Row) -> bool {
     block.clear();
-    for turn in 0..rows {
-        if !add(block, turn % 2, row) {
+    for number in 0..rows {
+        if !add(block, number % 2, row) {
             return false;
         }
     }
@@ -105,7 +105,7 @@ fn takes_a_batch(alloc: Global, index: &mut Index) -> Result<bool, IndexError> {
     Ok(filled && joins_twice(index, &batch) && is_filled_again(alloc, &mut batch)?)
 }
 
-fn takes_batches(alloc: Global, form: Form) -> Result<bool, IndexError> {
+fn takes_batches(alloc: Global, form: TestForm) -> Result<bool, IndexError> {
     let column = DeclaredColumn { form, ..QTY };
     let mut index = index_of(alloc, &[column], 2, 200)?;
     takes_a_batch(alloc, &mut index)

@@ -260,8 +260,9 @@ fn comes_back_after_closing(core: &mut Core, third: Row) -> bool {
     closed == Ok(()) && waiting == Some(2) && refused.is_some_and(|refused| is_closed(&refused))
 }
 
-// Whether a machine with room for two rows takes them, and no third one once it is closed. It gives none where memory for
-// the machine or the rows is refused. From the probe on nothing asks for memory: each later growth may be refused too.
+// Whether a machine with room for two rows takes them, and no third one once it is closed. It gives none where memory
+// for the machine or the rows is refused. From the probe on nothing asks for memory: each later growth may be refused
+// too.
 fn takes_two_and_closes(alloc: Global) -> Option<bool> {
     let rows = three_rows(alloc).ok()?;
     let mut core = made(alloc, PAIR).ok()?;

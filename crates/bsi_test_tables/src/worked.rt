@@ -3,7 +3,7 @@
 
 use crate::tables::{answer, append_row, has_rows, index_of};
 use bsi_columns::{AnyColumn, NoMemory, Op};
-use bsi_plain::{DeclaredColumn, FORMS, Form, QTY, add, both, not, row_of, shows};
+use bsi_plain::{DeclaredColumn, FORMS, QTY, TestForm, add, both, not, row_of, shows};
 use bsi_table::{Answer, AskError, Index, IndexError, Pred, Row, Schema, SchemaError, Total};
 use std::alloc::Global;
 
@@ -20,7 +20,7 @@ fn append_rows(alloc: Global, index: &mut Index) -> Result<(), NoMemory> {
 }
 
 // An index of these rows.
-fn three_rows(alloc: Global, form: Form) -> Result<Index, IndexError> {
+fn three_rows(alloc: Global, form: TestForm) -> Result<Index, IndexError> {
     let column = DeclaredColumn { form, ..QTY };
     let mut index = index_of(alloc, &[column], 2, 10)?;
     append_rows(alloc, &mut index)?;
@@ -60,7 +60,7 @@ fn answers_three(alloc: Global, index: &Index) -> Result<bool, IndexError> {
     Ok(answers(alloc, index)? && has_rows(index, 3))
 }
 
-fn is_answered(alloc: Global, form: Form) -> Result<bool, IndexError> {
+fn is_answered(alloc: Global, form: TestForm) -> Result<bool, IndexError> {
     let index = three_rows(alloc, form)?;
     answers_three(alloc, &index)
 }
@@ -87,7 +87,7 @@ fn first_slice_is(index: &Index, wanted: &[bool]) -> bool {
 }
 
 fn stores_slices(alloc: Global) -> Result<bool, IndexError> {
-    let index = three_rows(alloc, Form::Slices)?;
+    let index = three_rows(alloc, TestForm::Slices)?;
     Ok(first_slice_is(&index, &[false, true, true]))
 }
 
@@ -125,7 +125,7 @@ fn keeps_its_rows(alloc: Global, index: &Index) -> Result<bool, IndexError> {
     Ok(is_copied(alloc, index)? && has_rows(index, 3))
 }
 
-fn stands_apart(alloc: Global, form: Form) -> Result<bool, IndexError> {
+fn stands_apart(alloc: Global, form: TestForm) -> Result<bool, IndexError> {
     let index = three_rows(alloc, form)?;
     keeps_its_rows(alloc, &index)
 }

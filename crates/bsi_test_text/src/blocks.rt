@@ -9,7 +9,7 @@ use std::alloc::Global;
 use std::io::Read;
 
 // What a test expects of a call: rows of two columns, or a fault.
-type Given<'a> = Result<&'a [[Option<i128>; 2]], SourceFault>;
+type GivenRows<'a> = Result<&'a [[Option<i128>; 2]], SourceFault>;
 
 // Whether the row has these entries.
 fn is_row(row: &Row, want: Option<&[Option<i128>; 2]>) -> bool {
@@ -33,7 +33,7 @@ fn has_rows(block: &Block, want: &[[Option<i128>; 2]]) -> Result<bool, NoMemory>
 fn is_given(
     filled: Result<(), SourceFault>,
     block: &Block,
-    want: Given<'_>,
+    want: GivenRows<'_>,
 ) -> Result<bool, SourceFault> {
     match (filled, want) {
         (Err(SourceFault::NoMemory), _) => Err(SourceFault::NoMemory),
@@ -46,7 +46,7 @@ fn is_given(
 // Whether a call fills a block with these, or tells the fault.
 fn gives_next<R: Read + Drop>(
     source: &mut RowSource<R>,
-    want: Given<'_>,
+    want: GivenRows<'_>,
 ) -> Result<bool, SourceFault> {
     let mut block = source.block(2)?;
     let filled = source.fill(1, &mut block);
@@ -55,7 +55,7 @@ fn gives_next<R: Read + Drop>(
 
 fn gives_each<R: Read + Drop>(
     source: &mut RowSource<R>,
-    want: &[Given<'_>],
+    want: &[GivenRows<'_>],
 ) -> Result<bool, SourceFault> {
     for given in want {
         if !gives_next(source, *given)? {
@@ -69,7 +69,7 @@ fn gives_once(
     alloc: Global,
     schema: &Schema,
     reader: TextReader<'_>,
-    want: &[Given<'_>],
+    want: &[GivenRows<'_>],
 ) -> Result<bool, SourceFault> {
     let mut source = RowSource::begin(alloc, schema, reader)?;
     gives_each(&mut source, want)
@@ -80,7 +80,7 @@ fn gives(
     alloc: Global,
     schema: &Schema,
     reader: TextReader<'_>,
-    want: &[Given<'_>],
+    want: &[GivenRows<'_>],
 ) -> Result<bool, SourceFault> {
     match gives_once(alloc, schema, reader, want) {
         Err(SourceFault::NoMemory) => gives_once(alloc, schema, reader, want),

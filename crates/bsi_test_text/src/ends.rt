@@ -58,7 +58,8 @@ fn line_ends(text: &[u8]) -> usize {
     text.iter().filter(|byte| **byte == b'\n').count()
 }
 
-// Whether the script, whose reader fails after this text, has answered its whole lines, or told that memory was refused.
+// Whether the script, whose reader fails after this text, has answered its whole lines, or told that memory was
+// refused.
 fn answers_whole_lines(alloc: Global, text: &[u8], lines: &mut Vec<u8>) -> bool {
     let run = read_until(alloc, text, lines);
     if told_of_memory(lines) {

@@ -1,4 +1,4 @@
-//! Tests of calls on texts, row files and their faults, and scripts that come in parts. No crate uses it.
+//! Tests of calls on texts, schemas, row files and their faults, and scripts that come in parts. No crate uses it.
 #![tactic(auto)]
 
 #[cfg(test)]
@@ -11,5 +11,7 @@ mod ends;
 mod parts;
 #[cfg(test)]
 mod row_files;
+#[cfg(test)]
+mod schemas;
 #[cfg(test)]
 mod threads;

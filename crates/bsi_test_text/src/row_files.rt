@@ -24,7 +24,7 @@ pub(crate) fn schema_of(alloc: Global) -> Result<Schema, SchemaError> {
 }
 
 // What a test expects of a call: a row, none, or a fault.
-type Given<'a> = Result<Option<&'a [Option<i128>]>, SourceFault>;
+type GivenRow<'a> = Result<Option<&'a [Option<i128>]>, SourceFault>;
 
 // Fills the row with the next one, by a row of its own or in place.
 fn next<R: Read + Drop>(
@@ -45,7 +45,7 @@ fn next<R: Read + Drop>(
 }
 
 // Whether a call filled the row with these entries, or told the rest.
-fn is_given(found: Result<bool, SourceFault>, row: &Row, want: Given<'_>) -> bool {
+fn is_given(found: Result<bool, SourceFault>, row: &Row, want: GivenRow<'_>) -> bool {
     match (found, want) {
         (Ok(false), Ok(None)) => true,
         (Ok(true), Ok(Some(entries))) => row.values() == entries,
@@ -54,8 +54,8 @@ fn is_given(found: Result<bool, SourceFault>, row: &Row, want: Given<'_>) -> boo
     }
 }
 
-// Whether a source gives these one after another, with so many bad records at the end. The fault that memory was refused
-// stays.
+// Whether a source gives these one after another, with so many bad records at the end. The fault that memory was
+// refused stays.
 fn gives_each<R: Read + Drop>(
     source: &mut RowSource<R>,
     row: &mut Row,
@@ -90,11 +90,12 @@ fn gives_once(
 #[derive(Clone, Copy)]
 struct File<'a> {
     reader: TextReader<'a>,
-    want: &'a [Given<'a>],
+    want: &'a [GivenRow<'a>],
     bad: u64,
 }
 
-// Whether a file gives these, by rows of their own or in place; where memory was wanted, whether a new source then does.
+// Whether a file gives these, by rows of their own or in place; where memory was refused, whether a new source then
+// does.
 fn gives(
     alloc: Global,
     schema: &Schema,
@@ -120,7 +121,7 @@ fn is_read(alloc: Global, file: File<'_>) -> bool {
 
 #[test]
 fn row_source_calls(rt: HostRuntime) {
-    let want: [Given<'_>; 5] = [
+    let want: [GivenRow<'_>; 5] = [
         Ok(Some(&[Some(15), Some(3)])),
         Ok(Some(&[None, Some(9)])),
         Ok(Some(&[Some(0), Some(4)])),
@@ -137,7 +138,7 @@ fn row_source_calls(rt: HostRuntime) {
 
 #[test]
 fn a_fault_stays(rt: HostRuntime) {
-    let want: [Given<'_>; 4] = [
+    let want: [GivenRow<'_>; 4] = [
         Ok(Some(&[Some(1), Some(2)])),
         Ok(Some(&[Some(3), Some(4)])),
         Err(SourceFault::Read),

@@ -1,4 +1,4 @@
--- Where no memory is wanted, records have one script run.
+-- Where no memory is refused, records have one script run.
 use Rattle.std.proofs.Common.{◌≡◌, ◌≢◌, ℕ, Bool, true, false, if◌then◌else◌, List, [], ◌∷◌, ◌++◌, length, filter, filter_map, Option, Some, None, Result, Ok, Err, ℤ, inl, inr, refl, ap, ap₂, sym, ◌∙◌, subst, option_map, option_and_then}
 use Rattle.std.specs.Prelude.{IfSome, MatchOption, ◌⊎◌, codes}
 use Rattle.std.specs.List.{range_with_len}

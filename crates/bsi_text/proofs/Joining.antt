@@ -12,11 +12,11 @@ use Rattle.csv.specs.declared.reader.Reader.{Reader}
 use Rattle.bsi_table.specs.Rows.{Entries}
 use Rattle.bsi_records.specs.Numbers.{Field}
 use Rattle.bsi_text.specs.RowFiles.{good_row}
-use Rattle.bsi_text.specs.Sources.{HasRead, HasTaken, IsOver, IsWholeFile, Layout, StandsAfter, Tally}
+use Rattle.bsi_text.specs.Sources.{Counts, HasRead, HasTaken, IsOver, IsWholeFile, Layout, StandsAfter}
 use Rattle.bsi_text.proofs.Taking.{bad_one}
 
 -- records and then further ones
-reach_on : (cfg : Config) (s s1 s2 : State) (xs ys zs : List ℕ) (first last : List (List Field))
+pub reach_on : (cfg : Config) (s s1 s2 : State) (xs ys zs : List ℕ) (first last : List (List Field))
     → Reached cfg s xs first s1 ys → Reached cfg s1 ys last s2 zs → Reached cfg s xs (first ++ last) s2 zs
 unfolding Reached
 reach_on cfg s s1 s2 xs ys zs [] last h g = rw (h.0, h.1) g
@@ -36,7 +36,7 @@ module _ {R : Type 0} (rem : R → Option (List ℕ)) (a b c : Reader R) where
       by (Some xs) (Some ys) (Some zs) h g = reach_on default_config _ _ _ xs ys zs first last h g
 
 module _ {R : Type 0} (rem : R → Option (List ℕ)) (layout : Layout) (a b c : Reader R) where
-  pub taken_both : (start middle end : Tally) (xs ys : List Entries) → HasTaken rem layout a b start middle xs → HasTaken rem layout b c middle end ys
+  pub taken_both : (start middle end : Counts) (xs ys : List Entries) → HasTaken rem layout a b start middle xs → HasTaken rem layout b c middle end ys
       → HasTaken rem layout a c start end (xs ++ ys)
   taken_both start middle end xs ys one two =
       let bads = sum_by-append (bad_one layout) one.records two.records in
@@ -50,7 +50,7 @@ module _ {R : Type 0} (rem : R → Option (List ℕ)) (layout : Layout) (a b c :
 
 module _ {R : Type 0} (rem : R → Option (List ℕ)) (layout : Layout) (a b : Reader R) (text : List ℕ) where
   -- a file that was read from its header on to its end
-  pub is_whole : (start end : Tally) (rows : List Entries) → StandsAfter rem layout a text → HasTaken rem layout a b start end rows → IsOver rem b
+  pub is_whole : (start end : Counts) (rows : List Entries) → StandsAfter rem layout a text → HasTaken rem layout a b start end rows → IsOver rem b
       → IsWholeFile layout text start end rows
   unfolding Reached
   is_whole start end rows stands taken over = by (next_record default_config st.StartRecord [] [] text) refl stands

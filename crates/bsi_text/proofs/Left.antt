@@ -12,7 +12,7 @@ use Rattle.csv.specs.declared.reader.Reader.{Reader}
 use Rattle.bsi_table.specs.Rows.{Entries}
 use Rattle.bsi_records.specs.Numbers.{Field}
 use Rattle.bsi_text.specs.RowFiles.{bad_count, good_row, good_rows, given}
-use Rattle.bsi_text.specs.Sources.{AreLeft, End, GivesFirst, GivesFirstRows, HasEndedBy, HasGiven, HasGivenRows, HasLeft, HasRead, HasRest, HasTaken, IsOver, IsWholeFile, IsWithoutFault, Layout, Source, StandsAfter, Tally, end_after, tally_of}
+use Rattle.bsi_text.specs.Sources.{counts_of, end_after, AreLeft, Counts, End, GivesFirst, GivesFirstRows, HasEndedBy, HasGiven, HasGivenRows, HasLeft, HasRead, HasRest, HasTaken, IsOver, IsWholeFile, IsWithoutFault, Layout, Source, StandsAfter}
 use Rattle.bsi_text.specs.declared.rows.SourceFault.{SourceFault}
 use Rattle.bsi_text.proofs.AllRecords.{all_records, one_reading, records_behind}
 use Rattle.bsi_text.proofs.Joining.{taken_both}
@@ -89,13 +89,13 @@ module _ {R : Type 0} (rem : R → Option (List ℕ)) where
         (sym one.good ∙ ap (good_rows layout.schema layout.header) same ∙ two.good, sym one.others ∙ ap (bad_count layout.schema layout.header) same ∙ two.others)
 
     -- what was taken, and what is left after it
-    record Parts (a b : Reader R) (xs rows : List Entries) (n : ℕ) (start end : Tally) : Type 0 where
+    record Parts (a b : Reader R) (xs rows : List Entries) (n : ℕ) (start end : Counts) : Type 0 where
       pub rest : List (List Field)
       pub left : AreLeft rem b rest
       pub all : xs ++ good_rows layout.schema layout.header rest ≡ rows
       pub bads : end.bad + bad_count layout.schema layout.header rest ≡ start.bad + n
 
-    parts : (a b : Reader R) (start end : Tally) (xs rows : List Entries) (n : ℕ) → HasTaken rem layout a b start end xs → HasLeft rem layout a rows n
+    parts : (a b : Reader R) (start end : Counts) (xs rows : List Entries) (n : ℕ) → HasTaken rem layout a b start end xs → HasLeft rem layout a rows n
         → Parts a b xs rows n start end
     parts a b start end xs rows n taken has =
         let there = is_known a has.records has.left in
@@ -112,18 +112,18 @@ module _ {R : Type 0} (rem : R → Option (List ℕ)) where
           bads = omega (arith, taken.bad, bads, ap (bad_count layout.schema layout.header) same, has.others);
         }
 
-    pub first_rows : (a b : Reader R) (start end : Tally) (xs rows : List Entries) (n : ℕ) → HasTaken rem layout a b start end xs → HasLeft rem layout a rows n
+    pub first_rows : (a b : Reader R) (start end : Counts) (xs rows : List Entries) (n : ℕ) → HasTaken rem layout a b start end xs → HasLeft rem layout a rows n
         → IsPrefix xs rows
     first_rows a b start end xs rows n taken has =
         let both = parts a b start end xs rows n taken has in (good_rows layout.schema layout.header both.rest, both.all)
 
-    pub without_last : (a b : Reader R) (start end : Tally) (xs : List Entries) (last : Entries) (rows : List Entries) (n : ℕ)
+    pub without_last : (a b : Reader R) (start end : Counts) (xs : List Entries) (last : Entries) (rows : List Entries) (n : ℕ)
         → HasTaken rem layout a b start end (xs ++ last ∷ []) → HasLeft rem layout a rows n → IsPrefix xs rows
     without_last a b start end xs last rows n taken has =
         let both = parts a b start end (xs ++ last ∷ []) rows n taken has in
         (last ∷ good_rows layout.schema layout.header both.rest, sym (append_assoc xs (last ∷ []) (good_rows layout.schema layout.header both.rest)) ∙ both.all)
 
-    pub whole_rows : (a b : Reader R) (start end : Tally) (xs rows : List Entries) (n : ℕ) → HasTaken rem layout a b start end xs → IsOver rem b
+    pub whole_rows : (a b : Reader R) (start end : Counts) (xs rows : List Entries) (n : ℕ) → HasTaken rem layout a b start end xs → IsOver rem b
         → HasLeft rem layout a rows n → (xs ≡ rows) × (end.bad ≡ start.bad + n)
     whole_rows a b start end xs rows n taken over has =
         let both = parts a b start end xs rows n taken has in
@@ -136,7 +136,7 @@ module _ {R : Type 0} (rem : R → Option (List ℕ)) where
         append-none [] = refl
         append-none (y ∷ ys) = ap (λ zs. y ∷ zs) (append-none ys)
 
-    pub rest_of_rows : (a b : Reader R) (start end : Tally) (xs ys : List Entries) (n : ℕ) → IsSome (source_of rem a) → HasTaken rem layout a b start end xs
+    pub rest_of_rows : (a b : Reader R) (start end : Counts) (xs ys : List Entries) (n : ℕ) → IsSome (source_of rem a) → HasTaken rem layout a b start end xs
         → HasLeft rem layout b ys n → (m : ℕ) × HasLeft rem layout a (xs ++ ys) m × (start.bad + m ≡ end.bad + n)
     rest_of_rows a b start end xs ys n there taken has =
         let bads = sum_by-append (bad_one layout) taken.records has.records in (
@@ -153,19 +153,19 @@ module _ {R : Type 0} (rem : R → Option (List ℕ)) where
     -- an open source gives the first of the rows that it still has
     pub gives_first : (old new : Source R) (r : Result (Option Entries) SourceFault) → old.layout ≡ layout → old.end ≡ None → new.layout ≡ layout
         → IfOk r (λ found. new.end ≡ end_after (is_some found))
-        → IfOk r (HasGiven rem layout old.input new.input old.tally new.tally) → IfOk r (GivesFirst rem old new)
+        → IfOk r (HasGiven rem layout old.input new.input old.counts new.counts) → IfOk r (GivesFirst rem old new)
     gives_first old new (Err fault) same going layout_is goes given = tt
     gives_first old new (Ok None) same going layout_is goes given = λ rows bad still.
         let has : HasLeft rem layout old.input rows bad =
         subst (λ l. HasLeft rem l old.input rows bad) same
         (subst (λ end. MatchOption end (HasLeft rem old.layout old.input rows bad) (λ e. (rows ≡ []) × (bad ≡ 0))) going still) in
-        let all = whole_rows old.input given.at old.tally new.tally [] rows bad given.taken given.over has in
+        let all = whole_rows old.input given.at old.counts new.counts [] rows bad given.taken given.over has in
         (sym all.0, all.1)
     gives_first old new (Ok (Some row)) same going layout_is goes given = λ rows bad still.
         let has : HasLeft rem layout old.input rows bad =
         subst (λ l. HasLeft rem l old.input rows bad) same
         (subst (λ end. MatchOption end (HasLeft rem old.layout old.input rows bad) (λ e. (rows ≡ []) × (bad ≡ 0))) going still) in
-        let both = parts old.input new.input old.tally new.tally (row ∷ []) rows bad given has in
+        let both = parts old.input new.input old.counts new.counts (row ∷ []) rows bad given has in
         let rest = good_rows layout.schema layout.header both.rest in
         let left = bad_count layout.schema layout.header both.rest in
         let kept : HasLeft rem layout new.input rest left = record { records = both.rest; left = both.left; good = refl; others = refl } in (
@@ -180,14 +180,14 @@ module _ {R : Type 0} (rem : R → Option (List ℕ)) where
     -- the same of a call that fills a row
     pub fills_first : (old new : Source R) (r : Result Bool SourceFault) (row : Entries) → old.layout ≡ layout → old.end ≡ None → new.layout ≡ layout
         → IfOk r (λ found. new.end ≡ end_after found)
-        → IfOk r (λ found. HasGiven rem layout old.input new.input old.tally new.tally (given found row)) → IfOk r (λ found. GivesFirst rem old new (given found row))
+        → IfOk r (λ found. HasGiven rem layout old.input new.input old.counts new.counts (given found row)) → IfOk r (λ found. GivesFirst rem old new (given found row))
     fills_first old new (Err fault) row same going layout_is goes has = tt
     fills_first old new (Ok true) row same going layout_is goes has = gives_first old new (Ok (Some row)) same going layout_is goes has
     fills_first old new (Ok false) row same going layout_is goes has = gives_first old new (Ok None) same going layout_is goes has
 
     -- a call that gives several rows gives the first ones, and all of them where it meets the end
     pub gives_rows : (old new : Source R) (rows : List Entries) → old.layout ≡ layout → old.end ≡ None → new.layout ≡ layout
-        → HasGivenRows rem layout old.input new.input old.tally new.tally rows new.end → GivesFirstRows rem old new rows
+        → HasGivenRows rem layout old.input new.input old.counts new.counts rows new.end → GivesFirstRows rem old new rows
     gives_rows old new rows same going layout_is gave = λ all others still.
         let has : HasLeft rem layout old.input all others =
         subst (λ l. HasLeft rem l old.input all others) same
@@ -195,10 +195,10 @@ module _ {R : Type 0} (rem : R → Option (List ℕ)) where
         by all others has new.end refl gave.behind
       where
         by : (all : List Entries) (others : ℕ) → HasLeft rem layout old.input all others → (end : End) → new.end ≡ end
-            → MatchOption end ((gave.at ≡ new.input) × (gave.middle ≡ new.tally)) (HasEndedBy rem layout gave.at gave.middle new.tally)
+            → MatchOption end ((gave.at ≡ new.input) × (gave.middle ≡ new.counts)) (HasEndedBy rem layout gave.at gave.middle new.counts)
             → (rest : List Entries) × (all ≡ rows ++ rest) × (IsWithoutFault new → HasRest rem old new rest others)
         by all others has None is behind =
-            let both = parts old.input gave.at old.tally gave.middle rows all others gave.taken has in
+            let both = parts old.input gave.at old.counts gave.middle rows all others gave.taken has in
             let rest = good_rows layout.schema layout.header both.rest in
             let left = bad_count layout.schema layout.header both.rest in
             let kept : HasLeft rem layout gave.at rest left = record { records = both.rest; left = both.left; good = refl; others = refl } in (
@@ -208,13 +208,13 @@ module _ {R : Type 0} (rem : R → Option (List ℕ)) where
                 left = left;
                 still = subst (λ end. MatchOption end (HasLeft rem new.layout new.input rest left) (λ e. (rest ≡ []) × (left ≡ 0))) (sym is)
                     (subst (λ l. HasLeft rem l new.input rest left) (sym layout_is) (subst (λ input. HasLeft rem layout input rest left) behind.0 kept));
-                count = subst (λ (tally : Tally). tally.bad + left ≡ old.tally.bad + others) behind.1 both.bads;
+                count = subst (λ (counts : Counts). counts.bad + left ≡ old.counts.bad + others) behind.1 both.bads;
               },
             )
         by all others has (Some (Ok done)) is behind =
-            let taken = subst (λ xs. HasTaken rem layout old.input behind.at old.tally new.tally xs) (append-nil rows)
-            (taken_both rem layout old.input gave.at behind.at old.tally gave.middle new.tally rows [] gave.taken behind.taken) in
-            let whole = whole_rows old.input behind.at old.tally new.tally rows all others taken behind.over has in (
+            let taken = subst (λ xs. HasTaken rem layout old.input behind.at old.counts new.counts xs) (append-nil rows)
+            (taken_both rem layout old.input gave.at behind.at old.counts gave.middle new.counts rows [] gave.taken behind.taken) in
+            let whole = whole_rows old.input behind.at old.counts new.counts rows all others taken behind.over has in (
               [],
               sym (append-nil rows ∙ whole.0),
               λ fine. record {
@@ -224,18 +224,18 @@ module _ {R : Type 0} (rem : R → Option (List ℕ)) where
               },
             )
         by all others has (Some (Err fault)) is behind =
-            let first = first_rows old.input gave.at old.tally gave.middle rows all others gave.taken has in
+            let first = first_rows old.input gave.at old.counts gave.middle rows all others gave.taken has in
             (first.0, sym first.1, λ fine. absurd (fine fault is))
 
     -- what is left after the header is all of a file
     pub left_of_file : (input : Reader R) (text : List ℕ) (rows : List Entries) (n : ℕ) → StandsAfter rem layout input text → HasLeft rem layout input rows n
-        → (m : ℕ) × IsWholeFile layout text (tally_of 0 0) (tally_of m n) rows
+        → (m : ℕ) × IsWholeFile layout text (counts_of 0 0) (counts_of m n) rows
     unfolding Reached
     left_of_file input text rows n stands has = by (next_record default_config st.StartRecord [] [] text) refl stands
       where
         by : (o : Option (List (List ℕ) × State × List ℕ)) → next_record default_config st.StartRecord [] [] text ≡ o
             → MatchOption o ⊥ (λ read. (layout.header ≡ read.0) × (reader_state input ≡ read.1) × (source_of rem input ≡ Some read.2))
-            → (m : ℕ) × IsWholeFile layout text (tally_of 0 0) (tally_of m n) rows
+            → (m : ℕ) × IsWholeFile layout text (counts_of 0 0) (counts_of m n) rows
         by None e h = absurd h
         by (Some read) e h =
             let left = subst (λ o. MatchOption o ⊥ (λ rest. AreRecords default_config (reader_state input) rest has.records)) h.2 has.left in

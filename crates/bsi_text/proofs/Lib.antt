@@ -1,6 +1,8 @@
 pub mod AllRecords
+mod Declaring
 pub mod Determined
 mod Filling
+pub mod FirstRecords
 pub mod Joining
 mod Layouts
 mod Left

@@ -19,6 +19,7 @@ use Rattle.bsi_table.specs.Names.{is_name}
 use Rattle.bsi_records.specs.Numbers.{Field}
 use Rattle.bsi_text.specs.Scripts.{Phase, Declaring, IsTurn, AreTurns}
 use Rattle.bsi_records.specs.Setups.{nothing_declared}
+use Rattle.bsi_text.specs.Sources.{max_records}
 use Rattle.bsi_text.specs.Texts.{AreFirstRecords, IsAnswered, IsBegun, IsStopped, IsTooLong}
 use Rattle.bsi_text.specs.Waiting.{IsCut, IsPut, OnceWritten, WhileWritten}
 use Rattle.bsi_text.proofs.AllRecords.{all_records, records_behind, records_end}
@@ -179,7 +180,7 @@ module _ {R : Type 0} (rem : R → Option (List ℕ)) (a b : Reader R) (fields :
       (subst (IsCut before after) (sym (concat_more stands.lines line)) (put_cut before now after waiting (concat stands.lines) stands.put line cut))
 
   -- there is no more
-  pub stands_answered : ReadRecord rem a b false fields → count ≤ 1000000 → OnceWritten now waiting (IsAnswered bytes before)
+  pub stands_answered : ReadRecord rem a b false fields → count ≤ max_records → OnceWritten now waiting (IsAnswered bytes before)
   stands_answered reads small after written = record {
     records = stands.records;
     all = records_end default_config st.StartRecord (reader_state a) (strip_bom bytes) stands.rest stands.records stands.first (rows-end rem a b fields default_config stands.rest config stands.left reads);
@@ -188,7 +189,7 @@ module _ {R : Type 0} (rem : R → Option (List ℕ)) (a b : Reader R) (fields :
   }
 
   -- there is one more than may be
-  pub stands_long : ReadRecord rem a b true fields → count ≡ 1000000 → OnceWritten now waiting (IsTooLong bytes before)
+  pub stands_long : ReadRecord rem a b true fields → count ≡ max_records → OnceWritten now waiting (IsTooLong bytes before)
   stands_long reads many after written = record {
     records = stands.records;
     state = reader_state a;

@@ -18,7 +18,7 @@ use Rattle.bsi_table.specs.Columns.{Declared}
 use Rattle.bsi_table.specs.Rows.{Entries}
 use Rattle.bsi_records.specs.Numbers.{Field}
 use Rattle.bsi_text.specs.RowFiles.{bad_count, good_row, is_header}
-use Rattle.bsi_text.specs.Sources.{HasEnded, HasNext, HasRead, HasStopped, HasNoHeader, HasTaken, IsOver, IsPlain, IsTally, Layout, StandsAfter, Tally}
+use Rattle.bsi_text.specs.Sources.{max_records, AreCounts, Counts, HasEnded, HasNext, HasNoHeader, HasRead, HasStopped, HasTaken, IsOver, IsPlain, Layout, StandsAfter}
 use Rattle.bsi_text.specs.declared.rows.SourceFault.{SourceFault}
 use Rattle.bsi_text.specs.declared.rows.SourceFault.TheVariants.{NoMemory, Read, TooLong}
 
@@ -29,8 +29,8 @@ nothing_read None s = tt
 nothing_read (Some xs) s = (refl, refl)
 
 module _ {R : Type 0} (rem : R → Option (List ℕ)) (layout : Layout) where
-  pub taken_none : (input : Reader R) (tally : Tally) → HasTaken rem layout input input tally tally []
-  taken_none input tally = record {
+  pub taken_none : (input : Reader R) (counts : Counts) → HasTaken rem layout input input counts counts []
+  taken_none input counts = record {
     records = [];
     read = nothing_read (source_of rem input) (reader_state input);
     good = refl;
@@ -95,12 +95,12 @@ count_bad layout records fields bad =
     omega (arith, step, one)
 
 -- where a source stands between two records
-pub record AreTaken {R : Type 0} (rem : R → Option (List ℕ)) (layout : Layout) (old new : Reader R) (before after : Tally) : Type 0 where
+pub record AreTaken {R : Type 0} (rem : R → Option (List ℕ)) (layout : Layout) (old new : Reader R) (before after : Counts) : Type 0 where
   pub taken : HasTaken rem layout old new before after []
   pub plain : IsPlain new
-  pub tally : IsTally after
+  pub counts : AreCounts after
 
-module _ {R : Type 0} (rem : R → Option (List ℕ)) (layout : Layout) (old b : Reader R) (before after : Tally)
+module _ {R : Type 0} (rem : R → Option (List ℕ)) (layout : Layout) (old b : Reader R) (before after : Counts)
     (are : AreTaken rem layout old b before after) where
   -- one more good record
   pub taken_good : (c : Reader R) (fields : List Field) (row : Entries) → ReadRecord rem b c true fields
@@ -115,7 +115,7 @@ module _ {R : Type 0} (rem : R → Option (List ℕ)) (layout : Layout) (old b :
   }
 
   -- one more bad record
-  pub taken_bad : (c : Reader R) (fields : List Field) → ReadRecord rem b c true fields → IsPlain c → after.taken < 1000000
+  pub taken_bad : (c : Reader R) (fields : List Field) → ReadRecord rem b c true fields → IsPlain c → after.taken < max_records
       → None ≡ good_row layout.schema layout.header fields
       → AreTaken rem layout old c before (record { taken = after.taken + 1; bad = after.bad + 1 })
   taken_bad c fields next plain few bad = record {
@@ -128,7 +128,7 @@ module _ {R : Type 0} (rem : R → Option (List ℕ)) (layout : Layout) (old b :
       bad = omega (arith, are.taken.bad, count_bad layout are.taken.records fields (ap is_none (sym bad)));
     };
     plain = plain;
-    tally = record { few = omega arith; bad = omega (arith, are.tally.bad) };
+    counts = record { few = omega arith; bad = omega (arith, are.counts.bad) };
   }
 
   -- no record is left
@@ -141,18 +141,18 @@ module _ {R : Type 0} (rem : R → Option (List ℕ)) (layout : Layout) (old b :
   read_fails true (Err fault) is = record { at = b; taken = are.taken; later = λ bad. cc (is, bad); too_long = λ long. cc (is, long) }
   read_fails false (Err fault) is = record { at = b; taken = are.taken; later = λ bad. cc (is, bad); too_long = λ long. cc (is, long) }
 
-  -- memory is wanted for a row
+  -- memory for a row is refused
   pub memory_fails : {T : Type 0} (r : Result T SourceFault) → IsErrAnd r (λ fault. fault ≡ NoMemory) → IfErr r (HasStopped rem layout old before after)
   memory_fails (Ok found) is = tt
   memory_fails (Err fault) is = record { at = b; taken = are.taken; later = λ bad. cc (is, bad); too_long = λ long. cc (is, long) }
 
   -- there are too many
-  pub is_too_long : (c : Reader R) (fields : List Field) → ReadRecord rem b c true fields → 1000000 ≤ after.taken → HasStopped rem layout old before after TooLong
+  pub is_too_long : (c : Reader R) (fields : List Field) → ReadRecord rem b c true fields → max_records ≤ after.taken → HasStopped rem layout old before after TooLong
   is_too_long c fields next many = record {
     at = b;
     taken = are.taken;
     later = λ is. cc is;
-    too_long = λ is. (omega (arith, are.tally.few), has_more rem old b c fields are.plain.config next);
+    too_long = λ is. (omega (arith, are.counts.few), has_more rem old b c fields are.plain.config next);
   }
 
 -- ---- the header

@@ -6,7 +6,7 @@ use Rattle.std.proofs.lemmas.Bool.Decides.{nat_tests}
 use Rattle.std.proofs.lemmas.Int.{ints}
 use Rattle.std.proofs.lemmas.List.Elements.{All-contains}
 use Rattle.std.proofs.lemmas.List.Sums.{sum_by-cons}
-use Rattle.bsi_shift.specs.WholeNumbers.{IsSignedGreatestOf, IsSignedLeastOf, IsSignedMedianOf, whole_order}
+use Rattle.bsi_shift.specs.WholeNumbers.{IsSignedGreatestOf, IsSignedLeastOf, IsSignedMedianOf, signed_order}
 use Rattle.bsi_slices.specs.Orders.{IsGreatestBy, IsLeastBy, IsLowerMedianBy, IsNoneOr}
 
 both_ways : (x y : ℤ) → int_le x y ≡ true → int_le y x ≡ true → x ≡ y
@@ -18,12 +18,12 @@ neither_way x y below above = grind (arith, ints, nat_tests)
 between : (x low high : ℤ) → int_lt low high ≡ true → int_le x low ≡ true → int_lt x high ≡ true
 between x low high rises at_most = grind (arith, ints, nat_tests)
 
-least : (numbers : List ℤ) (x y : ℤ) → IsLeastBy whole_order numbers x → IsLeastBy whole_order numbers y → x ≡ y
+least : (numbers : List ℤ) (x y : ℤ) → IsLeastBy signed_order numbers x → IsLeastBy signed_order numbers y → x ≡ y
 least numbers x y is_x is_y =
     both_ways x y (All-contains (λ n. IsTrue (int_le x n)) numbers y is_x.none_below is_y.member)
     (All-contains (λ n. IsTrue (int_le y n)) numbers x is_y.none_below is_x.member)
 
-greatest : (numbers : List ℤ) (x y : ℤ) → IsGreatestBy whole_order numbers x → IsGreatestBy whole_order numbers y → x ≡ y
+greatest : (numbers : List ℤ) (x y : ℤ) → IsGreatestBy signed_order numbers x → IsGreatestBy signed_order numbers y → x ≡ y
 greatest numbers x y is_x is_y =
     both_ways x y (All-contains (λ n. IsTrue (int_le n y)) numbers x is_y.none_above is_x.member)
     (All-contains (λ n. IsTrue (int_le n x)) numbers y is_x.none_above is_y.member)
@@ -43,7 +43,7 @@ counted p q then_so (x ∷ xs) =
     one_counted (p x) (q x) (count_by p xs) (count_by q xs) (then_so x) (counted p q then_so xs) in
     omega (arith, one, sum_by-cons (λ y. cond (p y) 1 0) x xs, sum_by-cons (λ y. cond (q y) 1 0) x xs)
 
-not_below : (numbers : List ℤ) (x y : ℤ) → IsLowerMedianBy whole_order numbers x → IsLowerMedianBy whole_order numbers y → int_lt x y ≡ false
+not_below : (numbers : List ℤ) (x y : ℤ) → IsLowerMedianBy signed_order numbers x → IsLowerMedianBy signed_order numbers y → int_lt x y ≡ false
 not_below numbers x y is_x is_y = elim (cases_Bool (int_lt x y)) [
   | inl below ↦
       let few : count_by (λ n. int_le n x) numbers ≤ count_by (λ n. int_lt n y) numbers =
@@ -52,7 +52,7 @@ not_below numbers x y is_x is_y = elim (cases_Bool (int_lt x y)) [
   | inr above ↦ above
 ]
 
-median : (numbers : List ℤ) (x y : ℤ) → IsLowerMedianBy whole_order numbers x → IsLowerMedianBy whole_order numbers y → x ≡ y
+median : (numbers : List ℤ) (x y : ℤ) → IsLowerMedianBy signed_order numbers x → IsLowerMedianBy signed_order numbers y → x ≡ y
 median numbers x y is_x is_y = neither_way x y (not_below numbers x y is_x is_y) (not_below numbers y x is_y is_x)
 
 -- ---- the answers, none where there is no number
@@ -72,10 +72,10 @@ one_answer Is member one numbers (Some x) None is_a is_b = absurd (not_there num
 one_answer Is member one numbers (Some x) (Some y) is_a is_b = ap Some (one numbers x y is_a is_b)
 
 pub one_least : (numbers : List ℤ) (a b : Option ℤ) → IsSignedLeastOf numbers a → IsSignedLeastOf numbers b → a ≡ b
-one_least = one_answer (IsLeastBy whole_order) (λ numbers x is. is.member) least
+one_least = one_answer (IsLeastBy signed_order) (λ numbers x is. is.member) least
 
 pub one_greatest : (numbers : List ℤ) (a b : Option ℤ) → IsSignedGreatestOf numbers a → IsSignedGreatestOf numbers b → a ≡ b
-one_greatest = one_answer (IsGreatestBy whole_order) (λ numbers x is. is.member) greatest
+one_greatest = one_answer (IsGreatestBy signed_order) (λ numbers x is. is.member) greatest
 
 pub one_median : (numbers : List ℤ) (a b : Option ℤ) → IsSignedMedianOf numbers a → IsSignedMedianOf numbers b → a ≡ b
-one_median = one_answer (IsLowerMedianBy whole_order) (λ numbers x is. is.member) median
+one_median = one_answer (IsLowerMedianBy signed_order) (λ numbers x is. is.member) median

@@ -2,6 +2,7 @@ pub mod FaultTexts
 pub mod Pasts
 pub mod RecordTexts
 pub mod RowFiles
+pub mod SchemaTexts
 pub mod Scripts
 pub mod Sessions
 pub mod Sources

@@ -13,7 +13,8 @@ pub record RecordText (R : Type 0) : Type 0 where
   pub end : End
 
 -- a reader gave one record more, which was counted, or had none left
-abbrev pub TakesRecord : {R : Type 0} → (R → Option (List ℕ)) → Reader R → Reader R → ℕ → ℕ → List Field → Bool → Type 0
+abbrev pub TakesRecord : {R : Type 0} → (R → Option (List ℕ)) → Reader R → Reader R → ℕ → ℕ → List Field → Bool
+    → Type 0
 TakesRecord rem old new before after fields true = HasRead rem old new (fields ∷ []) × (after ≡ before + 1)
 TakesRecord rem old new before after fields false = IsOver rem old × (after ≡ before)
 

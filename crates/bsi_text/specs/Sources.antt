@@ -25,12 +25,12 @@ pub record Layout : Type 0 where
   pub header : List Field
 
 -- how many records were taken, and how many of them were bad
-pub record Tally : Type 0 where
+pub record Counts : Type 0 where
   pub taken : ℕ
   pub bad : ℕ
 
-abbrev pub tally_of : ℕ → ℕ → Tally
-tally_of taken bad = record { taken = taken; bad = bad }
+abbrev pub counts_of : ℕ → ℕ → Counts
+counts_of taken bad = record { taken = taken; bad = bad }
 
 -- how a source ended: with all that there is, or by a fault; none while there may be more
 abbrev pub End : Type 0
@@ -46,7 +46,7 @@ end_after false = Some (Ok tt)
 pub record Source (R : Type 0) : Type 0 where
   pub layout : Layout
   pub input : Reader R
-  pub tally : Tally
+  pub counts : Counts
   pub end : End
 
 -- the reader gives one record after another, as they stand, each of any number of fields
@@ -81,7 +81,7 @@ HasNext rem input =
 
 -- records were read and counted, and these are the rows of the good ones
 pub record HasTaken {R : Type 0} (rem : R → Option (List ℕ)) (layout : Layout) (old new : Reader R)
-    (before after : Tally) (rows : List Entries) : Type 0 where
+    (before after : Counts) (rows : List Entries) : Type 0 where
   pub records : List (List Field)
   pub read : HasRead rem old new records
   pub good : good_rows layout.schema layout.header records ≡ rows
@@ -89,7 +89,7 @@ pub record HasTaken {R : Type 0} (rem : R → Option (List ℕ)) (layout : Layou
   pub bad : after.bad ≡ before.bad + bad_count layout.schema layout.header records
 
 -- all records that were left were read and counted, all of them bad
-pub record HasEnded {R : Type 0} (rem : R → Option (List ℕ)) (layout : Layout) (old : Reader R) (before after : Tally)
+pub record HasEnded {R : Type 0} (rem : R → Option (List ℕ)) (layout : Layout) (old : Reader R) (before after : Counts)
     : Type 0 where
   pub at : Reader R
   pub taken : HasTaken rem layout old at before after []
@@ -98,23 +98,23 @@ pub record HasEnded {R : Type 0} (rem : R → Option (List ℕ)) (layout : Layou
 -- a fault, none of the header, was met where these records, all of them bad, had been read; a file is too long where
 -- these are 1,000,000 with those before, and there is one more
 pub record HasStopped {R : Type 0} (rem : R → Option (List ℕ)) (layout : Layout) (old : Reader R)
-    (before after : Tally) (fault : SourceFault) : Type 0 where
+    (before after : Counts) (fault : SourceFault) : Type 0 where
   pub at : Reader R
   pub taken : HasTaken rem layout old at before after []
   pub later : fault ≢ BadHeader
   pub too_long : fault ≡ TooLong → (after.taken ≡ max_records) × HasNext rem at
 
 -- what a call leaves that gives a row, or finds that none is left
-abbrev pub HasGiven : {R : Type 0} → (R → Option (List ℕ)) → Layout → Reader R → Reader R → Tally → Tally
+abbrev pub HasGiven : {R : Type 0} → (R → Option (List ℕ)) → Layout → Reader R → Reader R → Counts → Counts
     → Option Entries → Type 0
 HasGiven rem layout old new before after found =
     MatchOption found (HasEnded rem layout old before after)
     (λ row. HasTaken rem layout old new before after (row ∷ []))
 
 -- the counts of a source
-pub record IsTally (tally : Tally) : Type 0 where
-  pub few : tally.taken ≤ max_records
-  pub bad : tally.bad ≤ tally.taken
+pub record AreCounts (counts : Counts) : Type 0 where
+  pub few : counts.taken ≤ max_records
+  pub bad : counts.bad ≤ counts.taken
 
 -- ---- what is left of a text
 
@@ -141,9 +141,9 @@ StillHas rem source rows bad =
 abbrev pub GivesFirst : {R : Type 0} → (R → Option (List ℕ)) → Source R → Source R → Option Entries → Type 0
 GivesFirst rem old new found =
     (rows : List Entries) → (bad : ℕ) → StillHas rem old rows bad
-    → MatchOption found ((rows ≡ []) × (new.tally.bad ≡ old.tally.bad + bad))
+    → MatchOption found ((rows ≡ []) × (new.counts.bad ≡ old.counts.bad + bad))
     (λ row. (rest : List Entries) × (left : ℕ) × (rows ≡ row ∷ rest) × StillHas rem new rest left
-    × (new.tally.bad + left ≡ old.tally.bad + bad))
+    × (new.counts.bad + left ≡ old.counts.bad + bad))
 
 -- ---- blocks that are filled
 
@@ -152,7 +152,7 @@ abbrev pub with_fed_rows : RowBlock → ℕ → List Entries → RowBlock
 with_fed_rows block feeder rows = record block { rows = block.rows ++ fed_as feeder rows }
 
 -- how a source ended: all records that were left are bad, or a fault was met
-abbrev pub HasEndedBy : {R : Type 0} → (R → Option (List ℕ)) → Layout → Reader R → Tally → Tally
+abbrev pub HasEndedBy : {R : Type 0} → (R → Option (List ℕ)) → Layout → Reader R → Counts → Counts
     → Result (Unit {0}) SourceFault → Type 0
 HasEndedBy rem layout at before after (Ok done) = HasEnded rem layout at before after
 HasEndedBy rem layout at before after (Err fault) = HasStopped rem layout at before after fault
@@ -164,15 +164,15 @@ end_of (Err fault) = Some (Err fault)
 
 -- a reader gave the rows of the good ones of the records that were taken, and goes on or, behind them, has ended
 pub record HasGivenRows {R : Type 0} (rem : R → Option (List ℕ)) (layout : Layout) (old new : Reader R)
-    (before after : Tally) (rows : List Entries) (end : End) : Type 0 where
+    (before after : Counts) (rows : List Entries) (end : End) : Type 0 where
   pub at : Reader R
-  pub middle : Tally
+  pub middle : Counts
   pub taken : HasTaken rem layout old at before middle rows
   pub behind : MatchOption end ((at ≡ new) × (middle ≡ after)) (HasEndedBy rem layout at middle after)
 
 -- the rows that a reader gave were put into a block, and it goes on just where the block is full
 pub record PutsRows {R : Type 0} (rem : R → Option (List ℕ)) (layout : Layout) (old new : Reader R)
-    (before after : Tally) (feeder : ℕ) (start full : RowBlock) (end : End) : Type 0 where
+    (before after : Counts) (feeder : ℕ) (start full : RowBlock) (end : End) : Type 0 where
   pub rows : List Entries
   pub added : full ≡ with_fed_rows start feeder rows
   pub fitting : All (λ row. IsTrue (fits layout.schema.columns row)) rows
@@ -188,7 +188,7 @@ pub record HasRest {R : Type 0} (rem : R → Option (List ℕ)) (old new : Sourc
     : Type 0 where
   pub left : ℕ
   pub still : StillHas rem new rest left
-  pub count : new.tally.bad + left ≡ old.tally.bad + others
+  pub count : new.counts.bad + left ≡ old.counts.bad + others
 
 -- the rows are the first of those that a source still had, which has the others now unless it met a fault. Bad records
 -- were counted.
@@ -200,7 +200,7 @@ GivesFirstRows rem old new rows =
 -- a source that had not ended put the next rows into a block: the first of those that it still had
 pub record Fills {R : Type 0} (rem : R → Option (List ℕ)) (old new : Source R) (feeder : ℕ) (start full : RowBlock)
     : Type 0 where
-  pub puts : PutsRows rem old.layout old.input new.input old.tally new.tally feeder start full new.end
+  pub puts : PutsRows rem old.layout old.input new.input old.counts new.counts feeder start full new.end
   pub first : GivesFirstRows rem old new puts.rows
 
 -- ---- the first record
@@ -218,7 +218,7 @@ HasNoHeader schema text =
 
 -- the records of a whole text are the header and these, and the rows are those of the good ones, and the counts have
 -- grown by them
-pub record IsWholeFile (layout : Layout) (text : List ℕ) (before after : Tally) (rows : List Entries) : Type 0 where
+pub record IsWholeFile (layout : Layout) (text : List ℕ) (before after : Counts) (rows : List Entries) : Type 0 where
   pub records : List (List Field)
   pub all : AreRecords default_config st.StartRecord text (layout.header ∷ records)
   pub good : rows ≡ good_rows layout.schema layout.header records

@@ -19,6 +19,10 @@ AreAllRecords bytes records = AreRecords default_config st.StartRecord (strip_bo
 abbrev pub AreFirstRecords : List ℕ → List (List Field) → State → List ℕ → Type 0
 AreFirstRecords bytes records state rest = Reached default_config st.StartRecord (strip_bom bytes) records state rest
 
+-- these are 1,000,000 records, and the text has one more
+abbrev pub AreTooMany : List (List Field) → State → List ℕ → Type 0
+AreTooMany records state rest = (length records ≡ max_records) × IsSome (next_record default_config state [] [] rest)
+
 -- the lines of a script run of records were put after what a writer held
 abbrev pub WritesLines : Option (List ℕ) → Option (List ℕ) → List (List Field) → Type 0
 WritesLines before after records =

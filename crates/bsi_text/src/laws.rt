@@ -11,7 +11,7 @@ ghost use Rattle.bsi_records.specs.Numbers.{Field};
 ghost use Rattle.bsi_text.specs.Pasts.{FindMemory, HasPast};
 ghost use Rattle.bsi_text.specs.Scripts.{AreTurns, Declaring, IsScriptRun, Running};
 ghost use Rattle.bsi_records.specs.Setups.{nothing_declared};
-ghost use Rattle.bsi_text.specs.Sources.{tally_of, HasLeft, HasRead, HasTaken, IsOver, IsWholeFile, Layout, StandsAfter, Tally};
+ghost use Rattle.bsi_text.specs.Sources.{counts_of, Counts, HasLeft, HasRead, HasTaken, IsOver, IsWholeFile, Layout, StandsAfter};
 ghost use Rattle.bsi_text.specs.Texts.{AreAllRecords, IsAnswered, IsBegun};
 
 use std::io::Read;
@@ -39,7 +39,7 @@ pub fn one_reading()
 
 /// States that several calls of a row source take what one call would: the rows of all calls, in their order.
 pub fn taken_in_turn<R: Read + Drop>()
-    ensures { (layout : Layout) → (a b c : Reader R) → (start middle end : Tally) →
+    ensures { (layout : Layout) → (a b c : Reader R) → (start middle end : Counts) →
         (xs ys : List Entries)
         → HasTaken R.remaining layout a b start middle xs →
         HasTaken R.remaining layout b c middle end ys →
@@ -49,7 +49,7 @@ pub fn taken_in_turn<R: Read + Drop>()
 /// States that what is taken, from after the header to where no record is left, are the rows of the good records of
 /// the whole text, in their order, and that the count of bad records is that of all others.
 pub fn rows_of_a_file<R: Read + Drop>()
-    ensures { (layout : Layout) → (a b : Reader R) → (text : List ℕ) → (start end : Tally) →
+    ensures { (layout : Layout) → (a b : Reader R) → (text : List ℕ) → (start end : Counts) →
         (rows : List Entries)
         → StandsAfter R.remaining layout a text → HasTaken R.remaining layout a b start end rows →
         IsOver R.remaining b → IsWholeFile layout text start end rows }
@@ -57,8 +57,8 @@ pub fn rows_of_a_file<R: Read + Drop>()
 
 /// States that nothing is taken before the first call of a row source.
 pub fn none_taken<R: Read + Drop>()
-    ensures { (layout : Layout) → (input : Reader R) → (tally : Tally) →
-        HasTaken R.remaining layout input input tally tally [] }
+    ensures { (layout : Layout) → (input : Reader R) → (counts : Counts) →
+        HasTaken R.remaining layout input input counts counts [] }
 {}
 
 /// States that a reader whose bytes are known has exactly one list of rows of good records left, and exactly one number
@@ -77,26 +77,26 @@ pub fn left_of_a_file<R: Read + Drop>()
     ensures { (layout : Layout) → (input : Reader R) → (text : List ℕ) → (rows : List Entries) →
         (n : ℕ)
         → StandsAfter R.remaining layout input text → HasLeft R.remaining layout input rows n
-        → (m : ℕ) × IsWholeFile layout text (tally_of 0 0) (tally_of m n) rows }
+        → (m : ℕ) × IsWholeFile layout text (counts_of 0 0) (counts_of m n) rows }
 {}
 
 /// States that the rows that were taken are the first of those that the reader had left, also without the last of them.
 /// If no record is left, they are all of them, and the bad records were counted. Together with the rows that are still
 /// left, they are those that the reader had.
 pub fn taken_of_left<R: Read + Drop>()
-    ensures first { (layout : Layout) → (a b : Reader R) → (start end : Tally) →
+    ensures first { (layout : Layout) → (a b : Reader R) → (start end : Counts) →
         (xs rows : List Entries) → (n : ℕ)
         → HasTaken R.remaining layout a b start end xs → HasLeft R.remaining layout a rows n →
         IsPrefix xs rows }
-    ensures without_last { (layout : Layout) → (a b : Reader R) → (start end : Tally) →
+    ensures without_last { (layout : Layout) → (a b : Reader R) → (start end : Counts) →
         (xs : List Entries) → (last : Entries) → (rows : List Entries) → (n : ℕ)
         → HasTaken R.remaining layout a b start end (xs ++ last ∷ []) →
         HasLeft R.remaining layout a rows n → IsPrefix xs rows }
-    ensures all { (layout : Layout) → (a b : Reader R) → (start end : Tally) →
+    ensures all { (layout : Layout) → (a b : Reader R) → (start end : Counts) →
         (xs rows : List Entries) → (n : ℕ)
         → HasTaken R.remaining layout a b start end xs → IsOver R.remaining b →
         HasLeft R.remaining layout a rows n → (xs ≡ rows) × (end.bad ≡ start.bad + n) }
-    ensures rest { (layout : Layout) → (a b : Reader R) → (start end : Tally) →
+    ensures rest { (layout : Layout) → (a b : Reader R) → (start end : Counts) →
         (xs ys : List Entries) → (n : ℕ) → IsSome (source_of R.remaining a)
         → HasTaken R.remaining layout a b start end xs → HasLeft R.remaining layout b ys n
         → (m : ℕ) × HasLeft R.remaining layout a (xs ++ ys) m × (start.bad + m ≡ end.bad + n) }

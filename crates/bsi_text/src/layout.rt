@@ -1,13 +1,14 @@
 //! The header of a row file, and the rows that its records give.
 //!
-//! The header is tested as it is defined, once a file: each column has one field, and each field is a column.
+//! The header is tested as it is defined, once a file: each column has one field, and each field is a column. The loops
+//! go over places: the clauses of a record's iterator tell of one step, and would take a longer proof than the loop.
 
 ghost use Rattle.std.specs.Prelude.{◌≡◌, ◌<◌, ◌≤◌, [], if◌then◌else◌, length, map, count_by, vec_capacity, Some, None, true, false, IfOk, IsTrue, OnOk};
 ghost use Rattle.std.specs.List.{list_all};
 ghost use Rattle.std.specs.Str.{bytes_eq};
 ghost use Rattle.csv.specs.Records.{fields_of};
 ghost use Rattle.bsi_table.specs.Columns.{fits};
-ghost use Rattle.bsi_table.specs.RowBlocks.{max_block_rows, no_block_rows, with_block_row, AreAlike};
+ghost use Rattle.bsi_table.specs.RowBlocks.{max_block_rows, no_block_rows, with_block_row, HaveSameLimits};
 ghost use Rattle.bsi_records.specs.Numbers.{values_in};
 ghost use Rattle.bsi_text.specs.RowFiles.{fitting, given, good_row, in_order, is_header, is_known, is_named_once, place_of};
 
@@ -112,7 +113,8 @@ impl Layout {
         Vec::with_capacity(alloc, self.places.len())
     }
 
-    /// Reads a record into the entries of a row, adds these to a block if the record is good, and returns whether it is.
+    /// Reads a record into the entries of a row, adds these to a block if the record is good, and returns whether it
+    /// is.
     pub(crate) fn add(
         &self,
         fields: &ByteRecord,
@@ -120,7 +122,7 @@ impl Layout {
         feeder: u32,
         block: &mut Block,
     ) -> bool
-        requires alike { AreAlike block.old.schema self.now.schema }
+        requires alike { HaveSameLimits block.old.schema self.now.schema }
         requires room { length block.old.rows < max_block_rows }
         requires feeder { feeder < block.old.feeders }
         requires wide { length self.now.schema.columns ≤ vec_capacity entries.old }
@@ -140,6 +142,7 @@ impl Layout {
     }
 
     /// Reads the fields of a record in the order of the columns as the entries of a row, and returns whether this fits.
+    // A block takes entries of 64 bits, tested as they are read. A row of numbers of 128 bits is read by 'read_values'.
     fn read_entries(&self, fields: &ByteRecord, entries: &mut Vec<Option<i64>>) -> bool
         requires wide { length self.now.schema.columns ≤ vec_capacity entries.old }
         ensures row { given result entries.new.items

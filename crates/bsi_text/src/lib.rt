@@ -5,6 +5,7 @@ pub mod laws;
 mod layout;
 mod reading;
 mod rows;
+mod schema_text;
 mod script;
 mod session;
 mod texts;
@@ -16,6 +17,7 @@ pub use bsi_records::{
     write_reply,
 };
 pub use rows::{RowSource, SourceFault};
+pub use schema_text::{SchemaFault, read_schema};
 pub use script::{ScriptFault, run_script};
 pub use texts::RecordSource;
 pub use writing::{WriteFault, write_bytes};

@@ -28,6 +28,7 @@ pub(crate) fn plain_reader<R: Read + Drop>(alloc: Global, reader: R) -> Reader<R
 }
 
 /// Reads the next record, and returns whether there was one.
+// It is a function because its clauses say what csv's call does with such a reader.
 pub(crate) fn read_next<R: Read + Drop>(
     input: &mut Reader<R>,
     fields: &mut ByteRecord,

@@ -7,16 +7,16 @@ ghost use Rattle.std.specs.Prelude.{◌≡◌, ◌≢◌, ◌<◌, ◌≤◌, So
 ghost use Rattle.csv.specs.Reading.{reader_state, source_of, strip_bom};
 ghost use Rattle.csv.specs.declared.parser.State.TheVariants as st;
 ghost use Rattle.bsi_table.specs.Columns.{fits};
-ghost use Rattle.bsi_table.specs.RowBlocks.{max_block_rows, no_block_rows, AreAlike};
+ghost use Rattle.bsi_table.specs.RowBlocks.{max_block_rows, no_block_rows, HaveSameLimits};
 ghost use Rattle.bsi_text.specs.RowFiles.{given, is_header};
-ghost use Rattle.bsi_text.specs.Sources.{end_after, end_of, max_records, tally_of, Fills, GivesFirst, HasGiven, HasNoHeader, HasStopped, IsPlain, IsTally, PutsRows, StandsAfter};
+ghost use Rattle.bsi_text.specs.Sources.{counts_of, end_after, end_of, max_records, AreCounts, Fills, GivesFirst, HasGiven, HasNoHeader, HasStopped, IsPlain, PutsRows, StandsAfter};
 
 use crate::NoMemory;
 use crate::layout::Layout;
 use crate::reading::{MAX_RECORDS, end_after, plain_reader, read_next, take_record};
 use bsi_table::{Block, MAX_BLOCK_ROWS, Row, Schema};
 use csv::{ByteRecord, Reader};
-use std::alloc::{AllocError, Global};
+use std::alloc::Global;
 use std::error::Error;
 use std::fmt;
 use std::io::Read;
@@ -29,7 +29,7 @@ pub enum SourceFault {
     BadHeader,
     /// The reader failed.
     Read,
-    /// Memory was refused for the header, a record, a row or the copy of the schema.
+    /// Memory was refused for the header, the places of the fields, the copy of the schema, a record or a row.
     NoMemory,
     /// There are more than 1,000,000 records after the header.
     TooLong,
@@ -53,12 +53,12 @@ impl fmt::Display for SourceFault {
 
 impl Error for SourceFault {}
 
-impl From<AllocError> for SourceFault {
+impl From<NoMemory> for SourceFault {
     ghost use Rattle.bsi_text.specs.declared.rows.SourceFault.TheVariants.{NoMemory};
 
     ghost from_gives = { λ _ e. e ≡ NoMemory };
 
-    fn from(_refused: AllocError) -> SourceFault {
+    fn from(_refused: NoMemory) -> SourceFault {
         SourceFault::NoMemory
     }
 }
@@ -98,14 +98,14 @@ pub struct RowSource<R: Read + Drop> {
 // Clauses see the layout, the reader, the counts, and how the source ended.
 impl<R: Read + Drop> Model for RowSource<R> {
     ghost use Rattle.std.specs.Prelude.{◌≡◌, None};
-    ghost use Rattle.bsi_text.specs.Sources.{tally_of, IsPlain, IsTally, Source};
+    ghost use Rattle.bsi_text.specs.Sources.{counts_of, AreCounts, IsPlain, Source};
 
     ghost Value = { Source R };
 
     ghost view = { λ s. record
-        { layout = s.layout; input = s.input; tally = tally_of s.taken s.bad; end = s.end } };
+        { layout = s.layout; input = s.input; counts = counts_of s.taken s.bad; end = s.end } };
 
-    ghost invariant = { λ s. IsTally (tally_of s.taken s.bad) × (s.end ≡ None → IsPlain s.input) };
+    ghost invariant = { λ s. AreCounts (counts_of s.taken s.bad) × (s.end ≡ None → IsPlain s.input) };
 }
 
 impl<R: Read + Drop> RowSource<R> {
@@ -116,7 +116,7 @@ impl<R: Read + Drop> RowSource<R> {
     pub fn begin(alloc: Global, schema: &Schema, reader: R) -> Result<RowSource<R>, SourceFault>
         ensures schema { IfOk result (λ source. source.layout.schema ≡ schema.now) }
         ensures header { IfOk result (λ source. is_header schema.now source.layout.header ≡ true) }
-        ensures fresh { IfOk result (λ source. (source.tally ≡ record { taken = 0; bad = 0 })
+        ensures fresh { IfOk result (λ source. (source.counts ≡ record { taken = 0; bad = 0 })
             × (source.end ≡ None)) }
         ensures behind { IfOk result
             (λ source. IfSome (R.remaining reader)
@@ -146,19 +146,19 @@ impl<R: Read + Drop> RowSource<R> {
         ensures ended { self.old.end ≡ Some (Ok tt) → (result ≡ Ok None) × (self.new ≡ self.old) }
         ensures given { self.old.end ≡ None →
             IfOk result (HasGiven R.remaining self.old.layout self.old.input self.new.input
-            self.old.tally self.new.tally) }
+            self.old.counts self.new.counts) }
         ensures goes_on { self.old.end ≡ None →
             IfOk result (λ found. self.new.end ≡ end_after (is_some found)) }
         ensures stopped { self.old.end ≡ None →
             IfErr result (λ fault. HasStopped R.remaining self.old.layout self.old.input
-            self.old.tally self.new.tally fault × (self.new.end ≡ Some (Err fault))) }
+            self.old.counts self.new.counts fault × (self.new.end ≡ Some (Err fault))) }
         ensures same { self.new.layout ≡ self.old.layout }
 
         // The row is the first of those that the source still had; it fits. No more records are taken than may be.
         ensures first { IfOk result (GivesFirst R.remaining self.old self.new) }
         ensures fits { IfOk result
             (λ found. IfSome found (λ row. IsTrue (fits self.old.layout.schema.columns row))) }
-        ensures few { self.new.tally.taken ≤ max_records }
+        ensures few { self.new.counts.taken ≤ max_records }
     {
         let mut row = Row::new(Vec::new(self.alloc));
         if !self.next_into(&mut row)? {
@@ -176,12 +176,12 @@ impl<R: Read + Drop> RowSource<R> {
         ensures ended { self.old.end ≡ Some (Ok tt) → (result ≡ Ok false) × (self.new ≡ self.old) }
         ensures given { self.old.end ≡ None →
             IfOk result (λ found. HasGiven R.remaining self.old.layout self.old.input self.new.input
-            self.old.tally self.new.tally (given found row.new)) }
+            self.old.counts self.new.counts (given found row.new)) }
         ensures goes_on { self.old.end ≡ None →
             IfOk result (λ found. self.new.end ≡ end_after found) }
         ensures stopped { self.old.end ≡ None →
             IfErr result (λ fault. HasStopped R.remaining self.old.layout self.old.input
-            self.old.tally self.new.tally fault × (self.new.end ≡ Some (Err fault))) }
+            self.old.counts self.new.counts fault × (self.new.end ≡ Some (Err fault))) }
         ensures same { self.new.layout ≡ self.old.layout }
 
         // The row is the first of those that the source still had; it fits. No more records are taken than may be.
@@ -189,7 +189,7 @@ impl<R: Read + Drop> RowSource<R> {
             (λ found. GivesFirst R.remaining self.old self.new (given found row.new)) }
         ensures fits { IfOk result (λ found. found ≡ true →
             IsTrue (fits self.old.layout.schema.columns row.new)) }
-        ensures few { self.new.tally.taken ≤ max_records }
+        ensures few { self.new.counts.taken ≤ max_records }
     {
         if let Some(end) = self.end {
             return end.map(|()| false);
@@ -218,7 +218,7 @@ impl<R: Read + Drop> RowSource<R> {
     /// record is left. It works as so many calls of `next_row` do, but it allocates memory for one row alone. A fault
     /// that is met once a row was added is left to the next call.
     pub fn fill(&mut self, feeder: u32, block: &mut Block) -> Result<(), SourceFault>
-        requires alike { AreAlike block.old.schema self.old.layout.schema }
+        requires alike { HaveSameLimits block.old.schema self.old.layout.schema }
         requires room { length block.old.rows < max_block_rows }
         requires feeder { feeder < block.old.feeders }
         ensures failed { (fault : SourceFault) → self.old.end ≡ Some (Err fault) →
@@ -235,7 +235,7 @@ impl<R: Read + Drop> RowSource<R> {
         ensures later { OnOk result ((fault : SourceFault) → self.new.end ≡ Some (Err fault) →
             length block.old.rows < length block.new.rows) }
         ensures same { self.new.layout ≡ self.old.layout }
-        ensures few { self.new.tally.taken ≤ max_records }
+        ensures few { self.new.counts.taken ≤ max_records }
     {
         if let Some(end) = self.end {
             return end;
@@ -260,7 +260,7 @@ impl<R: Read + Drop> RowSource<R> {
 
     /// Returns how many bad records were passed over so far, at most 1,000,000.
     pub fn bad(&self) -> u64
-        ensures bad { result ≡ self.now.tally.bad }
+        ensures bad { result ≡ self.now.counts.bad }
         ensures within { result ≤ max_records }
     {
         self.bad
@@ -304,17 +304,17 @@ fn take_row<R: Read + Drop>(
     bad: &mut u64,
 ) -> Result<bool, SourceFault>
     requires plain { IsPlain input.old }
-    requires tally { IsTally (tally_of taken.old bad.old) }
+    requires counts { AreCounts (counts_of taken.old bad.old) }
     ensures given { IfOk result
-        (λ found. HasGiven R.remaining layout.now input.old input.new (tally_of taken.old bad.old)
-        (tally_of taken.new bad.new) (given found row.new)) }
+        (λ found. HasGiven R.remaining layout.now input.old input.new (counts_of taken.old bad.old)
+        (counts_of taken.new bad.new) (given found row.new)) }
     ensures stopped { IfErr result
-        (HasStopped R.remaining layout.now input.old (tally_of taken.old bad.old)
-        (tally_of taken.new bad.new)) }
+        (HasStopped R.remaining layout.now input.old (counts_of taken.old bad.old)
+        (counts_of taken.new bad.new)) }
     ensures fits { IfOk result (λ found. found ≡ true →
         IsTrue (fits layout.now.schema.columns row.new)) }
     ensures plain { OnOk result (IsPlain input.new) }
-    ensures tally { IsTally (tally_of taken.new bad.new) }
+    ensures counts { AreCounts (counts_of taken.new bad.new) }
 {
     layout.make_room(alloc, row)?;
     'records: while *taken < MAX_RECORDS {
@@ -347,14 +347,14 @@ fn put_rows<R: Read + Drop>(
     bad: &mut u64,
 ) -> Result<bool, SourceFault>
     requires plain { IsPlain input.old }
-    requires tally { IsTally (tally_of taken.old bad.old) }
-    requires alike { AreAlike block.old.schema layout.now.schema }
+    requires counts { AreCounts (counts_of taken.old bad.old) }
+    requires alike { HaveSameLimits block.old.schema layout.now.schema }
     requires room { length block.old.rows < max_block_rows }
     requires feeder { feeder < block.old.feeders }
-    ensures puts { PutsRows R.remaining layout.now input.old input.new (tally_of taken.old bad.old)
-        (tally_of taken.new bad.new) feeder block.old block.new (end_of result) }
+    ensures puts { PutsRows R.remaining layout.now input.old input.new (counts_of taken.old bad.old)
+        (counts_of taken.new bad.new) feeder block.old block.new (end_of result) }
     ensures plain { OnOk result (IsPlain input.new) }
-    ensures tally { IsTally (tally_of taken.new bad.new) }
+    ensures counts { AreCounts (counts_of taken.new bad.new) }
 {
     let mut entries = layout.entries(alloc)?;
     'records: while block.len() < MAX_BLOCK_ROWS {

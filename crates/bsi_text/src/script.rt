@@ -11,12 +11,13 @@ ghost use Rattle.bsi_text.specs.Sources.{IsPlain};
 ghost use Rattle.bsi_text.specs.Texts.{FromText, IfKnown, IsAnswered, IsBegun, IsStopped, IsTooLong, OnceServed};
 ghost use Rattle.bsi_text.specs.Waiting.{IsCut, IsPut, WhileWritten};
 
+use crate::NoMemory;
 use crate::reading::{MAX_RECORDS, plain_reader, read_next};
 use crate::session::Session;
 use crate::watched::{Watched, has_whole_record};
 use crate::writing::{WriteFault, write_bytes};
 use csv::{ByteRecord, Reader};
-use std::alloc::{AllocError, Global};
+use std::alloc::Global;
 use std::error::Error;
 use std::fmt;
 use std::io::{Read, Write};
@@ -24,7 +25,7 @@ use std::io::{Read, Write};
 /// The most bytes of waiting lines.
 const MAX_GATHERED: usize = 1 << 16;
 
-/// Why a script ends before its input does. The lines before the end were written.
+/// Why a script ends before its input does. `run_script` says what was written.
 #[derive(Clone, Copy, Debug, PartialEq, Eq)]
 pub enum ScriptFault {
     /// The reader failed.
@@ -81,12 +82,12 @@ impl From<WriteFault> for ScriptFault {
     }
 }
 
-impl From<AllocError> for ScriptFault {
+impl From<NoMemory> for ScriptFault {
     ghost use Rattle.bsi_text.specs.declared.script.ScriptFault.TheVariants.{NoMemory};
 
     ghost from_gives = { λ _ e. e ≡ NoMemory };
 
-    fn from(_refused: AllocError) -> ScriptFault {
+    fn from(_refused: NoMemory) -> ScriptFault {
         ScriptFault::NoMemory
     }
 }

@@ -10,8 +10,8 @@ use std::io::Write;
 #[derive(Clone, Copy, Debug, PartialEq, Eq)]
 pub struct WriteFault;
 
-/// Writes all bytes. After a fault, what went out is a first part of them. It is not `write_all`, which does not promise
-/// what a fault leaves.
+/// Writes all bytes. After a fault, what went out is a first part of them. It is not `write_all`, which does not
+/// promise what a fault leaves.
 pub fn write_bytes<W: Write>(writer: &mut W, bytes: &[u8]) -> Result<(), WriteFault>
     ensures ok { OnOk result (Appends (W.contents writer.old) (W.contents writer.new) bytes.now) }
     ensures part { OnErr result (IsCut (W.contents writer.old) (W.contents writer.new) bytes.now) }
@@ -19,9 +19,8 @@ pub fn write_bytes<W: Write>(writer: &mut W, bytes: &[u8]) -> Result<(), WriteFa
     let mut at = 0;
     'bytes: while at < bytes.len() {
         match writer.write(&bytes[at..]) {
-            Ok(0) => return Err(WriteFault),
+            Ok(0) | Err(_) => return Err(WriteFault),
             Ok(taken) => at += taken,
-            Err(_) => return Err(WriteFault),
         }
     }
     Ok(())

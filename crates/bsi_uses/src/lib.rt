@@ -1,4 +1,5 @@
-//! Examples of calls, which README.md and CALLING.md show. `make test` proves and runs them, and no crate uses this one.
+//! Examples of calls, which README.md and CALLING.md show. `make test` proves and runs them, and no crate uses this
+//! one.
 #![tactic(auto)]
 
 #[cfg(test)]

@@ -15,6 +15,9 @@ use std::sync::Wait;
 use std::thread;
 use std::thread::{Promise, PromisedHandle, Threads};
 
+/// The most rows of the index.
+const LIMIT: u64 = 1_000;
+
 /// The promise of a thread: its closing is that of the feeder that it was given.
 #[derive(Drop)]
 struct OfFeeder(Snapshot<Feeder>);
@@ -100,13 +103,13 @@ fn run_in<B: Naming + Send + Sync + 'static, R: Threads + Wait>(
     capacities: Vec<u32>,
 ) -> Option<Answer>
     requires history { history ≡ record { book = B.book; list = [] } }
-    requires about { B.about ≡ no_rows schema (length capacities.items) 1000 }
+    requires about { B.about ≡ no_rows schema (length capacities.items) LIMIT }
 {
     let System {
         feeders,
         mut loader,
         mut analysts,
-    } = match open::<B>(alloc, history, schema, capacities, 1_000, 1) {
+    } = match open::<B>(alloc, history, schema, capacities, LIMIT, 1) {
         Ok(system) => system,
         Err(OpenRefused::Make(_)) => return None,
         Err(OpenRefused::Readers(loader)) => {

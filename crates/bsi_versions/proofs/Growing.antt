@@ -5,7 +5,7 @@ use Rattle.std.proofs.lemmas.Bool.Decides.{nat_tests}
 use mathlib.Core.List.{IsPrefix}
 use prog.Atomic.{either}
 use Rattle.logbook.specs.Pages.{Cell, cell, keeps, no_nib, step, Goes, Moves}
-use Rattle.bsi_versions.specs.Pages.{latest, Adds, AreGrowing, IsHistory, Rows}
+use Rattle.bsi_versions.specs.History.{latest, Adds, AreGrowing, IsHistory, RowList}
 
 -- ---- beginnings of a list
 
@@ -39,61 +39,61 @@ prefix_length xs ys p = omega (arith, sym (ap length p.1) ∙ length-append xs p
 
 -- ---- lists that grow
 
-pub latest-push : (rows : Rows) (pages : List Rows) (page : Rows) → latest rows (pages ++ page ∷ []) ≡ page
-latest-push rows [] page = refl
-latest-push rows (p ∷ pages) page = latest-push p pages page
+pub latest-push : (rows : RowList) (lists : List RowList) (list : RowList) → latest rows (lists ++ list ∷ []) ≡ list
+latest-push rows [] list = refl
+latest-push rows (p ∷ lists) list = latest-push p lists list
 
-pub growing-push : (rows : Rows) (pages : List Rows) (page : Rows) → AreGrowing rows pages → IsPrefix (latest rows pages) page → AreGrowing rows (pages ++ page ∷ [])
-growing-push rows [] page growing begins = (begins, tt)
-growing-push rows (p ∷ pages) page growing begins = (growing.0, growing-push p pages page growing.1 begins)
+pub growing-push : (rows : RowList) (lists : List RowList) (list : RowList) → AreGrowing rows lists → IsPrefix (latest rows lists) list → AreGrowing rows (lists ++ list ∷ [])
+growing-push rows [] list growing begins = (begins, tt)
+growing-push rows (p ∷ lists) list growing begins = (growing.0, growing-push p lists list growing.1 begins)
 
 -- the last list begins with the first
-pub first-begins : (rows : Rows) (pages : List Rows) → AreGrowing rows pages → IsPrefix rows (latest rows pages)
+pub first-begins : (rows : RowList) (lists : List RowList) → AreGrowing rows lists → IsPrefix rows (latest rows lists)
 first-begins rows [] growing = prefix_self rows
-first-begins rows (p ∷ pages) growing = prefix_trans rows p (latest p pages) growing.0 (first-begins p pages growing.1)
+first-begins rows (p ∷ lists) growing = prefix_trans rows p (latest p lists) growing.0 (first-begins p lists growing.1)
 
 -- what was the last list once begins each last list from then on
-pub once-begins : (rows : Rows) (once pages : List Rows) → IsPrefix once pages → AreGrowing rows pages → IsPrefix (latest rows once) (latest rows pages)
-once-begins rows [] pages p growing = first-begins rows pages growing
+pub once-begins : (rows : RowList) (once lists : List RowList) → IsPrefix once lists → AreGrowing rows lists → IsPrefix (latest rows once) (latest rows lists)
+once-begins rows [] lists p growing = first-begins rows lists growing
 once-begins rows (x ∷ xs) [] p growing = absurd (cc (p.1))
 once-begins rows (x ∷ xs) (y ∷ ys) p growing =
     let heads : x ≡ y = cc (p.1) in
     subst (λ z. IsPrefix (latest z xs) (latest y ys)) (sym heads) (once-begins y xs ys (p.0, cc (p.1)) growing.1)
 
 -- of two lists that were published, each the last one once, the shorter begins the longer
-pub once-meet : (once again both : List Rows) (a b : Rows) → latest [] once ≡ a → latest [] again ≡ b → IsPrefix once both → IsPrefix again both → AreGrowing [] both → length a ≤ length b → IsPrefix a b
+pub once-meet : (once again both : List RowList) (a b : RowList) → latest [] once ≡ a → latest [] again ≡ b → IsPrefix once both → IsPrefix again both → AreGrowing [] both → length a ≤ length b → IsPrefix a b
 once-meet once again both a b is are p q growing le =
     prefix_shorter a b (latest [] both)
-    (subst (λ (rows : Rows). IsPrefix rows (latest [] both)) is (once-begins [] once both p growing))
-    (subst (λ (rows : Rows). IsPrefix rows (latest [] both)) are (once-begins [] again both q growing)) le
+    (subst (λ (rows : RowList). IsPrefix rows (latest [] both)) is (once-begins [] once both p growing))
+    (subst (λ (rows : RowList). IsPrefix rows (latest [] both)) are (once-begins [] again both q growing)) le
 
 -- ---- the step that adds a list
 
-abbrev pub shown : List Rows → List Rows
-shown pages = []
+abbrev pub shown : List RowList → List RowList
+shown lists = []
 
-abbrev pub moved : List Rows → List Rows → ℕ → Type 0
+abbrev pub moved : List RowList → List RowList → ℕ → Type 0
 moved xs ys n = Unit {0}
 
-adds_goes : (pages once : List Rows) (page : Rows) (old new : ℕ) → length (latest [] once) ≡ old → IsPrefix (latest [] once) page → length page ≡ new → AreGrowing [] pages → IsPrefix once pages
-    → (b : Bool) → (length (latest [] pages) == old) ≡ b
-    → Goes IsHistory shown moved 0 (once, (no_nib, None)) (λ n. either (n == old) new n) (Adds (step 0 old new page) (once, (no_nib, None))) ((length (latest [] pages), true) ∷ (0, true) ∷ []) pages
-adds_goes pages once page old new len begins long growing pre true is =
-    let here : length (latest [] pages) ≡ old = grind (arith, nat_tests) in
-    let same : latest [] once ≡ latest [] pages = prefix_whole (latest [] once) (latest [] pages) (once-begins [] once pages pre growing) (omega arith) in
-    let last = latest-push [] pages page in
-    let n : either (length (latest [] pages) == old) new (length (latest [] pages)) ≡ length (latest [] (pages ++ page ∷ [])) = rw is (sym long ∙ ap length (sym last)) in (
+adds_goes : (lists once : List RowList) (list : RowList) (old new : ℕ) → length (latest [] once) ≡ old → IsPrefix (latest [] once) list → length list ≡ new → AreGrowing [] lists → IsPrefix once lists
+    → (b : Bool) → (length (latest [] lists) == old) ≡ b
+    → Goes IsHistory shown moved 0 (once, (no_nib, None)) (λ n. either (n == old) new n) (Adds (step 0 old new list) (once, (no_nib, None))) ((length (latest [] lists), true) ∷ (0, true) ∷ []) lists
+adds_goes lists once list old new len begins long growing pre true is =
+    let here : length (latest [] lists) ≡ old = grind (arith, nat_tests) in
+    let same : latest [] once ≡ latest [] lists = prefix_whole (latest [] once) (latest [] lists) (once-begins [] once lists pre growing) (omega arith) in
+    let last = latest-push [] lists list in
+    let n : either (length (latest [] lists) == old) new (length (latest [] lists)) ≡ length (latest [] (lists ++ list ∷ [])) = rw is (sym long ∙ ap length (sym last)) in (
       keeps,
-      page ∷ [],
+      list ∷ [],
       None,
       tt,
-      record { words = ap (λ (k : ℕ). (k, true) ∷ (0, true) ∷ []) n; growing = growing-push [] pages page growing (subst (λ (rows : Rows). IsPrefix rows page) same begins) },
+      record { words = ap (λ (k : ℕ). (k, true) ∷ (0, true) ∷ []) n; growing = growing-push [] lists list growing (subst (λ (rows : RowList). IsPrefix rows list) same begins) },
       inl (refl, refl),
       λ found. last,
     )
-adds_goes pages once page old new len begins long growing pre false is =
-    let all : pages ++ [] ≡ pages = append-nil pages in
-    let n : either (length (latest [] pages) == old) new (length (latest [] pages)) ≡ length (latest [] (pages ++ [])) = rw is (ap (λ (ps : List Rows). length (latest [] ps)) (sym all)) in (
+adds_goes lists once list old new len begins long growing pre false is =
+    let all : lists ++ [] ≡ lists = append-nil lists in
+    let n : either (length (latest [] lists) == old) new (length (latest [] lists)) ≡ length (latest [] (lists ++ [])) = rw is (ap (λ (ps : List RowList). length (latest [] ps)) (sym all)) in (
       keeps,
       [],
       None,
@@ -104,8 +104,8 @@ adds_goes pages once page old new len begins long growing pre false is =
     )
 
 -- whatever the history is, the step adds the list, or finds that the last one is of another length
-pub adds_moves : (once : List Rows) (page : Rows) (old new : ℕ) → length (latest [] once) ≡ old → IsPrefix (latest [] once) page → length page ≡ new
-    → Moves IsHistory shown moved 0 (once, (no_nib, None)) (λ n. either (n == old) new n) (Adds (step 0 old new page) (once, (no_nib, None)))
-adds_moves once page old new len begins long cs pages kept pre away =
-    let P : List Cell → Type 0 = λ c. (0 < length c) × ((cell c 0).1 ≡ true) × Goes IsHistory shown moved 0 (once, (no_nib, None)) (λ n. either (n == old) new n) (Adds (step 0 old new page) (once, (no_nib, None))) c pages in
-    subst P (sym kept.words) (omega arith, refl, adds_goes pages once page old new len begins long kept.growing pre (length (latest [] pages) == old) refl)
+pub adds_moves : (once : List RowList) (list : RowList) (old new : ℕ) → length (latest [] once) ≡ old → IsPrefix (latest [] once) list → length list ≡ new
+    → Moves IsHistory shown moved 0 (once, (no_nib, None)) (λ n. either (n == old) new n) (Adds (step 0 old new list) (once, (no_nib, None)))
+adds_moves once list old new len begins long cs lists kept pre away =
+    let P : List Cell → Type 0 = λ c. (0 < length c) × ((cell c 0).1 ≡ true) × Goes IsHistory shown moved 0 (once, (no_nib, None)) (λ n. either (n == old) new n) (Adds (step 0 old new list) (once, (no_nib, None))) c lists in
+    subst P (sym kept.words) (omega arith, refl, adds_goes lists once list old new len begins long kept.growing pre (length (latest [] lists) == old) refl)

@@ -1,3 +1,3 @@
 pub mod Editions
-pub mod Pages
+pub mod History
 pub mod Questions

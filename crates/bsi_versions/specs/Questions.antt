@@ -4,12 +4,12 @@ use Rattle.bsi_table.specs.declared.query.Answer.{Answer}
 use Rattle.bsi_table.specs.declared.query.Query.{Query}
 use Rattle.bsi_table.specs.Answers.{IsReply}
 use Rattle.bsi_table.specs.Columns.{Declared}
-use Rattle.bsi_versions.specs.Pages.{Rows}
+use Rattle.bsi_versions.specs.History.{RowList}
 use Rattle.bsi_versions.specs.declared.analyst.AnalystRefused.{AnalystRefused}
 use Rattle.bsi_versions.specs.declared.analyst.AnalystRefused.TheVariants.{Gone, Ask}
 
 -- the reply that a table of these rows gives, or that no copy was given
-abbrev pub IsAnalystReply : Declared → Rows → Query → Result Answer AnalystRefused → Type 0
+abbrev pub IsAnalystReply : Declared → RowList → Query → Result Answer AnalystRefused → Type 0
 IsAnalystReply schema rows query (Ok answer) = IsReply schema rows query (Ok answer)
 IsAnalystReply schema rows query (Err Gone) = Unit {0}
 IsAnalystReply schema rows query (Err (Ask refused)) = IsReply schema rows query (Err refused)

@@ -1,41 +1,41 @@
-//! An analyst: it asks the published table, and its answers never go back.
+//! An analyst: it asks the published index, and its answers never go back.
 
 ghost use Rattle.std.specs.Prelude.{◌≡◌, ◌≢◌, ◌⊎◌, IfErr, IfSome, IsTrue, OnErr, OnOk};
 ghost use mathlib.Core.List.{IsPrefix};
 ghost use Rattle.bsi_table.specs.Answers.{CountsConjunction, IsReply};
 
-use crate::history::Reached;
+use crate::edition::Edition;
+use crate::history::Known;
 use crate::naming::Covers;
-use crate::version::Version;
 use crate::{Naming, Told};
 use bsi_table::{Answer, AskError, Query};
 use core::mem::replace_with;
 use left_right::reader::Reader;
 use std::marker::Model;
 
-/// Why a question is not answered, in the order of the checks.
+/// Why a query is not answered, in the order of the checks.
 #[derive(Clone, Copy, Debug, PartialEq, Eq)]
 pub enum AnalystRefused {
-    /// The analyst was given no copy of the table, as may happen once the writing end is gone. It is also the answer to
-    /// a copy with fewer rows than the analyst knows, which no run meets.
+    /// The analyst was given no copy of the index, as may happen once the publisher is gone. It is also the answer to a
+    /// copy with fewer rows than the analyst knows, which no run meets.
     Gone,
-    /// The table refused the question.
+    /// The index refused the query.
     Ask(AskError),
 }
 
-/// It asks the published table. It may move to a thread of its own.
+/// It asks the published index. It may move to a thread of its own.
 #[derive(Drop)]
 pub struct Analyst<B: Naming> {
-    reader: Reader<Version, (), Covers<B>>,
-    known: Reached,
+    reader: Reader<Edition, (), Covers<B>>,
+    known: Known,
 }
 
 // Clauses see the longest list that the analyst knows: each list that it answered over or was told of begins it.
 impl<B: Naming> Model for Analyst<B> {
     ghost use Rattle.std.specs.Prelude.{◌≡◌};
-    ghost use Rattle.bsi_versions.specs.Pages.{Rows};
+    ghost use Rattle.bsi_versions.specs.History.{RowList};
 
-    ghost Value = { Rows };
+    ghost Value = { RowList };
 
     ghost view = { λ a. a.known.list };
 
@@ -46,7 +46,7 @@ impl<B: Naming> Analyst<B> {
     ghost use Rattle.bsi_versions.specs.Questions.{IsAnalystReply};
 
     /// Makes an analyst who knows a list.
-    pub(crate) fn new(reader: Reader<Version, (), Covers<B>>, known: Reached) -> Analyst<B>
+    pub(crate) fn new(reader: Reader<Edition, (), Covers<B>>, known: Known) -> Analyst<B>
         requires { known.book ≡ B.book }
         ensures { result ≡ known.list }
     {
@@ -62,7 +62,7 @@ impl<B: Naming> Analyst<B> {
         ensures known { IsPrefix self.old self.new }
         ensures kept { OnErr result (self.new ≡ self.old) }
     {
-        let Some((reply, known)) = replace_with(&mut self.reader, query, read::<B>) else {
+        let Some(Asked { reply, known }) = replace_with(&mut self.reader, query, read::<B>) else {
             return Err(AnalystRefused::Gone);
         };
         if !known.follows(&self.known) {
@@ -110,26 +110,30 @@ impl<B: Naming> Analyst<B> {
     }
 }
 
-/// Asks the published copy, and returns the answer with the list that the copy has. It returns none if it is given no
-/// copy.
+/// The reply of a copy, and the list that the copy has.
+#[derive(Drop)]
+struct Asked {
+    reply: Result<Answer, AskError>,
+    known: Known,
+}
+
+/// Asks the published copy. It returns none if it is given no copy.
 fn read<B: Naming>(
-    reader: Reader<Version, (), Covers<B>>,
+    reader: Reader<Edition, (), Covers<B>>,
     query: &Query,
-) -> (
-    Reader<Version, (), Covers<B>>,
-    Option<(Result<Answer, AskError>, Reached)>,
-)
-    ensures book { IfSome result.1 (λ r. r.1.book ≡ B.book) }
-    ensures reply { IfSome result.1 (λ r. IsReply B.about.schema r.1.list query.now r.0) }
+) -> (Reader<Edition, (), Covers<B>>, Option<Asked>)
+    ensures book { IfSome result.1 (λ asked. asked.known.book ≡ B.book) }
+    ensures reply { IfSome result.1
+        (λ asked. IsReply B.about.schema asked.known.list query.now asked.reply) }
     ensures succeeds { CountsConjunction query.now →
-        IfSome result.1 (λ r. IfErr r.0 (λ refused. refused ≢ AskError.NoMemory)) }
+        IfSome result.1 (λ asked. IfErr asked.reply (λ refused. refused ≢ AskError.NoMemory)) }
 {
     match reader.enter_as::<Covers<B>>() {
         Ok(reading) => {
-            let version = reading.get();
-            let reply = version.index().ask(query);
-            let known = version.known().again();
-            (reading.leave(), Some((reply, known)))
+            let edition = reading.get();
+            let reply = edition.index().ask(query);
+            let known = edition.known().again();
+            (reading.leave(), Some(Asked { reply, known }))
         }
         Err(reader) => (reader, None),
     }

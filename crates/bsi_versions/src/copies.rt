@@ -1,15 +1,16 @@
-//! The two copies of the table: the operations that wait for them, and the step that shows them.
+//! The two copies of the index: the operations that wait for them, and the step that shows them. Analysts read one copy
+//! while the publisher writes the other (left-right, Ramalhete and Correia 2015).
 
 ghost use Rattle.std.specs.Prelude.{◌≡◌, ◌++◌, ◌∷◌, [], ◌⊎◌, OnErr, OnOk, fold, length};
 ghost use mathlib.Core.List.{IsPrefix};
-ghost use Rattle.bsi_versions.specs.Pages.{with_list};
-ghost use Rattle.bsi_versions.specs.Editions.{after, pending, rows_of, HasStaged, IsFor, IsStamped, Stands};
+ghost use Rattle.bsi_versions.specs.History.{with_list};
+ghost use Rattle.bsi_versions.specs.Editions.{after, pending, pending_rows, to_show, HasStaged, IsFor, IsStamped, Stands};
 ghost use Rattle.bsi_versions.specs.declared.operation.Operation.TheVariants.{Stamp};
 
-use crate::history::{History, Page};
+use crate::edition::Edition;
+use crate::history::{History, RowList};
 use crate::naming::Covers;
 use crate::operation::Operation;
-use crate::version::Version;
 use crate::{Naming, NoMemory};
 use bsi_table::{Block, Index};
 use core::mem::{replace, replace_with};
@@ -17,17 +18,17 @@ use left_right::writer::Writer;
 use logbook::Plain;
 use std::sync::Wait;
 
-/// The two copies of the table, and the operations that are pending.
-pub(crate) type Copies<B> = Writer<Version, Operation, (), Covers<B>>;
+/// The two copies of the index, and the operations that are pending.
+pub(crate) type Copies<B> = Writer<Edition, Operation, (), Covers<B>>;
 
 /// What a publish adds to the history: the rows that are shown, followed by those that are held.
 struct Next;
 
-impl<B: Naming> Plain<Copies<B>, Page, u64> for Next {
-    ghost use Rattle.std.specs.Prelude.{◌++◌, None};
-    ghost use Rattle.bsi_versions.specs.Editions.{pending, rows_of};
+impl<B: Naming> Plain<Copies<B>, RowList, u64> for Next {
+    ghost use Rattle.std.specs.Prelude.{None};
+    ghost use Rattle.bsi_versions.specs.Editions.{pending, to_show};
 
-    ghost ask = { λ w. w.desk.shown.value.table.rows ++ rows_of (pending w) };
+    ghost ask = { λ w. to_show w.desk.shown.value (pending w) };
 
     ghost state = { λ w. None };
 }
@@ -49,13 +50,13 @@ pub(crate) fn append_block<B: Naming>(
         return Ok(());
     }
     let next = copies.published().index().new_block()?;
-    match copies.append(Operation::Rows(replace(block, next))) {
+    match copies.append(Operation::Block(replace(block, next))) {
         Ok(()) => Ok(()),
-        Err(Operation::Rows(back)) => {
+        Err(Operation::Block(back)) => {
             *block = back;
             Err(NoMemory)
         }
-        // A refused operation comes back as it was given, so this is none.
+        // A refused operation comes back as it was given, so this is never so.
         Err(Operation::Batch(_) | Operation::Stamp(_)) => Err(NoMemory),
     }
 }
@@ -81,8 +82,8 @@ pub(crate) fn append_batch<B: Naming>(
             *batch = back;
             Err(NoMemory)
         }
-        // A refused operation comes back as it was given, so this is none.
-        Err(Operation::Rows(_) | Operation::Stamp(_)) => Err(NoMemory),
+        // A refused operation comes back as it was given, so this is never so.
+        Err(Operation::Block(_) | Operation::Stamp(_)) => Err(NoMemory),
     }
 }
 
@@ -93,17 +94,16 @@ pub(crate) fn stamp_all<B: Naming>(
     stamped: &mut u64,
     len: u64,
 ) -> Result<(), NoMemory>
-    requires begins { IsPrefix history.old.list (copies.old.desk.shown.value.table.rows
-        ++ rows_of (pending copies.old)) }
-    requires len { len ≡ length (copies.old.desk.shown.value.table.rows
-        ++ rows_of (pending copies.old)) }
+    requires begins { IsPrefix history.old.list
+        (to_show copies.old.desk.shown.value (pending copies.old)) }
+    requires len { len ≡ length (to_show copies.old.desk.shown.value (pending copies.old)) }
     requires book { history.old.book ≡ B.book }
     requires stamped { IsStamped B.book copies.old.desk.shown.value (pending copies.old) stamped.old }
     ensures desk { copies.new.desk ≡ copies.old.desk }
     ensures history { (history.new ≡ history.old)
-        ⊎ (history.new ≡ with_list history.old (copies.old.desk.shown.value.table.rows
-        ++ rows_of (pending copies.old))) }
-    ensures rows { rows_of (pending copies.new) ≡ rows_of (pending copies.old) }
+        ⊎ (history.new
+        ≡ with_list history.old (to_show copies.old.desk.shown.value (pending copies.old))) }
+    ensures rows { pending_rows (pending copies.new) ≡ pending_rows (pending copies.old) }
     ensures stamped { IsStamped B.book copies.old.desk.shown.value (pending copies.new) stamped.new }
     ensures once { stamped.old ≡ len → pending copies.new ≡ pending copies.old }
     ensures ok { OnOk result (stamped.new ≡ len) }
@@ -118,17 +118,15 @@ pub(crate) fn stamp_all<B: Naming>(
 
 /// Adds to the history the list that is to be shown, and appends its stamp after the pending rows.
 fn stamp<B: Naming>(copies: &mut Copies<B>, history: &mut History, len: u64) -> Result<(), NoMemory>
-    requires begins { IsPrefix history.old.list (copies.old.desk.shown.value.table.rows
-        ++ rows_of (pending copies.old)) }
-    requires len { len ≡ length (copies.old.desk.shown.value.table.rows
-        ++ rows_of (pending copies.old)) }
+    requires begins { IsPrefix history.old.list
+        (to_show copies.old.desk.shown.value (pending copies.old)) }
+    requires len { len ≡ length (to_show copies.old.desk.shown.value (pending copies.old)) }
     ensures desk { copies.new.desk ≡ copies.old.desk }
     ensures history { (history.new ≡ history.old)
-        ⊎ (history.new ≡ with_list history.old (copies.old.desk.shown.value.table.rows
-        ++ rows_of (pending copies.old))) }
+        ⊎ (history.new
+        ≡ with_list history.old (to_show copies.old.desk.shown.value (pending copies.old))) }
     ensures list { OnOk result (history.new
-        ≡ with_list history.old (copies.old.desk.shown.value.table.rows
-        ++ rows_of (pending copies.old))) }
+        ≡ with_list history.old (to_show copies.old.desk.shown.value (pending copies.old))) }
     ensures ok { OnOk result (pending copies.new ≡ pending copies.old ++ Stamp history.new ∷ []) }
     ensures err { OnErr result (pending copies.new ≡ pending copies.old) }
 {
@@ -150,11 +148,14 @@ pub(crate) fn exchange<B: Naming, R: Wait>(copies: &mut Copies<B>, rt: &R) -> Re
     ensures kept { OnErr result (copies.new.desk.shown.value ≡ copies.old.desk.shown.value) }
     ensures pending { OnErr result (pending copies.new ≡ pending copies.old) }
 {
-    replace_with(copies, rt, show_owned::<B, R>)
+    replace_with(copies, rt, exchange_owned::<B, R>)
 }
 
 /// Shows the copy that has every pending operation, of copies that are handed over, and hands them back.
-fn show_owned<B: Naming, R: Wait>(copies: Copies<B>, rt: &R) -> (Copies<B>, Result<(), NoMemory>)
+fn exchange_owned<B: Naming, R: Wait>(
+    copies: Copies<B>,
+    rt: &R,
+) -> (Copies<B>, Result<(), NoMemory>)
     requires { Stands B.book B.about
         (fold after copies.desk.shown.value (pending copies)) }
     ensures shown { OnOk result.1 (result.0.desk.shown.value

@@ -1,4 +1,4 @@
-//! The history of a table: each list of rows that a publish was to show. It exists only in the proofs, except for the
+//! The history of an index: each list of rows that a publish was to show. It exists only in the proofs, except for the
 //! length of its last list. A publish that is refused may leave a list that was never shown.
 //!
 //! It holds whole lists, each beginning with the one before, since a step of it can't be taken back and a load may be
@@ -10,25 +10,25 @@ use std::marker::Model;
 
 /// A whole list of rows with their feeders. A contract reads an array as a list of any length; no value of this type is
 /// made.
-pub(crate) type Page = [(u32, Row); 0];
+pub(crate) type RowList = [(u32, Row); 0];
 
 /// The rule of the history: each list begins with the one before.
-pub(crate) struct Law;
+pub(crate) struct HistoryRule;
 
-impl Rule<Page, u64> for Law {
+impl Rule<RowList, u64> for HistoryRule {
     ghost use Rattle.std.specs.Prelude.{[]};
     ghost use base.Fml.{ftrue};
-    ghost use Rattle.bsi_versions.specs.Pages.{IsHistory};
+    ghost use Rattle.bsi_versions.specs.History.{IsHistory};
 
-    ghost holds = { λ cells pages. IsHistory cells pages };
+    ghost holds = { λ cells lists. IsHistory cells lists };
 
     ghost first = { [] };
 
-    ghost hinted = { λ n pages. Unit {0} };
+    ghost hinted = { λ n lists. Unit {0} };
 
-    ghost shows = { λ pages. [] };
+    ghost shows = { λ lists. [] };
 
-    ghost keeps = { λ names pages. ftrue };
+    ghost keeps = { λ names lists. ftrue };
 
     ghost moves = { λ ask before after answer. Unit {0} };
 }
@@ -36,7 +36,7 @@ impl Rule<Page, u64> for Law {
 /// A step for which nothing is traced.
 struct Nothing;
 
-impl Gain<Page, u64> for Nothing {
+impl Gain<RowList, u64> for Nothing {
     ghost use base.Fml.{ftrue};
 
     ghost after = { λ names about answer. ftrue };
@@ -45,22 +45,22 @@ impl Gain<Page, u64> for Nothing {
 /// The step that adds a list.
 struct Add;
 
-impl Play<Page, u64> for Add {
-    ghost use Rattle.bsi_versions.specs.Pages.{Adds};
+impl Play<RowList, u64> for Add {
+    ghost use Rattle.bsi_versions.specs.History.{Adds};
 
     ghost then = { Adds };
 }
 
 /// A list of the history, and its length.
 #[derive(Drop)]
-pub(crate) struct Reached {
+pub(crate) struct Known {
     len: u64,
-    seen: Seen<Page, u64, Law>,
+    seen: Seen<RowList, u64, HistoryRule>,
 }
 
-impl Model for Reached {
+impl Model for Known {
     ghost use Rattle.std.specs.Prelude.{◌≡◌, [], length};
-    ghost use Rattle.bsi_versions.specs.Pages.{latest, Known};
+    ghost use Rattle.bsi_versions.specs.History.{latest, Known};
 
     ghost Value = { Known };
 
@@ -69,10 +69,10 @@ impl Model for Reached {
     ghost invariant = { λ r. r.len ≡ length (latest [] r.seen.log) };
 }
 
-impl Reached {
+impl Known {
     ghost use Rattle.std.specs.Prelude.{◌≡◌, IfSome, IsFalse, IsTrue, None, length};
     ghost use mathlib.Core.List.{IsPrefix};
-    ghost use Rattle.bsi_versions.specs.Pages.{head_of, with_list};
+    ghost use Rattle.bsi_versions.specs.History.{head_of, with_list};
 
     /// Returns the length of the list.
     pub(crate) fn len(&self) -> u64
@@ -82,18 +82,18 @@ impl Reached {
     }
 
     /// Returns a second value that knows the same list.
-    pub(crate) fn again(&self) -> Reached
+    pub(crate) fn again(&self) -> Known
         ensures { result ≡ self.now }
     {
-        Reached {
+        Known {
             len: self.len,
             seen: self.seen.again(),
         }
     }
 
-    /// Returns whether the list begins with the other one, of the same history: the longer of two such lists begins with
-    /// the shorter.
-    pub(crate) fn follows(&self, other: &Reached) -> bool
+    /// Returns whether the list begins with the other one, of the same history: the longer of two such lists begins
+    /// with the shorter.
+    pub(crate) fn follows(&self, other: &Known) -> bool
         requires { other.now.book ≡ self.now.book }
         ensures behind { IsTrue result → IsPrefix other.now.list self.now.list }
         ensures before { IsFalse result → IsPrefix self.now.list other.now.list }
@@ -106,12 +106,12 @@ impl Reached {
 
     /// Adds a list to the history, by the word that the history shares, and returns a value that knows that list, if it
     /// was added.
-    fn next<X, M: Plain<X, Page, u64>>(
+    fn next<X, M: Plain<X, RowList, u64>>(
         &self,
-        head: &Word<Page, u64, Law>,
+        head: &Word<RowList, u64, HistoryRule>,
         about: &X,
         len: u64,
-    ) -> Option<Reached>
+    ) -> Option<Known>
         requires head { head.now ≡ head_of self.now.book }
         requires begins { IsPrefix self.now.list (M.ask about.now) }
         requires long { length (M.ask about.now) ≡ len }
@@ -119,31 +119,33 @@ impl Reached {
         ensures { IfSome result (λ known. known ≡ with_list self.now (M.ask about.now)) }
     {
         let mut seen = self.seen.again();
-        let mut offer: Offer<Page, u64, Law, Nothing> = seen.plain::<Nothing, X, M>(about);
+        let mut offer: Offer<RowList, u64, HistoryRule, Nothing> = seen.plain::<Nothing, X, M>(
+            about,
+        );
         let mut pen = seen.no_pen();
         let old = self.len;
         let found = head.compare_exchange::<Add, Nothing>(
             old, len, &mut seen, &mut offer, &mut pen,
         );
         if found == old {
-            Some(Reached { len, seen })
+            Some(Known { len, seen })
         } else {
             None
         }
     }
 }
 
-/// The history of one table, to which only its writer adds. It takes no room except for two numbers.
+/// The history of one index, to which only its publisher adds. It takes the memory of two numbers.
 #[derive(Drop)]
 pub struct History {
-    head: Word<Page, u64, Law>,
-    known: Reached,
+    head: Word<RowList, u64, HistoryRule>,
+    known: Known,
 }
 
 // Clauses see which history it is, and its last list.
 impl Model for History {
     ghost use Rattle.std.specs.Prelude.{◌≡◌};
-    ghost use Rattle.bsi_versions.specs.Pages.{head_of, Known};
+    ghost use Rattle.bsi_versions.specs.History.{head_of, Known};
 
     ghost Value = { Known };
 
@@ -155,7 +157,7 @@ impl Model for History {
 impl History {
     ghost use Rattle.std.specs.Prelude.{◌≡◌, IsTrue, None, false, length, []};
     ghost use mathlib.Core.List.{IsPrefix};
-    ghost use Rattle.bsi_versions.specs.Pages.{with_list};
+    ghost use Rattle.bsi_versions.specs.History.{with_list};
 
     /// Makes a history with no list. It allocates no memory.
     pub fn new() -> History
@@ -164,19 +166,19 @@ impl History {
         let (seen, mut first, _second) = Seen::open(Start::alone(), 0, 0);
         History {
             head: Word::tracked(0, &mut first),
-            known: Reached { len: 0, seen },
+            known: Known { len: 0, seen },
         }
     }
 
     /// Returns a value that knows the last list.
-    pub(crate) fn known(&self) -> Reached
+    pub(crate) fn known(&self) -> Known
         ensures { result ≡ self.now }
     {
         self.known.again()
     }
 
-    /// Adds a list, and returns whether it did. Only another writer of this history could prevent it.
-    pub(crate) fn add<X, M: Plain<X, Page, u64>>(&mut self, about: &X, len: u64) -> bool
+    /// Adds a list, and returns whether it did. Only another publisher of this history could prevent it.
+    pub(crate) fn add<X, M: Plain<X, RowList, u64>>(&mut self, about: &X, len: u64) -> bool
         requires begins { IsPrefix self.old.list (M.ask about.now) }
         requires long { length (M.ask about.now) ≡ len }
         requires fresh { M.state about.now ≡ None }

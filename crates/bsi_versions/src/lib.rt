@@ -1,16 +1,16 @@
-//! An index that grows by publishing: a writing end whose held rows become visible at one step, and analysts who never
-//! go back.
+//! An index that grows by publishing: a publisher whose held rows become visible at one step, and analysts who never go
+//! back.
 #![tactic(auto)]
 
 mod analyst;
 mod copies;
+mod edition;
 mod history;
 mod naming;
 mod operation;
 mod publisher;
 mod stage;
 mod told;
-mod version;
 
 pub use analyst::{Analyst, AnalystRefused};
 pub use history::History;

@@ -1,6 +1,6 @@
 //! The system that an end belongs to, as a type parameter, and the rule that the system's copies keep.
 
-use crate::version::Version;
+use crate::edition::Edition;
 use crossbeam_utils::rule::{Outcome, Protocol};
 use std::marker::{Brand, PhantomData};
 
@@ -31,7 +31,7 @@ pub struct Covers<B: Naming> {
     of: PhantomData<B>,
 }
 
-impl<B: Naming> Protocol<Version, ()> for Covers<B> {
+impl<B: Naming> Protocol<Edition, ()> for Covers<B> {
     ghost use Rattle.bsi_versions.specs.Editions.{Stands};
 
     ghost holds = { λ edition _. Stands B.book B.about edition };
@@ -40,7 +40,7 @@ impl<B: Naming> Protocol<Version, ()> for Covers<B> {
 }
 
 // What a step on the copies tells: the copy that is then shown is an edition of the system.
-impl<B: Naming> Outcome<Version, ()> for Covers<B> {
+impl<B: Naming> Outcome<Edition, ()> for Covers<B> {
     ghost use Rattle.bsi_versions.specs.Editions.{Stands};
 
     ghost then = { λ _ _ edition _. Stands B.book B.about edition };

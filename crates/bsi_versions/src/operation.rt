@@ -1,34 +1,34 @@
 //! What waits to be published: rows, and stamps in the history.
 
 use crate::NoMemory;
-use crate::history::Reached;
-use crate::version::Version;
+use crate::edition::Edition;
+use crate::history::Known;
 use bsi_table::{Block, Index};
 use left_right::Absorb;
 
-/// A pending operation of the writing end.
+/// A pending operation of the publisher.
 #[derive(Drop)]
 pub enum Operation {
     /// A block of rows, each with its feeder.
-    Rows(Block),
+    Block(Block),
     /// The rows of a batch, each with its feeder.
     Batch(Index),
     /// The list in the history that the rows make at this point.
-    Stamp(Reached),
+    Stamp(Known),
 }
 
-impl Absorb<Operation> for Version {
+impl Absorb<Operation> for Edition {
     ghost use Rattle.bsi_versions.specs.Editions.{after};
 
-    type State = Version;
+    type State = Edition;
 
-    ghost state = { λ version. version };
+    ghost state = { λ edition. edition };
 
     ghost applied = { after };
 
-    fn absorb_first(&mut self, operation: &Operation, _other: &Version) -> Result<(), NoMemory> {
+    fn absorb_first(&mut self, operation: &Operation, _other: &Edition) -> Result<(), NoMemory> {
         match operation {
-            Operation::Rows(block) => self.append(block),
+            Operation::Block(block) => self.append(block),
             Operation::Batch(batch) => self.append_batch(batch),
             Operation::Stamp(known) => {
                 self.stamp(known);

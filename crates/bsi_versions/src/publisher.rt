@@ -1,19 +1,20 @@
-//! The writing end: it holds rows back, and makes them visible at one step.
+//! The publisher: it holds rows back, and makes them visible at one step.
 //!
 //! A pending operation is a list of rows or a stamp, which says which list of the history the rows then are. A publish
-//! that is tried again, or has nothing to show, adds no stamp. Held rows go into the stage, and become an operation at a
-//! publish, or once some 8,192 have come singly. A stage in each copy would be part of what is shown.
+//! that is tried again, or has nothing to show, adds no stamp. Held rows go into the stage. They become an operation at
+//! a publish, or when further single rows could make the stage's batch longer than `MAX_STAGED_ROWS`. A stage in each
+//! copy would be part of what is shown.
 
 ghost use Rattle.std.specs.Prelude.{◌≡◌, ◌+◌, ◌<◌, ◌≤◌, [], IfErr, IfOk, IsTrue, OnErr, OnOk, length, ◌↔◌};
 ghost use Rattle.bsi_table.specs.Columns.{fits};
 ghost use Rattle.bsi_table.specs.RowBlocks.{entries_of};
 ghost use Rattle.bsi_table.specs.Table.{with_rows, AreKeptAlike};
-ghost use Rattle.bsi_versions.specs.Editions.{max_analysts, published_all, with_held, with_held_rows};
+ghost use Rattle.bsi_versions.specs.Editions.{max_analysts, with_all_published, with_held, with_held_rows};
 
 use crate::copies::{Copies, exchange, stamp_all};
+use crate::edition::Edition;
 use crate::history::History;
 use crate::stage::Stage;
-use crate::version::Version;
 use crate::{Analyst, Naming, NoMemory, Told};
 use bsi_table::{Index, Row};
 use left_right::writer::Writer;
@@ -21,7 +22,7 @@ use std::alloc::Global;
 use std::marker::Model;
 use std::sync::Wait;
 
-/// The only writer of a table that analysts read. It is not `Drop`: end it by `end`.
+/// The one publisher of an index that analysts read. It is not `Drop`: end it by `end` or `into_table`.
 pub struct Publisher<B: Naming> {
     copies: Copies<B>,
     history: History,
@@ -47,7 +48,7 @@ impl<B: Naming> Model for Publisher<B> {
 }
 
 impl<B: Naming> Publisher<B> {
-    /// Makes both copies of a table with no row, and room for `analysts` analysts, at most 8.
+    /// Makes both copies of an index with no row, and room for `analysts` analysts, at most 8.
     pub fn new(
         alloc: Global,
         history: History,
@@ -62,9 +63,11 @@ impl<B: Naming> Publisher<B> {
     {
         let free = index.limit();
         let stage = Stage::new(&index)?;
-        let first = Version::new(index, history.known());
+        let first = Edition::new(index, history.known());
         let second = first.copy()?;
-        let copies = Writer::new(alloc, first, second, (analysts as usize).max(1))?;
+        // The writer asks for a reader's place, also where there is no analyst.
+        let places = (analysts as usize).max(1);
+        let copies = Writer::new(alloc, first, second, places)?;
         Ok(Publisher {
             copies,
             history,
@@ -74,7 +77,7 @@ impl<B: Naming> Publisher<B> {
         })
     }
 
-    /// Lends the table that is published.
+    /// Lends the index that is published.
     pub fn published(&self) -> &Index
         ensures { result.now ≡ self.now.table }
     {
@@ -103,7 +106,7 @@ impl<B: Naming> Publisher<B> {
 
     /// Holds a row. The row is visible once it is published.
     pub fn hold(&mut self, feeder: u32, row: &Row) -> Result<(), NoMemory>
-        requires room { length self.old.table.rows + length self.old.held < self.old.table.limit }
+        requires limit { length self.old.table.rows + length self.old.held < self.old.table.limit }
         requires fits { IsTrue (fits self.old.table.schema.columns row.now) }
         requires feeder { feeder < self.old.table.feeders }
         ensures ok { OnOk result (self.new ≡ with_held self.old feeder row.now) }
@@ -115,10 +118,10 @@ impl<B: Naming> Publisher<B> {
         Ok(())
     }
 
-    /// Holds the rows of a batch that keeps its columns as the table does, each as a row of this feeder, whatever feeders
-    /// the batch has. It copies the batch by words. The rows are visible once they are published.
+    /// Holds the rows of a batch that keeps its columns as the index does, each as a row of this feeder, whatever
+    /// feeders the batch has. It copies the batch by words. The rows are visible once they are published.
     pub fn hold_batch(&mut self, feeder: u32, batch: &Index) -> Result<(), NoMemory>
-        requires room { length self.old.table.rows + length self.old.held + length batch.now.rows
+        requires limit { length self.old.table.rows + length self.old.held + length batch.now.rows
             ≤ self.old.table.limit }
         requires alike { AreKeptAlike self.old.table.schema batch.now.schema }
         requires feeder { feeder < self.old.table.feeders }
@@ -136,7 +139,7 @@ impl<B: Naming> Publisher<B> {
     /// has a list that the publisher does not know, which no run meets.
     pub fn publish<R: Wait>(&mut self, rt: &R) -> Result<u64, NoMemory>
         ensures len { IfOk result (λ len. len ≡ length self.new.table.rows) }
-        ensures ok { OnOk result (self.new ≡ published_all self.old) }
+        ensures ok { OnOk result (self.new ≡ with_all_published self.old) }
         ensures err { OnErr result (self.new ≡ self.old) }
     {
         let len = self.copies.published().index().limit() - self.free;
@@ -162,10 +165,10 @@ impl<B: Naming> Publisher<B> {
         Ok(Analyst::new(reader, self.copies.published().known().again()))
     }
 
-    /// Ends the writing end, and hands over the table with all its rows: those that are published, and then those that are
-    /// held. It waits for analysts that read, and an analyst that asks later is answered `Gone`. If memory is refused, the
-    /// writing end comes back. Where no row is published or a pending operation, the stage's batch is the table; else it
-    /// publishes first.
+    /// Ends the publisher, and hands over the index with all its rows: those that are published, and then those that
+    /// are held. It waits for analysts that read, and an analyst that asks later is answered `Gone`. If memory is
+    /// refused, the publisher comes back. Where no row is published or a pending operation, the stage's batch is the
+    /// index; else it publishes first.
     pub fn into_table<R: Wait>(self, rt: &R) -> Result<Index, Publisher<B>>
         ensures ok { IfOk result (λ table. table ≡ with_rows self.table self.held) }
         ensures within { IfOk result (λ table. length table.rows ≤ table.limit) }
@@ -201,7 +204,7 @@ impl<B: Naming> Publisher<B> {
         }
     }
 
-    /// Ends the writing end, and hands over the table that is published. It drops the held rows.
+    /// Ends the publisher, and hands over the index that is published. It drops the held rows.
     fn into_published<R: Wait>(self, rt: &R) -> Index
         ensures { result ≡ self.table }
     {
@@ -215,7 +218,7 @@ impl<B: Naming> Publisher<B> {
         Box::into_inner(copies.take(rt)).into_index()
     }
 
-    /// Ends the writing end. It drops the held rows, and waits for analysts that read. It has no `ensures`, because
+    /// Ends the publisher. It drops the held rows, and waits for analysts that read. It has no `ensures`, because
     /// nothing is left of which a clause could speak.
     pub fn end<R: Wait>(self, rt: &R) {
         self.into_published(rt);

@@ -1,9 +1,10 @@
 //! The stage: the held rows that are no pending operation yet.
 //!
-//! A row goes into a block of 64, and a full block into the batch, which is an index. A block touches each bitmap for one
-//! word alone, so a batch that blocks go into has some 8,192 rows: with some hundred bitmaps it fits a processor's second
-//! cache. A feeder's batch is copied by words, and goes into a batch of any length. Each copy of the table takes the batch
-//! by words too, bitmap after bitmap. A batch that has all rows there are may itself become the table.
+//! A row goes into a block of 64, and a full block into the batch, which is an index. A block touches each bitmap for
+//! one word alone, so a batch that blocks go into has at most `MAX_STAGED_ROWS` rows: with some hundred bitmaps it fits
+//! a processor's second cache. A feeder's batch is copied by words, and goes into a batch of any length. Each copy of
+//! the index takes the batch by words too, bitmap after bitmap. A batch that has all rows there are may itself become
+//! the index.
 
 ghost use Rattle.std.specs.Prelude.{◌≡◌, ◌<◌, [], IfErr, IfOk, IsTrue, OnErr, OnOk, length, ◌↔◌};
 ghost use Rattle.bsi_table.specs.Columns.{fits};
@@ -39,7 +40,7 @@ impl Model for Stage {
 }
 
 impl Stage {
-    /// Makes a stage of no rows yet, for rows that a table takes.
+    /// Makes a stage of no rows yet, for rows that an index takes.
     pub(crate) fn new(table: &Index) -> Result<Stage, NoMemory>
         ensures { IfOk result (λ stage. stage ≡ emptied table.now) }
     {
@@ -95,7 +96,8 @@ impl Stage {
         append_batch(copies, &mut self.batch)
     }
 
-    /// Appends all rows to the pending operations: those of the block with the batch, or alone where the batch is empty.
+    /// Appends all rows to the pending operations: those of the block with the batch, or alone where the batch is
+    /// empty.
     pub(crate) fn empty<B: Naming>(&mut self, copies: &mut Copies<B>) -> Result<(), NoMemory>
         requires kind { IsStageOf copies.old.desk.shown.value.table self.old }
         ensures desk { copies.new.desk ≡ copies.old.desk }
@@ -118,7 +120,7 @@ impl Stage {
         rows.checked_sub(self.batch.len()) == Some(self.block.len() as u64)
     }
 
-    /// Hands over the table of these rows. If memory is refused, the stage comes back.
+    /// Hands over the index of these rows. If memory is refused, the stage comes back.
     pub(crate) fn into_table(self) -> Result<Index, Stage>
         ensures ok { IfOk result (λ table. table ≡ self) }
         ensures err { IfErr result (λ stage. stage ≡ self) }

@@ -1,7 +1,7 @@
 //! Boolean steps on a block of words, by the words of a bitmap that stand for the same rows.
 //!
-//! A step takes 64 words through all the bitmaps that it needs before the next 64, so these are read side by side and
-//! prefetched. To read one bitmap for a whole block before the next takes nearly twice as long over 16,000,000 rows.
+//! Each step passes over the block once. A caller takes a block through all the bitmaps that it needs, so these are read
+//! side by side.
 
 ghost use Rattle.std.specs.Prelude.{◌≡◌, ℕ, ◌+◌, ◌*◌, ◌<◌, ◌≤◌, ◌&&◌, ◌||◌, not, false, length, slice_index_or, IsTrue, IsFalse};
 ghost use Rattle.bsi_bits.specs.BitList.{word_count};

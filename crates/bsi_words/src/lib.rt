@@ -8,4 +8,4 @@ mod ranks;
 mod sums;
 
 pub use ranks::{RankedRows, rows_of_rank};
-pub use sums::{is_empty, sum_by_places};
+pub use sums::{is_clear, sum_by_places};

@@ -2,8 +2,8 @@
 //!
 //! Digits below a base from 4 to 64 are turned into the words of their binary places first, which are spread over those of
 //! the digits. Under another base each digit is marked. Bases 2 and 3 keep no places. From base 65 on the words of the
-//! places are made of those of the digits: the upper half of these, joined, is the word of the greatest place, and the
-//! lower half, each word joined with one of the upper half, marks the digits but for that place.
+//! places are made of those of the digits: the union of their upper half is the word of the greatest place, and their
+//! lower half, each word united with one of the upper half, marks the digits but for that place.
 
 ghost use Rattle.std.specs.Prelude.{◌≡◌, ℕ, List, [], ◌∷◌, ◌+◌, ◌-◌, ◌*◌, ◌^◌, ◌<◌, ◌≤◌, ◌==◌, bit_or, length, slice_index};
 ghost use Rattle.std.specs.Int.{bit_at};
@@ -11,7 +11,7 @@ ghost use Rattle.bsi_bits.specs.BitList.{max_block};
 ghost use Rattle.bsi_words.specs.Places.{max_digit_places, then_places, IsCount};
 ghost use Rattle.bsi_words.specs.Marks.{spelled, union_of, AreDigitMarks};
 
-use bsi_bits::know_fits;
+use bsi_bits::{MAX_BLOCK, know_fits};
 use std::simd::prelude::*;
 
 /// The most binary places of digits whose words are spread: those of the digits below 64.
@@ -19,10 +19,16 @@ const SPREAD_PLACES: usize = 6;
 
 /// The most words of a block whose digits are spread, those of a base of 64: one for each digit and one for each binary
 /// place. An array of so few is cleared sooner.
-pub const MAX_SPREAD_WORDS: usize = 70;
+pub const MAX_SPREAD_WORDS: usize = 64 + SPREAD_PLACES;
 
-/// The most words of a block, those of a base of 1,024. `bsi_digits` allows no greater base in a list.
-pub const MAX_MARK_WORDS: usize = 1034;
+/// The greatest base: `bsi_digits` allows no greater one in a list.
+const MAX_BASE: usize = 1024;
+
+/// The most words of a block, those of the greatest base: one for each digit and one for each of its ten binary places.
+pub const MAX_MARK_WORDS: usize = MAX_BASE + 10;
+
+/// The most binary places of digits that are folded in a short array, which is cleared sooner.
+const SHORT_PLACES: usize = 7;
 
 /// Sets in word `j`, of words that are 0, the bit of each digit that is `j`. For each digit it looks at one word.
 fn mark(block: &[u32], words: &mut [u64])
@@ -37,7 +43,7 @@ fn mark(block: &[u32], words: &mut [u64])
     }
 }
 
-/// Joins each of the first `half` words with the one `half` places behind it. Returns the bits of the latter words.
+/// Unites each of the first `half` words with the one `half` places behind it. Returns the union of the latter words.
 fn fold(words: &mut [u64], half: usize) -> u64
     requires { 2 * half ≤ length words.old }
     ensures long { length words.new ≡ length words.old }
@@ -55,8 +61,8 @@ fn fold(words: &mut [u64], half: usize) -> u64
     upper
 }
 
-/// Writes behind the first `base` words, which mark digits below the base, those of their binary places. `folded`
-/// holds words while it works: at least two to the power of their number, and 0 before.
+/// Writes behind the first `base` words, which mark digits below the base, those of their binary places. `folded` is
+/// scratch: it has at least two to the power of the number of places, all 0 before.
 fn mark_places(words: &mut [u64], base: usize, folded: &mut [u64])
     requires within { base ≤ length words.old }
     requires enough { base ≤ 2 ^ (length words.old - base) }
@@ -88,12 +94,11 @@ fn mark_each(block: &[u32], base: usize, words: &mut [u64])
 {
     mark(block, words);
     let places = words.len() - base;
-    if places > 7 {
-        let mut folded = [0; 1024];
+    if places > SHORT_PLACES {
+        let mut folded = [0; MAX_BASE];
         mark_places(words, base, &mut folded);
     } else if places > 0 {
-        // A short array is cleared sooner.
-        let mut folded = [0; 128];
+        let mut folded = [0; 1 << SHORT_PLACES];
         mark_places(words, base, &mut folded);
     }
 }
@@ -157,7 +162,7 @@ fn spread(places: &[u64; SPREAD_PLACES], words: &mut [u64])
 
 /// Writes the words of 64 digits below a base that has at most six binary places: one for each digit below it, and then
 /// one for each place for which there is a word left.
-// With two callers it would be called, and a block would take about a tenth longer.
+// Without this the compiler calls it, since it has two callers, and a block takes about a tenth longer.
 #[inline(always)]
 fn spread_digits(block: &[u32], base: usize, words: &mut [u64])
     requires whole { length block.now ≡ max_block }
@@ -187,7 +192,7 @@ fn spread_few(block: &[u32], base: usize, words: &mut [u64])
     ensures long { length words.new ≡ length words.old }
     ensures marks { AreDigitMarks (then_places base (λ j v. v == j)) block.now words.new }
 {
-    let mut digits = [0; 64];
+    let mut digits = [0; MAX_BLOCK];
     digits[..block.len()].copy_from_slice(block);
     spread_digits(&digits, base, words);
     words[0] &= (1 << block.len()) - 1;
@@ -209,18 +214,19 @@ pub fn mark_digits(block: &[u32], base: usize, words: &mut [u64])
     let places = words.len() - base;
     if places == 0 || places > SPREAD_PLACES {
         mark_each(block, base, words);
-    } else if block.len() == 64 {
+    } else if block.len() == MAX_BLOCK {
         spread_digits(block, base, words);
     } else {
         spread_few(block, base, words);
     }
 }
 
-/// Replaces each of the first `count` words by the bits of the words before it.
-pub fn join(words: &mut [u64], count: usize)
+/// Replaces each of the first `count` words by the union of the words before it. Where word `j` marks the digits `j`, it
+/// then marks those below `j`.
+pub fn mark_below(words: &mut [u64], count: usize)
     requires { count ≤ length words.old }
     ensures long { length words.new ≡ length words.old }
-    ensures joined { (j : ℕ) → j < count → slice_index words.new j ≡ union_of words.old 0 j }
+    ensures unions { (j : ℕ) → j < count → slice_index words.new j ≡ union_of words.old 0 j }
     ensures rest { (j : ℕ) → count ≤ j → slice_index words.new j ≡ slice_index words.old j }
 {
     let mut union = 0;

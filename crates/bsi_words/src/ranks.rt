@@ -1,7 +1,7 @@
 //! The number of a rank at the rows of a found set, by its binary places from the most significant down.
 //!
 //! A step narrows the rows by the place of the step before, and at once counts those that are clear in its own. It passes
-//! over lines of a cache that have no row any more, and reads nothing else there.
+//! over cache lines that have no row any more, and reads nothing else there.
 
 ghost use Rattle.std.specs.Prelude.{◌≡◌, ℕ, List, ◌+◌, ◌*◌, ◌^◌, ◌≤◌, ◌<◌, ◌&&◌, false, if◌then◌else◌, length, not, slice_index, sum_by, count_by, count_ones};
 ghost use Rattle.std.specs.Simd.Lanes.{zip2};
@@ -11,8 +11,8 @@ ghost use Rattle.bsi_bits.specs.Packed.{bits_of, IsPacked};
 ghost use Rattle.bsi_words.specs.Places.{has_place, max_places, IsEncoded};
 ghost use Rattle.bsi_words.specs.Ranks.{word_kept, IsRankedRows};
 
-use crate::sums::{LINE_WORDS, is_empty};
-use bsi_bits::{Bits, know_fits};
+use crate::sums::{LINE_WORDS, is_clear};
+use bsi_bits::{Bits, MAX_LEN, know_fits};
 use std::simd::u64x8;
 
 /// The rows that have the number of a rank, that number, and the rank of its row among them.
@@ -51,6 +51,7 @@ pub fn rows_of_rank(places: &[Bits], rank: u64, found: Bits) -> RankedRows
         choice = choose(choice.rank, clear);
         last -= 1;
     }
+    // No place is next, so the count is of no use.
     narrow(&mut rows, &places[0], choice.is_set, &places[0]);
     RankedRows {
         number: number * 2 + u64::from(choice.is_set),
@@ -85,14 +86,14 @@ fn choose(rank: u64, clear: u64) -> Choice
     }
 }
 
-/// Returns how many rows of a found set are clear in a slice.
-fn count_clear(found: &Bits, slice: &Bits) -> u64
-    requires { length found.now.bits ≡ length slice.now.bits }
-    ensures { result ≡ count_by (λ b. b) (zip2 without found.now.bits slice.now.bits) }
+/// Returns how many rows of a found set have a binary place clear.
+fn count_clear(found: &Bits, place: &Bits) -> u64
+    requires { length found.now.bits ≡ length place.now.bits }
+    ensures { result ≡ count_by (λ b. b) (zip2 without found.now.bits place.now.bits) }
 {
     // The proof takes from this that there are at most 2^32 rows.
-    prove!(found.len() <= 1 << 32);
-    let (words, others) = (found.words(), slice.words());
+    prove!(found.len() <= MAX_LEN);
+    let (words, others) = (found.words(), place.words());
     know_fits(words);
     know_fits(others);
     count_words(words, others)
@@ -109,7 +110,7 @@ fn count_words(words: &[u64], others: &[u64]) -> u64
     'lines: for k in 0..whole {
         let at = LINE_WORDS * k;
         let rows = u64x8::from_slice(&words[at..]);
-        if is_empty(rows.as_array()) {
+        if is_clear(rows.as_array()) {
             continue;
         }
         clear += ones_in(words_without(rows, u64x8::from_slice(&others[at..])));
@@ -120,19 +121,19 @@ fn count_words(words: &[u64], others: &[u64]) -> u64
     clear
 }
 
-/// Keeps those of the chosen rows that are set in a slice or, as wanted, those that are clear there. Returns how many
-/// of them are clear in the next slice.
-fn narrow(chosen: &mut [u64], slice: &Bits, is_set: bool, next: &Bits) -> u64
-    requires packed { IsPacked (length slice.now.bits) chosen.old }
-    requires same { length next.now.bits ≡ length slice.now.bits }
-    ensures packed { IsPacked (length slice.now.bits) chosen.new }
-    ensures chosen { bits_of (length slice.now.bits) chosen.new
+/// Keeps those of the chosen rows that have a binary place set or, as wanted, those that have it clear. Returns how many
+/// of them have the next place clear.
+fn narrow(chosen: &mut [u64], place: &Bits, is_set: bool, next: &Bits) -> u64
+    requires packed { IsPacked (length place.now.bits) chosen.old }
+    requires same { length next.now.bits ≡ length place.now.bits }
+    ensures packed { IsPacked (length place.now.bits) chosen.new }
+    ensures chosen { bits_of (length place.now.bits) chosen.new
         ≡ zip2 (λ f b. f && (if is_set then b else not b))
-        (bits_of (length slice.now.bits) chosen.old) slice.now.bits }
+        (bits_of (length place.now.bits) chosen.old) place.now.bits }
     ensures clear { result ≡ count_by (λ b. b)
-        (zip2 without (bits_of (length slice.now.bits) chosen.new) next.now.bits) }
+        (zip2 without (bits_of (length place.now.bits) chosen.new) next.now.bits) }
 {
-    let (words, others) = (slice.words(), next.words());
+    let (words, others) = (place.words(), next.words());
     know_fits(words);
     know_fits(others);
     narrow_words(chosen, words, is_set, others)
@@ -151,7 +152,7 @@ fn narrow_words(chosen: &mut [u64], words: &[u64], is_set: bool, next: &[u64]) -
     'lines: for k in 0..whole {
         let at = LINE_WORDS * k;
         let rows = u64x8::from_slice(&chosen[at..]);
-        if is_empty(rows.as_array()) {
+        if is_clear(rows.as_array()) {
             continue;
         }
         let kept = kept_words(rows, u64x8::from_slice(&words[at..]), is_set);

@@ -1,22 +1,22 @@
 //! The sum of the numbers at the rows of a found set, by counts in the bit vectors of their binary places.
 //!
 //! It goes by spans of the found set, so that its words come from memory once for all the vectors that are counted
-//! within it. A line of a cache without a found row is passed over in all of them. The first span is one line, and each
+//! within it. A cache line without a found row is passed over in all of them. The first span is one line, and each
 //! is twice as long as the one before it, as long as no line is passed over.
 
 ghost use Rattle.std.specs.Prelude.{◌≡◌, ℕ, List, ◌+◌, ◌^◌, ◌<◌, ◌≤◌, ◌↔◌, IsTrue, length, slice_index, sum};
 ghost use Rattle.std.specs.List.{items_where_true};
-ghost use Rattle.bsi_bits.specs.BitList.{in_words, max_len, max_words, word_count};
+ghost use Rattle.bsi_bits.specs.BitList.{in_words, max_len, max_words, sum_end, word_count};
 ghost use Rattle.bsi_bits.specs.BitLists.{bits_at};
 ghost use Rattle.bsi_words.specs.Places.{has_place, max_places, IsEncoded};
 
-use bsi_bits::Bits;
+use bsi_bits::{Bits, MAX_LEN};
 
-/// The number of words in a line of a cache.
+/// The number of words in a cache line.
 pub(crate) const LINE_WORDS: usize = 8;
 
-/// The greatest number of words of a span. They take 8 KiB, so they stay in the first cache while they are counted
-/// with one place after the other.
+/// The greatest number of words of a span. They take 8 KiB, so they stay in the first-level cache while they
+/// are counted with one place after the other.
 const MAX_SPAN_WORDS: usize = 1024;
 
 /// Returns the sum of the numbers at the rows of a found set. `places` has a vector for each of their binary places, the
@@ -31,7 +31,7 @@ pub fn sum_by_places(places: &[Bits], found: &Bits) -> u128
         result ≡ sum (items_where_true found.now.bits numbers) }
 {
     // The proof takes from this that there are at most 2^32 rows.
-    prove!(found.len() <= 1 << 32);
+    prove!(found.len() <= MAX_LEN);
     let words = found.words();
     let mut sum = 0;
     let (mut at, mut most) = (0, LINE_WORDS);
@@ -52,7 +52,7 @@ struct Span {
 }
 
 /// Returns the span that begins with the first line from word `at` on that has a row. It has up to `most` words if that
-/// is the line at `at`, or else a line. There is none if no line has a row.
+/// is the line at `at`, or else a line. It is empty if no line has a row.
 fn span_from(words: &[u64], at: usize, most: usize) -> Span
     requires at { at ≤ length words.now }
     requires most { (1 ≤ most) × (most ≤ MAX_SPAN_WORDS) }
@@ -63,7 +63,7 @@ fn span_from(words: &[u64], at: usize, most: usize) -> Span
     ensures clear { (k : ℕ) → at ≤ k → k < result.start → slice_index words.now k ≡ 0 }
 {
     let mut start = at;
-    'lines: while start < words.len() && is_line_empty(words, start) {
+    'lines: while start < words.len() && is_line_clear(words, start) {
         start = words.len().min(start + LINE_WORDS);
     }
     let long = if start == at { most } else { LINE_WORDS };
@@ -83,17 +83,17 @@ fn next_most(span: Span) -> usize
 }
 
 /// Returns whether the line of words from `at` on has no row.
-fn is_line_empty(words: &[u64], at: usize) -> bool
+fn is_line_clear(words: &[u64], at: usize) -> bool
     requires within { at ≤ length words.now }
     requires few { length words.now ≤ max_words }
     ensures { IsTrue result →
         (k : ℕ) → at ≤ k → k < at + LINE_WORDS → slice_index words.now k ≡ 0 }
 {
-    is_empty(&words[at..words.len().min(at + LINE_WORDS)])
+    is_clear(&words[at..words.len().min(at + LINE_WORDS)])
 }
 
 /// Returns the sum of the numbers at the found rows in the words from `start` on and before `end`: for each binary
-/// place, the number of these rows that have it set, times two to the power of the place (O'Neil and Quass, 1997).
+/// place, the number of these rows that have it set, times two to the power of the place (O'Neil and Quass 1997).
 fn sum_in(places: &[Bits], found: &Bits, start: usize, end: usize) -> u128
     requires few { length places.now ≤ max_places }
     requires few_rows { length found.now.bits ≤ max_len }
@@ -105,7 +105,7 @@ fn sum_in(places: &[Bits], found: &Bits, start: usize, end: usize) -> u128
         ((k : ℕ) → slice_index numbers k < 2 ^ length places.now) →
         result ≡ sum (items_where_true
         (in_words start end found.now.bits) (in_words start end numbers)) }
-    ensures few { result ≤ 2 ^ 95 }
+    ensures few { result ≤ sum_end }
 {
     let mut sum = 0u128;
     'places: for (k, place) in places.iter().enumerate() {
@@ -115,7 +115,7 @@ fn sum_in(places: &[Bits], found: &Bits, start: usize, end: usize) -> u128
 }
 
 /// Returns whether no bit of the words is set.
-pub fn is_empty(words: &[u64]) -> bool
+pub fn is_clear(words: &[u64]) -> bool
     ensures { IsTrue result ↔ ((k : ℕ) → slice_index words.now k ≡ 0) }
 {
     let mut seen = 0;

@@ -6,7 +6,7 @@ ghost use Rattle.std.specs.Prelude.{◌≡◌, ◌≤◌, ◌&&◌, ◌||◌, no
 ghost use Rattle.std.specs.Simd.Lanes.{zip2};
 ghost use Rattle.bsi_bits.specs.BitList.{differ, in_words, without, word_count};
 
-use crate::bits::Bits;
+use crate::bits::{Bits, MAX_LEN};
 use crate::lanes;
 use crate::packing::{know_fits, trim};
 
@@ -104,7 +104,7 @@ impl Bits {
             (zip2 ◌&&◌ (in_words start end self.now.bits) (in_words start end other.now.bits)) }
     {
         // The proof takes from this that there are at most 2^32 bits.
-        prove!(self.len() <= 1 << 32);
+        prove!(self.len() <= MAX_LEN);
         let words = &self.words()[start..end];
         let others = &other.words()[start..end];
         know_fits(words);
@@ -121,7 +121,7 @@ impl Bits {
             (zip2 without (in_words start end self.now.bits) (in_words start end other.now.bits)) }
     {
         // The proof takes from this that there are at most 2^32 bits.
-        prove!(self.len() <= 1 << 32);
+        prove!(self.len() <= MAX_LEN);
         let words = &self.words()[start..end];
         let others = &other.words()[start..end];
         know_fits(words);

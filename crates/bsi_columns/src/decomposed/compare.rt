@@ -1,4 +1,4 @@
-//! The evaluator of comparisons with a constant, digit by digit: Chan and Ioannidis' RangeEval-Opt.
+//! The evaluator of comparisons with a constant, digit by digit: RangeEval-Opt (Chan and Ioannidis 1998).
 //!
 //! It reads digits only where the constant alone does not decide. The rows that it finds are narrowed by the not-null
 //! bitmap, so that a complement selects no null.
@@ -46,7 +46,7 @@ impl<E: Encoding> Decomposed<E> {
 
     /// Keeps in a block of at most 1,024 words the rows whose number satisfies the comparison `op` with `constant`,
     /// which may be past the size. The first word stands for the 64 rows from row `64 * at` on. A null row is not kept,
-    /// nor a bit past the last row. If a component works on whole vectors alone, each call reads all rows and allocates
+    /// nor a bit past the last row. If a component works on whole vectors alone, each call reads all rows and takes
     /// memory for them.
     pub fn keep_selected(
         &self,

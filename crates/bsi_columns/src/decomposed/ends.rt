@@ -7,32 +7,35 @@
 //! A component is asked for a digit within a limit, which a division of the best number gives. What its steps leave
 //! past the last row of a block is open, so the rows are cut with the not-null bitmap again.
 
-ghost use Rattle.std.specs.Prelude.{◌≡◌, ℕ, ◌+◌, ◌*◌, ◌/◌, ◌<◌, ◌≤◌, ◌&&◌, true, false, length, slice_index, slice_index_or, is_some, None, IfSome};
+ghost use Rattle.std.specs.Prelude.{◌≡◌, ℕ, ◌+◌, ◌*◌, ◌/◌, ◌<◌, ◌≤◌, ◌&&◌, true, false, length, slice_index, slice_index_or, is_some, None, IfOk};
 ghost use Rattle.bsi_bits.specs.BitList.{word_count};
 ghost use Rattle.bsi_bits.specs.Packed.{bit_of};
 ghost use Rattle.bsi_columns.specs.BlockEnds.{AnswersEnd, IsPast, KeepsNearest};
 ghost use Rattle.bsi_bits.specs.Marked.{HasMarked};
 ghost use Rattle.bsi_columns.specs.Ends.{comes_first, leads, number_at, IsBetterIn, IsEndOf};
-ghost use Rattle.bsi_columns.specs.Totals.{numbers_at};
+ghost use Rattle.bsi_columns.specs.Orders.{values_at};
 
 use crate::decomposed::Decomposed;
 use crate::{Column, Encoding, EndDigit};
-use bsi_bits::Bits;
+use bsi_bits::{Bits, MAX_LEN};
 use bsi_slices::End;
-use bsi_words::blocks::{keep_in, meets};
+use bsi_words::blocks::{copy_in, keep_in, meets};
 
 /// The number of words that the search goes over at once.
 const SEARCH_WORDS: usize = 32;
 
+/// That a component works on whole vectors alone, so a search over blocks has no answer.
+#[derive(Clone, Copy)]
+pub(crate) struct NoBlocks;
+
 impl<E: Encoding> Decomposed<E> {
-    /// Returns the number at an end of those at the rows of a found set, or `Some(None)` if there is no number. It
-    /// returns `None` if a component works on whole vectors alone.
-    pub(crate) fn end_found(&self, found: &Bits, end: End) -> Option<Option<u64>>
+    /// Returns the number at an end of those at the rows of a found set, or none if there is no number.
+    pub(crate) fn end_found(&self, found: &Bits, end: End) -> Result<Option<u64>, NoBlocks>
         requires { length self.now.entries ≡ length found.now.bits }
-        ensures { IfSome result (IsEndOf end (numbers_at found.now.bits self.now.entries)) }
+        ensures { IfOk result (IsEndOf end (values_at found.now.bits self.now.entries)) }
     {
         // The proof takes from this that there are at most 2^32 rows, so at most 2^26 words.
-        prove!(found.len() <= 1 << 32);
+        prove!(found.len() <= MAX_LEN);
         let len = found.words().len();
         let mut buffer = [0; SEARCH_WORDS];
         let mut best = None;
@@ -43,47 +46,44 @@ impl<E: Encoding> Decomposed<E> {
             let better = self.better_in_block(end, best, at, block)?;
             best = better.or(best);
         }
-        Some(best)
+        Ok(best)
     }
 
-    /// Returns the number at an end of the rows of a block, or `Some(None)` if none of them comes before the best
-    /// number so far. It returns `None` if a component works on whole vectors alone. The block's content afterwards is
-    /// unspecified.
+    /// Returns the number at an end of the rows of a block, or none if none of them comes before the best number so
+    /// far. The block's content afterwards is unspecified.
     fn better_in_block(
         &self,
         end: End,
         best: Option<u64>,
         at: usize,
         block: &mut [u64],
-    ) -> Option<Option<u64>>
+    ) -> Result<Option<u64>, NoBlocks>
         requires within { at + length block.old ≤ word_count (length self.now.entries) }
         requires rows { (p : ℕ) → p < 64 * length block.old → bit_of block.old p ≡ true →
             is_some (slice_index_or self.now.entries (64 * at + p) None) ≡ true }
-        ensures { IfSome result (IsBetterIn end (bit_of block.old)
+        ensures { IfOk result (IsBetterIn end (bit_of block.old)
             (λ p. number_at self.now.entries (64 * at + p)) (64 * length block.old) best) }
     {
         let not_null = self.not_null();
         if !meets(not_null, at, block) {
-            return Some(None);
+            return Ok(None);
         }
         let bases = self.bases();
         let mut number = 0;
-        let mut i = bases.len();
-        'components: while i > 0 {
-            i -= 1;
+        'components: for i in (0..bases.len()).rev() {
             let (base, weight) = (bases.base(i), bases.weight(i));
             let above = number * u64::from(base);
             let limit = limit_of(end, best, above, base, weight);
             match keep_nearest(self.component(i), not_null, end, limit, at, block) {
-                EndDigit::Unanswered => return None,
-                EndDigit::Past => return Some(None),
+                EndDigit::Unanswered => return Err(NoBlocks),
+                EndDigit::Past => return Ok(None),
                 EndDigit::Digit(digit) => number = above + u64::from(digit),
             }
             if end.leads_all(best, number, weight) {
-                return Some(None);
+                return Ok(None);
             }
         }
-        Some(Some(number))
+        Ok(Some(number))
     }
 }
 
@@ -96,8 +96,7 @@ fn rows_into(found: &Bits, not_null: &Bits, at: usize, block: &mut [u64])
         ≡ (slice_index_or found.now.bits (64 * at + p) false
         && slice_index_or not_null.now.bits (64 * at + p) false) }
 {
-    block.fill(u64::MAX);
-    keep_in(found, at, block);
+    copy_in(found, at, block);
     keep_in(not_null, at, block);
 }
 

@@ -9,8 +9,8 @@ ghost use Rattle.bsi_columns.specs.DigitTests.{relates_from};
 use crate::Encoding;
 use bsi_slices::Relation;
 
-/// The words of a part of a block, which a component narrows by all the bitmaps that it reads before it goes on to the
-/// next, so that it reads them side by side.
+/// The number of words in a part of a block. A component narrows a part by all the bitmaps that it reads before it goes
+/// on to the next part, so that it reads them side by side.
 const PART_WORDS: usize = 64;
 
 /// Takes one more digit into the test of a block, part by part. At the lowest digit it ignores what the block holds. It
@@ -43,7 +43,7 @@ pub(crate) fn narrow_digit<E: Encoding>(
     true
 }
 
-/// Does nothing when the program runs. Its clause tells a proof that a component has at most 2^32 rows.
+/// Asks for the length alone: its clause tells a proof that a component has at most 2^32 rows.
 fn know_rows<E: Encoding>(component: &E)
     ensures { length (E.digits component.now) ≤ max_len }
 {

@@ -4,23 +4,25 @@
 //! Each component goes over the rows by itself: one pass for all would need a further call of `Encoding`, and would
 //! read the found set once in place of once a component.
 
-ghost use Rattle.std.specs.Prelude.{◌≡◌, ◌^◌, ◌<◌, length, sum, IfOk};
-ghost use Rattle.bsi_columns.specs.Totals.{numbers_at, IsRanked};
+ghost use Rattle.std.specs.Prelude.{◌≡◌, ◌<◌, length, sum, IfOk};
+ghost use Rattle.bsi_bits.specs.BitList.{sum_end};
+ghost use Rattle.bsi_columns.specs.Orders.{values_at};
+ghost use Rattle.bsi_columns.specs.Totals.{IsRanked};
 
 use crate::decomposed::Decomposed;
 use crate::{Column, Encoding, NoMemory};
-use bsi_bits::Bits;
+use bsi_bits::{Bits, MAX_LEN};
 
 impl<E: Encoding> Decomposed<E> {
     /// Returns the sum of the numbers at the rows of a found set: for each component, its sum of digits times its
     /// weight.
     pub(crate) fn sum_found(&self, found: &Bits) -> u128
         requires { length self.now.entries ≡ length found.now.bits }
-        ensures sum { result ≡ sum (numbers_at found.now.bits self.now.entries) }
-        ensures within { result < 2 ^ 95 }
+        ensures sum { result ≡ sum (values_at found.now.bits self.now.entries) }
+        ensures within { result < sum_end }
     {
         // The proof takes from this that at most 2^32 numbers, each below 2^63, add up to less than 2^95.
-        prove!(found.len() <= 1 << 32);
+        prove!(found.len() <= MAX_LEN);
         let bases = self.bases();
         let mut total = 0;
         'components: for i in 0..bases.len() {
@@ -29,22 +31,20 @@ impl<E: Encoding> Decomposed<E> {
         total
     }
 
-    /// Returns the number of rank `k` at the rows of a found set.
-    pub(crate) fn number_of_rank(&self, found: &Bits, k: u64) -> Result<u64, NoMemory>
+    /// Returns the number of a rank, from 0, among those at the rows of a found set.
+    pub(crate) fn number_of_rank(&self, found: &Bits, rank: u64) -> Result<u64, NoMemory>
         requires same { length self.now.entries ≡ length found.now.bits }
-        requires there { k < length (numbers_at found.now.bits self.now.entries) }
-        ensures { IfOk result (IsRanked (numbers_at found.now.bits self.now.entries) k) }
+        requires there { rank < length (values_at found.now.bits self.now.entries) }
+        ensures { IfOk result (IsRanked (values_at found.now.bits self.now.entries) rank) }
     {
         let mut chosen = found.copy()?;
         chosen.and_with(self.not_null());
         let bases = self.bases();
-        let (mut number, mut rank) = (0, k);
-        let mut i = bases.len();
-        'components: while i > 0 {
-            i -= 1;
-            let ranked = self.component(i).rows_of_rank(rank, chosen)?;
+        let (mut number, mut left) = (0, rank);
+        'components: for i in (0..bases.len()).rev() {
+            let ranked = self.component(i).rows_of_rank(left, chosen)?;
             number = number * u64::from(bases.base(i)) + ranked.number;
-            rank = ranked.rank;
+            left = ranked.rank;
             chosen = ranked.rows;
         }
         Ok(number)

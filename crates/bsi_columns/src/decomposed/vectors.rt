@@ -20,17 +20,17 @@ impl<E: Encoding> Decomposed<E> {
         requires same { length self.now.entries ≡ length found.bits }
         ensures { IfOk result (λ b. b.bits ≡ map (wants test) self.now.entries) }
     {
-        let mut part = found.copy()?;
-        self.narrow_vectors(test, &mut part, &mut found);
+        let mut scratch = found.copy()?;
+        self.narrow_vectors(test, &mut scratch, &mut found);
         keep_answers(&mut found, test.wanted, self.not_null.bits());
         Ok(found)
     }
 
     /// Writes for each row whether its number is in the test's relation to the constant, be that wanted or not. A null
-    /// row counts as 0.
-    fn narrow_vectors(&self, test: Test, part: &mut Bits, found: &mut Bits)
+    /// row counts as 0. `scratch` is a vector of as many bits, and its bits are unspecified afterwards.
+    fn narrow_vectors(&self, test: Test, scratch: &mut Bits, found: &mut Bits)
         requires below { test.constant < product self.now.bases }
-        requires same_part { length self.now.entries ≡ length part.old.bits }
+        requires scratch { length self.now.entries ≡ length scratch.old.bits }
         requires same { length self.now.entries ≡ length found.old.bits }
         ensures { found.new.bits
             ≡ map (λ e. relates test.relation (number_or_zero e) test.constant) self.now.entries }
@@ -44,7 +44,7 @@ impl<E: Encoding> Decomposed<E> {
                 &self.components[i as usize],
                 test.relation,
                 digit,
-                part,
+                scratch,
                 found,
             );
         }
@@ -63,33 +63,34 @@ fn first_into<E: Encoding>(component: &E, relation: Relation, digit: u32, found:
     }
 }
 
-/// Takes one more digit into the test. It makes one call of the component for `=`, and one or two for `<=`.
+/// Takes one more digit into the test. It makes one call of the component for `=`, and one or two for `<=`. `scratch`
+/// is a vector of as many bits, and its bits are unspecified afterwards.
 fn narrow_into<E: Encoding>(
     component: &E,
     relation: Relation,
     digit: u32,
-    part: &mut Bits,
+    scratch: &mut Bits,
     found: &mut Bits,
 )
     requires below { digit < E.base_of component.now }
-    requires same_part { length (E.digits component.now) ≡ length part.old.bits }
+    requires scratch { length (E.digits component.now) ≡ length scratch.old.bits }
     requires same { length (E.digits component.now) ≡ length found.old.bits }
     ensures found { found.new.bits
         ≡ zip2 (λ low v. relates_from relation low v digit) found.old.bits
         (E.digits component.now) }
-    ensures part { length part.new.bits ≡ length part.old.bits }
+    ensures scratch { length scratch.new.bits ≡ length scratch.old.bits }
 {
     match relation {
         Relation::Equal => {
-            component.eq_into(digit, part);
-            found.and_with(part);
+            component.eq_into(digit, scratch);
+            found.and_with(scratch);
         }
         Relation::AtMost => {
-            component.le_into(digit, part);
-            found.and_with(part);
+            component.le_into(digit, scratch);
+            found.and_with(scratch);
             if digit > 0 {
-                component.le_into(digit - 1, part);
-                found.or_with(part);
+                component.le_into(digit - 1, scratch);
+                found.or_with(scratch);
             }
         }
     }

@@ -11,7 +11,7 @@ ghost use Rattle.bsi_components.specs.Equality.{is_among};
 use crate::answers::RankedDigit;
 use crate::encoding::Encoding;
 use crate::equality::EqualityComponent;
-use bsi_bits::Bits;
+use bsi_bits::{Bits, MAX_LEN};
 use bsi_words::RankedRows;
 
 impl EqualityComponent {
@@ -21,10 +21,10 @@ impl EqualityComponent {
         requires same { length self.now.digits ≡ length found.now.bits }
         ensures { result ≡ count_where (λ v. v == d) found.now.bits self.now.digits }
     {
-        if d == 0 && self.base() == 2 {
-            found.count_and_not(self.bitmap(1))
-        } else {
+        if self.is_stored(d) {
             found.count_and(self.bitmap(d))
+        } else {
+            found.count_and_not(self.bitmap(1))
         }
     }
 
@@ -35,7 +35,7 @@ impl EqualityComponent {
         ensures { result ≡ count_where (is_among from to) found.now.bits self.now.digits }
     {
         // The proof takes from this that there are at most 2^32 rows.
-        prove!(found.len() <= 1 << 32);
+        prove!(found.len() <= MAX_LEN);
         let mut rows = 0;
         'digits: for j in from..to {
             rows += self.count_eq(j, found);
@@ -72,14 +72,15 @@ impl EqualityComponent {
         requires same { length self.now.digits ≡ length rows.old.bits }
         ensures { rows.new.bits ≡ zip2 (λ f v. f && nat_eq v d) rows.old.bits self.now.digits }
     {
-        if d == 0 && self.base() == 2 {
-            rows.and_not_with(self.bitmap(1));
-        } else {
+        if self.is_stored(d) {
             rows.and_with(self.bitmap(d));
+        } else {
+            rows.and_not_with(self.bitmap(1));
         }
     }
 
-    /// Returns the rows of a found set that have the digit of the row of rank `rank`, by counts of the digits from 0 up.
+    /// Returns the rows of a found set that have the digit of the row of rank `rank`, by counts of the digits from 0
+    /// up.
     pub(crate) fn rows_by_counts(&self, rank: u64, found: Bits) -> RankedRows
         requires same { length self.now.digits ≡ length found.bits }
         requires there { rank < count_by (λ b. b) found.bits }
@@ -87,12 +88,12 @@ impl EqualityComponent {
         ensures ranked { IsRankedRows rank found.bits self.now.digits
             result.number result.rank result.rows.bits }
     {
-        let choice = self.rank_from_least(rank, &found);
+        let ranked = self.rank_from_least(rank, &found);
         let mut rows = found;
-        self.keep_digit(choice.digit, &mut rows);
+        self.keep_digit(ranked.digit, &mut rows);
         RankedRows {
-            number: u64::from(choice.digit),
-            rank: choice.rank,
+            number: u64::from(ranked.digit),
+            rank: ranked.rank,
             rows,
         }
     }

@@ -4,16 +4,16 @@ ghost use Rattle.std.specs.Prelude.{◌≡◌, ◌≢◌, ℕ, ◌+◌, ◌*◌,
 ghost use Rattle.std.specs.Bool.{OnTrue, OnFalse};
 ghost use Rattle.bsi_bits.specs.BitList.{word_count};
 ghost use Rattle.bsi_bits.specs.Packed.{bit_of};
-ghost use Rattle.bsi_components.specs.Bitmaps.{max_base};
-ghost use Rattle.bsi_components.specs.Component.{at_most_from};
 ghost use Rattle.bsi_bits.specs.Marked.{HasMarked};
+ghost use Rattle.bsi_digits.specs.Digits.{max_base};
+ghost use Rattle.bsi_components.specs.Component.{at_most_from};
 ghost use Rattle.bsi_components.specs.EndDigits.{AnswersGreatest, AnswersLeast};
 
 use crate::NoMemory;
 use crate::answers::EndDigit;
 use crate::encoding::Encoding;
 use crate::equality::{EqualityComponent, first_stored, push_block};
-use crate::places::{place_count, push_digit};
+use crate::places::{kept_places, push_digit};
 use bsi_bits::{Bitmaps, Bits};
 use bsi_words::blocks::{add_missing, copy_in, drop_in, keep_in};
 use bsi_words::{RankedRows, rows_of_rank, sum_by_places};
@@ -30,7 +30,7 @@ impl Encoding for EqualityComponent {
 
     fn make(alloc: Global, base: u32) -> Result<Self, NoMemory> {
         let own = (base - first_stored(base)) as usize;
-        let bitmaps = Bitmaps::new(alloc, own + place_count(base))?;
+        let bitmaps = Bitmaps::new(alloc, own + kept_places(base))?;
         Ok(EqualityComponent { base, bitmaps })
     }
 
@@ -75,11 +75,11 @@ impl Encoding for EqualityComponent {
     }
 
     fn eq_into(&self, d: u32, out: &mut Bits) {
-        if d == 0 && self.base() == 2 {
+        if self.is_stored(d) {
+            out.copy_from(self.bitmap(d));
+        } else {
             out.copy_from(self.bitmap(1));
             out.flip();
-        } else {
-            out.copy_from(self.bitmap(d));
         }
     }
 
@@ -145,10 +145,10 @@ impl Encoding for EqualityComponent {
             bit_of block.new p ≡ (bit_of block.old p
             && (slice_index self.now.digits (64 * at + p) == d))) }
     {
-        if d == 0 && self.base() == 2 {
-            drop_in(self.bitmap(1), at, block);
-        } else {
+        if self.is_stored(d) {
             keep_in(self.bitmap(d), at, block);
+        } else {
+            drop_in(self.bitmap(1), at, block);
         }
         true
     }
@@ -162,12 +162,13 @@ impl Encoding for EqualityComponent {
             64 * at + p < length self.now.digits →
             bit_of block.new p ≡ (slice_index self.now.digits (64 * at + p) == d)) }
     {
-        if d == 0 && self.base() == 2 {
+        if self.is_stored(d) {
+            copy_in(self.bitmap(d), at, block);
+            true
+        } else {
             block.fill(u64::MAX);
-            return self.eq_block(d, at, block);
+            self.eq_block(d, at, block)
         }
-        copy_in(self.bitmap(d), at, block);
-        true
     }
 
     // It reads the bitmaps up to the digit, or those from it on, whichever are fewer.
@@ -241,9 +242,7 @@ impl Encoding for EqualityComponent {
         ensures answer { AnswersGreatest limit (bit_of block.now)
             (λ p. slice_index self.now.digits (64 * at + p)) (64 * length block.now) result }
     {
-        let mut digit = self.base();
-        'digits: while digit > limit {
-            digit -= 1;
+        'digits: for digit in (limit..self.base()).rev() {
             if self.has_digit(digit, at, block) {
                 return EndDigit::Digit(digit);
             }

@@ -11,7 +11,7 @@ ghost use Rattle.bsi_components.specs.EndDigits.{AnswersGreatest, AnswersLeast};
 use crate::NoMemory;
 use crate::answers::EndDigit;
 use crate::encoding::Encoding;
-use crate::places::{place_count, push_digit};
+use crate::places::{kept_places, push_digit};
 use crate::range::{RangeComponent, push_block};
 use bsi_bits::{Bitmaps, Bits};
 use bsi_words::blocks::{add_in, copy_in, drop_in, keep_and_add, keep_but_drop, keep_in};
@@ -28,7 +28,7 @@ impl Encoding for RangeComponent {
     ghost works_on_blocks = { true };
 
     fn make(alloc: Global, base: u32) -> Result<Self, NoMemory> {
-        let bitmaps = Bitmaps::new(alloc, base as usize - 1 + place_count(base))?;
+        let bitmaps = Bitmaps::new(alloc, base as usize - 1 + kept_places(base))?;
         Ok(RangeComponent { base, bitmaps })
     }
 
@@ -108,12 +108,12 @@ impl Encoding for RangeComponent {
     }
 
     fn rows_of_rank(&self, rank: u64, found: Bits) -> Result<RankedRows, NoMemory> {
-        let choice = self.find_rank(rank, &found);
+        let ranked = self.find_rank(rank, &found);
         let mut rows = found;
-        self.keep_digit(choice.digit, &mut rows);
+        self.keep_digit(ranked.digit, &mut rows);
         Ok(RankedRows {
-            number: u64::from(choice.digit),
-            rank: choice.rank,
+            number: u64::from(ranked.digit),
+            rank: ranked.rank,
             rows,
         })
     }
@@ -210,12 +210,10 @@ impl Encoding for RangeComponent {
         if limit < self.top() && !self.has_upto(limit, at, block) {
             return EndDigit::Past;
         }
-        let mut digit = limit;
-        'digits: while digit > 0 {
-            if !self.has_upto(digit - 1, at, block) {
-                return EndDigit::Digit(digit);
+        'digits: for digit in (0..limit).rev() {
+            if !self.has_upto(digit, at, block) {
+                return EndDigit::Digit(digit + 1);
             }
-            digit -= 1;
         }
         EndDigit::Digit(0)
     }
@@ -234,13 +232,12 @@ impl Encoding for RangeComponent {
         if limit > 0 && !self.has_above(limit - 1, at, block) {
             return EndDigit::Past;
         }
-        let mut digit = limit;
-        'digits: while digit < self.top() {
+        let top = self.top();
+        'digits: for digit in limit..top {
             if !self.has_above(digit, at, block) {
                 return EndDigit::Digit(digit);
             }
-            digit += 1;
         }
-        EndDigit::Digit(digit)
+        EndDigit::Digit(top)
     }
 }

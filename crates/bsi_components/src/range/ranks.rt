@@ -1,5 +1,5 @@
-//! The digit of a rank in a range encoded component. A sample of the rows tells near which digit it is likely to be, and
-//! the search by halves is over after two counts where that is right.
+//! The digit of a rank in a range encoded component. A sample of the rows tells near which digit it is likely to be,
+//! and the search by halves is over after two counts where that is right. This search is this project's own.
 
 ghost use Rattle.std.specs.Prelude.{◌≡◌, ◌+◌, ◌-◌, ◌≤◌, ◌<◌, ◌&&◌, length, count_by, nat_eq, IfSome};
 ghost use Rattle.std.specs.Simd.Lanes.{zip2};
@@ -9,7 +9,7 @@ ghost use Rattle.bsi_components.specs.Ranks.{IsBetween};
 
 use crate::answers::RankedDigit;
 use crate::range::RangeComponent;
-use bsi_bits::Bits;
+use bsi_bits::{Bits, MAX_LEN};
 
 /// The number of blocks of words in a sample, which lie evenly among all.
 const SAMPLE_BLOCKS: usize = 16;
@@ -25,14 +25,15 @@ const MIN_SAMPLED_RANK: u64 = 128;
 
 /// The digits among which that of a rank is, and how many found rows have a digit below them.
 #[derive(Clone, Copy)]
-struct Between {
+struct DigitRange {
     low: u32,
     high: u32,
     below: u64,
 }
 
 impl RangeComponent {
-    /// Returns the digit of the row of rank `rank` among the rows of a found set, and its rank among those of its digit.
+    /// Returns the digit of the row of rank `rank` among the rows of a found set, and its rank among those of its
+    /// digit.
     pub(crate) fn find_rank(&self, rank: u64, found: &Bits) -> RankedDigit
         requires same { length self.now.digits ≡ length found.now.bits }
         requires there { rank < count_by (λ b. b) found.now.bits }
@@ -40,8 +41,8 @@ impl RangeComponent {
         ensures ranked { IsRankedDigit rank found.now.bits self.now.digits result }
     {
         // The proof takes from this that a rank is below 2^32.
-        prove!(found.len() <= 1 << 32);
-        let mut between = Between {
+        prove!(found.len() <= MAX_LEN);
+        let mut between = DigitRange {
             low: 0,
             high: self.top(),
             below: 0,
@@ -79,7 +80,7 @@ impl RangeComponent {
 
     /// Counts the found rows of a digit of at most `d`, and returns the digits that are left. It counts nothing if that
     /// tells nothing new.
-    fn narrowed(&self, between: Between, d: u32, rank: u64, found: &Bits) -> Between
+    fn narrowed(&self, between: DigitRange, d: u32, rank: u64, found: &Bits) -> DigitRange
         requires same { length self.now.digits ≡ length found.now.bits }
         requires holds { IsBetween self.now.base rank found.now.bits self.now.digits
             between.low between.high between.below }
@@ -93,9 +94,9 @@ impl RangeComponent {
         }
         let upto = found.count_and(self.bitmap(d));
         if rank < upto {
-            Between { high: d, ..between }
+            DigitRange { high: d, ..between }
         } else {
-            Between {
+            DigitRange {
                 low: d + 1,
                 below: upto,
                 ..between
@@ -103,7 +104,8 @@ impl RangeComponent {
         }
     }
 
-    /// Returns the digit that the row of a rank would have if all rows were as those of a sample, or none if they are few.
+    /// Returns the digit that the row of a rank would have if all rows were as those of a sample, or none if there are
+    /// few words or the rank in the sample is small.
     fn likely_digit(&self, rank: u64, found: &Bits) -> Option<u32>
         requires same { length self.now.digits ≡ length found.now.bits }
         requires few { rank ≤ max_len }
@@ -140,6 +142,7 @@ impl RangeComponent {
         for k in 0..SAMPLE_BLOCKS {
             let start = stride * k;
             let rows = found.count_and_in(self.bitmap(d), start, start + SAMPLE_BLOCK_WORDS);
+            // The sum is at most 2^16. It saturates so that no proof has to say so.
             count = count.saturating_add(rows);
         }
         count

@@ -1,4 +1,8 @@
 //! Comparisons of whole numbers with a constant, as comparisons of the stored numbers.
+//!
+//! A constant less the offset is below 0, or a number of 64 bits, or past them. Below 0, `=`, `<` and `<=` ask the
+//! stored column for `< 0` and the others for `>= 0`. Past 64 bits the greatest constant stands for it, because each
+//! stored number is below 2^63.
 
 ghost use Rattle.std.specs.Prelude.{◌≡◌, ℕ, ℤ, ◌<ℤ◌, ◌+◌, ◌<◌, ◌≤◌, length, map, is_none, IfOk, IsOk, OnOk, OnErr};
 ghost use Rattle.bsi_digits.specs.Digits.{max_size};
@@ -7,21 +11,28 @@ ghost use Rattle.bsi_slices.specs.Blocks.{KeepsRows};
 ghost use Rattle.bsi_slices.specs.Orders.{compares_by};
 ghost use Rattle.bsi_slices.specs.Rows.{number_order};
 ghost use Rattle.bsi_shift.specs.Shifted.{shifted_entries, number_of};
-ghost use Rattle.bsi_shift.specs.WholeNumbers.{whole_order, signed_selects};
+ghost use Rattle.bsi_shift.specs.WholeNumbers.{signed_order, signed_selects};
 
 use crate::{NoMemory, Shifted};
 use bsi_bits::Bits;
 use bsi_columns::{Column, MAX_BLOCK_WORDS, Op};
 
+/// A comparison of the stored numbers with a constant.
+#[derive(Clone, Copy)]
+struct Comparison {
+    op: Op,
+    constant: u64,
+}
+
 impl Shifted {
     /// Returns for each row whether it is a number that satisfies the comparison `op` with `constant`, which may be any
-    /// number. A null row is never selected.
+    /// number. A null row is never selected. The answer takes memory, a bit for each row.
     pub fn compare(&self, op: Op, constant: i128) -> Result<Bits, NoMemory>
         ensures { IfOk result (λ b. b.bits
             ≡ map (signed_selects op constant) (shifted_entries self.now)) }
     {
-        let (op, constant) = stored_comparison(op, constant, self.offset);
-        self.stored.compare(op, constant)
+        let comparison = stored_comparison(op, constant, self.offset);
+        self.stored.compare(comparison.op, comparison.constant)
     }
 
     /// Writes for each row whether it is null.
@@ -35,7 +46,8 @@ impl Shifted {
 
     /// Keeps in a block of at most 1,024 words the rows whose number satisfies the comparison `op` with `constant`,
     /// which may be any number. The first word stands for the 64 rows from row `64 * at` on. A null row is not kept,
-    /// nor a bit past the last row. It allocates no memory.
+    /// nor a bit past the last row. It takes no memory, and always succeeds. It answers a `Result` as the stored column
+    /// does.
     pub fn keep_selected(
         &self,
         op: Op,
@@ -50,12 +62,13 @@ impl Shifted {
             (signed_selects op constant) (shifted_entries self.now) at block.old block.new) }
         ensures succeeds { IsOk result }
     {
-        let (op, constant) = stored_comparison(op, constant, self.offset);
-        self.stored.keep_selected(op, constant, at, block)
+        let comparison = stored_comparison(op, constant, self.offset);
+        self.stored
+            .keep_selected(comparison.op, comparison.constant, at, block)
     }
 
     /// Keeps in a block of words the rows that are null. The first word stands for the 64 rows from row `64 * at` on.
-    /// Bits past the last row stay as they are. It allocates no memory.
+    /// Bits past the last row stay as they are. It takes no memory.
     pub fn keep_nulls(&self, at: usize, block: &mut [u64])
         requires { at + length block.old ≤ word_count (length (shifted_entries self.now)) }
         ensures { KeepsRows is_none (shifted_entries self.now) at block.old block.new }
@@ -65,25 +78,26 @@ impl Shifted {
 }
 
 /// Returns the comparison of stored numbers that selects the same rows as `op` does with `constant`: a number is stored
-/// less the offset. Each stored number is below 2^63, so the greatest constant of 64 bits stands for each constant past
-/// it.
-fn stored_comparison(op: Op, constant: i128, offset: i64) -> (Op, u64)
+/// less the offset.
+fn stored_comparison(op: Op, constant: i128, offset: i64) -> Comparison
     ensures { (n : ℕ) → n < max_size →
-        compares_by number_order result.0 n result.1
-        ≡ compares_by whole_order op (number_of offset n) constant }
+        compares_by number_order result.op n result.constant
+        ≡ compares_by signed_order op (number_of offset n) constant }
 {
     let above = constant.saturating_sub(i128::from(offset));
     if above < 0 {
-        return (below_all(op), 0);
+        let op = below_all(op);
+        return Comparison { op, constant: 0 };
     }
-    (op, u64::try_from(above).unwrap_or(u64::MAX))
+    let constant = u64::try_from(above).unwrap_or(u64::MAX);
+    Comparison { op, constant }
 }
 
 /// Returns the comparison with 0 that selects all stored numbers or none, as `op` does with a constant below each
 /// number.
 fn below_all(op: Op) -> Op
     ensures { (n : ℕ) → (x constant : ℤ) → constant <ℤ x →
-        compares_by number_order result n 0 ≡ compares_by whole_order op x constant }
+        compares_by number_order result n 0 ≡ compares_by signed_order op x constant }
 {
     match op {
         Op::Eq | Op::Lt | Op::Le => Op::Lt,

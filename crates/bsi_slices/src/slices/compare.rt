@@ -5,6 +5,9 @@
 //! (O'Neil and Quass 1997) goes from the most significant slice down with two or three states, and needs one more
 //! operation a slice; this form is this project's own. A block is 16 words, so the state fits eight registers of two
 //! words over all slices, and each slice is read once.
+//!
+//! These are functions over the two fields of a column, so that their clauses and proofs speak of these and not of a
+//! column.
 
 ghost use Rattle.std.specs.Prelude.{◌≡◌, ℕ, ◌+◌, ◌*◌, ◌-◌, ◌/◌, ◌<◌, ◌≤◌, ◌^◌, ◌==◌, ◌&&◌, if◌then◌else◌, length, map, nat_lt, slice_index, slice_index_or, false, IfOk, bit_and, bit_or};
 ghost use Rattle.std.specs.Int.{bit_not, w64};
@@ -22,7 +25,7 @@ use crate::NoMemory;
 use crate::column::Op;
 use crate::decision::{Decision, Relation, Test, decide};
 use crate::not_null::NotNull;
-use bsi_bits::{Bits, know_fits};
+use bsi_bits::{Bits, MAX_LEN, know_fits};
 use std::alloc::Global;
 use std::simd::Simd;
 
@@ -195,16 +198,16 @@ fn stepped<const N: usize>(above: Simd<u64, N>, slice: Simd<u64, N>, is_one: boo
     if is_one { above & slice } else { above | slice }
 }
 
-/// Keeps the bits that are set in `found` or, if negated, those that are not.
+/// Keeps the bits that are set in `other` or, if negated, those that are not.
 pub(super) fn cut<const N: usize>(
     kept: Simd<u64, N>,
-    found: Simd<u64, N>,
+    other: Simd<u64, N>,
     negated: bool,
 ) -> Simd<u64, N>
-    ensures { result ≡ (if negated then zip2 bit_and kept.entry (map (bit_not w64) found.entry) else
-        zip2 bit_and kept.entry found.entry) }
+    ensures { result ≡ (if negated then zip2 bit_and kept.entry (map (bit_not w64) other.entry) else
+        zip2 bit_and kept.entry other.entry) }
 {
-    if negated { kept & !found } else { kept & found }
+    if negated { kept & !other } else { kept & other }
 }
 
 /// Returns the words of the slice of a place, at most 2^26 of them.
@@ -218,7 +221,7 @@ fn words_at(slices: &[Bits], place: usize) -> &[u64]
 {
     let slice = &slices[place];
     // The proof takes from this that there are at most 2^32 bits, so at most 2^26 words.
-    prove!(slice.len() <= 1 << 32);
+    prove!(slice.len() <= MAX_LEN);
     let words = slice.words();
     know_fits(words);
     words

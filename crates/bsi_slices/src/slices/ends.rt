@@ -5,7 +5,7 @@
 //! this at their first slices.
 //!
 //! The test is one product and one comparison, on the number and not on its digits, so a tie needs no state. No set is
-//! copied, so no memory is taken.
+//! copied, so it takes no memory. This search is this project's own.
 
 ghost use Rattle.std.specs.Prelude.{◌≡◌, ℕ, ◌+◌, ◌*◌, ◌-◌, ◌/◌, ◌^◌, ◌<◌, ◌≤◌, false, if◌then◌else◌, length, slice_index, slice_index_or, IsTrue, IsFalse};
 ghost use Rattle.bsi_digits.specs.Digits.{max_size};
@@ -14,13 +14,13 @@ ghost use Rattle.bsi_bits.specs.Packed.{bit_of};
 ghost use Rattle.bsi_bits.specs.Marked.{HasMarked};
 ghost use Rattle.bsi_slices.specs.Blocks.{max_lanes};
 ghost use Rattle.bsi_slices.specs.Ends.{comes_first, leads, yields, IsBetterIn, IsEndUpto, IsEndOf, first_is_clear, nearest_place, number_at};
-ghost use Rattle.bsi_slices.specs.Totals.{numbers_at};
+ghost use Rattle.bsi_slices.specs.Orders.{values_at};
 
 use crate::Column;
 use crate::slices::Slices;
 use crate::slices::compare::{REGISTER_WORDS, cut};
-use bsi_bits::{Bits, know_fits};
-use bsi_words::is_empty;
+use bsi_bits::{Bits, MAX_LEN, know_fits};
+use bsi_words::is_clear;
 use std::simd::Simd;
 
 /// An end of some numbers in order.
@@ -55,7 +55,7 @@ impl Slices {
     /// Returns the number at an end of those at the rows of a found set, or none if there is no number.
     pub(crate) fn end_found(&self, found: &Bits, end: End) -> Option<u64>
         requires { length self.now.entries ≡ length found.now.bits }
-        ensures { IsEndOf end (numbers_at found.now.bits self.now.entries) result }
+        ensures { IsEndOf end (values_at found.now.bits self.now.entries) result }
     {
         let whole = found.words().len() / REGISTER_WORDS * REGISTER_WORDS;
         let best = self.end_upto::<REGISTER_WORDS>(found, end, 0, None);
@@ -79,7 +79,7 @@ impl Slices {
             (64 * (from + N * ((word_count (length found.now.bits) - from) / N))) result }
     {
         // The proof takes from this that there are at most 2^32 rows, so at most 2^26 words.
-        prove!(found.len() <= 1 << 32);
+        prove!(found.len() <= MAX_LEN);
         let mut best = before;
         'block: for k in 0..(found.words().len() - from) / N {
             let at = from + N * k;
@@ -108,9 +108,7 @@ impl Slices {
             return None;
         }
         let mut number = 0;
-        let mut place = self.width();
-        'slices: while place > 0 {
-            place -= 1;
+        'slices: for place in (0..self.width()).rev() {
             let slice = block_at::<N>(self.slice(place), at);
             let first = cut(kept, slice, is_least(end));
             let is_met = has_row(first);
@@ -131,7 +129,7 @@ fn has_row<const N: usize>(block: Simd<u64, N>) -> bool
 {
     let words = block.as_array();
     know_fits(words);
-    !is_empty(words)
+    !is_clear(words)
 }
 
 // Each choice that follows is a function: a proof loses what an `if` or a `match` decides where the arms join.
@@ -173,7 +171,7 @@ fn block_at<const N: usize>(bits: &Bits, at: usize) -> Simd<u64, N>
         bit_of result p ≡ slice_index_or bits.now.bits (64 * at + p) false }
 {
     // The proof takes from this that there are at most 2^32 bits, so at most 2^26 words.
-    prove!(bits.len() <= 1 << 32);
+    prove!(bits.len() <= MAX_LEN);
     let words = bits.words();
     know_fits(words);
     Simd::<u64, N>::from_slice(&words[at..])

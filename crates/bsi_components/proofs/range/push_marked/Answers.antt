@@ -12,13 +12,13 @@ mark_digits-requires-clause-count c =
 pub push_words-requires-clause-clear : goal.push_words-requires-clause-clear
 push_words-requires-clause-clear c =
     let own : c.args.base ≤ length c.mark_digits.new.words = omega (arith, c.requires.long, c.requires.places.owned, c.mark_digits.ensures.long) in
-    (below_marks c.args.base c.args.block.now c.mark_digits.new.words c.join.new.words (omega (arith, c.requires.least)) c.requires.few own c.mark_digits.ensures.marks c.join.ensures.long c.join.ensures.joined c.join.ensures.rest).clear
+    (below_marks c.args.base c.args.block.now c.mark_digits.new.words c.mark_below.new.words (omega (arith, c.requires.least)) c.requires.few own c.mark_digits.ensures.marks c.mark_below.ensures.long c.mark_below.ensures.unions c.mark_below.ensures.rest).clear
 
 pub returns-clause-bits : goal.returns-clause-bits
 returns-clause-bits c = λ j within.
     let own : c.args.base ≤ length c.mark_digits.new.words = omega (arith, c.requires.long, c.requires.places.owned, c.mark_digits.ensures.long) in
-    let long = length-take (length c.join.new.words - 1) (drop 1 c.join.new.words) in
-    let rest = length-drop 1 c.join.new.words in
-    let marks = below_marks c.args.base c.args.block.now c.mark_digits.new.words c.join.new.words (omega (arith, c.requires.least)) c.requires.few own c.mark_digits.ensures.marks c.join.ensures.long c.join.ensures.joined c.join.ensures.rest in
+    let long = length-take (length c.mark_below.new.words - 1) (drop 1 c.mark_below.new.words) in
+    let rest = length-drop 1 c.mark_below.new.words in
+    let marks = below_marks c.args.base c.args.block.now c.mark_digits.new.words c.mark_below.new.words (omega (arith, c.requires.least)) c.requires.few own c.mark_digits.ensures.marks c.mark_below.ensures.long c.mark_below.ensures.unions c.mark_below.ensures.rest in
     c.push_words.ensures.bits j within
-    ∙ ap (λ bits. bits_at c.args.bitmaps.now.vectors j ++ bits) (marks.each j (omega (arith, within, long, rest, c.requires.long, c.mark_digits.ensures.long, c.join.ensures.long)))
+    ∙ ap (λ bits. bits_at c.args.bitmaps.now.vectors j ++ bits) (marks.each j (omega (arith, within, long, rest, c.requires.long, c.mark_digits.ensures.long, c.mark_below.ensures.long)))

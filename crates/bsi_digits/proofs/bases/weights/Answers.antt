@@ -1,5 +1,4 @@
 use Rattle.std.proofs.Common.{◌≡◌, ◌+◌, ◌*◌, ◌≤◌, refl, ◌∙◌, arith}
-use Rattle.std.proofs.lemmas.List.{length-set}
 use Rattle.std.proofs.lemmas.Nat.{mul-le}
 use Rattle.bsi_digits.specs.Digits.{weight, product}
 use Rattle.bsi_digits.proofs.Products.{product-take_le}
@@ -27,10 +26,9 @@ loop-i-preserved c =
     let positive : 1 * 1 ≤ c.from.result * c.from-in-loop-i.result =
     mul-le 1 1 c.from.result c.from-in-loop-i.result (omega arith) (omega arith) in
     record {
-      kept = kept_more c.args.bases.now c.loop-i.weights c.loop-i.i c.new.result (omega arith) c.loop-i.invariant.kept
+      kept = kept_more c.args.bases.now c.loop-i.kept c.loop-i.i c.new.result (omega arith) c.loop-i.invariant.kept
           (c.new.ensures ∙ last);
       last = last;
       some = omega arith;
       small = omega arith;
-      long = length-set c.loop-i.weights (c.loop-i.i + 1) c.new.result ∙ c.loop-i.invariant.long;
     }

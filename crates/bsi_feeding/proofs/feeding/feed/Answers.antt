@@ -10,7 +10,7 @@ use Rattle.bsi_feeding.proofs.feeding.feed.Goals as goal
 
 pub batches-init : goal.batches-init
 batches-init g c = record {
-  sent = sent_none g.I.Read.remaining c.args.feeder c.args.source (taken_none g.I.Read.remaining c.args.source.layout c.args.source.input c.args.source.tally);
+  sent = sent_none g.I.Read.remaining c.args.feeder c.args.source (taken_none g.I.Read.remaining c.args.source.layout c.args.source.input c.args.source.counts);
   few = omega arith;
 }
 

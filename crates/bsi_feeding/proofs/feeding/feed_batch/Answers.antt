@@ -3,6 +3,7 @@ use Rattle.std.proofs.lemmas.List.{length-map}
 use Rattle.bsi_table.specs.RowBlocks.{entries_of}
 use Rattle.bsi_table.specs.Rows.{FedRow}
 use Rattle.bsi_text.proofs.Taking.{taken_none}
+use Rattle.bsi_feeding.specs.Feeding.{max_batch_rows}
 use Rattle.bsi_feeding.proofs.Filled.{refused_now}
 use Rattle.bsi_feeding.proofs.feeding.feed_batch.Goals as goal
 
@@ -12,7 +13,7 @@ returns-in_default g c =
     let rem = g.I.Read.remaining in
     let source = c.args.source.now in
     let going : c.args.source.now.end ≡ None = search rules in
-    (refl {a = c.args.feeder.now}, refused_now rem source (taken_none rem source.layout source.input source.tally) going)
+    (refl {a = c.args.feeder.now}, refused_now rem source (taken_none rem source.layout source.input source.counts) going)
 
 -- the ring has places for the batch
 pub send_batch-requires : goal.send_batch-requires
@@ -24,5 +25,5 @@ returns g c =
     let rows = c.gather.new.batch.rows in
     let many = length-map rows (λ (row : FedRow). row.1) in
     let some : 0 < length rows = omega (arith, c.len-rows.ensures.len, c.if-rows-eq0.false) in
-    let few : c.len-rows.result ≤ 1024 = omega (arith, c.gather.ensures.few, c.len-rows.ensures.len, c.min-most.ensures) in
+    let few : c.len-rows.result ≤ max_batch_rows = omega (arith, c.gather.ensures.few, c.len-rows.ensures.len, c.min-most.ensures) in
     (entries_of rows, omega (arith, many, c.len-rows.ensures.len), few, c.send_batch.ensures.sent c.if-not-send_batch.false, c.in-Ok.ensures.given.some (omega (arith, many, some)))

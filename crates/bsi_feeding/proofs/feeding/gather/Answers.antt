@@ -1,7 +1,7 @@
 use Rattle.std.proofs.Common.{◌≡◌, ◌++◌, [], None, length, refl, ap, subst, sym, arith, rules, ◌∙◌}
 use Rattle.std.proofs.lemmas.List.{append-nil, length-append, length-map}
 use Rattle.bsi_table.specs.Columns.{Declared}
-use Rattle.bsi_table.specs.RowBlocks.{entries_of, AreAlike, RowBlock}
+use Rattle.bsi_table.specs.RowBlocks.{entries_of, HaveSameLimits, RowBlock}
 use Rattle.bsi_table.specs.Rows.{FedRow}
 use Rattle.bsi_table.specs.Table.{with_rows, Table}
 use Rattle.bsi_table.proofs.CallerLemmas.{fitting-alike}
@@ -23,7 +23,7 @@ fills-init g c =
       batch = (refl, c.requires.batch.1);
       few = omega (arith, none);
       some = omega arith;
-      passed = subst (HasPassed rem source source) (sym (ap entries_of c.requires.batch.0)) (passed_none rem source (taken_none rem source.layout source.input source.tally));
+      passed = subst (HasPassed rem source source) (sym (ap entries_of c.requires.batch.0)) (passed_none rem source (taken_none rem source.layout source.input source.counts));
       start = λ is. refl;
       taken = λ some. absurd (omega (arith, some, none));
     }
@@ -80,7 +80,7 @@ append_block-requires-clause-fits g c =
     let same = same_block g.I.Read.remaining c.fills.source c.fill.new.self 0 c.clear.new.self full empty c.fill.result e.failed e.ended e.filled e.stopped in
     let schema = ap (λ (b : RowBlock). b.schema) same ∙ ap (λ (b : RowBlock). b.schema) c.clear.ensures ∙ i.block.0 in
     fitting-alike full.schema c.fills.batch.schema
-    (subst (λ (d : Declared). AreAlike d c.fills.batch.schema) (sym schema) (subst (λ (d : Declared). AreAlike c.args.block.now.schema d) (sym i.batch.0) c.requires.alike))
+    (subst (λ (d : Declared). HaveSameLimits d c.fills.batch.schema) (sym schema) (subst (λ (d : Declared). HaveSameLimits c.args.block.now.schema d) (sym i.batch.0) c.requires.alike))
     full.rows c.len.ensures.fitting
 
 -- the rows of the block stand last in the batch

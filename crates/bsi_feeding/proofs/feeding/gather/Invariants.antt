@@ -1,5 +1,6 @@
 use Rattle.std.proofs.Common.{◌≡◌, ◌*◌, ◌<◌, ◌≤◌, length}
-use Rattle.bsi_table.specs.RowBlocks.{entries_of}
+use Rattle.bsi_table.specs.RowBlocks.{entries_of, max_block_rows}
+use Rattle.bsi_text.specs.Sources.{max_records}
 use Rattle.bsi_feeding.proofs.Feeds.{HasPassed}
 use Rattle.bsi_feeding.proofs.feeding.gather.Given as goal
 
@@ -8,9 +9,9 @@ abbrev pub invariant-fills : goal.invariant-fills
 invariant-fills g l = record {
   block : (l.block.schema ≡ l.initial.block.schema) × (l.block.feeders ≡ 1);
   batch : (l.batch.schema ≡ l.initial.batch.schema) × (l.batch.feeders ≡ 1);
-  few : length l.batch.rows ≤ 64 * l.counter;
+  few : length l.batch.rows ≤ max_block_rows * l.counter;
   some : l.counter ≤ length l.batch.rows;
   passed : HasPassed g.I.Read.remaining l.initial.source l.source (entries_of l.batch.rows);
   start : length l.batch.rows ≡ 0 → l.source ≡ l.initial.source;
-  taken : 0 < length l.batch.rows → l.source.tally.taken ≤ 1000000;
+  taken : 0 < length l.batch.rows → l.source.counts.taken ≤ max_records;
 }

@@ -3,7 +3,7 @@ use Rattle.std.specs.Prelude.{◌≢◌, IfErr}
 use Rattle.csv.specs.Reading.{source_of}
 use Rattle.bsi_files.specs.Feds.{fed_counts}
 use Rattle.bsi_files.specs.Runs.{fed_lines, AreLines}
-use Rattle.bsi_files.specs.Writing.{AreOut, WritesAll, WritesPart}
+use Rattle.bsi_files.specs.Writing.{AreOut, WritesAll, WritesFirst}
 use Rattle.bsi_files.specs.declared.faults.FilesFault.TheVariants.{TooLong}
 use Rattle.bsi_files.specs.declared.faults.Which.TheVariants.{AsksFile}
 use Rattle.bsi_files.proofs.Asking.{head_part, headed_all, headed_part}
@@ -20,7 +20,7 @@ returns-in_err-tell_all-clause-part g c =
     let short : IfErr c.from_residual.result (λ fault. fault ≢ TooLong AsksFile) = search rules in
     let out : IfErr c.from_residual.result (λ fault. AreOut fault (fed_lines 0 counts) before after) = search rules in
     if_err_both c.from_residual.result
-    (λ fault never went. if_some (λ bytes. WritesPart (AreLines schema c.args.table.now.rows counts) bytes fault before after) (g.A.Read.remaining c.args.asks)
+    (λ fault never went. if_some (λ bytes. WritesFirst (AreLines schema c.args.table.now.rows counts) bytes fault before after) (g.A.Read.remaining c.args.asks)
     (λ bytes. head_part schema c.args.table.now.rows counts bytes before after fault never went)) short out
 
 -- all of them were, and then the answers
@@ -46,6 +46,6 @@ returns-clause-part g c =
     let after = g.W.Write.contents c.answer_records.new.writer in
     if_err c.answer_records.result
     (λ fault from. from_known (g.A.Read.remaining c.args.asks) (source_of g.A.Read.remaining c.new-records.result.input)
-    (λ bytes. WritesPart (AreLines schema c.args.table.now.rows counts) bytes fault before after) c.new-records.ensures.source
+    (λ bytes. WritesFirst (AreLines schema c.args.table.now.rows counts) bytes fault before after) c.new-records.ensures.source
     (λ bytes left. headed_part schema c.args.table.now.rows counts bytes before middle after fault c.in_ok-tell_all.ensures.ok (from bytes left)))
     c.answer_records.ensures.part

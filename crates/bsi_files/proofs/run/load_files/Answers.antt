@@ -6,7 +6,8 @@ use Rattle.bsi_files.proofs.Failing.{few_kept, kept_load, load_early}
 use Rattle.bsi_files.proofs.Limits.{closed_all, over_limit}
 use Rattle.bsi_files.proofs.Passing.{if_err, if_err_both}
 use Rattle.bsi_files.specs.declared.faults.FilesFault.TheVariants.{IndexFull}
-use Rattle.bsi_system.specs.Running.{System}
+use Rattle.bsi_origins.specs.Origins.{max_feeders}
+use Rattle.bsi_system.specs.Running.{SystemName}
 use Rattle.bsi_files.specs.Ends.{tasks, AreClosings, AreEndsOf}
 use Rattle.bsi_files.specs.Takings.{all_closed, IsDrained, IsFine, IsFullBefore}
 use Rattle.bsi_files.specs.declared.loading.Fed.{Fed}
@@ -19,7 +20,7 @@ settle_all-requires-clause-closings g c =
     let rem = g.I.Read.remaining in
     let are : AreEndsOf rem (tasks c.args.feeders.items c.args.sources.items) ends =
     subst (λ given. AreEndsOf rem given ends) (c.start_all-started.ensures c.in_ok-beside.ensures.started) c.in_ok-joined.ensures in
-    subst (λ (system : System). AreClosings system 0 ends) (sym c.load_where-beside.ensures.system)
+    subst (λ (system : SystemName). AreClosings system 0 ends) (sym c.load_where-beside.ensures.system)
     (closings_of rem c.args.loader.now.system 0 c.args.feeders.items c.args.sources.items ends c.requires.own are)
 
 pub returns-clause-fed : goal.returns-clause-fed
@@ -77,7 +78,7 @@ load_rest-requires g c =
     let rem = g.I.Read.remaining in
     let are : AreEndsOf rem (tasks c.args.feeders.items c.args.sources.items) ends =
     subst (λ given. AreEndsOf rem given ends) (c.start_all-started.ensures c.in_ok-beside.ensures.started) c.in_ok-joined.ensures in
-    subst (λ (feds : List Fed). length feds ≤ 64) (sym c.deref.ensures.value)
+    subst (λ (feds : List Fed). length feds ≤ max_feeders) (sym c.deref.ensures.value)
     (few_kept rem c.settle_all.new.loader.takings c.args.feeders.items c.args.sources.items ends c.settle_all.new.fed.items are c.in_ok-settle_all.ensures.told c.requires.few)
 
 pub check_all-requires : goal.check_all-requires
@@ -86,7 +87,7 @@ check_all-requires g c =
     let rem = g.I.Read.remaining in
     let are : AreEndsOf rem (tasks c.args.feeders.items c.args.sources.items) ends =
     subst (λ given. AreEndsOf rem given ends) (c.start_all-started.ensures c.in_ok-beside.ensures.started) c.in_ok-joined.ensures in
-    subst (λ (feds : List Fed). length feds ≤ 64) (sym c.deref-2.ensures.value)
+    subst (λ (feds : List Fed). length feds ≤ max_feeders) (sym c.deref-2.ensures.value)
     (few_kept rem c.settle_all.new.loader.takings c.args.feeders.items c.args.sources.items ends c.settle_all.new.fed.items are c.in_ok-settle_all.ensures.told c.requires.few)
 
 pub returns-in_err-check_all-clause-fault : goal.returns-in_err-check_all-clause-fault

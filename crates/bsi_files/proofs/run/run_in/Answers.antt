@@ -12,8 +12,8 @@ use Rattle.bsi_files.proofs.Takings.{feeders_are, feeders_long}
 use Rattle.bsi_files.proofs.run.run_in.Goals as goal
 
 -- the feeders that were opened
-pub run_ends-requires-clause-ready : goal.run_ends-requires-clause-ready
-run_ends-requires-clause-ready g c =
+pub load_and_answer-requires-clause-ready : goal.load_and_answer-requires-clause-ready
+load_and_answer-requires-clause-ready g c =
     let system = c.in-Ok.field-0.loader.system in
     let feeders = c.in-Ok.field-0.feeders.items in
     let capacities = c.args.capacities.items in
@@ -31,19 +31,19 @@ run_ends-requires-clause-ready g c =
 
 pub returns-in-Ok-clause-lines : goal.returns-in-Ok-clause-lines
 returns-in-Ok-clause-lines g c =
-    subst (λ (t : Table). OnOk c.run_ends.result (IfSome (g.A.Read.remaining c.args.run.asks) (λ asked.
-    WritesAll (HasRun g.I.Read.remaining g.G.Stopping.STOPS t.schema t.limit c.args.run.sources.items) asked (g.W.Write.contents c.args.writer.now) (g.W.Write.contents c.run_ends.new.writer))))
-    c.requires.about c.run_ends.ensures.lines
+    subst (λ (t : Table). OnOk c.load_and_answer.result (IfSome (g.A.Read.remaining c.args.run.asks) (λ asked.
+    WritesAll (HasRun g.I.Read.remaining g.G.Stopping.STOPS t.schema t.limit c.args.run.sources.items) asked (g.W.Write.contents c.args.writer.now) (g.W.Write.contents c.load_and_answer.new.writer))))
+    c.requires.about c.load_and_answer.ensures.lines
 
 pub returns-in-Ok-clause-part : goal.returns-in-Ok-clause-part
 returns-in-Ok-clause-part g c =
-    subst (λ (t : Table). IfErr c.run_ends.result (λ fault. IfSome (g.A.Read.remaining c.args.run.asks) (λ asked.
-    Leaves (HasRun g.I.Read.remaining g.G.Stopping.STOPS t.schema t.limit c.args.run.sources.items) asked fault (g.W.Write.contents c.args.writer.now) (g.W.Write.contents c.run_ends.new.writer))))
-    c.requires.about c.run_ends.ensures.part
+    subst (λ (t : Table). IfErr c.load_and_answer.result (λ fault. IfSome (g.A.Read.remaining c.args.run.asks) (λ asked.
+    Leaves (HasRun g.I.Read.remaining g.G.Stopping.STOPS t.schema t.limit c.args.run.sources.items) asked fault (g.W.Write.contents c.args.writer.now) (g.W.Write.contents c.load_and_answer.new.writer))))
+    c.requires.about c.load_and_answer.ensures.part
 
 pub returns-in-Ok-clause-fault : goal.returns-in-Ok-clause-fault
 returns-in-Ok-clause-fault g c =
-    subst (λ (t : Table). IfErr c.run_ends.result (IsRunFault g.I.Read.remaining g.G.Stopping.STOPS t.limit c.args.run.sources.items)) c.requires.about c.run_ends.ensures.fault
+    subst (λ (t : Table). IfErr c.load_and_answer.result (IsRunFault g.I.Read.remaining g.G.Stopping.STOPS t.limit c.args.run.sources.items)) c.requires.about c.load_and_answer.ensures.fault
 
 -- nothing was written where nothing is opened
 pub returns-in-Err-Make-clause-part : goal.returns-in-Err-Make-clause-part

@@ -6,5 +6,5 @@ use Rattle.bsi_handles.proofs.answers.list.Given as goal
 abbrev pub invariant-rows : goal.invariant-rows
 invariant-rows l = record {
   long : length l.places ≡ length l.initial.places;
-  done : as_pairs (take l.place l.places) ≡ take l.place l.rows;
+  done : as_pairs (take l.at l.places) ≡ take l.at l.rows;
 }

@@ -17,26 +17,30 @@ rows-init c =
       long = ap length none;
     }
 
-pub push-requires-clause-room : goal.push-requires-clause-room
-push-requires-clause-room c = omega (arith, c.rows.invariant.long, c.rows-test.true, c.requires.few)
+pub push_fitting-requires-clause-room : goal.push_fitting-requires-clause-room
+push_fitting-requires-clause-room c = omega (arith, c.rows.invariant.long, c.rows-test.true, c.requires.few)
 
--- the row fits, so it is added
+-- the row fits
+pub push_fitting-requires-clause-fits : goal.push_fitting-requires-clause-fits
+push_fitting-requires-clause-fits c =
+    let schema : c.rows.block.schema ≡ c.args.block.now.schema = c.rows.invariant.schema ∙ ap (λ (b : RowBlock). b.schema) c.clear.ensures in
+    subst (λ (d : Declared). fits d.columns c.deref.result.now ≡ true) (sym schema)
+    (subst (λ (r : Entries). fits c.args.block.now.schema.columns r ≡ true) (sym (c.deref.ensures.value ∙ c.in_ok-read_entries.ensures))
+    (c.requires.taken (c.args.from + c.rows.k) (omega (arith, c.rows-test.true, c.requires.within))))
+
+-- so it is added
 pub rows-preserved : goal.rows-preserved
 rows-preserved c =
     let all = c.rows.invariant in
-    let row = c.fill_row.new.row in
-    let schema : c.rows.block.schema ≡ c.args.block.now.schema = all.schema ∙ ap (λ (b : RowBlock). b.schema) c.clear.ensures in
-    let fit : fits c.rows.block.schema.columns row ≡ true =
-    subst (λ (d : Declared). fits d.columns row ≡ true) (sym schema)
-    (subst (λ (r : Entries). fits c.args.block.now.schema.columns r ≡ true) (sym c.in_ok-fill_row.ensures)
-    (c.requires.taken (c.args.from + c.rows.k) (omega (arith, c.rows-test.true, c.requires.within)))) in
-    let added = c.push.ensures.added (c.push.ensures.fits ∙ fit) in
+    let row = c.deref.result.now in
+    let is = c.deref.ensures.value ∙ c.in_ok-read_entries.ensures in
+    let added = c.push_fitting.ensures in
     let rows = ap (λ (b : RowBlock). b.rows) added in
     record {
       schema = ap (λ (b : RowBlock). b.schema) added ∙ all.schema;
       feeders = ap (λ (b : RowBlock). b.feeders) added ∙ all.feeders;
       rows = rows ∙ ap (λ (xs : List FedRow). xs ++ (c.args.feeder, row) ∷ []) all.rows
-          ∙ ap (λ (r : Entries). rows_of c.args.feeder c.args.columns.now c.args.from c.rows.k ++ (c.args.feeder, r) ∷ []) c.in_ok-fill_row.ensures
+          ∙ ap (λ (r : Entries). rows_of c.args.feeder c.args.columns.now c.args.from c.rows.k ++ (c.args.feeder, r) ∷ []) is
           ∙ sym (rows_of-more c.args.feeder c.args.columns.now c.args.from c.rows.k);
       long = ap length rows ∙ omega (arith, length-append c.rows.block.rows ((c.args.feeder, row) ∷ []), all.long);
     }

@@ -7,12 +7,12 @@ use Rattle.bsi_table.specs.Columns.{column_at, fits, is_between, is_taken_by, Na
 use Rattle.bsi_table.specs.Rows.{entry_at}
 use Rattle.bsi_schema.proofs.Fitting.{fits-each, limits_at, limits_long, misfit-at}
 use Rattle.bsi_handles.specs.Columns.{entry_of, row_of}
-use Rattle.bsi_handles.specs.declared.columns.Column.{Column}
+use Rattle.bsi_handles.specs.declared.columns.GivenColumn.{GivenColumn}
 use Rattle.bsi_handles.proofs.fitting.first_misfit.Goals as goal
 
 -- whether a column takes the entry of a row
-taken_at : (declared : List NamedColumn) (columns : List Column) (limits : List Limits) → limits ≡ map limits_of declared
-    → (k r : ℕ) (l : Limits) (d : Column) (taken : Bool) → k < length declared → k < length columns
+taken_at : (declared : List NamedColumn) (columns : List GivenColumn) (limits : List Limits) → limits ≡ map limits_of declared
+    → (k r : ℕ) (l : Limits) (d : GivenColumn) (taken : Bool) → k < length declared → k < length columns
     → is_between (get_or limits k l).least (get_or limits k l).size (entry_of r (get_or columns k d)) ≡ taken
     → is_taken_by (column_at declared k) (entry_at (row_of columns r) k) ≡ taken
 taken_at declared columns limits are k r l d taken here within is =

@@ -21,7 +21,7 @@ push_words-requires-clause-clear c = λ j.
     elim (cases_lt j count) [
       | inl below ↦
           let read = get_or-take count words j 0 below in
-          let clear = word_clear c.args.block.now c.place_numbers.new.numbers words c.requires.few c.place_numbers.ensures.numbers c.transpose.ensures.transposed j (omega (arith, below, few, c.requires.sliced.few)) (c.transpose.ensures.fits j) in
+          let clear = word_clear c.args.block.now c.write_numbers.new.numbers words c.requires.few c.write_numbers.ensures.numbers c.transpose.ensures.transposed j (omega (arith, below, few, c.requires.sliced.few)) (c.transpose.ensures.fits j) in
           omega (arith, read, clear)
       | inr past ↦
           let none = get_or_past (take count words) j 0 (omega (arith, past, length-take count words)) in
@@ -40,7 +40,7 @@ returns-clause-sliced c =
     λ k within.
     c.push_words.ensures.bits k within
     ∙ ap (λ word. bits_at c.args.slices.now.vectors k ++ bits_of (length c.args.block.now) (word ∷ [])) (get_or-take count words k 0 (omega (arith, within, few)))
-    ∙ ap (λ bits. bits_at c.args.slices.now.vectors k ++ bits) (word_is c.args.block.now c.place_numbers.new.numbers words c.requires.few c.place_numbers.ensures.numbers c.transpose.ensures.transposed k (omega (arith, within, c.requires.sliced.few))) in
+    ∙ ap (λ bits. bits_at c.args.slices.now.vectors k ++ bits) (word_is c.args.block.now c.write_numbers.new.numbers words c.requires.few c.write_numbers.ensures.numbers c.transpose.ensures.transposed k (omega (arith, within, c.requires.sliced.few))) in
     sliced_more c.args.not_null.now.bits c.push_word_reserved.new.self.bits c.args.slices.now.vectors c.push_words.new.self.vectors c.args.block.now c.requires.sliced
     (λ i within. All-get_or (λ e. number_or_zero e < 2 ^ length c.args.slices.now.vectors) c.args.block.now i None within c.requires.below) marks c.push_words.ensures.count pushed (omega (arith, c.len.ensures))
 
@@ -55,6 +55,6 @@ returns-clause-entries c =
     λ k within.
     c.push_words.ensures.bits k within
     ∙ ap (λ word. bits_at c.args.slices.now.vectors k ++ bits_of (length c.args.block.now) (word ∷ [])) (get_or-take count words k 0 (omega (arith, within, few)))
-    ∙ ap (λ bits. bits_at c.args.slices.now.vectors k ++ bits) (word_is c.args.block.now c.place_numbers.new.numbers words c.requires.few c.place_numbers.ensures.numbers c.transpose.ensures.transposed k (omega (arith, within, c.requires.sliced.few))) in
+    ∙ ap (λ bits. bits_at c.args.slices.now.vectors k ++ bits) (word_is c.args.block.now c.write_numbers.new.numbers words c.requires.few c.write_numbers.ensures.numbers c.transpose.ensures.transposed k (omega (arith, within, c.requires.sliced.few))) in
     entries_more c.args.not_null.now.bits c.push_word_reserved.new.self.bits c.args.slices.now.vectors c.push_words.new.self.vectors c.args.block.now c.requires.sliced
     (λ i within. All-get_or (λ e. number_or_zero e < 2 ^ length c.args.slices.now.vectors) c.args.block.now i None within c.requires.below) marks c.push_words.ensures.count pushed

@@ -9,10 +9,11 @@ pub columns-preserved : goal.columns-preserved
 columns-preserved c =
     let before = c.columns.made.items in
     let made = c.in_ok-make_one.field-0 in
-    let items = c.in_ok-push.ensures.items in
+    let items = c.push_reserved.ensures.items in
     let last = ap (λ xs. kept_at xs c.columns.c) items ∙ ap (λ k. kept_at (before ++ made ∷ []) k) (sym c.columns.invariant.long)
     ∙ get_or-append_seam before made [] no_entries in
     record {
+      room = omega (arith, c.push_reserved.ensures.capacity, c.columns.invariant.room);
       long = ap length items ∙ omega (arith, length-append before (made ∷ []), c.columns.invariant.long);
       each = below_more _ _
           (λ k below.

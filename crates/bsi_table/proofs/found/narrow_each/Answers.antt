@@ -4,22 +4,22 @@ use Rattle.std.proofs.lemmas.Simd.{length-chunk}
 use Rattle.bsi_table.proofs.Selecting.{narrowed_more, narrowed_rest}
 use Rattle.bsi_table.proofs.found.narrow_each.Goals as goal
 
--- one block more
-pub blocks-2-preserved : goal.blocks-2-preserved
-blocks-2-preserved c =
-    let at : ℕ = 1024 * c.blocks-2.k in
+-- one span more
+pub spans-preserved : goal.spans-preserved
+spans-preserved c =
+    let at : ℕ = 1024 * c.spans.k in
     let n : ℕ = c.min.result - at in
-    let words = c.blocks-2.words in
-    let within : at + n ≤ length words = omega (arith, c.min.ensures, c.blocks-2.auto.words, c.blocks-2-test.true, c.div_ceil-k-end.ensures) in
+    let words = c.spans.words in
+    let within : at + n ≤ length words = omega (arith, c.min.ensures, c.spans.auto.words, c.spans-test.true, c.div_ceil-k-end.ensures) in
     let size : length (chunk at n words) ≡ n = length-chunk at n words within in
-    let long : length c.narrow.new.block ≡ n = omega (arith, c.narrow.auto.block, size) in
+    let long : length c.narrow.new.span ≡ n = omega (arith, c.narrow.auto.span, size) in
     record {
       done = λ r below row.
-          narrowed_more c.args.columns.now c.args.count c.args.pred.now c.args.words.now words c.narrow.new.block at n within long c.blocks-2.invariant.done c.blocks-2.invariant.rest
+          narrowed_more c.args.columns.now c.args.rows c.args.pred.now c.args.words.now words c.narrow.new.span at n within long c.spans.invariant.done c.spans.invariant.rest
           (λ p low there. c.in_ok-narrow.ensures.rows p (omega (arith, low, size)) there)
-          r (omega (arith, c.min.ensures, c.requires.long, c.blocks-2.auto.words, below, row)) row;
+          r (omega (arith, c.min.ensures, c.requires.long, c.spans.auto.words, below, row)) row;
       rest = λ r past.
-          narrowed_rest c.args.columns.now c.args.count c.args.pred.now c.args.words.now words c.narrow.new.block at n within long c.blocks-2.invariant.done c.blocks-2.invariant.rest
+          narrowed_rest c.args.columns.now c.args.rows c.args.pred.now c.args.words.now words c.narrow.new.span at n within long c.spans.invariant.done c.spans.invariant.rest
           (λ p low there. c.in_ok-narrow.ensures.rows p (omega (arith, low, size)) there)
           r (omega (arith, c.min.ensures, past));
     }

@@ -5,9 +5,9 @@ use Rattle.bsi_table.specs.Rows.{holds}
 use Rattle.bsi_table.specs.Table.{row_in}
 use Rattle.bsi_table.proofs.found.narrow_each.Given as goal
 
--- the blocks so far are narrowed, and the others are as they were
-abbrev pub invariant-blocks-2 : goal.invariant-blocks-2
-invariant-blocks-2 l = record {
-  done : (r : ℕ) → r < 64 * (1024 * l.k) → r < l.count → bit_of l.words r ≡ (bit_of l.fn.words r && holds l.pred (row_in l.columns r));
+-- the spans so far are narrowed, and the others are as they were
+abbrev pub invariant-spans : goal.invariant-spans
+invariant-spans l = record {
+  done : (r : ℕ) → r < 64 * (1024 * l.k) → r < l.rows → bit_of l.words r ≡ (bit_of l.fn.words r && holds l.pred (row_in l.columns r));
   rest : (r : ℕ) → 64 * (1024 * l.k) ≤ r → bit_of l.words r ≡ bit_of l.fn.words r;
 }

@@ -5,7 +5,7 @@ use Rattle.bsi_table.proofs.found.trim.Goals as goal
 
 pub returns-then-kept-ne0-clause-packed : goal.returns-then-kept-ne0-clause-packed
 returns-then-kept-ne0-clause-packed c =
-    let words = c.args.block.now in
+    let words = c.args.span.now in
     let n = c.args.rows in
     let x = get_or words (n / 64) 0 in
     let inside : n / 64 < length words = omega (arith, c.requires.few, c.if-kept-ne0.true) in
@@ -14,7 +14,7 @@ returns-then-kept-ne0-clause-packed c =
 
 pub returns-then-kept-ne0-clause-bits : goal.returns-then-kept-ne0-clause-bits
 returns-then-kept-ne0-clause-bits c =
-    let words = c.args.block.now in
+    let words = c.args.span.now in
     let n = c.args.rows in
     let x = get_or words (n / 64) 0 in
     let inside : n / 64 < length words = omega (arith, c.requires.few, c.if-kept-ne0.true) in

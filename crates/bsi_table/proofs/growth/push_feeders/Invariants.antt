@@ -3,7 +3,7 @@ use Rattle.bsi_table.proofs.growth.push_feeders.Given as goal
 
 abbrev pub invariant-rows : goal.invariant-rows
 invariant-rows l = record {
-  rows : l.origins.rows ≡ l.fn.origins.rows ++ take l.source-index l.sources;
+  rows : l.origins.rows ≡ l.fn.origins.rows ++ take l.feeder-index l.row_feeders;
   feeders : l.origins.feeders ≡ l.fn.origins.feeders;
-  room : l.origins.room + l.source-index ≡ l.fn.origins.room;
+  room : l.origins.room + l.feeder-index ≡ l.fn.origins.room;
 }

@@ -9,8 +9,8 @@ use Rattle.bsi_table.proofs.Missing.{there}
 use Rattle.bsi_table.proofs.TableRows.{count-found, even-found, feeders-fed_rows, length-found, set_places-found, values-found}
 use Rattle.bsi_table.proofs.totals.answer_total.Goals as goal
 
-pub returns-in-Count-clause-answer : goal.returns-in-Count-clause-answer
-returns-in-Count-clause-answer c =
+pub returns-in-Count : goal.returns-in-Count
+returns-in-Count c =
     let rows = fed_rows c.args.origins.now.rows c.args.columns.now in
     subst (λ t. IsTotal t c.args.query.now.pred rows (Count c.count.result)) (sym c.in-Count.is)
     (ap Count (c.count.ensures ∙ count-found c.args.origins.now.rows c.args.columns.now c.args.query.now.pred c.args.found.now.bits c.requires.found c.requires.even))
@@ -21,8 +21,8 @@ sum-requires c =
     let within = there (length columns) c.in-Sum.c (ap (λ t. missing_of (length columns) (columns_of_total t)) (sym c.in-Sum.is) ∙ c.requires.there) in
     even-found c.args.origins.now.rows columns c.args.query.now.pred c.args.found.now.bits c.requires.found c.requires.even c.in-Sum.c c.index-columns-c.result within c.index-columns-c.is
 
-pub returns-in-Sum-clause-answer : goal.returns-in-Sum-clause-answer
-returns-in-Sum-clause-answer c =
+pub returns-in-Sum : goal.returns-in-Sum
+returns-in-Sum c =
     let columns = c.args.columns.now in
     let rows = fed_rows c.args.origins.now.rows columns in
     let within = there (length columns) c.in-Sum.c (ap (λ t. missing_of (length columns) (columns_of_total t)) (sym c.in-Sum.is) ∙ c.requires.there) in
@@ -37,8 +37,8 @@ least-requires c =
     let within = there (length columns) c.in-Least.c (ap (λ t. missing_of (length columns) (columns_of_total t)) (sym c.in-Least.is) ∙ c.requires.there) in
     even-found c.args.origins.now.rows columns c.args.query.now.pred c.args.found.now.bits c.requires.found c.requires.even c.in-Least.c c.index-columns-c-in-Least.result within c.index-columns-c-in-Least.is
 
-pub returns-in_ok-least-in-Least-clause-answer : goal.returns-in_ok-least-in-Least-clause-answer
-returns-in_ok-least-in-Least-clause-answer c =
+pub returns-in_ok-least-in-Least : goal.returns-in_ok-least-in-Least
+returns-in_ok-least-in-Least c =
     let columns = c.args.columns.now in
     let rows = fed_rows c.args.origins.now.rows columns in
     let within = there (length columns) c.in-Least.c (ap (λ t. missing_of (length columns) (columns_of_total t)) (sym c.in-Least.is) ∙ c.requires.there) in
@@ -53,8 +53,8 @@ greatest-requires c =
     let within = there (length columns) c.in-Greatest.c (ap (λ t. missing_of (length columns) (columns_of_total t)) (sym c.in-Greatest.is) ∙ c.requires.there) in
     even-found c.args.origins.now.rows columns c.args.query.now.pred c.args.found.now.bits c.requires.found c.requires.even c.in-Greatest.c c.index-columns-c-in-Greatest.result within c.index-columns-c-in-Greatest.is
 
-pub returns-in_ok-greatest-in-Greatest-clause-answer : goal.returns-in_ok-greatest-in-Greatest-clause-answer
-returns-in_ok-greatest-in-Greatest-clause-answer c =
+pub returns-in_ok-greatest-in-Greatest : goal.returns-in_ok-greatest-in-Greatest
+returns-in_ok-greatest-in-Greatest c =
     let columns = c.args.columns.now in
     let rows = fed_rows c.args.origins.now.rows columns in
     let within = there (length columns) c.in-Greatest.c (ap (λ t. missing_of (length columns) (columns_of_total t)) (sym c.in-Greatest.is) ∙ c.requires.there) in
@@ -69,8 +69,8 @@ median-requires c =
     let within = there (length columns) c.in-Median.c (ap (λ t. missing_of (length columns) (columns_of_total t)) (sym c.in-Median.is) ∙ c.requires.there) in
     even-found c.args.origins.now.rows columns c.args.query.now.pred c.args.found.now.bits c.requires.found c.requires.even c.in-Median.c c.index-columns-c-in-Median.result within c.index-columns-c-in-Median.is
 
-pub returns-in_ok-median-in-Median-clause-answer : goal.returns-in_ok-median-in-Median-clause-answer
-returns-in_ok-median-in-Median-clause-answer c =
+pub returns-in_ok-median-in-Median : goal.returns-in_ok-median-in-Median
+returns-in_ok-median-in-Median c =
     let columns = c.args.columns.now in
     let rows = fed_rows c.args.origins.now.rows columns in
     let within = there (length columns) c.in-Median.c (ap (λ t. missing_of (length columns) (columns_of_total t)) (sym c.in-Median.is) ∙ c.requires.there) in
@@ -82,8 +82,8 @@ returns-in_ok-median-in-Median-clause-answer c =
 pub number_rows-requires : goal.number_rows-requires
 number_rows-requires c = length-found c.args.origins.now.rows c.args.columns.now c.args.query.now.pred c.args.found.now.bits c.requires.found c.requires.even
 
-pub returns-in_ok-number_rows-in-Rows-clause-answer : goal.returns-in_ok-number_rows-in-Rows-clause-answer
-returns-in_ok-number_rows-in-Rows-clause-answer c =
+pub returns-in_ok-number_rows-in-Rows : goal.returns-in_ok-number_rows-in-Rows
+returns-in_ok-number_rows-in-Rows c =
     let rows = fed_rows c.args.origins.now.rows c.args.columns.now in
     subst (λ t. IsTotal t c.args.query.now.pred rows (Rows c.in_ok-number_rows-in-Rows.field-0)) (sym c.in-Rows.is)
     (c.in_ok-number_rows-in-Rows.ensures

@@ -2,22 +2,22 @@ use Rattle.std.proofs.Common.{◌≡◌, None, Some, length, sym, subst, ap, ari
 use Rattle.csv.specs.Records.{fields_of}
 use Rattle.bsi_text.specs.RecordTexts.{TakesRecord}
 use Rattle.bsi_text.specs.RowFiles.{given, good_row}
-use Rattle.bsi_text.specs.Sources.{tally_of}
+use Rattle.bsi_text.specs.Sources.{counts_of}
 use Rattle.bsi_text.proofs.Filling.{put_bad, put_good, put_none, puts_all, puts_before, puts_full, puts_wanting}
 use Rattle.bsi_text.proofs.rows.put_rows.Goals as goal
 
 pub records-init : goal.records-init
 records-init g c = record {
-  put = put_none g.R.Read.remaining c.args.layout.now c.args.input.now (tally_of c.args.taken.now c.args.bad.now) c.args.feeder c.args.block.now c.requires.plain c.requires.tally;
+  put = put_none g.R.Read.remaining c.args.layout.now c.args.input.now (counts_of c.args.taken.now c.args.bad.now) c.args.feeder c.args.block.now c.requires.plain c.requires.counts;
   wide = c.in_ok-entries.ensures;
 }
 
--- memory is wanted for a row
+-- memory for a row is refused
 pub returns-in_err-entries-clause-puts : goal.returns-in_err-entries-clause-puts
 returns-in_err-entries-clause-puts g c =
-    puts_wanting g.R.Read.remaining c.args.layout.now c.args.input.now c.args.input.now (tally_of c.args.taken.now c.args.bad.now) (tally_of c.args.taken.now c.args.bad.now) c.args.feeder
+    puts_wanting g.R.Read.remaining c.args.layout.now c.args.input.now c.args.input.now (counts_of c.args.taken.now c.args.bad.now) (counts_of c.args.taken.now c.args.bad.now) c.args.feeder
     c.args.block.now c.args.block.now
-    (put_none g.R.Read.remaining c.args.layout.now c.args.input.now (tally_of c.args.taken.now c.args.bad.now) c.args.feeder c.args.block.now c.requires.plain c.requires.tally)
+    (put_none g.R.Read.remaining c.args.layout.now c.args.input.now (counts_of c.args.taken.now c.args.bad.now) c.args.feeder c.args.block.now c.requires.plain c.requires.counts)
     c.args.input.now c.from_residual.result c.from_residual.ensures.1 c.requires.room
 
 -- the next record can't be read, or there are too many

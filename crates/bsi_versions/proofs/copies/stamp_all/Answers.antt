@@ -1,12 +1,12 @@
 use Rattle.std.proofs.Common.{drop, ap, ◌∙◌}
-use Rattle.bsi_versions.specs.Editions.{rows_of}
-use Rattle.bsi_versions.proofs.Writing.{stamped_all, rows_of-stamp}
+use Rattle.bsi_versions.specs.Editions.{pending_rows}
+use Rattle.bsi_versions.proofs.Writing.{stamped_all, pending_rows-stamp}
 use Rattle.bsi_versions.proofs.copies.stamp_all.Goals as goal
 
 -- the stamp is no row
 pub returns-clause-rows : goal.returns-clause-rows
 returns-clause-rows g c =
-    ap rows_of c.in_ok-stamp.ensures.ok ∙ rows_of-stamp (drop c.args.copies.now.behind c.args.copies.now.log.items) c.stamp.new.history
+    ap pending_rows c.in_ok-stamp.ensures.ok ∙ pending_rows-stamp (drop c.args.copies.now.behind c.args.copies.now.log.items) c.stamp.new.history
 
 pub returns-clause-stamped : goal.returns-clause-stamped
 returns-clause-stamped g c =

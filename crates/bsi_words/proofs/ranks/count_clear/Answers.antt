@@ -12,7 +12,7 @@ use Rattle.bsi_words.proofs.ranks.count_clear.Goals as goal
 pub returns : goal.returns
 returns c =
     let found = c.args.found.now.bits in
-    let slice = c.args.slice.now.bits in
+    let slice = c.args.place.now.bits in
     let words = c.words-words.result.now in
     let others = c.words-others.result.now in
     let few : length found ≤ 2 ^ 32 = omega (arith, c.len.ensures.len, c.len.ensures.within) in

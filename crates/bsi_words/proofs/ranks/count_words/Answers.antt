@@ -10,15 +10,15 @@ use Rattle.bsi_words.proofs.Narrowing.{line_words, empty_kept, empty_ones, kept_
 use Rattle.bsi_words.proofs.ranks.count_words.Goals as goal
 
 -- a line with no row
-pub lines-preserved-then-is_empty : goal.lines-preserved-then-is_empty
-lines-preserved-then-is_empty c =
+pub lines-preserved-then-is_clear : goal.lines-preserved-then-is_clear
+lines-preserved-then-is_clear c =
     let words = c.args.words.now in
     let others = c.args.others.now in
     let made = zip2 (word_kept false) words others in
     let at : ℕ = line_words * c.lines.k in
     let within : at + line_words ≤ length words = omega (arith, c.lines-test.true) in
     let line = chunk at line_words words in
-    let none : (k : ℕ) → get_or line k 0 ≡ 0 = λ k. ap (λ xs. get_or xs k 0) (sym c.as_array.ensures) ∙ c.if-is_empty.ensures.0 refl k in
+    let none : (k : ℕ) → get_or line k 0 ≡ 0 = λ k. ap (λ xs. get_or xs k 0) (sym c.as_array.ensures) ∙ c.if-is_clear.ensures.0 refl k in
     let left : line ≡ chunk at line_words made =
     empty_kept false line (chunk at line_words others) (length-chunk at line_words others (omega (arith, within, c.requires.same)) ∙ sym (length-chunk at line_words words within)) none
     ∙ sym (chunk-zip2 (word_kept false) at line_words words others (sym c.requires.same)) in

@@ -12,7 +12,7 @@ use Rattle.bsi_words.proofs.ranks.narrow.Goals as goal
 
 pub returns-clause-packed : goal.returns-clause-packed
 returns-clause-packed c =
-    let slice = c.args.slice.now.bits in
+    let slice = c.args.place.now.bits in
     let words = c.words-words.result.now in
     let shown = shown_packed slice words c.words-words.ensures.few c.words-words.ensures.places c.requires.packed.within in
     rw c.narrow_words.ensures.chosen
@@ -21,7 +21,7 @@ returns-clause-packed c =
 
 pub returns-clause-chosen : goal.returns-clause-chosen
 returns-clause-chosen c =
-    let slice = c.args.slice.now.bits in
+    let slice = c.args.place.now.bits in
     let words = c.words-words.result.now in
     let shown = shown_packed slice words c.words-words.ensures.few c.words-words.ensures.places c.requires.packed.within in
     let sel : Bool → Bool → Bool = λ f b. f && (if c.args.is_set then b else not b) in
@@ -31,7 +31,7 @@ returns-clause-chosen c =
 
 pub returns-clause-clear : goal.returns-clause-clear
 returns-clause-clear c =
-    let slice = c.args.slice.now.bits in
+    let slice = c.args.place.now.bits in
     let next = c.args.next.now.bits in
     let others = c.words-others.result.now in
     let rows = c.narrow_words.new.chosen in

@@ -49,8 +49,8 @@ passed f i n m old now filled next stay = record {
 }
 
 -- a line with no row
-pub lines-preserved-then-is_empty : goal.lines-preserved-then-is_empty
-lines-preserved-then-is_empty c =
+pub lines-preserved-then-is_clear : goal.lines-preserved-then-is_clear
+lines-preserved-then-is_clear c =
     let old = c.args.chosen.now in
     let words = c.args.words.now in
     let next = c.args.next.now in
@@ -64,7 +64,7 @@ lines-preserved-then-is_empty c =
     let line = chunk at line_words old in
     let line_long : length line ≡ line_words = length-chunk at line_words old within in
     let line_is = c.as_array.ensures ∙ unwritten (paired f words) at line_words old c.lines.chosen c.lines.invariant.filled within in
-    let none : (k : ℕ) → get_or line k 0 ≡ 0 = λ k. ap (λ xs. get_or xs k 0) (sym line_is) ∙ c.if-is_empty.ensures.0 refl k in
+    let none : (k : ℕ) → get_or line k 0 ≡ 0 = λ k. ap (λ xs. get_or xs k 0) (sym line_is) ∙ c.if-is_clear.ensures.0 refl k in
     let kept : line ≡ chunk at line_words target = empty_kept c.args.is_set line (chunk at line_words words) (length-chunk at line_words words (omega (arith, within, same)) ∙ sym line_long) none ∙ sym (chunk-zip2 f at line_words old words same) in
     let left : line ≡ chunk at line_words made =
     empty_kept false line (chunk at line_words next) (length-chunk at line_words next (omega (arith, within, c.requires.same_next)) ∙ sym line_long) none

@@ -9,6 +9,6 @@ lines-preserved c = record {
   within = omega (arith, c.min-start.ensures);
   clear = λ k from below. elim (cases_lt k c.lines.start) [
     | inl before ↦ c.lines.invariant.clear k from before
-    | inr here ↦ c.is_line_empty.ensures c.if-is_line_empty.true k here (omega (arith, c.min-start.ensures))
+    | inr here ↦ c.is_line_clear.ensures c.if-is_line_clear.true k here (omega (arith, c.min-start.ensures))
   ];
 }

@@ -8,11 +8,7 @@ use Rattle.bsi_columns.proofs.decomposed.Decomposed.better_in_block.Given as goa
 -- the rows that are left of the block have the number above the component, which comes first
 abbrev pub invariant-components : goal.invariant-components
 invariant-components g l = record {
-  within : l.i ≤ length l.bases;
   nearest : IsNearest l.end (bit_of l.fn.block) (λ p. number_at l.self.entries (64 * l.at + p)) (64 * length l.fn.block) (weight l.bases l.i) l.number (bit_of l.block);
   small : l.number * weight l.bases l.i + weight l.bases l.i ≤ product l.bases;
   better : l.i ≡ 0 → yields l.end l.number l.best;
 }
-
-abbrev pub decreases-components : goal.decreases-components
-decreases-components g l = l.i

@@ -17,15 +17,15 @@ loop-i-init g c =
     let few : 0 < length items = omega (arith, kept.count, length-map items g.E.Encoding.digits) in
     let digits : g.E.Encoding.digits c.index.result.now ≡ map (λ e. digit_of bs (number_or_zero e) 0) entries =
     sym (read_map g.E.Encoding.digits items 0 c.index.result.now [] few c.index.ensures) ∙ kept.digits_are 0 (omega arith) in
-    let same : length entries ≡ length c.args.part.now.bits = rw (← c.self.view_is) at c.requires.same_part in
+    let same : length entries ≡ length c.args.scratch.now.bits = rw (← c.self.view_is) at c.requires.scratch in
     rw (← c.self.view_is) (record {
       found = low_answers_first c.len-count.ensures.valid c.args.test.relation c.args.test.constant entries
           c.digit-lowest.result c.first_into.new.found.bits (g.E.Encoding.digits c.index.result.now) c.digit-lowest.ensures.digit digits c.first_into.ensures;
-      part = sym same;
+      scratch = sym same;
     })
 
-pub narrow_into-requires-clause-same_part : goal.narrow_into-requires-clause-same_part
-narrow_into-requires-clause-same_part g c =
+pub narrow_into-requires-clause-scratch : goal.narrow_into-requires-clause-scratch
+narrow_into-requires-clause-scratch g c =
     let inside = c.self.inside in
     let items = inside.components.items in
     let bs = inside.bases in
@@ -34,7 +34,7 @@ narrow_into-requires-clause-same_part g c =
     let within : c.loop-i.i < length items = omega (arith, kept.count, length-map items g.E.Encoding.digits) in
     let digits : g.E.Encoding.digits c.index-in-loop-i.result.now ≡ map (λ e. digit_of bs (number_or_zero e) c.loop-i.i) entries =
     sym (read_map g.E.Encoding.digits items c.loop-i.i c.index-in-loop-i.result.now [] within c.index-in-loop-i.ensures) ∙ kept.digits_are c.loop-i.i (omega arith) in
-    let same : length c.loop-i.part.bits ≡ length entries = rw (← c.self.view_is) at c.loop-i.invariant.part in
+    let same : length c.loop-i.scratch.bits ≡ length entries = rw (← c.self.view_is) at c.loop-i.invariant.scratch in
     ap length digits ∙ length-map entries (λ e. digit_of bs (number_or_zero e) c.loop-i.i) ∙ sym same
 
 pub narrow_into-requires-clause-same : goal.narrow_into-requires-clause-same
@@ -63,11 +63,11 @@ loop-i-preserved g c =
     let digits : g.E.Encoding.digits c.index-in-loop-i.result.now ≡ map (λ e. digit_of bs (number_or_zero e) c.loop-i.i) entries =
     sym (read_map g.E.Encoding.digits items c.loop-i.i c.index-in-loop-i.result.now [] within c.index-in-loop-i.ensures) ∙ kept.digits_are c.loop-i.i (omega arith) in
     let found : c.loop-i.found.bits ≡ low_answers valid c.args.test.relation c.args.test.constant entries c.loop-i.i = rw (← c.self.view_is) at c.loop-i.invariant.found in
-    let same : length c.loop-i.part.bits ≡ length entries = rw (← c.self.view_is) at c.loop-i.invariant.part in
+    let same : length c.loop-i.scratch.bits ≡ length entries = rw (← c.self.view_is) at c.loop-i.invariant.scratch in
     rw (← c.self.view_is) (record {
       found = low_answers_more valid c.args.test.relation c.args.test.constant entries c.loop-i.i c.digit-digit.result c.loop-i.found.bits c.narrow_into.new.found.bits
           (g.E.Encoding.digits c.index-in-loop-i.result.now) (omega arith) c.digit-digit.ensures.digit digits found c.narrow_into.ensures.found;
-      part = c.narrow_into.ensures.part ∙ same;
+      scratch = c.narrow_into.ensures.scratch ∙ same;
     })
 
 pub returns : goal.returns

@@ -7,5 +7,5 @@ use Rattle.bsi_columns.proofs.decomposed.Decomposed.narrow_vectors.Given as goal
 abbrev pub invariant-loop-i : goal.invariant-loop-i
 invariant-loop-i g l = record {
   found : l.found.bits ≡ map (λ e. relates l.test.relation (number_or_zero e % weight l.self.bases l.i) (l.test.constant % weight l.self.bases l.i)) l.self.entries;
-  part : length l.part.bits ≡ length l.self.entries;
+  scratch : length l.scratch.bits ≡ length l.self.entries;
 }

@@ -3,19 +3,19 @@ use Rattle.std.specs.Prelude.{sum_by}
 use Rattle.bsi_digits.specs.Digits.{weight, digit_of, product}
 use Rattle.bsi_digits.proofs.CallerLemmas.{weight_pos, weight_le_size, weight_all}
 use Rattle.bsi_columns.specs.Rows.{number_or_zero}
-use Rattle.bsi_columns.specs.Totals.{numbers_at}
+use Rattle.bsi_columns.specs.Orders.{values_at}
 use Rattle.bsi_columns.proofs.Adding.{sum_small, sum_whole}
 use Rattle.bsi_columns.proofs.DigitSums.{sum_none, sum_digits}
 use Rattle.bsi_columns.proofs.decomposed.Decomposed.sum_found.Given as given
 use Rattle.bsi_columns.proofs.decomposed.Decomposed.sum_found.Goals as goal
 
 pub components-init : goal.components-init
-components-init g c = sum_none c.bases-bases.result.now (numbers_at c.args.found.now.bits c.args.self.now.entries)
+components-init g c = sum_none c.bases-bases.result.now (values_at c.args.found.now.bits c.args.self.now.entries)
 
 -- the total with one component more
 more : (g : given.Over) (c : goal.After-from g)
     → c.components.total + c.digit_sum.result * c.from.result
-    ≡ sum_by (λ n. n % weight c.bases-bases.result.now (c.components.i + 1)) (numbers_at c.args.found.now.bits c.args.self.now.entries)
+    ≡ sum_by (λ n. n % weight c.bases-bases.result.now (c.components.i + 1)) (values_at c.args.found.now.bits c.args.self.now.entries)
 more g c =
     let bs = c.bases-bases.result.now in
     let digits = c.component.ensures.digits ∙ ap (λ bs. map (λ e. digit_of bs (number_or_zero e) c.components.i) c.args.self.now.entries) (sym c.bases-bases.ensures.bases) in
@@ -44,7 +44,7 @@ components-preserved g c = more g c
 pub returns-clause-sum : goal.returns-clause-sum
 returns-clause-sum g c =
     let bs = c.bases-bases.result.now in
-    let numbers = numbers_at c.args.found.now.bits c.args.self.now.entries in
+    let numbers = values_at c.args.found.now.bits c.args.self.now.entries in
     let all : c.components.i ≡ length bs = omega (arith, c.len-i-end.ensures.len) in
     let IsBelow : List ℕ → Type 0 = λ bs. All (λ e. number_or_zero e < product bs) c.args.self.now.entries in
     let below = subst IsBelow (sym c.bases-bases.ensures.bases) c.bases-bases.ensures.below in

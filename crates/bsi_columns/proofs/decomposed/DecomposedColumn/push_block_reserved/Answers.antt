@@ -21,7 +21,7 @@ invariant_of-self g c =
     let long : length more ≡ length bs = length-map items g.E.Encoding.digits ∙ length-map_is g.E.Encoding.base_of items bs c.push_blocks.ensures.bases in
     let small : All (λ e. number_or_zero e < product bs) (c.args.block.now) = rw (← c.self.view_is) at c.requires.below in
     let bits_are : bits ≡ not_null ++ map is_some (c.args.block.now) = c.push_word_reserved.ensures.bits ∙ ap (λ b. not_null ++ b) c.mark_not_null.ensures.marks in
-    let each : (i : ℕ) → i < length bs → get_or more i [] ≡ get_or ds i [] ++ map (λ e. digit_of bs (number_or_zero e) i) (c.args.block.now) = λ i below. c.push_blocks.ensures.digits i below ∙ ap (λ xs. get_or ds i [] ++ xs) (block_digits (λ n. digit_of bs n i) c.args.block.now c.place_numbers.new.numbers c.place_numbers.ensures.numbers (omega (arith, c.requires.few, c.place_numbers.ensures.long))) in
+    let each : (i : ℕ) → i < length bs → get_or more i [] ≡ get_or ds i [] ++ map (λ e. digit_of bs (number_or_zero e) i) (c.args.block.now) = λ i below. c.push_blocks.ensures.digits i below ∙ ap (λ xs. get_or ds i [] ++ xs) (block_digits (λ n. digit_of bs n i) c.args.block.now c.write_numbers.new.numbers c.write_numbers.ensures.numbers (omega (arith, c.requires.few, c.write_numbers.ensures.long))) in
     let kept : Decomposes bs bits more (entries ++ c.args.block.now) = more_entries bs not_null ds entries (c.args.block.now) bits more c.self.invariant.0 bits_are long each small in
     let rooms = map g.E.Encoding.room_of old in
     let rooms' = map g.E.Encoding.room_of items in
@@ -32,7 +32,7 @@ invariant_of-self g c =
       kept_itself bs bits more (entries ++ c.args.block.now) kept,
       c.push_blocks.ensures.bases,
       roomy_less (length not_null) c.self.inside.room c.self.inside.not_null.room (length c.args.block.now) (length bits) c.push_word_reserved.new.self.room rooms rooms' c.self.invariant.2 enough rows (omega (arith, c.push_word_reserved.ensures.room)) same
-          (λ k. omega (arith, c.push_blocks.ensures.room k, length-take-le (length c.args.block.now) c.place_numbers.new.numbers (omega (arith, c.requires.few, c.place_numbers.ensures.long)))),
+          (λ k. omega (arith, c.push_blocks.ensures.room k, length-take-le (length c.args.block.now) c.write_numbers.new.numbers (omega (arith, c.requires.few, c.write_numbers.ensures.long)))),
     )
 
 pub returns-clause-entries : goal.returns-clause-entries
@@ -47,6 +47,6 @@ returns-clause-entries g c =
     let long : length more ≡ length bs = length-map items g.E.Encoding.digits ∙ length-map_is g.E.Encoding.base_of items bs c.push_blocks.ensures.bases in
     let small : All (λ e. number_or_zero e < product bs) (c.args.block.now) = rw (← c.self.view_is) at c.requires.below in
     let bits_are : bits ≡ not_null ++ map is_some (c.args.block.now) = c.push_word_reserved.ensures.bits ∙ ap (λ b. not_null ++ b) c.mark_not_null.ensures.marks in
-    let each : (i : ℕ) → i < length bs → get_or more i [] ≡ get_or ds i [] ++ map (λ e. digit_of bs (number_or_zero e) i) (c.args.block.now) = λ i below. c.push_blocks.ensures.digits i below ∙ ap (λ xs. get_or ds i [] ++ xs) (block_digits (λ n. digit_of bs n i) c.args.block.now c.place_numbers.new.numbers c.place_numbers.ensures.numbers (omega (arith, c.requires.few, c.place_numbers.ensures.long))) in
+    let each : (i : ℕ) → i < length bs → get_or more i [] ≡ get_or ds i [] ++ map (λ e. digit_of bs (number_or_zero e) i) (c.args.block.now) = λ i below. c.push_blocks.ensures.digits i below ∙ ap (λ xs. get_or ds i [] ++ xs) (block_digits (λ n. digit_of bs n i) c.args.block.now c.write_numbers.new.numbers c.write_numbers.ensures.numbers (omega (arith, c.requires.few, c.write_numbers.ensures.long))) in
     let kept : Decomposes bs bits more (entries ++ c.args.block.now) = more_entries bs not_null ds entries (c.args.block.now) bits more c.self.invariant.0 bits_are long each small in
     rw (← c.self.view_is) (entries_from bs bits more (entries ++ c.args.block.now) kept)

@@ -9,12 +9,12 @@ use Rattle.bsi_columns.proofs.decomposed.vectors.narrow_into.Goals as goal
 pub or_with-requires : goal.or_with-requires
 or_with-requires g c =
     let found = c.args.found.now.bits in
-    let part = c.le_into.new.out.bits in
+    let scratch = c.le_into.new.out.bits in
     let ds = g.E.Encoding.digits c.args.component.now in
-    let long : length part ≡ length ds = ap length c.le_into.ensures.bits ∙ length-map ds _ in
+    let long : length scratch ≡ length ds = ap length c.le_into.ensures.bits ∙ length-map ds _ in
     let long_after : length c.le_into-then-digit-gt0.new.out.bits ≡ length ds = ap length c.le_into-then-digit-gt0.ensures.bits ∙ length-map ds _ in
-    let same : length found ≡ length part = sym c.requires.same ∙ sym long in
-    ap length c.and_with-in-AtMost.ensures.bits ∙ length-zip2 ◌&&◌ found part same ∙ sym c.requires.same ∙ sym long_after
+    let same : length found ≡ length scratch = sym c.requires.same ∙ sym long in
+    ap length c.and_with-in-AtMost.ensures.bits ∙ length-zip2 ◌&&◌ found scratch same ∙ sym c.requires.same ∙ sym long_after
 
 pub returns-in-Equal-clause-found : goal.returns-in-Equal-clause-found
 returns-in-Equal-clause-found g c =

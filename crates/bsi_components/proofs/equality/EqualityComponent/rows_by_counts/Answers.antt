@@ -7,7 +7,7 @@ pub returns-clause-ranked : goal.returns-clause-ranked
 returns-clause-ranked c =
     let found = c.args.found.bits in
     let digits = c.args.self.now.digits in
-    let choice = c.rank_from_least-choice.result in
+    let digit = c.rank_from_least-ranked.result in
     let rows = c.keep_digit.new.rows.bits in
-    let ranked = ranked_rows c.args.rank choice.digit choice.rank found digits rows c.rank_from_least-choice.ensures.ranked.rank_is c.rank_from_least-choice.ensures.ranked.there c.keep_digit.ensures in
-    subst (λ (n : ℕ). IsRankedRows c.args.rank found digits n choice.rank rows) (sym c.from.ensures) ranked
+    let ranked = ranked_rows c.args.rank digit.digit digit.rank found digits rows c.rank_from_least-ranked.ensures.ranked.rank_is c.rank_from_least-ranked.ensures.ranked.there c.keep_digit.ensures in
+    subst (λ (n : ℕ). IsRankedRows c.args.rank found digits n digit.rank rows) (sym c.from.ensures) ranked

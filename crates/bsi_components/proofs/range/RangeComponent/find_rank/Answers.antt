@@ -1,6 +1,6 @@
 use Rattle.std.proofs.Common.{sym, subst, arith}
 use Rattle.bsi_components.specs.Ranks.{IsBetween}
-use Rattle.bsi_components.specs.declared.range.ranks.Between.{Between}
+use Rattle.bsi_components.specs.declared.range.ranks.DigitRange.{DigitRange}
 use Rattle.bsi_components.proofs.RankSearch.{between_all, few_ranks}
 use Rattle.bsi_components.proofs.range.RangeComponent.find_rank.Goals as goal
 use Rattle.bsi_components.proofs.range.RangeComponent.find_rank.Goals.{in-Some, in_default}
@@ -17,7 +17,7 @@ narrowed-between-requires-clause-holds c =
 -- also after the counts near a likely digit
 pub digits-init : goal.digits-init
 digits-init c =
-    let IsHeld : Between → Type 0 = λ b. IsBetween c.args.self.now.base c.args.rank c.args.found.now.bits c.args.self.now.digits b.low b.high b.below in
+    let IsHeld : DigitRange → Type 0 = λ b. IsBetween c.args.self.now.base c.args.rank c.args.found.now.bits c.args.self.now.digits b.low b.high b.below in
     let all = between_all c.args.self.now.base c.args.rank c.args.found.now.bits c.args.self.now.digits c.top.result c.top.ensures.base c.requires.same c.top.ensures.most c.requires.there in
     elim c.match-likely_digit.branch [
       | in-Some w ↦ subst IsHeld (sym w.between-is) w.narrowed-between-in-Some-2.ensures.holds

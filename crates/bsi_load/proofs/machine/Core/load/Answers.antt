@@ -20,7 +20,7 @@ pub returns-then-f-feeders-clause-after : goal.returns-then-f-feeders-clause-aft
 returns-then-f-feeders-clause-after c = load_refused c.args.self.now c.args.f load.UnknownFeeder
 
 pub returns-in_default-clause-after : goal.returns-in_default-clause-after
-returns-in_default-clause-after c = load_refused c.args.self.now c.args.f c.end.result
+returns-in_default-clause-after c = load_refused c.args.self.now c.args.f c.refusal.result
 
 pub returns-in_default-clause-reply : goal.returns-in_default-clause-reply
 returns-in_default-clause-reply c =
@@ -29,10 +29,10 @@ returns-in_default-clause-reply c =
     let there : c.args.f < length items = omega (arith, c.if-f-feeders.false, c.feeders.ensures.feeders, many) in
     let old_is = c.behind-self.view_is ∙ c.index.ensures ∙ get_or_default items c.args.f c.index.result.now no_feeder there in
     let end_is = c.index-in_default.ensures ∙ get_or_default items c.args.f c.index-in_default.result.now no_feeder there in
-    let empty = no_first c.behind-self.inside.queue.items (sym c.front.ensures ∙ ap option_copied c.in_default.is) in
-    subst (λ v. IsLoadReply v c.args.f (Err c.end.result)) c.self.view_is
-    (nothing_waits (with_feeders c.self.inside.index items) c.args.f c.end.result there (ap (λ w. w.rows) (sym old_is) ∙ empty)
-    (c.end.ensures ∙ ap (λ w. cond w.closed load.Ended load.Empty) end_is))
+    let empty = no_first c.behind-self.inside.rows.items (sym c.front.ensures ∙ ap option_copied c.in_default.is) in
+    subst (λ v. IsLoadReply v c.args.f (Err c.refusal.result)) c.self.view_is
+    (nothing_waits (with_feeders c.self.inside.index items) c.args.f c.refusal.result there (ap (λ w. w.rows) (sym old_is) ∙ empty)
+    (c.refusal.ensures ∙ ap (λ w. cond w.closed load.Ended load.Empty) end_is))
 
 pub append-requires-clause-fits : goal.append-requires-clause-fits
 append-requires-clause-fits c =
@@ -42,8 +42,8 @@ append-requires-clause-fits c =
     let Fits : Entries → Type 0 = λ row. IsTrue (fits c.self.inside.index.schema.columns row) in
     let old_is = c.behind-self.view_is ∙ c.index.ensures in
     let fitting = subst (λ w. All Fits w.rows) (sym old_is) (old_fitting c.self.inside.index items c.self.invariant c.args.f there c.index.result.now) in
-    let rows_are = first_row c.behind-self.inside.queue.items c.in-Some.row.now (sym c.front.ensures ∙ ap option_copied c.in-Some.is) in
-    All-head Fits c.in-Some.row.now (drop 1 c.behind-self.inside.queue.items) (subst (All Fits) rows_are fitting)
+    let rows_are = first_row c.behind-self.inside.rows.items c.in-Some.row.now (sym c.front.ensures ∙ ap option_copied c.in-Some.is) in
+    All-head Fits c.in-Some.row.now (drop 1 c.behind-self.inside.rows.items) (subst (All Fits) rows_are fitting)
 
 pub returns-in_err-position-clause-after : goal.returns-in_err-position-clause-after
 returns-in_err-position-clause-after c =
@@ -58,7 +58,7 @@ invariant_of-self-2 c =
     let there : c.args.f < length items = omega (arith, c.if-f-feeders.false, c.feeders.ensures.feeders, many) in
     let Fits : Entries → Type 0 = λ row. IsTrue (fits index.schema.columns row) in
     let old_is = c.behind-self-2.view_is ∙ c.index_mut.ensures.value in
-    let old = c.behind-self-2.inside.queue in
+    let old = c.behind-self-2.inside.rows in
     let fitting = subst (λ w. All Fits w.rows) (sym old_is) (old_fitting index items c.self.invariant c.args.f there c.index_mut.result.now) in
     let small = subst (λ w. w.capacity ≤ 65536) (sym old_is) (old_small index items c.self.invariant c.args.f there c.index_mut.result.now) in
     let w = feeder (drop 1 old.items) c.behind-self-2.inside.closed old.capacity in
@@ -78,7 +78,7 @@ returns-clause-after c =
     let closed = c.behind-self-2.inside.closed in
     let row = c.in-Some.row.now in
     let after = with_row index c.args.f row in
-    let rows_are = ap (λ w. w.rows) (sym first_is) ∙ first_row c.behind-self.inside.queue.items row (sym c.front.ensures ∙ ap option_copied c.in-Some.is) ∙ ap (λ w. row ∷ drop 1 w.rows) first_is in
+    let rows_are = ap (λ w. w.rows) (sym first_is) ∙ first_row c.behind-self.inside.rows.items row (sym c.front.ensures ∙ ap option_copied c.in-Some.is) ∙ ap (λ w. row ∷ drop 1 w.rows) first_is in
     ap (λ table. with_feeders table (set items c.args.f (feeder c.pop_front.new.self.items closed c.pop_front.new.self.capacity))) c.in_ok-position.ensures.appended
     ∙ ap (λ q. with_feeders after (set items c.args.f (feeder q.items closed q.capacity))) c.pop_front.ensures.items
     ∙ ap (λ w. with_feeders after (set items c.args.f (feeder (drop 1 w.rows) w.closed w.capacity))) old_is

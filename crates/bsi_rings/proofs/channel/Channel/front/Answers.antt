@@ -3,7 +3,7 @@ use Rattle.std.specs.Prelude.{option_map}
 use Rattle.rtrb.specs.Ring.{all_sent, received, known_items}
 use Rattle.bsi_rings.specs.declared.channel.Front.TheVariants.{Row}
 use Rattle.bsi_rings.specs.Rings.{all_rows, ring_of, IsFront, IsParcel, IsWhole}
-use Rattle.bsi_rings.proofs.Fronts.{first_fits, untold, whole_rows}
+use Rattle.bsi_rings.proofs.Fronts.{first_fits, none_carried, whole_rows}
 use Rattle.bsi_rings.proofs.channel.Channel.front.Goals as goal
 
 -- a row is left of a parcel whose rows fit
@@ -20,14 +20,14 @@ returns-then-is_for-clause-whole c =
     subst IsWhole c.self.view_is
     (whole_rows (record { ring = ring_of l.ring.end; schema = l.schema.value }) (received l.ring) (known_items l.ring) l.next (option_map all_sent l.finished) c.self.invariant.0.whole)
 
--- a parcel that no feeder of the schema sends is never told of
+-- a parcel that no feeder of the schema sends stands in no settled ring
 pub returns-then-look-clause-front : goal.returns-then-look-clause-front
 returns-then-look-clause-front c =
     let l = c.self.inside in
     let p = c.peek_known.result.now in
     let other : ¬ IsParcel l.schema.value p = λ is. cc (c.is_for.ensures.1 (subst (λ s. IsParcel s p) (sym c.deref.ensures) is), c.if-is_for.false) in
-    ap (λ i. i.told) (sym c.self.view_is)
-    ∙ ap (option_map all_rows) (untold l.schema.value (received l.ring) (known_items l.ring) l.next (option_map all_sent l.finished) p c.self.invariant.0 c.peek_known.ensures other)
+    ap (λ i. i.carried) (sym c.self.view_is)
+    ∙ ap (option_map all_rows) (none_carried l.schema.value (received l.ring) (known_items l.ring) l.next (option_map all_sent l.finished) p c.self.invariant.0 c.peek_known.ensures other)
 
 pub returns-then-look-clause-whole : goal.returns-then-look-clause-whole
 returns-then-look-clause-whole c =

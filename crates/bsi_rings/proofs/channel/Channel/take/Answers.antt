@@ -12,16 +12,16 @@ returns-clause-taken c =
     let new = c.take_rows-self-inside.new.ring in
     let next = c.take_rows-self-inside.result in
     let took = c.take_rows-self-inside.ensures in
-    let told = option_map all_sent l.finished in
+    let carried = option_map all_sent l.finished in
     let ring : ring_of new.end ≡ ring_of l.ring.end = cc (took.ring.0.0, took.ring.0.1, took.ring.0.2, took.ring.0.3) in
-    ap (λ (r : Ring). intake (record { ring = r; schema = l.schema.value }) (received new) (known_items new) next told) ring
-    ∙ (taken_view (record { ring = ring_of l.ring.end; schema = l.schema.value }) (received l.ring) (known_items l.ring) l.next (received new) (known_items new) next c.args.rows told took.parcels took.taken
+    ap (λ (r : Ring). intake (record { ring = r; schema = l.schema.value }) (received new) (known_items new) next carried) ring
+    ∙ (taken_view (record { ring = ring_of l.ring.end; schema = l.schema.value }) (received l.ring) (known_items l.ring) l.next (received new) (known_items new) next c.args.rows carried took.parcels took.taken
     ∙ ap (λ i. with_more_taken i c.args.rows) c.self.view_is)
 
 pub returns-clause-whole : goal.returns-clause-whole
 returns-clause-whole c =
     let l = c.self.inside in
     let new = c.take_rows-self-inside.new.ring in
-    let told = option_map all_sent l.finished in
-    whole_rows (record { ring = ring_of new.end; schema = l.schema.value }) (received new) (known_items new) c.take_rows-self-inside.result told
-    (subst (λ ps. IfSome told (λ sent. ps ≡ sent)) (sym c.take_rows-self-inside.ensures.parcels) c.self.invariant.0.whole)
+    let carried = option_map all_sent l.finished in
+    whole_rows (record { ring = ring_of new.end; schema = l.schema.value }) (received new) (known_items new) c.take_rows-self-inside.result carried
+    (subst (λ ps. IfSome carried (λ sent. ps ≡ sent)) (sym c.take_rows-self-inside.ensures.parcels) c.self.invariant.0.whole)

@@ -13,11 +13,11 @@ invariant_of-self-2 c =
     let l = c.self.inside in
     let p = Row c.args.row in
     let fit : IsTrue (fits l.schema.value.columns c.args.row) = ap (λ s. fits s.columns c.args.row) (sym c.deref.ensures) ∙ (sym c.fits.ensures ∙ c.if-not-fits.false) in
-    let now : sent c.push_reserved.new.self ≡ sent l.ring ++ p ∷ [] = c.push_reserved.ensures.sent.0 ∙ ap (λ ps. ps ++ p ∷ []) c.has_place.ensures.looked.1 in
-    let counted = one_sent l.schema.value (sent l.ring) p l.places.count c.fill.new.self.count c.self.invariant.0 fit c.self.invariant.1 (omega (arith, c.fill.ensures, c.has_place.ensures.count)) in (
+    let now : sent c.push_reserved.new.self ≡ sent l.ring ++ p ∷ [] = c.push_reserved.ensures.sent.0 ∙ ap (λ ps. ps ++ p ∷ []) c.has_free.ensures.looked.1 in
+    let counted = one_sent l.schema.value (sent l.ring) p l.places.count c.fill.new.self.count c.self.invariant.0 fit c.self.invariant.1 (omega (arith, c.fill.ensures, c.has_free.ensures.count)) in (
       subst (All (IsParcel l.schema.value)) (sym now) counted.0,
       omega (arith, counted.1, ap (λ ps. length (all_rows ps)) now),
-      omega (arith, c.push_reserved.ensures.ring.1, c.has_place.ensures.looked.0.1, c.self.invariant.2),
+      omega (arith, c.push_reserved.ensures.ring.1, c.has_free.ensures.looked.0.1, c.self.invariant.2),
     )
 
 pub returns-clause-sent : goal.returns-clause-sent
@@ -25,8 +25,8 @@ returns-clause-sent c =
     let l = c.self.inside in
     let p = Row c.args.row in
     let new = c.push_reserved.new.self in
-    let one = c.has_place.ensures.looked.0 in
+    let one = c.has_free.ensures.looked.0 in
     let two = c.push_reserved.ensures.ring in
-    let now : sent new ≡ sent l.ring ++ p ∷ [] = c.push_reserved.ensures.sent.0 ∙ ap (λ ps. ps ++ p ∷ []) c.has_place.ensures.looked.1 in
+    let now : sent new ≡ sent l.ring ++ p ∷ [] = c.push_reserved.ensures.sent.0 ∙ ap (λ ps. ps ++ p ∷ []) c.has_free.ensures.looked.1 in
     let ring : ring_of new.end ≡ ring_of l.ring.end = cc (one.0.0, one.0.1, one.0.2, one.0.3, two.0.0, two.0.1, two.0.2, two.0.3) in
     sends l.number (ring_of new.end) (ring_of l.ring.end) l.schema.value new.capacity l.ring.capacity (sent l.ring) (sent new) p c.args.self.now ring (two.1 ∙ one.1) now c.self.view_is

@@ -1,4 +1,5 @@
 use Rattle.std.proofs.Common.{◌≡◌, ◌||◌, ◌++◌, ◌∷◌, [], length, map, IsTrue, subst, sym, ap, arith, ◌∙◌}
+use Rattle.std.proofs.lemmas.Int.{ints}
 use Rattle.std.proofs.lemmas.List.Elements.{All-push}
 use Rattle.std.proofs.lemmas.List.{length-append, map-append}
 use Rattle.bsi_schema.specs.Columns.{named, position_of, with_column, IsColumn, IsSchema, NamedColumn}
@@ -14,7 +15,7 @@ invariant_of-self-2 c =
     let fresh = ap (λ s. position_of s.columns c.args.name.now) c.self.view_is ∙ c.requires.fresh in
     let columns = ap (λ es. map named es) c.in_ok-insert.ensures.entries ∙ named-insert before c.in_ok-key.key c.args.kind c.args.name.now c.in_ok-key.ensures.ok fresh in
     let column : NamedColumn = record { name = c.args.name.now; form = c.args.kind.form; offset = c.args.kind.offset } in
-    let valid : IsColumn column = record { form = c.requires.form; below = c.requires.below } in
+    let valid : IsColumn column = record { form = c.requires.form; low = omega (arith, ints, ap (λ l. l.least) c.of-limits.ensures, c.of-limits.type_inv.1.1.0.1); below = c.requires.below } in
     let listed : IsSchema (map named before.entries ++ column ∷ []) = record {
       few = omega (arith, length-append {A = NamedColumn}, c.requires.few, ap (λ s. length s.columns) c.self.view_is);
       named = All-push (λ c. IsTrue (is_name c.name)) (map named before.entries) column c.self.invariant.0.named c.requires.name;

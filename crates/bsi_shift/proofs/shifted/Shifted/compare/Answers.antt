@@ -6,19 +6,19 @@ use Rattle.bsi_columns.specs.AnyRows.{any_entries}
 use Rattle.bsi_slices.specs.Orders.{compares_by}
 use Rattle.bsi_slices.specs.Rows.{number_order, selects}
 use Rattle.bsi_shift.specs.Shifted.{number_of, shifted_entries}
-use Rattle.bsi_shift.specs.WholeNumbers.{whole_order, signed_selects}
+use Rattle.bsi_shift.specs.WholeNumbers.{signed_order, signed_selects}
 use Rattle.bsi_shift.proofs.Shifting.{entries_from, shifted_entries-is, selected_from}
 use Rattle.bsi_shift.proofs.shifted.Shifted.compare.Goals as goal
 
 pub returns : goal.returns
 returns c =
     let inside = c.self.inside in
-    let chosen = c.stored_comparison-op.result in
-    let agree : (n : ℕ) → n < inside.size → compares_by number_order chosen.0 n chosen.1 ≡ compares_by whole_order c.args.op (number_of inside.offset n) c.args.constant = λ n below.
-    c.stored_comparison-op.ensures n (omega (arith, below, c.self.invariant.small))
-    ∙ ap₂ (λ o k. compares_by whole_order c.args.op (number_of o n) k) (to_z-of_z w64 inside.offset (search rules)) (to_z-of_z w128 c.args.constant c.ranges.constant) in
-    let same = selected_from inside.offset c.args.constant c.args.op chosen.0 chosen.1 inside.size agree (any_entries inside.stored) c.self.invariant.below
+    let chosen = c.stored_comparison-comparison.result in
+    let agree : (n : ℕ) → n < inside.size → compares_by number_order chosen.op n chosen.constant ≡ compares_by signed_order c.args.op (number_of inside.offset n) c.args.constant = λ n below.
+    c.stored_comparison-comparison.ensures n (omega (arith, below, c.self.invariant.small))
+    ∙ ap₂ (λ o k. compares_by signed_order c.args.op (number_of o n) k) (to_z-of_z w64 inside.offset (search rules)) (to_z-of_z w128 c.args.constant c.ranges.constant) in
+    let same = selected_from inside.offset c.args.constant c.args.op chosen.op chosen.constant inside.size agree (any_entries inside.stored) c.self.invariant.below
     ∙ ap (λ v. map (signed_selects c.args.op c.args.constant) (entries_from v.offset (any_entries v.stored))) c.self.view_is
     ∙ ap (map (signed_selects c.args.op c.args.constant)) (sym (shifted_entries-is c.args.self.now)) in
-    IfOk-weaker c.compare.result (λ b. b.bits ≡ map (selects chosen.0 chosen.1) (any_entries inside.stored)) (λ b. b.bits ≡ map (signed_selects c.args.op c.args.constant) (shifted_entries c.args.self.now))
+    IfOk-weaker c.compare.result (λ b. b.bits ≡ map (selects chosen.op chosen.constant) (any_entries inside.stored)) (λ b. b.bits ≡ map (signed_selects c.args.op c.args.constant) (shifted_entries c.args.self.now))
     (λ b is. is ∙ same) c.compare.ensures

@@ -8,7 +8,7 @@ use Rattle.bsi_columns.specs.AnyRows.{any_entries}
 use Rattle.bsi_slices.specs.Orders.{compares_by}
 use Rattle.bsi_slices.specs.Rows.{number_order, number_or_zero}
 use Rattle.bsi_shift.specs.Shifted.{number_of, shifted_entries}
-use Rattle.bsi_shift.specs.WholeNumbers.{whole_order, signed_selects}
+use Rattle.bsi_shift.specs.WholeNumbers.{signed_order, signed_selects}
 use Rattle.bsi_columns.proofs.EntryReads.{all_read}
 use Rattle.bsi_shift.proofs.Shifting.{entry_from, length-shifted_entries, selected_one}
 use Rattle.bsi_shift.proofs.shifted.Shifted.keep_selected.Goals as goal
@@ -22,10 +22,10 @@ pub returns-clause-rows : goal.returns-clause-rows
 returns-clause-rows c =
     let inside = c.self.inside in
     let stored = any_entries inside.stored in
-    let chosen = c.stored_comparison-op.result in
-    let agree : (n : ℕ) → n < inside.size → compares_by number_order chosen.0 n chosen.1 ≡ compares_by whole_order c.args.op (number_of inside.offset n) c.args.constant = λ n below.
-    c.stored_comparison-op.ensures n (omega (arith, below, c.self.invariant.small))
-    ∙ ap₂ (λ o k. compares_by whole_order c.args.op (number_of o n) k) (to_z-of_z w64 inside.offset (search rules)) (to_z-of_z w128 c.args.constant c.ranges.constant) in
+    let chosen = c.stored_comparison-comparison.result in
+    let agree : (n : ℕ) → n < inside.size → compares_by number_order chosen.op n chosen.constant ≡ compares_by signed_order c.args.op (number_of inside.offset n) c.args.constant = λ n below.
+    c.stored_comparison-comparison.ensures n (omega (arith, below, c.self.invariant.small))
+    ∙ ap₂ (λ o k. compares_by signed_order c.args.op (number_of o n) k) (to_z-of_z w64 inside.offset (search rules)) (to_z-of_z w128 c.args.constant c.ranges.constant) in
     on_ok_weaker c.keep_selected.result
     (λ each. λ (p : ℕ) (below : p < 64 * length c.args.block.now).
     let r : ℕ = 64 * c.args.at + p in
@@ -33,7 +33,7 @@ returns-clause-rows c =
     let small : number_or_zero e < inside.size = all_read (λ e. number_or_zero e < inside.size) stored r (omega (arith, c.self.invariant.some)) c.self.invariant.below in
     each p below
     ∙ ap (◌&&◌ (bit_of c.args.block.now p))
-    (selected_one inside.offset c.args.constant c.args.op chosen.0 chosen.1 inside.size agree e small
+    (selected_one inside.offset c.args.constant c.args.op chosen.op chosen.constant inside.size agree e small
     ∙ ap (signed_selects c.args.op c.args.constant) (sym (entry_from (record { stored = inside.stored; offset = inside.offset }) r))
     ∙ ap (λ v. signed_selects c.args.op c.args.constant (get_or (shifted_entries v) r None)) c.self.view_is))
     c.keep_selected.ensures.rows

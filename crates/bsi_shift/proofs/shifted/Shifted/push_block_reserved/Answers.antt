@@ -12,7 +12,7 @@ pub returns-clause-entries : goal.returns-clause-entries
 returns-clause-entries c =
     let inside = c.self.inside in
     let block = c.args.block.now in
-    let stored = c.store_block.new.stored in
+    let stored = c.store_block.new.entries in
     let each : (r : ℕ) → r < length block → option_map (number_of inside.offset) (get_or stored r None) ≡ get_or block r None = λ r below.
     ap (λ o. option_map (number_of o) (get_or stored r None)) (sym (to_z-of_z w64 inside.offset (search rules))) ∙ c.store_block.ensures.each r below in
     let block_is : entries_from inside.offset (take (length block) stored) ≡ block = entries_from-block inside.offset stored block (omega (arith, c.requires.few, c.store_block.ensures.long)) each in

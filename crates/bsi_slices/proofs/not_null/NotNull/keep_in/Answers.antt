@@ -1,28 +1,18 @@
 use Rattle.std.proofs.Common.{◌≡◌, ℕ, ◌+◌, ◌-◌, ◌*◌, ◌/◌, ◌%◌, ◌<◌, ◌&&◌, true, false, length, get_or, inl, inr, ap, ap₂, sym, ◌∙◌, arith}
 use Rattle.std.specs.Prelude.{◌==◌, bit_and}
 use Rattle.std.specs.Int.{bit_at}
-use Rattle.std.specs.Simd.Lanes.{chunk}
 use Rattle.std.proofs.Math.Bool.{and-true}
 use Rattle.std.proofs.lemmas.Bool.{cases_eq}
 use Rattle.std.proofs.lemmas.List.Elements.{All-get_or}
-use Rattle.std.proofs.lemmas.Simd.{length-chunk}
 use Rattle.bsi_bits.specs.Packed.{bit_of}
 use Rattle.bsi_bits.proofs.Logic.{and_bitwise}
 use Rattle.bsi_bits.proofs.Places.{bit_in_other, bit_in_written}
-use Rattle.bsi_slices.proofs.WordBlocks.{and_bit, bit_of-chunk}
 use Rattle.bsi_slices.proofs.not_null.NotNull.keep_in.Goals as goal
 
--- the words of the block, and those of the bitmap from there on
+-- the bits are those of the bitmap
 pub returns-then-self-clause-bits : goal.returns-then-self-clause-bits
 returns-then-self-clause-bits c = λ p below.
-    let at : ℕ = c.args.at in
-    let n : ℕ = at + length c.args.block.now - at in
-    let words = c.words-words.result.now in
-    let bits_are = ap (λ b. b.bits) c.self.view_is in
-    let long = ap length bits_are in
-    ap (λ ws. bit_of ws p) c.and.ensures
-    ∙ and_bit c.args.block.now (chunk at n words) (omega (arith, length-chunk at n words (omega (arith, c.requires, long, c.words-words.ensures.few)))) p below
-    ∙ ap (◌&&◌ (bit_of c.args.block.now p)) (bit_of-chunk at n words p (omega arith) ∙ c.words-words.ensures.places (64 * at + p) ∙ ap (λ bits. get_or bits (64 * at + p) false) bits_are)
+    c.keep_in.ensures.bits p below ∙ ap (λ b. bit_of c.args.block.now p && get_or b.bits (64 * c.args.at + p) false) c.self.view_is
 
 -- the rows of the words before the last all have numbers
 pub returns-then-not-is_empty-clause-bits : goal.returns-then-not-is_empty-clause-bits

@@ -16,7 +16,6 @@ slices-init g c =
     let wide : 2 ^ 1 ≤ 2 ^ c.args.self.now.width = pow_mono {i = 1} {j = c.args.self.now.width} (omega (arith, c.width-place.ensures.width, c.width-place.ensures.within)) in
     let AtWidth : ℕ → Type 0 = λ w. IsNearest c.args.end (bit_of c.args.rows) numbers (64 * g.row.N) (2 ^ w) 0 (bit_of c.args.rows) in
     record {
-      within = omega (arith, c.width-place.ensures.width);
       nearest = subst AtWidth (sym c.width-place.ensures.width)
           (nearest_start c.args.end (bit_of c.args.rows) numbers (64 * g.row.N) (2 ^ c.args.self.now.width) (c.has_row.ensures.some c.if-not-has_row.false)
           (λ p. number_small c.args.self.now.entries (2 ^ c.args.self.now.width) (pow_pos c.args.self.now.width) c.width-place.ensures.below (64 * c.args.at + p)));
@@ -52,13 +51,13 @@ module _ (number d place width : ℕ) (some : 0 < place) (within : place ≤ wid
 
 pub overflow_add-number : goal.overflow_add-number
 overflow_add-number g c =
-    let fits = number_fits c.slices.number c.place_of.result c.slices.place c.args.self.now.width c.slices-test.true c.slices.invariant.within
+    let fits = number_fits c.slices.number c.place_of.result c.slices.place c.args.self.now.width c.slices-test.true (omega (arith, c.slices.auto.place, c.width-place.ensures.width))
     (omega (arith, c.width-place.ensures.width, c.width-place.ensures.within)) (rw c.place_of.ensures (place_small c.args.end c.has_row-is_met.result)) c.slices.invariant.small in
     omega (arith, fits)
 
 pub leads_all-requires-clause-small : goal.leads_all-requires-clause-small
 leads_all-requires-clause-small g c =
-    next_fits c.slices.number c.place_of.result c.slices.place c.args.self.now.width c.slices-test.true c.slices.invariant.within
+    next_fits c.slices.number c.place_of.result c.slices.place c.args.self.now.width c.slices-test.true (omega (arith, c.slices.auto.place, c.width-place.ensures.width))
     (omega (arith, c.width-place.ensures.width, c.width-place.ensures.within)) (rw c.place_of.ensures (place_small c.args.end c.has_row-is_met.result)) c.slices.invariant.small
 
 -- the best number so far leads those that begin so
@@ -75,7 +74,7 @@ returns-then-leads_all g c = λ p within there.
     (λ p within. c.block_at-slice.ensures.places p within ∙ ap (λ bits. get_or bits (64 * c.args.at + p) false) c.slice.ensures ∙ slice_place c.args.self.now.entries i (64 * c.args.at + p))
     (c.cut-first.ensures ∙ ap (λ b. if b then zip2 bit_and c.slices.kept (map (bit_not w64) slice) else zip2 bit_and c.slices.kept slice) c.is_least.ensures)
     (λ on. c.has_row-is_met.ensures.some on) (λ off. c.has_row-is_met.ensures.none off) c.either-kept.ensures in
-    let low : i < 63 = omega (arith, c.slices.invariant.within, c.width-place.ensures.width, c.width-place.ensures.within) in
+    let low : i < 63 = omega (arith, c.slices.auto.place, c.width-place.ensures.width, c.width-place.ensures.within) in
     let first = lower.first p within there in
     let First : ℕ → ℕ → Type 0 = λ number w. comes_first c.args.end number (numbers p / w) in
     let begins : First (c.slices.number * 2 + c.place_of.result) (1 * 2 ^ i % 2 ^ 64) = rw (c.place_of.ensures, weight i low) first in
@@ -96,9 +95,8 @@ slices-preserved g c =
     (λ on. c.has_row-is_met.ensures.some on) (λ off. c.has_row-is_met.ensures.none off) c.either-kept.ensures in
     let AtNumber : ℕ → Type 0 = λ d. IsNearest c.args.end (bit_of c.args.rows) numbers (64 * g.row.N) (2 ^ i) (c.slices.number * 2 + d) (bit_of c.either-kept.result) in
     record {
-      within = omega (arith, c.slices.invariant.within);
       nearest = subst AtNumber (sym c.place_of.ensures) lower;
-      small = next c.slices.number c.place_of.result c.slices.place c.args.self.now.width c.slices-test.true c.slices.invariant.within
+      small = next c.slices.number c.place_of.result c.slices.place c.args.self.now.width c.slices-test.true (omega (arith, c.slices.auto.place, c.width-place.ensures.width))
           (omega (arith, c.width-place.ensures.width, c.width-place.ensures.within)) (rw c.place_of.ensures (place_small c.args.end met)) c.slices.invariant.small;
       better = λ none. c.leads_all.ensures.yields c.if-leads_all.false (weight i (omega (arith, none)) ∙ ap (λ k. 2 ^ k) none);
     }

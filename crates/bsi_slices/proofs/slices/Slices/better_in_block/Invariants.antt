@@ -7,11 +7,7 @@ use Rattle.bsi_slices.proofs.slices.Slices.better_in_block.Given as goal
 -- the rows that are kept have the number above the place, which comes first
 abbrev pub invariant-slices : goal.invariant-slices
 invariant-slices g l = record {
-  within : l.place ≤ l.self.width;
   nearest : IsNearest l.end (bit_of l.fn.rows) (λ p. number_at l.self.entries (64 * l.at + p)) (64 * g.row.N) (2 ^ l.place) l.number (bit_of l.kept);
   small : l.number * 2 ^ l.place + 2 ^ l.place ≤ 2 ^ l.self.width;
   better : l.place ≡ 0 → yields l.end l.number l.best;
 }
-
-abbrev pub decreases-slices : goal.decreases-slices
-decreases-slices g l = l.place

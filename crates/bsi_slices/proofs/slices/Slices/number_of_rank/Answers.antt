@@ -56,5 +56,5 @@ returns c =
     let small : (k : ℕ) → get_or numbers k 0 < 2 ^ length c.as_slice.result.now =
     subst (λ (n : ℕ). (k : ℕ) → get_or numbers k 0 < 2 ^ n) width_is (number_below (2 ^ c.args.self.now.width) entries (pow_pos c.args.self.now.width) c.width.ensures.below) in
     let ranked = c.rows_of_rank.ensures.ranked numbers encoded small (length-map entries number_or_zero ∙ sym (chosen_long at)) in
-    number_ranked (2 ^ c.args.self.now.width) c.args.k c.rows_of_rank.result.number c.rows_of_rank.result.rank c.args.found.now.bits c.and_with.new.self.bits entries c.rows_of_rank.result.rows.bits
+    number_ranked (2 ^ c.args.self.now.width) c.args.rank c.rows_of_rank.result.number c.rows_of_rank.result.rank c.args.found.now.bits c.and_with.new.self.bits entries c.rows_of_rank.result.rows.bits
     c.width.ensures.below (subst (λ (n : ℕ). c.rows_of_rank.result.number < 2 ^ n) (sym width_is) c.rows_of_rank.ensures.below) (chosen_is at) c.requires.there ranked

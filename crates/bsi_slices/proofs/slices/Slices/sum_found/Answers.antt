@@ -5,9 +5,9 @@ use Rattle.std.proofs.lemmas.Nat.{pow_pos}
 use Rattle.bsi_bits.specs.BitList.{BitList}
 use Rattle.bsi_bits.specs.BitLists.{bits_at}
 use Rattle.bsi_words.specs.Places.{has_place, IsEncoded}
+use Rattle.bsi_slices.specs.Orders.{values_at}
 use Rattle.bsi_slices.specs.Rows.{number_or_zero}
 use Rattle.bsi_slices.specs.Slices.{entries_in}
-use Rattle.bsi_slices.specs.Totals.{numbers_at}
 use Rattle.bsi_slices.proofs.Adding.{number_below, places_of, sum_below, sum_found}
 use Rattle.bsi_slices.proofs.SliceEntries.{length-entries_in}
 use Rattle.bsi_slices.proofs.slices.Slices.sum_found.Goals as goal
@@ -23,7 +23,7 @@ sum_by_places-requires-clause-same c = λ k within.
     ∙ sym (length-entries_in rows slices) ∙ same ∙ c.requires
 
 -- the sum of the numbers, where a null counts as 0
-summed : (c : goal.After-sum_by_places) → c.sum_by_places.result ≡ sum (numbers_at c.args.found.now.bits c.args.self.now.entries)
+summed : (c : goal.After-sum_by_places) → c.sum_by_places.result ≡ sum (values_at c.args.found.now.bits c.args.self.now.entries)
 summed c =
     let rows = c.self.inside.not_null.bits in
     let slices = c.self.inside.slices.vectors in

@@ -10,7 +10,7 @@ pub returns-clause-some : goal.returns-clause-some
 returns-clause-some g c = λ test.
     let words = c.as_array-words.result.now in
     let is = c.as_array-words.ensures in
-    let row = some_marked words c.know_fits.ensures (λ none. off_from_not c.is_empty.result test (c.is_empty.ensures.1 none)) in
+    let row = some_marked words c.know_fits.ensures (λ none. off_from_not c.is_clear.result test (c.is_clear.ensures.1 none)) in
     let AtLength : ℕ → Type 0 = λ n. HasMarked (bit_of c.args.block) (64 * n) in
     let AtWords : List ℕ → Type 0 = λ ws. HasMarked (bit_of ws) (64 * length words) in
     subst AtLength (ap length is ∙ c.fits-block.0) (subst AtWords is row)

@@ -1,7 +1,7 @@
 use Rattle.std.proofs.Common.{◌≡◌, List, ap, ◌∙◌, subst, sym}
 use Rattle.std.specs.Prelude.{IfSome}
 use Rattle.bsi_rings.specs.Rings.{Intake}
-use Rattle.bsi_system.specs.Running.{settled_as, told, IsLoader, Loading}
+use Rattle.bsi_system.specs.Running.{settled_as, carried, IsLoader, Loading}
 use Rattle.bsi_system.proofs.Takings.{always_holds, settles_loader, settles_loading, settles_once}
 use Rattle.bsi_system.proofs.loader.Loader.settle.Goals as goal
 
@@ -21,7 +21,7 @@ returns-clause-ok g c =
 pub returns-clause-once : goal.returns-clause-once
 returns-clause-once g c =
     let l = c.self.inside in
-    subst (λ s. IfSome (told s c.args.feeder) (λ sent. c.args.closing.rows ≡ sent)) c.self.view_is
+    subst (λ s. IfSome (carried s c.args.feeder) (λ sent. c.args.closing.rows ≡ sent)) c.self.view_is
     (settles_once l.channels.items l.publisher c.args.feeder c.args.closing c.settle_of.new.channels.items c.in_ok-settle_of.ensures.ok.1)
 
 pub returns-clause-always : goal.returns-clause-always

@@ -9,5 +9,5 @@ pub returns-clause-from : goal.returns-clause-from
 returns-clause-from c =
     let i = c.self.inside in
     subst (λ (b : RowBlock). AreFrom b.feeders b.rows) c.self.view_is
-    (All-placed_rows (length i.schema.value.columns) i.sources.items i.places.items (λ row. row.0 < i.feeders)
-    (λ r below. All-get_or (λ source. source < i.feeders) i.sources.items r 0 below c.self.invariant.0.from))
+    (All-placed_rows (length i.schema.value.columns) i.row_feeders.items i.places.items (λ row. row.0 < i.feeders)
+    (λ r below. All-get_or (λ feeder. feeder < i.feeders) i.row_feeders.items r 0 below c.self.invariant.0.from))

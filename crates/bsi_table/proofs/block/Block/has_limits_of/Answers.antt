@@ -12,7 +12,7 @@ returns-clause-alike c =
     let own : c.deref.result.now ≡ map limits_of c.args.self.now.schema.columns =
     c.deref.ensures.value ∙ c.self.invariant.0.limits_are ∙ ap (λ b. map limits_of b.schema.columns) c.self.view_is in
     let other = c.limits.ensures.limits in
-    (λ same. sym own ∙ c.are_same.ensures.0 same ∙ other, λ alike. c.are_same.ensures.1 (own ∙ alike ∙ sym other))
+    (λ same. sym own ∙ c.have_same_limits.ensures.0 same ∙ other, λ alike. c.have_same_limits.ensures.1 (own ∙ alike ∙ sym other))
 
 -- its rows fit the columns that it was made for, so they fit those that are alike
 pub returns-clause-fits : goal.returns-clause-fits
@@ -21,6 +21,6 @@ returns-clause-fits c = λ same.
     let columns = i.schema.value.columns in
     let own : c.deref.result.now ≡ map limits_of c.args.self.now.schema.columns =
     c.deref.ensures.value ∙ c.self.invariant.0.limits_are ∙ ap (λ b. map limits_of b.schema.columns) c.self.view_is in
-    fitting-alike c.args.self.now.schema c.args.schema.now (sym own ∙ c.are_same.ensures.0 same ∙ c.limits.ensures.limits) c.args.self.now.rows
+    fitting-alike c.args.self.now.schema c.args.schema.now (sym own ∙ c.have_same_limits.ensures.0 same ∙ c.limits.ensures.limits) c.args.self.now.rows
     (subst (λ (b : RowBlock). AreFitting b.schema.columns b.rows) c.self.view_is
-    (All-placed_rows (length columns) i.sources.items i.places.items (λ row. fits columns row.1 ≡ true) c.self.invariant.0.fitting))
+    (All-placed_rows (length columns) i.row_feeders.items i.places.items (λ row. fits columns row.1 ≡ true) c.self.invariant.0.fitting))

@@ -5,6 +5,6 @@ use Rattle.bsi_table.proofs.block.Block.new.Goals as goal
 
 pub returns : goal.returns
 returns c =
-    let none = placed_rows-none (length c.in_ok-shared.shared.value.columns) c.in_ok-sources.sources.items c.in_ok-places.places.items c.in_ok-sources.ensures.items in
+    let none = placed_rows-none (length c.in_ok-shared.shared.value.columns) c.in_ok-row_feeders.row_feeders.items c.in_ok-places.places.items c.in_ok-row_feeders.ensures.items in
     ap (λ rows. record { schema = c.in_ok-shared.shared.value; feeders = c.args.feeders; rows = rows }) none
     ∙ ap (λ schema. no_block_rows schema c.args.feeders) c.in_ok-shared.ensures

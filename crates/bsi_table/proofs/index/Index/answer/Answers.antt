@@ -20,19 +20,19 @@ count_selected-requires-clause-even c =
 pub returns-in-Count-clause-answer : goal.returns-in-Count-clause-answer
 returns-in-Count-clause-answer c =
     let pred = c.args.query.now.pred in
-    let sources = c.self.inside.origins.rows in
+    let row_feeders = c.self.inside.origins.rows in
     let kept = c.self.inside.columns.items in
     let invariant = c.self.invariant.columns_are in
-    let long = c.len-rows.ensures.len ∙ ap (λ t. length t.rows) (sym c.self.view_is) ∙ length-fed_rows sources kept in
-    let all = map (λ row. holds pred row.1) (fed_rows sources kept) in
+    let long = c.len-rows.ensures.len ∙ ap (λ t. length t.rows) (sym c.self.view_is) ∙ length-fed_rows row_feeders kept in
+    let all = map (λ row. holds pred row.1) (fed_rows row_feeders kept) in
     let selected = c.in_ok-count_selected.field-0 in
     let counted : selected ≡ count_by (λ b. b) all =
     c.in_ok-count_selected.ensures.counted
     ∙ ap₂ (λ columns n. count_by (λ b. b) (map (holds pred) (rows_in columns n))) c.deref-columns.ensures.value long
-    ∙ ap (count_by (λ b. b)) (sym (map-fed_rows sources kept (holds pred))) in
-    let found = count-found sources kept pred all (λ i. all) (λ k within. (invariant.each k (omega (arith, within, invariant.long))).rows) in
+    ∙ ap (count_by (λ b. b)) (sym (map-fed_rows row_feeders kept (holds pred))) in
+    let found = count-found row_feeders kept pred all (λ i. all) (λ k within. (invariant.each k (omega (arith, within, invariant.long))).rows) in
     subst (λ rows. IsTotal c.args.query.now.total pred rows (Count selected)) (ap (λ t. t.rows) c.self.view_is)
-    (subst (λ t. IsTotal t pred (fed_rows sources kept) (Count selected)) (sym c.in-Count.is) (ap Count (counted ∙ found)))
+    (subst (λ t. IsTotal t pred (fed_rows row_feeders kept) (Count selected)) (sym c.in-Count.is) (ap Count (counted ∙ found)))
 
 pub find_rows-requires-clause-even : goal.find_rows-requires-clause-even
 find_rows-requires-clause-even c =

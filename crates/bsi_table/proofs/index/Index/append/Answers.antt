@@ -64,21 +64,21 @@ invariant_of-self-2 c =
     let columns = i.schema.value.columns in
     let n = length i.origins.rows in
     let grown = are_kept_same columns i.columns.items n c.self.invariant.columns_are c.reserve_rows.new.columns.items e.long e.same in
-    let sources = c.push_row.ensures.rows ∙ ap (λ xs. xs ++ c.args.feeder ∷ []) e.rows in
+    let row_feeders = c.push_row.ensures.rows ∙ ap (λ xs. xs ++ c.args.feeder ∷ []) e.rows in
     let rows = ap (λ t. length t.rows) (sym c.self.view_is) ∙ length-fed_rows i.origins.rows i.columns.items in
     let fit = ap (fits columns) c.values.ensures ∙ ap (λ t. fits t.schema.columns c.args.row.now) c.self.view_is ∙ c.requires.fits in
     let taken = row_in_range columns c.reserve_rows.new.columns.items n grown c.values.result.now fit in
-    let one : length c.push_row.new.origins.rows ≡ n + 1 = ap length sources ∙ omega (arith, length-append i.origins.rows (c.args.feeder ∷ [])) in
-    let from : All (λ source. source < i.origins.feeders) (i.origins.rows ++ c.args.feeder ∷ []) =
-    All-push (λ source. source < i.origins.feeders) i.origins.rows c.args.feeder c.self.invariant.from (omega (arith, c.requires.feeder, ap (λ t. t.feeders) c.self.view_is)) in
+    let one : length c.push_row.new.origins.rows ≡ n + 1 = ap length row_feeders ∙ omega (arith, length-append i.origins.rows (c.args.feeder ∷ [])) in
+    let from : All (λ feeder. feeder < i.origins.feeders) (i.origins.rows ++ c.args.feeder ∷ []) =
+    All-push (λ feeder. feeder < i.origins.feeders) i.origins.rows c.args.feeder c.self.invariant.from (omega (arith, c.requires.feeder, ap (λ t. t.feeders) c.self.view_is)) in
     let feeders = c.push_row.ensures.feeders ∙ e.feeders in
-    let below : List ℕ → ℕ → Type 0 = λ xs n. All (λ source. source < n) xs in
+    let below : List ℕ → ℕ → Type 0 = λ xs n. All (λ feeder. feeder < n) xs in
     record {
       columns_are = subst (AreKept columns c.push_row.new.columns.items) (sym one)
           (are_kept_more columns c.reserve_rows.new.columns.items n grown c.push_row.new.columns.items c.push_row.ensures.long
           ((c.args.feeder, c.values.result.now) ∷ []) (All-one (λ row. AreInRange c.reserve_rows.new.columns.items row.1) (c.args.feeder, c.values.result.now) taken) c.push_row.ensures.more);
       few = omega (arith, feeders, c.self.invariant.few);
-      from = subst (below c.push_row.new.origins.rows) (sym feeders) (subst (λ xs. below xs i.origins.feeders) (sym sources) from);
+      from = subst (below c.push_row.new.origins.rows) (sym feeders) (subst (λ xs. below xs i.origins.feeders) (sym row_feeders) from);
       within = omega (arith, one, rows, ap (λ t. t.limit) c.self.view_is, c.self.invariant.within);
       small = c.self.invariant.small;
     }
@@ -90,7 +90,7 @@ returns-clause-appended c =
     let old = i.columns.items in
     let grown = c.reserve_rows.new.columns.items in
     let pushed = c.push_row.new.columns.items in
-    let sources = c.push_row.ensures.rows ∙ ap (λ xs. xs ++ c.args.feeder ∷ []) e.rows in
+    let row_feeders = c.push_row.ensures.rows ∙ ap (λ xs. xs ++ c.args.feeder ∷ []) e.rows in
     let kept = are_kept_same i.schema.value.columns old (length i.origins.rows) c.self.invariant.columns_are grown e.long e.same in
     let columns = ap (λ t. length t.schema.columns) c.self.view_is in
     let wide = ap length c.values.ensures ∙ fits-length c.args.self.now.schema.columns c.args.row.now c.requires.fits ∙ sym columns ∙ sym kept.long in
@@ -100,5 +100,5 @@ returns-clause-appended c =
     let last : List FedRow → Entries → List FedRow = λ rows row. rows ++ (c.args.feeder, row) ∷ [] in
     let same = fed_rows-same i.origins.rows old grown e.long (λ k within. (e.same k within).entries) in
     let table : ℕ → List FedRow → Table = λ feeders rows. record { schema = i.schema.value; feeders = feeders; limit = i.limit; rows = rows } in
-    ap₂ table (c.push_row.ensures.feeders ∙ e.feeders) (ap (λ xs. fed_rows xs pushed) sources ∙ more ∙ ap₂ last same c.values.ensures)
+    ap₂ table (c.push_row.ensures.feeders ∙ e.feeders) (ap (λ xs. fed_rows xs pushed) row_feeders ∙ more ∙ ap₂ last same c.values.ensures)
     ∙ ap (λ t. with_row t c.args.feeder c.args.row.now) c.self.view_is

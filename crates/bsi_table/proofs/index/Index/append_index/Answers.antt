@@ -17,13 +17,13 @@ reserve_rows-requires-clause-short c = λ k within.
     let rows = ap (λ t. length t.rows) (sym c.self.view_is) ∙ length-fed_rows i.origins.rows i.columns.items in
     let limit = ap (λ t. t.limit) c.self.view_is in
     let long = c.self.invariant.columns_are.long in
-    omega (arith, (c.self.invariant.columns_are.each k (omega (arith, within, long))).rows, rows, limit, c.len-first.ensures.len, c.limit.ensures.limit, c.if-more-limit.false, c.self.invariant.within, c.self.invariant.small)
+    omega (arith, (c.self.invariant.columns_are.each k (omega (arith, within, long))).rows, rows, limit, c.in_ok-first.ensures.within, c.self.invariant.within, c.self.invariant.small)
 
 pub reserve_rows-requires-clause-few : goal.reserve_rows-requires-clause-few
 reserve_rows-requires-clause-few c =
     let i = c.self.inside in
     let rows = ap (λ t. length t.rows) (sym c.self.view_is) ∙ length-fed_rows i.origins.rows i.columns.items in
-    omega (arith, rows, ap (λ t. t.limit) c.self.view_is, c.len-first.ensures.len, c.limit.ensures.limit, c.if-more-limit.false, c.self.invariant.within, c.self.invariant.small)
+    omega (arith, rows, ap (λ t. t.limit) c.self.view_is, c.in_ok-first.ensures.within, c.self.invariant.within, c.self.invariant.small)
 
 pub returns-in_err-reserve_rows-clause-kept : goal.returns-in_err-reserve_rows-clause-kept
 returns-in_err-reserve_rows-clause-kept c =
@@ -32,7 +32,7 @@ returns-in_err-reserve_rows-clause-kept c =
     let table : ℕ → List FedRow → Table = λ feeders rows. record { schema = i.schema.value; feeders = feeders; limit = i.limit; rows = rows } in
     let same = ap (λ xs. fed_rows xs c.reserve_rows.new.columns.items) e.rows
     ∙ fed_rows-same i.origins.rows i.columns.items c.reserve_rows.new.columns.items e.long (λ k within. (e.same k within).entries) in
-    on_err c.from_residual.result (ap₂ table e.feeders same ∙ c.self.view_is)
+    on_err c.from_residual-in_err-reserve_rows.result (ap₂ table e.feeders same ∙ c.self.view_is)
 
 -- the other index keeps its columns alike
 pub push_all-requires-clause-long : goal.push_all-requires-clause-long
@@ -115,7 +115,7 @@ invariant_of-self-2 c =
     subst (λ xs. (k : ℕ) → k < length reserved → HasMore (kept_at reserved k) (kept_at pushed k) (shifted_entries (kept_at xs k))) c.deref.ensures.value c.push_all.ensures.more in
     let even : HaveRows others (length o.origins.rows) = λ k within. (c.other.invariant.columns_are.each k (omega (arith, within, c.other.invariant.columns_are.long))).rows in
     let more : HaveMore reserved pushed rows = subst (λ (t : Table). HaveMore reserved pushed t.rows) c.other.view_is (have_more reserved pushed others o.origins.rows long even each) in
-    let sources = c.push_all.ensures.rows
+    let row_feeders = c.push_all.ensures.rows
     ∙ ap₂ (λ (xs ys : List ℕ). xs ++ ys) e.rows (sym (feeders-fed_rows o.origins.rows o.columns.items) ∙ ap (λ t. feeders_of t.rows) c.other.view_is) in
     let fitting = subst (λ (t : Table). AreFitting t.schema.columns t.rows) c.other.view_is
     (fitting_rows o.schema.value.columns o.origins.feeders o.limit o.origins.rows o.columns.items c.other.invariant) in
@@ -125,10 +125,10 @@ invariant_of-self-2 c =
     (from_feeders o.schema.value.columns o.origins.feeders o.limit i.origins.feeders o.origins.rows o.columns.items c.other.invariant few) in
     let before = ap (λ t. length t.rows) (sym c.self.view_is) ∙ length-fed_rows i.origins.rows i.columns.items in
     let room : length i.origins.rows + length rows ≤ i.limit =
-    omega (arith, before, ap (λ t. t.limit) c.self.view_is, c.len-first.ensures.len, c.len-more.ensures.len, c.limit.ensures.limit, c.if-more-limit.false, c.self.invariant.within) in
+    omega (arith, before, ap (λ t. t.limit) c.self.view_is, c.in_ok-first.ensures.within, c.len-more.ensures.len, c.self.invariant.within) in
     let table = grown_table columns i.origins.feeders i.limit i.origins.rows i.columns.items c.self.invariant reserved e.long e.same rows fit from pushed c.push_all.ensures.long more room in
     subst (λ n. IsTable columns n i.limit c.push_all.new.origins.rows pushed) (sym (c.push_all.ensures.feeders ∙ e.feeders))
-    (subst (λ xs. IsTable columns i.origins.feeders i.limit xs pushed) (sym sources) table)
+    (subst (λ xs. IsTable columns i.origins.feeders i.limit xs pushed) (sym row_feeders) table)
 
 pub returns-clause-appended : goal.returns-clause-appended
 returns-clause-appended c =
@@ -154,7 +154,7 @@ returns-clause-appended c =
     subst (λ xs. (k : ℕ) → k < length reserved → HasMore (kept_at reserved k) (kept_at pushed k) (shifted_entries (kept_at xs k))) c.deref.ensures.value c.push_all.ensures.more in
     let even : HaveRows others (length o.origins.rows) = λ k within. (c.other.invariant.columns_are.each k (omega (arith, within, c.other.invariant.columns_are.long))).rows in
     let more : HaveMore reserved pushed rows = subst (λ (t : Table). HaveMore reserved pushed t.rows) c.other.view_is (have_more reserved pushed others o.origins.rows long even each) in
-    let sources = c.push_all.ensures.rows
+    let row_feeders = c.push_all.ensures.rows
     ∙ ap₂ (λ (xs ys : List ℕ). xs ++ ys) e.rows (sym (feeders-fed_rows o.origins.rows o.columns.items) ∙ ap (λ t. feeders_of t.rows) c.other.view_is) in
     let fitting = subst (λ (t : Table). AreFitting t.schema.columns t.rows) c.other.view_is
     (fitting_rows o.schema.value.columns o.origins.feeders o.limit o.origins.rows o.columns.items c.other.invariant) in
@@ -164,5 +164,5 @@ returns-clause-appended c =
     (from_feeders o.schema.value.columns o.origins.feeders o.limit i.origins.feeders o.origins.rows o.columns.items c.other.invariant few) in
     let grown = grown_rows columns i.origins.feeders i.limit i.origins.rows i.columns.items c.self.invariant reserved e.long e.same rows fit from pushed c.push_all.ensures.long more in
     let table : ℕ → List FedRow → Table = λ feeders rows. record { schema = i.schema.value; feeders = feeders; limit = i.limit; rows = rows } in
-    ap₂ table (c.push_all.ensures.feeders ∙ e.feeders) (ap (λ xs. fed_rows xs pushed) sources ∙ grown)
+    ap₂ table (c.push_all.ensures.feeders ∙ e.feeders) (ap (λ xs. fed_rows xs pushed) row_feeders ∙ grown)
     ∙ ap (λ t. with_rows t rows) c.self.view_is

@@ -25,7 +25,7 @@ invariant_of-self c =
     record {
       columns_are = subst (AreKept columns new) (sym (ap length e.rows)) kept;
       few = omega (arith, e.feeders, was.few);
-      from = subst (All (λ source. source < c.clear_rows.new.origins.feeders)) (sym e.rows) (All-nil (λ source. source < c.clear_rows.new.origins.feeders));
+      from = subst (All (λ feeder. feeder < c.clear_rows.new.origins.feeders)) (sym e.rows) (All-nil (λ feeder. feeder < c.clear_rows.new.origins.feeders));
       within = omega (arith, ap length e.rows);
       small = was.small;
     }

@@ -12,7 +12,7 @@ invariant_of-result c =
     let i = c.self.inside in
     let old = i.columns.items in
     let new = c.in_ok-columns.columns.items in
-    let sources = c.in_ok-origins.ensures.rows in
+    let row_feeders = c.in_ok-origins.ensures.rows in
     let feeders = c.in_ok-origins.ensures.feeders in
     let long = c.in_ok-columns.ensures.long ∙ ap length c.deref.ensures.value in
     let same : (k : ℕ) → k < length old → IsSameColumn (kept_at old k) (kept_at new k) =
@@ -26,18 +26,18 @@ invariant_of-result c =
     } in
     subst (λ (schema : Declared). IsTable schema.columns c.in_ok-origins.origins.feeders i.limit c.in_ok-origins.origins.rows new) (sym c.in_ok-schema.ensures)
     (subst (λ n. IsTable i.schema.value.columns n i.limit c.in_ok-origins.origins.rows new) (sym feeders)
-    (subst (λ xs. IsTable i.schema.value.columns i.origins.feeders i.limit xs new) (sym sources) table))
+    (subst (λ xs. IsTable i.schema.value.columns i.origins.feeders i.limit xs new) (sym row_feeders) table))
 
 pub returns : goal.returns
 returns c =
     let i = c.self.inside in
     let old = i.columns.items in
     let new = c.in_ok-columns.columns.items in
-    let sources = c.in_ok-origins.ensures.rows in
+    let row_feeders = c.in_ok-origins.ensures.rows in
     let feeders = c.in_ok-origins.ensures.feeders in
     let long = c.in_ok-columns.ensures.long ∙ ap length c.deref.ensures.value in
     let same : (k : ℕ) → k < length old → IsSameColumn (kept_at old k) (kept_at new k) =
     subst (λ (columns : List OffsetColumn). (k : ℕ) → k < length columns → IsSameColumn (kept_at columns k) (kept_at new k)) c.deref.ensures.value c.in_ok-columns.ensures.same in
-    let rows = ap (λ xs. fed_rows xs new) sources ∙ fed_rows-same i.origins.rows old new long (λ k within. (same k within).entries) in
+    let rows = ap (λ xs. fed_rows xs new) row_feeders ∙ fed_rows-same i.origins.rows old new long (λ k within. (same k within).entries) in
     let table : Declared → ℕ → List FedRow → Table = λ schema n rows. record { schema = schema; feeders = n; limit = i.limit; rows = rows } in
     ap (λ n. table c.in_ok-schema.schema.value n (fed_rows c.in_ok-origins.origins.rows new)) feeders ∙ ap₂ (λ schema rows. table schema i.origins.feeders rows) c.in_ok-schema.ensures rows ∙ c.self.view_is

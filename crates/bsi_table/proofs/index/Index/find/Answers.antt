@@ -1,4 +1,5 @@
 use Rattle.std.proofs.Common.{◌≡◌, ◌<◌, ℕ, length, map, ap, ap₂, sym, subst, arith, ◌∙◌}
+use Rattle.std.proofs.lemmas.Result.{IfOk-weaker}
 use Rattle.bsi_shift.specs.Shifted.{shifted_entries}
 use Rattle.bsi_table.specs.Rows.{holds, FedRow}
 use Rattle.bsi_table.specs.Table.{kept_at, rows_in}
@@ -16,10 +17,13 @@ find_rows-requires-clause-even c =
 pub returns : goal.returns
 returns c =
     let pred = c.args.pred.now in
-    let sources = c.self.inside.origins.rows in
+    let row_feeders = c.self.inside.origins.rows in
     let kept = c.self.inside.columns.items in
-    let long = c.len-rows.ensures.len ∙ ap (λ t. length t.rows) (sym c.self.view_is) ∙ length-fed_rows sources kept in
-    c.in_ok-found.ensures
+    let long = c.len-rows.ensures.len ∙ ap (λ t. length t.rows) (sym c.self.view_is) ∙ length-fed_rows row_feeders kept in
+    IfOk-weaker c.find_rows.result
+    (λ found. found.bits ≡ map (holds pred) (rows_in c.deref-columns.result.now c.len-rows.result))
+    (λ found. found.bits ≡ map (λ (row : FedRow). holds pred row.1) c.args.self.now.rows)
+    (λ found is. is
     ∙ ap₂ (λ columns n. map (holds pred) (rows_in columns n)) c.deref-columns.ensures.value long
-    ∙ sym (map-fed_rows sources kept (holds pred))
-    ∙ ap (λ t. map (λ (row : FedRow). holds pred row.1) t.rows) c.self.view_is
+    ∙ sym (map-fed_rows row_feeders kept (holds pred))
+    ∙ ap (λ t. map (λ (row : FedRow). holds pred row.1) t.rows) c.self.view_is) c.find_rows.ensures

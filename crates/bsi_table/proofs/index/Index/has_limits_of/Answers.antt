@@ -12,4 +12,4 @@ returns-clause-fits c = λ same.
     let own = c.limits.ensures.limits ∙ ap (λ d. map limits_of d.columns) c.deref.ensures ∙ ap (λ (t : Table). map limits_of t.schema.columns) c.self.view_is in
     let fitting = subst (λ (t : Table). AreFitting t.schema.columns t.rows) c.self.view_is
     (fitting_rows i.schema.value.columns i.origins.feeders i.limit i.origins.rows i.columns.items c.self.invariant) in
-    fitting-alike c.args.self.now.schema c.args.schema.now (sym own ∙ c.are_same.ensures.0 same ∙ c.limits-2.ensures.limits) c.args.self.now.rows fitting
+    fitting-alike c.args.self.now.schema c.args.schema.now (sym own ∙ c.have_same_limits.ensures.0 same ∙ c.limits-2.ensures.limits) c.args.self.now.rows fitting

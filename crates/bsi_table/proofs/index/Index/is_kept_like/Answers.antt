@@ -11,8 +11,8 @@ returns-then-feeders-clause-alike c = λ same.
     let own = c.deref.ensures.value in
     let others = c.deref-then-feeders.ensures.value in
     let alike : AreAlikeColumns i.columns.items o.columns.items =
-    subst (λ xs. AreAlikeColumns i.columns.items xs) others (subst (λ xs. AreAlikeColumns xs c.deref-then-feeders.result.now) own (c.are_alike.ensures.alike same)) in
-    let long = sym (ap length others) ∙ c.are_alike.ensures.long same ∙ ap length own in
+    subst (λ xs. AreAlikeColumns i.columns.items xs) others (subst (λ xs. AreAlikeColumns xs c.deref-then-feeders.result.now) own (c.are_kept_alike.ensures.alike same)) in
+    let long = sym (ap length others) ∙ c.are_kept_alike.ensures.long same ∙ ap length own in
     sym (ap (λ t. map kept_as t.schema.columns) c.self.view_is)
     ∙ alike_schemas i.schema.value.columns o.schema.value.columns i.columns.items o.columns.items (length i.origins.rows) (length o.origins.rows)
     c.self.invariant.columns_are c.other.invariant.columns_are long alike
@@ -32,5 +32,5 @@ returns-then-feeders-clause-all c = λ few kept.
     let alike = alike_columns mine theirs i.columns.items o.columns.items (length i.origins.rows) (length o.origins.rows) c.self.invariant.columns_are c.other.invariant.columns_are same in
     let long : length o.columns.items ≡ length i.columns.items =
     omega (arith, c.self.invariant.columns_are.long, c.other.invariant.columns_are.long, ap length same, length-map mine kept_as, length-map theirs kept_as) in
-    c.are_alike.ensures.all (ap length others ∙ long ∙ sym (ap length own))
+    c.are_kept_alike.ensures.all (ap length others ∙ long ∙ sym (ap length own))
     (subst (λ xs. AreAlikeColumns xs c.deref-then-feeders.result.now) (sym own) (subst (λ xs. AreAlikeColumns i.columns.items xs) (sym others) alike))

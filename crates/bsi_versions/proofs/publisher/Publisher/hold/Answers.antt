@@ -1,7 +1,7 @@
 use Rattle.std.proofs.Common.{◌+◌, ◌-◌, ◌≡◌, ◌∷◌, [], drop, length, ap, sym, ◌∙◌, subst, arith}
 use Rattle.bsi_table.specs.Table.{Table}
-use Rattle.bsi_versions.specs.Editions.{emptied, rows_of, written, IsStageOf, IsStamped, IsWriting}
-use Rattle.bsi_versions.specs.Pages.{Rows}
+use Rattle.bsi_versions.specs.Editions.{emptied, pending_rows, written, IsStageOf, IsStamped, IsWriting}
+use Rattle.bsi_versions.specs.History.{RowList}
 use Rattle.bsi_versions.proofs.Writing.{free_places, held_view, held_writing, on_err, staged_kept, staged_stamped, staged_view, staged_writing, with_more}
 use Rattle.bsi_versions.proofs.publisher.Publisher.hold.Goals as goal
 
@@ -55,13 +55,13 @@ invariant_of-self-2 g c =
     let pending = drop p.copies.behind p.copies.log.items in
     let more = drop o.copies.behind o.copies.log.items in
     let same = ap (λ d. d.shown.value) c.make_place.ensures.desk in
-    let added : Rows = (c.args.feeder, c.args.row.now) ∷ [] in
+    let added : RowList = (c.args.feeder, c.args.row.now) ∷ [] in
     let grown = c.push.new.self in
     let grows = c.in_ok-push.ensures.ok in
     let rows = ap (λ w. length w.table.rows) c.self.view_is in
     let held = ap (λ w. length w.held) c.self.view_is in
     let limit = ap (λ w. w.table.limit) c.self.view_is in
-    let free = free_places shown.table.rows (rows_of pending) p.stage.rows shown.table.limit p.free _ _ _ 1 rows held limit c.self.invariant.0.places (omega (arith, c.requires.room)) in
+    let free = free_places shown.table.rows (pending_rows pending) p.stage.rows shown.table.limit p.free _ _ _ 1 rows held limit c.self.invariant.0.places (omega (arith, c.requires.limit)) in
     let many : (p.free - 1) + length added ≡ p.free = free in
     let writing = staged_writing book about shown pending p.stage.rows p.history p.free c.self.invariant.0 more o.self.rows c.make_place.ensures.staged in (
       subst (λ e. IsWriting book about e more grown.rows p.history (p.free - 1)) (sym same)
@@ -77,7 +77,7 @@ returns-clause-ok g c =
     let o = c.make_place.new in
     let next = o.copies.desk.shown.value in
     let more = drop o.copies.behind o.copies.log.items in
-    let added : Rows = (c.args.feeder, c.args.row.now) ∷ [] in
+    let added : RowList = (c.args.feeder, c.args.row.now) ∷ [] in
     held_view next more o.self.rows c.push.new.self.rows added (ap (λ b. b.rows) c.in_ok-push.ensures.ok)
     ∙ ap (λ w. with_more w added)
     (staged_view p.copies.desk.shown.value (drop p.copies.behind p.copies.log.items) p.stage.rows next more o.self.rows

@@ -1,6 +1,6 @@
 use Rattle.std.proofs.Common.{List, [], drop, ap, sym, subst, ◌∙◌, ◌≡◌}
 use Rattle.bsi_versions.specs.Editions.{emptied, IsStamped, IsWriting}
-use Rattle.bsi_versions.specs.Pages.{Edition, Known}
+use Rattle.bsi_versions.specs.History.{Edition, Known}
 use Rattle.bsi_versions.specs.declared.operation.Operation.{Operation}
 use Rattle.bsi_versions.proofs.Writing.{first_stamped, first_writing}
 use Rattle.bsi_versions.proofs.publisher.Publisher.new.Goals as goal

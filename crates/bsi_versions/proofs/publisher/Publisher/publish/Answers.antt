@@ -1,8 +1,8 @@
 use Rattle.std.proofs.Common.{◌≡◌, ◌++◌, List, drop, length, ap, sym, ◌∙◌, subst}
 use Rattle.std.specs.Prelude.{fold}
 use Rattle.bsi_table.specs.Table.{Table}
-use Rattle.bsi_versions.specs.Pages.{Edition, Rows}
-use Rattle.bsi_versions.specs.Editions.{after, emptied, published_all, rows_of, IsStageOf, IsStamped, IsWriting, Stands}
+use Rattle.bsi_versions.specs.History.{Edition, RowList}
+use Rattle.bsi_versions.specs.Editions.{after, emptied, with_all_published, pending_rows, IsStageOf, IsStamped, IsWriting, Stands}
 use Rattle.bsi_versions.specs.declared.operation.Operation.{Operation}
 use Rattle.bsi_versions.proofs.Writing.{kept_writing, stamped_stands, next_len, on_err, published_view, same_view, shown_stamped, shown_writing, staged_stamped, staged_shown, staged_view, table_after}
 use Rattle.bsi_versions.proofs.publisher.Publisher.publish.Goals as goal
@@ -89,7 +89,7 @@ exchange-requires g c =
     let left = c.empty.new.self.rows in
     let stamps = drop c.stamp_all.new.copies.behind c.stamp_all.new.copies.log.items in
     let stands = stamped_stands g.B.Naming.book shown stamps c.stamp_all.new.stamped c.stamp_all.ensures.stamped g.B.Naming.about is.stands
-    (c.in_ok-stamp_all.ensures.ok ∙ next_len g.B.Naming.book g.B.Naming.about o.desk.shown.value (drop o.behind o.log.items) c.empty.new.self.rows p.history p.free is c.limit.result limit c.in_ok-empty.ensures.ok ∙ ap (λ (xs : Rows). length (shown.table.rows ++ xs)) (sym c.stamp_all.ensures.rows)) in
+    (c.in_ok-stamp_all.ensures.ok ∙ next_len g.B.Naming.book g.B.Naming.about o.desk.shown.value (drop o.behind o.log.items) c.empty.new.self.rows p.history p.free is c.limit.result limit c.in_ok-empty.ensures.ok ∙ ap (λ (xs : RowList). length (shown.table.rows ++ xs)) (sym c.stamp_all.ensures.rows)) in
     subst (λ e. Stands g.B.Naming.book g.B.Naming.about (fold after e stamps)) (ap (λ d. d.shown.value) (sym c.stamp_all.ensures.desk)) stands
 
 -- the copy stays, and the stamp that is pending is no row
@@ -105,7 +105,7 @@ invariant_of-self-in_err-exchange g c =
     let left = c.empty.new.self.rows in
     let stamps = drop c.stamp_all.new.copies.behind c.stamp_all.new.copies.log.items in
     let more = drop c.exchange.new.copies.behind c.exchange.new.copies.log.items in
-    let rows = ap rows_of c.in_err-exchange.ensures.pending ∙ c.stamp_all.ensures.rows in
+    let rows = ap pending_rows c.in_err-exchange.ensures.pending ∙ c.stamp_all.ensures.rows in
     let still = c.in_err-exchange.ensures.kept ∙ ap (λ d. d.shown.value) c.stamp_all.ensures.desk in (
       subst (λ (e : Edition). IsWriting g.B.Naming.book g.B.Naming.about e more left c.stamp_all.new.history p.free) (sym still)
           (kept_writing g.B.Naming.book g.B.Naming.about shown pending left p.history p.free is c.stamp_all.new.history more c.stamp_all.ensures.history rows),
@@ -124,7 +124,7 @@ returns-in_err-exchange-clause-err g c =
     let left = c.empty.new.self.rows in
     let stamps = drop c.stamp_all.new.copies.behind c.stamp_all.new.copies.log.items in
     let more = drop c.exchange.new.copies.behind c.exchange.new.copies.log.items in
-    let rows = ap rows_of c.in_err-exchange.ensures.pending ∙ c.stamp_all.ensures.rows in
+    let rows = ap pending_rows c.in_err-exchange.ensures.pending ∙ c.stamp_all.ensures.rows in
     let still = c.in_err-exchange.ensures.kept ∙ ap (λ d. d.shown.value) c.stamp_all.ensures.desk in
     on_err c.from_residual-in_err-exchange.result
     (same_view shown pending left c.exchange.new.copies.desk.shown.value more still rows
@@ -145,7 +145,7 @@ invariant_of-self-2 g c =
     let left = c.empty.new.self.rows in
     let stamps = drop c.stamp_all.new.copies.behind c.stamp_all.new.copies.log.items in
     let stands = stamped_stands g.B.Naming.book shown stamps c.stamp_all.new.stamped c.stamp_all.ensures.stamped g.B.Naming.about is.stands
-    (c.in_ok-stamp_all.ensures.ok ∙ next_len g.B.Naming.book g.B.Naming.about o.desk.shown.value (drop o.behind o.log.items) c.empty.new.self.rows p.history p.free is c.limit.result limit c.in_ok-empty.ensures.ok ∙ ap (λ (xs : Rows). length (shown.table.rows ++ xs)) (sym c.stamp_all.ensures.rows)) in
+    (c.in_ok-stamp_all.ensures.ok ∙ next_len g.B.Naming.book g.B.Naming.about o.desk.shown.value (drop o.behind o.log.items) c.empty.new.self.rows p.history p.free is c.limit.result limit c.in_ok-empty.ensures.ok ∙ ap (λ (xs : RowList). length (shown.table.rows ++ xs)) (sym c.stamp_all.ensures.rows)) in
     let next = c.exchange.new.copies.desk.shown.value in
     let none = drop c.exchange.new.copies.behind c.exchange.new.copies.log.items in
     let now : next ≡ fold after shown stamps = c.in_ok-exchange.ensures.shown ∙ ap (λ d. fold after d.shown.value stamps) c.stamp_all.ensures.desk in (
@@ -172,7 +172,7 @@ returns-clause-len g c =
     let now : next ≡ fold after shown stamps = c.in_ok-exchange.ensures.shown ∙ ap (λ d. fold after d.shown.value stamps) c.stamp_all.ensures.desk in
     let rows = ap (λ e. length e.table.rows) now ∙ ap (λ (t : Table). length t.rows) (table_after shown stamps) in
     next_len g.B.Naming.book g.B.Naming.about o.desk.shown.value (drop o.behind o.log.items) c.empty.new.self.rows p.history p.free is c.limit.result limit c.in_ok-empty.ensures.ok
-    ∙ ap (λ (xs : Rows). length (shown.table.rows ++ xs)) (sym c.stamp_all.ensures.rows) ∙ sym rows
+    ∙ ap (λ (xs : RowList). length (shown.table.rows ++ xs)) (sym c.stamp_all.ensures.rows) ∙ sym rows
 
 pub returns-clause-ok : goal.returns-clause-ok
 returns-clause-ok g c =
@@ -187,5 +187,5 @@ returns-clause-ok g c =
     let none = drop c.exchange.new.copies.behind c.exchange.new.copies.log.items in
     let now : next ≡ fold after shown stamps = c.in_ok-exchange.ensures.shown ∙ ap (λ d. fold after d.shown.value stamps) c.stamp_all.ensures.desk in
     published_view shown pending stamps left next none now c.stamp_all.ensures.rows c.in_ok-exchange.ensures.none c.in_ok-empty.ensures.ok
-    ∙ ap published_all
+    ∙ ap with_all_published
     (staged_view p.copies.desk.shown.value (drop p.copies.behind p.copies.log.items) p.stage.rows shown pending left same c.empty.ensures.staged ∙ c.self.view_is)

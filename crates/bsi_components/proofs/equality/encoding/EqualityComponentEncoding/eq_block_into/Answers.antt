@@ -5,8 +5,8 @@ use Rattle.bsi_words.proofs.BlockBits.{ones_bit}
 use Rattle.bsi_components.proofs.equality.encoding.EqualityComponentEncoding.eq_block_into.Goals as goal
 
 -- where no bitmap is stored for the digit, of a block of ones the rows are kept that have it
-pub returns-then-base-eq2-clause-bits : goal.returns-then-base-eq2-clause-bits
-returns-then-base-eq2-clause-bits c = OnTrue_from c.eq_block.result _ (λ whole p below row.
+pub returns-else-is_stored-clause-bits : goal.returns-else-is_stored-clause-bits
+returns-else-is_stored-clause-bits c = OnTrue_from c.eq_block.result _ (λ whole p below row.
     let n = length c.args.block.now in
     let digit = get_or c.args.self.now.digits (64 * c.args.at + p) 0 in
     let filled : c.fill.new.self ≡ replicate n (2 ^ 64 - 1) = c.fill.ensures.after (λ y same. same) in

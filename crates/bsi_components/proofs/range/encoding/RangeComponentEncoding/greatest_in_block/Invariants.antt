@@ -1,15 +1,8 @@
-use Rattle.std.proofs.Common.{◌≡◌, ℕ, ◌+◌, ◌-◌, ◌*◌, ◌<◌, ◌≤◌, true, length}
+use Rattle.std.proofs.Common.{◌≡◌, ℕ, ◌+◌, ◌*◌, ◌<◌, ◌≤◌, true, length}
 use Rattle.std.specs.Prelude.{slice_index}
 use Rattle.bsi_bits.specs.Packed.{bit_of}
 use Rattle.bsi_components.proofs.range.encoding.RangeComponentEncoding.greatest_in_block.Given as goal
 
 -- a row's digit is at least this one
 abbrev pub invariant-digits : goal.invariant-digits
-invariant-digits l = record {
-  within : l.limit ≤ l.digit;
-  below : l.digit < l.self.base;
-  row : (p : ℕ) × (p < 64 * length l.block) × (bit_of l.block p ≡ true) × (l.digit ≤ slice_index l.self.digits (64 * l.at + p));
-}
-
-abbrev pub decreases-digits : goal.decreases-digits
-decreases-digits l = l.self.base - l.digit
+invariant-digits l = (p : ℕ) × (p < 64 * length l.block) × (bit_of l.block p ≡ true) × (l.digit ≤ slice_index l.self.digits (64 * l.at + p))

@@ -5,10 +5,4 @@ use Rattle.bsi_components.proofs.range.encoding.RangeComponentEncoding.least_in_
 
 -- a row's digit is at most this one
 abbrev pub invariant-digits : goal.invariant-digits
-invariant-digits l = record {
-  within : l.digit ≤ l.limit;
-  row : (p : ℕ) × (p < 64 * length l.block) × (bit_of l.block p ≡ true) × (slice_index l.self.digits (64 * l.at + p) ≤ l.digit);
-}
-
-abbrev pub decreases-digits : goal.decreases-digits
-decreases-digits l = l.digit
+invariant-digits l = (p : ℕ) × (p < 64 * length l.block) × (bit_of l.block p ≡ true) × (slice_index l.self.digits (64 * l.at + p) ≤ l.digit)

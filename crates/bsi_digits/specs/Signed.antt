@@ -1,0 +1,14 @@
+-- Whole numbers of 64 bits.
+use Rattle.std.specs.Prelude.{ℕ, ◌^◌, ℤ, pos, neg_ℤ, ◌≤ℤ◌, ◌<ℤ◌, Option, IfSome}
+
+-- the least number of 64 bits
+abbrev pub least_i64 : ℤ
+least_i64 = neg_ℤ (pos (2 ^ 63))
+
+-- what each number of 64 bits is below
+abbrev pub end_of_i64 : ℕ
+end_of_i64 = 2 ^ 63
+
+-- an entry is a null or a number of 64 bits
+abbrev pub IsI64 : Option ℤ → Type 0
+IsI64 entry = IfSome entry (λ x. (least_i64 ≤ℤ x) × (x <ℤ pos end_of_i64))
