@@ -5,7 +5,7 @@ pub mod InWords
 pub mod Joining
 pub mod Logic
 pub mod Lowest
-pub mod Marked
+pub mod SetRows
 pub mod Reading
 pub mod Skipping
 pub mod Pairs

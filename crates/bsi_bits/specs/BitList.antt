@@ -15,7 +15,7 @@ max_words = 2 ^ 26
 abbrev pub max_block : ℕ
 max_block = 64
 
--- what a sum of as many numbers is below, each of at most 63 binary places
+-- what a sum of at most `max_len` numbers is below, each of at most 63 binary places
 abbrev pub sum_end : ℕ
 sum_end = 2 ^ 95
 

@@ -18,7 +18,7 @@ bits_at vectors j = (slice_index_or vectors j no_bits).bits
 abbrev pub room_at : List BitList → ℕ → ℕ
 room_at vectors j = (slice_index_or vectors j no_bits).room
 
--- there are vectors, all of one length, and each has room for so many more bits
+-- there are vectors, all of one length, and each has room for so many more bits, at most `max_len` with those that it has
 pub record AreEven (vectors : List BitList) (room : ℕ) : Type 0 where
   pub some : 0 < length vectors
   pub within : length (bits_at vectors 0) + room ≤ max_len

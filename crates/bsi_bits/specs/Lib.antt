@@ -1,4 +1,4 @@
 pub mod BitList
 pub mod BitLists
-pub mod Marked
+pub mod SetRows
 pub mod Packed

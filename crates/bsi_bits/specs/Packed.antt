@@ -1,8 +1,12 @@
 -- A list of bits kept in words of 64.
-use Rattle.std.specs.Prelude.{◌≡◌, ℕ, ◌-◌, ◌*◌, ◌/◌, ◌%◌, ◌≤◌, ◌==◌, Bool, false, List, length, map, filter, min, slice_index}
+use Rattle.std.specs.Prelude.{◌≡◌, ℕ, ◌-◌, ◌*◌, ◌/◌, ◌%◌, ◌^◌, ◌≤◌, ◌==◌, Bool, false, List, length, map, filter, min, slice_index}
 use Rattle.std.specs.Int.{bit_at}
 use Rattle.std.specs.List.{range_with_len}
 use Rattle.bsi_bits.specs.BitList.{max_len, max_words, word_count}
+
+-- what each number of 64 bits without a sign is below
+abbrev pub end_of_u64 : ℕ
+end_of_u64 = 2 ^ 64
 
 -- the bit at place i of the words: binary place i % 64 of word i / 64, and clear past the last word
 abbrev pub bit_of : List ℕ → ℕ → Bool
@@ -12,7 +16,7 @@ bit_of words i = bit_at (slice_index words (i / 64)) (i % 64) == 1
 unfoldable pub bits_of : ℕ → List ℕ → List Bool
 bits_of n words = map (bit_of words) (range_with_len 0 n)
 
--- the words are as few as hold n bits, and the places past the last bit are clear
+-- n is at most `max_len`, the words are as few as hold n bits, and the places past the last bit are clear
 pub record IsPacked (n : ℕ) (words : List ℕ) : Type 0 where
   pub within : n ≤ max_len
   pub few : length words ≡ word_count n

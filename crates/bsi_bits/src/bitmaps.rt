@@ -237,8 +237,8 @@ impl Bitmaps {
             ≡ bits_at self.old.vectors j ++ bits_of count (slice_index words.now j ∷ []) }
         ensures room { self.new.room + count ≡ self.old.room }
     {
-        'vectors: for j in 0..self.vectors.len() {
-            self.vectors[j].push_word_reserved(words[j], count);
+        'vectors: for (j, word) in words.iter().enumerate() {
+            self.vectors[j].push_word_reserved(*word, count);
         }
         self.room -= count;
     }
@@ -254,8 +254,8 @@ impl Bitmaps {
             ≡ bits_at self.old.vectors j ++ bits_at other.now.vectors j }
         ensures room { self.new.room + length (bits_at other.now.vectors 0) ≡ self.old.room }
     {
-        'vectors: for j in 0..self.vectors.len() {
-            self.vectors[j].push_all_reserved(&other.vectors[j]);
+        'vectors: for (j, vector) in other.vectors.iter().enumerate() {
+            self.vectors[j].push_all_reserved(vector);
         }
         self.room -= other.len();
     }

@@ -2,7 +2,7 @@
 
 ghost use Rattle.std.specs.Prelude.{◌≡◌, ℕ, List, Bool, true, ◌+◌, ◌*◌, ◌%◌, ◌^◌, ◌≤◌, ◌<◌, [], ◌∷◌, ◌++◌, length, slice_index, vec_len, vec_capacity};
 ghost use Rattle.bsi_bits.specs.BitList.{max_block, max_len, word_count};
-ghost use Rattle.bsi_bits.specs.Packed.{bits_of, IsPacked};
+ghost use Rattle.bsi_bits.specs.Packed.{bits_of, end_of_u64, IsPacked};
 
 /// Clears the places past the first `n` bits.
 pub fn trim(words: &mut Vec<u64>, n: u64)
@@ -110,5 +110,5 @@ pub fn push_all(words: &mut Vec<u64>, n: u64, more: &[u64], count: u64)
 /// shared reference do not tell by themselves; it is public for the proofs of the crates above.
 #[doc(hidden)]
 pub fn know_fits(words: &[u64])
-    ensures { (k : ℕ) → slice_index words.now k < 2 ^ 64 }
+    ensures { (k : ℕ) → slice_index words.now k < end_of_u64 }
 {}

@@ -1,4 +1,4 @@
--- The number at an end of a block's rows, by the digits of components.
+-- The number at an end of a span's rows, by the digits of components.
 use Rattle.std.proofs.Common.{◌≡◌, ℕ, ◌+◌, ◌-◌, ◌*◌, ◌/◌, ◌%◌, ◌<◌, ◌≤◌, Bool, true, false, ◌&&◌, List, Option, Some, None, length, get_or, map, inl, inr, ap, ap₂, subst, sym, ◌∙◌, refl, arith, min, mod-eq_of_lt}
 use Rattle.std.specs.Prelude.{nat_eq, is_some}
 use Rattle.std.proofs.Math.Nat.{div-div-eq-div-mul, div-mul-le_self, div-eq_of_lt}
@@ -9,20 +9,20 @@ use Rattle.std.proofs.lemmas.List.{get_or-map, get_or_past, length-map}
 use Rattle.bsi_slices.specs.declared.slices.ends.End.{End}
 use Rattle.bsi_slices.specs.declared.slices.ends.End.TheVariants.{Least, Greatest}
 use Rattle.bsi_columns.specs.Rows.{number_or_zero}
-use Rattle.bsi_bits.specs.Marked.{HasMarked, HasValue}
+use Rattle.bsi_bits.specs.SetRows.{HasRow, HasValue}
 use Rattle.bsi_columns.specs.Ends.{comes_first, leads, number_at}
-use Rattle.bsi_columns.specs.BlockEnds.{IsPast, IsNarrowedTo, AnswersEnd}
+use Rattle.bsi_columns.specs.SpanEnds.{IsPast, IsNarrowedTo, AnswersEnd}
 use Rattle.bsi_components.specs.declared.answers.EndDigit.TheVariants.{Digit}
-use Rattle.bsi_columns.proofs.EndBlocks.{IsNearest, first_digit, nearest_step}
+use Rattle.bsi_columns.proofs.EndSpans.{IsNearest, first_digit, nearest_step}
 
--- past a limit that the best number so far gives, no number comes before it
-pub limit_past : (end : End) (best above base weight limit d x : ℕ) → 1 ≤ weight → limit ≡ min (best / weight - above) (base - 1) → d < base → IsPast end limit d
+-- past a bound that the best number so far gives, no number comes before it
+pub bound_past : (end : End) (best above base weight bound d x : ℕ) → 1 ≤ weight → bound ≡ min (best / weight - above) (base - 1) → d < base → IsPast end bound d
     → comes_first end (above + d) (x / weight) → leads end (Some best) x
-limit_past Least best above base weight limit d x some is low past first =
+bound_past Least best above base weight bound d x some is low past first =
     let parts : best / weight * weight + best % weight ≡ best = div-add-mod' best weight in
     let behind : best / weight + 1 ≤ x / weight = omega (arith, is, low, past, first) in
     omega (arith, parts, mod_below best weight some, mul-le (best / weight + 1) weight (x / weight) weight behind (omega arith), div-mul-le_self x weight)
-limit_past Greatest best above base weight limit d x some is low past first =
+bound_past Greatest best above base weight bound d x some is low past first =
     let parts : x / weight * weight + x % weight ≡ x = div-add-mod' x weight in
     let behind : x / weight + 1 ≤ best / weight = omega (arith, is, low, past, first) in
     omega (arith, parts, mod_below x weight some, mul-le (x / weight + 1) weight (best / weight) weight behind (omega arith), div-mul-le_self best weight)
@@ -34,13 +34,13 @@ refl_first Greatest a = omega arith
 eq_true : (a b : ℕ) → a ≡ b → nat_eq a b ≡ true
 eq_true a b same = grind (arith, nat_tests, same)
 
--- each kept row's digit is past the limit, and so none of the marked rows comes first
-pub past_leads : (end : End) (best : Option ℕ) (marked : ℕ → Bool) (number : ℕ → ℕ) (n weight base above prefix limit : ℕ) (kept : ℕ → Bool) → 0 < weight → 0 < base
+-- each kept row's digit is past the bound, and so none of the marked rows comes first
+pub past_leads : (end : End) (best : Option ℕ) (marked : ℕ → Bool) (number : ℕ → ℕ) (n weight base above prefix bound : ℕ) (kept : ℕ → Bool) → 0 < weight → 0 < base
     → above ≡ weight * base → IsNearest end marked number n above prefix kept
-    → ((p : ℕ) → p < n → kept p ≡ true → IsPast end limit (number p / weight % base))
-    → ((d x : ℕ) → d < base → IsPast end limit d → comes_first end (prefix * base + d) (x / weight) → leads end best x)
+    → ((p : ℕ) → p < n → kept p ≡ true → IsPast end bound (number p / weight % base))
+    → ((d x : ℕ) → d < base → IsPast end bound d → comes_first end (prefix * base + d) (x / weight) → leads end best x)
     → (p : ℕ) → p < n → marked p ≡ true → leads end best (number p)
-past_leads end best marked number n weight base above prefix limit kept positive some above_is state past leading p within there =
+past_leads end best marked number n weight base above prefix bound kept positive some above_is state past leading p within there =
     let x : ℕ = number p / weight in
     let q_is : x / base ≡ number p / above = div-div-eq-div-mul (number p) weight base ∙ ap (λ w. number p / w) (sym above_is) in
     let parts : x / base * base + x % base ≡ x = div-add-mod' x base in
@@ -73,13 +73,13 @@ row_digit entries weight base r positive some = elim (cases_lt r (length entries
 
 -- ---- the digit that is kept
 
-pub end_member : (end : End) (limit : ℕ) (marked : ℕ → Bool) (digit : ℕ → ℕ) (n d : ℕ) → AnswersEnd end limit marked digit n (Digit d) → HasValue marked digit n d
-end_member Least limit marked digit n d is = is.member
-end_member Greatest limit marked digit n d is = is.member
+pub end_member : (end : End) (bound : ℕ) (marked : ℕ → Bool) (digit : ℕ → ℕ) (n d : ℕ) → AnswersEnd end bound marked digit n (Digit d) → HasValue marked digit n d
+end_member Least bound marked digit n d is = is.member
+end_member Greatest bound marked digit n d is = is.member
 
-pub end_first : (end : End) (limit : ℕ) (marked : ℕ → Bool) (digit : ℕ → ℕ) (n d : ℕ) → AnswersEnd end limit marked digit n (Digit d) → (p : ℕ) → p < n → marked p ≡ true → comes_first end d (digit p)
-end_first Least limit marked digit n d is = is.first
-end_first Greatest limit marked digit n d is = is.first
+pub end_first : (end : End) (bound : ℕ) (marked : ℕ → Bool) (digit : ℕ → ℕ) (n d : ℕ) → AnswersEnd end bound marked digit n (Digit d) → (p : ℕ) → p < n → marked p ≡ true → comes_first end d (digit p)
+end_first Least bound marked digit n d is = is.first
+end_first Greatest bound marked digit n d is = is.first
 
 -- a row that is kept by its digit and is there
 pub kept_inside : (old there same new : Bool) → new ≡ ((old && same) && there) → (old ≡ true → there ≡ true) → new ≡ (old && same)
@@ -99,7 +99,7 @@ kept_outside false there same new before is off not_null = is ∙ ap (λ t. befo
     never false = refl
 
 -- the rows of the digit are some
-pub kept_some : (old new : ℕ → Bool) (digit : ℕ → ℕ) (n d : ℕ) → ((p : ℕ) → p < n → new p ≡ (old p && nat_eq (digit p) d)) → HasValue old digit n d → HasMarked new n
+pub kept_some : (old new : ℕ → Bool) (digit : ℕ → ℕ) (n d : ℕ) → ((p : ℕ) → p < n → new p ≡ (old p && nat_eq (digit p) d)) → HasValue old digit n d → HasRow new n
 kept_some old new digit n d kept row = (row.0, row.1, kept row.0 row.1 ∙ ap₂ ◌&&◌ row.2 (eq_true (digit row.0) d row.3))
 
 both_second : (a b : Bool) → (a && b) ≡ true → b ≡ true

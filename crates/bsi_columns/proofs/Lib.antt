@@ -1,6 +1,6 @@
 pub mod Answering
-pub mod BlockAnswers
-pub mod BlockParts
+pub mod SpanAnswers
+pub mod SpanParts
 pub mod ComponentLists
 pub mod Deciding
 pub mod DigitSums
@@ -10,7 +10,7 @@ pub mod EntryReads
 pub mod Rungs
 pub use Rattle.bsi_slices.proofs.Adding
 pub use Rattle.bsi_slices.proofs.CallerLemmas
-pub use Rattle.bsi_slices.proofs.EndBlocks
+pub use Rattle.bsi_slices.proofs.EndSpans
 pub use Rattle.bsi_slices.proofs.EndRows
 pub use Rattle.bsi_slices.proofs.Ranking
-pub use Rattle.bsi_slices.proofs.WordBlocks
+pub use Rattle.bsi_slices.proofs.WordSpans

@@ -1,5 +1,5 @@
 pub mod AnyRows
-pub mod BlockEnds
+pub mod SpanEnds
 pub mod Decomposed
 pub mod DigitTests
 pub use Rattle.bsi_slices.specs.Ends

@@ -5,15 +5,15 @@
 
 ghost use Rattle.std.specs.Prelude.{◌≡◌, ◌↔◌, ◌+◌, ◌≤◌, is_none, length, IsOk, IsTrue, OnOk, OnErr};
 ghost use Rattle.bsi_bits.specs.BitList.{word_count};
-ghost use Rattle.bsi_slices.specs.Blocks.{KeepsRows};
+ghost use Rattle.bsi_slices.specs.Spans.{KeepsRows};
 ghost use Rattle.bsi_columns.specs.AnyRows.{any_entries, any_form, any_room, size_in_form, AnyForm};
 ghost use Rattle.bsi_columns.specs.Rows.{selects};
 
 use crate::{
-    Column, Decomposed, EqualityComponent, MAX_BLOCK_WORDS, NoMemory, Op, RangeComponent, Slices,
+    Column, Decomposed, EqualityComponent, MAX_SPAN_WORDS, NoMemory, Op, RangeComponent, Slices,
 };
 use bsi_bits::Bits;
-use bsi_words::blocks::drop_in;
+use bsi_words::spans::drop_in;
 
 /// A column stored in one of the forms. Each call is that of the form.
 #[derive(Drop)]
@@ -27,7 +27,7 @@ pub enum AnyColumn {
 }
 
 impl AnyColumn {
-    /// Keeps in a block of at most 1,024 words the rows whose number satisfies the comparison `op` with `constant`,
+    /// Keeps in a span of at most 1,024 words the rows whose number satisfies the comparison `op` with `constant`,
     /// which may be past the size. The first word stands for the 64 rows from row `64 * at` on. A null row is not kept,
     /// nor a bit past the last row. It takes no memory, and always succeeds. It answers a `Result` as a decomposed
     /// column does, which takes memory under an encoding that works on whole vectors alone.
@@ -36,22 +36,22 @@ impl AnyColumn {
         op: Op,
         constant: u64,
         at: usize,
-        block: &mut [u64],
+        span: &mut [u64],
     ) -> Result<(), NoMemory>
-        requires few { length block.old ≤ MAX_BLOCK_WORDS }
-        requires within { at + length block.old ≤ word_count (length (any_entries self.now)) }
-        ensures kept { OnErr result (block.new ≡ block.old) }
+        requires few { length span.old ≤ MAX_SPAN_WORDS }
+        requires within { at + length span.old ≤ word_count (length (any_entries self.now)) }
+        ensures kept { OnErr result (span.new ≡ span.old) }
         ensures rows { OnOk result
-            (KeepsRows (selects op constant) (any_entries self.now) at block.old block.new) }
+            (KeepsRows (selects op constant) (any_entries self.now) at span.old span.new) }
         ensures succeeds { IsOk result }
     {
         match self {
             AnyColumn::Slices(column) => {
-                column.keep_selected(op, constant, at, block);
+                column.keep_selected(op, constant, at, span);
                 Ok(())
             }
-            AnyColumn::Equality(column) => column.keep_selected(op, constant, at, block),
-            AnyColumn::Range(column) => column.keep_selected(op, constant, at, block),
+            AnyColumn::Equality(column) => column.keep_selected(op, constant, at, span),
+            AnyColumn::Range(column) => column.keep_selected(op, constant, at, span),
         }
     }
 
@@ -71,13 +71,13 @@ impl AnyColumn {
         }
     }
 
-    /// Keeps in a block of words the rows that are null. The first word stands for the 64 rows from row `64 * at` on.
+    /// Keeps in a span of words the rows that are null. The first word stands for the 64 rows from row `64 * at` on.
     /// Bits past the last row stay as they are.
-    pub fn keep_nulls(&self, at: usize, block: &mut [u64])
-        requires within { at + length block.old ≤ word_count (length (any_entries self.now)) }
-        ensures { KeepsRows is_none (any_entries self.now) at block.old block.new }
+    pub fn keep_nulls(&self, at: usize, span: &mut [u64])
+        requires within { at + length span.old ≤ word_count (length (any_entries self.now)) }
+        ensures { KeepsRows is_none (any_entries self.now) at span.old span.new }
     {
-        drop_in(self.not_null(), at, block);
+        drop_in(self.not_null(), at, span);
     }
 }
 

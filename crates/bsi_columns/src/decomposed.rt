@@ -9,7 +9,7 @@ use crate::growth::{clear_each, push_all_digits, push_blocks, push_digits, reser
 use crate::{Column, Encoding, NoMemory, Op, OrderStatistic};
 use bsi_bits::{Bits, MAX_BLOCK, room_to_make};
 use bsi_digits::Bases;
-use bsi_slices::transposing::{mark_not_null, write_numbers};
+use bsi_slices::transposing::{not_null_word, write_numbers};
 use bsi_slices::{End, NotNull};
 use std::alloc::Global;
 use std::marker::Model;
@@ -20,8 +20,7 @@ mod narrowing;
 mod totals;
 mod vectors;
 
-pub use compare::MAX_BLOCK_WORDS;
-use ends::NoBlocks;
+use ends::NoSpans;
 
 /// A column of numbers below the product of its bases, which keeps a component for each base.
 #[derive(Drop)]
@@ -139,7 +138,7 @@ impl<E: Encoding> Column for Decomposed<E> {
         push_blocks(&mut self.components, &self.bases, &numbers[..block.len()]);
         let count = block.len() as u64;
         self.not_null
-            .push_word_reserved(mark_not_null(block), count);
+            .push_word_reserved(not_null_word(block), count);
         self.room -= count;
     }
 
@@ -161,19 +160,19 @@ impl<E: Encoding> Column for Decomposed<E> {
         self.number_of_rank(found, rank)
     }
 
-    // It passes once over the components, and takes no memory, where each works on blocks.
+    // It passes once over the components, and takes no memory, where each works on spans.
     fn least(&self, found: &Bits) -> Result<Option<u64>, NoMemory> {
         match self.end_found(found, End::Least) {
             Ok(answer) => Ok(answer),
-            Err(NoBlocks) => self.order_statistic(found, OrderStatistic::Least),
+            Err(NoSpans) => self.order_statistic(found, OrderStatistic::Least),
         }
     }
 
-    // It passes once over the components, and takes no memory, where each works on blocks.
+    // It passes once over the components, and takes no memory, where each works on spans.
     fn greatest(&self, found: &Bits) -> Result<Option<u64>, NoMemory> {
         match self.end_found(found, End::Greatest) {
             Ok(answer) => Ok(answer),
-            Err(NoBlocks) => self.order_statistic(found, OrderStatistic::Greatest),
+            Err(NoSpans) => self.order_statistic(found, OrderStatistic::Greatest),
         }
     }
 

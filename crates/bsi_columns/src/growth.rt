@@ -7,7 +7,7 @@ ghost use Rattle.bsi_columns.specs.Decomposed.{AreQuotients};
 
 use crate::{Encoding, NoMemory};
 use bsi_bits::MAX_BLOCK;
-use bsi_digits::Bases;
+use bsi_digits::{Bases, DigitStep};
 
 /// Makes room for `more` further digits in each component. Whatever the result, the digits stay and no component has
 /// less room than before.
@@ -60,7 +60,7 @@ pub(crate) fn push_digits<E: Encoding>(components: &mut Vec<E>, bases: &Bases, n
     // What is left of the number above the digits that were appended.
     let mut rest = number;
     for i in 0..bases.len() {
-        let (digit, above) = bases.next_digit(number, i, rest);
+        let DigitStep { digit, above } = bases.next_digit(number, i, rest);
         components[i as usize].push_reserved(digit);
         rest = above;
     }
@@ -109,8 +109,8 @@ pub(crate) fn push_all_digits<E: Encoding>(components: &mut Vec<E>, others: &[E]
         ≤ slice_index (map E.room_of components.new.items) i
         + length (slice_index_or (map E.digits others.now) i []) }
 {
-    for i in 0..components.len() {
-        components[i].push_all_reserved(&others[i]);
+    for (i, other) in others.iter().enumerate() {
+        components[i].push_all_reserved(other);
     }
 }
 
@@ -168,8 +168,8 @@ fn write_digits(
         split_rests(places, rests, digits);
         return;
     }
-    for r in 0..numbers.len() {
-        let (digit, above) = bases.next_digit(numbers[r], i, rests[r]);
+    for (r, number) in numbers.iter().enumerate() {
+        let DigitStep { digit, above } = bases.next_digit(*number, i, rests[r]);
         digits[r] = digit;
         rests[r] = above;
     }

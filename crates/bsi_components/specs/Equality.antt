@@ -2,7 +2,7 @@
 use Rattle.std.specs.Prelude.{◌≡◌, ℕ, ◌+◌, ◌-◌, ◌<◌, ◌≤◌, ◌==◌, ◌&&◌, Bool, nat_le, nat_lt, List, length, slice_index, if◌then◌else◌}
 use Rattle.bsi_bits.specs.BitList.{BitList}
 use Rattle.bsi_words.specs.Places.{IsCount, IsEncoded, then_places}
-use Rattle.bsi_digits.specs.Digits.{max_base}
+use Rattle.bsi_digits.specs.Digits.{max_base, min_base}
 use Rattle.bsi_components.specs.Bitmaps.{digits_by, first_set, kept_places}
 
 -- the first digit that has a bitmap: base 2 stores that of digit 1 alone
@@ -17,7 +17,7 @@ equality_digits base bitmaps = digits_by (first_set 0 (first_stored base)) bitma
 pub record IsEquality (base : ℕ) (bitmaps : List BitList) (digits : List ℕ) : Type 0 where
   pub count : IsCount base (base - first_stored base) (length bitmaps)
   pub many : length bitmaps ≡ base - first_stored base + kept_places base
-  pub least : 2 ≤ base
+  pub least : min_base ≤ base
   pub most : base ≤ max_base
   pub below : (k : ℕ) → slice_index digits k < base
   pub encoded : IsEncoded (then_places (base - first_stored base) (λ j v. v == first_stored base + j)) bitmaps digits

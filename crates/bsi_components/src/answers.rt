@@ -1,4 +1,4 @@
-//! What a component answers of the digits of found rows: the digit of a rank, and the least or greatest of a block.
+//! What a component answers of the digits of found rows: the digit of a rank, and the least or greatest of a span.
 
 /// A digit, and a rank, from 0, among the rows that have it.
 #[derive(Clone, Copy, Debug, PartialEq, Eq)]
@@ -14,8 +14,8 @@ pub struct RankedDigit {
 pub enum EndDigit {
     /// Nothing, since the encoding works on whole vectors alone.
     Unanswered,
-    /// That each of the rows has a digit past the limit.
+    /// That each of the rows has a digit past the bound.
     Past,
-    /// The digit, which is within the limit.
+    /// The digit, which is within the bound.
     Digit(u32),
 }

@@ -5,8 +5,8 @@ ghost use Rattle.std.specs.List.{items_where_true};
 ghost use Rattle.std.specs.Bool.{OnTrue, OnFalse};
 ghost use Rattle.bsi_bits.specs.BitList.{max_block, max_len, word_count};
 ghost use Rattle.bsi_bits.specs.Packed.{bit_of};
-ghost use Rattle.bsi_bits.specs.Marked.{HasMarked};
-ghost use Rattle.bsi_digits.specs.Digits.{max_base};
+ghost use Rattle.bsi_bits.specs.SetRows.{HasRow};
+ghost use Rattle.bsi_digits.specs.Digits.{IsBase};
 ghost use Rattle.bsi_words.specs.Ranks.{IsRankedRows};
 ghost use Rattle.bsi_components.specs.Component.{at_most_from, count_where};
 ghost use Rattle.bsi_components.specs.EndDigits.{AnswersLeast, AnswersGreatest};
@@ -28,18 +28,18 @@ pub trait Encoding: Drop {
     /// How many more digits there is room for: to append these takes no memory.
     ghost room_of: { Self → ℕ };
 
-    /// Whether the calls on blocks of words are done. An encoding without them works on whole vectors alone.
-    ghost works_on_blocks: { Bool };
+    /// Whether the calls on spans are done. An encoding without them works on whole vectors alone.
+    ghost works_on_spans: { Bool };
 
     /// Makes an empty component of a base from 2 to 1,024.
     fn make(alloc: Global, base: u32) -> Result<Self, NoMemory>
-        requires { (2 ≤ base) × (base ≤ max_base) }
+        requires { IsBase base }
         ensures { IfOk result (λ c. (digits c ≡ []) × (base_of c ≡ base)) };
 
     /// Returns the base, from 2 to 1,024.
     fn base(&self) -> u32
         ensures base { result ≡ base_of self.now }
-        ensures within { (2 ≤ result) × (result ≤ max_base) }
+        ensures within { IsBase result }
         ensures below { (k : ℕ) → slice_index (digits self.now) k < base_of self.now };
 
     /// Returns the number of rows, at most 2^32.
@@ -198,86 +198,86 @@ pub trait Encoding: Drop {
         ensures { IfOk result (λ c. (digits c ≡ digits self.now)
             × (base_of c ≡ base_of self.now)) };
 
-    /// Clears in a block of words the rows whose digit is not `d`. The words stand for the rows from `64 * at` on. It
+    /// Clears in a span of words the rows whose digit is not `d`. The words stand for the rows from `64 * at` on. It
     /// returns `false`, and does nothing, if the encoding works on whole vectors alone.
-    fn eq_block(&self, d: u32, at: usize, block: &mut [u64]) -> bool
+    fn eq_span(&self, d: u32, at: usize, span: &mut [u64]) -> bool
         requires below { d < base_of self.now }
-        requires within { at + length block.old ≤ word_count (length (digits self.now)) }
-        ensures done { IsTrue works_on_blocks → IsTrue result }
-        ensures kept { OnFalse result (block.new ≡ block.old) }
-        ensures bits { OnTrue result ((p : ℕ) → p < 64 * length block.old →
+        requires within { at + length span.old ≤ word_count (length (digits self.now)) }
+        ensures done { IsTrue works_on_spans → IsTrue result }
+        ensures kept { OnFalse result (span.new ≡ span.old) }
+        ensures bits { OnTrue result ((p : ℕ) → p < 64 * length span.old →
             64 * at + p < length (digits self.now) →
-            bit_of block.new p ≡ (bit_of block.old p
+            bit_of span.new p ≡ (bit_of span.old p
             && (slice_index (digits self.now) (64 * at + p) == d))) };
 
-    /// Sets in a block of words the rows whose digit is below `d`, and clears those whose digit is above. The words
+    /// Sets in a span of words the rows whose digit is below `d`, and clears those whose digit is above. The words
     /// stand for the rows from `64 * at` on. Where a bit told whether a row's digits of the lower places are at most
     /// those of a constant, it then tells so of the digits up to this one. It returns `false`, and does nothing, if
     /// the encoding works on whole vectors alone.
-    fn le_block(&self, d: u32, at: usize, block: &mut [u64]) -> bool
+    fn le_span(&self, d: u32, at: usize, span: &mut [u64]) -> bool
         requires below { d < base_of self.now }
-        requires within { at + length block.old ≤ word_count (length (digits self.now)) }
-        ensures done { IsTrue works_on_blocks → IsTrue result }
-        ensures kept { OnFalse result (block.new ≡ block.old) }
-        ensures bits { OnTrue result ((p : ℕ) → p < 64 * length block.old →
+        requires within { at + length span.old ≤ word_count (length (digits self.now)) }
+        ensures done { IsTrue works_on_spans → IsTrue result }
+        ensures kept { OnFalse result (span.new ≡ span.old) }
+        ensures bits { OnTrue result ((p : ℕ) → p < 64 * length span.old →
             64 * at + p < length (digits self.now) →
-            bit_of block.new p ≡ at_most_from (bit_of block.old p)
+            bit_of span.new p ≡ at_most_from (bit_of span.old p)
             (slice_index (digits self.now) (64 * at + p)) d) };
 
-    /// Writes into a block of words whether the digit of each row is `d`. The words stand for the rows from `64 * at`
+    /// Writes into a span of words whether the digit of each row is `d`. The words stand for the rows from `64 * at`
     /// on. It returns `false` if the encoding works on whole vectors alone, and the words are then unspecified. The
-    /// provided body fills the block with ones and calls `eq_block`.
-    fn eq_block_into(&self, d: u32, at: usize, block: &mut [u64]) -> bool
+    /// provided body fills the span with ones and calls `eq_span`.
+    fn eq_span_into(&self, d: u32, at: usize, span: &mut [u64]) -> bool
         requires below { d < base_of self.now }
-        requires within { at + length block.old ≤ word_count (length (digits self.now)) }
-        ensures done { IsTrue works_on_blocks → IsTrue result }
-        ensures bits { OnTrue result ((p : ℕ) → p < 64 * length block.old →
+        requires within { at + length span.old ≤ word_count (length (digits self.now)) }
+        ensures done { IsTrue works_on_spans → IsTrue result }
+        ensures bits { OnTrue result ((p : ℕ) → p < 64 * length span.old →
             64 * at + p < length (digits self.now) →
-            bit_of block.new p ≡ (slice_index (digits self.now) (64 * at + p) == d)) }
+            bit_of span.new p ≡ (slice_index (digits self.now) (64 * at + p) == d)) }
     {
-        block.fill(u64::MAX);
-        self.eq_block(d, at, block)
+        span.fill(u64::MAX);
+        self.eq_span(d, at, span)
     }
 
-    /// Writes into a block of words whether the digit of each row is at most `d`. The words stand for the rows from
+    /// Writes into a span of words whether the digit of each row is at most `d`. The words stand for the rows from
     /// `64 * at` on. It returns `false` if the encoding works on whole vectors alone, and the words are then
-    /// unspecified. The provided body fills the block with ones and calls `le_block`.
-    fn le_block_into(&self, d: u32, at: usize, block: &mut [u64]) -> bool
+    /// unspecified. The provided body fills the span with ones and calls `le_span`.
+    fn le_span_into(&self, d: u32, at: usize, span: &mut [u64]) -> bool
         requires below { d < base_of self.now }
-        requires within { at + length block.old ≤ word_count (length (digits self.now)) }
-        ensures done { IsTrue works_on_blocks → IsTrue result }
-        ensures bits { OnTrue result ((p : ℕ) → p < 64 * length block.old →
+        requires within { at + length span.old ≤ word_count (length (digits self.now)) }
+        ensures done { IsTrue works_on_spans → IsTrue result }
+        ensures bits { OnTrue result ((p : ℕ) → p < 64 * length span.old →
             64 * at + p < length (digits self.now) →
-            bit_of block.new p ≡ nat_le (slice_index (digits self.now) (64 * at + p)) d) }
+            bit_of span.new p ≡ nat_le (slice_index (digits self.now) (64 * at + p)) d) }
     {
-        block.fill(u64::MAX);
-        self.le_block(d, at, block)
+        span.fill(u64::MAX);
+        self.le_span(d, at, span)
     }
 
-    /// Returns the least digit of the rows that a block of words has, if it is at most `limit`. The words stand for
+    /// Returns the least digit of the rows that a span of words has, if it is at most `bound`. The words stand for
     /// the rows from `64 * at` on, and have no row past the last one. The provided body gives no answer.
-    fn least_in_block(&self, limit: u32, at: usize, block: &[u64]) -> EndDigit
-        requires below { limit < base_of self.now }
-        requires within { at + length block.now ≤ word_count (length (digits self.now)) }
-        requires rows { (p : ℕ) → p < 64 * length block.now → bit_of block.now p ≡ true →
+    fn least_in_span(&self, bound: u32, at: usize, span: &[u64]) -> EndDigit
+        requires below { bound < base_of self.now }
+        requires within { at + length span.now ≤ word_count (length (digits self.now)) }
+        requires rows { (p : ℕ) → p < 64 * length span.now → bit_of span.now p ≡ true →
             64 * at + p < length (digits self.now) }
-        requires some { HasMarked (bit_of block.now) (64 * length block.now) }
-        ensures answer { AnswersLeast limit (bit_of block.now)
-            (λ p. slice_index (digits self.now) (64 * at + p)) (64 * length block.now) result }
+        requires some { HasRow (bit_of span.now) (64 * length span.now) }
+        ensures answer { AnswersLeast bound (bit_of span.now)
+            (λ p. slice_index (digits self.now) (64 * at + p)) (64 * length span.now) result }
     {
         EndDigit::Unanswered
     }
 
-    /// Returns the greatest digit of the rows that a block of words has, if it is at least `limit`. The words stand
+    /// Returns the greatest digit of the rows that a span of words has, if it is at least `bound`. The words stand
     /// for the rows from `64 * at` on, and have no row past the last one. The provided body gives no answer.
-    fn greatest_in_block(&self, limit: u32, at: usize, block: &[u64]) -> EndDigit
-        requires below { limit < base_of self.now }
-        requires within { at + length block.now ≤ word_count (length (digits self.now)) }
-        requires rows { (p : ℕ) → p < 64 * length block.now → bit_of block.now p ≡ true →
+    fn greatest_in_span(&self, bound: u32, at: usize, span: &[u64]) -> EndDigit
+        requires below { bound < base_of self.now }
+        requires within { at + length span.now ≤ word_count (length (digits self.now)) }
+        requires rows { (p : ℕ) → p < 64 * length span.now → bit_of span.now p ≡ true →
             64 * at + p < length (digits self.now) }
-        requires some { HasMarked (bit_of block.now) (64 * length block.now) }
-        ensures answer { AnswersGreatest limit (bit_of block.now)
-            (λ p. slice_index (digits self.now) (64 * at + p)) (64 * length block.now) result }
+        requires some { HasRow (bit_of span.now) (64 * length span.now) }
+        ensures answer { AnswersGreatest bound (bit_of span.now)
+            (λ p. slice_index (digits self.now) (64 * at + p)) (64 * length span.now) result }
     {
         EndDigit::Unanswered
     }

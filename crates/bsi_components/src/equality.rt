@@ -8,15 +8,15 @@ ghost use Rattle.std.specs.Prelude.{◌≡◌, ◌≢◌, ℕ, ◌+◌, ◌-◌,
 ghost use Rattle.bsi_bits.specs.BitList.{max_block, word_count};
 ghost use Rattle.bsi_bits.specs.BitLists.{bits_at};
 ghost use Rattle.bsi_bits.specs.Packed.{bit_of};
-ghost use Rattle.bsi_bits.specs.Marked.{HasMarked};
+ghost use Rattle.bsi_bits.specs.SetRows.{HasRow};
 ghost use Rattle.bsi_digits.specs.Digits.{max_base};
 ghost use Rattle.bsi_words.specs.Places.{has_place, max_digit_places, then_places, IsCount, IsEncoded};
 ghost use Rattle.bsi_components.specs.Equality.{first_stored, is_among};
 
 use crate::encoding::Encoding;
 use bsi_bits::{Bitmaps, Bits};
-use bsi_words::blocks::{add_in, drop_in, exceeds, meets};
 use bsi_words::marks::{MAX_MARK_WORDS, MAX_SPREAD_WORDS, mark_digits};
+use bsi_words::spans::{add_in, drop_in, exceeds, meets};
 use std::marker::Model;
 
 mod counts;
@@ -143,52 +143,52 @@ impl EqualityComponent {
         }
     }
 
-    /// Returns whether a row of a block has the digit `d`.
-    fn has_digit(&self, d: u32, at: usize, block: &[u64]) -> bool
+    /// Returns whether a row of a span has the digit `d`.
+    fn has_digit(&self, d: u32, at: usize, span: &[u64]) -> bool
         requires below { d < self.now.base }
-        requires within { at + length block.now ≤ word_count (length self.now.digits) }
-        requires rows { (p : ℕ) → p < 64 * length block.now → bit_of block.now p ≡ true →
+        requires within { at + length span.now ≤ word_count (length self.now.digits) }
+        requires rows { (p : ℕ) → p < 64 * length span.now → bit_of span.now p ≡ true →
             64 * at + p < length self.now.digits }
         ensures some { IsTrue result →
-            HasMarked (λ p. bit_of block.now p
-            && (slice_index self.now.digits (64 * at + p) == d)) (64 * length block.now) }
-        ensures none { IsFalse result → (p : ℕ) → p < 64 * length block.now →
-            bit_of block.now p ≡ true → slice_index self.now.digits (64 * at + p) ≢ d }
+            HasRow (λ p. bit_of span.now p
+            && (slice_index self.now.digits (64 * at + p) == d)) (64 * length span.now) }
+        ensures none { IsFalse result → (p : ℕ) → p < 64 * length span.now →
+            bit_of span.now p ≡ true → slice_index self.now.digits (64 * at + p) ≢ d }
     {
         if self.is_stored(d) {
-            meets(self.bitmap(d), at, block)
+            meets(self.bitmap(d), at, span)
         } else {
-            exceeds(self.bitmap(1), at, block)
+            exceeds(self.bitmap(1), at, span)
         }
     }
 
-    /// Sets in a block the rows whose digit is from `from` on and below `to`.
-    fn add_among(&self, from: u32, to: u32, at: usize, block: &mut [u64])
+    /// Sets in a span the rows whose digit is from `from` on and below `to`.
+    fn add_among(&self, from: u32, to: u32, at: usize, span: &mut [u64])
         requires within { (from ≤ to) × (to ≤ self.now.base) }
         requires stored { self.now.base ≢ 2 }
-        requires rows { at + length block.old ≤ word_count (length self.now.digits) }
-        ensures len { length block.new ≡ length block.old }
-        ensures bits { (p : ℕ) → p < 64 * length block.old → 64 * at + p < length self.now.digits →
-            bit_of block.new p ≡ (bit_of block.old p
+        requires rows { at + length span.old ≤ word_count (length self.now.digits) }
+        ensures len { length span.new ≡ length span.old }
+        ensures bits { (p : ℕ) → p < 64 * length span.old → 64 * at + p < length self.now.digits →
+            bit_of span.new p ≡ (bit_of span.old p
             || is_among from to (slice_index self.now.digits (64 * at + p))) }
     {
         'digits: for j in from..to {
-            add_in(self.bitmap(j), at, block);
+            add_in(self.bitmap(j), at, span);
         }
     }
 
-    /// Clears in a block the rows whose digit is from `from` on and below `to`.
-    fn drop_among(&self, from: u32, to: u32, at: usize, block: &mut [u64])
+    /// Clears in a span the rows whose digit is from `from` on and below `to`.
+    fn drop_among(&self, from: u32, to: u32, at: usize, span: &mut [u64])
         requires within { (from ≤ to) × (to ≤ self.now.base) }
         requires stored { self.now.base ≢ 2 }
-        requires rows { at + length block.old ≤ word_count (length self.now.digits) }
-        ensures len { length block.new ≡ length block.old }
-        ensures bits { (p : ℕ) → p < 64 * length block.old → 64 * at + p < length self.now.digits →
-            bit_of block.new p ≡ (bit_of block.old p
+        requires rows { at + length span.old ≤ word_count (length self.now.digits) }
+        ensures len { length span.new ≡ length span.old }
+        ensures bits { (p : ℕ) → p < 64 * length span.old → 64 * at + p < length self.now.digits →
+            bit_of span.new p ≡ (bit_of span.old p
             && not (is_among from to (slice_index self.now.digits (64 * at + p)))) }
     {
         'digits: for j in from..to {
-            drop_in(self.bitmap(j), at, block);
+            drop_in(self.bitmap(j), at, span);
         }
     }
 }

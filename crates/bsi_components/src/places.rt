@@ -5,7 +5,7 @@
 
 ghost use Rattle.std.specs.Prelude.{◌≡◌, ℕ, ◌+◌, ◌-◌, ◌<◌, ◌≤◌, ◌^◌, ◌&&◌, Bool, List, false, [], ◌∷◌, ◌++◌, length, nat_le, nat_lt};
 ghost use Rattle.bsi_bits.specs.BitLists.{bits_at};
-ghost use Rattle.bsi_digits.specs.Digits.{max_base};
+ghost use Rattle.bsi_digits.specs.Digits.{IsBase};
 ghost use Rattle.bsi_words.specs.Places.{has_place, max_digit_places, min_base_with_places, then_places};
 ghost use Rattle.bsi_components.specs.Bitmaps.{kept_places};
 
@@ -16,7 +16,7 @@ const MIN_BASE_WITH_PLACES: u32 = 4;
 
 /// Returns how many binary places of its digits a component of a base keeps: as many as they take, or none.
 pub(crate) fn kept_places(base: u32) -> usize
-    requires { (2 ≤ base) × (base ≤ max_base) }
+    requires { IsBase base }
     ensures kept { result ≡ kept_places base }
     ensures few { result ≤ max_digit_places }
     ensures enough { 0 < result → base ≤ 2 ^ result }

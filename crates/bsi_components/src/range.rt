@@ -9,13 +9,13 @@ ghost use Rattle.std.specs.List.{items_where_true};
 ghost use Rattle.bsi_bits.specs.BitList.{max_block, word_count};
 ghost use Rattle.bsi_bits.specs.BitLists.{bits_at};
 ghost use Rattle.bsi_bits.specs.Packed.{bit_of};
-ghost use Rattle.bsi_bits.specs.Marked.{HasMarked};
-ghost use Rattle.bsi_digits.specs.Digits.{max_base};
+ghost use Rattle.bsi_bits.specs.SetRows.{HasRow};
+ghost use Rattle.bsi_digits.specs.Digits.{max_base, min_base};
 ghost use Rattle.bsi_words.specs.Places.{has_place, max_digit_places, then_places, IsCount, IsEncoded};
 
 use bsi_bits::{Bitmaps, Bits};
-use bsi_words::blocks::{exceeds, meets};
 use bsi_words::marks::{MAX_MARK_WORDS, MAX_SPREAD_WORDS, mark_below, mark_digits};
+use bsi_words::spans::{exceeds, meets};
 use std::marker::Model;
 
 mod encoding;
@@ -48,7 +48,7 @@ impl Model for RangeComponent {
 fn push_marked(bitmaps: &mut Bitmaps, base: u32, block: &[u32], words: &mut [u64])
     requires long { length words.old ≡ 1 + length bitmaps.old.vectors }
     requires clear { (j : ℕ) → slice_index words.old j ≡ 0 }
-    requires least { 2 ≤ base }
+    requires least { min_base ≤ base }
     requires places { IsCount base (base - 1) (length bitmaps.old.vectors) }
     requires few { length block.now ≤ max_block }
     requires room { length block.now ≤ bitmaps.old.room }
@@ -66,7 +66,7 @@ fn push_marked(bitmaps: &mut Bitmaps, base: u32, block: &[u32], words: &mut [u64
 
 /// Appends a block of digits below a base to the vectors.
 fn push_block(bitmaps: &mut Bitmaps, base: u32, block: &[u32])
-    requires least { 2 ≤ base }
+    requires least { min_base ≤ base }
     requires small { base ≤ max_base }
     requires places { IsCount base (base - 1) (length bitmaps.old.vectors) }
     requires few { length block.now ≤ max_block }
@@ -97,34 +97,34 @@ impl RangeComponent {
         &self.bitmaps.as_slice()[j as usize]
     }
 
-    /// Returns whether a row of a block has a digit of at most `d`.
-    fn has_upto(&self, d: u32, at: usize, block: &[u64]) -> bool
+    /// Returns whether a row of a span has a digit of at most `d`.
+    fn has_upto(&self, d: u32, at: usize, span: &[u64]) -> bool
         requires below { d + 1 < self.now.base }
-        requires within { at + length block.now ≤ word_count (length self.now.digits) }
-        requires rows { (p : ℕ) → p < 64 * length block.now → bit_of block.now p ≡ true →
+        requires within { at + length span.now ≤ word_count (length self.now.digits) }
+        requires rows { (p : ℕ) → p < 64 * length span.now → bit_of span.now p ≡ true →
             64 * at + p < length self.now.digits }
         ensures some { IsTrue result →
-            HasMarked (λ p. bit_of block.now p
-            && nat_le (slice_index self.now.digits (64 * at + p)) d) (64 * length block.now) }
-        ensures none { IsFalse result → (p : ℕ) → p < 64 * length block.now →
-            bit_of block.now p ≡ true → d < slice_index self.now.digits (64 * at + p) }
+            HasRow (λ p. bit_of span.now p
+            && nat_le (slice_index self.now.digits (64 * at + p)) d) (64 * length span.now) }
+        ensures none { IsFalse result → (p : ℕ) → p < 64 * length span.now →
+            bit_of span.now p ≡ true → d < slice_index self.now.digits (64 * at + p) }
     {
-        meets(self.bitmap(d), at, block)
+        meets(self.bitmap(d), at, span)
     }
 
-    /// Returns whether a row of a block has a digit above `d`.
-    fn has_above(&self, d: u32, at: usize, block: &[u64]) -> bool
+    /// Returns whether a row of a span has a digit above `d`.
+    fn has_above(&self, d: u32, at: usize, span: &[u64]) -> bool
         requires below { d + 1 < self.now.base }
-        requires within { at + length block.now ≤ word_count (length self.now.digits) }
-        requires rows { (p : ℕ) → p < 64 * length block.now → bit_of block.now p ≡ true →
+        requires within { at + length span.now ≤ word_count (length self.now.digits) }
+        requires rows { (p : ℕ) → p < 64 * length span.now → bit_of span.now p ≡ true →
             64 * at + p < length self.now.digits }
         ensures some { IsTrue result →
-            HasMarked (λ p. bit_of block.now p
-            && nat_lt d (slice_index self.now.digits (64 * at + p))) (64 * length block.now) }
-        ensures none { IsFalse result → (p : ℕ) → p < 64 * length block.now →
-            bit_of block.now p ≡ true → slice_index self.now.digits (64 * at + p) ≤ d }
+            HasRow (λ p. bit_of span.now p
+            && nat_lt d (slice_index self.now.digits (64 * at + p))) (64 * length span.now) }
+        ensures none { IsFalse result → (p : ℕ) → p < 64 * length span.now →
+            bit_of span.now p ≡ true → slice_index self.now.digits (64 * at + p) ≤ d }
     {
-        exceeds(self.bitmap(d), at, block)
+        exceeds(self.bitmap(d), at, span)
     }
 
     /// Returns the greatest digit.

@@ -36,6 +36,10 @@ digits_of bs v = map (digit_of bs v) (components bs)
 abbrev pub max_bases : ℕ
 max_bases = 63
 
+-- the least base of a list
+abbrev pub min_base : ℕ
+min_base = 2
+
 -- the greatest base of a list
 abbrev pub max_base : ℕ
 max_base = 1024
@@ -53,7 +57,7 @@ abbrev pub max_end : ℕ
 max_end = 2 ^ 63
 
 abbrev pub IsBase : ℕ → Type 0
-IsBase b = (2 ≤ b) × (b ≤ max_base)
+IsBase b = (min_base ≤ b) × (b ≤ max_base)
 
 -- the lists of bases that are accepted
 pub record IsBaseList (bs : List ℕ) : Type 0 where

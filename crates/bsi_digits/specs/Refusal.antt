@@ -2,10 +2,10 @@
 use Rattle.std.specs.Prelude.{◌≡◌, ℕ, Bool, ◌||◌, List, length, Option, Some, None, position, sum, nat_eq, nat_lt, if◌then◌else◌}
 use Rattle.bsi_digits.specs.declared.bases_error.BasesError.{BasesError}
 use Rattle.bsi_digits.specs.declared.bases_error.BasesError.TheVariants.{Empty, TooMany, BaseOutOfRange, TooWide, ProductTooLarge}
-use Rattle.bsi_digits.specs.Digits.{max_base, max_bases, max_size, max_sum, product}
+use Rattle.bsi_digits.specs.Digits.{max_base, max_bases, max_size, max_sum, min_base, product}
 
 abbrev pub is_bad_base : ℕ → Bool
-is_bad_base b = nat_lt b 2 || nat_lt max_base b
+is_bad_base b = nat_lt b min_base || nat_lt max_base b
 
 -- the first refusal of bases of which the first that is out of range stands at this place
 abbrev pub refusal_by_place : Option ℕ → List ℕ → Option BasesError

@@ -17,8 +17,8 @@ const MAX_BASES: usize = 63;
 /// The least base of a list.
 const MIN_BASE: u32 = 2;
 
-/// The greatest base of a list.
-const MAX_BASE: u32 = 1024;
+/// The greatest base of a list, as a `u32` like each base. Each digit is below it.
+pub const MAX_BASE: u32 = 1024;
 
 /// The greatest sum of a list's bases.
 const MAX_SUM: u64 = 4096;
@@ -32,6 +32,15 @@ const MAX_SIZE: u64 = 1 << 63;
 pub struct Bases {
     bases: Vec<u32>,
     weights: [Divisor; MAX_BASES + 1],
+}
+
+/// A digit of a number, and what is left above it.
+#[derive(Clone, Copy, Debug)]
+pub struct DigitStep {
+    /// The digit of the component.
+    pub digit: u32,
+    /// The quotient of the number by the weight of the next component.
+    pub above: u64,
 }
 
 impl Model for Bases {
@@ -141,23 +150,25 @@ impl Bases {
         ensures below { result < slice_index self.now i }
     {
         let from_here = self.divisor(i as usize).quotient(v);
-        let (digit, _) = self.next_digit(v, i, from_here);
-        digit
+        self.next_digit(v, i, from_here).digit
     }
 
-    /// Returns the digit of component `i` of `v`, where `from_here` is the quotient of `v` by the weight of that
-    /// component, and then the quotient by the weight of the next one. It costs one multiplication less than `digit`.
-    pub fn next_digit(&self, v: u64, i: u32, from_here: u64) -> (u32, u64)
+    /// Returns the digit of component `i` of `v`, and what is left of `v` above it. `from_here` is the quotient of `v`
+    /// by the weight of that component. It costs one multiplication less than `digit`.
+    pub fn next_digit(&self, v: u64, i: u32, from_here: u64) -> DigitStep
         requires within { i < length self.now }
         requires below { v < product self.now }
         requires from { from_here ≡ v / weight self.now i }
-        ensures digit { result.0 ≡ digit_of self.now v i }
-        ensures below { result.0 < slice_index self.now i }
-        ensures above { result.1 ≡ v / weight self.now (i + 1) }
+        ensures digit { result.digit ≡ digit_of self.now v i }
+        ensures below { result.digit < slice_index self.now i }
+        ensures above { result.above ≡ v / weight self.now (i + 1) }
     {
         let above = self.divisor(i as usize + 1).quotient(v);
         let digit = from_here - above * u64::from(self.base(i));
-        (digit as u32, above)
+        DigitStep {
+            digit: digit as u32,
+            above,
+        }
     }
 
     /// Returns the weight of a digit of component `i`: the product of the bases below it.
@@ -189,7 +200,7 @@ fn bad_place(bases: &[u32]) -> Option<usize>
 {
     bases
         .iter()
-        .position(|base| *base < MIN_BASE || *base > MAX_BASE)
+        .position(|base| !(MIN_BASE..=MAX_BASE).contains(base))
 }
 
 /// Returns the sum of the bases.

@@ -1,4 +1,5 @@
-//! The laws of digits: functions that do nothing, each with a law for its contract.
+//! The laws of digits: functions that do nothing, each with a law for its contract, so that a law is checked as any contract
+//! is.
 ghost use Rattle.std.specs.Prelude.{◌≡◌, ℕ, ◌<◌, ◌↔◌, List, None, reverse, IsPermutation};
 ghost use Rattle.std.specs.Ordering.{nat_cmp};
 ghost use Rattle.std.specs.Cmp.Lexicographic.{slice_cmp};

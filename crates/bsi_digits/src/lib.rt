@@ -6,6 +6,6 @@ mod bases_error;
 mod divisor;
 pub mod laws;
 
-pub use bases::Bases;
+pub use bases::{Bases, DigitStep, MAX_BASE};
 pub use bases_error::BasesError;
 pub use std::alloc::AllocError as NoMemory;

@@ -26,6 +26,7 @@ use Rattle.bsi_files.specs.declared.faults.FilesFault.{FilesFault}
 use Rattle.bsi_files.specs.declared.faults.FilesFault.TheVariants.{Read, TooLong, NoMemory, Write}
 use Rattle.bsi_files.specs.declared.faults.Which.TheVariants.{AsksFile}
 use Rattle.bsi_files.specs.Matching.{AreMatched}
+use Rattle.bsi_files.specs.RowFiles.{FedCounts}
 use Rattle.bsi_files.specs.Runs.{fed_lines, AreLines}
 use Rattle.bsi_files.specs.Writing.{AreOut, Leaves, WritesAll, WritesFirst}
 
@@ -162,7 +163,7 @@ module _ (Is : List Field → List ℕ → Type 0) {R : Type 0} (rem : R → Opt
 
 -- ---- the lines of the feeders stand before them
 
-module _ (schema : Declared) (rows : List FedRow) (counts : List (ℕ × ℕ)) (bytes : List ℕ) (before middle after : Option (List ℕ)) where
+module _ (schema : Declared) (rows : List FedRow) (counts : List FedCounts) (bytes : List ℕ) (before middle after : Option (List ℕ)) where
   pub headed_all : Appends before middle (concat (fed_lines 0 counts)) → WritesAll (AreMatched (IsAskLine schema rows)) bytes middle after
       → WritesAll (AreLines schema rows counts) bytes before after
   headed_all written all = record {
@@ -190,7 +191,7 @@ module _ (schema : Declared) (rows : List FedRow) (counts : List (ℕ × ℕ)) (
   }
 
 -- some lines of the feeders alone
-pub head_part : (schema : Declared) (rows : List FedRow) (counts : List (ℕ × ℕ)) (bytes : List ℕ) (before after : Option (List ℕ)) (fault : FilesFault)
+pub head_part : (schema : Declared) (rows : List FedRow) (counts : List FedCounts) (bytes : List ℕ) (before after : Option (List ℕ)) (fault : FilesFault)
     → fault ≢ TooLong AsksFile → AreOut fault (fed_lines 0 counts) before after → WritesFirst (AreLines schema rows counts) bytes fault before after
 unfolding Reached
 head_part schema rows counts bytes before after fault short out = record {

@@ -6,7 +6,8 @@ use Rattle.std.proofs.lemmas.List.Elements.{All-nil, All-head, All-tail}
 use Rattle.bsi_records.proofs.Spelling.{query_is_there, same_query}
 use Rattle.bsi_records.specs.Lines.{answer_line, ask_line, no_memory_line, rows_text}
 use Rattle.bsi_records.specs.Numbers.{Field}
-use Rattle.bsi_records.specs.Setups.{table_after}
+use Rattle.bsi_records.specs.Setups.{table_after, undeclared_table}
+use Rattle.bsi_records.specs.declared.setups.DeclaredTable.{DeclaredTable}
 use Rattle.bsi_origins.specs.Numbering.{numbered_at}
 use Rattle.bsi_table.specs.Answers.{missing_column, IsAnswer, IsTotal}
 use Rattle.bsi_table.specs.Columns.{AreNamed, Declared}
@@ -18,14 +19,14 @@ use Rattle.bsi_table.specs.declared.query.Answer.TheVariants.{Count as count_ans
 use Rattle.bsi_table.specs.declared.query.Query.{Query}
 use Rattle.bsi_text.specs.Pasts.{FindMemory}
 use Rattle.bsi_text.specs.RowFiles.{bad_count, good_rows}
-use Rattle.bsi_text.specs.SchemaTexts.{none_declared, table_declared, Declares, IsSchemaText}
+use Rattle.bsi_text.specs.SchemaTexts.{table_declared, Declares, IsSchemaText}
 use Rattle.bsi_text.specs.Texts.{AreAllRecords}
 use Rattle.bsi_text.proofs.Determined.{same_selected, same_total}
 use Rattle.bsi_text.proofs.Named.{table_named}
-use Rattle.bsi_files.specs.AskLines.{IsAskLine, IsShownAnswer, IsShownReply}
+use Rattle.bsi_files.specs.AskLines.{IsAskLine, IsArrangedAnswer, IsArrangedReply}
 use Rattle.bsi_files.specs.Matching.{AreMatched}
 use Rattle.bsi_files.specs.Mixes.{file_by_file}
-use Rattle.bsi_files.specs.RowFiles.{file_counts, file_rows, IsRowFile, RowFile}
+use Rattle.bsi_files.specs.RowFiles.{file_counts, file_rows, FedCounts, IsRowFile, RowFile}
 use Rattle.bsi_files.specs.Runs.{fed_lines, AreLines, IsRun}
 use Rattle.bsi_files.proofs.Places.{one_sorting}
 
@@ -37,22 +38,22 @@ OneReading = (bytes : List ℕ) → (a b : List (List Field)) → AreAllRecords 
 some_same : {X : Type 0} (x y : X) → Some x ≡ Some y → x ≡ y
 some_same x y is = cc (is)
 
-one_table : OneReading → (bytes : List ℕ) (a b : Declared × ℕ) → Declares bytes a → Declares bytes b → a ≡ b
+one_table : OneReading → (bytes : List ℕ) (a b : DeclaredTable) → Declares bytes a → Declares bytes b → a ≡ b
 one_table reading bytes a b one two =
-    some_same a b (sym one.declared_is ∙ (ap (λ records. table_declared none_declared records) (reading bytes one.records two.records one.all two.all) ∙ two.declared_is))
+    some_same a b (sym one.declared_is ∙ (ap (λ records. table_declared undeclared_table records) (reading bytes one.records two.records one.all two.all) ∙ two.declared_is))
 
-named_all : (before after : Declared × ℕ) (records : List (List Field)) → AreNamed before.0.columns → table_declared before records ≡ Some after → AreNamed after.0.columns
-named_all before after [] named is = subst (λ (d : Declared × ℕ). AreNamed d.0.columns) (some_same before after is) named
+named_all : (before after : DeclaredTable) (records : List (List Field)) → AreNamed before.schema.columns → table_declared before records ≡ Some after → AreNamed after.schema.columns
+named_all before after [] named is = subst (λ (d : DeclaredTable). AreNamed d.schema.columns) (some_same before after is) named
 named_all before after (fields ∷ records) named is =
-    by (table_after before.0 before.1 fields) (table_named before.0 before.1 fields named) is (λ next now rest. named_all next after records now rest)
+    by (table_after before fields) (table_named before fields named) is (λ next now rest. named_all next after records now rest)
   where
-    by : (o : Option (Declared × ℕ)) → IfSome o (λ (d : Declared × ℕ). AreNamed d.0.columns) → option_and_then (λ next. table_declared next records) o ≡ Some after
-        → ((next : Declared × ℕ) → AreNamed next.0.columns → table_declared next records ≡ Some after → AreNamed after.0.columns) → AreNamed after.0.columns
+    by : (o : Option DeclaredTable) → IfSome o (λ (d : DeclaredTable). AreNamed d.schema.columns) → option_and_then (λ next. table_declared next records) o ≡ Some after
+        → ((next : DeclaredTable) → AreNamed next.schema.columns → table_declared next records ≡ Some after → AreNamed after.schema.columns) → AreNamed after.schema.columns
     by None now none go = absurd (cc (none))
     by (Some next) now rest go = go next now rest
 
 names_of : (bytes : List ℕ) (schema : Declared) (limit : ℕ) → IsSchemaText bytes schema limit → AreNamed schema.columns
-names_of bytes schema limit is = named_all none_declared (schema, limit) is.declares.records (All-nil _) is.declares.declared_is
+names_of bytes schema limit is = named_all undeclared_table (record { schema = schema; limit = limit }) is.declares.records (All-nil _) is.declares.declared_is
 
 -- ---- the row files
 
@@ -91,8 +92,8 @@ last_all (x ∷ xs) ys all = last_all xs ys (All-tail IsFound x (xs ++ ys) all)
 
 module _ (schema : Declared) (rows : List FedRow) where
   -- the answer, where memory was found and the columns are there
-  shown : (query : Query) (r : Result Answer AskError) → missing_column (length schema.columns) query ≡ None → IsShownReply schema rows query r
-      → ask_line r ≢ no_memory_line → (answer : Answer) × (r ≡ Ok answer) × IsShownAnswer query rows answer
+  shown : (query : Query) (r : Result Answer AskError) → missing_column (length schema.columns) query ≡ None → IsArrangedReply schema rows query r
+      → ask_line r ≢ no_memory_line → (answer : Answer) × (r ≡ Ok answer) × IsArrangedAnswer query rows answer
   shown query (Ok answer) there is found = (answer, refl, is.1)
   shown query (Err (ask.BadColumn c)) there is found = none_is_some c (sym there ∙ is.0)
   shown query (Err ask.NoMemory) there is found = absurd (found refl)
@@ -103,7 +104,7 @@ module _ (schema : Declared) (rows : List FedRow) where
     plain a b one two =
         same_total p.pred q.pred same rows q.total a b (subst (λ t. IsTotal t p.pred rows a) totals one) two
 
-    listed : (x y : Answer) → IsShownAnswer p rows x → IsShownAnswer q rows y → answer_line x ≡ answer_line y
+    listed : (x y : Answer) → IsArrangedAnswer p rows x → IsArrangedAnswer q rows y → answer_line x ≡ answer_line y
     listed (rows_answer x) (rows_answer y) one two =
         let chosen : selected p.pred rows ≡ selected q.pred rows = same_selected p.pred q.pred same rows in
         let sorted : IsPermutation (numbered_at (feeders_of rows) (selected q.pred rows)) x.items =
@@ -148,7 +149,7 @@ module _ (schema : Declared) (rows : List FedRow) where
         ap₂ (λ line lines. line ∷ lines) (one_line fields x y one.0 two.0 (All-head IsFound x a found_a) (All-head IsFound y b found_b))
         (each_line records a b one.1 two.1 (All-tail IsFound x a found_a) (All-tail IsFound y b found_b))
 
-    all_lines : (counts : List (ℕ × ℕ)) (records : List (List Field)) (a b : List (List ℕ)) → AreLines schema rows counts records a → AreLines schema rows counts records b
+    all_lines : (counts : List FedCounts) (records : List (List Field)) (a b : List (List ℕ)) → AreLines schema rows counts records a → AreLines schema rows counts records b
         → FindMemory a → FindMemory b → a ≡ b
     all_lines counts records a b one two found_a found_b =
         let feds = fed_lines 0 counts in
@@ -163,8 +164,8 @@ module _ (schema : Declared) (rows : List FedRow) where
 pub one_run : OneReading → (declared : List ℕ) (texts : List (List ℕ)) (records : List (List Field)) (a b : List (List ℕ)) → IsRun declared texts records a
     → IsRun declared texts records b → FindMemory a → FindMemory b → a ≡ b
 one_run reading declared texts records a b one two found_a found_b =
-    let table = one_table reading declared (one.schema, one.limit) (two.schema, two.limit) one.schema_is.declares two.schema_is.declares in
-    let schema : one.schema ≡ two.schema = ap (λ (d : Declared × ℕ). d.0) table in
+    let table = one_table reading declared (record { schema = one.schema; limit = one.limit }) (record { schema = two.schema; limit = two.limit }) one.schema_is.declares two.schema_is.declares in
+    let schema : one.schema ≡ two.schema = ap (λ (d : DeclaredTable). d.schema) table in
     let files : one.files ≡ two.files =
     one_files reading one.schema texts one.files two.files one.files_are (subst (λ d. AreMatched (IsRowFile d) texts two.files) (sym schema) two.files_are) in
     let lines : AreLines one.schema (file_by_file 0 (map file_rows one.files)) (map file_counts one.files) records b =

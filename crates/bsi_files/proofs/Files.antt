@@ -21,7 +21,7 @@ use Rattle.bsi_files.proofs.Mixing.{same_length}
 use Rattle.bsi_files.proofs.Showing.{file_by_file_too, lines_too}
 use Rattle.bsi_files.specs.Matching.{AreMatched}
 use Rattle.bsi_files.specs.Mixes.{file_by_file, IsMixOf}
-use Rattle.bsi_files.specs.RowFiles.{file_at, file_counts, file_rows, IsRowFile, RowFile}
+use Rattle.bsi_files.specs.RowFiles.{file_at, file_counts, file_rows, FedCounts, IsRowFile, RowFile}
 use Rattle.bsi_files.specs.Runs.{AreLines, IsRun}
 use Rattle.bsi_files.specs.declared.loading.Fed.{Fed}
 
@@ -40,6 +40,9 @@ mixed_at rows n (fed ∷ feds) (suc k) none =
     let at : n + suc k ≡ suc n + k = omega arith in
     ap (λ m. rows_from m rows) at ∙ mixed_at rows (suc n) feds k (λ f le. none f (omega arith))
 
+abbrev fed_of : ℕ → ℕ → FedCounts
+fed_of accepted bad = record { accepted = accepted; bad = bad }
+
 module _ {R : Type 0} (rem : R → Option (List ℕ)) where
   counts_from : (stops : Bool) (rows : List FedRow) (n : ℕ) (sources : List (Source R)) (feds : List Fed) → AreFedFrom rem stops rows n sources feds
       → map file_counts (files_from rows n feds) ≡ map fed_counts feds
@@ -48,7 +51,7 @@ module _ {R : Type 0} (rem : R → Option (List ℕ)) where
   counts_from stops rows n [] (x ∷ feds) fed = absurd fed
   counts_from stops rows n (source ∷ sources) [] fed = absurd fed
   counts_from stops rows n (source ∷ sources) (x ∷ feds) fed =
-      ap₂ (λ c cs. c ∷ cs) (ap (λ k. (k, x.bad)) fed.0.many) (counts_from stops rows (suc n) sources feds fed.1)
+      ap₂ (λ c cs. c ∷ cs) (ap (λ k. fed_of k x.bad) fed.0.many) (counts_from stops rows (suc n) sources feds fed.1)
 
   as_many : (stops : Bool) (rows : List FedRow) (n : ℕ) (sources : List (Source R)) (feds : List Fed) → AreFedFrom rem stops rows n sources feds
       → length sources ≡ length feds

@@ -14,7 +14,7 @@ use Rattle.bsi_table.specs.declared.query.Pred.{Pred}
 use Rattle.bsi_table.specs.declared.query.Query.{Query}
 use Rattle.bsi_table.specs.declared.query.Total.{Total}
 use Rattle.bsi_table.specs.declared.query.Total.TheVariants.{Count, Sum, Least, Greatest, Median, Rows}
-use Rattle.bsi_files.specs.AskLines.{IsShownAnswer}
+use Rattle.bsi_files.specs.AskLines.{IsArrangedAnswer}
 use Rattle.bsi_files.specs.Mixes.{AreAlike}
 use Rattle.bsi_files.proofs.Mixing.{bump, same_tags, tags, RowCounts, Tag}
 use Rattle.bsi_files.proofs.Perms.{as_long, chosen, filtered, flipped, is_permutation, mapped, of_none, same_sum, Perm}
@@ -201,7 +201,7 @@ module _ (a b : List FedRow) (alike : AreAlike a b) (pred : Pred) where
   plain_too Rows answer is plain = absurd (plain refl)
 
 -- an answer as its line shows it is so for any list with the same rows of each feeder
-pub shown_too : (a b : List FedRow) → AreAlike a b → (query : Query) (answer : Answer) → IsShownAnswer query a answer → IsShownAnswer query b answer
+pub shown_too : (a b : List FedRow) → AreAlike a b → (query : Query) (answer : Answer) → IsArrangedAnswer query a answer → IsArrangedAnswer query b answer
 shown_too a b alike query (rows_answer listed) is = (
   is.0,
   IsPermutation-trans (numbered_at (feeders_of b) (selected query.pred b)) (numbered_at (feeders_of a) (selected query.pred a)) listed.items

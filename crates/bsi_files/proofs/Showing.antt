@@ -8,16 +8,16 @@ use Rattle.bsi_table.specs.declared.errors.AskError.{AskError}
 use Rattle.bsi_table.specs.declared.errors.AskError.TheVariants as ask
 use Rattle.bsi_table.specs.declared.query.Answer.{Answer}
 use Rattle.bsi_table.specs.declared.query.Query.{Query}
-use Rattle.bsi_files.specs.AskLines.{IsAskLine, IsShownReply}
+use Rattle.bsi_files.specs.AskLines.{IsAskLine, IsArrangedReply}
 use Rattle.bsi_files.specs.Matching.{AreMatched}
 use Rattle.bsi_files.specs.Mixes.{file_by_file, AreAlike, IsMixOf}
-use Rattle.bsi_files.specs.RowFiles.{file_at, RowFile}
+use Rattle.bsi_files.specs.RowFiles.{file_at, FedCounts, RowFile}
 use Rattle.bsi_files.specs.Runs.{AreLines}
 use Rattle.bsi_files.proofs.Ordered.{from_order}
 use Rattle.bsi_files.proofs.Selecting.{shown_too}
 
-reply_too : (schema : Declared) (a b : List FedRow) → AreAlike a b → (query : Query) (reply : Result Answer AskError) → IsShownReply schema a query reply
-    → IsShownReply schema b query reply
+reply_too : (schema : Declared) (a b : List FedRow) → AreAlike a b → (query : Query) (reply : Result Answer AskError) → IsArrangedReply schema a query reply
+    → IsArrangedReply schema b query reply
 reply_too schema a b alike query (Ok answer) is = (is.0, shown_too a b alike query answer is.1)
 reply_too schema a b alike query (Err ask.NoMemory) is = is
 reply_too schema a b alike query (Err (ask.BadColumn c)) is = is
@@ -40,7 +40,7 @@ each_too schema a b alike (fields ∷ records) [] are = absurd are
 each_too schema a b alike (fields ∷ records) (line ∷ lines) are = (line_too schema a b alike fields line are.0, each_too schema a b alike records lines are.1)
 
 -- the lines are those of any list with the same rows of each feeder
-pub lines_too : (schema : Declared) (a b : List FedRow) (counts : List (ℕ × ℕ)) (records : List (List Field)) (lines : List (List ℕ)) → AreAlike a b
+pub lines_too : (schema : Declared) (a b : List FedRow) (counts : List FedCounts) (records : List (List Field)) (lines : List (List ℕ)) → AreAlike a b
     → AreLines schema a counts records lines → AreLines schema b counts records lines
 lines_too schema a b counts records lines alike are = record {
   answers = are.answers;

@@ -8,6 +8,7 @@ use Rattle.csv.proofs.WriteFacts.{appends-more, appends-none}
 use Rattle.bsi_records.specs.Lines.{fed_line}
 use Rattle.bsi_text.specs.Waiting.{IsCut}
 use Rattle.bsi_files.specs.Feds.{fed_counts}
+use Rattle.bsi_files.specs.RowFiles.{FedCounts}
 use Rattle.bsi_files.specs.Runs.{fed_lines}
 use Rattle.bsi_files.specs.declared.loading.Fed.{Fed}
 use Rattle.bsi_files.specs.Writing.{AreOut}
@@ -15,11 +16,11 @@ use Rattle.bsi_files.specs.declared.faults.FilesFault.{FilesFault}
 use Rattle.bsi_files.specs.declared.faults.FilesFault.TheVariants.{NoMemory, Write}
 use Rattle.bsi_files.proofs.Asking.{cut_front, cut_whole}
 
-fed_append : (n : ℕ) (first bs : List (ℕ × ℕ)) → fed_lines n (first ++ bs) ≡ fed_lines n first ++ fed_lines (n + length first) bs
+fed_append : (n : ℕ) (first bs : List FedCounts) → fed_lines n (first ++ bs) ≡ fed_lines n first ++ fed_lines (n + length first) bs
 fed_append n [] bs = ap (λ m. fed_lines m bs) (sym (add-zero n))
 fed_append n (a ∷ first) bs =
     let at : suc n + length first ≡ n + length (a ∷ first) = omega arith in
-    ap (λ lines. fed_line n a.0 a.1 ∷ lines) (fed_append (suc n) first bs ∙ ap (λ m. fed_lines (suc n) first ++ fed_lines m bs) at)
+    ap (λ lines. fed_line n a.accepted a.bad ∷ lines) (fed_append (suc n) first bs ∙ ap (λ m. fed_lines (suc n) first ++ fed_lines m bs) at)
 
 map_append : {X Y : Type 0} (f : X → Y) (xs ys : List X) → map f (xs ++ ys) ≡ map f xs ++ map f ys
 map_append f [] ys = refl
@@ -31,11 +32,11 @@ take_map f zero (x ∷ xs) = refl
 take_map f (suc k) [] = refl
 take_map f (suc k) (x ∷ xs) = ap (λ ys. f x ∷ ys) (take_map f k xs)
 
-take_fed : (k n : ℕ) (counts : List (ℕ × ℕ)) → take k (fed_lines n counts) ≡ fed_lines n (take k counts)
+take_fed : (k n : ℕ) (counts : List FedCounts) → take k (fed_lines n counts) ≡ fed_lines n (take k counts)
 take_fed zero n [] = refl
 take_fed zero n (c ∷ counts) = refl
 take_fed (suc k) n [] = refl
-take_fed (suc k) n (c ∷ counts) = ap (λ lines. fed_line n c.0 c.1 ∷ lines) (take_fed k (suc n) counts)
+take_fed (suc k) n (c ∷ counts) = ap (λ lines. fed_line n c.accepted c.bad ∷ lines) (take_fed k (suc n) counts)
 
 map_long : {X Y : Type 0} (f : X → Y) (xs : List X) → length (map f xs) ≡ length xs
 map_long f [] = refl

@@ -16,18 +16,18 @@ use Rattle.bsi_table.specs.declared.query.Answer.TheVariants.{Rows as rows_answe
 use Rattle.bsi_table.specs.declared.query.Query.{Query}
 use Rattle.bsi_table.specs.declared.query.Total.TheVariants as total
 
--- the answer to a query as its line shows it: rows stand by feeder and number
-abbrev pub IsShownAnswer : Query → List FedRow → Answer → Type 0
-IsShownAnswer query rows (rows_answer listed) =
+-- the answer to a query as its line has it: rows stand by feeder and number
+abbrev pub IsArrangedAnswer : Query → List FedRow → Answer → Type 0
+IsArrangedAnswer query rows (rows_answer listed) =
     (query.total ≡ total.Rows) × IsPermutation (numbered_at (feeders_of rows) (selected query.pred rows)) listed.items
     × IsSorted by_place listed.items
-IsShownAnswer query rows answer = IsAnswer query rows answer
+IsArrangedAnswer query rows answer = IsAnswer query rows answer
 
--- the reply to a query as its line shows it; a count without `or` and `not` finds memory
-abbrev pub IsShownReply : Declared → List FedRow → Query → Result Answer AskError → Type 0
-IsShownReply schema rows query (Ok answer) =
-    (missing_column (length schema.columns) query ≡ None) × IsShownAnswer query rows answer
-IsShownReply schema rows query (Err refused) =
+-- the reply to a query as its line has it; a count without `or` and `not` finds memory
+abbrev pub IsArrangedReply : Declared → List FedRow → Query → Result Answer AskError → Type 0
+IsArrangedReply schema rows query (Ok answer) =
+    (missing_column (length schema.columns) query ≡ None) × IsArrangedAnswer query rows answer
+IsArrangedReply schema rows query (Err refused) =
     IsReply schema rows query (Err refused) × (CountsConjunction query → refused ≢ NoMemory)
 
 -- a record that asks nothing has the line `bad`
@@ -40,7 +40,7 @@ pub record Asks (schema : Declared) (rows : List FedRow) (fields : List Field) (
   pub query : Query
   pub reply : Result Answer AskError
   pub asked : IsQuery schema fields query
-  pub lawful : IsShownReply schema rows query reply
+  pub lawful : IsArrangedReply schema rows query reply
   pub line_is : line ≡ ask_line reply
 
 abbrev pub IsAskLine : Declared → List FedRow → List Field → List ℕ → Type 0

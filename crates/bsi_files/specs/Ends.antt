@@ -28,7 +28,7 @@ tasks (feeder ∷ feeders) (source ∷ sources) = (feeder, source) ∷ tasks fee
 
 -- ends of tasks, one for each
 abbrev pub AreEndsOf : {R : Type 0} → (R → Option (List ℕ)) → List (Task R) → List FeedEnd → Type 0
-AreEndsOf rem given ends = AreMatched (λ task end. IsFeedEnd rem task.0 task.1 end) given ends
+AreEndsOf rem given ends = AreMatched (λ (feeder, source) end. IsFeedEnd rem feeder source end) given ends
 
 -- the feeders of a system, numbered from n, of which nothing was sent
 abbrev pub AreFeeders : SystemName → ℕ → List Sending → Type 0

@@ -7,10 +7,11 @@ use Rattle.bsi_table.specs.Rows.{FedRow}
 use Rattle.bsi_text.specs.Sources.{Source}
 use Rattle.bsi_feeding.specs.Feeding.{IsReadOut}
 use Rattle.bsi_files.specs.declared.loading.Fed.{Fed}
+use Rattle.bsi_files.specs.RowFiles.{FedCounts}
 use Rattle.bsi_files.specs.Runs.{AreLines}
 
-abbrev pub fed_counts : Fed → ℕ × ℕ
-fed_counts fed = (fed.accepted, fed.bad)
+abbrev pub fed_counts : Fed → FedCounts
+fed_counts fed = record { accepted = fed.accepted; bad = fed.bad }
 
 -- the rows of a feeder in a list are as many as were accepted and, where no gate stops it, those of its source, which
 -- was read out

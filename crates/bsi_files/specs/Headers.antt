@@ -14,7 +14,7 @@ use Rattle.bsi_files.specs.declared.faults.FilesFault.TheVariants.{NoMemory, Sou
 abbrev pub HasHeader : Declared → List ℕ → Type 0
 HasHeader schema bytes =
     MatchOption (next_record default_config st.StartRecord [] [] (strip_bom bytes)) ⊥
-    (λ read. is_header schema read.0 ≡ true)
+    (λ (header, _, _). is_header schema header ≡ true)
 
 -- it is none, or there is none
 abbrev pub LacksHeader : Declared → List ℕ → Type 0

@@ -25,9 +25,14 @@ pub record IsRowFile (schema : Declared) (bytes : List ℕ) (file : RowFile) : T
 abbrev pub file_rows : RowFile → List Entries
 file_rows file = file.rows
 
--- how many good rows and how many bad records a file has
-abbrev pub file_counts : RowFile → ℕ × ℕ
-file_counts file = (length file.rows, file.bad)
+-- how many rows of a feeder were accepted, and how many of its records were bad
+pub record FedCounts : Type 0 where
+  pub accepted : ℕ
+  pub bad : ℕ
+
+-- of a file whose good rows were all accepted
+abbrev pub file_counts : RowFile → FedCounts
+file_counts file = record { accepted = length file.rows; bad = file.bad }
 
 abbrev pub no_file : RowFile
 no_file = record { rows = []; bad = 0 }

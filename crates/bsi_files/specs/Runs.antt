@@ -8,15 +8,15 @@ use Rattle.bsi_text.specs.SchemaTexts.{IsSchemaText}
 use Rattle.bsi_files.specs.AskLines.{IsAskLine}
 use Rattle.bsi_files.specs.Matching.{AreMatched}
 use Rattle.bsi_files.specs.Mixes.{file_by_file}
-use Rattle.bsi_files.specs.RowFiles.{file_counts, file_rows, IsRowFile, RowFile}
+use Rattle.bsi_files.specs.RowFiles.{file_counts, file_rows, FedCounts, IsRowFile, RowFile}
 
 -- the line of each file, of which the first has this number
-abbrev pub fed_lines : ℕ → List (ℕ × ℕ) → List (List ℕ)
+abbrev pub fed_lines : ℕ → List FedCounts → List (List ℕ)
 fed_lines n [] = []
-fed_lines n (counts ∷ more) = fed_line n counts.0 counts.1 ∷ fed_lines (suc n) more
+fed_lines n (counts ∷ more) = fed_line n counts.accepted counts.bad ∷ fed_lines (suc n) more
 
 -- the lines of a run: one for each file, and then one for each record of the asks file
-pub record AreLines (schema : Declared) (rows : List FedRow) (counts : List (ℕ × ℕ)) (records : List (List Field))
+pub record AreLines (schema : Declared) (rows : List FedRow) (counts : List FedCounts) (records : List (List Field))
     (lines : List (List ℕ)) : Type 0 where
   pub answers : List (List ℕ)
   pub each : AreMatched (IsAskLine schema rows) records answers

@@ -13,7 +13,7 @@ ghost use Rattle.bsi_files.specs.Faults.{is_late};
 ghost use Rattle.bsi_table.specs.Answers.{IsAnswer};
 ghost use Rattle.bsi_table.specs.Rows.{FedRow};
 ghost use Rattle.bsi_table.specs.declared.query.Query.{Query};
-ghost use Rattle.bsi_files.specs.AskLines.{IsAskLine, IsShownAnswer};
+ghost use Rattle.bsi_files.specs.AskLines.{IsAskLine, IsArrangedAnswer};
 ghost use Rattle.bsi_files.specs.Matching.{AreMatched};
 ghost use Rattle.bsi_files.specs.Runs.{fed_lines, AreLines};
 ghost use Rattle.bsi_files.specs.Writing.{AreOut, WritesAll, WritesFirst};
@@ -137,7 +137,7 @@ fn answer(
 /// Arranges the rows of an answer in order of feeder, and then of their numbers.
 fn arranged(alloc: Global, answer: Answer) -> Answer
     ensures { (query : Query) → (rows : List FedRow) → IsAnswer query rows answer →
-        IsShownAnswer query rows result }
+        IsArrangedAnswer query rows result }
 {
     match answer {
         Answer::Rows(mut rows) => {

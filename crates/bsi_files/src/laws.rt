@@ -1,4 +1,5 @@
-//! What follows for every run over row files, as contracts of functions that do nothing.
+//! What follows for every run over row files, as contracts of functions that do nothing: a law is then checked as any
+//! contract is.
 
 ghost use Rattle.std.specs.Prelude.{◌≡◌, ℕ, List, map};
 ghost use Rattle.bsi_records.specs.Numbers.{Field};
@@ -6,13 +7,13 @@ ghost use Rattle.bsi_table.specs.Columns.{Declared};
 ghost use Rattle.bsi_table.specs.Rows.{FedRow};
 ghost use Rattle.bsi_text.specs.Pasts.{FindMemory};
 ghost use Rattle.bsi_files.specs.Mixes.{file_by_file, AreAlike, IsMixOf};
-ghost use Rattle.bsi_files.specs.RowFiles.{RowFile};
+ghost use Rattle.bsi_files.specs.RowFiles.{FedCounts, RowFile};
 ghost use Rattle.bsi_files.specs.Runs.{AreLines, IsRun};
 
 /// States that the lines of a run do not depend on how the rows of the files mix: what is a run's line for one list is
 /// so for each list with the same rows of each feeder, and so for the rows of the files, one file after the other.
 pub fn any_mix()
-    ensures alike { (schema : Declared) → (a b : List FedRow) → (counts : List (ℕ × ℕ)) →
+    ensures alike { (schema : Declared) → (a b : List FedRow) → (counts : List FedCounts) →
         (records : List (List Field)) → (lines : List (List ℕ)) → AreAlike a b →
         AreLines schema a counts records lines → AreLines schema b counts records lines }
     ensures order { (files : List RowFile) → (rows : List FedRow) → IsMixOf files rows →

@@ -23,7 +23,7 @@ use crate::threads::{RunFlags, join_all, start_all};
 use crate::{FilesFault, Gate, NoMemory, Stopping};
 use bsi_system::{Feeder, History, Loader, Naming, OpenRefused, System, open};
 use bsi_table::{Index, MAX_FEEDERS, Schema};
-use bsi_text::{RowSource, read_schema};
+use bsi_text::{DeclaredTable, RowSource, read_schema};
 use std::alloc::Global;
 use std::io::{Read, Write};
 use std::marker::Brand;
@@ -75,7 +75,7 @@ pub fn run_files<
         return Err(FilesFault::TooManyFiles);
     }
     let alloc = rt.alloc();
-    let (schema, limit) = read_schema(alloc, schema)?;
+    let DeclaredTable { schema, limit } = read_schema(alloc, schema)?;
     let sources = begin_all(alloc, &schema, sources)?;
     let capacities = capacities(alloc, sources.len())?;
     let run = Run { sources, asks };

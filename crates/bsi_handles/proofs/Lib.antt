@@ -1,4 +1,4 @@
 pub mod AsBox
-pub mod RowsOf
+pub mod GivenRows
 pub mod Steps
 pub mod Telling

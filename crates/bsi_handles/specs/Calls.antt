@@ -1,8 +1,8 @@
 -- What each call does to what a handle holds, what it answers, and when it is refused.
-use Rattle.std.specs.Prelude.{◌≡◌, ◌≢◌, ℕ, ◌+◌, ◌*◌, ◌%◌, ◌^◌, ◌<◌, ◌≤◌, List, length, map, slice_index_or, take, Option, Some, None, Ok, Err, IsSome, true, false, MatchOption}
+use Rattle.std.specs.Prelude.{◌≡◌, ◌≢◌, ℕ, ◌+◌, ◌*◌, ◌%◌, ◌<◌, ◌≤◌, List, length, map, slice_index_or, take, Option, Some, None, Ok, Err, IsSome, true, false, MatchOption}
 use Rattle.std.specs.Int.{cast_unsigned, w128}
 use Rattle.bsi_bits.specs.BitList.{word_count}
-use Rattle.bsi_bits.specs.Packed.{bit_of}
+use Rattle.bsi_bits.specs.Packed.{bit_of, end_of_u64}
 use Rattle.bsi_records.specs.Events.{IsQuery}
 use Rattle.bsi_records.specs.Numbers.{Field}
 use Rattle.bsi_records.specs.Predicates.{IsPredicate}
@@ -15,7 +15,7 @@ use Rattle.bsi_table.specs.declared.query.Answer.TheVariants.{Count as count_ans
 use Rattle.bsi_table.specs.declared.query.Pred.{Pred}
 use Rattle.bsi_table.specs.declared.query.Query.{Query}
 use Rattle.bsi_text.specs.SchemaTexts.{DeclaresNoColumn, DeclaresTooLong, IsBadRecord, IsSchemaText}
-use Rattle.bsi_handles.specs.Columns.{are_columns, row_count, rows_of, AreTaken, IsFirstMisfit}
+use Rattle.bsi_handles.specs.Columns.{are_columns, given_rows, row_count, AreTaken, IsFirstMisfit}
 use Rattle.bsi_handles.specs.Opened.{Opened}
 use Rattle.bsi_handles.specs.States.{is_shared, opened_in}
 use Rattle.bsi_handles.specs.Statuses.{Ending}
@@ -82,7 +82,7 @@ IsRowsRefusal table feeder columns row why = ⊥
 
 -- the first so many rows of the columns were appended
 abbrev pub with_first : Table → ℕ → List GivenColumn → ℕ → Table
-with_first table feeder columns n = with_rows table (rows_of feeder columns 0 n)
+with_first table feeder columns n = with_rows table (given_rows feeder columns 0 n)
 
 -- an index takes rows: all of them, or, if memory is refused, those of the first full blocks, or none
 abbrev pub AppendsColumns : Table → ℕ → List GivenColumn → ℕ → Table → Ending → Type 0
@@ -130,7 +130,7 @@ rows_kind = 4
 abbrev pub IsWritten : Answer → FlatAnswer → List Place → Type 0
 IsWritten (count_answer n) answer places = (answer.kind ≡ count_kind) × (answer.count ≡ n)
 IsWritten (sum_answer s) answer places =
-    (answer.kind ≡ sum_kind) × (answer.low + 2 ^ 64 * answer.high ≡ cast_unsigned w128 s)
+    (answer.kind ≡ sum_kind) × (answer.low + end_of_u64 * answer.high ≡ cast_unsigned w128 s)
 IsWritten (value_answer None) answer places = (answer.kind ≡ value_kind) × (answer.present ≡ false)
 IsWritten (value_answer (Some x)) answer places =
     (answer.kind ≡ value_kind) × (answer.present ≡ true) × (answer.value ≡ x)

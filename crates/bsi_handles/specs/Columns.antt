@@ -35,8 +35,8 @@ abbrev pub row_of : List GivenColumn → ℕ → Entries
 row_of columns r = map (entry_of r) columns
 
 -- so many rows from a row on, of a feeder
-unfoldable pub rows_of : ℕ → List GivenColumn → ℕ → ℕ → List FedRow
-rows_of feeder columns from count = map (λ r. (feeder, row_of columns r)) (range_with_len from count)
+unfoldable pub given_rows : ℕ → List GivenColumn → ℕ → ℕ → List FedRow
+given_rows feeder columns from count = map (λ r. (feeder, row_of columns r)) (range_with_len from count)
 
 -- each of the first n rows fits
 abbrev pub AreTaken : List NamedColumn → List GivenColumn → ℕ → Type 0

@@ -3,7 +3,7 @@
 ghost use Rattle.std.specs.Prelude.{◌≡◌, ◌+◌, ◌%◌, ◌<◌, ◌≤◌, length, true, IfErr, OnErr, OnOk};
 ghost use Rattle.std.specs.List.{list_all};
 ghost use Rattle.bsi_handles.specs.Calls.{with_first, AreAppendable, AppendsColumns, IsRowsRefusal};
-ghost use Rattle.bsi_handles.specs.Columns.{are_columns, has_rows, row_count, row_of, rows_of, AreTaken};
+ghost use Rattle.bsi_handles.specs.Columns.{are_columns, given_rows, has_rows, row_count, row_of, AreTaken};
 ghost use Rattle.bsi_table.specs.RowBlocks.{max_block_rows};
 ghost use Rattle.bsi_table.specs.Table.{with_rows};
 
@@ -48,12 +48,12 @@ fn fill_block(
     requires few { count ≤ max_block_rows }
     ensures schema { block.new.schema ≡ block.old.schema }
     ensures feeders { block.new.feeders ≡ block.old.feeders }
-    ensures rows { OnOk result (block.new.rows ≡ rows_of feeder columns.now from count) }
+    ensures rows { OnOk result (block.new.rows ≡ given_rows feeder columns.now from count) }
 {
     block.clear();
     let rows = count_rows(columns);
-    'rows: for k in 0..count {
-        read_entries(columns, rows, from + k, entries)?;
+    'rows: for r in from..from + count {
+        read_entries(columns, rows, r, entries)?;
         block.push_fitting(feeder, entries);
     }
     Ok(())
@@ -79,7 +79,7 @@ fn append_block(
     ensures schema { block.new.schema ≡ block.old.schema }
     ensures feeders { block.new.feeders ≡ block.old.feeders }
     ensures appended { OnOk result
-        (index.new ≡ with_rows index.old (rows_of feeder columns.now from count)) }
+        (index.new ≡ with_rows index.old (given_rows feeder columns.now from count)) }
     ensures kept { OnErr result (index.new ≡ index.old) }
 {
     fill_block(feeder, columns, from, count, entries, block)?;

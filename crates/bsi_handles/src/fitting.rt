@@ -31,10 +31,9 @@ pub(crate) fn first_misfit(schema: &Schema, columns: &[GivenColumn], rows: usize
     ensures taken { AreTaken schema.now.columns columns.now result }
     ensures misfit { result < rows → fits schema.now.columns (row_of columns.now result) ≡ false }
 {
-    let limits = schema.limits();
     let mut first = rows;
-    'columns: for c in 0..limits.len() {
-        first = first_refused(&columns[c], rows, first, limits[c]);
+    'columns: for (column, limits) in columns.iter().zip(schema.limits()) {
+        first = first_refused(column, rows, first, *limits);
     }
     first
 }

@@ -1,7 +1,7 @@
 //! A box that C keeps.
 //!
-//! Five functions that turn the box into the pointer of a handle and back are proved by hand, and so is that a handle may
-//! go to another thread: no public type of the kit keeps a box as a pointer.
+//! Five functions that turn the box into the pointer of a handle and back are proved by hand, and so is that a handle
+//! may go to another thread: no public type of the kit keeps a box as a pointer.
 
 ghost use Rattle.std.specs.Prelude.{◌≡◌, Option, Some, None, is_some, option_map, true};
 ghost use Rattle.bsi_handles.specs.Owned.{held_coded, held_owns, HeldValue};

@@ -6,8 +6,8 @@ ghost use Rattle.bsi_handles.specs.Calls.{IsFeederCount, IsNew, IsTextRefusal};
 
 use crate::opened::Opened;
 use crate::refusal::Refusal;
-use bsi_table::{Index, Schema};
-use bsi_text::{SchemaFault, SourceFault, read_schema};
+use bsi_table::Index;
+use bsi_text::{DeclaredTable, SchemaFault, SourceFault, read_schema};
 use std::alloc::Global;
 
 /// Makes the index of no rows that the text declares. If a record is bad, it writes the record's number, from 1.
@@ -23,7 +23,7 @@ pub(crate) fn open_text(
     ensures zero { OnOk result (bad_record.new ≡ 0) }
     ensures refused { IfErr result (IsTextRefusal text.now bad_record.new) }
 {
-    let (schema, limit) = read_declared(alloc, text, bad_record)?;
+    let DeclaredTable { schema, limit } = read_declared(alloc, text, bad_record)?;
     let Ok(index) = Index::new(alloc, schema, feeders, limit) else {
         // There is a column, and the limit is that of a record, so only memory can be refused.
         return Err(Refusal::NoMemory);
@@ -32,14 +32,14 @@ pub(crate) fn open_text(
 }
 
 /// Reads the columns and the limit that the text declares. If a record is bad, it writes the record's number, from 1.
-fn read_declared(alloc: Global, text: &[u8], bad_record: &mut u64) -> Result<(Schema, u64), Refusal>
+fn read_declared(alloc: Global, text: &[u8], bad_record: &mut u64) -> Result<DeclaredTable, Refusal>
     requires { bad_record.old ≡ 0 }
-    ensures declared { IfOk result (λ read. IsSchemaText text.now read.0 read.1) }
+    ensures declared { IfOk result (λ table. IsSchemaText text.now table.schema table.limit) }
     ensures zero { OnOk result (bad_record.new ≡ 0) }
     ensures refused { IfErr result (IsTextRefusal text.now bad_record.new) }
 {
     match read_schema(alloc, text) {
-        Ok(read) => Ok(read),
+        Ok(table) => Ok(table),
         Err(fault) => Err(refusal_of(fault, bad_record)),
     }
 }

@@ -1,4 +1,5 @@
-//! What follows for every lawful run, as contracts of functions that do nothing.
+//! What follows for every lawful run, as contracts of functions that do nothing: a law is then checked as any
+//! contract is.
 
 ghost use Rattle.std.specs.Prelude.{◌≡◌, List, [], ◌∷◌};
 ghost use Rattle.bsi_load.specs.declared.event.Event.{Event};

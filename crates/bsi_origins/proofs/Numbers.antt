@@ -10,7 +10,7 @@ use Rattle.std.proofs.lemmas.List.FromFn.{get_or-range_with_len, length-range_wi
 use Rattle.std.proofs.lemmas.List.Sums.{count_by-le-length, count_by_more_yes, count_by_more_no}
 use Rattle.bsi_bits.specs.BitList.{set_places}
 use Rattle.bsi_origins.specs.Numbering.{numbered_at, number_within}
-use Rattle.bsi_origins.specs.Origins.{count_before, AreCounts}
+use Rattle.bsi_origins.specs.Origins.{count_before, AreCountsBefore}
 
 -- a row of a run behind other rows
 run_row : (rows : List ℕ) (feeder n k : ℕ) → k < n → get_or (rows ++ replicate n feeder) (length rows + k) 0 ≡ feeder
@@ -68,8 +68,8 @@ counted_alone rows (suc r) within from =
 
 module _ (feeders : ℕ) (counts rows : List ℕ) (r : ℕ) (long : feeders ≤ length counts) (within : r < length rows) (small : get_or rows r 0 < feeders) where
   -- the row's feeder has one more
-  pub counted_more : AreCounts feeders rows r counts
-      → AreCounts feeders rows (r + 1) (set counts (get_or rows r 0) (get_or counts (get_or rows r 0) 0 + 1))
+  pub counted_more : AreCountsBefore feeders rows r counts
+      → AreCountsBefore feeders rows (r + 1) (set counts (get_or rows r 0) (get_or counts (get_or rows r 0) 0 + 1))
   counted_more counted f below = elim (cases_Bool (nat_eq (get_or rows r 0) f)) [
     | inl same ↦
         let is : get_or rows r 0 ≡ f = grind (arith, nat_tests, same) in

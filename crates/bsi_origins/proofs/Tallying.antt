@@ -5,7 +5,7 @@ use Rattle.std.proofs.Math.Nat.{eq-or-lt_of_le, mul-le-mul_left, mul-suc}
 use Rattle.std.proofs.lemmas.List.{get_or_append_left, get_or-append_right, get_or-take, length-append, length-replicate, length-take, length-take-le}
 use Rattle.std.proofs.lemmas.Bool.{cases_eq}
 use Rattle.std.proofs.lemmas.List.Elements.{All-append, All-from_get_or}
-use Rattle.bsi_origins.specs.Origins.{count_before, tally_count, tally_len, AreCounts, AreTallies, HasRoomFor, IsTallied}
+use Rattle.bsi_origins.specs.Origins.{count_before, tally_count, tally_len, AreCountsBefore, AreTallies, HasRoomFor, IsTallied}
 use Rattle.bsi_origins.proofs.Numbers.{count_before-append, count_before-le, count_before-others, count_before-run, counted_none}
 
 -- a tally has at most one count a feeder
@@ -25,7 +25,7 @@ tally_within len k f tallies before below =
 
 -- rows that go in within a stretch, and the counts of all rows then
 module _ (feeders : ℕ) (rows counts tallies : List ℕ) (is : IsTallied feeders rows counts tallies) (more now : List ℕ)
-    (from : All (λ f. f < feeders) more) (long : length now ≡ 64) (counted : AreCounts feeders (rows ++ more) (length (rows ++ more)) now)
+    (from : All (λ f. f < feeders) more) (long : length now ≡ 64) (counted : AreCountsBefore feeders (rows ++ more) (length (rows ++ more)) now)
     (within : length rows % 512 + length more ≤ 512) where
   all : length (rows ++ more) ≡ length rows + length more
   all = length-append rows more
@@ -103,8 +103,8 @@ tallied_push feeders room kept capacity count rows more counts items after has l
 )
 
 -- a run of one feeder's rows adds to its count
-pub counted_run : (feeders : ℕ) (rows counts : List ℕ) (feeder n : ℕ) → length counts ≡ 64 → feeders ≤ 64 → feeder < feeders → AreCounts feeders rows (length rows) counts
-    → AreCounts feeders (rows ++ replicate n feeder) (length (rows ++ replicate n feeder)) (set counts feeder (get_or counts feeder 0 + n))
+pub counted_run : (feeders : ℕ) (rows counts : List ℕ) (feeder n : ℕ) → length counts ≡ 64 → feeders ≤ 64 → feeder < feeders → AreCountsBefore feeders rows (length rows) counts
+    → AreCountsBefore feeders (rows ++ replicate n feeder) (length (rows ++ replicate n feeder)) (set counts feeder (get_or counts feeder 0 + n))
 counted_run feeders rows counts feeder n long few below counted f small =
     let run : length (rows ++ replicate n feeder) ≡ length rows + n = length-append rows (replicate n feeder) ∙ ap (λ k. length rows + k) (length-replicate n feeder) in
     elim (cases_eq f feeder) [

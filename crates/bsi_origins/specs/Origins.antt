@@ -18,8 +18,8 @@ abbrev pub count_before : List ℕ → ℕ → ℕ → ℕ
 count_before row_feeders r feeder = count_by (λ row_feeder. nat_eq row_feeder feeder) (take r row_feeders)
 
 -- these are the counts of the first r rows, by feeder
-abbrev pub AreCounts : ℕ → List ℕ → ℕ → List ℕ → Type 0
-AreCounts feeders row_feeders r counts = (f : ℕ) → f < feeders → slice_index counts f ≡ count_before row_feeders r f
+abbrev pub AreCountsBefore : ℕ → List ℕ → ℕ → List ℕ → Type 0
+AreCountsBefore feeders row_feeders r counts = (f : ℕ) → f < feeders → slice_index counts f ≡ count_before row_feeders r f
 
 -- how many counts a tally has: one for each feeder, and none where there is one feeder alone
 abbrev pub tally_len : ℕ → ℕ
@@ -45,7 +45,7 @@ pub record IsTallied (feeders : ℕ) (row_feeders counts tallies : List ℕ) : T
   pub few : feeders ≤ max_feeders
   pub from : All (λ feeder. feeder < feeders) row_feeders
   pub long : length counts ≡ max_feeders
-  pub counted : AreCounts feeders row_feeders (length row_feeders) counts
+  pub counted : AreCountsBefore feeders row_feeders (length row_feeders) counts
   pub many : length tallies ≡ tally_len feeders * tally_count (length row_feeders)
   pub each : AreTallies (tally_len feeders) row_feeders tallies
 

@@ -1,13 +1,13 @@
 //! The rows of a found set, each by its feeder and its number among the rows of that feeder.
 //!
-//! A list counts forward and keeps the counts of all feeders as it goes, so no stretch is read twice. Where more than
+//! It counts forward and keeps the counts of all feeders as it goes, so no stretch is read twice. Where more than
 //! an eighth of the rows was found it tests each row's bit in one pass, which costs less than looking for the next set
 //! place.
 
 ghost use Rattle.std.specs.Prelude.{◌≡◌, ◌<◌, ◌≤◌, IfOk, length};
 ghost use Rattle.bsi_bits.specs.BitList.{set_places};
 ghost use Rattle.bsi_origins.specs.Numbering.{numbered_at};
-ghost use Rattle.bsi_origins.specs.Origins.{AreCounts};
+ghost use Rattle.bsi_origins.specs.Origins.{AreCountsBefore};
 
 use crate::origins::{Counts, STRETCH_ROWS};
 use crate::{MAX_FEEDERS, NoMemory, Origins};
@@ -80,8 +80,8 @@ fn number_many(alloc: Global, found: &Bits, origins: &Origins) -> Result<Vec<(u3
 fn count_forward(origins: &Origins, counts: &mut Counts, from: u64, to: u64)
     requires forward { from ≤ to }
     requires within { to < length origins.now.rows }
-    requires counted { AreCounts origins.now.feeders origins.now.rows from counts.old }
-    ensures { AreCounts origins.now.feeders origins.now.rows to counts.new }
+    requires counted { AreCountsBefore origins.now.feeders origins.now.rows from counts.old }
+    ensures { AreCountsBefore origins.now.feeders origins.now.rows to counts.new }
 {
     if origins.feeders() == 1 {
         counts[0] = to;
@@ -97,8 +97,8 @@ fn count_forward(origins: &Origins, counts: &mut Counts, from: u64, to: u64)
 fn count_rows(origins: &Origins, counts: &mut Counts, from: u64, to: u64)
     requires forward { from ≤ to }
     requires within { to ≤ length origins.now.rows }
-    requires counted { AreCounts origins.now.feeders origins.now.rows from counts.old }
-    ensures { AreCounts origins.now.feeders origins.now.rows to counts.new }
+    requires counted { AreCountsBefore origins.now.feeders origins.now.rows from counts.old }
+    ensures { AreCountsBefore origins.now.feeders origins.now.rows to counts.new }
 {
     'rows: for r in from..to {
         counts[origins.feeder(r) as usize] += 1;

@@ -7,7 +7,7 @@
 
 ghost use Rattle.std.specs.Prelude.{◌≡◌, ◌≢◌, ◌↔◌, ◌+◌, ◌-◌, ◌*◌, ◌%◌, ◌<◌, ◌≤◌, ◌^◌, ◌++◌, ◌∷◌, [], All, IfOk, IsOk, IsTrue, OnErr, OnOk, length, min, replicate, slice_index, take, vec_len, vec_capacity};
 ghost use Rattle.bsi_bits.specs.BitList.{max_len};
-ghost use Rattle.bsi_origins.specs.Origins.{max_feeders, stretch_rows, tally_len, AreCounts};
+ghost use Rattle.bsi_origins.specs.Origins.{max_feeders, stretch_rows, tally_len, AreCountsBefore};
 
 use crate::NoMemory;
 use bsi_bits::room_to_make;
@@ -213,7 +213,7 @@ impl Origins {
     pub(crate) fn read_tally(&self, k: u64, counts: &mut Counts)
         requires several { 1 < self.now.feeders }
         requires there { stretch_rows * k < length self.now.rows }
-        ensures { AreCounts self.now.feeders self.now.rows (stretch_rows * k) counts.new }
+        ensures { AreCountsBefore self.now.feeders self.now.rows (stretch_rows * k) counts.new }
     {
         let len = self.feeders as usize;
         let start = len * k as usize;

@@ -78,7 +78,7 @@ fn bases(alloc: Global, list: &[u32]) -> Result<Bases, MakingError>
 }
 
 /// Makes a column of so many slices and no rows.
-pub fn no_slices(alloc: Global, width: u32) -> Result<Slices, MakingError>
+pub fn empty_slices(alloc: Global, width: u32) -> Result<Slices, MakingError>
     ensures entries { IfOk result (λ column. column.entries ≡ []) }
     ensures width { IfOk result (λ column. column.width ≡ width) }
     ensures err { IsWidth width → IsOkUnless result MakingError.NoMemory }
@@ -93,7 +93,10 @@ pub fn no_slices(alloc: Global, width: u32) -> Result<Slices, MakingError>
 }
 
 /// Makes a column of components under the bases of a list, most significant first, and no rows.
-pub fn no_digits<E: Encoding>(alloc: Global, list: &[u32]) -> Result<Decomposed<E>, MakingError>
+pub fn empty_decomposed<E: Encoding>(
+    alloc: Global,
+    list: &[u32],
+) -> Result<Decomposed<E>, MakingError>
     ensures entries { IfOk result (λ column. column.entries ≡ []) }
     ensures bases { IfOk result (λ column. column.bases ≡ reverse list.now) }
     ensures err { AreBases list.now → IsOkUnless result MakingError.NoMemory }
@@ -105,15 +108,15 @@ pub fn no_digits<E: Encoding>(alloc: Global, list: &[u32]) -> Result<Decomposed<
 }
 
 /// Makes a column of this form and no rows.
-pub fn no_rows(alloc: Global, form: TestForm, wide: Wide) -> Result<AnyColumn, MakingError>
+pub fn empty_column(alloc: Global, form: TestForm, wide: Wide) -> Result<AnyColumn, MakingError>
     ensures entries { IfOk result (λ column. any_entries column ≡ []) }
     ensures form { IfOk result (λ column. any_form column ≡ column_form form wide.entry) }
     ensures err { IsWide form wide.entry → IsOkUnless result MakingError.NoMemory }
 {
     match form {
-        TestForm::Slices => Ok(AnyColumn::Slices(no_slices(alloc, wide.width)?)),
-        TestForm::Equality => Ok(AnyColumn::Equality(no_digits(alloc, wide.bases)?)),
-        TestForm::Range => Ok(AnyColumn::Range(no_digits(alloc, wide.bases)?)),
+        TestForm::Slices => Ok(AnyColumn::Slices(empty_slices(alloc, wide.width)?)),
+        TestForm::Equality => Ok(AnyColumn::Equality(empty_decomposed(alloc, wide.bases)?)),
+        TestForm::Range => Ok(AnyColumn::Range(empty_decomposed(alloc, wide.bases)?)),
     }
 }
 
@@ -163,7 +166,7 @@ pub fn compared<C: Column>(column: &C, op: Op, constant: u64) -> Result<Bits, No
 }
 
 /// Returns whether a vector has these bits and no others.
-pub fn shows(bits: &Bits, wanted: &[bool]) -> bool
+pub fn has_bits(bits: &Bits, wanted: &[bool]) -> bool
     ensures { IsTrue result ↔ (bits.now.bits ≡ wanted.now) }
 {
     if bits.len() != wanted.len() as u64 {

@@ -1,4 +1,4 @@
-//! What tests give to calls: columns, schemas, rows and predicates, a component without calls on blocks, and readers
+//! What tests give to calls: columns, schemas, rows and predicates, a component without calls on spans, and readers
 //! and writers that fail.
 #![tactic(auto)]
 
@@ -8,7 +8,8 @@ mod tables;
 mod whole;
 
 pub use columns::{
-    FORMS, MakingError, TestForm, Wide, append, compared, no_digits, no_rows, no_slices, shows,
+    FORMS, MakingError, TestForm, Wide, append, compared, empty_column, empty_decomposed,
+    empty_slices, has_bits,
 };
 pub use std::alloc::AllocError as NoMemory;
 pub use streams::{EMPTY, NarrowWriter, TextReader};

@@ -8,7 +8,7 @@ use bsi_columns::Encoding;
 use std::alloc::Global;
 use std::cell::Cell;
 
-/// A component of another encoding, without that encoding's calls on blocks.
+/// A component of another encoding, without that encoding's calls on spans.
 #[derive(Drop)]
 pub struct WholeVectors<E: Encoding> {
     inner: E,
@@ -41,7 +41,7 @@ impl<E: Encoding> Encoding for WholeVectors<E> {
 
     ghost room_of = { λ c. E.room_of c.inner };
 
-    ghost works_on_blocks = { false };
+    ghost works_on_spans = { false };
 
     fn make(alloc: Global, base: u32) -> Result<Self, NoMemory> {
         let inner = E::make(alloc, base)?;
@@ -90,11 +90,11 @@ impl<E: Encoding> Encoding for WholeVectors<E> {
         self.inner.le_into(d, out);
     }
 
-    fn eq_block(&self, _d: u32, _at: usize, _block: &mut [u64]) -> bool {
+    fn eq_span(&self, _d: u32, _at: usize, _span: &mut [u64]) -> bool {
         false
     }
 
-    fn le_block(&self, _d: u32, _at: usize, _block: &mut [u64]) -> bool {
+    fn le_span(&self, _d: u32, _at: usize, _span: &mut [u64]) -> bool {
         false
     }
 

@@ -8,6 +8,7 @@ use Rattle.std.proofs.lemmas.List.Elements.{All-push}
 use Rattle.csv.specs.Records.{field_at}
 use Rattle.bsi_table.specs.Columns.{Declared}
 use Rattle.bsi_records.specs.Numbers.{Field, number_between, spelled_number}
+use Rattle.bsi_records.specs.declared.setups.DeclaredTable.{DeclaredTable}
 use Rattle.bsi_records.specs.Setups.{Setup, capacities_after, column_after, declared_after, limit_of, only_number, table_after, IsChange, IsSetup}
 use Rattle.bsi_records.proofs.Fields.{behind_word, no_field}
 
@@ -26,19 +27,20 @@ kept P (Err e) after old new change same before later = subst P (sym same) befor
 
 -- ---- records of a table
 
-pub table_empty : (schema : Declared) (limit : ℕ) (fields : List Field) → field_at fields 0 ≡ None → table_after schema limit fields ≡ None
-table_empty schema limit fields none = ap (table_after schema limit) (no_field fields 0 none)
+pub table_empty : (table : DeclaredTable) (fields : List Field) → field_at fields 0 ≡ None → table_after table fields ≡ None
+table_empty table fields none = ap (table_after table) (no_field fields 0 none)
 
-module _ (schema : Declared) (limit : ℕ) (fields : List Field) (word : Field) (first : field_at fields 0 ≡ Some word) where
-  pub table_column : bytes_eq word (codes "column") ≡ true → table_after schema limit fields ≡ option_map (λ after. (after, limit)) (column_after schema (drop 1 fields))
-  table_column is = ap (table_after schema limit) (behind_word fields word first) ∙ rw is refl
+module _ (table : DeclaredTable) (fields : List Field) (word : Field) (first : field_at fields 0 ≡ Some word) where
+  pub table_column : bytes_eq word (codes "column") ≡ true
+      → table_after table fields ≡ option_map (λ schema. record table { schema = schema }) (column_after table.schema (drop 1 fields))
+  table_column is = ap (table_after table) (behind_word fields word first) ∙ rw is refl
 
   pub table_limit : bytes_eq word (codes "column") ≡ false → bytes_eq word (codes "limit") ≡ true
-      → table_after schema limit fields ≡ option_map (λ after. (schema, after)) (limit_of (drop 1 fields))
-  table_limit other is = ap (table_after schema limit) (behind_word fields word first) ∙ rw (other, is) refl
+      → table_after table fields ≡ option_map (λ limit. record table { limit = limit }) (limit_of (drop 1 fields))
+  table_limit other is = ap (table_after table) (behind_word fields word first) ∙ rw (other, is) refl
 
-  pub table_other : bytes_eq word (codes "column") ≡ false → bytes_eq word (codes "limit") ≡ false → table_after schema limit fields ≡ None
-  table_other other another = ap (table_after schema limit) (behind_word fields word first) ∙ rw (other, another) refl
+  pub table_other : bytes_eq word (codes "column") ≡ false → bytes_eq word (codes "limit") ≡ false → table_after table fields ≡ None
+  table_other other another = ap (table_after table) (behind_word fields word first) ∙ rw (other, another) refl
 
 -- ---- records of a setup
 
@@ -51,10 +53,10 @@ module _ (before : Setup) (fields : List Field) (word : Field) (first : field_at
   setup_feeder is = ap (declared_after before) (behind_word fields word first) ∙ rw is refl
 
   pub setup_table : bytes_eq word (codes "feeder") ≡ false
-      → declared_after before fields ≡ option_map (λ after. record before { schema = after.0; limit = after.1 }) (table_after before.schema before.limit fields)
+      → declared_after before fields ≡ option_map (λ table. record before { table = table }) (table_after before.table fields)
   setup_table other =
       ap (declared_after before) (behind_word fields word first) ∙ rw other refl
-      ∙ ap (λ fs. option_map (λ after. record before { schema = after.0; limit = after.1 }) (table_after before.schema before.limit fs)) (sym (behind_word fields word first))
+      ∙ ap (λ fs. option_map (λ table. record before { table = table }) (table_after before.table fs)) (sym (behind_word fields word first))
 
 -- ---- what a setup keeps
 
@@ -96,15 +98,15 @@ feeder_keeps capacities limit fields is = by (nat_lt (length capacities) 64) (on
           most = is.most;
         }
 
-pub limit_keeps : (capacities : List ℕ) (schema : Declared) (limit : ℕ) (fields : List Field) → IsSetup capacities limit
-    → IsSetup capacities (unwrap_or {T = Declared × ℕ} (table_after schema limit fields) (schema, limit)).1
-limit_keeps capacities schema limit [] is = is
-limit_keeps capacities schema limit (word ∷ fields) is =
-    by (bytes_eq word (codes "column")) (bytes_eq word (codes "limit")) (column_after schema fields) (limit_of fields) refl
+pub limit_keeps : (capacities : List ℕ) (table : DeclaredTable) (fields : List Field) → IsSetup capacities table.limit
+    → IsSetup capacities (unwrap_or {T = DeclaredTable} (table_after table fields) table).limit
+limit_keeps capacities table [] is = is
+limit_keeps capacities table (word ∷ fields) is =
+    by (bytes_eq word (codes "column")) (bytes_eq word (codes "limit")) (column_after table.schema fields) (limit_of fields) refl
   where
     by : (a b : Bool) (columns : Option Declared) (o : Option ℕ) → limit_of fields ≡ o
-        → IsSetup capacities (unwrap_or {T = Declared × ℕ} (if a then option_map (λ after. (after, limit)) columns
-        else (if b then option_map (λ after. (schema, after)) o else None)) (schema, limit)).1
+        → IsSetup capacities (unwrap_or {T = DeclaredTable} (if a then option_map (λ schema. record table { schema = schema }) columns
+        else (if b then option_map (λ limit. record table { limit = limit }) o else None)) table).limit
     by true b None o number = is
     by true b (Some after) o number = is
     by false false columns o number = is

@@ -38,7 +38,7 @@ total_of schema (word ∷ rest) =
 -- the record asks for this query
 abbrev pub IsQuery : Declared → List Field → Query → Type 0
 IsQuery schema fields query =
-    MatchOption (total_of schema fields) ⊥ (λ found. (query.total ≡ found.0) × IsPredicate schema found.1 query.pred)
+    MatchOption (total_of schema fields) ⊥ (λ (total, rest). (query.total ≡ total) × IsPredicate schema rest query.pred)
 
 -- the event of a record that names a feeder, by the fields after the feeder's
 abbrev pub feeder_event : Declared → Field → ℕ → List Field → Option Event

@@ -14,6 +14,7 @@ use Rattle.bsi_table.specs.declared.errors.AskError.{AskError}
 use Rattle.bsi_table.specs.declared.errors.AskError.TheVariants as ask
 use Rattle.bsi_table.specs.declared.query.Answer.{Answer}
 use Rattle.bsi_table.specs.declared.query.Answer.TheVariants.{Count, Sum, Value, Rows}
+use Rattle.bsi_table.specs.Numbering.{place_feeder, place_number, Place}
 
 abbrev pub bad_line : List ℕ
 bad_line = codes "bad\n"
@@ -50,9 +51,9 @@ close_line (Err close.UnknownFeeder) = codes "no feeder\n"
 close_line (Err close.AlreadyClosed) = codes "closed\n"
 
 -- rows, each by its feeder and its number among the feeder's, with a space before it
-unfoldable pub rows_text : List (ℕ × ℕ) → List ℕ
+unfoldable pub rows_text : List Place → List ℕ
 rows_text [] = []
-rows_text (row ∷ rows) = codes " " ++ decimal row.0 ++ codes ":" ++ decimal row.1 ++ rows_text rows
+rows_text (row ∷ rows) = codes " " ++ decimal (place_feeder row) ++ codes ":" ++ decimal (place_number row) ++ rows_text rows
 
 abbrev pub answer_line : Answer → List ℕ
 answer_line (Count count) = codes "count " ++ decimal count ++ codes "\n"

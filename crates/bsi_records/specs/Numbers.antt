@@ -1,8 +1,9 @@
 -- Numbers and values, as lists of bytes.
-use Rattle.std.specs.Prelude.{ℕ, ◌^◌, Bool, ◌&&◌, ◌==◌, nat_lt, nat_le, min, if◌then◌else◌, List, [], ◌∷◌, length, Option, Some, None, option_map, option_and_then, ℤ, pos, neg_ℤ, int_le, int_lt}
+use Rattle.std.specs.Prelude.{ℕ, Bool, ◌&&◌, ◌==◌, nat_lt, nat_le, min, if◌then◌else◌, List, [], ◌∷◌, length, Option, Some, None, option_map, option_and_then, ℤ, pos, neg_ℤ, int_le, int_lt}
 use Rattle.std.specs.Char.{is_ascii_digit}
 use Rattle.std.specs.List.{list_all, slice_split}
 use Rattle.std.specs.Str.Parse.{digits_value}
+use Rattle.bsi_bits.specs.Packed.{end_of_u64}
 use Rattle.bsi_digits.specs.Signed.{end_of_i64, least_i64}
 use Rattle.bsi_schema.specs.Columns.{is_between}
 use Rattle.bsi_schema.specs.declared.limits.Limits.{Limits}
@@ -14,10 +15,6 @@ Field = List ℕ
 -- at most so many digits of a number
 abbrev pub max_digits : ℕ
 max_digits = 20
-
--- what each number of 64 bits is below
-abbrev pub end_of_u64 : ℕ
-end_of_u64 = 2 ^ 64
 
 -- one to twenty digits, whose value is a number of 64 bits
 abbrev pub is_number : Field → Bool

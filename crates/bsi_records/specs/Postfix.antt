@@ -96,7 +96,7 @@ after_field schema (Comparison c op) stack field = after_sign schema.signed c op
 unfoldable pub after_fields : Declared → List Field → Pending → List Pred → Option State
 after_fields schema [] pending stack = begun pending stack
 after_fields schema (field ∷ fields) pending stack =
-    option_and_then (λ state. after_fields schema fields state.0 state.1) (after_field schema pending stack field)
+    option_and_then (λ (next, preds). after_fields schema fields next preds) (after_field schema pending stack field)
 
 -- the only predicate, where nothing else has begun
 abbrev pub only_of : Pending → List Pred → Option Pred

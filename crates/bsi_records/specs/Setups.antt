@@ -13,15 +13,23 @@ use Rattle.bsi_table.specs.Columns.{max_slices, Declared, form_of, named_column,
 use Rattle.bsi_table.specs.Refusals.{form_refusal, name_refusal}
 use Rattle.bsi_table.specs.Table.{max_feeders, max_rows}
 use Rattle.bsi_records.specs.Numbers.{Field, bases_of, number_between, offset_of}
+use Rattle.bsi_records.specs.declared.setups.DeclaredTable.{DeclaredTable}
 
--- what was declared so far: the columns, the capacity of each feeder, and the most rows of the index
+-- the table of these columns and this limit
+abbrev pub declared_table : Declared → ℕ → DeclaredTable
+declared_table schema limit = record { schema = schema; limit = limit }
+
+-- the table of which nothing was declared: no column, and the greatest limit
+abbrev pub undeclared_table : DeclaredTable
+undeclared_table = declared_table no_columns max_rows
+
+-- what was declared so far: the columns and the limit, and the capacity of each feeder
 pub record Setup : Type 0 where
-  pub schema : Declared
+  pub table : DeclaredTable
   pub capacities : List ℕ
-  pub limit : ℕ
 
 abbrev pub nothing_declared : Setup
-nothing_declared = record { schema = no_columns; capacities = []; limit = max_rows }
+nothing_declared = record { table = undeclared_table; capacities = [] }
 
 -- ---- a column
 
@@ -70,11 +78,12 @@ limit_of fields = only_number max_rows fields
 -- ---- a record
 
 -- the columns and the limit after a record that declares a column or the limit
-abbrev pub table_after : Declared → ℕ → List Field → Option (Declared × ℕ)
-table_after schema limit [] = None
-table_after schema limit (word ∷ fields) =
-    if bytes_eq word (codes "column") then option_map (λ after. (after, limit)) (column_after schema fields)
-    else (if bytes_eq word (codes "limit") then option_map (λ after. (schema, after)) (limit_of fields)
+abbrev pub table_after : DeclaredTable → List Field → Option DeclaredTable
+table_after table [] = None
+table_after table (word ∷ fields) =
+    if bytes_eq word (codes "column")
+    then option_map (λ schema. record table { schema = schema }) (column_after table.schema fields)
+    else (if bytes_eq word (codes "limit") then option_map (λ limit. record table { limit = limit }) (limit_of fields)
     else None)
 
 -- what is declared after a record; none where it is no declaration, or can't be done
@@ -84,8 +93,7 @@ declared_after before (word ∷ fields) =
     if bytes_eq word (codes "feeder")
     then option_map (λ capacities. record before { capacities = capacities })
     (capacities_after before.capacities fields)
-    else option_map (λ after. record before { schema = after.0; limit = after.1 })
-    (table_after before.schema before.limit (word ∷ fields))
+    else option_map (λ table. record before { table = table }) (table_after before.table (word ∷ fields))
 
 -- the record is `begin`
 abbrev pub is_begin : List Field → Bool
@@ -94,11 +102,11 @@ is_begin fields = false
 
 -- a script can begin: there are a column and a feeder
 abbrev pub can_begin : Setup → Bool
-can_begin setup = nat_lt 0 (length setup.schema.columns) && nat_lt 0 (length setup.capacities)
+can_begin setup = nat_lt 0 (length setup.table.schema.columns) && nat_lt 0 (length setup.capacities)
 
 -- the machine that a setup makes
 abbrev pub machine_of : Setup → Shown
-machine_of setup = new_machine setup.schema setup.capacities setup.limit
+machine_of setup = new_machine setup.table.schema setup.capacities setup.table.limit
 
 -- ---- words of the functions that do records
 

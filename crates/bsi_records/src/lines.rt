@@ -13,10 +13,10 @@ pub fn write_reply(reply: &Reply, line: &mut Vec<u8>) -> Result<(), NoMemory>
     ensures ok { OnOk result (line.new.items ≡ line.old.items ++ reply_line reply.now) }
     ensures err { OnErr result (line.new.items ≡ line.old.items) }
 {
-    let length = line.len();
+    let before = line.len();
     let written = write_parts(reply, line);
     if written.is_err() {
-        line.truncate(length);
+        line.truncate(before);
     }
     written
 }

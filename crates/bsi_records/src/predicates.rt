@@ -13,6 +13,7 @@ ghost use Rattle.bsi_records.specs.Reading.{IsReadAs};
 use crate::NoMemory;
 use crate::numbers::read_in;
 use crate::records::field;
+use bsi_schema::MAX_COLUMNS;
 use bsi_slices::Op;
 use bsi_table::{Pred, Schema};
 use csv::ByteRecord;
@@ -47,7 +48,7 @@ pub(crate) fn read_predicate(
         return Ok(None);
     }
     // The call makes the schema's invariant known to the proof: a column's name is none of the words.
-    prove!(schema.columns() <= 64);
+    prove!(schema.columns() <= MAX_COLUMNS);
     let mut stack = Vec::new(alloc);
     let Some(pending) = read_fields(alloc, schema, fields, from, &mut stack)? else {
         return Ok(None);

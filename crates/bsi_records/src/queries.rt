@@ -32,7 +32,7 @@ pub fn read_query(
 
 /// Reads the total that a record asks for, and returns it with the place where the predicate begins.
 fn read_total(schema: &Schema, fields: &ByteRecord) -> Option<(Total, usize)>
-    ensures { option_map (λ found. (found.0, drop found.1 (fields_of fields.now))) result
+    ensures { option_map (λ (total, from). (total, drop from (fields_of fields.now))) result
         ≡ total_of schema.now (fields_of fields.now) }
 {
     let word = fields.get(0)?;

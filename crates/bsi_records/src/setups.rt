@@ -3,7 +3,7 @@
 ghost use Rattle.std.specs.Prelude.{◌≡◌, ◌≤◌, [], None, Some, drop, if◌then◌else◌, IfNone, IfOk, IfSome, OnErr};
 ghost use Rattle.csv.specs.Records.{fields_of};
 ghost use Rattle.bsi_table.specs.Columns.{no_columns};
-ghost use Rattle.bsi_records.specs.Setups.{can_begin, capacities_after, declared_after, is_begin, limit_of, machine_of, nothing_declared, only_number, table_after, IsChange};
+ghost use Rattle.bsi_records.specs.Setups.{can_begin, capacities_after, declared_after, declared_table, is_begin, limit_of, machine_of, nothing_declared, only_number, table_after, undeclared_table, IsChange};
 
 use crate::NoMemory;
 use crate::columns::declare_column;
@@ -15,6 +15,27 @@ use csv::ByteRecord;
 use std::alloc::Global;
 use std::marker::Model;
 use std::mem;
+
+/// The columns and the limit of an index, as records declare them.
+#[derive(Drop)]
+pub struct DeclaredTable {
+    /// The columns.
+    pub schema: Schema,
+    /// The most rows of the index.
+    pub limit: u64,
+}
+
+impl DeclaredTable {
+    /// Makes the table of which nothing was declared: no column, and the greatest limit. It allocates no memory.
+    pub fn new(alloc: Global) -> DeclaredTable
+        ensures { result ≡ undeclared_table }
+    {
+        DeclaredTable {
+            schema: Schema::new(alloc),
+            limit: MAX_ROWS,
+        }
+    }
+}
 
 /// Reads the number of a record that consists of a word and a number from 1 to `most`.
 fn read_only_number(fields: &ByteRecord, most: u64) -> Option<u64>
@@ -36,9 +57,9 @@ pub fn read_setup(
     limit: &mut u64,
     fields: &ByteRecord,
 ) -> Result<bool, NoMemory>
-    ensures done { IfOk result
-        (IsChange (table_after schema.old limit.old (fields_of fields.now))
-        (schema.old, limit.old) (schema.new, limit.new)) }
+    ensures done { IfOk result (IsChange
+        (table_after (declared_table schema.old limit.old) (fields_of fields.now))
+        (declared_table schema.old limit.old) (declared_table schema.new limit.new)) }
     ensures kept { OnErr result ((schema.new ≡ schema.old) × (limit.new ≡ limit.old)) }
 {
     let Some(word) = fields.get(0) else {
@@ -71,25 +92,23 @@ pub fn is_begin(fields: &ByteRecord) -> bool
     fields.len() == 1 && field(fields, 0) == b"begin".as_slice()
 }
 
-/// What the records of a script before `begin` have declared so far: the columns, the feeders, each with the number of
-/// its rows that may wait, and the most rows of the index.
+/// What the records of a script before `begin` have declared so far: the columns and the limit of the index, and the
+/// feeders, each with the number of its rows that may wait.
 #[derive(Drop)]
 pub struct Setup {
-    schema: Schema,
+    table: DeclaredTable,
     capacities: Vec<u32>,
-    limit: u64,
 }
 
-// Clauses see the columns, the capacities and the limit.
+// Clauses see the table and the capacities.
 impl Model for Setup {
     ghost use Rattle.bsi_records.specs.Setups.{IsSetup, Setup};
 
     ghost Value = { Setup };
 
-    ghost view = { λ s. record
-        { schema = s.schema; capacities = s.capacities.items; limit = s.limit } };
+    ghost view = { λ s. record { table = s.table; capacities = s.capacities.items } };
 
-    ghost invariant = { λ s. IsSetup s.capacities.items s.limit };
+    ghost invariant = { λ s. IsSetup s.capacities.items s.table.limit };
 }
 
 impl Setup {
@@ -98,9 +117,8 @@ impl Setup {
         ensures { result ≡ nothing_declared }
     {
         Setup {
-            schema: Schema::new(alloc),
+            table: DeclaredTable::new(alloc),
             capacities: Vec::new(alloc),
-            limit: MAX_ROWS,
         }
     }
 
@@ -117,7 +135,7 @@ impl Setup {
         if word == b"feeder".as_slice() {
             return declare_feeder(&mut self.capacities, fields);
         }
-        read_setup(alloc, &mut self.schema, &mut self.limit, fields)
+        read_setup(alloc, &mut self.table.schema, &mut self.table.limit, fields)
     }
 
     /// Makes the machine that was declared, and moves the columns and the feeders into it. It returns `None`, and
@@ -127,14 +145,17 @@ impl Setup {
             ≡ (if can_begin self.old then Some (machine_of self.old) else None)) }
         ensures kept { IfOk result (λ made. IfNone made (self.new ≡ self.old)) }
         ensures emptied { OnErr result (self.new
-            ≡ record { schema = no_columns; capacities = []; limit = self.old.limit }) }
+            ≡ record {
+              table = record { schema = no_columns; limit = self.old.table.limit };
+              capacities = [];
+            }) }
     {
-        if self.schema.columns() == 0 || self.capacities.is_empty() {
+        if self.table.schema.columns() == 0 || self.capacities.is_empty() {
             return Ok(None);
         }
-        let schema = mem::replace(&mut self.schema, Schema::new(alloc));
+        let schema = mem::replace(&mut self.table.schema, Schema::new(alloc));
         let capacities = mem::replace(&mut self.capacities, Vec::new(alloc));
-        Core::new(alloc, schema, capacities, self.limit)
+        Core::new(alloc, schema, capacities, self.table.limit)
             .map_err(only_memory)
             .map(Some)
     }

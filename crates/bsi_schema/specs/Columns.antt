@@ -84,9 +84,16 @@ pub record IsSchema (columns : List NamedColumn) : Type 0 where
   pub named : AreNamed columns
   pub each : All IsColumn columns
 
--- the entry of a map of names, as a column
+-- what a map of names has of a column: its name and its kind
+abbrev pub mapped_name : {Z : Type 0} → String Z × Kind → List ℕ
+mapped_name mapped = string_bytes mapped.0
+
+abbrev pub mapped_kind : {Z : Type 0} → String Z × Kind → Kind
+mapped_kind mapped = mapped.1
+
+-- that, as a column
 abbrev pub named : {Z : Type 0} → String Z × Kind → NamedColumn
-named entry = named_column (string_bytes entry.0) entry.1.form entry.1.offset
+named mapped = named_column (mapped_name mapped) (mapped_kind mapped).form (mapped_kind mapped).offset
 
 -- the entries of a row, one for each column
 abbrev pub Entries : Type 0

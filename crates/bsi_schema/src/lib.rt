@@ -11,6 +11,6 @@ mod schema_error;
 pub use form::{ColumnSpec, Form, MAX_SLICES};
 pub use limits::{Limits, have_same_limits, take_each, to_i64};
 pub use row::Row;
-pub use schema::Schema;
+pub use schema::{MAX_COLUMNS, Schema};
 pub use schema_error::SchemaError;
 pub use std::alloc::AllocError as NoMemory;

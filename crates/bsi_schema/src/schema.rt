@@ -18,7 +18,7 @@ use std::marker::Model;
 use std::str::from_utf8;
 
 /// The most columns of a schema.
-const MAX_COLUMNS: usize = 64;
+pub const MAX_COLUMNS: u32 = 64;
 
 /// The most that the offset and the size of a column add up to.
 const MAX_END: i128 = 1 << 63;
@@ -215,7 +215,7 @@ impl Schema {
         if self.position(name).is_some() {
             return Err(SchemaError::NameTaken);
         }
-        if self.columns.len() >= MAX_COLUMNS {
+        if self.columns() >= MAX_COLUMNS {
             return Err(SchemaError::TooManyColumns);
         }
         Ok(())

@@ -3,6 +3,6 @@
 
 mod shifted;
 
-pub use bsi_columns::MAX_BLOCK_WORDS;
+pub use bsi_columns::MAX_SPAN_WORDS;
 pub use shifted::Shifted;
 pub use std::alloc::AllocError as NoMemory;

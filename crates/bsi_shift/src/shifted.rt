@@ -20,7 +20,7 @@ mod totals;
 pub struct Shifted {
     stored: AnyColumn,
     offset: i64,
-    // The size of the stored column, kept since that column multiplies its bases to tell it.
+    // The size of the stored column, kept so that no call asks which form that column has.
     size: u64,
 }
 

@@ -1,4 +1,4 @@
--- The number at an end of the rows of a found set, block by block.
+-- The number at an end of the rows of a found set, span by span.
 use Rattle.std.proofs.Common.{◌≡◌, ℕ, zero, suc, ◌+◌, ◌-◌, ◌<◌, ◌≤◌, Bool, true, false, ◌&&◌, List, [], ◌∷◌, Option, Some, None, length, get_or, map, inl, inr, ap, sym, ◌∙◌, refl, arith, is_some, ◌⊎◌}
 use Rattle.std.specs.Option.{option_or}
 use Rattle.std.specs.Prelude.{nat_le, All, Contains}
@@ -10,24 +10,24 @@ use Rattle.bsi_slices.specs.declared.slices.ends.End.{End}
 use Rattle.bsi_slices.specs.declared.slices.ends.End.TheVariants.{Least, Greatest}
 use Rattle.bsi_slices.specs.Ends.{comes_first, number_at, has_number, IsEndAmong, IsEndUpto, IsEndOf, IsBetterIn}
 
--- ---- one block more
+-- ---- one span more
 
 pub trans_first : (end : End) (a b c : ℕ) → comes_first end a b → comes_first end b c → comes_first end a c
 trans_first Least a b c first second = omega arith
 trans_first Greatest a b c first second = omega arith
 
--- row r is before a block, or in it
-cases_block : (from r : ℕ) → (r < from) ⊎ ((p : ℕ) × (from + p ≡ r))
-cases_block from r = elim (cases_lt r from) [
+-- row r is before a span, or in it
+cases_span : (from r : ℕ) → (r < from) ⊎ ((p : ℕ) × (from + p ≡ r))
+cases_span from r = elim (cases_lt r from) [
   | inl before ↦ inl before
   | inr past ↦ inr (r - from, omega arith)
 ]
 
 module _ (end : End) (found : List Bool) (entries : List (Option ℕ)) (from n : ℕ) (marked : ℕ → Bool)
     (bits : (p : ℕ) → p < n → marked p ≡ has_number found entries (from + p)) where
-  -- none before the block, and none of it leads
+  -- none before the span, and none of it leads
   no_row : ((r : ℕ) → r < from → has_number found entries r ≡ false) → ((p : ℕ) → p < n → marked p ≡ true → ⊥) → (r : ℕ) → r < from + n → has_number found entries r ≡ false
-  no_row before none r below = elim (cases_block from r) [
+  no_row before none r below = elim (cases_span from r) [
     | inl first ↦ before r first
     | inr later ↦ off (has_number found entries r) (λ on. none later.0 (omega (arith, later.1)) (bits later.0 (omega (arith, later.1)) ∙ ap (has_number found entries) later.1 ∙ on))
   ]
@@ -41,7 +41,7 @@ module _ (end : End) (found : List Bool) (entries : List (Option ℕ)) (from n :
       → IsEndAmong end (has_number found entries) (number_at entries) (from + n) best
   kept_row best before leading = record {
     member = (before.member.0, omega (arith, before.member.1), before.member.2, before.member.3);
-    first = λ r below there. elim (cases_block from r) [
+    first = λ r below there. elim (cases_span from r) [
       | inl earlier ↦ before.first r earlier there
       | inr later ↦
           let First : ℕ → Type 0 = λ k. comes_first end best (number_at entries k) in
@@ -49,27 +49,27 @@ module _ (end : End) (found : List Bool) (entries : List (Option ℕ)) (from n :
     ];
   }
 
-  -- one of the block takes its place
+  -- one of the span takes its place
   taken_row : (m : ℕ) → IsEndAmong end marked (λ p. number_at entries (from + p)) n m → ((r : ℕ) → r < from → has_number found entries r ≡ true → comes_first end m (number_at entries r))
       → IsEndAmong end (has_number found entries) (number_at entries) (from + n) m
-  taken_row m block before = record {
-    member = (from + block.member.0, omega (arith, block.member.1), sym (bits block.member.0 block.member.1) ∙ block.member.2, block.member.3);
-    first = λ r below there. elim (cases_block from r) [
+  taken_row m span before = record {
+    member = (from + span.member.0, omega (arith, span.member.1), sym (bits span.member.0 span.member.1) ∙ span.member.2, span.member.3);
+    first = λ r below there. elim (cases_span from r) [
       | inl earlier ↦ before r earlier there
-      | inr later ↦ rw later.1 at (block.first later.0 (omega (arith, later.1)) (bits later.0 (omega (arith, later.1)) ∙ ap (has_number found entries) later.1 ∙ there))
+      | inr later ↦ rw later.1 at (span.first later.0 (omega (arith, later.1)) (bits later.0 (omega (arith, later.1)) ∙ ap (has_number found entries) later.1 ∙ there))
     ];
   }
 
-  pub block_more : (best answer : Option ℕ) → IsEndUpto end found entries from best → IsBetterIn end marked (λ p. number_at entries (from + p)) n best answer
+  pub span_more : (best answer : Option ℕ) → IsEndUpto end found entries from best → IsBetterIn end marked (λ p. number_at entries (from + p)) n best answer
       → IsEndUpto end found entries (from + n) (option_or answer best)
-  block_more None None before none = no_row before none
-  block_more (Some best) None before leading = kept_row best before leading
-  block_more None (Some m) before better = taken_row m better.0 (λ r below there. absurd (on_and_off (has_number found entries r) there (before r below)))
+  span_more None None before none = no_row before none
+  span_more (Some best) None before leading = kept_row best before leading
+  span_more None (Some m) before better = taken_row m better.0 (λ r below there. absurd (on_and_off (has_number found entries r) there (before r below)))
     where
       on_and_off : (b : Bool) → b ≡ true → b ≡ false → ⊥
       on_and_off true on off = absurd (cc)
       on_and_off false on off = absurd (cc)
-  block_more (Some best) (Some m) before better =
+  span_more (Some best) (Some m) before better =
       taken_row m better.0 (λ r below there. trans_first end m best (number_at entries r) better.1 (before.first r below there))
 
 -- ---- rows and entries

@@ -71,15 +71,15 @@ pub byte_small : (bit : Bool) → bool_byte bit < 2
 byte_small true = omega arith
 byte_small false = omega arith
 
--- the marks of a block
+-- which entries of a block are numbers
 module _ (block : List (Option ℕ)) (word : ℕ) (few : length block ≤ 64) (gathered : Gathered (λ i. bool_byte (is_some (get_or block i None))) (length block) word) where
-  pub marks_are : bits_of (length block) (word ∷ []) ≡ map is_some block
-  marks_are = sym (bits_are (length block) (word ∷ []) (map is_some block) (length-map block is_some) (λ p below.
+  pub bits_are_some : bits_of (length block) (word ∷ []) ≡ map is_some block
+  bits_are_some = sym (bits_are (length block) (word ∷ []) (map is_some block) (length-map block is_some) (λ p below.
       get_or-map is_some block p None false below
       ∙ sym (one_word word p (omega arith) ∙ ap (λ b. b == 1) (gathered.done p below) ∙ bit_byte (is_some (get_or block p None)))))
 
-  pub marks_clear : word < 2 ^ length block
-  marks_clear = below_power word (length block) gathered.rest
+  pub bits_clear : word < 2 ^ length block
+  bits_clear = below_power word (length block) gathered.rest
 
 -- the word of a binary place of a block, by its numbers
 module _ (block : List (Option ℕ)) (numbers words : List ℕ) (few : length block ≤ 64) (read : (r : ℕ) → get_or numbers r 0 ≡ number_or_zero (get_or block r None))

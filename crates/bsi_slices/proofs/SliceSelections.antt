@@ -13,7 +13,7 @@ use Rattle.bsi_slices.specs.declared.decision.Test.{Test}
 use Rattle.bsi_slices.specs.declared.decision.Decision.{Decision}
 use Rattle.bsi_slices.specs.declared.decision.Decision.TheVariants.{Nothing, Everything, Tested}
 use Rattle.bsi_slices.specs.Slices.{number, entries_in}
-use Rattle.bsi_slices.specs.Blocks.{IsKept}
+use Rattle.bsi_slices.specs.Spans.{IsKept}
 use Rattle.bsi_slices.specs.Decisions.{decides, passes}
 use Rattle.bsi_slices.proofs.SliceEntries.{by_entries, get_or-entries_in, length-entries_in}
 use Rattle.bsi_slices.proofs.SliceNumbers.{number_below}
@@ -53,7 +53,7 @@ module _ (not_null : List Bool) (slices : List BitList) (op : Op) (n size : ℕ)
       ∙ (λ j. places r j && passes test (number slices (zero-add r j)))
       ∙ sym (ap (λ s. get_or not_null r false && decides s (number slices r)) is))
 
-  -- a row of a block that is there and decided for is one that the comparison selects; past the last row none is there
+  -- a row of a span that is there and decided for is one that the comparison selects; past the last row none is there
   pub kept_decided : (was : Bool) (r : ℕ) → (was && (get_or not_null r false && decides choice (number slices r)))
       ≡ (was && selects op n (get_or (entries_in not_null slices) r None))
   kept_decided was r = ap (λ b. was && b) (elim (cases_lt r (length not_null)) [

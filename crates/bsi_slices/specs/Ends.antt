@@ -1,6 +1,6 @@
 -- The number at an end of a found set, row by row.
 use Rattle.std.specs.Prelude.{◌≡◌, ℕ, ◌<◌, ◌≤◌, ◌&&◌, Bool, true, false, not, List, Option, Some, None, MatchOption, is_some, slice_index_or}
-use Rattle.bsi_bits.specs.Marked.{HasValue}
+use Rattle.bsi_bits.specs.SetRows.{HasValue}
 use Rattle.bsi_slices.specs.Rows.{number_or_zero}
 use Rattle.bsi_slices.specs.Slices.{bit_value}
 use Rattle.bsi_slices.specs.Totals.{IsLeastOf, IsGreatestOf}
@@ -45,10 +45,10 @@ number_at entries r = number_or_zero (slice_index_or entries r None)
 abbrev pub has_number : List Bool → List (Option ℕ) → ℕ → Bool
 has_number found entries r = slice_index_or found r false && is_some (slice_index_or entries r None)
 
--- m is the number of one of the n rows that are marked, and the nearest
-pub record IsEndAmong (end : End) (marked : ℕ → Bool) (number : ℕ → ℕ) (n m : ℕ) : Type 0 where
-  pub member : HasValue marked number n m
-  pub first : (p : ℕ) → p < n → marked p ≡ true → comes_first end m (number p)
+-- m is the number of one of the n rows that are set, and the nearest
+pub record IsEndAmong (end : End) (rows : ℕ → Bool) (number : ℕ → ℕ) (n m : ℕ) : Type 0 where
+  pub member : HasValue rows number n m
+  pub first : (p : ℕ) → p < n → rows p ≡ true → comes_first end m (number p)
 
 -- the number at the end of the first n rows of a found set, none where none of them has one
 abbrev pub IsEndUpto : End → List Bool → List (Option ℕ) → ℕ → Option ℕ → Type 0
@@ -56,9 +56,9 @@ IsEndUpto end found entries n answer =
     MatchOption answer ((r : ℕ) → r < n → has_number found entries r ≡ false)
     (IsEndAmong end (has_number found entries) (number_at entries) n)
 
--- the number at the end of the n rows that are marked, where it is as near as the best so far; none where that leads
+-- the number at the end of the n rows that are set, where it is as near as the best so far; none where that leads
 -- them all
 abbrev pub IsBetterIn : End → (ℕ → Bool) → (ℕ → ℕ) → ℕ → Option ℕ → Option ℕ → Type 0
-IsBetterIn end marked number n best answer =
-    MatchOption answer ((p : ℕ) → p < n → marked p ≡ true → leads end best (number p))
-    (λ m. IsEndAmong end marked number n m × yields end m best)
+IsBetterIn end rows number n best answer =
+    MatchOption answer ((p : ℕ) → p < n → rows p ≡ true → leads end best (number p))
+    (λ m. IsEndAmong end rows number n m × yields end m best)

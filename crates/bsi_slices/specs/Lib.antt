@@ -1,4 +1,4 @@
-pub mod Blocks
+pub mod Spans
 pub mod Decisions
 pub mod Ends
 pub mod Exchanges

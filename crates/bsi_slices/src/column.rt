@@ -206,7 +206,7 @@ pub trait Column: Drop {
     }
 
     /// Returns the least number at the rows of a found set, or none if there is no number. The provided body takes
-    /// memory as `ranked` does. That of slices, and of components that work on blocks of words, takes no memory.
+    /// memory as `ranked` does. That of slices, and of components that work on spans, takes no memory.
     fn least(&self, found: &Bits) -> Result<Option<u64>, NoMemory>
         requires { length (entries self.now) ≡ length found.now.bits }
         ensures { IfOk result (IsLeastOf (values_at found.now.bits (entries self.now))) }

@@ -8,7 +8,7 @@ ghost use Rattle.bsi_bits.specs.Packed.{bit_of, bits_of};
 
 use crate::NoMemory;
 use bsi_bits::Bits;
-use bsi_words::blocks;
+use bsi_words::spans;
 use std::alloc::Global;
 use std::marker::Model;
 
@@ -143,21 +143,21 @@ impl NotNull {
         })
     }
 
-    /// Keeps in a block of words the rows that have a number. The first word stands for the 64 rows from row `64 * at`
+    /// Keeps in a span of words the rows that have a number. The first word stands for the 64 rows from row `64 * at`
     /// on. It clears bits past the last row. If no row is null, it reads one word alone, that of the last bits.
-    pub fn keep_in(&self, at: usize, block: &mut [u64])
-        requires { at + length block.old ≤ word_count (length self.now.bits) }
-        ensures len { length block.new ≡ length block.old }
-        ensures bits { (p : ℕ) → p < 64 * length block.old →
-            bit_of block.new p ≡ (bit_of block.old p
+    pub fn keep_in(&self, at: usize, span: &mut [u64])
+        requires { at + length span.old ≤ word_count (length self.now.bits) }
+        ensures len { length span.new ≡ length span.old }
+        ensures bits { (p : ℕ) → p < 64 * length span.old →
+            bit_of span.new p ≡ (bit_of span.old p
             && slice_index_or self.now.bits (64 * at + p) false) }
     {
         if self.has_null {
-            blocks::keep_in(&self.bits, at, block);
-        } else if !block.is_empty() {
+            spans::keep_in(&self.bits, at, span);
+        } else if !span.is_empty() {
             let words = self.bits.words();
-            let last = block.len() - 1;
-            block[last] &= words[at + last];
+            let last = span.len() - 1;
+            span[last] &= words[at + last];
         }
     }
 }

@@ -4,7 +4,7 @@ ghost use Rattle.std.specs.Prelude.{◌≡◌, ℕ, ◌++◌, ◌∷◌, [], All
 ghost use Rattle.std.specs.Int.{bit_at};
 ghost use Rattle.bsi_words.specs.Places.{max_places};
 ghost use Rattle.bsi_bits.specs.BitList.{max_block, max_len, word_count};
-ghost use Rattle.bsi_slices.specs.Blocks.{KeepsRows};
+ghost use Rattle.bsi_slices.specs.Spans.{KeepsRows};
 ghost use Rattle.bsi_slices.specs.Orders.{values_at};
 ghost use Rattle.bsi_slices.specs.Rows.{number_or_zero, selects};
 ghost use Rattle.bsi_slices.specs.Slices.{entries_in, IsSliced};
@@ -13,7 +13,7 @@ ghost use Rattle.bsi_slices.specs.Totals.{IsLeastOf, IsGreatestOf};
 use crate::NoMemory;
 use crate::column::{Column, Op};
 use crate::not_null::NotNull;
-use crate::transposing::{mark_not_null, transpose, write_numbers};
+use crate::transposing::{not_null_word, transpose, write_numbers};
 use bsi_bits::{Bitmaps, Bits, MAX_BLOCK, MAX_LEN};
 use compare::{keep_selected, select};
 use std::alloc::Global;
@@ -26,7 +26,7 @@ mod totals;
 pub use ends::End;
 
 /// The most slices of a column.
-const MAX_WIDTH: u32 = 63;
+const MAX_SLICES: u32 = 63;
 
 /// A column of optional numbers below two to the power of its width. Slice `i` holds binary place `i` of the numbers,
 /// and is clear where a row is null.
@@ -83,12 +83,12 @@ impl Slices {
         &self.slices.as_slice()[i as usize]
     }
 
-    /// Keeps in a block of words the rows whose number satisfies the comparison `op` with `constant`, which may be past
+    /// Keeps in a span of words the rows whose number satisfies the comparison `op` with `constant`, which may be past
     /// the size. The first word stands for the 64 rows from row `64 * at` on. A null row is not kept, nor a bit past
     /// the last row. It takes no memory.
-    pub fn keep_selected(&self, op: Op, constant: u64, at: usize, block: &mut [u64])
-        requires { at + length block.old ≤ word_count (length self.now.entries) }
-        ensures { KeepsRows (selects op constant) self.now.entries at block.old block.new }
+    pub fn keep_selected(&self, op: Op, constant: u64, at: usize, span: &mut [u64])
+        requires { at + length span.old ≤ word_count (length self.now.entries) }
+        ensures { KeepsRows (selects op constant) self.now.entries at span.old span.new }
     {
         keep_selected(
             self.slices.as_slice(),
@@ -96,7 +96,7 @@ impl Slices {
             op,
             constant,
             at,
-            block,
+            span,
         )
     }
 }
@@ -274,7 +274,7 @@ fn push_rows(slices: &mut Bitmaps, not_null: &mut NotNull, block: &[Option<u64>]
     transpose(&mut words);
     let count = block.len() as u64;
     slices.push_words(&words[..slices.as_slice().len()], count);
-    not_null.push_word_reserved(mark_not_null(block), count);
+    not_null.push_word_reserved(not_null_word(block), count);
     // The proof takes from this that there are at most 2^32 rows.
     prove!(not_null.len() <= MAX_LEN);
 }

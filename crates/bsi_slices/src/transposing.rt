@@ -3,7 +3,7 @@
 ghost use Rattle.std.specs.Prelude.{◌≡◌, ℕ, ◌+◌, ◌-◌, ◌*◌, ◌/◌, ◌%◌, ◌<◌, ◌≤◌, ◌^◌, [], ◌∷◌, length, map, is_some, None, slice_index, slice_index_or};
 ghost use Rattle.std.specs.Int.{bit_at};
 ghost use Rattle.bsi_bits.specs.BitList.{max_block};
-ghost use Rattle.bsi_bits.specs.Packed.{bits_of};
+ghost use Rattle.bsi_bits.specs.Packed.{bits_of, end_of_u64};
 ghost use Rattle.bsi_slices.specs.Exchanges.{across, IsLow};
 ghost use Rattle.bsi_slices.specs.Rows.{number_or_zero};
 
@@ -23,9 +23,9 @@ pub fn write_numbers(block: &[Option<u64>], numbers: &mut [u64; MAX_BLOCK])
 }
 
 /// Returns the word whose bit `r` tells whether entry `r` of a block is a number.
-pub fn mark_not_null(block: &[Option<u64>]) -> u64
+pub fn not_null_word(block: &[Option<u64>]) -> u64
     requires { length block.now ≤ max_block }
-    ensures marks { bits_of (length block.now) (result ∷ []) ≡ map is_some block.now }
+    ensures bits { bits_of (length block.now) (result ∷ []) ≡ map is_some block.now }
     ensures clear { result < 2 ^ length block.now }
 {
     let mut word = 0;
@@ -37,10 +37,10 @@ pub fn mark_not_null(block: &[Option<u64>]) -> u64
 
 /// Exchanges the rows and the places of 64 words: place `k` of word `r` becomes place `r` of word `k`. The number of a
 /// row and that of a place have six binary places each, and each step exchanges those of one weight (Warren 2002).
-pub(crate) fn transpose(words: &mut [u64; 64])
-    ensures long { length words.new ≡ 64 }
-    ensures fits { (k : ℕ) → slice_index words.new k < 2 ^ 64 }
-    ensures transposed { (k r : ℕ) → k < 64 → r < 64 →
+pub(crate) fn transpose(words: &mut [u64; MAX_BLOCK])
+    ensures long { length words.new ≡ max_block }
+    ensures fits { (k : ℕ) → slice_index words.new k < end_of_u64 }
+    ensures transposed { (k r : ℕ) → k < max_block → r < max_block →
         bit_at (slice_index words.new k) r ≡ bit_at (slice_index words.old r) k }
 {
     exchange(words, 32, 0x0000_0000_ffff_ffff);
@@ -54,11 +54,11 @@ pub(crate) fn transpose(words: &mut [u64; 64])
 
 /// Exchanges the binary place of weight `s` of the row number with that of the place number. `low` has those places set
 /// whose own number has a 0 there.
-fn exchange(words: &mut [u64; 64], s: usize, low: u64)
-    requires weight { (1 ≤ s) × (s ≤ 32) × (2 * s * (32 / s) ≡ 64) }
+fn exchange(words: &mut [u64; MAX_BLOCK], s: usize, low: u64)
+    requires weight { (1 ≤ s) × (s ≤ 32) × (2 * s * (32 / s) ≡ max_block) }
     requires low { IsLow s low }
-    ensures long { length words.new ≡ 64 }
-    ensures exchanged { (k r : ℕ) → k < 64 → r < 64 →
+    ensures long { length words.new ≡ max_block }
+    ensures exchanged { (k r : ℕ) → k < max_block → r < max_block →
         bit_at (slice_index words.new k) r
         ≡ bit_at (slice_index words.old (across s k r)) (across s r k) }
 {
@@ -69,14 +69,14 @@ fn exchange(words: &mut [u64; 64], s: usize, low: u64)
 
 /// Exchanges that place, as `exchange` does, for the `s` rows from `from` on, whose number has a 0 there, and for the
 /// `s` rows after them, whose number has a 1 there.
-fn exchange_run(words: &mut [u64; 64], from: usize, s: usize, low: u64)
-    requires within { (1 ≤ s) × (from + 2 * s ≤ 64) }
+fn exchange_run(words: &mut [u64; MAX_BLOCK], from: usize, s: usize, low: u64)
+    requires within { (1 ≤ s) × (from + 2 * s ≤ max_block) }
     requires low { IsLow s low }
-    ensures long { length words.new ≡ 64 }
-    ensures first { (q r : ℕ) → q < s → r < 64 →
+    ensures long { length words.new ≡ max_block }
+    ensures first { (q r : ℕ) → q < s → r < max_block →
         bit_at (slice_index words.new (from + q)) r
         ≡ bit_at (slice_index words.old (from + q + s * (r / s % 2))) (r - s * (r / s % 2)) }
-    ensures second { (q r : ℕ) → q < s → r < 64 →
+    ensures second { (q r : ℕ) → q < s → r < max_block →
         bit_at (slice_index words.new (from + s + q)) r
         ≡ bit_at (slice_index words.old (from + q + s * (r / s % 2))) (r - s * (r / s % 2) + s) }
     ensures before { (k : ℕ) → k < from → slice_index words.new k ≡ slice_index words.old k }

@@ -22,8 +22,8 @@ pub struct Loader<B: Naming> {
     pub(crate) publisher: Publisher<B>,
 }
 
-// Clauses see which rings there are, the schema and the limit, what was taken of each feeder and what its closing carried,
-// the rows that are seen in its ring, those that are published, and those that are held.
+// Clauses see which rings there are, the schema and the limit, what was taken of each feeder and what its closing
+// carried, the rows that are seen in its ring, those that are published, and those that are held.
 impl<B: Naming> Model for Loader<B> {
     ghost use Rattle.bsi_system.specs.Running.{loading, IsLoader, Loading};
 
@@ -53,9 +53,8 @@ impl<B: Naming> Loader<B> {
     }
 
     /// Takes what stands first in a feeder's ring, and holds it: all rows of a batch at one step, where none of them
-    /// was taken, the limit allows all, and the batch keeps its columns as the index does and has no
-    /// more feeders; and else one row. It returns how many rows it took. If it is refused, all rows stay in the ring.
-    /// It never waits.
+    /// was taken, the limit allows all, and the batch keeps its columns as the index does and has no more feeders; and
+    /// else one row. It returns how many rows it took. If it is refused, all rows stay in the ring. It never waits.
     pub fn load_batch(&mut self, feeder: u32) -> Result<usize, LoadRefused>
         ensures reply { IsBatchLoadReply self.old feeder result }
         ensures seen { IfErr result (IsSeenWhere (seen self.new feeder)) }

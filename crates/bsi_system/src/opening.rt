@@ -14,8 +14,9 @@ use bsi_table::Schema;
 use bsi_versions::{Analyst, History, Naming};
 use std::alloc::Global;
 
-/// Opens a system with a feeder for each capacity, an index of at most `limit` rows, and `analysts` analysts, at most 8.
-/// Nothing is sent, taken, held or published yet. It makes the rings, so that submitting and closing allocate nothing.
+/// Opens a system with a feeder for each capacity, an index of at most `limit` rows, and `analysts` analysts, at most
+/// 8. Nothing is sent, taken, held or published yet. It makes the rings, so that submitting and closing allocate
+/// nothing.
 pub fn open<B: Naming>(
     alloc: Global,
     history: History,

@@ -1,4 +1,4 @@
--- How many of the first rows a predicate selects, from what the blocks of words say.
+-- How many of the first rows a predicate selects, from what the spans say.
 use Rattle.std.proofs.Common.{◌≡◌, ℕ, zero, suc, ◌+◌, ◌<◌, cond, List, map, refl, sym, ap, ◌∙◌, arith}
 use Rattle.std.specs.Prelude.{count_by}
 use Rattle.std.specs.List.{range_with_len}
@@ -14,13 +14,13 @@ use Rattle.bsi_table.proofs.TableRows.{map_twice}
 pub selected_before : List OffsetColumn → Pred → ℕ → ℕ
 selected_before kept pred n = count_by (λ b. b) (map (holds pred) (rows_in kept n))
 
--- how many of the first n places of a block are set
+-- how many of the first n places of a span are set
 set_before : ℕ → List ℕ → ℕ
-set_before n block = count_by (λ b. b) (bits_of n block)
+set_before n span = count_by (λ b. b) (bits_of n span)
 
-set_before_more : (n : ℕ) (block : List ℕ) → set_before (n + 1) block ≡ set_before n block + cond (bit_of block n) 1 0
+set_before_more : (n : ℕ) (span : List ℕ) → set_before (n + 1) span ≡ set_before n span + cond (bit_of span n) 1 0
 unfolding set_before bits_of
-set_before_more n block = sum_by-map-range_with_len_more (λ b. cond b 1 0) (bit_of block) 0 n n (omega arith)
+set_before_more n span = sum_by-map-range_with_len_more (λ b. cond b 1 0) (bit_of span) 0 n n (omega arith)
 
 selected_more : (kept : List OffsetColumn) (pred : Pred) (n : ℕ) → selected_before kept pred (n + 1) ≡ selected_before kept pred n + cond (holds pred (row_in kept n)) 1 0
 unfolding selected_before rows_in
@@ -29,29 +29,29 @@ selected_more kept pred n =
     ∙ sum_by-map-range_with_len_more (λ b. cond b 1 0) (λ r. holds pred (row_in kept r)) 0 n n (omega arith)
     ∙ ap (λ rows. count_by (λ b. b) rows + cond (holds pred (row_in kept n)) 1 0) (sym (map_twice (holds pred) (row_in kept) (range_with_len 0 n)))
 
-none_set : (block : List ℕ) → set_before 0 block ≡ 0
+none_set : (span : List ℕ) → set_before 0 span ≡ 0
 unfolding set_before bits_of
-none_set block = refl
+none_set span = refl
 
--- a block of m rows, after the first n
-pub counted_more : (kept : List OffsetColumn) (pred : Pred) (n m : ℕ) (block : List ℕ)
-    → ((p : ℕ) → p < m → bit_of block p ≡ holds pred (row_in kept (n + p)))
-    → selected_before kept pred n + count_by (λ b. b) (bits_of m block) ≡ selected_before kept pred (n + m)
+-- a span of m rows, after the first n
+pub counted_more : (kept : List OffsetColumn) (pred : Pred) (n m : ℕ) (span : List ℕ)
+    → ((p : ℕ) → p < m → bit_of span p ≡ holds pred (row_in kept (n + p)))
+    → selected_before kept pred n + count_by (λ b. b) (bits_of m span) ≡ selected_before kept pred (n + m)
 unfolding set_before
-counted_more kept pred n zero block each =
+counted_more kept pred n zero span each =
     let next : n ≡ n + zero = omega arith in
     let same = ap (selected_before kept pred) next in
-    omega (arith, none_set block, same)
-counted_more kept pred n (suc m) block each =
+    omega (arith, none_set span, same)
+counted_more kept pred n (suc m) span each =
     let one : m + 1 ≡ suc m = omega arith in
     let next : n + m + 1 ≡ n + suc m = omega arith in
-    let before = counted_more kept pred n m block (λ p below. each p (omega (arith, below))) in
-    let here = set_before_more m block in
+    let before = counted_more kept pred n m span (λ p below. each p (omega (arith, below))) in
+    let here = set_before_more m span in
     let bit = ap {B = ℕ} (λ b. cond b 1 0) (each m (omega arith)) in
     let row = selected_more kept pred (n + m) in
-    let block_is = ap (λ j. count_by (λ b. b) (bits_of j block)) one in
+    let span_is = ap (λ j. count_by (λ b. b) (bits_of j span)) one in
     let rows_are = ap (selected_before kept pred) next in
-    omega (arith, before, here, bit, row, block_is, rows_are)
+    omega (arith, before, here, bit, row, span_is, rows_are)
 
 pub none_selected : (kept : List OffsetColumn) (pred : Pred) → selected_before kept pred 0 ≡ 0
 unfolding selected_before rows_in

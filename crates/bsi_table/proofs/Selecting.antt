@@ -1,4 +1,4 @@
--- What a block of words keeps of the rows by a predicate, from what it keeps by its parts.
+-- What a span keeps of the rows by a predicate, from what it keeps by its parts.
 use Rattle.std.proofs.Common.{◌≡◌, ℕ, ◌+◌, ◌*◌, ◌-◌, ◌<◌, ◌≤◌, Bool, List, ◌++◌, length, get_or, take, drop, map, refl, ap, ap₂, inl, inr, sym, ◌∙◌, true, false, arith, length-append}
 use Rattle.std.specs.Prelude.{None, bit_or, bit_xor, not, ◌&&◌, ◌||◌}
 use Rattle.std.specs.Simd.Lanes.{chunk, zip2}
@@ -11,8 +11,8 @@ use Rattle.bsi_bits.specs.BitList.{differ}
 use Rattle.bsi_bits.specs.Packed.{bit_of, bits_of}
 use Rattle.bsi_bits.proofs.Logic.{xor_bitwise}
 use Rattle.bsi_bits.proofs.Reading.{length-bits_of, get_or-bits_of}
-use Rattle.bsi_columns.proofs.BlockParts.{bit_before, bit_behind, bit_inside}
-use Rattle.bsi_columns.proofs.WordBlocks.{bit_of-chunk, or_bit, zipped_bit}
+use Rattle.bsi_columns.proofs.SpanParts.{bit_before, bit_behind, bit_inside}
+use Rattle.bsi_columns.proofs.WordSpans.{bit_of-chunk, or_bit, zipped_bit}
 use Rattle.bsi_shift.specs.Shifted.{shifted_entries, OffsetColumn}
 use Rattle.bsi_table.specs.declared.query.Pred.{Pred}
 use Rattle.bsi_table.specs.Rows.{entry_at, holds}

@@ -1,7 +1,7 @@
 -- What the answer to a query is.
 use Rattle.std.specs.Prelude.{◌≡◌, ℕ, List, [], ◌∷◌, ◌++◌, Option, Some, None, Result, Ok, Err, length, find, map, nat_le, ℤ}
 use Rattle.bsi_bits.specs.BitList.{BitList}
-use Rattle.bsi_origins.specs.Numbering.{numbered_at}
+use Rattle.bsi_origins.specs.Numbering.{numbered_at, Place}
 use Rattle.bsi_shift.specs.WholeNumbers.{signed_sum, IsSignedLeastOf, IsSignedGreatestOf, IsSignedMedianOf}
 use Rattle.bsi_table.specs.declared.errors.AskError.{AskError}
 use Rattle.bsi_table.specs.declared.errors.AskError.TheVariants.{BadColumn, NoMemory}
@@ -19,10 +19,10 @@ abbrev pub IsValue : (Option ℤ → Type 0) → Answer → Type 0
 IsValue Is (value_answer number) = Is number
 IsValue Is answer = ⊥
 
--- the answer is this list of rows
-abbrev pub IsRows : List (ℕ × ℕ) → Answer → Type 0
-IsRows rows (rows_answer listed) = listed.items ≡ rows
-IsRows rows answer = ⊥
+-- the answer is this list of the places of rows
+abbrev pub IsRows : List Place → Answer → Type 0
+IsRows places (rows_answer listed) = listed.items ≡ places
+IsRows places answer = ⊥
 
 -- the answer is the total of the rows that the predicate selects
 abbrev pub IsTotal : Total → Pred → List FedRow → Answer → Type 0

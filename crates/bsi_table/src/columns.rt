@@ -99,8 +99,8 @@ pub(crate) fn push_block_each(columns: &mut [Shifted], block: &Block)
     requires taken { All (λ row. TakesRow columns.old (row_entries row)) block.now.rows }
     ensures { HaveMore columns.old columns.new block.now.rows }
 {
-    'columns: for c in 0..columns.len() {
-        columns[c].push_block_reserved(block.column(c));
+    'columns: for (c, column) in columns.iter_mut().enumerate() {
+        column.push_block_reserved(block.column(c));
     }
 }
 

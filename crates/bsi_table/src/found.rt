@@ -1,9 +1,9 @@
 //! The rows that a predicate selects, one span of rows after another.
 //!
-//! A span is 1,024 words of a bitmap: with shorter ones too little of a bitmap is read before the next. `or` and `not`
-//! save the span's words in one list that grows and shrinks with them, so a level of a predicate takes no more stack
-//! than the call. A count narrows, trims and counts one span after the other in the same words, and takes memory for
-//! saved words alone.
+//! A span is `MAX_SPAN_WORDS` words of bitmaps, or as many as are left, and the rows that they stand for: with shorter
+//! ones too little of a bitmap is read before the next. `or` and `not` save the span's words in one list that grows and
+//! shrinks with them, so a level of a predicate takes no more stack than the call. A count narrows, trims and counts one
+//! span after the other in the same words, and takes memory for saved words alone.
 
 ghost use Rattle.std.specs.Prelude.{◌≡◌, ℕ, ◌+◌, ◌-◌, ◌≤◌, ◌++◌, bit_or, bit_xor, count_by, drop, false, length, map, take, IfOk, IsFalse, IsOk, OnOk};
 ghost use Rattle.bsi_bits.specs.BitList.{max_len, word_count};
@@ -16,16 +16,16 @@ ghost use Rattle.bsi_table.specs.Spans.{AreFound, AreNarrowed};
 
 use crate::{NoMemory, Pred};
 use bsi_bits::{Bits, know_fits, lanes};
-use bsi_shift::{MAX_BLOCK_WORDS, Shifted};
+use bsi_shift::{MAX_SPAN_WORDS, Shifted};
 use std::alloc::Global;
 
-/// How many rows are narrowed at once, a span. Its words, as many as a column takes at once, stay in the first cache
-/// while a predicate goes over them.
-const NARROWED_ROWS: u64 = 64 * MAX_BLOCK_WORDS as u64;
+/// The most rows of a span. Its words, as many as a column takes at once, stay in the first cache while a predicate goes
+/// over them.
+const MAX_SPAN_ROWS: u64 = 64 * MAX_SPAN_WORDS as u64;
 
 /// Returns for each of so many rows whether the predicate holds of it. Each column that it reads is there. It goes over
-/// the rows in spans of 65,536, each by the whole predicate. It saves one span for each `or` and `not` around the part
-/// that it is reading.
+/// the rows span by span, each by the whole predicate. It saves the words of one span for each `or` and `not` around the
+/// part that it is reading.
 pub(crate) fn find_rows(
     alloc: Global,
     columns: &[Shifted],
@@ -58,16 +58,16 @@ pub(crate) fn count_selected(
     ensures succeeds { IsConjunction pred.now → IsOk result }
 {
     let mut spare = Vec::new(alloc);
-    let mut words = [u64::MAX; MAX_BLOCK_WORDS];
+    let mut words = [u64::MAX; MAX_SPAN_WORDS];
     let mut selected = 0;
-    'spans: for k in 0..rows.div_ceil(NARROWED_ROWS) {
-        let here = NARROWED_ROWS.min(rows - NARROWED_ROWS * k);
+    'spans: for k in 0..rows.div_ceil(MAX_SPAN_ROWS) {
+        let here = MAX_SPAN_ROWS.min(rows - MAX_SPAN_ROWS * k);
         let span = &mut words[..here.div_ceil(64) as usize];
         find_span(
             columns,
             rows,
             pred,
-            MAX_BLOCK_WORDS * k as usize,
+            MAX_SPAN_WORDS * k as usize,
             span,
             &mut spare,
         )?;
@@ -79,7 +79,7 @@ pub(crate) fn count_selected(
 /// Returns how many of the first `rows` places of a span are set. Its words are as few as hold them; it clears the
 /// places behind.
 fn count_span(span: &mut [u64], rows: u64) -> u64
-    requires within { rows ≤ NARROWED_ROWS }
+    requires within { rows ≤ MAX_SPAN_ROWS }
     requires few { length span.old ≡ word_count rows }
     ensures { result ≡ count_by (λ b. b) (bits_of rows span.old) }
 {
@@ -91,7 +91,7 @@ fn count_span(span: &mut [u64], rows: u64) -> u64
 
 /// Clears the places of a span past the first `rows`.
 fn trim(span: &mut [u64], rows: u64)
-    requires within { rows ≤ NARROWED_ROWS }
+    requires within { rows ≤ MAX_SPAN_ROWS }
     requires few { length span.old ≡ word_count rows }
     ensures packed { IsPacked rows span.new }
     ensures bits { bits_of rows span.new ≡ bits_of rows span.old }
@@ -119,9 +119,9 @@ fn narrow_each(
 {
     let mut spare = Vec::new(alloc);
     let len = words.len();
-    'spans: for k in 0..len.div_ceil(MAX_BLOCK_WORDS) {
-        let at = MAX_BLOCK_WORDS * k;
-        let span = &mut words[at..len.min(at + MAX_BLOCK_WORDS)];
+    'spans: for k in 0..len.div_ceil(MAX_SPAN_WORDS) {
+        let at = MAX_SPAN_WORDS * k;
+        let span = &mut words[at..len.min(at + MAX_SPAN_WORDS)];
         narrow(columns, rows, pred, at, span, &mut spare)?;
     }
     Ok(())
@@ -136,7 +136,7 @@ fn find_span(
     span: &mut [u64],
     spare: &mut Vec<u64>,
 ) -> Result<(), NoMemory>
-    requires few { length span.old ≤ MAX_BLOCK_WORDS }
+    requires few { length span.old ≤ MAX_SPAN_WORDS }
     requires within { at + length span.old ≤ word_count rows }
     requires even { HaveRows columns.now rows }
     requires there { ReadsAmong (length columns.now) pred.now }
@@ -158,7 +158,7 @@ fn narrow(
     span: &mut [u64],
     spare: &mut Vec<u64>,
 ) -> Result<(), NoMemory>
-    requires few { length span.old ≤ MAX_BLOCK_WORDS }
+    requires few { length span.old ≤ MAX_SPAN_WORDS }
     requires within { at + length span.old ≤ word_count rows }
     requires even { HaveRows columns.now rows }
     requires there { ReadsAmong (length columns.now) pred.now }

@@ -1,7 +1,7 @@
 //! Components of both encodings on worked digits, called through the trait `Encoding`.
 
 ghost use Rattle.std.specs.Prelude.{◌≤◌};
-ghost use Rattle.bsi_digits.specs.Digits.{max_base};
+ghost use Rattle.bsi_digits.specs.Digits.{IsBase};
 
 use crate::bits::filled;
 use bsi_bits::{Bits, MAX_LEN};
@@ -13,7 +13,7 @@ fn is_set(bits: &Bits, place: u64) -> bool {
 }
 
 // Whether the vector has these bits and no others.
-fn shows(bits: &Bits, wanted: &[bool]) -> bool {
+fn has_bits(bits: &Bits, wanted: &[bool]) -> bool {
     bits.len() == wanted.len() as u64
         && wanted
             .iter()
@@ -22,7 +22,7 @@ fn shows(bits: &Bits, wanted: &[bool]) -> bool {
 }
 
 fn make<E: Encoding>(alloc: Global, base: u32) -> Result<E, NoMemory>
-    requires { (2 ≤ base) × (base ≤ max_base) }
+    requires { IsBase base }
 {
     match E::make(alloc, base) {
         Err(_) => E::make(alloc, base),
@@ -77,7 +77,7 @@ fn push<E: Encoding>(component: &mut E, digit: u32) -> Result<(), NoMemory> {
 
 // A component of these digits.
 fn component_of<E: Encoding>(alloc: Global, base: u32, digits: &[u32]) -> Result<E, NoMemory>
-    requires { (2 ≤ base) × (base ≤ max_base) }
+    requires { IsBase base }
 {
     let mut component = make::<E>(alloc, base)?;
     for digit in digits {
@@ -88,12 +88,12 @@ fn component_of<E: Encoding>(alloc: Global, base: u32, digits: &[u32]) -> Result
 
 // Whether just these rows have the digit.
 fn eq_is<E: Encoding>(component: &E, d: u32, out: &mut Bits, expected: &[bool]) -> bool {
-    eq(component, d, out) && shows(out, expected)
+    eq(component, d, out) && has_bits(out, expected)
 }
 
 // Whether just these rows have a digit up to this one.
 fn le_is<E: Encoding>(component: &E, d: u32, out: &mut Bits, expected: &[bool]) -> bool {
-    le(component, d, out) && shows(out, expected)
+    le(component, d, out) && has_bits(out, expected)
 }
 
 // Whether the digits 0, 2 and 1 are found and summed as they should be.
@@ -154,7 +154,7 @@ fn copies_are_apart(rt: HostRuntime) {
 fn equality_shows(component: &EqualityComponent, j: u32, expected: &[bool]) -> bool {
     j < component.base()
         && (component.base() != 2 || j == 1)
-        && shows(component.bitmap(j), expected)
+        && has_bits(component.bitmap(j), expected)
 }
 
 // Whether the bitmap of digit 1, of a component of these digits, is this.
@@ -164,7 +164,7 @@ fn equality_stores(
     digits: &[u32],
     expected: &[bool],
 ) -> Result<bool, NoMemory>
-    requires { (2 ≤ base) × (base ≤ max_base) }
+    requires { IsBase base }
 {
     let component = component_of::<EqualityComponent>(alloc, base, digits)?;
     Ok(equality_shows(&component, 1, expected))
@@ -172,7 +172,7 @@ fn equality_stores(
 
 fn range_stores(alloc: Global, digits: &[u32], expected: &[bool]) -> Result<bool, NoMemory> {
     let component = component_of::<RangeComponent>(alloc, 3, digits)?;
-    Ok(component.base() > 1 && shows(component.bitmap(0), expected))
+    Ok(component.base() > 1 && has_bits(component.bitmap(0), expected))
 }
 
 fn bitmaps_are_stored(alloc: Global) -> Result<bool, NoMemory> {

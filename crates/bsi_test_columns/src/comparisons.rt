@@ -2,7 +2,7 @@
 
 use bsi_bits::Bits;
 use bsi_columns::{AnyColumn, Column, NoMemory, Op};
-use bsi_plain::{FORMS, MakingError, TestForm, Wide, append, compared, no_rows, shows};
+use bsi_plain::{FORMS, MakingError, TestForm, Wide, append, compared, empty_column, has_bits};
 use std::alloc::Global;
 
 /// The comparisons of the entries 3, none and 2.
@@ -24,7 +24,7 @@ pub(crate) fn selects<C: Column>(
     wanted: &[bool],
 ) -> Result<bool, NoMemory> {
     let found = compared(column, op, constant)?;
-    Ok(shows(&found, wanted))
+    Ok(has_bits(&found, wanted))
 }
 
 /// Returns whether each of those comparisons selects what it should.
@@ -50,7 +50,7 @@ pub(crate) fn column_of(
     wide: Wide,
     entries: &[Option<u64>],
 ) -> Result<AnyColumn, MakingError> {
-    let mut column = no_rows(alloc, form, wide)?;
+    let mut column = empty_column(alloc, form, wide)?;
     append(&mut column, entries)?;
     Ok(column)
 }
@@ -72,7 +72,7 @@ fn nulls_are(column: &AnyColumn, wanted: &[bool]) -> Result<bool, NoMemory> {
         Err(_) => nulls_once(column)?,
         Ok(nulls) => nulls,
     };
-    Ok(shows(&nulls, wanted))
+    Ok(has_bits(&nulls, wanted))
 }
 
 fn answers_shown(column: &AnyColumn) -> Result<bool, MakingError> {

@@ -3,7 +3,7 @@
 use crate::comparisons::{FIFTEEN, selects_shown, three_rows};
 use bsi_bits::MAX_LEN;
 use bsi_columns::{AnyColumn, Column, NoMemory};
-use bsi_plain::{FORMS, MakingError, TestForm, append, no_rows};
+use bsi_plain::{FORMS, MakingError, TestForm, append, empty_column};
 use std::alloc::Global;
 
 // Returns whether a growth succeeds.
@@ -12,14 +12,14 @@ fn grows(column: &mut AnyColumn) -> bool {
 }
 
 // Returns what a refused growth must not change.
-fn shown(column: &AnyColumn) -> (u64, u64, u64) {
+fn state_of(column: &AnyColumn) -> (u64, u64, u64) {
     (column.len(), column.size(), column.not_null().count())
 }
 
 // Appends an entry, and returns whether a refused growth changes nothing. The growth is then tried again.
 fn push(column: &mut AnyColumn, entry: Option<u64>) -> Result<bool, MakingError> {
-    let before = shown(column);
-    let stayed = grows(column) || shown(column) == before;
+    let before = state_of(column);
+    let stayed = grows(column) || state_of(column) == before;
     append(column, &[entry])?;
     Ok(stayed)
 }
@@ -34,7 +34,7 @@ fn grows_to_257(column: &mut AnyColumn) -> Result<bool, MakingError> {
 }
 
 fn grows_by_rows(alloc: Global, form: TestForm) -> Result<bool, MakingError> {
-    let mut column = no_rows(alloc, form, FIFTEEN)?;
+    let mut column = empty_column(alloc, form, FIFTEEN)?;
     grows_to_257(&mut column)
 }
 

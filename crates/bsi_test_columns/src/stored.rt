@@ -5,7 +5,7 @@ use bsi_bits::Bits;
 use bsi_columns::{
     Column, Decomposed, Encoding, EqualityComponent, NoMemory, Op, RangeComponent, Slices,
 };
-use bsi_plain::{MakingError, WholeVectors, append, no_digits, no_slices, shows};
+use bsi_plain::{MakingError, WholeVectors, append, empty_decomposed, empty_slices, has_bits};
 use std::alloc::Global;
 
 const ENTRIES: [Option<u64>; 3] = [Some(3), None, Some(2)];
@@ -14,7 +14,7 @@ const ENTRIES: [Option<u64>; 3] = [Some(3), None, Some(2)];
 const NUMBERS: [bool; 3] = [true, false, true];
 
 fn digits_of<E: Encoding>(alloc: Global) -> Result<Decomposed<E>, MakingError> {
-    let mut column = no_digits::<E>(alloc, FIFTEEN.bases)?;
+    let mut column = empty_decomposed::<E>(alloc, FIFTEEN.bases)?;
     append(&mut column, &ENTRIES)?;
     Ok(column)
 }
@@ -24,13 +24,13 @@ fn equality_shows(column: &Decomposed<EqualityComponent>, i: u32, j: u32, wanted
         return false;
     }
     let component = column.component(i);
-    component.base() > 2 && j < component.base() && shows(component.bitmap(j), wanted)
+    component.base() > 2 && j < component.base() && has_bits(component.bitmap(j), wanted)
 }
 
 fn equality_stores(alloc: Global) -> Result<bool, MakingError> {
     let column = digits_of::<EqualityComponent>(alloc)?;
     Ok(
-        shows(column.not_null(), &NUMBERS)
+        has_bits(column.not_null(), &NUMBERS)
             && equality_shows(&column, 0, 2, &[false, false, true])
             && equality_shows(&column, 1, 1, &[true, false, false]),
     )
@@ -41,23 +41,23 @@ fn range_shows(column: &Decomposed<RangeComponent>, i: u32, j: u32, wanted: &[bo
         return false;
     }
     let component = column.component(i);
-    j < component.base() - 1 && shows(component.bitmap(j), wanted)
+    j < component.base() - 1 && has_bits(component.bitmap(j), wanted)
 }
 
 fn range_stores(alloc: Global) -> Result<bool, MakingError> {
     let column = digits_of::<RangeComponent>(alloc)?;
-    Ok(shows(column.not_null(), &NUMBERS) && range_shows(&column, 0, 0, &[true, true, false]))
+    Ok(has_bits(column.not_null(), &NUMBERS) && range_shows(&column, 0, 0, &[true, true, false]))
 }
 
 fn slice_shows(column: &Slices, i: u32, wanted: &[bool]) -> bool {
-    i < column.width() && shows(column.slice(i), wanted)
+    i < column.width() && has_bits(column.slice(i), wanted)
 }
 
 fn slices_store(alloc: Global) -> Result<bool, MakingError> {
-    let mut column = no_slices(alloc, 2)?;
+    let mut column = empty_slices(alloc, 2)?;
     append(&mut column, &ENTRIES)?;
     Ok(
-        shows(column.not_null(), &NUMBERS)
+        has_bits(column.not_null(), &NUMBERS)
             && slice_shows(&column, 0, &[true, false, false])
             && slice_shows(&column, 1, &[true, false, true]),
     )
@@ -75,12 +75,21 @@ fn stored_bits(rt: HostRuntime) {
 type Counted<E> = Decomposed<WholeVectors<E>>;
 
 // How many calls of a component wrote a vector, and how many sums it was asked for.
-fn asked<E: Encoding>(column: &Counted<E>, i: u32) -> (u32, u32) {
+#[derive(Clone, Copy)]
+struct Asked {
+    calls: u32,
+    sums: u32,
+}
+
+fn asked<E: Encoding>(column: &Counted<E>, i: u32) -> Asked {
     if i >= column.bases().len() {
-        return (0, 0);
+        return Asked { calls: 0, sums: 0 };
     }
     let component = column.component(i);
-    (component.calls(), component.sums())
+    Asked {
+        calls: component.calls(),
+        sums: component.sums(),
+    }
 }
 
 // The rows at most 2.
@@ -91,24 +100,24 @@ fn at_most_two<E: Encoding>(column: &Counted<E>) -> Result<Bits, NoMemory> {
     }
 }
 
-fn is_one_to_four(after: (u32, u32), before: (u32, u32)) -> bool {
-    after.0 > before.0 && after.0 - before.0 <= 4
+fn is_one_to_four(after: Asked, before: Asked) -> bool {
+    after.calls > before.calls && after.calls - before.calls <= 4
 }
 
-// Whether a comparison calls each component one to four times, if its encoding has no calls on blocks.
+// Whether a comparison calls each component one to four times, if its encoding has no calls on spans.
 fn compares_by_components<E: Encoding>(column: &Counted<E>) -> Result<bool, NoMemory> {
     let (first, second) = (asked(column, 0), asked(column, 1));
     let found = at_most_two(column)?;
     let called = is_one_to_four(asked(column, 0), first)
         && is_one_to_four(asked(column, 1), second);
-    Ok(called && shows(&found, &[false, false, true]))
+    Ok(called && has_bits(&found, &[false, false, true]))
 }
 
 // Whether a sum asks each component.
 fn sums_by_components<E: Encoding>(column: &Counted<E>) -> bool {
     let (first, second) = (asked(column, 0), asked(column, 1));
     let sum = column.sum(column.not_null());
-    sum == 5 && asked(column, 0).1 > first.1 && asked(column, 1).1 > second.1
+    sum == 5 && asked(column, 0).sums > first.sums && asked(column, 1).sums > second.sums
 }
 
 fn has_components<E: Encoding>(column: &Counted<E>) -> Result<bool, MakingError> {

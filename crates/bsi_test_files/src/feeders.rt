@@ -17,6 +17,9 @@ use std::sync::Wait;
 use std::thread;
 use std::thread::Threads;
 
+/// The most rows of the index.
+const LIMIT: u64 = 10;
+
 /// What is tried on a system of two feeders.
 #[derive(Clone, Copy)]
 enum Tried {
@@ -26,9 +29,9 @@ enum Tried {
     AnotherSchema,
 }
 
-fn quantities(alloc: Global, size: u32) -> Option<Schema> {
+fn quantities(alloc: Global, bits: u32) -> Option<Schema> {
     let mut schema = Schema::new(alloc);
-    schema.add("qty", ColumnSpec::Slices(size)).ok()?;
+    schema.add("qty", ColumnSpec::Slices(bits)).ok()?;
     Some(schema)
 }
 
@@ -172,9 +175,9 @@ fn try_in<B: Naming, R: Threads + Wait + Sync>(
     capacities: Vec<u32>,
 ) -> Option<bool>
     requires history { history ≡ record { book = B.book; list = [] } }
-    requires about { B.about ≡ no_rows schema (length capacities.items) 10 }
+    requires about { B.about ≡ no_rows schema (length capacities.items) LIMIT }
 {
-    match open::<B>(alloc, history, schema, capacities, 10, 0) {
+    match open::<B>(alloc, history, schema, capacities, LIMIT, 0) {
         Ok(system) => {
             let System {
                 mut feeders,

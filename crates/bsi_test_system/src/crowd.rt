@@ -20,6 +20,9 @@ use std::test::Fail;
 use std::thread;
 use std::thread::{JoinHandle, Promise, PromisedHandle, Threads};
 
+/// The most rows of the index.
+const LIMIT: u64 = 1_000;
+
 /// How many of each there are.
 #[derive(Clone, Copy)]
 struct Crowd {
@@ -69,11 +72,13 @@ fn make_board<B: Naming>(
 
 /// The promise of a feeder's thread: its closing is that of the feeder that it was given.
 #[derive(Drop)]
-struct OfFeeder(Snapshot<Feeder>);
+struct OfFeeder {
+    feeder: Snapshot<Feeder>,
+}
 
 impl Promise<Option<Closing>> for OfFeeder {
     ghost kept_by = { λ promise ended.
-        IfSome ended (λ c. (c.number ≡ promise.0.value.number) × (c.channel ≡ promise.0.value.channel)) };
+        IfSome ended (λ c. (c.number ≡ promise.feeder.value.number) × (c.channel ≡ promise.feeder.value.channel)) };
 }
 
 /// A feeder's thread.
@@ -147,10 +152,12 @@ fn start_feeder<B: Naming + Send + Sync + 'static, R: Threads>(
     rows: u32,
     board: &Arc<Board<B>, Global>,
 ) -> Option<Sender>
-    ensures { IfSome result (λ handle. handle.promise.0.value ≡ feeder) }
+    ensures { IfSome result (λ handle. handle.promise.feeder.value ≡ feeder) }
 {
     let board = Arc::try_clone(board).ok()?;
-    let promise = OfFeeder(Snapshot::of(&feeder));
+    let promise = OfFeeder {
+        feeder: Snapshot::of(&feeder),
+    };
     thread::spawn_with(rt, promise, move || feed(alloc, feeder, rows, &board)).ok()
 }
 
@@ -165,8 +172,8 @@ fn start_next<B: Naming + Send + Sync + 'static, R: Threads>(
     senders: &mut Vec<Sender>,
 )
     requires feeder { IsFeederOf feeder loader.now.system }
-    requires senders { All (λ s. IsFeederOf s.promise.0.value loader.now.system) senders.old.items }
-    ensures { All (λ s. IsFeederOf s.promise.0.value loader.now.system) senders.new.items }
+    requires senders { All (λ s. IsFeederOf s.promise.feeder.value loader.now.system) senders.old.items }
+    ensures { All (λ s. IsFeederOf s.promise.feeder.value loader.now.system) senders.new.items }
 {
     let started = match start_feeder(rt, alloc, feeder, rows, board) {
         Some(sender) => senders.push(sender).is_ok(),
@@ -187,7 +194,7 @@ fn start_feeders<B: Naming + Send + Sync + 'static, R: Threads>(
     loader: &Loader<B>,
 ) -> Option<Vec<Sender>>
     requires { All (λ f. IsFeederOf f loader.now.system) feeders.items }
-    ensures { IfSome result (λ senders. All (λ s. IsFeederOf s.promise.0.value loader.now.system)
+    ensures { IfSome result (λ senders. All (λ s. IsFeederOf s.promise.feeder.value loader.now.system)
         senders.items) }
 {
     let mut senders = Vec::with_capacity(alloc, feeders.len()).ok()?;
@@ -255,7 +262,7 @@ fn serve<B: Naming, R: Wait>(
 
 /// Learns what a feeder sent, and loads what its ring still has. It returns false if that is not all.
 fn settle_one<B: Naming, R: Threads>(rt: &R, loader: &mut Loader<B>, sender: Sender) -> bool
-    requires { IsFeederOf sender.promise.0.value loader.old.system }
+    requires { IsFeederOf sender.promise.feeder.value loader.old.system }
     ensures { loader.new.system ≡ loader.old.system }
 {
     let Some(closing) = sender.join(rt) else {
@@ -280,7 +287,7 @@ fn load_rest<B: Naming>(loader: &mut Loader<B>, feeder: u32) -> bool
 
 /// Joins all feeders' threads, and loads all that they sent.
 fn settle_all<B: Naming, R: Threads>(rt: &R, loader: &mut Loader<B>, senders: Vec<Sender>) -> bool
-    requires { All (λ s. IsFeederOf s.promise.0.value loader.old.system) senders.items }
+    requires { All (λ s. IsFeederOf s.promise.feeder.value loader.old.system) senders.items }
 {
     let mut settled = true;
     'senders: for sender in senders {
@@ -385,10 +392,11 @@ fn rows_at<B: Naming>(
 
 /// Returns whether a row is of a feeder, in the first column, or is at a place among its feeder's rows, in the second.
 fn is_at(row: (u32, u64), column: u32, value: u32) -> bool {
+    let (feeder, number) = row;
     if column == 0 {
-        row.0 == value
+        feeder == value
     } else {
-        row.1 == u64::from(value)
+        number == u64::from(value)
     }
 }
 
@@ -467,7 +475,7 @@ fn start<B: Naming + Send + Sync + 'static, R: Threads>(
     loader: &Loader<B>,
 ) -> Option<Started<B>>
     requires { All (λ f. IsFeederOf f loader.now.system) feeders.items }
-    ensures { IfSome result (λ all. All (λ s. IsFeederOf s.promise.0.value loader.now.system)
+    ensures { IfSome result (λ all. All (λ s. IsFeederOf s.promise.feeder.value loader.now.system)
         all.senders.items) }
 {
     let board = make_board(alloc, analysts.len()).ok()?;
@@ -494,7 +502,7 @@ fn finish<B: Naming, R: Threads + Wait>(
     senders: Vec<Sender>,
     feeders: u32,
 ) -> bool
-    requires { All (λ s. IsFeederOf s.promise.0.value loader.old.system) senders.items }
+    requires { All (λ s. IsFeederOf s.promise.feeder.value loader.old.system) senders.items }
 {
     serve(rt, loader, feeders, senders.len() as u64, board);
     let settled = settle_all(rt, loader, senders);
@@ -551,13 +559,21 @@ fn run_in<B: Naming + Send + Sync + 'static, R: Threads + Wait>(
 ) -> Option<bool>
     requires few { crowd.analysts ≤ max_analysts }
     requires history { history ≡ record { book = B.book; list = [] } }
-    requires about { B.about ≡ no_rows schema (length capacities.items) 1000 }
+    requires about { B.about ≡ no_rows schema (length capacities.items) LIMIT }
 {
     let System {
         feeders,
         mut loader,
         analysts,
-    } = opened::<B, R>(rt, alloc, history, schema, capacities, 1000, crowd.analysts)?;
+    } = opened::<B, R>(
+        rt,
+        alloc,
+        history,
+        schema,
+        capacities,
+        LIMIT,
+        crowd.analysts,
+    )?;
     let ran = run(rt, alloc, crowd, feeders, analysts, &mut loader);
     loader.end(rt);
     ran

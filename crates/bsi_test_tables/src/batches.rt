@@ -4,7 +4,7 @@
 use crate::tables::{answer, index_of};
 use bsi_columns::NoMemory;
 use bsi_plain::{DeclaredColumn, FORMS, QTY, TestForm, row_of};
-use bsi_table::{Answer, AppendError, Block, Index, IndexError, Pred, Row, Total};
+use bsi_table::{Answer, AppendError, Block, Index, IndexError, MAX_BLOCK_ROWS, Pred, Row, Total};
 use std::alloc::Global;
 
 fn block_of(index: &Index) -> Result<Block, NoMemory> {
@@ -23,7 +23,7 @@ fn batch_like(index: &Index) -> Result<Index, NoMemory> {
 
 // Whether the block has room and takes the row.
 fn add(block: &mut Block, feeder: u32, row: &Row) -> bool {
-    block.len() < 64 && feeder < block.feeders() && block.push(feeder, row)
+    block.len() < MAX_BLOCK_ROWS && feeder < block.feeders() && block.push(feeder, row)
 }
 
 // Fills the block with so many times the same row, of two feeders by turns. Returns whether it takes them.

@@ -1,7 +1,9 @@
 //! Indexes that the tests make and ask. A refused allocation is tried again.
 
 use bsi_plain::{DeclaredColumn, schema_of};
-use bsi_table::{Answer, AppendError, AskError, Index, IndexError, Pred, Query, Row, Total};
+use bsi_table::{
+    Answer, AppendError, AskError, Index, IndexError, MAX_FEEDERS, Pred, Query, Row, Total,
+};
 use std::alloc::Global;
 
 fn index_once(
@@ -12,7 +14,7 @@ fn index_once(
 ) -> Result<Index, IndexError> {
     match schema_of(alloc, columns) {
         Err(_) => Err(IndexError::NoMemory),
-        Ok(schema) => Index::new(alloc, schema, feeders.clamp(1, 64), limit),
+        Ok(schema) => Index::new(alloc, schema, feeders.clamp(1, MAX_FEEDERS), limit),
     }
 }
 

@@ -3,7 +3,7 @@
 
 use crate::tables::{answer, append_row, has_rows, index_of};
 use bsi_columns::{AnyColumn, NoMemory, Op};
-use bsi_plain::{DeclaredColumn, FORMS, QTY, TestForm, add, both, not, row_of, shows};
+use bsi_plain::{DeclaredColumn, FORMS, QTY, TestForm, add, both, has_bits, not, row_of};
 use bsi_table::{Answer, AskError, Index, IndexError, Pred, Row, Schema, SchemaError, Total};
 use std::alloc::Global;
 
@@ -81,7 +81,7 @@ fn first_slice_is(index: &Index, wanted: &[bool]) -> bool {
         return false;
     }
     match index.column(0).stored() {
-        AnyColumn::Slices(slices) if slices.width() > 0 => shows(slices.slice(0), wanted),
+        AnyColumn::Slices(slices) if slices.width() > 0 => has_bits(slices.slice(0), wanted),
         _ => false,
     }
 }

@@ -4,8 +4,8 @@ use crate::ends::buffer;
 use bsi_load::Reply;
 use bsi_table::{Answer, Query, Row, Schema, Total};
 use bsi_text::{
-    NoMemory, read_number, read_query, read_row, read_setup, read_signed, write_bad, write_fed,
-    write_reply,
+    DeclaredTable, NoMemory, read_number, read_query, read_row, read_setup, read_signed, write_bad,
+    write_fed, write_reply,
 };
 use csv::ByteRecord;
 use std::alloc::Global;
@@ -27,13 +27,9 @@ fn record(alloc: Global, line: &str) -> Result<ByteRecord, NoMemory> {
 }
 
 // Whether a setup record is done. Where memory is refused nothing changes.
-fn declare(
-    alloc: Global,
-    schema: &mut Schema,
-    limit: &mut u64,
-    line: &str,
-) -> Result<bool, NoMemory> {
+fn declare(alloc: Global, table: &mut DeclaredTable, line: &str) -> Result<bool, NoMemory> {
     let fields = record(alloc, line)?;
+    let DeclaredTable { schema, limit } = table;
     let before = (schema.columns(), *limit);
     match read_setup(alloc, schema, limit, &fields) {
         Err(_) if (schema.columns(), *limit) == before => {
@@ -60,25 +56,24 @@ fn query(alloc: Global, schema: &Schema, line: &str) -> Result<Option<Query>, No
     }
 }
 
-// A schema of the column qty, of numbers below 8.
-fn quantities(alloc: Global) -> Result<Schema, NoMemory> {
-    let (mut schema, mut limit) = (Schema::new(alloc), 1);
-    declare(alloc, &mut schema, &mut limit, "column,qty,slices,3")?;
-    Ok(schema)
+// A table of the column qty, of numbers below 8.
+fn quantities(alloc: Global) -> Result<DeclaredTable, NoMemory> {
+    let mut table = DeclaredTable::new(alloc);
+    declare(alloc, &mut table, "column,qty,slices,3")?;
+    Ok(table)
 }
 
 // Whether a setup record is done, and others change nothing.
-fn does_setups(alloc: Global, schema: &mut Schema) -> Result<bool, NoMemory> {
-    let mut limit = 1 << 32;
-    let one = declare(alloc, schema, &mut limit, "limit,1")?;
-    let zero = declare(alloc, schema, &mut limit, "limit,0")?;
-    let begin = declare(alloc, schema, &mut limit, "begin")?;
-    Ok(one && !zero && !begin && limit == 1)
+fn does_setups(alloc: Global, table: &mut DeclaredTable) -> Result<bool, NoMemory> {
+    let one = declare(alloc, table, "limit,1")?;
+    let zero = declare(alloc, table, "limit,0")?;
+    let begin = declare(alloc, table, "begin")?;
+    Ok(one && !zero && !begin && table.limit == 1)
 }
 
 fn setups_are_read(alloc: Global) -> Result<bool, NoMemory> {
-    let mut schema = quantities(alloc)?;
-    does_setups(alloc, &mut schema)
+    let mut table = quantities(alloc)?;
+    does_setups(alloc, &mut table)
 }
 
 // Whether a submission's fields from place 2 on are these entries, or none.
@@ -124,8 +119,8 @@ fn both_are_read(alloc: Global, schema: &Schema) -> Result<bool, NoMemory> {
 }
 
 fn rows_and_queries_are_read(alloc: Global) -> Result<bool, NoMemory> {
-    let schema = quantities(alloc)?;
-    both_are_read(alloc, &schema)
+    let table = quantities(alloc)?;
+    both_are_read(alloc, &table.schema)
 }
 
 #[test]

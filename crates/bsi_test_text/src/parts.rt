@@ -54,8 +54,8 @@ impl<'a> InParts<'a> {
         if self.given == 0 || self.given > self.parts.len() {
             return &[];
         }
-        let part = self.parts[self.given - 1].0.as_bytes();
-        &part[self.at.min(part.len())..]
+        let (text, _) = self.parts[self.given - 1];
+        &text.as_bytes()[self.at.min(text.len())..]
     }
 
     fn take_part(&mut self) {
@@ -63,7 +63,8 @@ impl<'a> InParts<'a> {
             self.wrong.fetch_add(1, Ordering::SeqCst);
         }
         if self.given < self.parts.len() {
-            self.wanted = self.parts[self.given].1;
+            let (_, wanted) = self.parts[self.given];
+            self.wanted = wanted;
             self.given += 1;
             self.at = 0;
         }

@@ -7,8 +7,8 @@ use std::alloc::Global;
 
 // How many columns a text declares, and the limit.
 fn declared_once(alloc: Global, reader: TextReader<'_>) -> Result<(u32, u64), SchemaFault> {
-    let (schema, limit) = read_schema(alloc, reader)?;
-    Ok((schema.columns(), limit))
+    let table = read_schema(alloc, reader)?;
+    Ok((table.schema.columns(), table.limit))
 }
 
 // Where memory was refused, the text is read again.

@@ -6,10 +6,10 @@ use Rattle.csv.specs.Reading.{default_config, reader_state, source_of, strip_bom
 use Rattle.csv.specs.declared.parser.State.{State}
 use Rattle.csv.specs.declared.parser.State.TheVariants as st
 use Rattle.csv.specs.declared.reader.Reader.{Reader}
-use Rattle.bsi_table.specs.Columns.{Declared}
 use Rattle.bsi_records.specs.Numbers.{Field}
-use Rattle.bsi_records.specs.Setups.{table_after, IsChange}
-use Rattle.bsi_text.specs.SchemaTexts.{none_declared, table_declared, Declares, DeclaresTooLong, IsBadRecord, IsSchemaFault}
+use Rattle.bsi_records.specs.Setups.{table_after, undeclared_table, IsChange}
+use Rattle.bsi_records.specs.declared.setups.DeclaredTable.{DeclaredTable}
+use Rattle.bsi_text.specs.SchemaTexts.{table_declared, Declares, DeclaresTooLong, IsBadRecord, IsSchemaFault}
 use Rattle.bsi_text.specs.Sources.{max_records, HasNext, HasRead, IsOver}
 use Rattle.bsi_text.specs.Texts.{FromText}
 use Rattle.bsi_text.specs.declared.rows.SourceFault.{SourceFault}
@@ -18,21 +18,21 @@ use Rattle.bsi_text.specs.declared.schema_text.SchemaFault.{SchemaFault}
 use Rattle.bsi_text.specs.declared.schema_text.SchemaFault.TheVariants.{Source}
 use Rattle.bsi_text.proofs.FirstRecords.{first_all, first_more, first_none, HasReadFirst}
 
-declared_by : (records : List (List Field)) (fields : List Field) (now next : Declared × ℕ) (o : Option (Declared × ℕ))
+declared_by : (records : List (List Field)) (fields : List Field) (now next : DeclaredTable) (o : Option (DeclaredTable))
     → option_and_then (λ a. table_declared a records) o ≡ Some now
-    → ((a : Declared × ℕ) → table_declared a records ≡ Some now → table_declared a (records ++ fields ∷ []) ≡ Some next)
+    → ((a : DeclaredTable) → table_declared a records ≡ Some now → table_declared a (records ++ fields ∷ []) ≡ Some next)
     → option_and_then (λ a. table_declared a (records ++ fields ∷ [])) o ≡ Some next
 declared_by records fields now next None e behind = absurd (cc (e))
 declared_by records fields now next (Some a) e behind = behind a e
 
-declared_push : (before : Declared × ℕ) (records : List (List Field)) (fields : List Field) (now next : Declared × ℕ)
-    → table_declared before records ≡ Some now → table_after now.0 now.1 fields ≡ Some next → table_declared before (records ++ fields ∷ []) ≡ Some next
+declared_push : (before : DeclaredTable) (records : List (List Field)) (fields : List Field) (now next : DeclaredTable)
+    → table_declared before records ≡ Some now → table_after now fields ≡ Some next → table_declared before (records ++ fields ∷ []) ≡ Some next
 declared_push before [] fields now next is after =
     let same : before ≡ now = cc (is) in
-    let here : table_after before.0 before.1 fields ≡ Some next = ap (λ (t : Declared × ℕ). table_after t.0 t.1 fields) same ∙ after in
+    let here : table_after before fields ≡ Some next = ap (λ (t : DeclaredTable). table_after t fields) same ∙ after in
     ap (λ o. option_and_then (λ a. table_declared a []) o) here
 declared_push before (r ∷ records) fields now next is after =
-    declared_by records fields now next (table_after before.0 before.1 r) is (λ a e. declared_push a records fields now next e after)
+    declared_by records fields now next (table_after before r) is (λ a e. declared_push a records fields now next e after)
 
 -- a change that was done
 change_is : {T : Type 0} (after : Option T) (old new : T) (done : Bool) → IsChange after old new done → done ≡ true → after ≡ Some new
@@ -45,14 +45,14 @@ change_none None old new done is not = refl
 change_none (Some x) old new done is not = absurd (cc (is.0, not))
 
 -- the first records of the text declare this
-pub record HasDeclared (bytes : List ℕ) (state : State) (source : Option (List ℕ)) (taken : ℕ) (now : Declared × ℕ) : Type 0 where
+pub record HasDeclared (bytes : List ℕ) (state : State) (source : Option (List ℕ)) (taken : ℕ) (now : DeclaredTable) : Type 0 where
   pub records : List (List Field)
   pub begun : HasReadFirst bytes state source records
   pub many : length records ≡ taken
-  pub declared : table_declared none_declared records ≡ Some now
+  pub declared : table_declared undeclared_table records ≡ Some now
 
-pub declared_none : (bytes : List ℕ) (state : State) (source : Option (List ℕ)) (taken : ℕ) (now : Declared × ℕ) → state ≡ st.StartRecord → taken ≡ 0
-    → now ≡ none_declared → source ≡ Some (strip_bom bytes) → HasDeclared bytes state source taken now
+pub declared_none : (bytes : List ℕ) (state : State) (source : Option (List ℕ)) (taken : ℕ) (now : DeclaredTable) → state ≡ st.StartRecord → taken ≡ 0
+    → now ≡ undeclared_table → source ≡ Some (strip_bom bytes) → HasDeclared bytes state source taken now
 declared_none bytes state source taken now start none first left = record {
   records = [];
   begun = first_none bytes state source start left;
@@ -60,15 +60,15 @@ declared_none bytes state source taken now start none first left = record {
   declared = ap (λ t. Some t) (sym first);
 }
 
-module _ {R : Type 0} (rem : R → Option (List ℕ)) (bytes : List ℕ) (a b : Reader R) (taken : ℕ) (now : Declared × ℕ)
+module _ {R : Type 0} (rem : R → Option (List ℕ)) (bytes : List ℕ) (a b : Reader R) (taken : ℕ) (now : DeclaredTable)
     (has : HasDeclared bytes (reader_state a) (source_of rem a) taken now) where
-  pub declared_more : (fields : List Field) (more : ℕ) (next : Declared × ℕ) (done : Bool) → HasRead rem a b (fields ∷ []) → more ≡ taken + 1
-      → IsChange (table_after now.0 now.1 fields) now next done → done ≡ true → HasDeclared bytes (reader_state b) (source_of rem b) more next
+  pub declared_more : (fields : List Field) (more : ℕ) (next : DeclaredTable) (done : Bool) → HasRead rem a b (fields ∷ []) → more ≡ taken + 1
+      → IsChange (table_after now fields) now next done → done ≡ true → HasDeclared bytes (reader_state b) (source_of rem b) more next
   declared_more fields more next done read one change did = record {
     records = has.records ++ fields ∷ [];
     begun = first_more rem bytes a b has.records fields has.begun read;
     many = omega (arith, length-append has.records (fields ∷ []), has.many, one);
-    declared = declared_push none_declared has.records fields now next has.declared (change_is (table_after now.0 now.1 fields) now next done change did);
+    declared = declared_push undeclared_table has.records fields now next has.declared (change_is (table_after now fields) now next done change did);
   }
 
   pub declared_all : IsOver rem a → taken ≤ max_records → Declares bytes now
@@ -80,8 +80,8 @@ module _ {R : Type 0} (rem : R → Option (List ℕ)) (bytes : List ℕ) (a b : 
   }
 
   -- the next record can't be done
-  pub declared_bad : (fields : List Field) (number : ℕ) (next : Declared × ℕ) (done : Bool) → HasRead rem a b (fields ∷ []) → number ≡ taken + 1 → number ≤ max_records
-      → IsChange (table_after now.0 now.1 fields) now next done → done ≡ false → IsBadRecord bytes number
+  pub declared_bad : (fields : List Field) (number : ℕ) (next : DeclaredTable) (done : Bool) → HasRead rem a b (fields ∷ []) → number ≡ taken + 1 → number ≤ max_records
+      → IsChange (table_after now fields) now next done → done ≡ false → IsBadRecord bytes number
   declared_bad fields number next done read is few change not =
       let begun = first_more rem bytes a b has.records fields has.begun read in
       record {
@@ -92,8 +92,8 @@ module _ {R : Type 0} (rem : R → Option (List ℕ)) (bytes : List ℕ) (a b : 
         first = begun.first;
         number_is = omega (arith, has.many, is);
         few = few;
-        bad = subst (λ o. MatchOption o ⊥ (λ (t : Declared × ℕ). table_after t.0 t.1 fields ≡ None)) (sym has.declared)
-            (change_none (table_after now.0 now.1 fields) now next done change not);
+        bad = subst (λ o. MatchOption o ⊥ (λ (t : DeclaredTable). table_after t fields ≡ None)) (sym has.declared)
+            (change_none (table_after now fields) now next done change not);
       }
 
   -- the most records were done, and one more is left

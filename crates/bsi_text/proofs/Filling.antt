@@ -11,7 +11,7 @@ use Rattle.bsi_table.specs.RowBlocks.{fed_as, with_block_row, RowBlock}
 use Rattle.bsi_table.specs.Rows.{Entries}
 use Rattle.bsi_records.specs.Numbers.{Field}
 use Rattle.bsi_text.specs.RowFiles.{good_row}
-use Rattle.bsi_text.specs.RecordTexts.{Stops, TakesRecord}
+use Rattle.bsi_text.specs.RecordSources.{Stops, TakesRecord}
 use Rattle.bsi_text.specs.Sources.{counts_of, end_after, end_of, max_records, with_fed_rows, AreCounts, Counts, End, Fills, HasStopped, HasTaken, IsOver, IsPlain, Layout, PutsRows, Source}
 use Rattle.bsi_text.specs.declared.rows.SourceFault.{SourceFault}
 use Rattle.bsi_text.specs.declared.rows.SourceFault.TheVariants.{NoMemory}

@@ -13,6 +13,7 @@ use Rattle.bsi_schema.specs.declared.form.Form.{Form}
 use Rattle.bsi_records.specs.Lines.{bad_line, done_line}
 use Rattle.bsi_records.specs.Numbers.{Field, offset_of}
 use Rattle.bsi_text.specs.Scripts.{Phase, Declaring, Running, set_up, IsTurn, AreTurns}
+use Rattle.bsi_records.specs.declared.setups.DeclaredTable.{DeclaredTable}
 use Rattle.bsi_records.specs.Setups.{Setup, can_begin, capacities_after, column_after, declared_after, form_in, is_begin, limit_of, one_more, table_after}
 use Rattle.bsi_table.specs.Columns.{AreNamed}
 
@@ -66,38 +67,38 @@ column_named schema (name ∷ form ∷ sizes ∷ offset ∷ more ∷ fields) nam
 
 -- ---- a record of the setup
 
-abbrev pub HasNamedFirst : Declared × ℕ → Type 0
-HasNamedFirst after = HasNamed after.0
+abbrev pub IsNamedTable : DeclaredTable → Type 0
+IsNamedTable table = HasNamed table.schema
 
-pub table_named : (schema : Declared) (limit : ℕ) (fields : List Field) → HasNamed schema → IfSome (table_after schema limit fields) HasNamedFirst
-table_named schema limit [] named = tt
-table_named schema limit (word ∷ fields) named =
-    IfSome-choice HasNamedFirst (bytes_eq word (codes "column")) _ _
-    (IfSome-map HasNamedFirst (λ after. (after, limit)) (column_after schema fields) (column_named schema fields named))
-    (IfSome-choice HasNamedFirst (bytes_eq word (codes "limit")) _ _
-    (IfSome-map HasNamedFirst (λ after. (schema, after)) (limit_of fields) (IfSome-all (λ after. HasNamed schema) (limit_of fields) (λ after. named)))
+pub table_named : (table : DeclaredTable) (fields : List Field) → IsNamedTable table → IfSome (table_after table fields) IsNamedTable
+table_named table [] named = tt
+table_named table (word ∷ fields) named =
+    IfSome-choice IsNamedTable (bytes_eq word (codes "column")) _ _
+    (IfSome-map IsNamedTable (λ schema. record table { schema = schema }) (column_after table.schema fields) (column_named table.schema fields named))
+    (IfSome-choice IsNamedTable (bytes_eq word (codes "limit")) _ _
+    (IfSome-map IsNamedTable (λ limit. record table { limit = limit }) (limit_of fields) (IfSome-all (λ after. IsNamedTable table) (limit_of fields) (λ after. named)))
     tt)
 
 abbrev IsNamedSetup : Setup → Type 0
-IsNamedSetup setup = HasNamed setup.schema
+IsNamedSetup setup = IsNamedTable setup.table
 
 declared_named : (before : Setup) (fields : List Field) → IsNamedSetup before → IfSome (declared_after before fields) IsNamedSetup
 declared_named before [] named = tt
 declared_named before (word ∷ fields) named =
     IfSome-choice IsNamedSetup (bytes_eq word (codes "feeder")) _ _
     (IfSome-map IsNamedSetup (λ capacities. record before { capacities = capacities }) (capacities_after before.capacities fields) (IfSome-all (λ after. IsNamedSetup before) (capacities_after before.capacities fields) (λ after. named)))
-    (IfSome-map IsNamedSetup (λ after. record before { schema = after.0; limit = after.1 }) (table_after before.schema before.limit (word ∷ fields)) (table_named before.schema before.limit (word ∷ fields) named))
+    (IfSome-map IsNamedSetup (λ table. record before { table = table }) (table_after before.table (word ∷ fields)) (table_named before.table (word ∷ fields) named))
 
 -- ---- a phase
 
 abbrev pub HasNames : Phase → Type 0
-HasNames (Declaring setup) = AreNamed setup.schema.columns
+HasNames (Declaring setup) = AreNamed setup.table.schema.columns
 HasNames (Running shown) = AreNamed shown.index.schema.columns
 
 pub set_up_named : (setup : Setup) (fields : List Field) → HasNames (Declaring setup) → IfSome (set_up setup fields) HasNames
 set_up_named setup fields named =
     IfSome-choice HasNames (is_begin fields) _ _
-    (IfSome-choice HasNames (can_begin setup) (Some (Running (new_machine setup.schema setup.capacities setup.limit))) None named tt)
+    (IfSome-choice HasNames (can_begin setup) (Some (Running (new_machine setup.table.schema setup.capacities setup.table.limit))) None named tt)
     (IfSome-map HasNames Declaring (declared_after setup fields) (declared_named setup fields named))
 
 -- the schema is never another

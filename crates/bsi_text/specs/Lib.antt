@@ -1,6 +1,6 @@
 pub mod FaultTexts
 pub mod Pasts
-pub mod RecordTexts
+pub mod RecordSources
 pub mod RowFiles
 pub mod SchemaTexts
 pub mod Scripts

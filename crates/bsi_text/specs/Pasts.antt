@@ -57,7 +57,7 @@ pub record HasPast (records : List (List Field)) (lines : List (List ℕ)) (show
   pub told : List (List ℕ)
   pub begun : HasBegun records lines setup later told
   pub past : List Done
-  pub added : AreAddedBy setup.schema later told [] past
+  pub added : AreAddedBy setup.table.schema later told [] past
   pub lawful : AreLawful (machine_of setup) past
   pub shows : shown ≡ shown_after (machine_of setup) past
   pub conserved : IsConserved (machine_of setup) past

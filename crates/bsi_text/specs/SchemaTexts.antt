@@ -1,10 +1,10 @@
 -- The text of a schema: the columns and the limit that its records declare.
 use Rattle.std.specs.Prelude.{◌≡◌, ⊤, ℕ, ◌+◌, ◌<◌, ◌≤◌, List, [], ◌∷◌, ◌++◌, Option, None, Some, IsSome, MatchOption, length, option_and_then}
 use Rattle.csv.specs.declared.parser.State.{State}
-use Rattle.bsi_table.specs.Columns.{no_columns, Declared}
-use Rattle.bsi_table.specs.Table.{max_rows}
+use Rattle.bsi_table.specs.Columns.{Declared}
 use Rattle.bsi_records.specs.Numbers.{Field}
-use Rattle.bsi_records.specs.Setups.{table_after}
+use Rattle.bsi_records.specs.Setups.{table_after, undeclared_table}
+use Rattle.bsi_records.specs.declared.setups.DeclaredTable.{DeclaredTable}
 use Rattle.bsi_text.specs.Sources.{max_records}
 use Rattle.bsi_text.specs.Texts.{AreAllRecords, AreFirstRecords, AreTooMany}
 use Rattle.bsi_text.specs.declared.rows.SourceFault.TheVariants as source
@@ -12,25 +12,21 @@ use Rattle.bsi_text.specs.declared.schema_text.SchemaFault.{SchemaFault}
 use Rattle.bsi_text.specs.declared.schema_text.SchemaFault.TheVariants.{BadRecord, NoColumns, Source}
 
 -- the columns and the limit after records that declare, none where one of them can't be done
-abbrev pub table_declared : Declared × ℕ → List (List Field) → Option (Declared × ℕ)
+abbrev pub table_declared : DeclaredTable → List (List Field) → Option DeclaredTable
 table_declared before [] = Some before
 table_declared before (fields ∷ records) =
-    option_and_then (λ after. table_declared after records) (table_after before.0 before.1 fields)
-
--- no column, and the greatest limit there is
-abbrev pub none_declared : Declared × ℕ
-none_declared = (no_columns, max_rows)
+    option_and_then (λ after. table_declared after records) (table_after before fields)
 
 -- the records of these bytes, at most 1,000,000, declare this
-pub record Declares (bytes : List ℕ) (declared : Declared × ℕ) : Type 0 where
+pub record Declares (bytes : List ℕ) (declared : DeclaredTable) : Type 0 where
   pub records : List (List Field)
   pub all : AreAllRecords bytes records
   pub few : length records ≤ max_records
-  pub declared_is : table_declared none_declared records ≡ Some declared
+  pub declared_is : table_declared undeclared_table records ≡ Some declared
 
 -- these bytes declare this schema, of one column or more, and this limit
 pub record IsSchemaText (bytes : List ℕ) (schema : Declared) (limit : ℕ) : Type 0 where
-  pub declares : Declares bytes (schema, limit)
+  pub declares : Declares bytes (record { schema = schema; limit = limit })
   pub some : 0 < length schema.columns
 
 -- ---- texts that declare no schema
@@ -44,7 +40,7 @@ pub record IsBadRecord (bytes : List ℕ) (number : ℕ) : Type 0 where
   pub first : AreFirstRecords bytes (records ++ fields ∷ []) state rest
   pub number_is : number ≡ length records + 1
   pub few : number ≤ max_records
-  pub bad : MatchOption (table_declared none_declared records) ⊥ (λ now. table_after now.0 now.1 fields ≡ None)
+  pub bad : MatchOption (table_declared undeclared_table records) ⊥ (λ now. table_after now fields ≡ None)
 
 -- the first 1,000,000 records declare something, and there is one more
 pub record DeclaresTooLong (bytes : List ℕ) : Type 0 where
@@ -53,13 +49,13 @@ pub record DeclaresTooLong (bytes : List ℕ) : Type 0 where
   pub rest : List ℕ
   pub first : AreFirstRecords bytes records state rest
   pub too_long : AreTooMany records state rest
-  pub declared : IsSome (table_declared none_declared records)
+  pub declared : IsSome (table_declared undeclared_table records)
 
 -- the records declare no column
 pub record DeclaresNoColumn (bytes : List ℕ) : Type 0 where
-  pub declared : Declared × ℕ
+  pub declared : DeclaredTable
   pub declares : Declares bytes declared
-  pub none : length declared.0.columns ≡ 0
+  pub none : length declared.schema.columns ≡ 0
 
 -- what the fault that ends the reading tells of the bytes; none is of a header, since such a text has no header
 abbrev pub IsSchemaFault : List ℕ → SchemaFault → Type 0

@@ -209,12 +209,13 @@ pub record Fills {R : Type 0} (rem : R → Option (List ℕ)) (old new : Source 
 abbrev pub StandsAfter : {R : Type 0} → (R → Option (List ℕ)) → Layout → Reader R → List ℕ → Type 0
 StandsAfter rem layout input text =
     MatchOption (next_record default_config st.StartRecord [] [] text) ⊥
-    (λ read. (layout.header ≡ read.0) × (reader_state input ≡ read.1) × (source_of rem input ≡ Some read.2))
+    (λ (header, state, rest). (layout.header ≡ header) × (reader_state input ≡ state)
+    × (source_of rem input ≡ Some rest))
 
 -- the first record of a text is no header of these columns, or there is none
 abbrev pub HasNoHeader : Declared → List ℕ → Type 0
 HasNoHeader schema text =
-    IfSome (next_record default_config st.StartRecord [] [] text) (λ read. is_header schema read.0 ≡ false)
+    IfSome (next_record default_config st.StartRecord [] [] text) (λ (header, _, _). is_header schema header ≡ false)
 
 -- the records of a whole text are the header and these, and the rows are those of the good ones, and the counts have
 -- grown by them

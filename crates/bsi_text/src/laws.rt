@@ -1,4 +1,5 @@
-//! What follows for every script run, as contracts of functions that do nothing.
+//! What follows for every script run, as contracts of functions that do nothing: a law is then checked as any
+//! contract is.
 
 ghost use Rattle.std.specs.Prelude.{◌≡◌, ◌+◌, ◌++◌, ◌∷◌, [], ℕ, List, Option, Some, IsSome};
 ghost use mathlib.Core.List.{IsPrefix};
@@ -38,7 +39,7 @@ pub fn one_reading()
 {}
 
 /// States that several calls of a row source take what one call would: the rows of all calls, in their order.
-pub fn taken_in_turn<R: Read + Drop>()
+pub fn taken_by_calls<R: Read + Drop>()
     ensures { (layout : Layout) → (a b c : Reader R) → (start middle end : Counts) →
         (xs ys : List Entries)
         → HasTaken R.remaining layout a b start middle xs →
@@ -103,7 +104,7 @@ pub fn taken_of_left<R: Read + Drop>()
 {}
 
 /// States that several calls read what one call would: the records of all calls, in their order.
-pub fn read_in_turn<R: Read + Drop>()
+pub fn read_by_calls<R: Read + Drop>()
     ensures { (a b c : Reader R) → (first last : List (List Field))
         → HasRead R.remaining a b first → HasRead R.remaining b c last →
         HasRead R.remaining a c (first ++ last) }

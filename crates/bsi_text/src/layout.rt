@@ -142,7 +142,7 @@ impl Layout {
     }
 
     /// Reads the fields of a record in the order of the columns as the entries of a row, and returns whether this fits.
-    // A block takes entries of 64 bits, tested as they are read. A row of numbers of 128 bits is read by 'read_values'.
+    // A block takes entries of 64 bits, tested as they are read. A row of numbers of 128 bits is read by `read_values`.
     fn read_entries(&self, fields: &ByteRecord, entries: &mut Vec<Option<i64>>) -> bool
         requires wide { length self.now.schema.columns ≤ vec_capacity entries.old }
         ensures row { given result entries.new.items
@@ -152,11 +152,10 @@ impl Layout {
         ensures wide { length self.now.schema.columns ≤ vec_capacity entries.new }
     {
         let signed = self.schema.signed();
-        let limits = self.schema.limits();
         entries.clear();
-        'columns: for c in 0..limits.len() {
-            let text = field(fields, self.places[c]);
-            let Some(entry) = read_entry(signed, limits[c], text) else {
+        'columns: for (place, limits) in self.places.iter().zip(self.schema.limits()) {
+            let text = field(fields, *place);
+            let Some(entry) = read_entry(signed, *limits, text) else {
                 return false;
             };
             entries.push_reserved(entry);

@@ -13,8 +13,8 @@ mod watched;
 mod writing;
 
 pub use bsi_records::{
-    NoMemory, read_number, read_query, read_row, read_setup, read_signed, write_bad, write_fed,
-    write_reply,
+    DeclaredTable, NoMemory, read_number, read_query, read_row, read_setup, read_signed, write_bad,
+    write_fed, write_reply,
 };
 pub use rows::{RowSource, SourceFault};
 pub use schema_text::{SchemaFault, read_schema};

@@ -4,7 +4,7 @@ ghost use Rattle.std.specs.Prelude.{◌≡◌, ◌≤◌, Err, IfErr, IfOk, OnOk
 ghost use Rattle.csv.specs.Reading.{ReadRecord, error_kind, reader_state, source_of, strip_bom};
 ghost use Rattle.csv.specs.Records.{fields_of};
 ghost use Rattle.csv.specs.declared.parser.State.TheVariants as st;
-ghost use Rattle.bsi_text.specs.RecordTexts.{Stops, TakesRecord};
+ghost use Rattle.bsi_text.specs.RecordSources.{Stops, TakesRecord};
 ghost use Rattle.bsi_text.specs.Sources.{end_after, max_records, IsPlain, IsReadFault};
 
 use crate::rows::SourceFault;
@@ -67,7 +67,7 @@ pub(crate) fn take_record<R: Read + Drop>(
 }
 
 /// Returns how a source stands after a call: it has ended if no record was found, or by a fault.
-pub(crate) fn end_after(found: Result<bool, SourceFault>) -> Option<Result<(), SourceFault>>
+pub(crate) fn end_of(found: Result<bool, SourceFault>) -> Option<Result<(), SourceFault>>
     ensures found { IfOk found (λ more. result ≡ end_after more) }
     ensures fault { IfErr found (λ fault. result ≡ Some (Err fault)) }
 {

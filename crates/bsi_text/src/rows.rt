@@ -13,7 +13,7 @@ ghost use Rattle.bsi_text.specs.Sources.{counts_of, end_after, end_of, max_recor
 
 use crate::NoMemory;
 use crate::layout::Layout;
-use crate::reading::{MAX_RECORDS, end_after, plain_reader, read_next, take_record};
+use crate::reading::{MAX_RECORDS, end_of, plain_reader, read_next, take_record};
 use bsi_table::{Block, MAX_BLOCK_ROWS, Row, Schema};
 use csv::{ByteRecord, Reader};
 use std::alloc::Global;
@@ -203,7 +203,7 @@ impl<R: Read + Drop> RowSource<R> {
             &mut self.taken,
             &mut self.bad,
         );
-        self.end = end_after(found);
+        self.end = end_of(found);
         found
     }
 
@@ -251,7 +251,7 @@ impl<R: Read + Drop> RowSource<R> {
             &mut self.taken,
             &mut self.bad,
         );
-        self.end = end_after(full);
+        self.end = end_of(full);
         if block.len() == before {
             full?;
         }

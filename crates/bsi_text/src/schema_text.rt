@@ -3,14 +3,14 @@
 ghost use Rattle.std.specs.Prelude.{◌≡◌, ◌<◌, None, IfErr, IfOk, IfSome, OnOk, length};
 ghost use Rattle.csv.specs.Reading.{reader_state, source_of};
 ghost use Rattle.csv.specs.declared.parser.State.TheVariants as st;
-ghost use Rattle.bsi_text.specs.SchemaTexts.{none_declared, Declares, IsSchemaFault, IsSchemaText};
+ghost use Rattle.bsi_records.specs.Setups.{undeclared_table};
+ghost use Rattle.bsi_text.specs.SchemaTexts.{Declares, IsSchemaFault, IsSchemaText};
 ghost use Rattle.bsi_text.specs.Texts.{FromText};
 
 use crate::NoMemory;
 use crate::rows::SourceFault;
 use crate::texts::RecordSource;
-use bsi_records::read_setup;
-use bsi_table::{MAX_ROWS, Schema};
+use bsi_records::{DeclaredTable, read_setup};
 use csv::ByteRecord;
 use std::alloc::Global;
 use std::io::Read;
@@ -49,35 +49,33 @@ impl From<NoMemory> for SchemaFault {
 
 /// Reads the columns and the limit that a text declares. Without a record of a limit, it is the greatest there is. It
 /// takes at most 1,000,000 records.
-pub fn read_schema<R: Read + Drop>(alloc: Global, reader: R) -> Result<(Schema, u64), SchemaFault>
-    ensures some { IfOk result (λ read. 0 < length read.0.columns) }
-    ensures declared { IfOk result (λ read. IfSome (R.remaining reader)
-        (λ bytes. IsSchemaText bytes read.0 read.1)) }
+pub fn read_schema<R: Read + Drop>(alloc: Global, reader: R) -> Result<DeclaredTable, SchemaFault>
+    ensures some { IfOk result (λ table. 0 < length table.schema.columns) }
+    ensures declared { IfOk result (λ table. IfSome (R.remaining reader)
+        (λ bytes. IsSchemaText bytes table.schema table.limit)) }
     ensures fault { IfErr result (λ fault. IfSome (R.remaining reader)
         (λ bytes. IsSchemaFault bytes fault)) }
 {
     let mut records = RecordSource::new(alloc, reader);
-    let mut schema = Schema::new(alloc);
-    let mut limit = MAX_ROWS;
-    declare_all(alloc, &mut records, &mut schema, &mut limit)?;
-    if schema.columns() == 0 {
+    let mut table = DeclaredTable::new(alloc);
+    declare_all(alloc, &mut records, &mut table)?;
+    if table.schema.columns() == 0 {
         return Err(SchemaFault::NoColumns);
     }
-    Ok((schema, limit))
+    Ok(table)
 }
 
 /// Carries out the records of a text of which no record was read.
 fn declare_all<R: Read + Drop>(
     alloc: Global,
     records: &mut RecordSource<R>,
-    schema: &mut Schema,
-    limit: &mut u64,
+    table: &mut DeclaredTable,
 ) -> Result<(), SchemaFault>
     requires fresh { (records.old.taken ≡ 0) × (records.old.end ≡ None) }
     requires start { reader_state records.old.input ≡ st.StartRecord }
-    requires none { (schema.old, limit.old) ≡ none_declared }
+    requires none { table.old ≡ undeclared_table }
     ensures declared { OnOk result (FromText (source_of R.remaining records.old.input)
-        (λ bytes. Declares bytes (schema.new, limit.new))) }
+        (λ bytes. Declares bytes table.new)) }
     ensures fault { IfErr result (λ fault. FromText (source_of R.remaining records.old.input)
         (λ bytes. IsSchemaFault bytes fault)) }
 {
@@ -87,7 +85,7 @@ fn declare_all<R: Read + Drop>(
         if !records.next_record(&mut fields)? {
             return Ok(());
         }
-        if !read_setup(alloc, schema, limit, &fields)? {
+        if !read_setup(alloc, &mut table.schema, &mut table.limit, &fields)? {
             return Err(SchemaFault::BadRecord(before + 1));
         }
     }

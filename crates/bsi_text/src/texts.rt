@@ -4,10 +4,10 @@ ghost use Rattle.std.specs.Prelude.{◌≡◌, ◌≤◌, Some, None, Ok, Err, f
 ghost use Rattle.csv.specs.Reading.{reader_state, source_of, strip_bom};
 ghost use Rattle.csv.specs.Records.{fields_of};
 ghost use Rattle.csv.specs.declared.parser.State.TheVariants as st;
-ghost use Rattle.bsi_text.specs.RecordTexts.{StopsAt, TakesNext};
+ghost use Rattle.bsi_text.specs.RecordSources.{StopsAt, TakesNext};
 ghost use Rattle.bsi_text.specs.Sources.{max_records};
 
-use crate::reading::{end_after, plain_reader, take_record};
+use crate::reading::{end_of, plain_reader, take_record};
 use crate::rows::SourceFault;
 use csv::{ByteRecord, Reader};
 use std::alloc::Global;
@@ -26,10 +26,10 @@ pub struct RecordSource<R: Read + Drop> {
 // Clauses see the reader, how many records were taken, and how the source ended.
 impl<R: Read + Drop> Model for RecordSource<R> {
     ghost use Rattle.std.specs.Prelude.{◌≡◌, ◌≤◌, None};
-    ghost use Rattle.bsi_text.specs.RecordTexts.{RecordText};
+    ghost use Rattle.bsi_text.specs.RecordSources.{RecordSource};
     ghost use Rattle.bsi_text.specs.Sources.{max_records, IsPlain};
 
-    ghost Value = { RecordText R };
+    ghost Value = { RecordSource R };
 
     ghost view = { λ s. record { input = s.input; taken = s.taken; end = s.end } };
 
@@ -68,7 +68,7 @@ impl<R: Read + Drop> RecordSource<R> {
             return end.map(|()| false);
         }
         let found = take_record(&mut self.input, fields, &mut self.taken);
-        self.end = end_after(found);
+        self.end = end_of(found);
         found
     }
 }

@@ -55,12 +55,13 @@ fn whole_lines(bytes: &[u8]) -> usize {
     if bytes.contains(&b'"') {
         return 0;
     }
-    for at in (1..bytes.len()).rev() {
-        if is_line_end(bytes[at]) && !is_line_end(bytes[at - 1]) {
-            return at + 1;
-        }
-    }
-    0
+    let behind = bytes.windows(2).rev().position(ends_line);
+    behind.map_or(0, |behind| bytes.len() - behind)
+}
+
+/// Returns whether the second of two bytes ends a line that has the first before its end.
+fn ends_line(pair: &[u8]) -> bool {
+    matches!(pair, [before, end] if is_line_end(*end) && !is_line_end(*before))
 }
 
 /// Returns whether a byte ends a line.

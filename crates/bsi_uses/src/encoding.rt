@@ -39,7 +39,7 @@ impl Encoding for ByBase {
 
     ghost room_of = { λ c. kept_room c.kept };
 
-    ghost works_on_blocks = { true };
+    ghost works_on_spans = { true };
 
     fn make(alloc: Global, base: u32) -> Result<Self, NoMemory> {
         let kept = if base <= MAX_RANGE_BASE {
@@ -117,17 +117,17 @@ impl Encoding for ByBase {
         }
     }
 
-    fn eq_block(&self, d: u32, at: usize, block: &mut [u64]) -> bool {
+    fn eq_span(&self, d: u32, at: usize, span: &mut [u64]) -> bool {
         match &self.kept {
-            Kept::Range(component) => component.eq_block(d, at, block),
-            Kept::Equality(component) => component.eq_block(d, at, block),
+            Kept::Range(component) => component.eq_span(d, at, span),
+            Kept::Equality(component) => component.eq_span(d, at, span),
         }
     }
 
-    fn le_block(&self, d: u32, at: usize, block: &mut [u64]) -> bool {
+    fn le_span(&self, d: u32, at: usize, span: &mut [u64]) -> bool {
         match &self.kept {
-            Kept::Range(component) => component.le_block(d, at, block),
-            Kept::Equality(component) => component.le_block(d, at, block),
+            Kept::Range(component) => component.le_span(d, at, span),
+            Kept::Equality(component) => component.le_span(d, at, span),
         }
     }
 

@@ -20,11 +20,13 @@ const LIMIT: u64 = 1_000;
 
 /// The promise of a thread: its closing is that of the feeder that it was given.
 #[derive(Drop)]
-struct OfFeeder(Snapshot<Feeder>);
+struct OfFeeder {
+    feeder: Snapshot<Feeder>,
+}
 
 impl Promise<Option<Closing>> for OfFeeder {
     ghost kept_by = { λ promise ended.
-        IfSome ended (λ c. (c.number ≡ promise.0.value.number) × (c.channel ≡ promise.0.value.channel)) };
+        IfSome ended (λ c. (c.number ≡ promise.feeder.value.number) × (c.channel ≡ promise.feeder.value.channel)) };
 }
 
 /// A feeder's thread.
@@ -44,15 +46,17 @@ fn feed(alloc: Global, feeder: Feeder) -> Option<Closing>
 
 /// Starts the thread of a feeder.
 fn start<R: Threads>(rt: &R, alloc: Global, feeder: Feeder) -> Option<Sender>
-    ensures { IfSome result (λ handle. handle.promise.0.value ≡ feeder) }
+    ensures { IfSome result (λ handle. handle.promise.feeder.value ≡ feeder) }
 {
-    let promise = OfFeeder(Snapshot::of(&feeder));
+    let promise = OfFeeder {
+        feeder: Snapshot::of(&feeder),
+    };
     thread::spawn_with(rt, promise, move || feed(alloc, feeder)).ok()
 }
 
 /// Waits for a feeder's thread, and loads all that it sent.
 fn load_all<B: Naming, R: Threads>(rt: &R, loader: &mut Loader<B>, sender: Sender) -> Option<()>
-    requires { IsFeederOf sender.promise.0.value loader.old.system }
+    requires { IsFeederOf sender.promise.feeder.value loader.old.system }
     ensures { loader.new.system ≡ loader.old.system }
 {
     let closing = sender.join(rt)?;

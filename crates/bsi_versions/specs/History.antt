@@ -27,9 +27,13 @@ pub record IsHistory (cells : List Cell) (lists : List RowList) : Type 0 where
 abbrev pub head_of : Book → Named
 head_of b = record { tracked = true; key = 0; book = b }
 
+-- the lists that a view has
+abbrev pub lists_of : View RowList ℕ → List RowList
+lists_of view = view.0
+
 -- where the word was the one expected, the list that was asked for is the last one
 abbrev pub Adds : Step RowList → View RowList ℕ → ℕ → View RowList ℕ → Type 0
-Adds s v found w = found ≡ s.old → latest [] w.0 ≡ s.ask
+Adds s v found w = found ≡ s.old → latest [] (lists_of w) ≡ s.ask
 
 -- a list, and in which history it stands
 pub record Known : Type 0 where

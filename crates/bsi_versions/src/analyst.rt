@@ -62,7 +62,11 @@ impl<B: Naming> Analyst<B> {
         ensures known { IsPrefix self.old self.new }
         ensures kept { OnErr result (self.new ≡ self.old) }
     {
-        let Some(Asked { reply, known }) = replace_with(&mut self.reader, query, read::<B>) else {
+        let asked = replace_with(&mut self.reader, query, |reader, query| {
+            let Returned { reader, asked } = read::<B>(reader, query);
+            (reader, asked)
+        });
+        let Some(Asked { reply, known }) = asked else {
             return Err(AnalystRefused::Gone);
         };
         if !known.follows(&self.known) {
@@ -117,24 +121,34 @@ struct Asked {
     known: Known,
 }
 
-/// Asks the published copy. It returns none if it is given no copy.
-fn read<B: Naming>(
+/// A reader that comes back from a copy, and what the copy was asked, or none if there was no copy.
+#[derive(Drop)]
+struct Returned<B: Naming> {
     reader: Reader<Edition, (), Covers<B>>,
-    query: &Query,
-) -> (Reader<Edition, (), Covers<B>>, Option<Asked>)
-    ensures book { IfSome result.1 (λ asked. asked.known.book ≡ B.book) }
-    ensures reply { IfSome result.1
+    asked: Option<Asked>,
+}
+
+/// Asks the published copy.
+fn read<B: Naming>(reader: Reader<Edition, (), Covers<B>>, query: &Query) -> Returned<B>
+    ensures book { IfSome result.asked (λ asked. asked.known.book ≡ B.book) }
+    ensures reply { IfSome result.asked
         (λ asked. IsReply B.about.schema asked.known.list query.now asked.reply) }
     ensures succeeds { CountsConjunction query.now →
-        IfSome result.1 (λ asked. IfErr asked.reply (λ refused. refused ≢ AskError.NoMemory)) }
+        IfSome result.asked (λ asked. IfErr asked.reply (λ refused. refused ≢ AskError.NoMemory)) }
 {
     match reader.enter_as::<Covers<B>>() {
         Ok(reading) => {
             let edition = reading.get();
             let reply = edition.index().ask(query);
             let known = edition.known().again();
-            (reading.leave(), Some(Asked { reply, known }))
+            Returned {
+                reader: reading.leave(),
+                asked: Some(Asked { reply, known }),
+            }
         }
-        Err(reader) => (reader, None),
+        Err(reader) => Returned {
+            reader,
+            asked: None,
+        },
     }
 }

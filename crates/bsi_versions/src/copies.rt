@@ -21,7 +21,7 @@ use std::sync::Wait;
 /// The two copies of the index, and the operations that are pending.
 pub(crate) type Copies<B> = Writer<Edition, Operation, (), Covers<B>>;
 
-/// What a publish adds to the history: the rows that are shown, followed by those that are held.
+/// What a publish adds to the history: the rows that are shown, followed by those of the pending operations.
 struct Next;
 
 impl<B: Naming> Plain<Copies<B>, RowList, u64> for Next {
@@ -148,21 +148,9 @@ pub(crate) fn exchange<B: Naming, R: Wait>(copies: &mut Copies<B>, rt: &R) -> Re
     ensures kept { OnErr result (copies.new.desk.shown.value ≡ copies.old.desk.shown.value) }
     ensures pending { OnErr result (pending copies.new ≡ pending copies.old) }
 {
-    replace_with(copies, rt, exchange_owned::<B, R>)
-}
-
-/// Shows the copy that has every pending operation, of copies that are handed over, and hands them back.
-fn exchange_owned<B: Naming, R: Wait>(
-    copies: Copies<B>,
-    rt: &R,
-) -> (Copies<B>, Result<(), NoMemory>)
-    requires { Stands B.book B.about
-        (fold after copies.desk.shown.value (pending copies)) }
-    ensures shown { OnOk result.1 (result.0.desk.shown.value
-        ≡ fold after copies.desk.shown.value (pending copies)) }
-    ensures none { OnOk result.1 (pending result.0 ≡ []) }
-    ensures kept { OnErr result.1 (result.0.desk.shown.value ≡ copies.desk.shown.value) }
-    ensures pending { OnErr result.1 (pending result.0 ≡ pending copies) }
-{
-    copies.publish_as::<Covers<B>, R>(rt)
+    replace_with(
+        copies,
+        rt,
+        |copies, rt| copies.publish_as::<Covers<B>, R>(rt),
+    )
 }

@@ -1,6 +1,6 @@
 pub mod BitmapReads
-pub mod BlockBits
-pub mod BlockRows
+pub mod SpanBits
+pub mod SpanRows
 pub mod DigitBlocks
 pub mod DigitMaps
 pub mod FoundRows

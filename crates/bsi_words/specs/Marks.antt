@@ -1,4 +1,4 @@
--- A block of rows as words, a bit for each row.
+-- A block of digits as words, a bit for each digit.
 use Rattle.std.specs.Prelude.{◌≡◌, ℕ, zero, suc, ◌+◌, ◌*◌, ◌<◌, ◌^◌, Bool, List, [], ◌∷◌, length, map, bit_or, slice_index}
 use Rattle.std.specs.Int.{bit_at}
 use Rattle.bsi_bits.specs.Packed.{bits_of}

@@ -1,10 +1,10 @@
-//! What the forms of a column do with words: steps on blocks of them, the words of digits, and the sum and the rows of a rank
+//! What the forms of a column do with words: steps on spans of them, the words of digits, and the sum and the rows of a rank
 //! over those of a found set.
 #![tactic(auto)]
 
-pub mod blocks;
 pub mod marks;
 mod ranks;
+pub mod spans;
 mod sums;
 
 pub use ranks::{RankedRows, rows_of_rank};

@@ -12,6 +12,7 @@ ghost use Rattle.bsi_words.specs.Places.{max_digit_places, then_places, IsCount}
 ghost use Rattle.bsi_words.specs.Marks.{spelled, union_of, AreDigitMarks};
 
 use bsi_bits::{MAX_BLOCK, know_fits};
+use bsi_digits::MAX_BASE;
 use std::simd::prelude::*;
 
 /// The most binary places of digits whose words are spread: those of the digits below 64.
@@ -21,11 +22,8 @@ const SPREAD_PLACES: usize = 6;
 /// place. An array of so few is cleared sooner.
 pub const MAX_SPREAD_WORDS: usize = 64 + SPREAD_PLACES;
 
-/// The greatest base: `bsi_digits` allows no greater one in a list.
-const MAX_BASE: usize = 1024;
-
 /// The most words of a block, those of the greatest base: one for each digit and one for each of its ten binary places.
-pub const MAX_MARK_WORDS: usize = MAX_BASE + 10;
+pub const MAX_MARK_WORDS: usize = MAX_BASE as usize + 10;
 
 /// The most binary places of digits that are folded in a short array, which is cleared sooner.
 const SHORT_PLACES: usize = 7;
@@ -76,9 +74,7 @@ fn mark_places(words: &mut [u64], base: usize, folded: &mut [u64])
         AreDigitMarks (then_places base (λ j v. v == j)) block words.new }
 {
     folded[..base].copy_from_slice(&words[..base]);
-    let mut place = words.len() - base;
-    'places: while place > 0 {
-        place -= 1;
+    'places: for place in (0..words.len() - base).rev() {
         words[base + place] = fold(folded, 1 << place);
     }
 }
@@ -95,7 +91,7 @@ fn mark_each(block: &[u32], base: usize, words: &mut [u64])
     mark(block, words);
     let places = words.len() - base;
     if places > SHORT_PLACES {
-        let mut folded = [0; MAX_BASE];
+        let mut folded = [0; MAX_BASE as usize];
         mark_places(words, base, &mut folded);
     } else if places > 0 {
         let mut folded = [0; 1 << SHORT_PLACES];

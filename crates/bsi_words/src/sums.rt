@@ -10,14 +10,11 @@ ghost use Rattle.bsi_bits.specs.BitList.{in_words, max_len, max_words, sum_end, 
 ghost use Rattle.bsi_bits.specs.BitLists.{bits_at};
 ghost use Rattle.bsi_words.specs.Places.{has_place, max_places, IsEncoded};
 
+use crate::spans::MAX_SPAN_WORDS;
 use bsi_bits::{Bits, MAX_LEN};
 
 /// The number of words in a cache line.
 pub(crate) const LINE_WORDS: usize = 8;
-
-/// The greatest number of words of a span. They take 8 KiB, so they stay in the first-level cache while they
-/// are counted with one place after the other.
-const MAX_SPAN_WORDS: usize = 1024;
 
 /// Returns the sum of the numbers at the rows of a found set. `places` has a vector for each of their binary places, the
 /// least first.

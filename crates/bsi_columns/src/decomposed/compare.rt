@@ -3,9 +3,9 @@
 //! It reads digits only where the constant alone does not decide. The rows that it finds are narrowed by the not-null
 //! bitmap, so that a complement selects no null.
 //!
-//! A block of 1,024 words is written by the lowest component, narrowed by each further one, complemented if needed, and
+//! A span of 1,024 words is written by the lowest component, narrowed by each further one, complemented if needed, and
 //! cut with the not-null bitmap. So each bitmap that the constant needs is read once, the result is written once, and
-//! nothing else is as long as the column. An encoding without calls on blocks works on whole vectors, with one vector
+//! nothing else is as long as the column. An encoding without calls on spans works on whole vectors, with one vector
 //! more.
 
 ghost use Rattle.std.specs.Prelude.{◌≡◌, ℕ, ◌+◌, ◌*◌, ◌≤◌, ◌<◌, ◌&&◌, [], None, false, length, map, slice_index_or, IfOk, IfSome, IsOk, IsTrue, OnErr, OnOk};
@@ -15,7 +15,7 @@ ghost use Rattle.bsi_bits.specs.Packed.{bit_of};
 ghost use Rattle.bsi_digits.specs.Digits.{product};
 ghost use Rattle.bsi_columns.specs.Rows.{number_or_zero, selects};
 ghost use Rattle.bsi_columns.specs.DigitTests.{wants};
-ghost use Rattle.bsi_slices.specs.Blocks.{KeepsRows};
+ghost use Rattle.bsi_slices.specs.Spans.{KeepsRows};
 ghost use Rattle.bsi_slices.specs.Decisions.{as_wanted, relates};
 
 use crate::decomposed::Decomposed;
@@ -23,11 +23,7 @@ use crate::decomposed::narrowing::narrow_digit;
 use crate::{Encoding, NoMemory, Op};
 use bsi_bits::{Bits, know_fits, lanes};
 use bsi_slices::{Decision, Test, decide};
-use bsi_words::blocks::{flip, keep_in};
-
-/// The most words of a block in which a column keeps rows. They stay in the first cache while each component narrows
-/// them.
-pub const MAX_BLOCK_WORDS: usize = 1024;
+use bsi_words::spans::{MAX_SPAN_WORDS, flip, keep_in};
 
 impl<E: Encoding> Decomposed<E> {
     /// Returns the rows whose number satisfies the comparison `op` with `constant`. It reads no component if the answer
@@ -44,7 +40,7 @@ impl<E: Encoding> Decomposed<E> {
         }
     }
 
-    /// Keeps in a block of at most 1,024 words the rows whose number satisfies the comparison `op` with `constant`,
+    /// Keeps in a span of at most 1,024 words the rows whose number satisfies the comparison `op` with `constant`,
     /// which may be past the size. The first word stands for the 64 rows from row `64 * at` on. A null row is not kept,
     /// nor a bit past the last row. If a component works on whole vectors alone, each call reads all rows and takes
     /// memory for them.
@@ -53,45 +49,45 @@ impl<E: Encoding> Decomposed<E> {
         op: Op,
         constant: u64,
         at: usize,
-        block: &mut [u64],
+        span: &mut [u64],
     ) -> Result<(), NoMemory>
-        requires few { length block.old ≤ MAX_BLOCK_WORDS }
-        requires within { at + length block.old ≤ word_count (length self.now.entries) }
-        ensures kept { OnErr result (block.new ≡ block.old) }
+        requires few { length span.old ≤ MAX_SPAN_WORDS }
+        requires within { at + length span.old ≤ word_count (length self.now.entries) }
+        ensures kept { OnErr result (span.new ≡ span.old) }
         ensures rows { OnOk result
-            (KeepsRows (selects op constant) self.now.entries at block.old block.new) }
-        ensures succeeds { IsTrue E.works_on_blocks → IsOk result }
+            (KeepsRows (selects op constant) self.now.entries at span.old span.new) }
+        ensures succeeds { IsTrue E.works_on_spans → IsOk result }
     {
         match decide(op, constant, self.bases.size()) {
             Decision::Nothing => {
-                block.fill(0);
+                span.fill(0);
                 Ok(())
             }
             Decision::Everything => {
-                self.not_null.keep_in(at, block);
+                self.not_null.keep_in(at, span);
                 Ok(())
             }
-            Decision::Tested(test) => self.keep_tested(test, at, block),
+            Decision::Tested(test) => self.keep_tested(test, at, span),
         }
     }
 
-    /// Keeps in a block the rows that a test wants, whose constant is below the size.
-    fn keep_tested(&self, test: Test, at: usize, block: &mut [u64]) -> Result<(), NoMemory>
+    /// Keeps in a span the rows that a test wants, whose constant is below the size.
+    fn keep_tested(&self, test: Test, at: usize, span: &mut [u64]) -> Result<(), NoMemory>
         requires below { test.constant < product self.now.bases }
-        requires few { length block.old ≤ MAX_BLOCK_WORDS }
-        requires within { at + length block.old ≤ word_count (length self.now.entries) }
-        ensures kept { OnErr result (block.new ≡ block.old) }
+        requires few { length span.old ≤ MAX_SPAN_WORDS }
+        requires within { at + length span.old ≤ word_count (length self.now.entries) }
+        ensures kept { OnErr result (span.new ≡ span.old) }
         ensures rows { OnOk result
-            (KeepsRows (wants test) self.now.entries at block.old block.new) }
-        ensures succeeds { IsTrue E.works_on_blocks → IsOk result }
+            (KeepsRows (wants test) self.now.entries at span.old span.new) }
+        ensures succeeds { IsTrue E.works_on_spans → IsOk result }
     {
-        let mut buffer = [0; MAX_BLOCK_WORDS];
-        let found = &mut buffer[..block.len()];
-        if self.find_block(test, at, found) {
-            keep_wanted(found, test.wanted, block);
-            self.not_null.keep_in(at, block);
+        let mut buffer = [0; MAX_SPAN_WORDS];
+        let found = &mut buffer[..span.len()];
+        if self.find_span(test, at, found) {
+            keep_wanted(found, test.wanted, span);
+            self.not_null.keep_in(at, span);
         } else {
-            keep_in(&self.select(test)?, at, block);
+            keep_in(&self.select(test)?, at, span);
         }
         Ok(())
     }
@@ -120,16 +116,16 @@ impl<E: Encoding> Decomposed<E> {
     {
         let len = self.not_null.bits().words().len();
         let mut words = Vec::with_capacity(*self.components.allocator(), len)?;
-        if self.select_blocks(test, len, &mut words)? {
+        if self.select_spans(test, len, &mut words)? {
             Ok(Some(words))
         } else {
             Ok(None)
         }
     }
 
-    /// Appends to an empty list the words of the rows that a test wants, block by block. It returns `false` if a
+    /// Appends to an empty list the words of the rows that a test wants, span by span. It returns `false` if a
     /// component works on whole vectors alone.
-    fn select_blocks(&self, test: Test, len: usize, words: &mut Vec<u64>) -> Result<bool, NoMemory>
+    fn select_spans(&self, test: Test, len: usize, words: &mut Vec<u64>) -> Result<bool, NoMemory>
         requires below { test.constant < product self.now.bases }
         requires len { len ≡ word_count (length self.now.entries) }
         requires empty { words.old.items ≡ [] }
@@ -138,45 +134,45 @@ impl<E: Encoding> Decomposed<E> {
             bit_of words.new.items p
             ≡ slice_index_or (map (wants test) self.now.entries) p false)) }
     {
-        let mut buffer = [0; MAX_BLOCK_WORDS];
-        for k in 0..len.div_ceil(MAX_BLOCK_WORDS) {
-            let at = MAX_BLOCK_WORDS * k;
-            let block = &mut buffer[..MAX_BLOCK_WORDS.min(len - at)];
-            if !self.select_block(test, at, block) {
+        let mut buffer = [0; MAX_SPAN_WORDS];
+        for k in 0..len.div_ceil(MAX_SPAN_WORDS) {
+            let at = MAX_SPAN_WORDS * k;
+            let span = &mut buffer[..MAX_SPAN_WORDS.min(len - at)];
+            if !self.select_span(test, at, span) {
                 return Ok(false);
             }
-            words.extend_from_slice(block)?;
+            words.extend_from_slice(span)?;
         }
         Ok(true)
     }
 
-    /// Writes in a block the rows that a test wants. The first word stands for the 64 rows from row `64 * at` on. It
+    /// Writes in a span the rows that a test wants. The first word stands for the 64 rows from row `64 * at` on. It
     /// returns `false` if a component works on whole vectors alone.
-    fn select_block(&self, test: Test, at: usize, block: &mut [u64]) -> bool
+    fn select_span(&self, test: Test, at: usize, span: &mut [u64]) -> bool
         requires below { test.constant < product self.now.bases }
-        requires within { at + length block.old ≤ word_count (length self.now.entries) }
-        ensures { OnTrue result ((p : ℕ) → p < 64 * length block.old →
-            64 * at + p < length self.now.entries → bit_of block.new p
+        requires within { at + length span.old ≤ word_count (length self.now.entries) }
+        ensures { OnTrue result ((p : ℕ) → p < 64 * length span.old →
+            64 * at + p < length self.now.entries → bit_of span.new p
             ≡ slice_index_or (map (wants test) self.now.entries) (64 * at + p) false) }
     {
-        if !self.find_block(test, at, block) {
+        if !self.find_span(test, at, span) {
             return false;
         }
         if !test.wanted {
-            flip(block);
+            flip(span);
         }
-        self.not_null.keep_in(at, block);
+        self.not_null.keep_in(at, span);
         true
     }
 
-    /// Writes in a block the rows whose number is in the test's relation to the constant, be that wanted or not. A null
+    /// Writes in a span the rows whose number is in the test's relation to the constant, be that wanted or not. A null
     /// row counts as 0. It returns `false` if a component works on whole vectors alone.
-    fn find_block(&self, test: Test, at: usize, block: &mut [u64]) -> bool
+    fn find_span(&self, test: Test, at: usize, span: &mut [u64]) -> bool
         requires below { test.constant < product self.now.bases }
-        requires within { at + length block.old ≤ word_count (length self.now.entries) }
-        ensures done { IsTrue E.works_on_blocks → IsTrue result }
-        ensures bits { OnTrue result ((p : ℕ) → p < 64 * length block.old →
-            64 * at + p < length self.now.entries → bit_of block.new p
+        requires within { at + length span.old ≤ word_count (length self.now.entries) }
+        ensures done { IsTrue E.works_on_spans → IsTrue result }
+        ensures bits { OnTrue result ((p : ℕ) → p < 64 * length span.old →
+            64 * at + p < length self.now.entries → bit_of span.new p
             ≡ relates test.relation (number_or_zero
             (slice_index_or self.now.entries (64 * at + p) None)) test.constant) }
     {
@@ -188,7 +184,7 @@ impl<E: Encoding> Decomposed<E> {
                 digit,
                 i == 0,
                 at,
-                block,
+                span,
             ) {
                 return false;
             }
@@ -197,17 +193,17 @@ impl<E: Encoding> Decomposed<E> {
     }
 }
 
-/// Keeps in a block the rows that are in `found` or, if those are not wanted, the rows that are not.
-fn keep_wanted(found: &[u64], wanted: bool, block: &mut [u64])
-    requires { length found.now ≡ length block.old }
-    ensures len { length block.new ≡ length block.old }
-    ensures bits { (p : ℕ) → p < 64 * length block.old →
-        bit_of block.new p ≡ (bit_of block.old p && as_wanted wanted (bit_of found.now p)) }
+/// Keeps in a span the rows that are in `found` or, if those are not wanted, the rows that are not.
+fn keep_wanted(found: &[u64], wanted: bool, span: &mut [u64])
+    requires { length found.now ≡ length span.old }
+    ensures len { length span.new ≡ length span.old }
+    ensures bits { (p : ℕ) → p < 64 * length span.old →
+        bit_of span.new p ≡ (bit_of span.old p && as_wanted wanted (bit_of found.now p)) }
 {
     if wanted {
-        lanes::and(block, found);
+        lanes::and(span, found);
     } else {
         know_fits(found);
-        lanes::and_not(block, found);
+        lanes::and_not(span, found);
     }
 }

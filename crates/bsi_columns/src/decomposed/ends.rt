@@ -1,17 +1,17 @@
-//! The least and the greatest number of a found set in one pass over the column, block by block and from the most
+//! The least and the greatest number of a found set in one pass over the column, span by span and from the most
 //! significant component down.
 //!
-//! The search leaves a block as soon as none of its rows can come before the best number found so far. Most blocks show
+//! The search leaves a span as soon as none of its rows can come before the best number found so far. Most spans show
 //! this at their first component.
 //!
-//! A component is asked for a digit within a limit, which a division of the best number gives. What its steps leave
-//! past the last row of a block is open, so the rows are cut with the not-null bitmap again.
+//! A component is asked for a digit within a bound, which a division of the best number gives. What its steps leave
+//! past the last row of a span is open, so the rows are cut with the not-null bitmap again.
 
 ghost use Rattle.std.specs.Prelude.{◌≡◌, ℕ, ◌+◌, ◌*◌, ◌/◌, ◌<◌, ◌≤◌, ◌&&◌, true, false, length, slice_index, slice_index_or, is_some, None, IfOk};
 ghost use Rattle.bsi_bits.specs.BitList.{word_count};
 ghost use Rattle.bsi_bits.specs.Packed.{bit_of};
-ghost use Rattle.bsi_columns.specs.BlockEnds.{AnswersEnd, IsPast, KeepsNearest};
-ghost use Rattle.bsi_bits.specs.Marked.{HasMarked};
+ghost use Rattle.bsi_columns.specs.SpanEnds.{AnswersEnd, IsPast, KeepsNearest};
+ghost use Rattle.bsi_bits.specs.SetRows.{HasRow};
 ghost use Rattle.bsi_columns.specs.Ends.{comes_first, leads, number_at, IsBetterIn, IsEndOf};
 ghost use Rattle.bsi_columns.specs.Orders.{values_at};
 
@@ -19,18 +19,18 @@ use crate::decomposed::Decomposed;
 use crate::{Column, Encoding, EndDigit};
 use bsi_bits::{Bits, MAX_LEN};
 use bsi_slices::End;
-use bsi_words::blocks::{copy_in, keep_in, meets};
+use bsi_words::spans::{copy_in, keep_in, meets};
 
 /// The number of words that the search goes over at once.
 const SEARCH_WORDS: usize = 32;
 
-/// That a component works on whole vectors alone, so a search over blocks has no answer.
+/// That a component works on whole vectors alone, so a search over spans has no answer.
 #[derive(Clone, Copy)]
-pub(crate) struct NoBlocks;
+pub(crate) struct NoSpans;
 
 impl<E: Encoding> Decomposed<E> {
     /// Returns the number at an end of those at the rows of a found set, or none if there is no number.
-    pub(crate) fn end_found(&self, found: &Bits, end: End) -> Result<Option<u64>, NoBlocks>
+    pub(crate) fn end_found(&self, found: &Bits, end: End) -> Result<Option<u64>, NoSpans>
         requires { length self.now.entries ≡ length found.now.bits }
         ensures { IfOk result (IsEndOf end (values_at found.now.bits self.now.entries)) }
     {
@@ -39,33 +39,33 @@ impl<E: Encoding> Decomposed<E> {
         let len = found.words().len();
         let mut buffer = [0; SEARCH_WORDS];
         let mut best = None;
-        'block: for k in 0..len.div_ceil(SEARCH_WORDS) {
+        'span: for k in 0..len.div_ceil(SEARCH_WORDS) {
             let at = SEARCH_WORDS * k;
-            let block = &mut buffer[..SEARCH_WORDS.min(len - at)];
-            rows_into(found, self.not_null(), at, block);
-            let better = self.better_in_block(end, best, at, block)?;
+            let span = &mut buffer[..SEARCH_WORDS.min(len - at)];
+            rows_into(found, self.not_null(), at, span);
+            let better = self.better_in_span(end, best, at, span)?;
             best = better.or(best);
         }
         Ok(best)
     }
 
-    /// Returns the number at an end of the rows of a block, or none if none of them comes before the best number so
-    /// far. The block's content afterwards is unspecified.
-    fn better_in_block(
+    /// Returns the number at an end of the rows of a span, or none if none of them comes before the best number so
+    /// far. The span's content afterwards is unspecified.
+    fn better_in_span(
         &self,
         end: End,
         best: Option<u64>,
         at: usize,
-        block: &mut [u64],
-    ) -> Result<Option<u64>, NoBlocks>
-        requires within { at + length block.old ≤ word_count (length self.now.entries) }
-        requires rows { (p : ℕ) → p < 64 * length block.old → bit_of block.old p ≡ true →
+        span: &mut [u64],
+    ) -> Result<Option<u64>, NoSpans>
+        requires within { at + length span.old ≤ word_count (length self.now.entries) }
+        requires rows { (p : ℕ) → p < 64 * length span.old → bit_of span.old p ≡ true →
             is_some (slice_index_or self.now.entries (64 * at + p) None) ≡ true }
-        ensures { IfOk result (IsBetterIn end (bit_of block.old)
-            (λ p. number_at self.now.entries (64 * at + p)) (64 * length block.old) best) }
+        ensures { IfOk result (IsBetterIn end (bit_of span.old)
+            (λ p. number_at self.now.entries (64 * at + p)) (64 * length span.old) best) }
     {
         let not_null = self.not_null();
-        if !meets(not_null, at, block) {
+        if !meets(not_null, at, span) {
             return Ok(None);
         }
         let bases = self.bases();
@@ -73,9 +73,9 @@ impl<E: Encoding> Decomposed<E> {
         'components: for i in (0..bases.len()).rev() {
             let (base, weight) = (bases.base(i), bases.weight(i));
             let above = number * u64::from(base);
-            let limit = limit_of(end, best, above, base, weight);
-            match keep_nearest(self.component(i), not_null, end, limit, at, block) {
-                EndDigit::Unanswered => return Err(NoBlocks),
+            let bound = bound_of(end, best, above, base, weight);
+            match keep_nearest(self.component(i), not_null, end, bound, at, span) {
+                EndDigit::Unanswered => return Err(NoSpans),
                 EndDigit::Past => return Ok(None),
                 EndDigit::Digit(digit) => number = above + u64::from(digit),
             }
@@ -87,22 +87,22 @@ impl<E: Encoding> Decomposed<E> {
     }
 }
 
-/// Writes the rows of a block that are found and not null.
-fn rows_into(found: &Bits, not_null: &Bits, at: usize, block: &mut [u64])
-    requires found { at + length block.old ≤ word_count (length found.now.bits) }
-    requires not_null { at + length block.old ≤ word_count (length not_null.now.bits) }
-    ensures len { length block.new ≡ length block.old }
-    ensures bits { (p : ℕ) → p < 64 * length block.old → bit_of block.new p
+/// Writes the rows of a span that are found and not null.
+fn rows_into(found: &Bits, not_null: &Bits, at: usize, span: &mut [u64])
+    requires found { at + length span.old ≤ word_count (length found.now.bits) }
+    requires not_null { at + length span.old ≤ word_count (length not_null.now.bits) }
+    ensures len { length span.new ≡ length span.old }
+    ensures bits { (p : ℕ) → p < 64 * length span.old → bit_of span.new p
         ≡ (slice_index_or found.now.bits (64 * at + p) false
         && slice_index_or not_null.now.bits (64 * at + p) false) }
 {
-    copy_in(found, at, block);
-    keep_in(not_null, at, block);
+    copy_in(found, at, span);
+    keep_in(not_null, at, span);
 }
 
 /// Returns the digit past which no number can come before the best number so far. `above` is what the more significant
 /// digits weigh, in units of `weight`.
-fn limit_of(end: End, best: Option<u64>, above: u64, base: u32, weight: u64) -> u32
+fn bound_of(end: End, best: Option<u64>, above: u64, base: u32, weight: u64) -> u32
     requires some { 1 ≤ weight }
     requires base { 1 ≤ base }
     ensures below { result < base }
@@ -118,50 +118,50 @@ fn limit_of(end: End, best: Option<u64>, above: u64, base: u32, weight: u64) -> 
     }
 }
 
-/// Finds the digit at an end among those of a block's rows, if it is within a limit. It is a function, since a proof
+/// Finds the digit at an end among those of a span's rows, if it is within a bound. It is a function, since a proof
 /// loses what a `match` decides where the arms join.
-fn end_digit<E: Encoding>(component: &E, end: End, limit: u32, at: usize, block: &[u64]) -> EndDigit
-    requires below { limit < E.base_of component.now }
-    requires within { at + length block.now ≤ word_count (length (E.digits component.now)) }
-    requires rows { (p : ℕ) → p < 64 * length block.now → bit_of block.now p ≡ true →
+fn end_digit<E: Encoding>(component: &E, end: End, bound: u32, at: usize, span: &[u64]) -> EndDigit
+    requires below { bound < E.base_of component.now }
+    requires within { at + length span.now ≤ word_count (length (E.digits component.now)) }
+    requires rows { (p : ℕ) → p < 64 * length span.now → bit_of span.now p ≡ true →
         64 * at + p < length (E.digits component.now) }
-    requires some { HasMarked (bit_of block.now) (64 * length block.now) }
-    ensures { AnswersEnd end limit (bit_of block.now)
-        (λ p. slice_index (E.digits component.now) (64 * at + p)) (64 * length block.now) result }
+    requires some { HasRow (bit_of span.now) (64 * length span.now) }
+    ensures { AnswersEnd end bound (bit_of span.now)
+        (λ p. slice_index (E.digits component.now) (64 * at + p)) (64 * length span.now) result }
 {
     match end {
-        End::Least => component.least_in_block(limit, at, block),
-        End::Greatest => component.greatest_in_block(limit, at, block),
+        End::Least => component.least_in_span(bound, at, span),
+        End::Greatest => component.greatest_in_span(bound, at, span),
     }
 }
 
-/// Keeps those rows of a block, none of which is null, whose digit is at an end, if this digit is within a limit.
+/// Keeps those rows of a span, none of which is null, whose digit is at an end, if this digit is within a bound.
 fn keep_nearest<E: Encoding>(
     component: &E,
     not_null: &Bits,
     end: End,
-    limit: u32,
+    bound: u32,
     at: usize,
-    block: &mut [u64],
+    span: &mut [u64],
 ) -> EndDigit
-    requires below { limit < E.base_of component.now }
-    requires within { at + length block.old ≤ word_count (length (E.digits component.now)) }
+    requires below { bound < E.base_of component.now }
+    requires within { at + length span.old ≤ word_count (length (E.digits component.now)) }
     requires same { length not_null.now.bits ≡ length (E.digits component.now) }
-    requires rows { (p : ℕ) → p < 64 * length block.old → bit_of block.old p ≡ true →
+    requires rows { (p : ℕ) → p < 64 * length span.old → bit_of span.old p ≡ true →
         slice_index_or not_null.now.bits (64 * at + p) false ≡ true }
-    requires some { HasMarked (bit_of block.old) (64 * length block.old) }
-    ensures len { length block.new ≡ length block.old }
-    ensures digit { KeepsNearest end limit (bit_of block.old) (bit_of block.new)
-        (λ p. slice_index (E.digits component.now) (64 * at + p)) (64 * length block.old) result }
+    requires some { HasRow (bit_of span.old) (64 * length span.old) }
+    ensures len { length span.new ≡ length span.old }
+    ensures digit { KeepsNearest end bound (bit_of span.old) (bit_of span.new)
+        (λ p. slice_index (E.digits component.now) (64 * at + p)) (64 * length span.old) result }
 {
     // The proof takes from this call that each digit is below the base, and so is the digit at the end.
     let _base = component.base();
-    let answer = end_digit(component, end, limit, at, block);
+    let answer = end_digit(component, end, bound, at, span);
     if let EndDigit::Digit(digit) = answer {
-        if !component.eq_block(digit, at, block) {
+        if !component.eq_span(digit, at, span) {
             return EndDigit::Unanswered;
         }
-        keep_in(not_null, at, block);
+        keep_in(not_null, at, span);
     }
     answer
 }

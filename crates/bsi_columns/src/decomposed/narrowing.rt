@@ -1,4 +1,4 @@
-//! One digit of a test, taken into a block of words.
+//! One digit of a test, taken into a span of words.
 
 ghost use Rattle.std.specs.Prelude.{◌≡◌, ℕ, ◌+◌, ◌*◌, ◌≤◌, ◌<◌, ◌||◌, length, slice_index, IsTrue};
 ghost use Rattle.std.specs.Bool.{OnTrue};
@@ -9,11 +9,11 @@ ghost use Rattle.bsi_columns.specs.DigitTests.{relates_from};
 use crate::Encoding;
 use bsi_slices::Relation;
 
-/// The number of words in a part of a block. A component narrows a part by all the bitmaps that it reads before it goes
+/// The number of words in a part of a span. A component narrows a part by all the bitmaps that it reads before it goes
 /// on to the next part, so that it reads them side by side.
 const PART_WORDS: usize = 64;
 
-/// Takes one more digit into the test of a block, part by part. At the lowest digit it ignores what the block holds. It
+/// Takes one more digit into the test of a span, part by part. At the lowest digit it ignores what the span holds. It
 /// returns `false` if the component works on whole vectors alone.
 pub(crate) fn narrow_digit<E: Encoding>(
     component: &E,
@@ -21,21 +21,21 @@ pub(crate) fn narrow_digit<E: Encoding>(
     digit: u32,
     is_lowest: bool,
     at: usize,
-    block: &mut [u64],
+    span: &mut [u64],
 ) -> bool
     requires below { digit < E.base_of component.now }
-    requires within { at + length block.old ≤ word_count (length (E.digits component.now)) }
-    ensures done { IsTrue E.works_on_blocks → IsTrue result }
-    ensures bits { OnTrue result ((p : ℕ) → p < 64 * length block.old →
-        64 * at + p < length (E.digits component.now) → bit_of block.new p
-        ≡ relates_from relation (is_lowest || bit_of block.old p)
+    requires within { at + length span.old ≤ word_count (length (E.digits component.now)) }
+    ensures done { IsTrue E.works_on_spans → IsTrue result }
+    ensures bits { OnTrue result ((p : ℕ) → p < 64 * length span.old →
+        64 * at + p < length (E.digits component.now) → bit_of span.new p
+        ≡ relates_from relation (is_lowest || bit_of span.old p)
         (slice_index (E.digits component.now) (64 * at + p)) digit) }
 {
     know_rows(component);
-    let len = block.len();
+    let len = span.len();
     'parts: for k in 0..len.div_ceil(PART_WORDS) {
         let from = PART_WORDS * k;
-        let part = &mut block[from..from + PART_WORDS.min(len - from)];
+        let part = &mut span[from..from + PART_WORDS.min(len - from)];
         if !narrow_part(component, relation, digit, is_lowest, at + from, part) {
             return false;
         }
@@ -50,27 +50,27 @@ fn know_rows<E: Encoding>(component: &E)
     let _rows = component.len();
 }
 
-/// Takes one more digit into the test of a part of a block.
+/// Takes one more digit into the test of a part of a span.
 fn narrow_part<E: Encoding>(
     component: &E,
     relation: Relation,
     digit: u32,
     is_lowest: bool,
     at: usize,
-    block: &mut [u64],
+    span: &mut [u64],
 ) -> bool
     requires below { digit < E.base_of component.now }
-    requires within { at + length block.old ≤ word_count (length (E.digits component.now)) }
-    ensures done { IsTrue E.works_on_blocks → IsTrue result }
-    ensures bits { OnTrue result ((p : ℕ) → p < 64 * length block.old →
-        64 * at + p < length (E.digits component.now) → bit_of block.new p
-        ≡ relates_from relation (is_lowest || bit_of block.old p)
+    requires within { at + length span.old ≤ word_count (length (E.digits component.now)) }
+    ensures done { IsTrue E.works_on_spans → IsTrue result }
+    ensures bits { OnTrue result ((p : ℕ) → p < 64 * length span.old →
+        64 * at + p < length (E.digits component.now) → bit_of span.new p
+        ≡ relates_from relation (is_lowest || bit_of span.old p)
         (slice_index (E.digits component.now) (64 * at + p)) digit) }
 {
     match relation {
-        Relation::Equal if is_lowest => component.eq_block_into(digit, at, block),
-        Relation::Equal => component.eq_block(digit, at, block),
-        Relation::AtMost if is_lowest => component.le_block_into(digit, at, block),
-        Relation::AtMost => component.le_block(digit, at, block),
+        Relation::Equal if is_lowest => component.eq_span_into(digit, at, span),
+        Relation::Equal => component.eq_span(digit, at, span),
+        Relation::AtMost if is_lowest => component.le_span_into(digit, at, span),
+        Relation::AtMost => component.le_span(digit, at, span),
     }
 }

@@ -1,4 +1,4 @@
-//! Comparisons by whole vectors, for a component that does not work on a block of words.
+//! Comparisons by whole vectors, for a component that does not work on a span of words.
 
 ghost use Rattle.std.specs.Prelude.{◌≡◌, ◌<◌, ◌&&◌, length, map, IfOk};
 ghost use Rattle.std.specs.Simd.Lanes.{zip2};

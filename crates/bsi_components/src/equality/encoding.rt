@@ -4,8 +4,8 @@ ghost use Rattle.std.specs.Prelude.{◌≡◌, ◌≢◌, ℕ, ◌+◌, ◌*◌,
 ghost use Rattle.std.specs.Bool.{OnTrue, OnFalse};
 ghost use Rattle.bsi_bits.specs.BitList.{word_count};
 ghost use Rattle.bsi_bits.specs.Packed.{bit_of};
-ghost use Rattle.bsi_bits.specs.Marked.{HasMarked};
-ghost use Rattle.bsi_digits.specs.Digits.{max_base};
+ghost use Rattle.bsi_bits.specs.SetRows.{HasRow};
+ghost use Rattle.bsi_digits.specs.Digits.{IsBase};
 ghost use Rattle.bsi_components.specs.Component.{at_most_from};
 ghost use Rattle.bsi_components.specs.EndDigits.{AnswersGreatest, AnswersLeast};
 
@@ -15,7 +15,7 @@ use crate::encoding::Encoding;
 use crate::equality::{EqualityComponent, first_stored, push_block};
 use crate::places::{kept_places, push_digit};
 use bsi_bits::{Bitmaps, Bits};
-use bsi_words::blocks::{add_missing, copy_in, drop_in, keep_in};
+use bsi_words::spans::{add_missing, copy_in, drop_in, keep_in};
 use bsi_words::{RankedRows, rows_of_rank, sum_by_places};
 use std::alloc::Global;
 
@@ -26,7 +26,7 @@ impl Encoding for EqualityComponent {
 
     ghost room_of = { λ c. c.room };
 
-    ghost works_on_blocks = { true };
+    ghost works_on_spans = { true };
 
     fn make(alloc: Global, base: u32) -> Result<Self, NoMemory> {
         let own = (base - first_stored(base)) as usize;
@@ -36,7 +36,7 @@ impl Encoding for EqualityComponent {
 
     fn base(&self) -> u32
         ensures base { result ≡ self.now.base }
-        ensures within { (2 ≤ result) × (result ≤ max_base) }
+        ensures within { IsBase result }
         ensures below { (k : ℕ) → slice_index self.now.digits k < result }
     {
         self.base
@@ -135,96 +135,96 @@ impl Encoding for EqualityComponent {
         })
     }
 
-    fn eq_block(&self, d: u32, at: usize, block: &mut [u64]) -> bool
+    fn eq_span(&self, d: u32, at: usize, span: &mut [u64]) -> bool
         requires below { d < self.now.base }
-        requires within { at + length block.old ≤ word_count (length self.now.digits) }
+        requires within { at + length span.old ≤ word_count (length self.now.digits) }
         ensures done { IsTrue result }
-        ensures kept { OnFalse result (block.new ≡ block.old) }
-        ensures bits { OnTrue result ((p : ℕ) → p < 64 * length block.old →
+        ensures kept { OnFalse result (span.new ≡ span.old) }
+        ensures bits { OnTrue result ((p : ℕ) → p < 64 * length span.old →
             64 * at + p < length self.now.digits →
-            bit_of block.new p ≡ (bit_of block.old p
+            bit_of span.new p ≡ (bit_of span.old p
             && (slice_index self.now.digits (64 * at + p) == d))) }
     {
         if self.is_stored(d) {
-            keep_in(self.bitmap(d), at, block);
+            keep_in(self.bitmap(d), at, span);
         } else {
-            drop_in(self.bitmap(1), at, block);
+            drop_in(self.bitmap(1), at, span);
         }
         true
     }
 
     // It copies one bitmap, but for digit 0 under base 2, which has none.
-    fn eq_block_into(&self, d: u32, at: usize, block: &mut [u64]) -> bool
+    fn eq_span_into(&self, d: u32, at: usize, span: &mut [u64]) -> bool
         requires below { d < self.now.base }
-        requires within { at + length block.old ≤ word_count (length self.now.digits) }
+        requires within { at + length span.old ≤ word_count (length self.now.digits) }
         ensures done { IsTrue result }
-        ensures bits { OnTrue result ((p : ℕ) → p < 64 * length block.old →
+        ensures bits { OnTrue result ((p : ℕ) → p < 64 * length span.old →
             64 * at + p < length self.now.digits →
-            bit_of block.new p ≡ (slice_index self.now.digits (64 * at + p) == d)) }
+            bit_of span.new p ≡ (slice_index self.now.digits (64 * at + p) == d)) }
     {
         if self.is_stored(d) {
-            copy_in(self.bitmap(d), at, block);
+            copy_in(self.bitmap(d), at, span);
             true
         } else {
-            block.fill(u64::MAX);
-            self.eq_block(d, at, block)
+            span.fill(u64::MAX);
+            self.eq_span(d, at, span)
         }
     }
 
     // It reads the bitmaps up to the digit, or those from it on, whichever are fewer.
-    fn le_block(&self, d: u32, at: usize, block: &mut [u64]) -> bool
+    fn le_span(&self, d: u32, at: usize, span: &mut [u64]) -> bool
         requires below { d < self.now.base }
-        requires within { at + length block.old ≤ word_count (length self.now.digits) }
+        requires within { at + length span.old ≤ word_count (length self.now.digits) }
         ensures done { IsTrue result }
-        ensures kept { OnFalse result (block.new ≡ block.old) }
-        ensures bits { OnTrue result ((p : ℕ) → p < 64 * length block.old →
+        ensures kept { OnFalse result (span.new ≡ span.old) }
+        ensures bits { OnTrue result ((p : ℕ) → p < 64 * length span.old →
             64 * at + p < length self.now.digits →
-            bit_of block.new p ≡ at_most_from (bit_of block.old p)
+            bit_of span.new p ≡ at_most_from (bit_of span.old p)
             (slice_index self.now.digits (64 * at + p)) d) }
     {
         let base = self.base();
         if base == 2 {
             if d == 0 {
-                drop_in(self.bitmap(1), at, block);
+                drop_in(self.bitmap(1), at, span);
             } else {
-                add_missing(self.bitmap(1), at, block);
+                add_missing(self.bitmap(1), at, span);
             }
         } else if 2 * d < base {
-            keep_in(self.bitmap(d), at, block);
-            self.add_among(0, d, at, block);
+            keep_in(self.bitmap(d), at, span);
+            self.add_among(0, d, at, span);
         } else {
-            add_missing(self.bitmap(d), at, block);
-            self.drop_among(d + 1, base, at, block);
+            add_missing(self.bitmap(d), at, span);
+            self.drop_among(d + 1, base, at, span);
         }
         true
     }
 
     // It is the provided body, under a clause that says that it is always done.
-    fn le_block_into(&self, d: u32, at: usize, block: &mut [u64]) -> bool
+    fn le_span_into(&self, d: u32, at: usize, span: &mut [u64]) -> bool
         requires below { d < self.now.base }
-        requires within { at + length block.old ≤ word_count (length self.now.digits) }
+        requires within { at + length span.old ≤ word_count (length self.now.digits) }
         ensures done { IsTrue result }
-        ensures bits { OnTrue result ((p : ℕ) → p < 64 * length block.old →
+        ensures bits { OnTrue result ((p : ℕ) → p < 64 * length span.old →
             64 * at + p < length self.now.digits →
-            bit_of block.new p ≡ nat_le (slice_index self.now.digits (64 * at + p)) d) }
+            bit_of span.new p ≡ nat_le (slice_index self.now.digits (64 * at + p)) d) }
     {
-        block.fill(u64::MAX);
-        self.le_block(d, at, block)
+        span.fill(u64::MAX);
+        self.le_span(d, at, span)
     }
 
     // It reads the bitmaps from digit 0 up.
-    fn least_in_block(&self, limit: u32, at: usize, block: &[u64]) -> EndDigit
-        requires below { limit < self.now.base }
-        requires within { at + length block.now ≤ word_count (length self.now.digits) }
-        requires rows { (p : ℕ) → p < 64 * length block.now → bit_of block.now p ≡ true →
+    fn least_in_span(&self, bound: u32, at: usize, span: &[u64]) -> EndDigit
+        requires below { bound < self.now.base }
+        requires within { at + length span.now ≤ word_count (length self.now.digits) }
+        requires rows { (p : ℕ) → p < 64 * length span.now → bit_of span.now p ≡ true →
             64 * at + p < length self.now.digits }
-        requires some { HasMarked (bit_of block.now) (64 * length block.now) }
+        requires some { HasRow (bit_of span.now) (64 * length span.now) }
         ensures done { result ≢ EndDigit.Unanswered }
-        ensures answer { AnswersLeast limit (bit_of block.now)
-            (λ p. slice_index self.now.digits (64 * at + p)) (64 * length block.now) result }
+        ensures answer { AnswersLeast bound (bit_of span.now)
+            (λ p. slice_index self.now.digits (64 * at + p)) (64 * length span.now) result }
     {
-        'digits: for digit in 0..=limit {
-            if self.has_digit(digit, at, block) {
+        'digits: for digit in 0..=bound {
+            if self.has_digit(digit, at, span) {
                 return EndDigit::Digit(digit);
             }
         }
@@ -232,18 +232,18 @@ impl Encoding for EqualityComponent {
     }
 
     // It reads the bitmaps from the greatest digit down.
-    fn greatest_in_block(&self, limit: u32, at: usize, block: &[u64]) -> EndDigit
-        requires below { limit < self.now.base }
-        requires within { at + length block.now ≤ word_count (length self.now.digits) }
-        requires rows { (p : ℕ) → p < 64 * length block.now → bit_of block.now p ≡ true →
+    fn greatest_in_span(&self, bound: u32, at: usize, span: &[u64]) -> EndDigit
+        requires below { bound < self.now.base }
+        requires within { at + length span.now ≤ word_count (length self.now.digits) }
+        requires rows { (p : ℕ) → p < 64 * length span.now → bit_of span.now p ≡ true →
             64 * at + p < length self.now.digits }
-        requires some { HasMarked (bit_of block.now) (64 * length block.now) }
+        requires some { HasRow (bit_of span.now) (64 * length span.now) }
         ensures done { result ≢ EndDigit.Unanswered }
-        ensures answer { AnswersGreatest limit (bit_of block.now)
-            (λ p. slice_index self.now.digits (64 * at + p)) (64 * length block.now) result }
+        ensures answer { AnswersGreatest bound (bit_of span.now)
+            (λ p. slice_index self.now.digits (64 * at + p)) (64 * length span.now) result }
     {
-        'digits: for digit in (limit..self.base()).rev() {
-            if self.has_digit(digit, at, block) {
+        'digits: for digit in (bound..self.base()).rev() {
+            if self.has_digit(digit, at, span) {
                 return EndDigit::Digit(digit);
             }
         }

@@ -5,7 +5,7 @@ ghost use Rattle.std.specs.Bool.{OnTrue, OnFalse};
 ghost use Rattle.bsi_bits.specs.BitList.{word_count};
 ghost use Rattle.bsi_bits.specs.Packed.{bit_of};
 ghost use Rattle.bsi_components.specs.Component.{at_most_from};
-ghost use Rattle.bsi_bits.specs.Marked.{HasMarked};
+ghost use Rattle.bsi_bits.specs.SetRows.{HasRow};
 ghost use Rattle.bsi_components.specs.EndDigits.{AnswersGreatest, AnswersLeast};
 
 use crate::NoMemory;
@@ -14,7 +14,7 @@ use crate::encoding::Encoding;
 use crate::places::{kept_places, push_digit};
 use crate::range::{RangeComponent, push_block};
 use bsi_bits::{Bitmaps, Bits};
-use bsi_words::blocks::{add_in, copy_in, drop_in, keep_and_add, keep_but_drop, keep_in};
+use bsi_words::spans::{add_in, copy_in, drop_in, keep_and_add, keep_but_drop, keep_in};
 use bsi_words::{RankedRows, sum_by_places};
 use std::alloc::Global;
 
@@ -25,7 +25,7 @@ impl Encoding for RangeComponent {
 
     ghost room_of = { λ c. c.room };
 
-    ghost works_on_blocks = { true };
+    ghost works_on_spans = { true };
 
     fn make(alloc: Global, base: u32) -> Result<Self, NoMemory> {
         let bitmaps = Bitmaps::new(alloc, base as usize - 1 + kept_places(base))?;
@@ -126,115 +126,115 @@ impl Encoding for RangeComponent {
         })
     }
 
-    fn eq_block(&self, d: u32, at: usize, block: &mut [u64]) -> bool
+    fn eq_span(&self, d: u32, at: usize, span: &mut [u64]) -> bool
         requires below { d < self.now.base }
-        requires within { at + length block.old ≤ word_count (length self.now.digits) }
+        requires within { at + length span.old ≤ word_count (length self.now.digits) }
         ensures done { IsTrue result }
-        ensures kept { OnFalse result (block.new ≡ block.old) }
-        ensures bits { OnTrue result ((p : ℕ) → p < 64 * length block.old →
+        ensures kept { OnFalse result (span.new ≡ span.old) }
+        ensures bits { OnTrue result ((p : ℕ) → p < 64 * length span.old →
             64 * at + p < length self.now.digits →
-            bit_of block.new p ≡ (bit_of block.old p
+            bit_of span.new p ≡ (bit_of span.old p
             && (slice_index self.now.digits (64 * at + p) == d))) }
     {
         if d == self.top() {
-            drop_in(self.bitmap(d - 1), at, block);
+            drop_in(self.bitmap(d - 1), at, span);
         } else if d > 0 {
-            keep_but_drop(self.bitmap(d), self.bitmap(d - 1), at, block);
+            keep_but_drop(self.bitmap(d), self.bitmap(d - 1), at, span);
         } else {
-            keep_in(self.bitmap(0), at, block);
+            keep_in(self.bitmap(0), at, span);
         }
         true
     }
 
-    fn le_block(&self, d: u32, at: usize, block: &mut [u64]) -> bool
+    fn le_span(&self, d: u32, at: usize, span: &mut [u64]) -> bool
         requires below { d < self.now.base }
-        requires within { at + length block.old ≤ word_count (length self.now.digits) }
+        requires within { at + length span.old ≤ word_count (length self.now.digits) }
         ensures done { IsTrue result }
-        ensures kept { OnFalse result (block.new ≡ block.old) }
-        ensures bits { OnTrue result ((p : ℕ) → p < 64 * length block.old →
+        ensures kept { OnFalse result (span.new ≡ span.old) }
+        ensures bits { OnTrue result ((p : ℕ) → p < 64 * length span.old →
             64 * at + p < length self.now.digits →
-            bit_of block.new p ≡ at_most_from (bit_of block.old p)
+            bit_of span.new p ≡ at_most_from (bit_of span.old p)
             (slice_index self.now.digits (64 * at + p)) d) }
     {
         if d == self.top() {
-            add_in(self.bitmap(d - 1), at, block);
+            add_in(self.bitmap(d - 1), at, span);
         } else if d > 0 {
-            keep_and_add(self.bitmap(d), self.bitmap(d - 1), at, block);
+            keep_and_add(self.bitmap(d), self.bitmap(d - 1), at, span);
         } else {
-            keep_in(self.bitmap(0), at, block);
+            keep_in(self.bitmap(0), at, span);
         }
         true
     }
 
     // It is the provided body, under a clause that says that it is always done.
-    fn eq_block_into(&self, d: u32, at: usize, block: &mut [u64]) -> bool
+    fn eq_span_into(&self, d: u32, at: usize, span: &mut [u64]) -> bool
         requires below { d < self.now.base }
-        requires within { at + length block.old ≤ word_count (length self.now.digits) }
+        requires within { at + length span.old ≤ word_count (length self.now.digits) }
         ensures done { IsTrue result }
-        ensures bits { OnTrue result ((p : ℕ) → p < 64 * length block.old →
+        ensures bits { OnTrue result ((p : ℕ) → p < 64 * length span.old →
             64 * at + p < length self.now.digits →
-            bit_of block.new p ≡ (slice_index self.now.digits (64 * at + p) == d)) }
+            bit_of span.new p ≡ (slice_index self.now.digits (64 * at + p) == d)) }
     {
-        block.fill(u64::MAX);
-        self.eq_block(d, at, block)
+        span.fill(u64::MAX);
+        self.eq_span(d, at, span)
     }
 
-    // It reads one bitmap, where `le_block` may read two.
-    fn le_block_into(&self, d: u32, at: usize, block: &mut [u64]) -> bool
+    // It reads one bitmap, where `le_span` may read two.
+    fn le_span_into(&self, d: u32, at: usize, span: &mut [u64]) -> bool
         requires below { d < self.now.base }
-        requires within { at + length block.old ≤ word_count (length self.now.digits) }
+        requires within { at + length span.old ≤ word_count (length self.now.digits) }
         ensures done { IsTrue result }
-        ensures bits { OnTrue result ((p : ℕ) → p < 64 * length block.old →
+        ensures bits { OnTrue result ((p : ℕ) → p < 64 * length span.old →
             64 * at + p < length self.now.digits →
-            bit_of block.new p ≡ nat_le (slice_index self.now.digits (64 * at + p)) d) }
+            bit_of span.new p ≡ nat_le (slice_index self.now.digits (64 * at + p)) d) }
     {
         if d == self.top() {
-            block.fill(u64::MAX);
+            span.fill(u64::MAX);
         } else {
-            copy_in(self.bitmap(d), at, block);
+            copy_in(self.bitmap(d), at, span);
         }
         true
     }
 
-    // The first bitmap that it reads tells whether a digit is within the limit.
-    fn least_in_block(&self, limit: u32, at: usize, block: &[u64]) -> EndDigit
-        requires below { limit < self.now.base }
-        requires within { at + length block.now ≤ word_count (length self.now.digits) }
-        requires rows { (p : ℕ) → p < 64 * length block.now → bit_of block.now p ≡ true →
+    // The first bitmap that it reads tells whether a digit is within the bound.
+    fn least_in_span(&self, bound: u32, at: usize, span: &[u64]) -> EndDigit
+        requires below { bound < self.now.base }
+        requires within { at + length span.now ≤ word_count (length self.now.digits) }
+        requires rows { (p : ℕ) → p < 64 * length span.now → bit_of span.now p ≡ true →
             64 * at + p < length self.now.digits }
-        requires some { HasMarked (bit_of block.now) (64 * length block.now) }
+        requires some { HasRow (bit_of span.now) (64 * length span.now) }
         ensures done { result ≢ EndDigit.Unanswered }
-        ensures answer { AnswersLeast limit (bit_of block.now)
-            (λ p. slice_index self.now.digits (64 * at + p)) (64 * length block.now) result }
+        ensures answer { AnswersLeast bound (bit_of span.now)
+            (λ p. slice_index self.now.digits (64 * at + p)) (64 * length span.now) result }
     {
-        if limit < self.top() && !self.has_upto(limit, at, block) {
+        if bound < self.top() && !self.has_upto(bound, at, span) {
             return EndDigit::Past;
         }
-        'digits: for digit in (0..limit).rev() {
-            if !self.has_upto(digit, at, block) {
+        'digits: for digit in (0..bound).rev() {
+            if !self.has_upto(digit, at, span) {
                 return EndDigit::Digit(digit + 1);
             }
         }
         EndDigit::Digit(0)
     }
 
-    // The first bitmap that it reads tells whether a digit is within the limit.
-    fn greatest_in_block(&self, limit: u32, at: usize, block: &[u64]) -> EndDigit
-        requires below { limit < self.now.base }
-        requires within { at + length block.now ≤ word_count (length self.now.digits) }
-        requires rows { (p : ℕ) → p < 64 * length block.now → bit_of block.now p ≡ true →
+    // The first bitmap that it reads tells whether a digit is within the bound.
+    fn greatest_in_span(&self, bound: u32, at: usize, span: &[u64]) -> EndDigit
+        requires below { bound < self.now.base }
+        requires within { at + length span.now ≤ word_count (length self.now.digits) }
+        requires rows { (p : ℕ) → p < 64 * length span.now → bit_of span.now p ≡ true →
             64 * at + p < length self.now.digits }
-        requires some { HasMarked (bit_of block.now) (64 * length block.now) }
+        requires some { HasRow (bit_of span.now) (64 * length span.now) }
         ensures done { result ≢ EndDigit.Unanswered }
-        ensures answer { AnswersGreatest limit (bit_of block.now)
-            (λ p. slice_index self.now.digits (64 * at + p)) (64 * length block.now) result }
+        ensures answer { AnswersGreatest bound (bit_of span.now)
+            (λ p. slice_index self.now.digits (64 * at + p)) (64 * length span.now) result }
     {
-        if limit > 0 && !self.has_above(limit - 1, at, block) {
+        if bound > 0 && !self.has_above(bound - 1, at, span) {
             return EndDigit::Past;
         }
         let top = self.top();
-        'digits: for digit in limit..top {
-            if !self.has_above(digit, at, block) {
+        'digits: for digit in bound..top {
+            if !self.has_above(digit, at, span) {
                 return EndDigit::Digit(digit);
             }
         }

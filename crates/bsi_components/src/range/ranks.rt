@@ -11,11 +11,11 @@ use crate::answers::RankedDigit;
 use crate::range::RangeComponent;
 use bsi_bits::{Bits, MAX_LEN};
 
-/// The number of blocks of words in a sample, which lie evenly among all.
-const SAMPLE_BLOCKS: usize = 16;
+/// The number of spans in a sample, which lie evenly among all.
+const SAMPLE_SPANS: usize = 16;
 
-/// The number of words in such a block.
-const SAMPLE_BLOCK_WORDS: usize = 64;
+/// The number of words in such a span.
+const SAMPLE_SPAN_WORDS: usize = 64;
 
 /// The least number of words that are sampled, since fewer are counted as soon.
 const MIN_SAMPLED_WORDS: usize = 1 << 13;
@@ -115,7 +115,7 @@ impl RangeComponent {
         if words < MIN_SAMPLED_WORDS {
             return None;
         }
-        let rank_there = rank * (SAMPLE_BLOCKS * SAMPLE_BLOCK_WORDS) as u64 / words as u64;
+        let rank_there = rank * (SAMPLE_SPANS * SAMPLE_SPAN_WORDS) as u64 / words as u64;
         if rank_there < MIN_SAMPLED_RANK {
             return None;
         }
@@ -137,11 +137,11 @@ impl RangeComponent {
         requires same { length self.now.digits ≡ length found.now.bits }
         requires long { MIN_SAMPLED_WORDS ≤ word_count (length found.now.bits) }
     {
-        let stride = found.words().len() / SAMPLE_BLOCKS;
+        let stride = found.words().len() / SAMPLE_SPANS;
         let mut count = 0u64;
-        for k in 0..SAMPLE_BLOCKS {
+        for k in 0..SAMPLE_SPANS {
             let start = stride * k;
-            let rows = found.count_and_in(self.bitmap(d), start, start + SAMPLE_BLOCK_WORDS);
+            let rows = found.count_and_in(self.bitmap(d), start, start + SAMPLE_SPAN_WORDS);
             // The sum is at most 2^16. It saturates so that no proof has to say so.
             count = count.saturating_add(rows);
         }

@@ -7,7 +7,7 @@
 ghost use Rattle.std.specs.Prelude.{◌≡◌, ℕ, ℤ, ◌<ℤ◌, ◌+◌, ◌<◌, ◌≤◌, length, map, is_none, IfOk, IsOk, OnOk, OnErr};
 ghost use Rattle.bsi_digits.specs.Digits.{max_size};
 ghost use Rattle.bsi_bits.specs.BitList.{word_count};
-ghost use Rattle.bsi_slices.specs.Blocks.{KeepsRows};
+ghost use Rattle.bsi_slices.specs.Spans.{KeepsRows};
 ghost use Rattle.bsi_slices.specs.Orders.{compares_by};
 ghost use Rattle.bsi_slices.specs.Rows.{number_order};
 ghost use Rattle.bsi_shift.specs.Shifted.{shifted_entries, number_of};
@@ -15,7 +15,7 @@ ghost use Rattle.bsi_shift.specs.WholeNumbers.{signed_order, signed_selects};
 
 use crate::{NoMemory, Shifted};
 use bsi_bits::Bits;
-use bsi_columns::{Column, MAX_BLOCK_WORDS, Op};
+use bsi_columns::{Column, MAX_SPAN_WORDS, Op};
 
 /// A comparison of the stored numbers with a constant.
 #[derive(Clone, Copy)]
@@ -44,7 +44,7 @@ impl Shifted {
         self.stored.nulls_into(out);
     }
 
-    /// Keeps in a block of at most 1,024 words the rows whose number satisfies the comparison `op` with `constant`,
+    /// Keeps in a span of at most 1,024 words the rows whose number satisfies the comparison `op` with `constant`,
     /// which may be any number. The first word stands for the 64 rows from row `64 * at` on. A null row is not kept,
     /// nor a bit past the last row. It takes no memory, and always succeeds. It answers a `Result` as the stored column
     /// does.
@@ -53,27 +53,27 @@ impl Shifted {
         op: Op,
         constant: i128,
         at: usize,
-        block: &mut [u64],
+        span: &mut [u64],
     ) -> Result<(), NoMemory>
-        requires few { length block.old ≤ MAX_BLOCK_WORDS }
-        requires within { at + length block.old ≤ word_count (length (shifted_entries self.now)) }
-        ensures kept { OnErr result (block.new ≡ block.old) }
+        requires few { length span.old ≤ MAX_SPAN_WORDS }
+        requires within { at + length span.old ≤ word_count (length (shifted_entries self.now)) }
+        ensures kept { OnErr result (span.new ≡ span.old) }
         ensures rows { OnOk result (KeepsRows
-            (signed_selects op constant) (shifted_entries self.now) at block.old block.new) }
+            (signed_selects op constant) (shifted_entries self.now) at span.old span.new) }
         ensures succeeds { IsOk result }
     {
         let comparison = stored_comparison(op, constant, self.offset);
         self.stored
-            .keep_selected(comparison.op, comparison.constant, at, block)
+            .keep_selected(comparison.op, comparison.constant, at, span)
     }
 
-    /// Keeps in a block of words the rows that are null. The first word stands for the 64 rows from row `64 * at` on.
+    /// Keeps in a span of words the rows that are null. The first word stands for the 64 rows from row `64 * at` on.
     /// Bits past the last row stay as they are. It takes no memory.
-    pub fn keep_nulls(&self, at: usize, block: &mut [u64])
-        requires { at + length block.old ≤ word_count (length (shifted_entries self.now)) }
-        ensures { KeepsRows is_none (shifted_entries self.now) at block.old block.new }
+    pub fn keep_nulls(&self, at: usize, span: &mut [u64])
+        requires { at + length span.old ≤ word_count (length (shifted_entries self.now)) }
+        ensures { KeepsRows is_none (shifted_entries self.now) at span.old span.new }
     {
-        self.stored.keep_nulls(at, block);
+        self.stored.keep_nulls(at, span);
     }
 }
 

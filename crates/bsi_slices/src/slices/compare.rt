@@ -1,9 +1,9 @@
-//! Comparisons of the numbers in slices with a constant, block by block and from the least significant slice up.
+//! Comparisons of the numbers in slices with a constant, span by span and from the least significant slice up.
 //!
 //! There is one state. It starts at 0; where the constant has a 1 it is narrowed to the slice, where it has a 0 the
 //! slice is added. After the last slice it says whether the number is above the constant. The published algorithm
 //! (O'Neil and Quass 1997) goes from the most significant slice down with two or three states, and needs one more
-//! operation a slice; this form is this project's own. A block is 16 words, so the state fits eight registers of two
+//! operation a slice; this form is this project's own. A span is 16 words, so the state fits eight registers of two
 //! words over all slices, and each slice is read once.
 //!
 //! These are functions over the two fields of a column, so that their clauses and proofs speak of these and not of a
@@ -15,8 +15,8 @@ ghost use Rattle.std.specs.Simd.Lanes.{zip2};
 ghost use Rattle.bsi_words.specs.Places.{max_places};
 ghost use Rattle.bsi_bits.specs.BitList.{max_words, word_count};
 ghost use Rattle.bsi_bits.specs.BitLists.{bits_at};
-ghost use Rattle.bsi_bits.specs.Packed.{bit_of};
-ghost use Rattle.bsi_slices.specs.Blocks.{max_lanes, IsKept, KeepsRows};
+ghost use Rattle.bsi_bits.specs.Packed.{bit_of, end_of_u64};
+ghost use Rattle.bsi_slices.specs.Spans.{max_lanes, IsKept, KeepsRows};
 ghost use Rattle.bsi_slices.specs.Decisions.{passes};
 ghost use Rattle.bsi_slices.specs.Rows.{selects};
 ghost use Rattle.bsi_slices.specs.Slices.{entries_in, number, IsSliced};
@@ -56,7 +56,7 @@ pub fn select(
     }
 }
 
-/// Keeps in a block of words the rows whose number satisfies the comparison `op` with `constant`. The first word stands
+/// Keeps in a span of words the rows whose number satisfies the comparison `op` with `constant`. The first word stands
 /// for the 64 rows from row `64 * at` on. It reads no slice if the answer is already known.
 pub fn keep_selected(
     slices: &[Bits],
@@ -64,25 +64,25 @@ pub fn keep_selected(
     op: Op,
     constant: u64,
     at: usize,
-    block: &mut [u64],
+    span: &mut [u64],
 )
     requires sliced { IsSliced not_null.now.bits slices.now }
-    requires within { at + length block.old ≤ word_count (length not_null.now.bits) }
-    ensures { KeepsRows (selects op constant) (entries_in not_null.now.bits slices.now) at block.old
-        block.new }
+    requires within { at + length span.old ≤ word_count (length not_null.now.bits) }
+    ensures { KeepsRows (selects op constant) (entries_in not_null.now.bits slices.now) at span.old
+        span.new }
 {
     match decide(op, constant, 1 << slices.len()) {
-        Decision::Nothing => block.fill(0),
-        Decision::Everything => not_null.keep_in(at, block),
+        Decision::Nothing => span.fill(0),
+        Decision::Everything => not_null.keep_in(at, span),
         Decision::Tested(test) => {
-            not_null.keep_in(at, block);
-            keep(slices, test, at, block);
+            not_null.keep_in(at, span);
+            keep(slices, test, at, span);
         }
     }
 }
 
 /// Keeps in `words` the rows whose numbers pass the test. The first word stands for the 64 rows from row `64 * start`
-/// on. It works on whole blocks first, and on single words after them.
+/// on. It works on whole spans first, and on single words after them.
 fn keep(slices: &[Bits], test: Test, start: usize, words: &mut [u64])
     requires few { length slices.now ≤ max_places }
     requires below { test.constant < 2 ^ length slices.now }
@@ -93,19 +93,19 @@ fn keep(slices: &[Bits], test: Test, start: usize, words: &mut [u64])
         words.old words.new }
 {
     let whole = words.len() / REGISTER_WORDS * REGISTER_WORDS;
-    keep_blocks::<REGISTER_WORDS>(slices, test, start, 0, words);
-    keep_blocks::<1>(slices, test, start, whole, words);
+    keep_spans::<REGISTER_WORDS>(slices, test, start, 0, words);
+    keep_spans::<1>(slices, test, start, whole, words);
 }
 
-/// Keeps the rows whose numbers pass the test in the words from word `from` on, as far as whole blocks of `N` words go.
-fn keep_blocks<const N: usize>(
+/// Keeps the rows whose numbers pass the test in the words from word `from` on, as far as whole spans of `N` words go.
+fn keep_spans<const N: usize>(
     slices: &[Bits],
     test: Test,
     start: usize,
     from: usize,
     words: &mut [u64],
 )
-    requires blocks { (1 ≤ N) × (N ≤ max_lanes) }
+    requires spans { (1 ≤ N) × (N ≤ max_lanes) }
     requires few { length slices.now ≤ max_places }
     requires below { test.constant < 2 ^ length slices.now }
     requires within { from ≤ length words.old }
@@ -115,87 +115,87 @@ fn keep_blocks<const N: usize>(
     ensures { IsKept (λ r. passes test (number slices.now (64 * start + r))) from
         (from + N * ((length words.old - from) / N)) words.old words.new }
 {
-    let blocks = (words.len() - from) / N;
-    'block: for k in 0..blocks {
+    let spans = (words.len() - from) / N;
+    'span: for k in 0..spans {
         let at = from + N * k;
-        let block = Simd::<u64, N>::from_slice(&words[at..]);
-        kept_block(slices, test, start + at, block).copy_to_slice(&mut words[at..]);
+        let span = Simd::<u64, N>::from_slice(&words[at..]);
+        kept_span(slices, test, start + at, span).copy_to_slice(&mut words[at..]);
     }
 }
 
-/// Keeps in a block the rows whose numbers pass the test. The rows at most the constant are those not above it.
-fn kept_block<const N: usize>(
+/// Keeps in a span the rows whose numbers pass the test. The rows at most the constant are those not above it.
+fn kept_span<const N: usize>(
     slices: &[Bits],
     test: Test,
     at: usize,
-    block: Simd<u64, N>,
+    span: Simd<u64, N>,
 ) -> Simd<u64, N>
-    requires blocks { (1 ≤ N) × (N ≤ max_lanes) }
+    requires spans { (1 ≤ N) × (N ≤ max_lanes) }
     requires few { length slices.now ≤ max_places }
     requires below { test.constant < 2 ^ length slices.now }
     requires long { (i : ℕ) → i < length slices.now →
         at + N ≤ word_count (length (bits_at slices.now i)) }
     ensures long { length result ≡ N }
     ensures bits { (p : ℕ) → p < 64 * N → bit_of result p
-        ≡ (bit_of block.entry p && passes test (number slices.now (64 * at + p))) }
+        ≡ (bit_of span.entry p && passes test (number slices.now (64 * at + p))) }
 {
     match test.relation {
-        Relation::Equal => cut(block, equal_block(slices, test.constant, at), !test.wanted),
-        Relation::AtMost => cut(block, above_block(slices, test.constant, at), test.wanted),
+        Relation::Equal => cut(span, equal_span(slices, test.constant, at), !test.wanted),
+        Relation::AtMost => cut(span, above_span(slices, test.constant, at), test.wanted),
     }
 }
 
-/// Returns for the rows of a block whether their numbers are above the constant. It goes through the binary places from
+/// Returns for the rows of a span whether their numbers are above the constant. It goes through the binary places from
 /// the least significant up. At a place that is 1 in the constant, a row stays above only if its slice is 1 too. At a
 /// place that is 0 in the constant, each row whose slice is 1 is above.
-fn above_block<const N: usize>(slices: &[Bits], constant: u64, at: usize) -> Simd<u64, N>
-    requires blocks { (1 ≤ N) × (N ≤ max_lanes) }
+fn above_span<const N: usize>(slices: &[Bits], constant: u64, at: usize) -> Simd<u64, N>
+    requires spans { (1 ≤ N) × (N ≤ max_lanes) }
     requires few { length slices.now ≤ max_places }
     requires below { constant < 2 ^ length slices.now }
     requires long { (i : ℕ) → i < length slices.now →
         at + N ≤ word_count (length (bits_at slices.now i)) }
     ensures long { length result ≡ N }
-    ensures fits { (k : ℕ) → slice_index result k < 2 ^ 64 }
+    ensures fits { (k : ℕ) → slice_index result k < end_of_u64 }
     ensures bits { (p : ℕ) → p < 64 * N →
         bit_of result p ≡ nat_lt constant (number slices.now (64 * at + p)) }
 {
     let mut above = Simd::<u64, N>::splat(0);
-    'slices: for place in 0..slices.len() {
-        let words = words_at(slices, place);
-        let slice = Simd::<u64, N>::from_slice(&words[at..]);
-        above = stepped(above, slice, constant >> place & 1 == 1);
+    'slices: for (place, slice) in slices.iter().enumerate() {
+        let words = words_of(slice);
+        let part = Simd::<u64, N>::from_slice(&words[at..]);
+        above = stepped(above, part, constant >> place & 1 == 1);
     }
     above
 }
 
-/// Returns for the rows of a block whether their numbers equal the constant.
-fn equal_block<const N: usize>(slices: &[Bits], constant: u64, at: usize) -> Simd<u64, N>
-    requires blocks { (1 ≤ N) × (N ≤ max_lanes) }
+/// Returns for the rows of a span whether their numbers equal the constant.
+fn equal_span<const N: usize>(slices: &[Bits], constant: u64, at: usize) -> Simd<u64, N>
+    requires spans { (1 ≤ N) × (N ≤ max_lanes) }
     requires few { length slices.now ≤ max_places }
     requires below { constant < 2 ^ length slices.now }
     requires long { (i : ℕ) → i < length slices.now →
         at + N ≤ word_count (length (bits_at slices.now i)) }
     ensures long { length result ≡ N }
-    ensures fits { (k : ℕ) → slice_index result k < 2 ^ 64 }
+    ensures fits { (k : ℕ) → slice_index result k < end_of_u64 }
     ensures bits { (p : ℕ) → p < 64 * N →
         bit_of result p ≡ (constant == number slices.now (64 * at + p)) }
 {
     let mut found = Simd::<u64, N>::splat(u64::MAX);
-    'slices: for place in 0..slices.len() {
-        let words = words_at(slices, place);
-        let slice = Simd::<u64, N>::from_slice(&words[at..]);
-        found = cut(found, slice, constant >> place & 1 == 0);
+    'slices: for (place, slice) in slices.iter().enumerate() {
+        let words = words_of(slice);
+        let part = Simd::<u64, N>::from_slice(&words[at..]);
+        found = cut(found, part, constant >> place & 1 == 0);
     }
     found
 }
 
-/// Returns which rows are above the constant once one more binary place is taken in: `slice` is the slice of that
-/// place, and `is_one` tells whether the place is 1 in the constant.
-fn stepped<const N: usize>(above: Simd<u64, N>, slice: Simd<u64, N>, is_one: bool) -> Simd<u64, N>
-    ensures { result ≡ (if is_one then zip2 bit_and above.entry slice.entry else zip2 bit_or
-        above.entry slice.entry) }
+/// Returns which rows are above the constant once one more binary place is taken in: `part` is the slice of that place
+/// at these rows, and `is_one` tells whether the place is 1 in the constant.
+fn stepped<const N: usize>(above: Simd<u64, N>, part: Simd<u64, N>, is_one: bool) -> Simd<u64, N>
+    ensures { result ≡ (if is_one then zip2 bit_and above.entry part.entry else zip2 bit_or
+        above.entry part.entry) }
 {
-    if is_one { above & slice } else { above | slice }
+    if is_one { above & part } else { above | part }
 }
 
 /// Keeps the bits that are set in `other` or, if negated, those that are not.
@@ -210,16 +210,13 @@ pub(super) fn cut<const N: usize>(
     if negated { kept & !other } else { kept & other }
 }
 
-/// Returns the words of the slice of a place, at most 2^26 of them.
-fn words_at(slices: &[Bits], place: usize) -> &[u64]
-    requires { place < length slices.now }
-    ensures few { length result.now ≡ word_count (length (bits_at slices.now place)) }
+/// Returns the words of a slice, at most 2^26 of them.
+fn words_of(slice: &Bits) -> &[u64]
+    ensures few { length result.now ≡ word_count (length slice.now.bits) }
     ensures small { length result.now ≤ max_words }
-    ensures places { (i : ℕ) →
-        bit_of result.now i ≡ slice_index_or (bits_at slices.now place) i false }
-    ensures fits { (k : ℕ) → slice_index result.now k < 2 ^ 64 }
+    ensures places { (i : ℕ) → bit_of result.now i ≡ slice_index_or slice.now.bits i false }
+    ensures fits { (k : ℕ) → slice_index result.now k < end_of_u64 }
 {
-    let slice = &slices[place];
     // The proof takes from this that there are at most 2^32 bits, so at most 2^26 words.
     prove!(slice.len() <= MAX_LEN);
     let words = slice.words();

@@ -1,18 +1,18 @@
-//! The least and the greatest number of a found set in one pass over the column, block by block and from the most
+//! The least and the greatest number of a found set in one pass over the column, span by span and from the most
 //! significant slice down.
 //!
-//! The search leaves a block as soon as none of its rows can come before the best number found so far. Most blocks show
+//! The search leaves a span as soon as none of its rows can come before the best number found so far. Most spans show
 //! this at their first slices.
 //!
 //! The test is one product and one comparison, on the number and not on its digits, so a tie needs no state. No set is
 //! copied, so it takes no memory. This search is this project's own.
 
-ghost use Rattle.std.specs.Prelude.{◌≡◌, ℕ, ◌+◌, ◌*◌, ◌-◌, ◌/◌, ◌^◌, ◌<◌, ◌≤◌, false, if◌then◌else◌, length, slice_index, slice_index_or, IsTrue, IsFalse};
+ghost use Rattle.std.specs.Prelude.{◌≡◌, ℕ, ◌+◌, ◌*◌, ◌-◌, ◌/◌, ◌<◌, ◌≤◌, false, if◌then◌else◌, length, slice_index, slice_index_or, IsTrue, IsFalse};
 ghost use Rattle.bsi_digits.specs.Digits.{max_size};
 ghost use Rattle.bsi_bits.specs.BitList.{word_count};
-ghost use Rattle.bsi_bits.specs.Packed.{bit_of};
-ghost use Rattle.bsi_bits.specs.Marked.{HasMarked};
-ghost use Rattle.bsi_slices.specs.Blocks.{max_lanes};
+ghost use Rattle.bsi_bits.specs.Packed.{bit_of, end_of_u64};
+ghost use Rattle.bsi_bits.specs.SetRows.{HasRow};
+ghost use Rattle.bsi_slices.specs.Spans.{max_lanes};
 ghost use Rattle.bsi_slices.specs.Ends.{comes_first, leads, yields, IsBetterIn, IsEndUpto, IsEndOf, first_is_clear, nearest_place, number_at};
 ghost use Rattle.bsi_slices.specs.Orders.{values_at};
 
@@ -63,7 +63,7 @@ impl Slices {
     }
 
     /// Returns the number at an end of the found rows, given the number `before` at that end of the rows before word
-    /// `from`. It takes in the words from there on, as far as whole blocks of `N` words go.
+    /// `from`. It takes in the words from there on, as far as whole spans of `N` words go.
     fn end_upto<const N: usize>(
         &self,
         found: &Bits,
@@ -71,7 +71,7 @@ impl Slices {
         from: usize,
         before: Option<u64>,
     ) -> Option<u64>
-        requires blocks { (1 ≤ N) × (N ≤ max_lanes) }
+        requires spans { (1 ≤ N) × (N ≤ max_lanes) }
         requires same { length self.now.entries ≡ length found.now.bits }
         requires within { from ≤ word_count (length found.now.bits) }
         requires before { IsEndUpto end found.now.bits self.now.entries (64 * from) before }
@@ -81,24 +81,24 @@ impl Slices {
         // The proof takes from this that there are at most 2^32 rows, so at most 2^26 words.
         prove!(found.len() <= MAX_LEN);
         let mut best = before;
-        'block: for k in 0..(found.words().len() - from) / N {
+        'span: for k in 0..(found.words().len() - from) / N {
             let at = from + N * k;
-            let rows = block_at::<N>(found, at) & block_at::<N>(self.not_null(), at);
-            best = self.better_in_block(rows, end, at, best).or(best);
+            let rows = span_at::<N>(found, at) & span_at::<N>(self.not_null(), at);
+            best = self.better_in_span(rows, end, at, best).or(best);
         }
         best
     }
 
-    /// Returns the number at an end of some rows of a block, or none if none of them comes before the best number so
+    /// Returns the number at an end of some rows of a span, or none if none of them comes before the best number so
     /// far.
-    fn better_in_block<const N: usize>(
+    fn better_in_span<const N: usize>(
         &self,
         rows: Simd<u64, N>,
         end: End,
         at: usize,
         best: Option<u64>,
     ) -> Option<u64>
-        requires blocks { (1 ≤ N) × (N ≤ max_lanes) }
+        requires spans { (1 ≤ N) × (N ≤ max_lanes) }
         requires within { at + N ≤ word_count (length self.now.entries) }
         ensures { IsBetterIn end (bit_of rows.entry) (λ p. number_at self.now.entries (64 * at + p))
             (64 * N) best result }
@@ -109,7 +109,7 @@ impl Slices {
         }
         let mut number = 0;
         'slices: for place in (0..self.width()).rev() {
-            let slice = block_at::<N>(self.slice(place), at);
+            let slice = span_at::<N>(self.slice(place), at);
             let first = cut(kept, slice, is_least(end));
             let is_met = has_row(first);
             kept = either(is_met, first, kept);
@@ -122,12 +122,12 @@ impl Slices {
     }
 }
 
-/// Returns whether a row of a block is set.
-fn has_row<const N: usize>(block: Simd<u64, N>) -> bool
-    ensures some { IsTrue result → HasMarked (bit_of block.entry) (64 * N) }
-    ensures none { IsFalse result → (p : ℕ) → bit_of block.entry p ≡ false }
+/// Returns whether a row of a span is set.
+fn has_row<const N: usize>(span: Simd<u64, N>) -> bool
+    ensures some { IsTrue result → HasRow (bit_of span.entry) (64 * N) }
+    ensures none { IsFalse result → (p : ℕ) → bit_of span.entry p ≡ false }
 {
-    let words = block.as_array();
+    let words = span.as_array();
     know_fits(words);
     !is_clear(words)
 }
@@ -155,18 +155,18 @@ fn place_of(end: End, is_met: bool) -> u64
     }
 }
 
-/// Returns the first block if it is wanted, and the second block otherwise.
+/// Returns the first span if it is wanted, and the second span otherwise.
 fn either<const N: usize>(wanted: bool, first: Simd<u64, N>, second: Simd<u64, N>) -> Simd<u64, N>
     ensures { result ≡ (if wanted then first.entry else second.entry) }
 {
     if wanted { first } else { second }
 }
 
-/// Returns a block of the words of a vector, from word `at` on.
-fn block_at<const N: usize>(bits: &Bits, at: usize) -> Simd<u64, N>
+/// Returns a span of the words of a vector, from word `at` on.
+fn span_at<const N: usize>(bits: &Bits, at: usize) -> Simd<u64, N>
     requires { at + N ≤ word_count (length bits.now.bits) }
     ensures long { length result ≡ N }
-    ensures fits { (k : ℕ) → slice_index result k < 2 ^ 64 }
+    ensures fits { (k : ℕ) → slice_index result k < end_of_u64 }
     ensures places { (p : ℕ) → p < 64 * N →
         bit_of result p ≡ slice_index_or bits.now.bits (64 * at + p) false }
 {

@@ -6,7 +6,7 @@ ghost use Rattle.bsi_bits.specs.BitList.{sum_end};
 ghost use Rattle.bsi_slices.specs.Orders.{values_at};
 ghost use Rattle.bsi_slices.specs.Totals.{IsRanked};
 
-use crate::slices::{MAX_WIDTH, Slices};
+use crate::slices::{MAX_SLICES, Slices};
 use crate::{Column, NoMemory};
 use bsi_bits::{Bits, MAX_LEN};
 use bsi_words::{rows_of_rank, sum_by_places};
@@ -20,7 +20,7 @@ impl Slices {
     {
         // The proof takes from these that at most 2^32 numbers, each below 2^63, add up to less than 2^95.
         prove!(found.len() <= MAX_LEN);
-        prove!(self.width() <= MAX_WIDTH);
+        prove!(self.width() <= MAX_SLICES);
         sum_by_places(self.slices.as_slice(), found)
     }
 
@@ -31,7 +31,7 @@ impl Slices {
         ensures { IfOk result (IsRanked (values_at found.now.bits self.now.entries) rank) }
     {
         // The proof takes from this that there is a slice, and that each number is below two to the power of the width.
-        prove!(self.width() <= MAX_WIDTH);
+        prove!(self.width() <= MAX_SLICES);
         let mut rows = found.copy()?;
         rows.and_with(self.not_null());
         Ok(rows_of_rank(self.slices.as_slice(), rank, rows).number)

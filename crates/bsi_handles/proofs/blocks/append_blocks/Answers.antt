@@ -1,8 +1,8 @@
 use Rattle.std.proofs.Common.{◌≡◌, ◌<◌, ◌*◌, true, length, sym, ap, ◌∙◌, arith, subst}
 use Rattle.bsi_table.specs.RowBlocks.{RowBlock}
 use Rattle.bsi_table.specs.Table.{with_rows, Table}
-use Rattle.bsi_handles.specs.Columns.{are_columns, row_count, rows_of, AreTaken}
-use Rattle.bsi_handles.proofs.RowsOf.{with_none, with_block}
+use Rattle.bsi_handles.specs.Columns.{are_columns, given_rows, row_count, AreTaken}
+use Rattle.bsi_handles.proofs.GivenRows.{with_none, with_block}
 use Rattle.bsi_handles.proofs.blocks.append_blocks.Goals as goal
 
 pub parts-init : goal.parts-init
@@ -36,7 +36,7 @@ parts-preserved c =
     record {
       done = omega (arith, c.min-count.ensures, c.parts-test.true, c.div_ceil-k-end.ensures);
       rows = with_block c.args.index.now c.parts.index c.append_block.new.index c.args.feeder c.args.columns.now (64 * c.parts.k) c.min-count.result _
-          (c.parts.invariant.rows ∙ ap (λ n. with_rows c.args.index.now (rows_of c.args.feeder c.args.columns.now 0 n)) before)
+          (c.parts.invariant.rows ∙ ap (λ n. with_rows c.args.index.now (given_rows c.args.feeder c.args.columns.now 0 n)) before)
           c.in_ok-append_block.ensures.appended (omega arith);
       schema = c.append_block.ensures.schema ∙ c.parts.invariant.schema;
       feeders = c.append_block.ensures.feeders ∙ c.parts.invariant.feeders;

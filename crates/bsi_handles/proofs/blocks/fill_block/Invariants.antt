@@ -1,5 +1,5 @@
-use Rattle.std.proofs.Common.{◌≡◌, length}
-use Rattle.bsi_handles.specs.Columns.{rows_of}
+use Rattle.std.proofs.Common.{◌≡◌, ◌≤◌, ◌-◌, length}
+use Rattle.bsi_handles.specs.Columns.{given_rows}
 use Rattle.bsi_handles.proofs.blocks.fill_block.Given as goal
 
 -- the rows so far
@@ -7,6 +7,7 @@ abbrev pub invariant-rows : goal.invariant-rows
 invariant-rows l = record {
   schema : l.block.schema ≡ l.initial.block.schema;
   feeders : l.block.feeders ≡ l.initial.block.feeders;
-  rows : l.block.rows ≡ rows_of l.feeder l.columns l.from l.k;
-  long : length l.block.rows ≡ l.k;
+  rows : l.block.rows ≡ given_rows l.feeder l.columns l.from (l.r - l.from);
+  long : length l.block.rows ≡ l.r - l.from;
+  past : l.from ≤ l.r;
 }

@@ -1,4 +1,4 @@
-use Rattle.std.proofs.Common.{◌≡◌, ℕ, ◌<◌, ◌≤◌, true, false}
+use Rattle.std.proofs.Common.{◌≡◌, ℕ, ◌<◌, ◌≤◌, length, true, false}
 use Rattle.bsi_table.specs.Columns.{column_at, fits, is_taken_by}
 use Rattle.bsi_table.specs.Rows.{entry_at}
 use Rattle.bsi_handles.specs.Columns.{row_of}
@@ -8,6 +8,6 @@ use Rattle.bsi_handles.proofs.fitting.first_misfit.Given as goal
 abbrev pub invariant-columns : goal.invariant-columns
 invariant-columns l = record {
   within : l.first ≤ l.rows;
-  taken : (k : ℕ) → k < l.c → (r : ℕ) → r < l.first → is_taken_by (column_at l.schema.columns k) (entry_at (row_of l.columns r) k) ≡ true;
+  taken : (k : ℕ) → k < length l.yielded → (r : ℕ) → r < l.first → is_taken_by (column_at l.schema.columns k) (entry_at (row_of l.columns r) k) ≡ true;
   misfit : l.first < l.rows → fits l.schema.columns (row_of l.columns l.first) ≡ false;
 }

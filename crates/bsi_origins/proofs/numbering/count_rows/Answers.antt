@@ -1,5 +1,5 @@
 use Rattle.std.proofs.Common.{◌≡◌, ◌+◌, ◌<◌, ◌≤◌, get_or, set, length-set, sym, subst, arith, ◌∙◌}
-use Rattle.bsi_origins.specs.Origins.{count_before, AreCounts}
+use Rattle.bsi_origins.specs.Origins.{count_before, AreCountsBefore}
 use Rattle.bsi_origins.proofs.Numbers.{count_before-le, counted_more}
 use Rattle.bsi_origins.proofs.numbering.count_rows.Goals as goal
 
@@ -22,7 +22,7 @@ rows-preserved c =
     let there = c.feeder.ensures.feeder in
     record {
       long = length-set counts feeder (get_or counts feeder 0 + 1) ∙ c.rows.invariant.long;
-      counted = subst (λ f. AreCounts c.args.origins.now.feeders rows (c.rows.r + 1) (set counts f (get_or counts f 0 + 1))) (sym there)
+      counted = subst (λ f. AreCountsBefore c.args.origins.now.feeders rows (c.rows.r + 1) (set counts f (get_or counts f 0 + 1))) (sym there)
           (counted_more c.args.origins.now.feeders counts rows c.rows.r (omega (arith, c.rows.invariant.long, c.feeder.ensures.few)) (omega arith)
           (subst (λ f. f < c.args.origins.now.feeders) there c.feeder.ensures.within) c.rows.invariant.counted);
     }
@@ -30,4 +30,4 @@ rows-preserved c =
 pub returns : goal.returns
 returns c =
     let end : c.rows.r ≡ c.args.to = omega arith in
-    subst (λ r. AreCounts c.args.origins.now.feeders c.args.origins.now.rows r c.rows.counts) end c.rows.invariant.counted
+    subst (λ r. AreCountsBefore c.args.origins.now.feeders c.args.origins.now.rows r c.rows.counts) end c.rows.invariant.counted

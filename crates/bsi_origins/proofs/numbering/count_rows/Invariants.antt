@@ -1,9 +1,9 @@
 use Rattle.std.proofs.Common.{◌≡◌, length}
-use Rattle.bsi_origins.specs.Origins.{AreCounts}
+use Rattle.bsi_origins.specs.Origins.{AreCountsBefore}
 use Rattle.bsi_origins.proofs.numbering.count_rows.Given as goal
 
 abbrev pub invariant-rows : goal.invariant-rows
 invariant-rows l = record {
   long : length l.counts ≡ 64;
-  counted : AreCounts l.origins.feeders l.origins.rows l.r l.counts;
+  counted : AreCountsBefore l.origins.feeders l.origins.rows l.r l.counts;
 }

@@ -2,7 +2,7 @@ use Rattle.std.proofs.Common.{◌≡◌, ◌+◌, ◌<◌, ◌++◌, ◌∷◌, 
 use Rattle.std.specs.Prelude.{slice_index_or, false}
 use Rattle.std.proofs.lemmas.Option.{get_or_from_slice_get}
 use Rattle.bsi_origins.specs.Numbering.{number_within}
-use Rattle.bsi_origins.specs.Origins.{count_before, AreCounts}
+use Rattle.bsi_origins.specs.Origins.{count_before, AreCountsBefore}
 use Rattle.bsi_origins.proofs.Numbers.{counted_more, counted_none, numbered_found, numbered_passed}
 use Rattle.bsi_origins.proofs.numbering.number_many.Goals as goal
 use Rattle.bsi_origins.proofs.numbering.number_many.Goals.{then-get+in_ok-push, else-get}
@@ -23,7 +23,7 @@ rows-preserved c =
     let counted : count ≡ number_within feeders r = c.rows.invariant.counted feeder c.feeder-feeder.ensures.within ∙ ap (count_before feeders r) there in
     record {
       long = length-set c.rows.counts feeder (count + 1) ∙ c.rows.invariant.long;
-      counted = subst (λ f. AreCounts c.args.origins.now.feeders feeders (r + 1) (set c.rows.counts f (get_or c.rows.counts f 0 + 1))) (sym there)
+      counted = subst (λ f. AreCountsBefore c.args.origins.now.feeders feeders (r + 1) (set c.rows.counts f (get_or c.rows.counts f 0 + 1))) (sym there)
           (counted_more c.args.origins.now.feeders c.rows.counts feeders r (omega (arith, c.rows.invariant.long, c.feeder-feeder.ensures.few)) within
           (subst (λ f. f < c.args.origins.now.feeders) there c.feeder-feeder.ensures.within) c.rows.invariant.counted);
       rows = elim c.if-get.branch [

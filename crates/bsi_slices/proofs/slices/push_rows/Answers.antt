@@ -35,7 +35,7 @@ returns-clause-sliced c =
     let words = c.transpose.new.words in
     let few = ap length c.as_slice.ensures.vectors in
     let marks : c.push_word_reserved.new.self.bits ≡ c.args.not_null.now.bits ++ map is_some c.args.block.now =
-    c.push_word_reserved.ensures.bits ∙ ap (λ bits. c.args.not_null.now.bits ++ bits) c.mark_not_null.ensures.marks in
+    c.push_word_reserved.ensures.bits ∙ ap (λ bits. c.args.not_null.now.bits ++ bits) c.not_null_word.ensures.bits in
     let pushed : (k : ℕ) → k < length c.args.slices.now.vectors → bits_at c.push_words.new.self.vectors k ≡ bits_at c.args.slices.now.vectors k ++ map (λ e. bit_at (number_or_zero e) k == 1) c.args.block.now =
     λ k within.
     c.push_words.ensures.bits k within
@@ -50,7 +50,7 @@ returns-clause-entries c =
     let words = c.transpose.new.words in
     let few = ap length c.as_slice.ensures.vectors in
     let marks : c.push_word_reserved.new.self.bits ≡ c.args.not_null.now.bits ++ map is_some c.args.block.now =
-    c.push_word_reserved.ensures.bits ∙ ap (λ bits. c.args.not_null.now.bits ++ bits) c.mark_not_null.ensures.marks in
+    c.push_word_reserved.ensures.bits ∙ ap (λ bits. c.args.not_null.now.bits ++ bits) c.not_null_word.ensures.bits in
     let pushed : (k : ℕ) → k < length c.args.slices.now.vectors → bits_at c.push_words.new.self.vectors k ≡ bits_at c.args.slices.now.vectors k ++ map (λ e. bit_at (number_or_zero e) k == 1) c.args.block.now =
     λ k within.
     c.push_words.ensures.bits k within

@@ -5,4 +5,4 @@ use Rattle.bsi_test_system.proofs.crowd.settle_all.Given as goal
 
 -- the threads that are left are of feeders of the loader's system
 abbrev pub invariant-senders : goal.invariant-senders
-invariant-senders g l = All (λ s. IsFeederOf s.promise.0.value l.loader.system) (into_iter_items l.sender-iterator)
+invariant-senders g l = All (λ s. IsFeederOf s.promise.feeder.value l.loader.system) (into_iter_items l.sender-iterator)

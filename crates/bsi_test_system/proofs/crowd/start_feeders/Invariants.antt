@@ -7,4 +7,4 @@ use Rattle.bsi_test_system.proofs.crowd.start_feeders.Given as goal
 abbrev pub invariant-feeders : goal.invariant-feeders
 invariant-feeders g l =
     All (λ f. IsFeederOf f l.loader.system) (into_iter_items l.feeder-iterator)
-    × All (λ s. IsFeederOf s.promise.0.value l.loader.system) l.senders.items
+    × All (λ s. IsFeederOf s.promise.feeder.value l.loader.system) l.senders.items

@@ -1,6 +1,6 @@
 use Rattle.std.proofs.Common.{◌≡◌, None, Some, length, sym, subst, ap, arith, ◌∙◌}
 use Rattle.csv.specs.Records.{fields_of}
-use Rattle.bsi_text.specs.RecordTexts.{TakesRecord}
+use Rattle.bsi_text.specs.RecordSources.{TakesRecord}
 use Rattle.bsi_text.specs.RowFiles.{given, good_row}
 use Rattle.bsi_text.specs.Sources.{counts_of}
 use Rattle.bsi_text.proofs.Filling.{put_bad, put_good, put_none, puts_all, puts_before, puts_full, puts_wanting}

@@ -12,5 +12,5 @@ invariant-records g l = record {
   counted : l.records.taken ≡ l.before;
   few : l.records.taken ≤ max_records;
   declared : FromText (source_of g.R.Read.remaining l.initial.records.input) (λ bytes.
-      HasDeclared bytes (reader_state l.records.input) (source_of g.R.Read.remaining l.records.input) l.records.taken (l.schema, l.limit));
+      HasDeclared bytes (reader_state l.records.input) (source_of g.R.Read.remaining l.records.input) l.records.taken l.table);
 }

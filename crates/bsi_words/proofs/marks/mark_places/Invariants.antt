@@ -3,6 +3,3 @@ use Rattle.bsi_words.proofs.marks.mark_places.Given as goal
 
 abbrev pub invariant-places : goal.invariant-places
 invariant-places l = IsFolding l.base l.place l.fn.words l.words l.folded
-
-abbrev pub decreases-places : goal.decreases-places
-decreases-places l = l.place

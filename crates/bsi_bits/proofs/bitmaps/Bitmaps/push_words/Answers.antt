@@ -9,7 +9,7 @@ pub invariant_of-self : goal.invariant_of-self
 invariant_of-self c =
     let all = c.vectors.invariant in
     let room : c.args.count ≤ c.self.inside.room = rw (← c.self.view_is) at c.requires.room in
-    let last : (j : ℕ) → j < length c.vectors.self-inside.vectors.items → j < c.vectors.j = λ j below. omega (arith, below, all.long, c.len-j-end.ensures, c.vectors-test.false, c.self.inside.vectors.ok.0) in
+    let last : (j : ℕ) → j < length c.vectors.self-inside.vectors.items → j < c.vectors.j = λ j below. omega (arith, below, all.long, c.vectors-test.false, c.requires.long, ap (λ b. length b.vectors) c.self.view_is) in
     let long : (j : ℕ) → j < length c.vectors.self-inside.vectors.items → length (bits_at c.vectors.self-inside.vectors.items j) ≡ length (bits_at c.self.inside.vectors.items j) + c.args.count = λ j below.
     ap length (all.done j (last j below))
     ∙ length-append (bits_at c.self.inside.vectors.items j) (bits_of c.args.count (get_or c.args.words.now j 0 ∷ []))

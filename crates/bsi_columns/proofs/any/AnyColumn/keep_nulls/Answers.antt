@@ -14,5 +14,5 @@ returns c = λ p below.
     let r = 64 * c.args.at + p in
     let entries = any_entries c.args.self.now in
     c.drop_in.ensures.bits p below
-    ∙ ap (◌&&◌ (bit_of c.args.block.now p))
+    ∙ ap (◌&&◌ (bit_of c.args.span.now p))
     (ap (λ bits. not (get_or bits r false)) c.not_null.ensures ∙ ap not (map_read is_some entries r) ∙ no_number (get_or entries r None))

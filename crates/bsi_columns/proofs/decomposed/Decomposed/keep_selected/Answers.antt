@@ -7,7 +7,7 @@ use Rattle.bsi_digits.specs.Digits.{product}
 use Rattle.bsi_columns.specs.Rows.{compares, number_or_zero}
 use Rattle.bsi_slices.specs.Decisions.{decides}
 use Rattle.bsi_columns.specs.Decomposed.{entries_of}
-use Rattle.bsi_columns.proofs.WordBlocks.{replicate_bit}
+use Rattle.bsi_columns.proofs.WordSpans.{replicate_bit}
 use Rattle.bsi_columns.proofs.Answering.{and_false}
 use Rattle.bsi_columns.proofs.ComponentLists.{size_at_least_two}
 use Rattle.bsi_columns.proofs.Deciding.{entry_none, entry_all, entry_tested}
@@ -20,14 +20,14 @@ returns-in-Nothing-clause-rows g c =
     let bs = c.self.inside.bases in
     let entries = entries_of bs c.self.inside.not_null.bits (map g.E.Encoding.digits c.self.inside.components.items) in
     let agree : (x : ℕ) → x < product bs → decides c.decide.result x ≡ compares c.args.op x c.args.constant = λ x below. c.decide.ensures.decided x (omega (arith, c.size.ensures.size)) in
-    let filled : c.fill.new.self ≡ replicate (length c.args.block.now) 0 = c.fill.ensures.after (λ y same. same) in
+    let filled : c.fill.new.self ≡ replicate (length c.args.span.now) 0 = c.fill.ensures.after (λ y same. same) in
     rw (← c.self.view_is)
-    (λ (p : ℕ) (below : p < 64 * length c.args.block.now).
+    (λ (p : ℕ) (below : p < 64 * length c.args.span.now).
     let e : Option ℕ = get_or entries (64 * c.args.at + p) None in
     let small : number_or_zero e < product bs = all_read (λ e. number_or_zero e < product bs) entries (64 * c.args.at + p) (omega (arith, size_at_least_two c.size.ensures.valid)) c.self.invariant.0.below in
-    ap (λ ws. bit_of ws p) filled ∙ replicate_bit (length c.args.block.now) 0 false none_set p below
-    ∙ sym (and_false (bit_of c.args.block.now p))
-    ∙ ap (◌&&◌ (bit_of c.args.block.now p)) (entry_none c.args.op c.args.constant (product bs) c.decide.result agree c.in-Nothing.is e small))
+    ap (λ ws. bit_of ws p) filled ∙ replicate_bit (length c.args.span.now) 0 false none_set p below
+    ∙ sym (and_false (bit_of c.args.span.now p))
+    ∙ ap (◌&&◌ (bit_of c.args.span.now p)) (entry_none c.args.op c.args.constant (product bs) c.decide.result agree c.in-Nothing.is e small))
 
 -- each number
 pub returns-in-Everything-clause-rows : goal.returns-in-Everything-clause-rows
@@ -36,12 +36,12 @@ returns-in-Everything-clause-rows g c =
     let entries = entries_of bs c.self.inside.not_null.bits (map g.E.Encoding.digits c.self.inside.components.items) in
     let agree : (x : ℕ) → x < product bs → decides c.decide.result x ≡ compares c.args.op x c.args.constant = λ x below. c.decide.ensures.decided x (omega (arith, c.size.ensures.size)) in
     rw (← c.self.view_is)
-    (λ (p : ℕ) (below : p < 64 * length c.args.block.now).
+    (λ (p : ℕ) (below : p < 64 * length c.args.span.now).
     let r = 64 * c.args.at + p in
     let e : Option ℕ = get_or entries r None in
     let small : number_or_zero e < product bs = all_read (λ e. number_or_zero e < product bs) entries r (omega (arith, size_at_least_two c.size.ensures.valid)) c.self.invariant.0.below in
     c.keep_in.ensures.bits p below
-    ∙ ap (◌&&◌ (bit_of c.args.block.now p))
+    ∙ ap (◌&&◌ (bit_of c.args.span.now p))
     (ap (λ bits. get_or bits r false) c.self.invariant.0.not_null_is ∙ map_read is_some entries r
     ∙ entry_all c.args.op c.args.constant (product bs) c.decide.result agree c.in-Everything.is e small))
 
@@ -55,9 +55,9 @@ returns-in-Tested-clause-rows g c =
     let tested = rw (← c.self.view_is) at c.keep_tested.ensures.rows in
     rw (← c.self.view_is)
     (on_ok_weaker c.keep_tested.result
-    (λ each. λ (p : ℕ) (below : p < 64 * length c.args.block.now).
+    (λ each. λ (p : ℕ) (below : p < 64 * length c.args.span.now).
     let e : Option ℕ = get_or entries (64 * c.args.at + p) None in
     let small : number_or_zero e < product bs = all_read (λ e. number_or_zero e < product bs) entries (64 * c.args.at + p) (omega (arith, size_at_least_two c.size.ensures.valid)) c.self.invariant.0.below in
     each p below
-    ∙ ap (◌&&◌ (bit_of c.args.block.now p)) (entry_tested c.args.op c.args.constant (product bs) c.decide.result agree test c.in-Tested.is e small))
+    ∙ ap (◌&&◌ (bit_of c.args.span.now p)) (entry_tested c.args.op c.args.constant (product bs) c.decide.result agree test c.in-Tested.is e small))
     tested)

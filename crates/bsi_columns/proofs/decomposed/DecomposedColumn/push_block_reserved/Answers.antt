@@ -20,7 +20,7 @@ invariant_of-self g c =
     let bits = c.push_word_reserved.new.self.bits in
     let long : length more ≡ length bs = length-map items g.E.Encoding.digits ∙ length-map_is g.E.Encoding.base_of items bs c.push_blocks.ensures.bases in
     let small : All (λ e. number_or_zero e < product bs) (c.args.block.now) = rw (← c.self.view_is) at c.requires.below in
-    let bits_are : bits ≡ not_null ++ map is_some (c.args.block.now) = c.push_word_reserved.ensures.bits ∙ ap (λ b. not_null ++ b) c.mark_not_null.ensures.marks in
+    let bits_are : bits ≡ not_null ++ map is_some (c.args.block.now) = c.push_word_reserved.ensures.bits ∙ ap (λ b. not_null ++ b) c.not_null_word.ensures.bits in
     let each : (i : ℕ) → i < length bs → get_or more i [] ≡ get_or ds i [] ++ map (λ e. digit_of bs (number_or_zero e) i) (c.args.block.now) = λ i below. c.push_blocks.ensures.digits i below ∙ ap (λ xs. get_or ds i [] ++ xs) (block_digits (λ n. digit_of bs n i) c.args.block.now c.write_numbers.new.numbers c.write_numbers.ensures.numbers (omega (arith, c.requires.few, c.write_numbers.ensures.long))) in
     let kept : Decomposes bs bits more (entries ++ c.args.block.now) = more_entries bs not_null ds entries (c.args.block.now) bits more c.self.invariant.0 bits_are long each small in
     let rooms = map g.E.Encoding.room_of old in
@@ -46,7 +46,7 @@ returns-clause-entries g c =
     let bits = c.push_word_reserved.new.self.bits in
     let long : length more ≡ length bs = length-map items g.E.Encoding.digits ∙ length-map_is g.E.Encoding.base_of items bs c.push_blocks.ensures.bases in
     let small : All (λ e. number_or_zero e < product bs) (c.args.block.now) = rw (← c.self.view_is) at c.requires.below in
-    let bits_are : bits ≡ not_null ++ map is_some (c.args.block.now) = c.push_word_reserved.ensures.bits ∙ ap (λ b. not_null ++ b) c.mark_not_null.ensures.marks in
+    let bits_are : bits ≡ not_null ++ map is_some (c.args.block.now) = c.push_word_reserved.ensures.bits ∙ ap (λ b. not_null ++ b) c.not_null_word.ensures.bits in
     let each : (i : ℕ) → i < length bs → get_or more i [] ≡ get_or ds i [] ++ map (λ e. digit_of bs (number_or_zero e) i) (c.args.block.now) = λ i below. c.push_blocks.ensures.digits i below ∙ ap (λ xs. get_or ds i [] ++ xs) (block_digits (λ n. digit_of bs n i) c.args.block.now c.write_numbers.new.numbers c.write_numbers.ensures.numbers (omega (arith, c.requires.few, c.write_numbers.ensures.long))) in
     let kept : Decomposes bs bits more (entries ++ c.args.block.now) = more_entries bs not_null ds entries (c.args.block.now) bits more c.self.invariant.0 bits_are long each small in
     rw (← c.self.view_is) (entries_from bs bits more (entries ++ c.args.block.now) kept)

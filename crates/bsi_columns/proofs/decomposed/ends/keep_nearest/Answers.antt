@@ -4,36 +4,36 @@ use Rattle.std.proofs.lemmas.Bool.{cases_lt}
 use Rattle.std.proofs.lemmas.List.{get_or_past}
 use Rattle.bsi_bits.specs.Packed.{bit_of}
 use Rattle.bsi_components.specs.declared.answers.EndDigit.TheVariants.{Digit}
-use Rattle.bsi_columns.specs.BlockEnds.{AnswersEnd}
+use Rattle.bsi_columns.specs.SpanEnds.{AnswersEnd}
 use Rattle.bsi_columns.proofs.EndDigits.{end_member, end_first, kept_inside, kept_outside, kept_some}
 use Rattle.bsi_columns.proofs.decomposed.ends.keep_nearest.Goals as goal
 
 -- the rows of the digit, of which those past the last one are cleared with the nulls
-pub returns-else-not-eq_block-clause-digit : goal.returns-else-not-eq_block-clause-digit
-returns-else-not-eq_block-clause-digit g c =
+pub returns-else-not-eq_span-clause-digit : goal.returns-else-not-eq_span-clause-digit
+returns-else-not-eq_span-clause-digit g c =
     let digits = g.E.Encoding.digits c.args.component.now in
     let not_null = c.args.not_null.now.bits in
     let at = c.args.at in
     let d = c.in-Digit.digit in
-    let old : ℕ → Bool = bit_of c.args.block.now in
+    let old : ℕ → Bool = bit_of c.args.span.now in
     let digit : ℕ → ℕ = λ p. get_or digits (64 * at + p) 0 in
-    let n : ℕ = 64 * length c.args.block.now in
-    let answered : AnswersEnd c.args.end c.args.limit old digit n (Digit d) = rw c.in-Digit.is at c.end_digit-answer.ensures in
-    let narrowed = rw c.if-not-eq_block.false at c.eq_block.ensures.bits in
-    let kept : (p : ℕ) → p < n → bit_of c.keep_in.new.block p ≡ (old p && nat_eq (digit p) d) = λ p below.
+    let n : ℕ = 64 * length c.args.span.now in
+    let answered : AnswersEnd c.args.end c.args.bound old digit n (Digit d) = rw c.in-Digit.is at c.end_digit-answer.ensures in
+    let narrowed = rw c.if-not-eq_span.false at c.eq_span.ensures.bits in
+    let kept : (p : ℕ) → p < n → bit_of c.keep_in.new.span p ≡ (old p && nat_eq (digit p) d) = λ p below.
     elim (cases_lt (64 * at + p) (length digits)) [
       | inl inside ↦
-          kept_inside (old p) (get_or not_null (64 * at + p) false) (nat_eq (digit p) d) (bit_of c.keep_in.new.block p)
-          (c.keep_in.ensures.bits p (omega (arith, below, c.eq_block.auto.block)) ∙ ap (λ b. b && get_or not_null (64 * at + p) false) (narrowed p below inside))
+          kept_inside (old p) (get_or not_null (64 * at + p) false) (nat_eq (digit p) d) (bit_of c.keep_in.new.span p)
+          (c.keep_in.ensures.bits p (omega (arith, below, c.eq_span.auto.span)) ∙ ap (λ b. b && get_or not_null (64 * at + p) false) (narrowed p below inside))
           (c.requires.rows p below)
       | inr outside ↦
-          kept_outside (old p) (get_or not_null (64 * at + p) false) (nat_eq (digit p) d) (bit_of c.keep_in.new.block p) (bit_of c.eq_block.new.block p)
-          (c.keep_in.ensures.bits p (omega (arith, below, c.eq_block.auto.block)))
+          kept_outside (old p) (get_or not_null (64 * at + p) false) (nat_eq (digit p) d) (bit_of c.keep_in.new.span p) (bit_of c.eq_span.new.span p)
+          (c.keep_in.ensures.bits p (omega (arith, below, c.eq_span.auto.span)))
           (get_or_past not_null (64 * at + p) false (omega (arith, outside, c.requires.same)))
           (c.requires.rows p below)
     ] in
     record {
       kept = kept;
-      some = kept_some old (bit_of c.keep_in.new.block) digit n d kept (end_member c.args.end c.args.limit old digit n d answered);
-      first = end_first c.args.end c.args.limit old digit n d answered;
+      some = kept_some old (bit_of c.keep_in.new.span) digit n d kept (end_member c.args.end c.args.bound old digit n d answered);
+      first = end_first c.args.end c.args.bound old digit n d answered;
     }

@@ -1,7 +1,7 @@
 use Rattle.std.proofs.Common.{◌*◌, ◌||◌}
 use Rattle.bsi_columns.specs.DigitTests.{relates_from}
-use Rattle.bsi_columns.proofs.BlockParts.{IsSteppedTo}
+use Rattle.bsi_columns.proofs.SpanParts.{IsSteppedTo}
 use Rattle.bsi_columns.proofs.decomposed.narrowing.narrow_digit.Given as goal
 
 abbrev pub invariant-parts : goal.invariant-parts
-invariant-parts g l = IsSteppedTo (64 * l.k) (λ low v. relates_from l.relation (l.is_lowest || low) v l.digit) (g.E.Encoding.digits l.component) l.at l.fn.block l.block
+invariant-parts g l = IsSteppedTo (64 * l.k) (λ low v. relates_from l.relation (l.is_lowest || low) v l.digit) (g.E.Encoding.digits l.component) l.at l.fn.span l.span

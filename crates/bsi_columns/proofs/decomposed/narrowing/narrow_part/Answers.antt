@@ -7,8 +7,8 @@ use Rattle.bsi_columns.proofs.decomposed.narrowing.narrow_part.Goals as goal
 -- of the lowest digit nothing is known before
 pub returns-in-Equal-clause-bits : goal.returns-in-Equal-clause-bits
 returns-in-Equal-clause-bits g c =
-    OnTrue_from c.eq_block_into.result _ (λ whole p below row.
-    let old = c.args.block.now in
+    OnTrue_from c.eq_span_into.result _ (λ whole p below row.
+    let old = c.args.span.now in
     let digit = get_or (g.E.Encoding.digits c.args.component.now) (64 * c.args.at + p) 0 in
-    OnTrue_at whole c.eq_block_into.ensures.bits p below row
+    OnTrue_at whole c.eq_span_into.ensures.bits p below row
     ∙ sym (ap₂ (λ r first. relates_from r (first || bit_of old p) digit c.args.digit) c.in-Equal.is c.if-is_lowest.true))

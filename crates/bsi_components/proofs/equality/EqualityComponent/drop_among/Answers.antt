@@ -9,4 +9,4 @@ pub returns-clause-bits : goal.returns-clause-bits
 returns-clause-bits c p below within =
     let v = slice_index c.args.self.now.digits (64 * c.args.at + p) in
     let last : c.digits.j ≡ c.args.to = omega (arith, c.digits.auto, c.requires.within) in
-    c.digits.invariant p below within ∙ ap (λ j. bit_of c.args.block.now p && not (is_among c.args.from j v)) last
+    c.digits.invariant p below within ∙ ap (λ j. bit_of c.args.span.now p && not (is_among c.args.from j v)) last

@@ -9,9 +9,9 @@ use Rattle.bsi_records.proofs.setups.Setup.begin.Goals as goal
 -- the sizes are in range
 pub map_err-requires : goal.map_err-requires
 map_err-requires c = λ refused is.
-    let schema = c.self.inside.schema in
+    let schema = c.self.inside.table.schema in
     let capacities = c.self.inside.capacities.items in
-    let limit = c.self.inside.limit in
+    let limit = c.self.inside.table.limit in
     let columns : 0 < length schema.columns = omega (arith, c.columns.ensures.columns, c.if-columns-eq0.false) in
     let feeders : 0 < length capacities = grind (arith, nat_tests, c.if-is_empty.ensures) in
     let none : sizes_refusal schema capacities limit ≡ None = sizes_taken schema capacities limit c.self.invariant columns feeders in

@@ -1,9 +1,9 @@
-use Rattle.std.proofs.Common.{◌≡◌, ℕ, Some, None, true, false, codes, drop, IfOk, subst, sym, ◌∙◌, ap, rules}
+use Rattle.std.proofs.Common.{◌≡◌, Some, None, true, false, codes, drop, IfOk, subst, sym, ◌∙◌, ap, rules}
 use Rattle.std.specs.Str.{bytes_eq}
 use Rattle.std.proofs.lemmas.Result.{IfOk-weaker}
 use Rattle.csv.specs.Records.{field_at, fields_of}
-use Rattle.bsi_table.specs.Columns.{Declared}
-use Rattle.bsi_records.specs.Setups.{capacities_after, declared_after, table_after, IsChange, IsSetup, Setup}
+use Rattle.bsi_records.specs.declared.setups.DeclaredTable.{DeclaredTable}
+use Rattle.bsi_records.specs.Setups.{capacities_after, declared_after, declared_table, table_after, IsChange, IsSetup, Setup}
 use Rattle.bsi_records.proofs.Adding.{not_done}
 use Rattle.bsi_records.proofs.Tables.{changed_by, feeder_keeps, kept, limit_keeps, setup_empty, setup_feeder, setup_table}
 use Rattle.bsi_records.proofs.setups.Setup.declare.Goals as goal
@@ -19,15 +19,15 @@ returns-in_default-clause-done c =
 pub invariant_of-self : goal.invariant_of-self
 invariant_of-self c =
     let capacities = c.self.inside.capacities.items in
-    let limit = c.self.inside.limit in
+    let limit = c.self.inside.table.limit in
     let behind = drop 1 (fields_of c.args.fields.now) in
     kept (λ items. IsSetup items limit) c.declare_feeder.result (capacities_after capacities behind) capacities c.declare_feeder.new.capacities.items
     c.declare_feeder.ensures.done c.declare_feeder.ensures.kept c.self.invariant (feeder_keeps capacities limit behind c.self.invariant)
 
 pub returns-then-eq-clause-done : goal.returns-then-eq-clause-done
 returns-then-eq-clause-done c =
-    let before : Setup = record { schema = c.self.inside.schema; capacities = c.self.inside.capacities.items; limit = c.self.inside.limit } in
-    let after : Setup = record { schema = c.self.inside.schema; capacities = c.declare_feeder.new.capacities.items; limit = c.self.inside.limit } in
+    let before : Setup = record { table = c.self.inside.table; capacities = c.self.inside.capacities.items } in
+    let after : Setup = record { table = c.self.inside.table; capacities = c.declare_feeder.new.capacities.items } in
     let fields = fields_of c.args.fields.now in
     let word = c.in-Some.word.now in
     let first : field_at fields 0 ≡ Some word = search (rules, c.get.ensures.value, c.in-Some.is) in
@@ -42,16 +42,15 @@ returns-then-eq-clause-done c =
 pub invariant_of-self-2 : goal.invariant_of-self-2
 invariant_of-self-2 c =
     let capacities = c.self.inside.capacities.items in
-    let schema = c.self.inside.schema in
-    let limit = c.self.inside.limit in
+    let table = c.self.inside.table in
     let fields = fields_of c.args.fields.now in
-    kept {T = Declared × ℕ} (λ table. IsSetup capacities table.1) c.read_setup.result (table_after schema limit fields) (schema, limit) (c.read_setup.new.schema, c.read_setup.new.limit)
-    c.read_setup.ensures.done (search (rules, c.read_setup.ensures.kept)) c.self.invariant (limit_keeps capacities schema limit fields c.self.invariant)
+    kept {T = DeclaredTable} (λ after. IsSetup capacities after.limit) c.read_setup.result (table_after table fields) table (declared_table c.read_setup.new.schema c.read_setup.new.limit)
+    c.read_setup.ensures.done (search (rules, c.read_setup.ensures.kept)) c.self.invariant (limit_keeps capacities table fields c.self.invariant)
 
 pub returns-clause-done : goal.returns-clause-done
 returns-clause-done c =
-    let before : Setup = record { schema = c.self.inside.schema; capacities = c.self.inside.capacities.items; limit = c.self.inside.limit } in
-    let after : Setup = record { schema = c.read_setup.new.schema; capacities = c.self.inside.capacities.items; limit = c.read_setup.new.limit } in
+    let before : Setup = record { table = c.self.inside.table; capacities = c.self.inside.capacities.items } in
+    let after : Setup = record { table = declared_table c.read_setup.new.schema c.read_setup.new.limit; capacities = c.self.inside.capacities.items } in
     let fields = fields_of c.args.fields.now in
     let word = c.in-Some.word.now in
     let first : field_at fields 0 ≡ Some word = search (rules, c.get.ensures.value, c.in-Some.is) in
@@ -59,6 +58,5 @@ returns-clause-done c =
     subst (λ old. IfOk c.read_setup.result (λ done. IsChange (declared_after old fields) old after done)) c.self.view_is
     (IfOk-weaker c.read_setup.result _ _ (λ done change.
     subst (λ later. IsChange later before after done) (sym (setup_table before fields word first other))
-    (changed_by {A = Declared × ℕ} (λ table. record before { schema = table.0; limit = table.1 }) (table_after before.schema before.limit fields)
-    (before.schema, before.limit) (after.schema, after.limit) done change))
+    (changed_by {A = DeclaredTable} (λ table. record before { table = table }) (table_after before.table fields) before.table after.table done change))
     c.read_setup.ensures.done)

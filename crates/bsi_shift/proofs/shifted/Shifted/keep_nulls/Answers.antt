@@ -16,7 +16,7 @@ returns c = λ p below.
     let inside = c.self.inside in
     let r : ℕ = 64 * c.args.at + p in
     c.keep_nulls.ensures p below
-    ∙ ap (◌&&◌ (bit_of c.args.block.now p))
+    ∙ ap (◌&&◌ (bit_of c.args.span.now p))
     (sym (null_from inside.offset (get_or (any_entries inside.stored) r None))
     ∙ ap is_none (sym (entry_from (record { stored = inside.stored; offset = inside.offset }) r))
     ∙ ap (λ v. is_none (get_or (shifted_entries v) r None)) c.self.view_is)

@@ -27,12 +27,12 @@ returns-clause-rows c =
     c.stored_comparison-comparison.ensures n (omega (arith, below, c.self.invariant.small))
     ∙ ap₂ (λ o k. compares_by signed_order c.args.op (number_of o n) k) (to_z-of_z w64 inside.offset (search rules)) (to_z-of_z w128 c.args.constant c.ranges.constant) in
     on_ok_weaker c.keep_selected.result
-    (λ each. λ (p : ℕ) (below : p < 64 * length c.args.block.now).
+    (λ each. λ (p : ℕ) (below : p < 64 * length c.args.span.now).
     let r : ℕ = 64 * c.args.at + p in
     let e : Option ℕ = get_or stored r None in
     let small : number_or_zero e < inside.size = all_read (λ e. number_or_zero e < inside.size) stored r (omega (arith, c.self.invariant.some)) c.self.invariant.below in
     each p below
-    ∙ ap (◌&&◌ (bit_of c.args.block.now p))
+    ∙ ap (◌&&◌ (bit_of c.args.span.now p))
     (selected_one inside.offset c.args.constant c.args.op chosen.op chosen.constant inside.size agree e small
     ∙ ap (signed_selects c.args.op c.args.constant) (sym (entry_from (record { stored = inside.stored; offset = inside.offset }) r))
     ∙ ap (λ v. signed_selects c.args.op c.args.constant (get_or (shifted_entries v) r None)) c.self.view_is))

@@ -2,7 +2,7 @@ use Rattle.std.proofs.Common.{ℕ, ◌+◌, ◌-◌, ◌*◌, ◌/◌, length, a
 use Rattle.bsi_slices.proofs.EndRows.{end_all}
 use Rattle.bsi_slices.proofs.slices.Slices.end_found.Goals as goal
 
--- the blocks and the words after them are all words
+-- the spans and the words after them are all words
 pub returns : goal.returns
 returns c =
     let words : ℕ = (length c.args.found.now.bits + 63) / 64 in

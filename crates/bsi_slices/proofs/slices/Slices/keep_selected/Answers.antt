@@ -14,5 +14,5 @@ keep_selected-requires-clause-within c =
 pub returns : goal.returns
 returns c = λ p below.
     c.keep_selected.ensures p below
-    ∙ ap (λ vs. bit_of c.args.block.now p && selects c.args.op c.args.constant (slice_index_or (entries_in c.self.inside.not_null.bits vs) (64 * c.args.at + p) None)) c.as_slice.ensures.vectors
-    ∙ ap (λ e. bit_of c.args.block.now p && selects c.args.op c.args.constant (slice_index_or e.entries (64 * c.args.at + p) None)) c.self.view_is
+    ∙ ap (λ vs. bit_of c.args.span.now p && selects c.args.op c.args.constant (slice_index_or (entries_in c.self.inside.not_null.bits vs) (64 * c.args.at + p) None)) c.as_slice.ensures.vectors
+    ∙ ap (λ e. bit_of c.args.span.now p && selects c.args.op c.args.constant (slice_index_or e.entries (64 * c.args.at + p) None)) c.self.view_is

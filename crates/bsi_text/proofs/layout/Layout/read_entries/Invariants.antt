@@ -9,7 +9,7 @@ use Rattle.bsi_text.proofs.layout.Layout.read_entries.Given as goal
 -- the fields of the columns so far were read, and each column takes its entry
 abbrev pub invariant-columns : goal.invariant-columns
 invariant-columns l = record {
-  read : IsRead l.fn.self.schema.signed (fields_of l.fn.fields) (map (λ column. place_of l.fn.self.header column.name) l.fn.self.schema.columns) l.c l.entries.items;
-  taken : (k : ℕ) → k < l.c → is_taken_by (column_at l.fn.self.schema.columns k) (entry_at l.entries.items k) ≡ true;
+  read : IsRead l.fn.self.schema.signed (fields_of l.fn.fields) (map (λ column. place_of l.fn.self.header column.name) l.fn.self.schema.columns) (length l.yielded) l.entries.items;
+  taken : (k : ℕ) → k < length l.yielded → is_taken_by (column_at l.fn.self.schema.columns k) (entry_at l.entries.items k) ≡ true;
   room : length l.fn.self.schema.columns ≤ vec_capacity l.entries;
 }

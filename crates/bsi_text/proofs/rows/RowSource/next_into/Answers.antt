@@ -11,7 +11,7 @@ returns-clause-first g c =
     let found = c.take_row-found.result in
     let new = c.take_row-found.new in
     let view : Source g.row.R.Denot = record { layout = i.layout; input = i.input; counts = counts_of i.taken i.bad; end = i.end } in
-    let after : Source g.row.R.Denot = record { layout = i.layout; input = new.input; counts = counts_of new.taken new.bad; end = c.end_after-self-inside.result } in
+    let after : Source g.row.R.Denot = record { layout = i.layout; input = new.input; counts = counts_of new.taken new.bad; end = c.end_of-self-inside.result } in
     let has = c.take_row-found.ensures.given in
     subst (λ (old : Source g.row.R.Denot). IfOk found (λ is. GivesFirst g.R.Read.remaining old after (given is new.row))) c.self.view_is
-    (fills_first g.R.Read.remaining i.layout view after found new.row refl c.in_default.is refl c.end_after-self-inside.ensures.found has)
+    (fills_first g.R.Read.remaining i.layout view after found new.row refl c.in_default.is refl c.end_of-self-inside.ensures.found has)

@@ -1,7 +1,7 @@
 use Rattle.std.proofs.Common.{◌≡◌, ℕ, ◌+◌, ◌*◌, ◌-◌, ◌≤◌, true, arith}
 use Rattle.std.specs.Prelude.{nat_le}
 use Rattle.std.proofs.lemmas.Bool.Decides.{nat_tests}
-use Rattle.bsi_slices.proofs.EndBlocks.{least_leads, greatest_leads}
+use Rattle.bsi_slices.proofs.EndSpans.{least_leads, greatest_leads}
 use Rattle.bsi_slices.proofs.slices.ends.End.leads_all.Goals as goal
 
 at_most : (a b : ℕ) → nat_le a b ≡ true → a ≤ b
