@@ -76,17 +76,17 @@ type Counted<E> = Decomposed<WholeVectors<E>>;
 
 // How many calls of a component wrote a vector, and how many sums it was asked for.
 #[derive(Clone, Copy)]
-struct Asked {
+struct CallCounts {
     calls: u32,
     sums: u32,
 }
 
-fn asked<E: Encoding>(column: &Counted<E>, i: u32) -> Asked {
+fn asked<E: Encoding>(column: &Counted<E>, i: u32) -> CallCounts {
     if i >= column.bases().len() {
-        return Asked { calls: 0, sums: 0 };
+        return CallCounts { calls: 0, sums: 0 };
     }
     let component = column.component(i);
-    Asked {
+    CallCounts {
         calls: component.calls(),
         sums: component.sums(),
     }
@@ -100,7 +100,7 @@ fn at_most_two<E: Encoding>(column: &Counted<E>) -> Result<Bits, NoMemory> {
     }
 }
 
-fn is_one_to_four(after: Asked, before: Asked) -> bool {
+fn is_one_to_four(after: CallCounts, before: CallCounts) -> bool {
     after.calls > before.calls && after.calls - before.calls <= 4
 }
 
