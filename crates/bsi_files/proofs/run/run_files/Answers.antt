@@ -19,15 +19,15 @@ use Rattle.bsi_files.proofs.run.run_files.Goals as goal
 
 pub run_in-requires-clause-few : goal.run_in-requires-clause-few
 run_in-requires-clause-few g c =
-    let many = matched_long (Begins g.I.Read.remaining c.in_ok-schema.schema) c.args.sources.items c.in_ok-sources.sources.items c.in_ok-sources.ensures.begun in
+    let many = matched_long (Begins g.I.Read.remaining c.in_ok-schema.field-0.schema) c.args.sources.items c.in_ok-sources.sources.items c.in_ok-sources.ensures.begun in
     λ κs within. subst (λ n. n ≤ max_feeders) (c.len.ensures ∙ (c.args.sources.ok.0 ∙ many)) c.if-len.false
 
 pub returns-clause-lines : goal.returns-clause-lines
 returns-clause-lines g c =
     let rem = g.I.Read.remaining in
     let stops = g.G.Stopping.STOPS in
-    let schema = c.in_ok-schema.schema in
-    let limit = c.in_ok-schema.limit in
+    let schema = c.in_ok-schema.field-0.schema in
+    let limit = c.in_ok-schema.field-0.limit in
     let readers = c.args.sources.items in
     let sources = c.in_ok-sources.sources.items in
     let before = g.W.Write.contents c.args.writer.now in
@@ -44,8 +44,8 @@ pub returns-clause-part : goal.returns-clause-part
 returns-clause-part g c =
     let rem = g.I.Read.remaining in
     let stops = g.G.Stopping.STOPS in
-    let schema = c.in_ok-schema.schema in
-    let limit = c.in_ok-schema.limit in
+    let schema = c.in_ok-schema.field-0.schema in
+    let limit = c.in_ok-schema.field-0.limit in
     let readers = c.args.sources.items in
     let sources = c.in_ok-sources.sources.items in
     let before = g.W.Write.contents c.args.writer.now in
@@ -85,8 +85,8 @@ returns-in_err-schema-clause-part g c =
 
 pub returns-in_err-sources-clause-fault : goal.returns-in_err-sources-clause-fault
 returns-in_err-sources-clause-fault g c =
-    let schema = c.in_ok-schema.schema in
-    let limit = c.in_ok-schema.limit in
+    let schema = c.in_ok-schema.field-0.schema in
+    let limit = c.in_ok-schema.field-0.limit in
     let met : IfErr c.from_residual-in_err-sources.result (IsHeadersFault schema (map g.I.Read.remaining c.args.sources.items)) = search rules in
     if_err c.from_residual-in_err-sources.result
     (λ fault is declared texts s i.
@@ -108,8 +108,8 @@ returns-in_err-capacities-clause-part g c =
 pub returns-clause-fault : goal.returns-clause-fault
 returns-clause-fault g c =
     let rem = g.I.Read.remaining in
-    let schema = c.in_ok-schema.schema in
-    let limit = c.in_ok-schema.limit in
+    let schema = c.in_ok-schema.field-0.schema in
+    let limit = c.in_ok-schema.field-0.limit in
     let readers = c.args.sources.items in
     let sources = c.in_ok-sources.sources.items in
     let begin = c.in_ok-sources.ensures.begun in
