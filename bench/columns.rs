@@ -1,7 +1,7 @@
 //! The peer of columns.rattle in Rust: the same columns, comparisons and totals, written by hand.
 //!
-//! Built by `rustc -C opt-level=3 -C target-cpu=x86-64-v2`. A comparison goes over the rows in blocks of words that stay in
-//! registers, reads each bitmap that it needs once, and writes its result once. A sum takes the found set in blocks that stay
+//! Built by `rustc -C opt-level=3 -C target-cpu=x86-64-v2`. A comparison goes over the rows in spans of words that stay in
+//! registers, reads each bitmap that it needs once, and writes its result once. A sum takes the found set in spans that stay
 //! in the first cache. A median narrows the found set and takes the next count in one pass. The scan goes over a plain list.
 //! A build takes blocks of 64 entries, turns each into words, and pushes a word to each bitmap, which grows as a `Vec` does.
 //! Slices are turned by six stages of exchanges, which took a fifth of the time of a plain double loop; range by a running or.
@@ -23,8 +23,8 @@ const COMPONENTS: usize = 4;
 /// Every third bit of a word.
 const THIRDS: u64 = 0x9249_2492_4924_9249;
 
-/// The words of a block of a comparison: eight registers of 128 bits.
-const BLOCK: usize = 16;
+/// The words of a span of a comparison: eight registers of 128 bits.
+const SPAN_WORDS: usize = 16;
 
 /// The words that stay in the first cache.
 const CHUNK: usize = 1024;
@@ -54,9 +54,9 @@ enum Step<'a> {
     OrNot(&'a [u64]),
 }
 
-/// Runs the steps over a block of N words from `at` on, from what is found so far.
+/// Runs the steps over a span of N words from `at` on, from what is found so far.
 #[inline(always)]
-fn block<const N: usize>(steps: &[Step], at: usize, mut found: [u64; N]) -> [u64; N] {
+fn span_of<const N: usize>(steps: &[Step], at: usize, mut found: [u64; N]) -> [u64; N] {
     for step in steps {
         match step {
             Step::And(words) => found.iter_mut().zip(&words[at..at + N]).for_each(|(f, w)| *f &= w),
@@ -68,15 +68,15 @@ fn block<const N: usize>(steps: &[Step], at: usize, mut found: [u64; N]) -> [u64
     found
 }
 
-/// Runs the steps over the words from `at` on, block by block, from all ones where they are the first.
+/// Runs the steps over the words from `at` on, span by span, from all ones where they are the first.
 #[inline(never)]
 fn run_group(steps: &[Step], at: usize, out: &mut [u64], first: bool) {
-    let (blocks, rest) = out.as_chunks_mut::<BLOCK>();
-    for (k, out) in blocks.iter_mut().enumerate() {
-        *out = block::<BLOCK>(steps, at + BLOCK * k, if first { [u64::MAX; BLOCK] } else { *out });
+    let (spans, rest) = out.as_chunks_mut::<SPAN_WORDS>();
+    for (k, out) in spans.iter_mut().enumerate() {
+        *out = span_of::<SPAN_WORDS>(steps, at + SPAN_WORDS * k, if first { [u64::MAX; SPAN_WORDS] } else { *out });
     }
     for (k, out) in rest.iter_mut().enumerate() {
-        [*out] = block::<1>(steps, at + BLOCK * blocks.len() + k, [if first { u64::MAX } else { *out }]);
+        [*out] = span_of::<1>(steps, at + SPAN_WORDS * spans.len() + k, [if first { u64::MAX } else { *out }]);
     }
 }
 
@@ -106,9 +106,9 @@ fn count_and(a: &[u64], b: &[u64]) -> u64 {
 #[inline(never)]
 fn weigh(weighted: &[(u64, &[u64])], found: &[u64]) -> u128 {
     let mut counts = vec![0; weighted.len()];
-    for (k, block) in found.chunks(CHUNK).enumerate() {
+    for (k, span) in found.chunks(CHUNK).enumerate() {
         for (count, (_, bitmap)) in counts.iter_mut().zip(weighted) {
-            *count += count_and(&bitmap[CHUNK * k..], block);
+            *count += count_and(&bitmap[CHUNK * k..], span);
         }
     }
     counts.iter().zip(weighted).map(|(count, (weight, _))| u128::from(*count) * u128::from(*weight)).sum()

@@ -1,8 +1,8 @@
 //! The peer of questions.rattle in Rust: scans of plain lists, without a branch where they count or add, the ends of a column by
-//! hand-written descents over blocks of bitmaps, and a pass that only reads the bitmaps of three comparisons.
+//! hand-written descents over spans of bitmaps, and a pass that only reads the bitmaps of three comparisons.
 //!
 //! Built by `rustc -C opt-level=3 -C target-cpu=x86-64-v2`. A descent takes the found rows of 32 words, goes down the slices or the
-//! components from the most significant one, and leaves the block once it can't beat the best number so far.
+//! components from the most significant one, and leaves the span once it can't beat the best number so far.
 
 use std::hint::black_box;
 use std::time::Instant;
@@ -29,8 +29,8 @@ const WIDTH: usize = 20;
 const BASE: usize = 32;
 const COMPONENTS: usize = 4;
 
-/// The words of a block of a comparison, which stay in registers, and of a descent.
-const BLOCK: usize = 16;
+/// The words of a span of a comparison, which stay in registers, and of a descent.
+const SPAN_WORDS: usize = 16;
 const PART: usize = 32;
 
 type Words = Vec<u64>;
@@ -139,9 +139,9 @@ impl Slices {
     /// The rows whose number is at most `c`.
     fn at_most(&self, c: u32) -> Words {
         let mut out = vec![0; self.present.len()];
-        for (k, out) in out.as_chunks_mut::<BLOCK>().0.iter_mut().enumerate() {
-            let part = BLOCK * k..BLOCK * (k + 1);
-            let mut found = [u64::MAX; BLOCK];
+        for (k, out) in out.as_chunks_mut::<SPAN_WORDS>().0.iter_mut().enumerate() {
+            let part = SPAN_WORDS * k..SPAN_WORDS * (k + 1);
+            let mut found = [u64::MAX; SPAN_WORDS];
             for (i, slice) in self.slices.iter().enumerate() {
                 let words = &slice[part.clone()];
                 if c >> i & 1 == 1 {
@@ -188,7 +188,7 @@ fn narrow(kept: &mut Part, words: &[u64], is_set: bool) -> bool {
     any != 0
 }
 
-/// An end of the numbers of the found rows. A step takes a place, where the block begins, its rows, and the digit that it must
+/// An end of the numbers of the found rows. A step takes a place, where the span begins, its rows, and the digit that it must
 /// not be worse than; it keeps the rows of the best digit. `worst` is the worst digit.
 #[inline(always)]
 fn end(rows: [&[u64]; 2], places: usize, bits: usize, worst: u64, step: impl Fn(usize, usize, &mut Part, u64) -> Option<u64>) -> u64 {

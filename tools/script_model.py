@@ -23,7 +23,7 @@ MAX_NUMBER = 2**64 - 1
 MAX_FEEDER = 2**32 - 1
 MAX_LIMIT = 2**32
 MAX_CAPACITY = 65_536
-MAX_WIDTH = 63
+MAX_SLICES = 63
 MAX_BASE = 1_024
 MAX_SUM_OF_BASES = 4_096
 MAX_SIZE = 2**63
@@ -167,7 +167,7 @@ def refused(line):
 def read_size(form, field):
     """Returns the size of the column that the form and the field declare, or None."""
     if form == b"slices":
-        width = number_within(field, 1, MAX_WIDTH)
+        width = number_within(field, 1, MAX_SLICES)
         return None if width is None else 2**width
     bases = read_bases(field) if form in (b"equality", b"range") else None
     return None if bases is None else prod(bases)
