@@ -1,9 +1,8 @@
 -- What a test says of entries, from what it says of their numbers.
 use Rattle.std.proofs.Common.{◌≡◌, ℕ, ◌+◌, ◌-◌, ◌%◌, ◌<◌, ◌≤◌, ◌≢◌, Bool, true, false, List, [], ◌∷◌, length, map, replicate, refl, sym, ap, ap₂, ◌∙◌, arith}
 use Rattle.std.specs.Result.{IfOk}
-use Rattle.std.specs.Prelude.{Result, Option, Some, None, not, is_some, ◌&&◌, ◌||◌, ◌==◌, nat_eq, nat_lt, nat_le}
+use Rattle.std.specs.Prelude.{Result, Option, Some, None, not, is_some, ◌&&◌, ◌||◌, ◌==◌, nat_eq, nat_lt, nat_le, All}
 use Rattle.std.specs.Simd.Lanes.{zip2}
-use Rattle.std.specs.Prelude.{All}
 use Rattle.std.proofs.lemmas.Bool.Decides.{nat_tests}
 use Rattle.std.proofs.lemmas.List.Elements.{All-head, All-tail}
 use Rattle.std.proofs.lemmas.Result.{IfOk-weaker}
@@ -14,7 +13,7 @@ use Rattle.bsi_bits.proofs.Pairs.{zip2-map_right}
 use Rattle.bsi_slices.specs.declared.decision.Relation.{Relation}
 use Rattle.bsi_slices.specs.declared.decision.Relation.TheVariants.{Equal, AtMost}
 use Rattle.bsi_components.specs.Component.{at_most_from}
-use Rattle.bsi_columns.specs.Rows.{number_or_zero}
+use Rattle.bsi_orders.specs.Rows.{number_or_zero}
 use Rattle.bsi_slices.specs.Decisions.{as_wanted, relates}
 use Rattle.bsi_columns.specs.DigitTests.{relates_from, answers}
 

@@ -2,11 +2,11 @@
 use Rattle.std.proofs.Common.{◌≡◌, ℕ, ◌<◌, false, List, [], ◌∷◌, length, map, replicate, refl, sym, ap, ap₂, ◌∙◌}
 use Rattle.std.specs.Prelude.{All, Option, Some, None, is_some}
 use Rattle.std.proofs.lemmas.List.Elements.{All-head, All-tail}
-use Rattle.bsi_slices.specs.declared.column.Op.{Op}
+use Rattle.bsi_orders.specs.declared.op.Op.{Op}
 use Rattle.bsi_slices.specs.declared.decision.Decision.{Decision}
 use Rattle.bsi_slices.specs.declared.decision.Decision.TheVariants.{Nothing, Everything, Tested}
 use Rattle.bsi_slices.specs.declared.decision.Test.{Test}
-use Rattle.bsi_columns.specs.Rows.{compares, number_or_zero, selects}
+use Rattle.bsi_orders.specs.Rows.{compares, number_or_zero, selects}
 use Rattle.bsi_slices.specs.Decisions.{decides, relates}
 use Rattle.bsi_columns.specs.DigitTests.{answers}
 use Rattle.bsi_columns.proofs.Answering.{map_alike}

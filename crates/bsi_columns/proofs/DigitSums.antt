@@ -5,8 +5,8 @@ use Rattle.std.specs.List.{items_where_true}
 use Rattle.std.proofs.Math.Nat.{zero-div, zero-mod}
 use Rattle.bsi_digits.specs.Digits.{weight, digit_of, IsBaseList}
 use Rattle.bsi_digits.proofs.CallerLemmas.{low_more}
-use Rattle.bsi_columns.specs.Rows.{number_or_zero}
-use Rattle.bsi_columns.specs.Orders.{values_at}
+use Rattle.bsi_orders.specs.Rows.{number_or_zero}
+use Rattle.bsi_orders.specs.Orders.{values_at}
 use Rattle.bsi_columns.proofs.Adding.{none_below_one, sum_found, sum_parts}
 
 -- at first no digit is added

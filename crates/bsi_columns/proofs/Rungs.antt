@@ -6,8 +6,8 @@ use Rattle.std.proofs.lemmas.Nat.{mul-le}
 use Rattle.bsi_digits.specs.Digits.{weight, product, digit_of, IsBaseList}
 use Rattle.bsi_digits.proofs.CallerLemmas.{high_all, weight_all, weight_more, weight_pos}
 use Rattle.bsi_components.specs.Component.{count_where}
-use Rattle.bsi_columns.specs.Rows.{number_or_zero}
-use Rattle.bsi_columns.specs.Orders.{values_at}
+use Rattle.bsi_orders.specs.Rows.{number_or_zero}
+use Rattle.bsi_orders.specs.Orders.{values_at}
 use Rattle.bsi_columns.proofs.Ranking.{IsNarrowed, narrowed_start, narrowed_step, next_small}
 
 -- the number fits where the size does

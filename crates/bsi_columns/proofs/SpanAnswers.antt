@@ -12,7 +12,7 @@ use Rattle.bsi_bits.proofs.Logic.{and_not_bitwise}
 use Rattle.bsi_digits.specs.Digits.{product, weight, digit_of, IsBaseList}
 use Rattle.bsi_digits.proofs.CallerLemmas.{low_all}
 use Rattle.bsi_slices.specs.declared.decision.Relation.{Relation}
-use Rattle.bsi_columns.specs.Rows.{number_or_zero}
+use Rattle.bsi_orders.specs.Rows.{number_or_zero}
 use Rattle.bsi_slices.specs.Decisions.{as_wanted, relates}
 use Rattle.bsi_columns.specs.DigitTests.{relates_from, answers}
 use Rattle.bsi_columns.proofs.WordSpans.{zipped_bit}

@@ -3,7 +3,7 @@ use Rattle.std.specs.Prelude.{◌≡◌, ℕ, ◌+◌, ◌/◌, ◌<◌, ◌≤�
 use Rattle.std.specs.List.{range_with_len}
 use Rattle.bsi_bits.specs.BitList.{max_len}
 use Rattle.bsi_digits.specs.Digits.{product, digit_of, components, weighted_sum}
-use Rattle.bsi_columns.specs.Rows.{number_or_zero}
+use Rattle.bsi_orders.specs.Rows.{number_or_zero}
 
 -- what a contract sees of a decomposed column: its bases, least significant first, its entries, and how many more there
 -- is room for

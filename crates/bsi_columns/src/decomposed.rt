@@ -3,7 +3,7 @@
 
 ghost use Rattle.std.specs.Prelude.{◌≡◌, ℕ, ◌<◌, List, [], All, length, map, replicate, slice_index, IfOk};
 ghost use Rattle.bsi_digits.specs.Digits.{digit_of, product};
-ghost use Rattle.bsi_columns.specs.Rows.{number_or_zero};
+ghost use Rattle.bsi_orders.specs.Rows.{number_or_zero};
 
 use crate::growth::{clear_each, push_all_digits, push_blocks, push_digits, reserve_each};
 use crate::{Column, Encoding, NoMemory, Op, OrderStatistic};

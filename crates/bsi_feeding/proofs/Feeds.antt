@@ -3,10 +3,10 @@ use Rattle.std.proofs.Common.{◌≡◌, ℕ, ◌+◌, ◌≤◌, false, List, [
 use Rattle.std.specs.Prelude.{Ok, Err, MatchOption}
 use Rattle.std.proofs.lemmas.List.{append_assoc, append-nil}
 use Rattle.bsi_rings.specs.Rings.{with_sent_rows, Sending}
-use Rattle.bsi_table.specs.Rows.{Entries}
+use Rattle.bsi_rows.specs.Rows.{Entries}
 use Rattle.csv.specs.declared.reader.Reader.{Reader}
-use Rattle.bsi_text.specs.Sources.{max_records, Counts, End, GivesFirst, GivesFirstRows, HasEnded, HasEndedBy, HasGivenRows, HasStopped, HasTaken, IsWithoutFault, Layout, Source}
-use Rattle.bsi_text.specs.declared.rows.SourceFault.{SourceFault}
+use Rattle.bsi_reading.specs.Sources.{max_records, Counts, End, GivesFirst, GivesFirstRows, HasEnded, HasEndedBy, HasGivenRows, HasStopped, HasTaken, IsWithoutFault, Layout, Source}
+use Rattle.bsi_reading.specs.declared.rows.SourceFault.{SourceFault}
 use Rattle.bsi_feeding.specs.declared.feeding.FeedEnd.{FeedEnd}
 use Rattle.bsi_feeding.specs.Feeding.{FailsNow, GivesNext, GivesNone, GivesRows, HasFailed, HasFed, HasOnly, IsReadOut, StopsAfter}
 

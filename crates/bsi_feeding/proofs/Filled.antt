@@ -2,11 +2,11 @@
 use Rattle.std.proofs.Common.{◌≡◌, ℕ, ◌<◌, ◌≤◌, List, [], ◌∷◌, ◌++◌, Option, Some, None, OnOk, IfErr, length, refl, sym, ap, ap₂, ◌∙◌, subst, arith}
 use Rattle.std.specs.Prelude.{◌≢◌, Result, Ok, Err, MatchOption}
 use Rattle.std.proofs.lemmas.List.{append-nil, length-map, map-append}
-use Rattle.bsi_table.specs.RowBlocks.{entries_of, fed_as, RowBlock}
-use Rattle.bsi_table.specs.Rows.{Entries, FedRow}
-use Rattle.bsi_text.specs.Sources.{max_records, Counts, End, Fills, GivesFirst, HasEnded, HasGivenRows, HasLeft, HasStopped, HasTaken, Source}
-use Rattle.bsi_text.specs.declared.rows.SourceFault.{SourceFault}
-use Rattle.bsi_text.specs.declared.rows.SourceFault.TheVariants.{NoMemory}
+use Rattle.bsi_rows.specs.RowBlocks.{entries_of, fed_as, RowBlock}
+use Rattle.bsi_rows.specs.Rows.{Entries, FedRow}
+use Rattle.bsi_reading.specs.Sources.{max_records, Counts, End, Fills, GivesFirst, HasEnded, HasGivenRows, HasLeft, HasStopped, HasTaken, Source}
+use Rattle.bsi_reading.specs.declared.rows.SourceFault.{SourceFault}
+use Rattle.bsi_reading.specs.declared.rows.SourceFault.TheVariants.{NoMemory}
 use Rattle.bsi_feeding.specs.Feeding.{FailsNow, GivesNext, GivesNone}
 use Rattle.bsi_feeding.proofs.Feeds.{is_open, passed_more, was_open, Behind, HasPassed, JoinsTaken}
 

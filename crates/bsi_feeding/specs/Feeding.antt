@@ -3,9 +3,9 @@ use Rattle.std.specs.Prelude.{◌≡◌, ◌<◌, ◌≤◌, ℕ, ◌+◌, false
 use Rattle.csv.specs.declared.reader.Reader.{Reader}
 use mathlib.Core.List.{IsPrefix}
 use Rattle.bsi_rings.specs.Rings.{with_sent_rows, Sending}
-use Rattle.bsi_table.specs.Rows.{Entries}
-use Rattle.bsi_text.specs.Sources.{max_records, Counts, GivesFirst, GivesFirstRows, HasEnded, HasGivenRows, HasStopped, HasTaken, IsOver, Source, StillHas}
-use Rattle.bsi_text.specs.declared.rows.SourceFault.{SourceFault}
+use Rattle.bsi_rows.specs.Rows.{Entries}
+use Rattle.bsi_reading.specs.Sources.{max_records, Counts, GivesFirst, GivesFirstRows, HasEnded, HasGivenRows, HasStopped, HasTaken, IsOver, Source, StillHas}
+use Rattle.bsi_reading.specs.declared.rows.SourceFault.{SourceFault}
 use Rattle.bsi_feeding.specs.declared.feeding.FeedEnd.{FeedEnd}
 use Rattle.bsi_feeding.specs.declared.feeding.Progress.{Progress}
 use Rattle.bsi_feeding.specs.declared.feeding.Progress.TheVariants as progress

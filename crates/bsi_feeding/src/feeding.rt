@@ -5,7 +5,7 @@
 
 ghost use Rattle.std.specs.Prelude.{◌≡◌, ◌<◌, ◌≤◌, ◌*◌, [], IfOk, IfSome, None, OnErr, length, true, false};
 ghost use Rattle.bsi_rings.specs.Rings.{with_sent, with_sent_rows, Closes};
-ghost use Rattle.bsi_table.specs.RowBlocks.{entries_of, max_block_rows, no_block_rows, HaveSameLimits};
+ghost use Rattle.bsi_rows.specs.RowBlocks.{entries_of, max_block_rows, no_block_rows, HaveSameLimits};
 ghost use Rattle.bsi_feeding.specs.Feeding.{HasFailed, HasFed, IsProgress, IsGathered};
 
 use crate::{Gate, Pause};

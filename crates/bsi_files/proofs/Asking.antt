@@ -13,13 +13,13 @@ use Rattle.csv.specs.declared.parser.State.{State}
 use Rattle.csv.specs.declared.parser.State.TheVariants as st
 use Rattle.csv.specs.declared.reader.Reader.{Reader}
 use Rattle.bsi_records.specs.Numbers.{Field}
-use Rattle.bsi_text.specs.Sources.{max_records, HasNext, HasRead, IsOver}
-use Rattle.bsi_text.specs.declared.rows.SourceFault.{SourceFault}
-use Rattle.bsi_text.specs.declared.rows.SourceFault.TheVariants as source
-use Rattle.bsi_text.specs.Waiting.{IsCut}
-use Rattle.bsi_text.proofs.FirstRecords.{first_all, first_more, first_none, HasReadFirst}
-use Rattle.bsi_table.specs.Columns.{Declared}
-use Rattle.bsi_table.specs.Rows.{FedRow}
+use Rattle.bsi_reading.specs.Sources.{max_records, HasNext, HasRead, IsOver}
+use Rattle.bsi_reading.specs.declared.rows.SourceFault.{SourceFault}
+use Rattle.bsi_reading.specs.declared.rows.SourceFault.TheVariants as source
+use Rattle.bsi_reading.specs.Waiting.{IsCut}
+use Rattle.bsi_reading.proofs.FirstRecords.{first_all, first_more, first_none, HasReadFirst}
+use Rattle.bsi_schema.specs.Columns.{Declared}
+use Rattle.bsi_rows.specs.Rows.{FedRow}
 use Rattle.bsi_files.specs.AskLines.{IsAskLine}
 use Rattle.bsi_files.specs.Faults.{is_late, text_fault}
 use Rattle.bsi_files.specs.declared.faults.FilesFault.{FilesFault}

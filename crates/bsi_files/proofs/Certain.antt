@@ -8,21 +8,21 @@ use Rattle.bsi_records.specs.Lines.{answer_line, ask_line, no_memory_line, rows_
 use Rattle.bsi_records.specs.Numbers.{Field}
 use Rattle.bsi_records.specs.Setups.{table_after, undeclared_table}
 use Rattle.bsi_records.specs.declared.setups.DeclaredTable.{DeclaredTable}
-use Rattle.bsi_origins.specs.Numbering.{numbered_at}
-use Rattle.bsi_table.specs.Answers.{missing_column, IsAnswer, IsTotal}
-use Rattle.bsi_table.specs.Columns.{AreNamed, Declared}
-use Rattle.bsi_table.specs.Rows.{feeders_of, holds, selected, Entries, FedRow}
-use Rattle.bsi_table.specs.declared.errors.AskError.{AskError}
-use Rattle.bsi_table.specs.declared.errors.AskError.TheVariants as ask
-use Rattle.bsi_table.specs.declared.query.Answer.{Answer}
-use Rattle.bsi_table.specs.declared.query.Answer.TheVariants.{Count as count_answer, Sum as sum_answer, Value as value_answer, Rows as rows_answer}
-use Rattle.bsi_table.specs.declared.query.Query.{Query}
-use Rattle.bsi_text.specs.Pasts.{FindMemory}
-use Rattle.bsi_text.specs.RowFiles.{bad_count, good_rows}
-use Rattle.bsi_text.specs.SchemaTexts.{table_declared, Declares, IsSchemaText}
-use Rattle.bsi_text.specs.Texts.{AreAllRecords}
-use Rattle.bsi_text.proofs.Determined.{same_selected, same_total}
-use Rattle.bsi_text.proofs.Named.{table_named}
+use Rattle.bsi_rows.specs.Numbering.{numbered_at}
+use Rattle.bsi_rows.specs.Answers.{missing_column, IsAnswer, IsTotal}
+use Rattle.bsi_schema.specs.Columns.{AreNamed, Declared}
+use Rattle.bsi_rows.specs.Rows.{feeders_of, holds, selected, Entries, FedRow}
+use Rattle.bsi_rows.specs.declared.errors.AskError.{AskError}
+use Rattle.bsi_rows.specs.declared.errors.AskError.TheVariants as ask
+use Rattle.bsi_rows.specs.declared.query.Answer.{Answer}
+use Rattle.bsi_rows.specs.declared.query.Answer.TheVariants.{Count as count_answer, Sum as sum_answer, Value as value_answer, Rows as rows_answer}
+use Rattle.bsi_rows.specs.declared.query.Query.{Query}
+use Rattle.bsi_reading.specs.Pasts.{FindMemory}
+use Rattle.bsi_reading.specs.RowFiles.{bad_count, good_rows}
+use Rattle.bsi_reading.specs.SchemaTexts.{table_declared, Declares, IsSchemaText}
+use Rattle.bsi_reading.specs.Texts.{AreAllRecords}
+use Rattle.bsi_reading.proofs.Determined.{same_selected, same_total}
+use Rattle.bsi_reading.proofs.Named.{table_named}
 use Rattle.bsi_files.specs.AskLines.{IsAskLine, IsArrangedAnswer, IsArrangedReply}
 use Rattle.bsi_files.specs.Matching.{AreMatched}
 use Rattle.bsi_files.specs.Mixes.{file_by_file}

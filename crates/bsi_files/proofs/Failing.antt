@@ -7,18 +7,18 @@ use Rattle.std.proofs.lemmas.List.Elements.{All-cons, All-head, All-nil, All-tai
 use Rattle.csv.specs.Machine.{Read, next_record}
 use Rattle.csv.specs.Reading.{Reached, default_config, reader_state, source_of, strip_bom}
 use Rattle.csv.specs.declared.parser.State.TheVariants as st
-use Rattle.bsi_origins.specs.Origins.{max_feeders}
+use Rattle.bsi_rows.specs.Table.{max_feeders}
 use Rattle.bsi_rings.specs.Rings.{Sending}
 use Rattle.bsi_system.specs.Running.{Taking}
 use Rattle.bsi_records.specs.Numbers.{Field}
-use Rattle.bsi_table.specs.Columns.{Declared}
-use Rattle.bsi_table.specs.Rows.{Entries}
-use Rattle.bsi_text.specs.RowFiles.{good_rows}
-use Rattle.bsi_text.specs.SchemaTexts.{IsSchemaText}
-use Rattle.bsi_text.specs.Sources.{max_records, Counts, End, Source, StandsAfter}
-use Rattle.bsi_text.specs.declared.rows.SourceFault.{SourceFault}
-use Rattle.bsi_text.specs.declared.rows.SourceFault.TheVariants as source
-use Rattle.bsi_text.proofs.FirstRecords.{first_join, HasReadFirst}
+use Rattle.bsi_schema.specs.Columns.{Declared}
+use Rattle.bsi_rows.specs.Rows.{Entries}
+use Rattle.bsi_reading.specs.RowFiles.{good_rows}
+use Rattle.bsi_reading.specs.SchemaTexts.{IsSchemaText}
+use Rattle.bsi_reading.specs.Sources.{max_records, Counts, End, Source, StandsAfter}
+use Rattle.bsi_reading.specs.declared.rows.SourceFault.{SourceFault}
+use Rattle.bsi_reading.specs.declared.rows.SourceFault.TheVariants as source
+use Rattle.bsi_reading.proofs.FirstRecords.{first_join, HasReadFirst}
 use Rattle.bsi_files.specs.Begun.{Begins}
 use Rattle.bsi_files.specs.Ends.{tasks, AreEndsOf}
 use Rattle.bsi_files.specs.Faults.{is_early, is_late}

@@ -6,14 +6,14 @@ use Rattle.bsi_files.specs.declared.faults.FilesFault.{FilesFault}
 use Rattle.bsi_files.specs.declared.faults.FilesFault.TheVariants.{TooManyFiles}
 use Rattle.csv.specs.Reading.{strip_bom}
 use Rattle.csv.specs.declared.reader.Reader.{Reader}
-use Rattle.bsi_load.specs.Runs.{rows_from}
-use Rattle.bsi_origins.specs.Origins.{max_feeders}
+use Rattle.bsi_rows.specs.Runs.{rows_from}
+use Rattle.bsi_rows.specs.Table.{max_feeders}
 use Rattle.bsi_records.specs.Numbers.{Field}
-use Rattle.bsi_table.specs.Columns.{Declared}
-use Rattle.bsi_table.specs.Rows.{Entries, FedRow}
-use Rattle.bsi_text.specs.RowFiles.{bad_count, good_rows}
-use Rattle.bsi_text.specs.SchemaTexts.{IsSchemaText}
-use Rattle.bsi_text.specs.Sources.{Counts, HasTaken, IsOver, IsWholeFile, Layout, Source, StandsAfter}
+use Rattle.bsi_schema.specs.Columns.{Declared}
+use Rattle.bsi_rows.specs.Rows.{Entries, FedRow}
+use Rattle.bsi_reading.specs.RowFiles.{bad_count, good_rows}
+use Rattle.bsi_reading.specs.SchemaTexts.{IsSchemaText}
+use Rattle.bsi_reading.specs.Sources.{Counts, HasTaken, IsOver, IsWholeFile, Layout, Source, StandsAfter}
 use Rattle.bsi_files.specs.Begun.{Begins}
 use Rattle.bsi_feeding.specs.Feeding.{IsReadOut}
 use Rattle.bsi_files.specs.Feds.{fed_counts, AreFedFrom, HasRun, IsAllFed, IsFedFrom}

@@ -6,8 +6,8 @@ use Rattle.csv.specs.Reading.{Reached, default_config, strip_bom}
 use Rattle.csv.specs.declared.parser.State.{State}
 use Rattle.csv.specs.declared.parser.State.TheVariants as st
 use Rattle.bsi_records.specs.Numbers.{Field}
-use Rattle.bsi_table.specs.Columns.{Declared}
-use Rattle.bsi_text.specs.RowFiles.{is_header}
+use Rattle.bsi_schema.specs.Columns.{Declared}
+use Rattle.bsi_reading.specs.RowFiles.{is_header}
 use Rattle.bsi_files.specs.Headers.{HasHeader}
 use Rattle.bsi_files.specs.Matching.{AreMatched}
 use Rattle.bsi_files.specs.RowFiles.{IsRowFile, RowFile}

@@ -2,7 +2,7 @@
 use Rattle.std.proofs.Common.{◌≡◌, ℕ, List, [], ◌∷◌, ◌++◌, Option, map, refl, ap, sym, ◌∙◌, subst}
 use Rattle.std.proofs.lemmas.List.{append-nil}
 use Rattle.bsi_rings.specs.Rings.{Sending}
-use Rattle.bsi_text.specs.Sources.{Source}
+use Rattle.bsi_reading.specs.Sources.{Source}
 use Rattle.bsi_files.specs.Ends.{tasks, AreEndsOf, IsFeedEnd, Task}
 use Rattle.bsi_files.specs.Matching.{AreMatched}
 use Rattle.bsi_feeding.specs.declared.feeding.FeedEnd.{FeedEnd}

@@ -5,11 +5,11 @@ use Rattle.std.specs.List.{sum_by}
 use mathlib.Core.List.{IsPrefix}
 use Rattle.std.proofs.lemmas.List.Elements.{All-head, All-tail}
 use Rattle.std.proofs.lemmas.List.Sums.{sum_by-cons}
-use Rattle.bsi_load.specs.Runs.{rows_from}
+use Rattle.bsi_rows.specs.Runs.{rows_from}
 use Rattle.bsi_rings.specs.Rings.{Sending, Sent}
 use Rattle.bsi_system.specs.Running.{taking_at, AlwaysHolds, Loading, SystemName, Taking}
-use Rattle.bsi_table.specs.Rows.{Entries, FedRow}
-use Rattle.bsi_text.specs.Sources.{Source}
+use Rattle.bsi_rows.specs.Rows.{Entries, FedRow}
+use Rattle.bsi_reading.specs.Sources.{Source}
 use Rattle.bsi_files.specs.Ends.{tasks, AreEndsOf, AreFeeders, IsFeedEnd}
 use Rattle.bsi_feeding.specs.Feeding.{HasFed}
 use Rattle.bsi_files.specs.Matching.{AreMatched}

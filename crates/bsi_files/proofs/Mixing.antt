@@ -4,8 +4,8 @@ use Rattle.std.proofs.Common.{◌≡◌, ◌≢◌, ℕ, suc, Bool, true, false,
 use Rattle.std.specs.Prelude.{nat_eq, if◌then◌else◌}
 use Rattle.std.specs.List.{cons_option}
 use Rattle.std.proofs.lemmas.Bool.Decides.{nat_tests}
-use Rattle.bsi_load.specs.Runs.{rows_from}
-use Rattle.bsi_table.specs.Rows.{Entries, FedRow}
+use Rattle.bsi_rows.specs.Runs.{rows_from}
+use Rattle.bsi_rows.specs.Rows.{Entries, FedRow}
 use Rattle.bsi_files.specs.Mixes.{AreAlike}
 use Rattle.bsi_files.proofs.Perms.{as_long, flipped, join, keep, stay, swap, Perm}
 

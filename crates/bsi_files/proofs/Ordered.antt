@@ -4,8 +4,8 @@ use Rattle.std.specs.Prelude.{nat_eq}
 use Rattle.std.proofs.lemmas.Bool.Decides.{nat_tests}
 use Rattle.std.proofs.lemmas.List.{append-nil}
 use Rattle.std.proofs.lemmas.List.Elements.{filter_map-append}
-use Rattle.bsi_load.specs.Runs.{rows_from}
-use Rattle.bsi_table.specs.Rows.{Entries, FedRow}
+use Rattle.bsi_rows.specs.Runs.{rows_from}
+use Rattle.bsi_rows.specs.Rows.{Entries, FedRow}
 use Rattle.bsi_files.specs.Mixes.{file_by_file}
 use Rattle.bsi_files.proofs.Mixing.{rows_here, rows_there}
 

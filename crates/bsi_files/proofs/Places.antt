@@ -11,7 +11,7 @@ use Rattle.std.proofs.lemmas.Cmp.{nat_cmp_total, on_total, then_total}
 use Rattle.std.proofs.lemmas.List.MinMax.{ranks_by}
 use Rattle.std.proofs.lemmas.List.Sorted.{sorted_far, sum_by-IsPermutation}
 use Rattle.std.proofs.lemmas.List.Sums.{sum_by-cons}
-use Rattle.bsi_origins.specs.ByFeeder.{by_place}
+use Rattle.bsi_rows.specs.ByFeeder.{by_place}
 
 abbrev Place : Type 0
 Place = ℕ × ℕ

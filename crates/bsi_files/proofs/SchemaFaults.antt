@@ -2,10 +2,10 @@
 use Rattle.std.proofs.Common.{ℕ, Bool, List, Option, inl, refl}
 use Rattle.std.specs.Prelude.{◌≢◌}
 use Rattle.bsi_records.specs.Numbers.{Field}
-use Rattle.bsi_text.specs.SchemaTexts.{IsSchemaFault}
-use Rattle.bsi_text.specs.declared.rows.SourceFault.TheVariants as source
-use Rattle.bsi_text.specs.declared.schema_text.SchemaFault.{SchemaFault}
-use Rattle.bsi_text.specs.declared.schema_text.SchemaFault.TheVariants as schema
+use Rattle.bsi_reading.specs.SchemaTexts.{IsSchemaFault}
+use Rattle.bsi_reading.specs.declared.rows.SourceFault.TheVariants as source
+use Rattle.bsi_reading.specs.declared.schema_text.SchemaFault.{SchemaFault}
+use Rattle.bsi_reading.specs.declared.schema_text.SchemaFault.TheVariants as schema
 use Rattle.bsi_files.specs.Faults.{schema_fault}
 use Rattle.bsi_files.specs.RunFaults.{IsFaultOf}
 use Rattle.bsi_files.specs.Writing.{Leaves}

@@ -4,16 +4,16 @@ use Rattle.std.specs.Prelude.{IsTrue, count_by, int_le, int_lt, nat_eq, slice_in
 use Rattle.std.specs.List.{cons_option, range_with_len}
 use Rattle.std.proofs.lemmas.List.Sorted.{All-permutation, Contains-permutation, IsPermutation-trans, sum_by-IsPermutation}
 use Rattle.std.proofs.lemmas.List.Sums.{sum_by-append}
-use Rattle.bsi_origins.specs.Numbering.{number_within, numbered_at}
-use Rattle.bsi_shift.specs.WholeNumbers.{IsSignedGreatestOf, IsSignedLeastOf, IsSignedMedianOf}
-use Rattle.bsi_table.specs.Answers.{IsTotal}
-use Rattle.bsi_table.specs.Rows.{entry_at, feeders_of, holds, row_at, selected, values, Entries, FedRow}
-use Rattle.bsi_table.specs.declared.query.Answer.{Answer}
-use Rattle.bsi_table.specs.declared.query.Answer.TheVariants.{Count as count_answer, Sum as sum_answer, Value as value_answer, Rows as rows_answer}
-use Rattle.bsi_table.specs.declared.query.Pred.{Pred}
-use Rattle.bsi_table.specs.declared.query.Query.{Query}
-use Rattle.bsi_table.specs.declared.query.Total.{Total}
-use Rattle.bsi_table.specs.declared.query.Total.TheVariants.{Count, Sum, Least, Greatest, Median, Rows}
+use Rattle.bsi_rows.specs.Numbering.{number_within, numbered_at}
+use Rattle.bsi_orders.specs.WholeNumbers.{IsSignedGreatestOf, IsSignedLeastOf, IsSignedMedianOf}
+use Rattle.bsi_rows.specs.Answers.{IsTotal}
+use Rattle.bsi_rows.specs.Rows.{entry_at, feeders_of, holds, row_at, selected, values, Entries, FedRow}
+use Rattle.bsi_rows.specs.declared.query.Answer.{Answer}
+use Rattle.bsi_rows.specs.declared.query.Answer.TheVariants.{Count as count_answer, Sum as sum_answer, Value as value_answer, Rows as rows_answer}
+use Rattle.bsi_rows.specs.declared.query.Pred.{Pred}
+use Rattle.bsi_rows.specs.declared.query.Query.{Query}
+use Rattle.bsi_rows.specs.declared.query.Total.{Total}
+use Rattle.bsi_rows.specs.declared.query.Total.TheVariants.{Count, Sum, Least, Greatest, Median, Rows}
 use Rattle.bsi_files.specs.AskLines.{IsArrangedAnswer}
 use Rattle.bsi_files.specs.Mixes.{AreAlike}
 use Rattle.bsi_files.proofs.Mixing.{bump, same_tags, tags, RowCounts, Tag}

@@ -2,14 +2,14 @@
 use Rattle.std.proofs.Common.{◌≡◌, ◌≢◌, ℕ, suc, zero, ◌+◌, ◌<◌, ◌≤◌, Bool, true, false, List, [], ◌∷◌, ◌++◌, length, Option, Some, None, IfSome, Result, Ok, Err, All, refl, ap, sym, ◌∙◌, subst, arith, slice_set, add-zero, length-append}
 use Rattle.std.specs.Prelude.{IfErr, OnOk, is_some, nat_eq, slice_get}
 use Rattle.std.proofs.lemmas.Bool.Decides.{nat_tests}
-use Rattle.bsi_load.specs.declared.event.LoadRefused.TheVariants as load
+use Rattle.bsi_rows.specs.declared.event.LoadRefused.TheVariants as load
 use Rattle.std.proofs.lemmas.List.{append-nil}
 use Rattle.std.proofs.lemmas.List.Elements.{All-head, All-tail}
-use Rattle.bsi_load.specs.Runs.{rows_from}
+use Rattle.bsi_rows.specs.Runs.{rows_from}
 use Rattle.bsi_rings.specs.Rings.{new_feeders, new_sending, ChannelName, Sending, Sent}
 use Rattle.bsi_system.specs.Running.{settled_as, taking_at, with_taken, AlwaysHolds, IsClosingOf, IsFeederOf, IsLoaderReply, Loading, LoadsOne, Looks, MayLoad, SystemName, Taking}
-use Rattle.bsi_table.specs.Rows.{Entries, FedRow}
-use Rattle.bsi_text.specs.Sources.{Source}
+use Rattle.bsi_rows.specs.Rows.{Entries, FedRow}
+use Rattle.bsi_reading.specs.Sources.{Source}
 use Rattle.bsi_files.specs.Ends.{tasks, AreClosings, AreEndsOf, AreFeeders, IsFeedEnd}
 use Rattle.bsi_files.specs.Feds.{AreFedFrom, IsAllFed, IsFedFrom}
 use Rattle.bsi_files.specs.Takings.{all_taken, AreLoaded, AreTold, IsDrained, IsFine, IsFullAt, IsFedOf, IsLoaded, IsTold, KeepsOthers, KeepsTold, TakesOnlyOf}

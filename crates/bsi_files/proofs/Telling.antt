@@ -6,7 +6,7 @@ use Rattle.std.proofs.lemmas.List.{append-nil, take_all}
 use Rattle.std.proofs.lemmas.List.Folds.{concat-append}
 use Rattle.csv.proofs.WriteFacts.{appends-more, appends-none}
 use Rattle.bsi_records.specs.Lines.{fed_line}
-use Rattle.bsi_text.specs.Waiting.{IsCut}
+use Rattle.bsi_reading.specs.Waiting.{IsCut}
 use Rattle.bsi_files.specs.Feds.{fed_counts}
 use Rattle.bsi_files.specs.RowFiles.{FedCounts}
 use Rattle.bsi_files.specs.Runs.{fed_lines}

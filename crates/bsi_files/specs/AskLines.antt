@@ -4,17 +4,17 @@ use Rattle.std.specs.List.Sorted.{IsPermutation, IsSorted}
 use Rattle.bsi_records.specs.Events.{IsQuery}
 use Rattle.bsi_records.specs.Lines.{ask_line, bad_line}
 use Rattle.bsi_records.specs.Numbers.{Field}
-use Rattle.bsi_origins.specs.ByFeeder.{by_place}
-use Rattle.bsi_origins.specs.Numbering.{numbered_at}
-use Rattle.bsi_table.specs.Answers.{missing_column, CountsConjunction, IsAnswer, IsReply}
-use Rattle.bsi_table.specs.Columns.{Declared}
-use Rattle.bsi_table.specs.Rows.{feeders_of, selected, FedRow}
-use Rattle.bsi_table.specs.declared.errors.AskError.{AskError}
-use Rattle.bsi_table.specs.declared.errors.AskError.TheVariants.{NoMemory}
-use Rattle.bsi_table.specs.declared.query.Answer.{Answer}
-use Rattle.bsi_table.specs.declared.query.Answer.TheVariants.{Rows as rows_answer}
-use Rattle.bsi_table.specs.declared.query.Query.{Query}
-use Rattle.bsi_table.specs.declared.query.Total.TheVariants as total
+use Rattle.bsi_rows.specs.ByFeeder.{by_place}
+use Rattle.bsi_rows.specs.Numbering.{numbered_at}
+use Rattle.bsi_rows.specs.Answers.{missing_column, CountsConjunction, IsAnswer, IsReply}
+use Rattle.bsi_schema.specs.Columns.{Declared}
+use Rattle.bsi_rows.specs.Rows.{feeders_of, selected, FedRow}
+use Rattle.bsi_rows.specs.declared.errors.AskError.{AskError}
+use Rattle.bsi_rows.specs.declared.errors.AskError.TheVariants.{NoMemory}
+use Rattle.bsi_rows.specs.declared.query.Answer.{Answer}
+use Rattle.bsi_rows.specs.declared.query.Answer.TheVariants.{Rows as rows_answer}
+use Rattle.bsi_rows.specs.declared.query.Query.{Query}
+use Rattle.bsi_rows.specs.declared.query.Total.TheVariants as total
 
 -- the answer to a query as its line has it: rows stand by feeder and number
 abbrev pub IsArrangedAnswer : Query → List FedRow → Answer → Type 0

@@ -2,11 +2,11 @@
 use Rattle.std.specs.Prelude.{◌≡◌, ◌≤◌, ⊤, ℕ, suc, List, [], ◌∷◌, Option, length, IfSome}
 use Rattle.bsi_rings.specs.Rings.{Sending}
 use Rattle.bsi_system.specs.Running.{IsClosingOf, IsFeederOf, SystemName}
-use Rattle.bsi_text.specs.Sources.{Source}
+use Rattle.bsi_reading.specs.Sources.{Source}
 use Rattle.bsi_feeding.specs.Feeding.{HasFailed, HasFed}
 use Rattle.bsi_feeding.specs.declared.feeding.FeedEnd.{FeedEnd}
 use Rattle.bsi_files.specs.Matching.{AreMatched}
-use Rattle.bsi_origins.specs.Origins.{max_feeders}
+use Rattle.bsi_rows.specs.Table.{max_feeders}
 
 -- what the end of a feeder tells of the feeder and of its source: the rows that were read, which its closing carries,
 -- and the fault that the source answered

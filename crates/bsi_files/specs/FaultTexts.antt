@@ -4,7 +4,7 @@ use Rattle.bsi_files.specs.declared.faults.FilesFault.{FilesFault}
 use Rattle.bsi_files.specs.declared.faults.FilesFault.TheVariants.{BadSchema, IndexFull, NoColumns, NoMemory, NotClosed, Read, Readers, Source, TooLong, TooManyFiles, Write}
 use Rattle.bsi_files.specs.declared.faults.Which.{Which}
 use Rattle.bsi_files.specs.declared.faults.Which.TheVariants.{AsksFile, SchemaFile}
-use Rattle.bsi_text.specs.FaultTexts.{source_fault_text}
+use Rattle.bsi_reading.specs.FaultTexts.{source_fault_text}
 
 abbrev pub which_text : Which → List ℕ
 which_text SchemaFile = codes "schema"

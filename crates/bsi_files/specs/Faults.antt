@@ -4,10 +4,10 @@ use Rattle.bsi_files.specs.declared.faults.FilesFault.{FilesFault}
 use Rattle.bsi_files.specs.declared.faults.FilesFault.TheVariants.{BadSchema, IndexFull, NoColumns, Read, Source, TooLong, NoMemory, Write}
 use Rattle.bsi_files.specs.declared.faults.Which.{Which}
 use Rattle.bsi_files.specs.declared.faults.Which.TheVariants.{AsksFile, SchemaFile}
-use Rattle.bsi_text.specs.declared.rows.SourceFault.{SourceFault}
-use Rattle.bsi_text.specs.declared.rows.SourceFault.TheVariants as source
-use Rattle.bsi_text.specs.declared.schema_text.SchemaFault.{SchemaFault}
-use Rattle.bsi_text.specs.declared.schema_text.SchemaFault.TheVariants as schema
+use Rattle.bsi_reading.specs.declared.rows.SourceFault.{SourceFault}
+use Rattle.bsi_reading.specs.declared.rows.SourceFault.TheVariants as source
+use Rattle.bsi_reading.specs.declared.schema_text.SchemaFault.{SchemaFault}
+use Rattle.bsi_reading.specs.declared.schema_text.SchemaFault.TheVariants as schema
 
 -- a fault that may be met while rows are loaded, and that no source answered
 abbrev pub is_early : FilesFault → Bool

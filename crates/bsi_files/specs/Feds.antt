@@ -1,10 +1,10 @@
 -- What a whole run has of its sources.
 use Rattle.std.specs.Prelude.{◌≡◌, ⊤, ℕ, suc, List, [], ◌∷◌, Option, None, length, map, Bool, false, ◌≤◌}
-use Rattle.bsi_load.specs.Runs.{rows_from}
+use Rattle.bsi_rows.specs.Runs.{rows_from}
 use Rattle.bsi_records.specs.Numbers.{Field}
-use Rattle.bsi_table.specs.Columns.{Declared}
-use Rattle.bsi_table.specs.Rows.{FedRow}
-use Rattle.bsi_text.specs.Sources.{Source}
+use Rattle.bsi_schema.specs.Columns.{Declared}
+use Rattle.bsi_rows.specs.Rows.{FedRow}
+use Rattle.bsi_reading.specs.Sources.{Source}
 use Rattle.bsi_feeding.specs.Feeding.{IsReadOut}
 use Rattle.bsi_files.specs.declared.loading.Fed.{Fed}
 use Rattle.bsi_files.specs.RowFiles.{FedCounts}

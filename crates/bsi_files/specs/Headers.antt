@@ -3,10 +3,10 @@ use Rattle.std.specs.Prelude.{◌≡◌, ⊤, ℕ, ◌<◌, true, List, [], ◌�
 use Rattle.csv.specs.Machine.{next_record}
 use Rattle.csv.specs.Reading.{default_config, strip_bom}
 use Rattle.csv.specs.declared.parser.State.TheVariants as st
-use Rattle.bsi_table.specs.Columns.{Declared}
-use Rattle.bsi_text.specs.RowFiles.{is_header}
-use Rattle.bsi_text.specs.Sources.{HasNoHeader}
-use Rattle.bsi_text.specs.declared.rows.SourceFault.TheVariants as source
+use Rattle.bsi_schema.specs.Columns.{Declared}
+use Rattle.bsi_reading.specs.RowFiles.{is_header}
+use Rattle.bsi_reading.specs.Sources.{HasNoHeader}
+use Rattle.bsi_reading.specs.declared.rows.SourceFault.TheVariants as source
 use Rattle.bsi_files.specs.declared.faults.FilesFault.{FilesFault}
 use Rattle.bsi_files.specs.declared.faults.FilesFault.TheVariants.{NoMemory, Source}
 

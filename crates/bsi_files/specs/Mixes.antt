@@ -1,7 +1,7 @@
 -- Lists of the rows of several files.
 use Rattle.std.specs.Prelude.{◌≡◌, ℕ, suc, List, [], ◌∷◌, ◌++◌, map}
-use Rattle.bsi_load.specs.Runs.{rows_from}
-use Rattle.bsi_table.specs.Rows.{Entries, FedRow}
+use Rattle.bsi_rows.specs.Runs.{rows_from}
+use Rattle.bsi_rows.specs.Rows.{Entries, FedRow}
 use Rattle.bsi_files.specs.RowFiles.{file_at, RowFile}
 
 -- the rows of files, one file after the other; those of the first have this feeder

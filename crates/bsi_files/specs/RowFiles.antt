@@ -1,11 +1,11 @@
 -- What a row file gives, by its bytes.
 use Rattle.std.specs.Prelude.{◌≡◌, ◌≤◌, ℕ, true, List, [], ◌∷◌, length, slice_index_or}
 use Rattle.bsi_records.specs.Numbers.{Field}
-use Rattle.bsi_table.specs.Columns.{Declared}
-use Rattle.bsi_table.specs.Rows.{Entries}
-use Rattle.bsi_text.specs.RowFiles.{bad_count, good_rows, is_header}
-use Rattle.bsi_text.specs.Sources.{max_records}
-use Rattle.bsi_text.specs.Texts.{AreAllRecords}
+use Rattle.bsi_schema.specs.Columns.{Declared}
+use Rattle.bsi_rows.specs.Rows.{Entries}
+use Rattle.bsi_reading.specs.RowFiles.{bad_count, good_rows, is_header}
+use Rattle.bsi_reading.specs.Sources.{max_records}
+use Rattle.bsi_reading.specs.Texts.{AreAllRecords}
 
 -- what a row file gives: the rows of its good records, in their order, and how many records are bad
 pub record RowFile : Type 0 where

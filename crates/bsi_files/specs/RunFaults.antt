@@ -3,14 +3,14 @@ use Rattle.std.specs.Prelude.{◌≡◌, ⊤, ℕ, ◌<◌, ◌≤◌, Bool, tru
 use Rattle.std.specs.List.{sum_by, AllWithin}
 use Rattle.csv.specs.declared.parser.State.{State}
 use Rattle.bsi_records.specs.Numbers.{Field}
-use Rattle.bsi_table.specs.Columns.{Declared}
-use Rattle.bsi_table.specs.Rows.{Entries}
-use Rattle.bsi_text.specs.RowFiles.{good_rows, is_header}
-use Rattle.bsi_text.specs.SchemaTexts.{DeclaresNoColumn, DeclaresTooLong, IsBadRecord, IsSchemaText}
-use Rattle.bsi_text.specs.Sources.{max_records, Source}
-use Rattle.bsi_text.specs.Texts.{AreFirstRecords, AreTooMany}
-use Rattle.bsi_text.specs.declared.rows.SourceFault.{SourceFault}
-use Rattle.bsi_text.specs.declared.rows.SourceFault.TheVariants as source
+use Rattle.bsi_schema.specs.Columns.{Declared}
+use Rattle.bsi_rows.specs.Rows.{Entries}
+use Rattle.bsi_reading.specs.RowFiles.{good_rows, is_header}
+use Rattle.bsi_reading.specs.SchemaTexts.{DeclaresNoColumn, DeclaresTooLong, IsBadRecord, IsSchemaText}
+use Rattle.bsi_reading.specs.Sources.{max_records, Source}
+use Rattle.bsi_reading.specs.Texts.{AreFirstRecords, AreTooMany}
+use Rattle.bsi_reading.specs.declared.rows.SourceFault.{SourceFault}
+use Rattle.bsi_reading.specs.declared.rows.SourceFault.TheVariants as source
 use Rattle.bsi_feeding.specs.Feeding.{GivesRows, HasFailed, IsReadOut}
 use Rattle.bsi_files.specs.Headers.{HasHeader, IsFirstWithout}
 use Rattle.bsi_files.specs.Matching.{AreMatched}
@@ -20,7 +20,7 @@ use Rattle.bsi_files.specs.declared.faults.FilesFault.{FilesFault}
 use Rattle.bsi_files.specs.declared.faults.FilesFault.TheVariants as run
 use Rattle.bsi_files.specs.declared.faults.Which.TheVariants as which
 use Rattle.bsi_files.specs.declared.loading.Fed.{Fed}
-use Rattle.bsi_origins.specs.Origins.{max_feeders}
+use Rattle.bsi_rows.specs.Table.{max_feeders}
 
 -- ---- by the bytes
 

@@ -2,9 +2,9 @@
 use Rattle.std.specs.Prelude.{◌≡◌, ◌≤◌, ℕ, suc, List, [], ◌∷◌, ◌++◌, length, map}
 use Rattle.bsi_records.specs.Lines.{fed_line}
 use Rattle.bsi_records.specs.Numbers.{Field}
-use Rattle.bsi_table.specs.Columns.{Declared}
-use Rattle.bsi_table.specs.Rows.{FedRow}
-use Rattle.bsi_text.specs.SchemaTexts.{IsSchemaText}
+use Rattle.bsi_schema.specs.Columns.{Declared}
+use Rattle.bsi_rows.specs.Rows.{FedRow}
+use Rattle.bsi_reading.specs.SchemaTexts.{IsSchemaText}
 use Rattle.bsi_files.specs.AskLines.{IsAskLine}
 use Rattle.bsi_files.specs.Matching.{AreMatched}
 use Rattle.bsi_files.specs.Mixes.{file_by_file}

@@ -1,7 +1,7 @@
 -- What the loader has taken when the feeders have ended.
 use Rattle.std.specs.Prelude.{◌≡◌, ⊤, All, ℕ, suc, ◌+◌, ◌<◌, true, List, [], ◌∷◌, None, Some, ◌≢◌, Bool, false, IfSome, is_some, length}
 use Rattle.std.specs.List.{list_all}
-use Rattle.bsi_table.specs.Rows.{Entries}
+use Rattle.bsi_rows.specs.Rows.{Entries}
 use Rattle.bsi_system.specs.Running.{taking_at, AlwaysHolds, Loading, MayLoad, Taking}
 use Rattle.bsi_feeding.specs.declared.feeding.FeedEnd.{FeedEnd}
 use Rattle.bsi_files.specs.declared.loading.Fed.{Fed}

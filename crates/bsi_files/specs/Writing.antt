@@ -4,9 +4,9 @@ use Rattle.std.specs.List.{concat}
 use Rattle.std.specs.Io.KnownBytes.{Appends}
 use Rattle.csv.specs.declared.parser.State.{State}
 use Rattle.bsi_records.specs.Numbers.{Field}
-use Rattle.bsi_text.specs.Sources.{max_records}
-use Rattle.bsi_text.specs.Texts.{AreAllRecords, AreFirstRecords, AreTooMany}
-use Rattle.bsi_text.specs.Waiting.{IsCut}
+use Rattle.bsi_reading.specs.Sources.{max_records}
+use Rattle.bsi_reading.specs.Texts.{AreAllRecords, AreFirstRecords, AreTooMany}
+use Rattle.bsi_reading.specs.Waiting.{IsCut}
 use Rattle.bsi_files.specs.declared.faults.FilesFault.{FilesFault}
 use Rattle.bsi_files.specs.declared.faults.FilesFault.TheVariants.{Read, TooLong, NoMemory, Write}
 use Rattle.bsi_files.specs.declared.faults.Which.TheVariants.{AsksFile}

@@ -5,7 +5,7 @@ ghost use Rattle.bsi_files.specs.Begun.{Begins};
 ghost use Rattle.bsi_files.specs.Matching.{AreMatched};
 ghost use Rattle.bsi_files.specs.Faults.{is_of_headers};
 ghost use Rattle.bsi_files.specs.Headers.{IsHeaderFault, IsHeadersFault};
-ghost use Rattle.bsi_origins.specs.Origins.{max_feeders};
+ghost use Rattle.bsi_rows.specs.Table.{max_feeders};
 
 use crate::{FilesFault, NoMemory};
 use bsi_feeding::MAX_BATCH_ROWS;

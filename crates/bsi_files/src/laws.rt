@@ -3,9 +3,9 @@
 
 ghost use Rattle.std.specs.Prelude.{◌≡◌, ℕ, List, map};
 ghost use Rattle.bsi_records.specs.Numbers.{Field};
-ghost use Rattle.bsi_table.specs.Columns.{Declared};
-ghost use Rattle.bsi_table.specs.Rows.{FedRow};
-ghost use Rattle.bsi_text.specs.Pasts.{FindMemory};
+ghost use Rattle.bsi_schema.specs.Columns.{Declared};
+ghost use Rattle.bsi_rows.specs.Rows.{FedRow};
+ghost use Rattle.bsi_reading.specs.Pasts.{FindMemory};
 ghost use Rattle.bsi_files.specs.Mixes.{file_by_file, AreAlike, IsMixOf};
 ghost use Rattle.bsi_files.specs.RowFiles.{FedCounts, RowFile};
 ghost use Rattle.bsi_files.specs.Runs.{AreLines, IsRun};

@@ -10,7 +10,7 @@ ghost use Rattle.bsi_files.specs.Ends.{AreClosings};
 ghost use Rattle.bsi_files.specs.Takings.{all_closed, AreGoing, AreTold, IsDrained, IsFine, IsFullAt, IsFullBefore, IsFedOf, KeepsOthers, KeepsTold, TakesOnlyOf};
 ghost use Rattle.bsi_files.specs.Faults.{is_early};
 ghost use Rattle.bsi_files.specs.RunFaults.{IsKeptFault, IsNotClosed, IsSourceFault};
-ghost use Rattle.bsi_origins.specs.Origins.{max_feeders};
+ghost use Rattle.bsi_rows.specs.Table.{max_feeders};
 
 use crate::headers::file_number;
 use crate::threads::RunFlags;

@@ -6,14 +6,13 @@
 //! while the threads run, so nothing is published: the loader hands over its table, and the questions are put to it.
 
 ghost use Rattle.std.specs.Prelude.{◌≡◌, ◌≢◌, ◌<◌, ◌≤◌, ◌↔◌, ◌++◌, [], Err, IfErr, IfOk, IfSome, OnOk, false, length, map, true};
-ghost use Rattle.bsi_table.specs.Table.{no_rows};
+ghost use Rattle.bsi_rows.specs.Table.{no_rows, max_feeders};
 ghost use Rattle.bsi_files.specs.Ends.{AreReady};
 ghost use Rattle.bsi_files.specs.Feds.{HasRun, IsAllFed};
 ghost use Rattle.bsi_files.specs.Faults.{is_early, is_late};
 ghost use Rattle.bsi_files.specs.RunFaults.{IsFaultOf, IsLoadFault, IsRunFault};
 ghost use Rattle.bsi_files.specs.Runs.{IsRun};
 ghost use Rattle.bsi_files.specs.Writing.{Leaves, WhereFilesKnown, WhereKnown, WritesAll};
-ghost use Rattle.bsi_origins.specs.Origins.{max_feeders};
 ghost use Rattle.bsi_system.specs.Running.{AlwaysHolds};
 
 use crate::asks::answer_all;

@@ -4,9 +4,9 @@ use Rattle.std.specs.Prelude.{length, IsTrue}
 use Rattle.std.proofs.lemmas.List.{append-nil}
 use Rattle.std.proofs.lemmas.List.FromFn.{length-map-range_with_len, map-range_with_len_more}
 use Rattle.std.proofs.lemmas.List.Elements.{All-nil, All-push}
-use Rattle.bsi_table.specs.Columns.{fits, NamedColumn}
-use Rattle.bsi_table.specs.Rows.{FedRow}
-use Rattle.bsi_table.specs.Table.{with_rows, AreFitting, AreFrom, Table}
+use Rattle.bsi_schema.specs.Columns.{fits, NamedColumn}
+use Rattle.bsi_rows.specs.Rows.{FedRow}
+use Rattle.bsi_rows.specs.Table.{with_rows, AreFitting, AreFrom, Table}
 use Rattle.bsi_handles.specs.declared.columns.GivenColumn.{GivenColumn}
 use Rattle.bsi_handles.specs.Columns.{given_rows, row_of}
 

@@ -6,15 +6,15 @@ use Rattle.bsi_bits.specs.Packed.{bit_of, end_of_u64}
 use Rattle.bsi_records.specs.Events.{IsQuery}
 use Rattle.bsi_records.specs.Numbers.{Field}
 use Rattle.bsi_records.specs.Predicates.{IsPredicate}
-use Rattle.bsi_table.specs.Answers.{IsAnswer}
-use Rattle.bsi_table.specs.RowBlocks.{max_block_rows}
-use Rattle.bsi_table.specs.Rows.{holds, row_entries}
-use Rattle.bsi_table.specs.Table.{max_feeders, no_rows, with_rows, Table}
-use Rattle.bsi_table.specs.declared.query.Answer.{Answer}
-use Rattle.bsi_table.specs.declared.query.Answer.TheVariants.{Count as count_answer, Sum as sum_answer, Value as value_answer, Rows as rows_answer}
-use Rattle.bsi_table.specs.declared.query.Pred.{Pred}
-use Rattle.bsi_table.specs.declared.query.Query.{Query}
-use Rattle.bsi_text.specs.SchemaTexts.{DeclaresNoColumn, DeclaresTooLong, IsBadRecord, IsSchemaText}
+use Rattle.bsi_rows.specs.Answers.{IsAnswer}
+use Rattle.bsi_rows.specs.RowBlocks.{max_block_rows}
+use Rattle.bsi_rows.specs.Rows.{holds, row_entries}
+use Rattle.bsi_rows.specs.Table.{max_feeders, no_rows, with_rows, Table}
+use Rattle.bsi_rows.specs.declared.query.Answer.{Answer}
+use Rattle.bsi_rows.specs.declared.query.Answer.TheVariants.{Count as count_answer, Sum as sum_answer, Value as value_answer, Rows as rows_answer}
+use Rattle.bsi_rows.specs.declared.query.Pred.{Pred}
+use Rattle.bsi_rows.specs.declared.query.Query.{Query}
+use Rattle.bsi_reading.specs.SchemaTexts.{DeclaresNoColumn, DeclaresTooLong, IsBadRecord, IsSchemaText}
 use Rattle.bsi_handles.specs.Columns.{are_columns, given_rows, row_count, AreTaken, IsFirstMisfit}
 use Rattle.bsi_handles.specs.Opened.{Opened}
 use Rattle.bsi_handles.specs.States.{is_shared, opened_in}

@@ -3,8 +3,8 @@ use Rattle.std.specs.Prelude.{◌≡◌, ℕ, ◌+◌, ◌/◌, ◌%◌, ◌<◌
 use Rattle.std.specs.Int.{bit_at}
 use Rattle.std.specs.List.{list_all, range_with_len}
 use Rattle.bsi_handles.specs.declared.columns.GivenColumn.{GivenColumn}
-use Rattle.bsi_table.specs.Columns.{fits, NamedColumn}
-use Rattle.bsi_table.specs.Rows.{Entries, FedRow}
+use Rattle.bsi_schema.specs.Columns.{fits, NamedColumn}
+use Rattle.bsi_rows.specs.Rows.{Entries, FedRow}
 
 -- a bitmap has bit r, the lowest digit of a byte first; one of no byte has each
 abbrev pub is_valid : List ℕ → ℕ → Bool

@@ -4,8 +4,8 @@ ghost use Rattle.std.specs.Prelude.{◌≡◌, ◌+◌, ◌%◌, ◌<◌, ◌≤
 ghost use Rattle.std.specs.List.{list_all};
 ghost use Rattle.bsi_handles.specs.Calls.{with_first, AreAppendable, AppendsColumns, IsRowsRefusal};
 ghost use Rattle.bsi_handles.specs.Columns.{are_columns, given_rows, has_rows, row_count, row_of, AreTaken};
-ghost use Rattle.bsi_table.specs.RowBlocks.{max_block_rows};
-ghost use Rattle.bsi_table.specs.Table.{with_rows};
+ghost use Rattle.bsi_rows.specs.RowBlocks.{max_block_rows};
+ghost use Rattle.bsi_rows.specs.Table.{with_rows};
 
 use crate::columns::{GivenColumn, are_columns, count_rows, entry};
 use crate::fitting::first_misfit;

@@ -3,7 +3,7 @@
 ghost use Rattle.std.specs.Prelude.{◌≡◌, ◌<◌, true};
 ghost use Rattle.std.specs.List.{list_all};
 ghost use Rattle.bsi_handles.specs.Columns.{are_columns, entry_of, has_rows, row_count};
-ghost use Rattle.bsi_table.specs.Columns.{is_between};
+ghost use Rattle.bsi_schema.specs.Columns.{is_between};
 
 use bsi_schema::Limits;
 

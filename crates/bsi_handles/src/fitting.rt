@@ -3,7 +3,7 @@
 ghost use Rattle.std.specs.Prelude.{◌≡◌, ◌<◌, ◌≤◌, ℕ, false, length, true};
 ghost use Rattle.std.specs.List.{list_all};
 ghost use Rattle.bsi_handles.specs.Columns.{entry_of, has_rows, row_of, AreTaken};
-ghost use Rattle.bsi_table.specs.Columns.{fits, is_between};
+ghost use Rattle.bsi_schema.specs.Columns.{fits, is_between};
 
 use crate::columns::{GivenColumn, is_taken};
 use bsi_schema::Limits;

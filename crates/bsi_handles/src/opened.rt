@@ -1,7 +1,7 @@
 //! An index that was opened, and the text of its schema.
 
 ghost use Rattle.std.specs.Prelude.{◌≡◌, IfErr, OnErr};
-ghost use Rattle.bsi_text.specs.SchemaTexts.{IsSchemaText};
+ghost use Rattle.bsi_reading.specs.SchemaTexts.{IsSchemaText};
 ghost use Rattle.bsi_handles.specs.Calls.{with_table, AppendsColumns, IsDescribed};
 
 use crate::blocks::append_columns;
@@ -20,7 +20,7 @@ pub struct Opened {
 
 // Clauses see the bytes of the text, and what the index shows.
 impl Model for Opened {
-    ghost use Rattle.bsi_text.specs.SchemaTexts.{IsSchemaText};
+    ghost use Rattle.bsi_reading.specs.SchemaTexts.{IsSchemaText};
     ghost use Rattle.bsi_handles.specs.Opened.{Opened};
 
     ghost Value = { Opened };

@@ -1,7 +1,7 @@
 //! The text of a schema file, read from memory.
 
 ghost use Rattle.std.specs.Prelude.{◌≡◌, ℕ, List, IfErr, IfOk, OnOk};
-ghost use Rattle.bsi_text.specs.SchemaTexts.{IsSchemaFault, IsSchemaText};
+ghost use Rattle.bsi_reading.specs.SchemaTexts.{IsSchemaFault, IsSchemaText};
 ghost use Rattle.bsi_handles.specs.Calls.{IsFeederCount, IsNew, IsTextRefusal};
 
 use crate::opened::Opened;

@@ -2,9 +2,9 @@ pub use Rattle.bsi_columns.specs.Decomposed
 pub use Rattle.bsi_load.specs.Runs
 pub use Rattle.bsi_load.specs.Shown
 pub use Rattle.bsi_load.specs.Sizes
-pub use Rattle.bsi_slices.specs.Orders
-pub use Rattle.bsi_slices.specs.Rows as ColumnRows
-pub use Rattle.bsi_slices.specs.Totals
+pub use Rattle.bsi_orders.specs.Orders
+pub use Rattle.bsi_orders.specs.Rows as ColumnRows
+pub use Rattle.bsi_orders.specs.Totals
 pub use Rattle.bsi_system.specs.Opening
 pub use Rattle.bsi_system.specs.Running
 pub use Rattle.bsi_table.specs.Answers

@@ -10,21 +10,21 @@ use Rattle.std.proofs.lemmas.Bool.Decides.{nat_tests}
 use Rattle.std.proofs.lemmas.List.{append_assoc, append-nil, get_or-set_other, get_or-set_same, length-set}
 use Rattle.std.proofs.lemmas.List.FromFn.{fill_by_all}
 use Rattle.circular_buffer.proofs.Places.{slice_get-append_right}
-use Rattle.bsi_table.specs.Rows.{Entries, FedRow}
-use Rattle.bsi_table.specs.Table.{Table}
-use Rattle.bsi_table.specs.declared.errors.AskError.{AskError}
-use Rattle.bsi_table.specs.declared.query.Answer.{Answer}
-use Rattle.bsi_table.specs.declared.query.Query.{Query}
-use Rattle.bsi_load.specs.declared.event.CloseRefused.{CloseRefused}
-use Rattle.bsi_load.specs.declared.event.Event.{Event}
-use Rattle.bsi_load.specs.declared.event.Event.TheVariants.{Submit, Load, Close, Ask}
-use Rattle.bsi_load.specs.declared.event.LoadRefused.{LoadRefused}
-use Rattle.bsi_load.specs.declared.event.Reply.{Reply}
-use Rattle.bsi_load.specs.declared.event.Reply.TheVariants.{Submitted, Loaded, Closed, Answered}
-use Rattle.bsi_load.specs.declared.event.SubmitRefused.{SubmitRefused}
-use Rattle.bsi_load.specs.Shown.{Shown, Waiting, feeder_at, no_feeder}
-use Rattle.bsi_load.specs.Runs.{rows_from, accepted, accepted_by, loads, loaded_by, indexed, loaded_row, waiting, closed, closed_by, feeder_after, shown_after}
-use Rattle.bsi_load.proofs.Composing.{feeder, same_feeder}
+use Rattle.bsi_rows.specs.Rows.{Entries, FedRow}
+use Rattle.bsi_rows.specs.Table.{Table}
+use Rattle.bsi_rows.specs.declared.errors.AskError.{AskError}
+use Rattle.bsi_rows.specs.declared.query.Answer.{Answer}
+use Rattle.bsi_rows.specs.declared.query.Query.{Query}
+use Rattle.bsi_rows.specs.declared.event.CloseRefused.{CloseRefused}
+use Rattle.bsi_rows.specs.declared.event.Event.{Event}
+use Rattle.bsi_rows.specs.declared.event.Event.TheVariants.{Submit, Load, Close, Ask}
+use Rattle.bsi_rows.specs.declared.event.LoadRefused.{LoadRefused}
+use Rattle.bsi_rows.specs.declared.event.Reply.{Reply}
+use Rattle.bsi_rows.specs.declared.event.Reply.TheVariants.{Submitted, Loaded, Closed, Answered}
+use Rattle.bsi_rows.specs.declared.event.SubmitRefused.{SubmitRefused}
+use Rattle.bsi_rows.specs.Shown.{Shown, Waiting, feeder_at, no_feeder}
+use Rattle.bsi_rows.specs.Runs.{rows_from, accepted, accepted_by, loads, loaded_by, indexed, loaded_row, waiting, closed, closed_by, feeder_after, shown_after}
+use Rattle.bsi_rows.proofs.Composing.{feeder, same_feeder}
 
 -- what waits of a feeder after one event
 waiting_one : (s : Shown) (f : ℕ) (e : Event) (r : Reply) → waiting s f ((e, r) ∷ []) ≡ drop (loaded_by f e r) ((feeder_at s f).rows ++ accepted_by f e r)

@@ -6,23 +6,23 @@ use Rattle.std.proofs.lemmas.Iterator.Adapters.{position_from-zero}
 use Rattle.std.proofs.lemmas.List.{length-append, length-map, length-set}
 use Rattle.std.proofs.lemmas.List.Elements.{All-cons, All-drop, All-map, All-nil, All-push, All-set, All-weaker}
 use Rattle.circular_buffer.specs.Buffer.{Buffer, buffer}
-use Rattle.bsi_table.specs.Rows.{Entries}
+use Rattle.bsi_rows.specs.Rows.{Entries}
 use Rattle.std.specs.List.{position_from}
 use Rattle.std.specs.Option.{option_map, option_or}
-use Rattle.bsi_table.specs.Columns.{Declared, fits}
-use Rattle.bsi_table.specs.Table.{Table, no_rows, with_row}
-use Rattle.bsi_load.specs.Sizes.{capacities_refusal, is_out_of_range, new_feeder, sizes_refusal}
-use Rattle.bsi_table.specs.Refusals.{index_refusal}
-use Rattle.bsi_load.specs.declared.sizes.MakeError.TheVariants.{NoFeeders, TooManyFeeders, CapacityOutOfRange, Index}
-use Rattle.bsi_load.specs.declared.event.Event.TheVariants.{Load}
-use Rattle.bsi_load.specs.declared.event.LoadRefused.{LoadRefused}
-use Rattle.bsi_load.specs.declared.event.LoadRefused.TheVariants as load
-use Rattle.bsi_load.specs.declared.event.Reply.TheVariants.{Loaded}
-use Rattle.bsi_load.specs.declared.event.SubmitRefused.{SubmitRefused}
-use Rattle.bsi_load.specs.declared.event.SubmitRefused.TheVariants as submit
-use Rattle.bsi_load.specs.Runs.{shown_after}
+use Rattle.bsi_schema.specs.Columns.{Declared, fits}
+use Rattle.bsi_rows.specs.Table.{Table, no_rows, with_row}
+use Rattle.bsi_rows.specs.Sizes.{capacities_refusal, is_out_of_range, new_feeder, sizes_refusal}
+use Rattle.bsi_rows.specs.Refusals.{index_refusal}
+use Rattle.bsi_rows.specs.declared.sizes.MakeError.TheVariants.{NoFeeders, TooManyFeeders, CapacityOutOfRange, Index}
+use Rattle.bsi_rows.specs.declared.event.Event.TheVariants.{Load}
+use Rattle.bsi_rows.specs.declared.event.LoadRefused.{LoadRefused}
+use Rattle.bsi_rows.specs.declared.event.LoadRefused.TheVariants as load
+use Rattle.bsi_rows.specs.declared.event.Reply.TheVariants.{Loaded}
+use Rattle.bsi_rows.specs.declared.event.SubmitRefused.{SubmitRefused}
+use Rattle.bsi_rows.specs.declared.event.SubmitRefused.TheVariants as submit
+use Rattle.bsi_rows.specs.Runs.{shown_after}
 use Rattle.bsi_load.proofs.Changes.{load_refused}
-use Rattle.bsi_load.specs.Shown.{Shown, Waiting, feeder_at, is_unknown, load_refusal, IsLoadReply, IsMachine}
+use Rattle.bsi_rows.specs.Shown.{Shown, Waiting, feeder_at, is_unknown, load_refusal, IsLoadReply, IsMachine}
 
 module _ (index : Table) (feeders : List Waiting) (is : IsMachine index feeders) (g : ℕ) (there : g < length feeders) where
   pub old_fitting : (d : Waiting) → All (λ row. IsTrue (fits index.schema.columns row)) (get_or feeders g d).rows

@@ -1,3 +1,3 @@
-pub mod Runs
-pub mod Shown
-pub mod Sizes
+pub use Rattle.bsi_rows.specs.Runs
+pub use Rattle.bsi_rows.specs.Shown
+pub use Rattle.bsi_rows.specs.Sizes

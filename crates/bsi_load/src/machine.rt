@@ -1,19 +1,20 @@
 //! The machine: a bounded queue for each feeder, over an index.
 
 ghost use Rattle.std.specs.Prelude.{◌≡◌, ℕ, ◌≤◌, [], ◌∷◌, None, length, map, IfErr, IfOk, OnOk, if◌then◌else◌};
-ghost use Rattle.bsi_table.specs.Answers.{IsReply};
-ghost use Rattle.bsi_table.specs.Refusals.{IsFirstOr};
-ghost use Rattle.bsi_table.specs.Table.{max_feeders};
-ghost use Rattle.bsi_load.specs.declared.event.Event.TheVariants as event;
-ghost use Rattle.bsi_load.specs.declared.event.Reply.TheVariants as reply;
-ghost use Rattle.bsi_load.specs.Runs.{shown_after, past_of, past_at, AreLawful, IsConserved, StaysClosed};
-ghost use Rattle.bsi_load.specs.Shown.{submit_reply, close_reply, feeder_at, is_unknown, IsLoadReply, IsLawful};
-ghost use Rattle.bsi_load.specs.Sizes.{new_feeder, new_machine, sizes_refusal};
+ghost use Rattle.bsi_rows.specs.Answers.{IsReply};
+ghost use Rattle.bsi_rows.specs.Refusals.{IsFirstOr};
+ghost use Rattle.bsi_rows.specs.Table.{max_feeders};
+ghost use Rattle.bsi_rows.specs.declared.event.Event.TheVariants as event;
+ghost use Rattle.bsi_rows.specs.declared.event.Reply.TheVariants as reply;
+ghost use Rattle.bsi_rows.specs.Runs.{shown_after, past_of, past_at, AreLawful, IsConserved, StaysClosed};
+ghost use Rattle.bsi_rows.specs.Shown.{submit_reply, close_reply, feeder_at, is_unknown, IsLoadReply, IsLawful};
+ghost use Rattle.bsi_rows.specs.Sizes.{new_feeder, new_machine, sizes_refusal};
 
-use crate::NoMemory;
-use crate::event::{CloseRefused, Event, LoadRefused, Reply, RunRefused, SubmitRefused};
 use crate::queue::Queue;
-use crate::sizes::{MakeError, check_sizes};
+use crate::{
+    CloseRefused, Event, LoadRefused, MakeError, NoMemory, Reply, RunRefused, SubmitRefused,
+    check_sizes,
+};
 use bsi_table::{Answer, AskError, Index, Query, Row, Schema};
 use circular_buffer::HeapCircularBuffer;
 use std::alloc::Global;
@@ -28,7 +29,7 @@ pub struct Core {
 
 // Clauses see the index, and of each feeder the rows that wait, whether it was closed, and its capacity.
 impl Model for Core {
-    ghost use Rattle.bsi_load.specs.Shown.{Shown, IsMachine};
+    ghost use Rattle.bsi_rows.specs.Shown.{Shown, IsMachine};
 
     ghost Value = { Shown };
 

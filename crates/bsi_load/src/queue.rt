@@ -2,7 +2,7 @@
 
 ghost use Rattle.std.specs.Prelude.{◌≡◌, if◌then◌else◌};
 
-use crate::event::LoadRefused;
+use crate::LoadRefused;
 use bsi_table::Row;
 use circular_buffer::HeapCircularBuffer;
 use std::marker::Model;
@@ -16,7 +16,7 @@ pub(crate) struct Queue {
 
 impl Model for Queue {
     ghost use Rattle.std.specs.Prelude.{◌≤◌, length};
-    ghost use Rattle.bsi_load.specs.Shown.{Waiting};
+    ghost use Rattle.bsi_rows.specs.Shown.{Waiting};
 
     ghost Value = { Waiting };
 

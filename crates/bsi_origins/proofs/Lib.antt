@@ -1,4 +1,2 @@
-mod ByFeeder
 pub mod Numbers
-pub mod Rising
 pub mod Tallying

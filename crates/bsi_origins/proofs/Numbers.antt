@@ -9,8 +9,8 @@ use Rattle.std.proofs.lemmas.List.Elements.{All-filter, All-from_get_or, All-get
 use Rattle.std.proofs.lemmas.List.FromFn.{get_or-range_with_len, length-range_with_len}
 use Rattle.std.proofs.lemmas.List.Sums.{count_by-le-length, count_by_more_yes, count_by_more_no}
 use Rattle.bsi_bits.specs.BitList.{set_places}
-use Rattle.bsi_origins.specs.Numbering.{numbered_at, number_within}
-use Rattle.bsi_origins.specs.Origins.{count_before, AreCountsBefore}
+use Rattle.bsi_rows.specs.Numbering.{numbered_at, number_within, count_before}
+use Rattle.bsi_origins.specs.Origins.{AreCountsBefore}
 
 -- a row of a run behind other rows
 run_row : (rows : List ℕ) (feeder n k : ℕ) → k < n → get_or (rows ++ replicate n feeder) (length rows + k) 0 ≡ feeder

@@ -5,7 +5,8 @@ use Rattle.std.proofs.Math.Nat.{eq-or-lt_of_le, mul-le-mul_left, mul-suc}
 use Rattle.std.proofs.lemmas.List.{get_or_append_left, get_or-append_right, get_or-take, length-append, length-replicate, length-take, length-take-le}
 use Rattle.std.proofs.lemmas.Bool.{cases_eq}
 use Rattle.std.proofs.lemmas.List.Elements.{All-append, All-from_get_or}
-use Rattle.bsi_origins.specs.Origins.{count_before, tally_count, tally_len, AreCountsBefore, AreTallies, HasRoomFor, IsTallied}
+use Rattle.bsi_rows.specs.Numbering.{count_before}
+use Rattle.bsi_origins.specs.Origins.{tally_count, tally_len, AreCountsBefore, AreTallies, HasRoomFor, IsTallied}
 use Rattle.bsi_origins.proofs.Numbers.{count_before-append, count_before-le, count_before-others, count_before-run, counted_none}
 
 -- a tally has at most one count a feeder

@@ -1,3 +1,1 @@
-pub mod ByFeeder
-pub mod Numbering
 pub mod Origins

@@ -1,10 +1,8 @@
 -- The feeder of each row, and tallies: counts by feeder before every 512th row.
 use Rattle.std.specs.Prelude.{◌≡◌, ℕ, ◌+◌, ◌-◌, ◌*◌, ◌/◌, ◌<◌, ◌≤◌, List, All, length, take, count_by, nat_eq, nat_le, slice_index, if◌then◌else◌}
 use Rattle.bsi_bits.specs.BitList.{max_len}
-
--- at most so many feeders have rows in one index
-abbrev pub max_feeders : ℕ
-max_feeders = 64
+use Rattle.bsi_rows.specs.Numbering.{count_before}
+use Rattle.bsi_rows.specs.Table.{max_feeders}
 
 -- what a contract sees of an 'Origins': the feeder of each row, how many feeders there are, and how many more rows can
 -- be appended with no memory
@@ -12,10 +10,6 @@ pub record OriginList : Type 0 where
   pub rows : List ℕ
   pub feeders : ℕ
   pub room : ℕ
-
--- how many of the first r rows came from a feeder
-abbrev pub count_before : List ℕ → ℕ → ℕ → ℕ
-count_before row_feeders r feeder = count_by (λ row_feeder. nat_eq row_feeder feeder) (take r row_feeders)
 
 -- these are the counts of the first r rows, by feeder
 abbrev pub AreCountsBefore : ℕ → List ℕ → ℕ → List ℕ → Type 0

@@ -6,11 +6,11 @@
 
 ghost use Rattle.std.specs.Prelude.{◌≡◌, ◌<◌, ◌≤◌, IfOk, length};
 ghost use Rattle.bsi_bits.specs.BitList.{set_places};
-ghost use Rattle.bsi_origins.specs.Numbering.{numbered_at};
+ghost use Rattle.bsi_rows.specs.Numbering.{numbered_at};
 ghost use Rattle.bsi_origins.specs.Origins.{AreCountsBefore};
 
 use crate::origins::{Counts, STRETCH_ROWS};
-use crate::{MAX_FEEDERS, NoMemory, Origins};
+use crate::{NoMemory, Origins};
 use bsi_bits::Bits;
 use std::alloc::Global;
 

@@ -7,15 +7,14 @@
 
 ghost use Rattle.std.specs.Prelude.{◌≡◌, ◌≢◌, ◌↔◌, ◌+◌, ◌-◌, ◌*◌, ◌%◌, ◌<◌, ◌≤◌, ◌^◌, ◌++◌, ◌∷◌, [], All, IfOk, IsOk, IsTrue, OnErr, OnOk, length, min, replicate, slice_index, take, vec_len, vec_capacity};
 ghost use Rattle.bsi_bits.specs.BitList.{max_len};
-ghost use Rattle.bsi_origins.specs.Origins.{max_feeders, stretch_rows, tally_len, AreCountsBefore};
+ghost use Rattle.bsi_rows.specs.Table.{max_feeders};
+ghost use Rattle.bsi_origins.specs.Origins.{stretch_rows, tally_len, AreCountsBefore};
 
 use crate::NoMemory;
 use bsi_bits::room_to_make;
+use bsi_rows::MAX_FEEDERS;
 use std::alloc::Global;
 use std::marker::Model;
-
-/// The most feeders of an index.
-pub const MAX_FEEDERS: u32 = 64;
 
 /// The number of rows from one tally to the next.
 pub(crate) const STRETCH_ROWS: u64 = 512;

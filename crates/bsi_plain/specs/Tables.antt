@@ -4,8 +4,8 @@ use Rattle.std.specs.Ordering.{int_eq}
 use Rattle.bsi_schema.specs.declared.form.Form.{Form as StoredForm}
 use Rattle.bsi_schema.specs.declared.form.Form.TheVariants.{Slices as stored_slices, Equality as stored_equality, Range as stored_range}
 use Rattle.bsi_schema.specs.Columns.{named_column, NamedColumn}
-use Rattle.bsi_table.specs.declared.query.Pred.{Pred}
-use Rattle.bsi_table.specs.Rows.{holds, Entries}
+use Rattle.bsi_rows.specs.declared.query.Pred.{Pred}
+use Rattle.bsi_rows.specs.Rows.{holds, Entries}
 use Rattle.bsi_plain.specs.declared.tables.DeclaredColumn.{DeclaredColumn}
 use Rattle.bsi_plain.specs.declared.columns.TestForm.{TestForm}
 use Rattle.bsi_plain.specs.declared.columns.TestForm.TheVariants.{Slices, Equality, Range}

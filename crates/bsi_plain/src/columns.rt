@@ -3,7 +3,7 @@
 ghost use Rattle.std.specs.Prelude.{◌≡◌, ◌↔◌, ◌<◌, ◌++◌, ◌∷◌, [], reverse, length, map, IsTrue, All, IfOk, OnOk, OnErr, IsOkUnless, ◌+◌, ◌≤◌};
 ghost use Rattle.bsi_bits.specs.BitList.{max_len};
 ghost use Rattle.bsi_columns.specs.AnyRows.{any_entries, any_form};
-ghost use Rattle.bsi_columns.specs.Rows.{number_or_zero, selects};
+ghost use Rattle.bsi_orders.specs.Rows.{number_or_zero, selects};
 ghost use Rattle.bsi_plain.specs.Columns.{column_form, AreBases, IsWidth, IsWide};
 
 use crate::NoMemory;

@@ -19,9 +19,9 @@ use Rattle.bsi_schema.specs.declared.form.ColumnSpec.TheVariants.{Slices, Equali
 use Rattle.bsi_schema.specs.declared.form.Form.{Form}
 use Rattle.bsi_schema.specs.declared.schema_error.SchemaError.{SchemaError}
 use Rattle.bsi_schema.specs.declared.schema_error.SchemaError.TheVariants.{BadName, BadBases, BadOffset, NoMemory}
-use Rattle.bsi_table.specs.Columns.{Declared, form_of, named_column, size_in, with_column}
-use Rattle.bsi_table.specs.Names.{begins_lower, is_name, is_name_byte, is_word}
-use Rattle.bsi_table.specs.Refusals.{column_refusal, form_refusal, name_refusal, signed_refusal, IsFirstOr}
+use Rattle.bsi_schema.specs.Columns.{Declared, form_of, named_column, size_in, with_column}
+use Rattle.bsi_schema.specs.Names.{begins_lower, is_name, is_name_byte, is_word}
+use Rattle.bsi_rows.specs.Refusals.{column_refusal, form_refusal, name_refusal, signed_refusal, IsFirstOr}
 use Rattle.bsi_records.specs.Numbers.{Field}
 use Rattle.bsi_records.specs.Setups.{added_after, one_more, IsChange}
 

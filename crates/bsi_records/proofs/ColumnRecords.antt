@@ -3,7 +3,7 @@ use Rattle.std.proofs.Common.{◌≡◌, ◌^◌, ◌<◌, ◌≤◌, true, fals
 use Rattle.std.specs.Prelude.{int_le, IsUtf8}
 use Rattle.bsi_schema.specs.declared.form.ColumnSpec.{ColumnSpec}
 use Rattle.bsi_schema.specs.declared.form.Form.{Form}
-use Rattle.bsi_table.specs.Columns.{Declared, named_column, size_in, with_column}
+use Rattle.bsi_schema.specs.Columns.{Declared, named_column, size_in, with_column}
 use Rattle.bsi_records.specs.Numbers.{Field, offset_of}
 use Rattle.bsi_records.specs.Setups.{added_after, column_after, form_had, form_in, given_offset, one_more}
 use Rattle.bsi_records.proofs.Adding.{no_text}

@@ -1,6 +1,6 @@
 -- The words of the other events begin no query.
 use Rattle.std.proofs.Common.{◌≡◌, List, [], ◌∷◌, None, refl, codes}
-use Rattle.bsi_table.specs.Columns.{Declared}
+use Rattle.bsi_schema.specs.Columns.{Declared}
 use Rattle.bsi_records.specs.Events.{total_of}
 use Rattle.bsi_records.specs.Numbers.{Field}
 

@@ -2,10 +2,10 @@
 use Rattle.std.proofs.Common.{◌≡◌, ◌≢◌, ℕ, Bool, true, false, List, [], ◌∷◌, length, drop, Option, Some, None, MatchOption, option_map, option_and_then, IsSomeAnd, if◌then◌else◌, ℤ, codes, refl, sym, ◌∙◌, ap, subst}
 use Rattle.std.specs.Str.{bytes_eq}
 use Rattle.csv.specs.Records.{field_at}
-use Rattle.bsi_load.specs.declared.event.Event.{Event}
-use Rattle.bsi_load.specs.declared.event.Event.TheVariants.{Submit, Load, Close, Ask}
-use Rattle.bsi_table.specs.Columns.{Declared}
-use Rattle.bsi_table.specs.declared.query.Query.{Query}
+use Rattle.bsi_rows.specs.declared.event.Event.{Event}
+use Rattle.bsi_rows.specs.declared.event.Event.TheVariants.{Submit, Load, Close, Ask}
+use Rattle.bsi_schema.specs.Columns.{Declared}
+use Rattle.bsi_rows.specs.declared.query.Query.{Query}
 use Rattle.bsi_records.specs.Events.{IsEvent, IsQuery, feeder_event, only_feeder, plain_event, total_of}
 use Rattle.bsi_records.specs.Predicates.{IsPredicate}
 use Rattle.bsi_records.specs.Numbers.{Field, feeder_of, values_in}

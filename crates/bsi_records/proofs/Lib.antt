@@ -4,7 +4,6 @@ mod Digits
 pub mod EventWords
 mod Events
 mod Fields
-mod Machines
 mod Parts
 mod RowTexts
 mod SpellReading

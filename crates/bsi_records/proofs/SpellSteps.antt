@@ -1,8 +1,8 @@
 -- Fields that are read one after another.
 use Rattle.std.proofs.Common.{◌≡◌, ℕ, zero, suc, ◌+◌, ◌≤◌, List, [], ◌∷◌, length, drop, Option, Some, None, option_and_then, ap, sym, ◌∙◌, arith}
 use Rattle.csv.specs.Records.{field_at}
-use Rattle.bsi_table.specs.Columns.{Declared}
-use Rattle.bsi_table.specs.declared.query.Pred.{Pred}
+use Rattle.bsi_schema.specs.Columns.{Declared}
+use Rattle.bsi_rows.specs.declared.query.Pred.{Pred}
 use Rattle.bsi_records.specs.declared.predicates.Pending.{Pending}
 use Rattle.bsi_records.specs.Numbers.{Field}
 use Rattle.bsi_records.specs.Postfix.{after_field, after_fields, State}

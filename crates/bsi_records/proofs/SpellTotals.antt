@@ -3,9 +3,9 @@ use Rattle.std.proofs.Common.{◌≡◌, ℕ, true, false, List, [], ◌∷◌, 
 use Rattle.std.specs.Option.{option_and_then}
 use Rattle.std.specs.Str.{bytes_eq}
 use Rattle.csv.specs.Records.{field_at}
-use Rattle.bsi_table.specs.Columns.{Declared, position_of}
-use Rattle.bsi_table.specs.declared.query.Total.{Total}
-use Rattle.bsi_table.specs.declared.query.Total.TheVariants.{Count, Rows}
+use Rattle.bsi_schema.specs.Columns.{Declared, position_of}
+use Rattle.bsi_rows.specs.declared.query.Total.{Total}
+use Rattle.bsi_rows.specs.declared.query.Total.TheVariants.{Count, Rows}
 use Rattle.bsi_records.specs.Events.{column_total, total_of, total_of_column}
 use Rattle.bsi_records.specs.Numbers.{Field}
 use Rattle.bsi_records.proofs.SpellWords.{none_is_some, some_same}

@@ -5,11 +5,11 @@ use Rattle.std.specs.List.{list_all}
 use Rattle.std.proofs.lemmas.Slice.Eq.{bytes_eq-Decides}
 use Rattle.std.proofs.lemmas.List.Quantifiers.{position-Some}
 use Rattle.std.proofs.lemmas.List.Elements.{All-get_or}
-use Rattle.bsi_slices.specs.declared.column.Op.{Op}
-use Rattle.bsi_slices.specs.declared.column.Op.TheVariants.{Eq, Ne, Lt, Le, Gt, Ge}
-use Rattle.bsi_table.specs.Columns.{AreNamed, Declared, NamedColumn, no_column, position_of}
-use Rattle.bsi_table.specs.Names.{begins_lower, is_name, is_name_byte, is_word}
-use Rattle.bsi_table.specs.declared.query.Pred.{Pred}
+use Rattle.bsi_orders.specs.declared.op.Op.{Op}
+use Rattle.bsi_orders.specs.declared.op.Op.TheVariants.{Eq, Ne, Lt, Le, Gt, Ge}
+use Rattle.bsi_schema.specs.Columns.{AreNamed, Declared, NamedColumn, no_column, position_of}
+use Rattle.bsi_schema.specs.Names.{begins_lower, is_name, is_name_byte, is_word}
+use Rattle.bsi_rows.specs.declared.query.Pred.{Pred}
 use Rattle.bsi_records.specs.declared.predicates.Pending.TheVariants.{Column, Comparison}
 use Rattle.bsi_records.specs.Numbers.{Field}
 use Rattle.bsi_records.specs.Postfix.{after_name, after_word, op_of}

@@ -7,13 +7,13 @@ use Rattle.std.proofs.lemmas.Bool.Decides.{nat_tests}
 use Rattle.std.proofs.lemmas.List.Folds.{find-append}
 use Rattle.std.proofs.lemmas.List.Quantifiers.{position-Some}
 use Rattle.std.proofs.lemmas.Option.{option_and_then_some}
-use Rattle.bsi_table.specs.Answers.{columns_of_pred, columns_of_total, missing_column, missing_of}
-use Rattle.bsi_table.specs.Columns.{AreNamed, Declared, NamedColumn, no_column, position_of}
-use Rattle.bsi_table.specs.Rows.{Entries, holds}
-use Rattle.bsi_table.specs.declared.query.Pred.{Pred, All, Compare, Null, Both', Either', Not'}
-use Rattle.bsi_table.specs.declared.query.Query.{Query}
-use Rattle.bsi_table.specs.declared.query.Total.{Total}
-use Rattle.bsi_table.specs.declared.query.Total.TheVariants.{Count, Sum, Least, Greatest, Median, Rows}
+use Rattle.bsi_rows.specs.Answers.{columns_of_pred, columns_of_total, missing_column, missing_of}
+use Rattle.bsi_schema.specs.Columns.{AreNamed, Declared, NamedColumn, no_column, position_of}
+use Rattle.bsi_rows.specs.Rows.{Entries, holds}
+use Rattle.bsi_rows.specs.declared.query.Pred.{Pred, All, Compare, Null, Both', Either', Not'}
+use Rattle.bsi_rows.specs.declared.query.Query.{Query}
+use Rattle.bsi_rows.specs.declared.query.Total.{Total}
+use Rattle.bsi_rows.specs.declared.query.Total.TheVariants.{Count, Sum, Least, Greatest, Median, Rows}
 use Rattle.bsi_records.specs.declared.predicates.Pending.{Pending}
 use Rattle.bsi_records.specs.declared.predicates.Pending.TheVariants.{Nothing, Column, Comparison}
 use Rattle.bsi_records.specs.Events.{column_total, total_of, total_of_column, IsQuery}

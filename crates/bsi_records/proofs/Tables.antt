@@ -6,7 +6,7 @@ use Rattle.std.proofs.lemmas.Bool.Decides.{nat_tests}
 use Rattle.std.proofs.lemmas.List.{length-append}
 use Rattle.std.proofs.lemmas.List.Elements.{All-push}
 use Rattle.csv.specs.Records.{field_at}
-use Rattle.bsi_table.specs.Columns.{Declared}
+use Rattle.bsi_schema.specs.Columns.{Declared}
 use Rattle.bsi_records.specs.Numbers.{Field, number_between, spelled_number}
 use Rattle.bsi_records.specs.declared.setups.DeclaredTable.{DeclaredTable}
 use Rattle.bsi_records.specs.Setups.{Setup, capacities_after, column_after, declared_after, limit_of, only_number, table_after, IsChange, IsSetup}

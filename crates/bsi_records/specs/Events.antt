@@ -1,12 +1,12 @@
 -- The events that records ask for, by the lists of their fields.
 use Rattle.std.specs.Prelude.{◌≡◌, ℕ, if◌then◌else◌, List, [], ◌∷◌, Option, Some, None, option_map, option_and_then, MatchOption, codes}
 use Rattle.std.specs.Str.{bytes_eq}
-use Rattle.bsi_load.specs.declared.event.Event.{Event}
-use Rattle.bsi_load.specs.declared.event.Event.TheVariants.{Submit, Load, Close, Ask}
-use Rattle.bsi_table.specs.Columns.{Declared, position_of}
-use Rattle.bsi_table.specs.declared.query.Query.{Query}
-use Rattle.bsi_table.specs.declared.query.Total.{Total}
-use Rattle.bsi_table.specs.declared.query.Total.TheVariants.{Count, Sum, Least, Greatest, Median, Rows}
+use Rattle.bsi_rows.specs.declared.event.Event.{Event}
+use Rattle.bsi_rows.specs.declared.event.Event.TheVariants.{Submit, Load, Close, Ask}
+use Rattle.bsi_schema.specs.Columns.{Declared, position_of}
+use Rattle.bsi_rows.specs.declared.query.Query.{Query}
+use Rattle.bsi_rows.specs.declared.query.Total.{Total}
+use Rattle.bsi_rows.specs.declared.query.Total.TheVariants.{Count, Sum, Least, Greatest, Median, Rows}
 use Rattle.bsi_records.specs.Numbers.{Field, feeder_of, values_in}
 use Rattle.bsi_records.specs.Predicates.{IsPredicate}
 

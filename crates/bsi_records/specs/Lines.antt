@@ -2,19 +2,19 @@
 use Rattle.std.specs.Prelude.{◌≡◌, ℕ, List, [], ◌∷◌, ◌++◌, Some, None, Result, Ok, Err, OnOk, codes, decimal}
 use Rattle.std.specs.Fmt.{signed_decimal}
 use Rattle.std.specs.Io.{StartsWith}
-use Rattle.bsi_load.specs.declared.event.Reply.{Reply}
-use Rattle.bsi_load.specs.declared.event.Reply.TheVariants.{Submitted, Loaded, Closed, Answered}
-use Rattle.bsi_load.specs.declared.event.SubmitRefused.{SubmitRefused}
-use Rattle.bsi_load.specs.declared.event.SubmitRefused.TheVariants as submit
-use Rattle.bsi_load.specs.declared.event.LoadRefused.{LoadRefused}
-use Rattle.bsi_load.specs.declared.event.LoadRefused.TheVariants as load
-use Rattle.bsi_load.specs.declared.event.CloseRefused.{CloseRefused}
-use Rattle.bsi_load.specs.declared.event.CloseRefused.TheVariants as close
-use Rattle.bsi_table.specs.declared.errors.AskError.{AskError}
-use Rattle.bsi_table.specs.declared.errors.AskError.TheVariants as ask
-use Rattle.bsi_table.specs.declared.query.Answer.{Answer}
-use Rattle.bsi_table.specs.declared.query.Answer.TheVariants.{Count, Sum, Value, Rows}
-use Rattle.bsi_table.specs.Numbering.{place_feeder, place_number, Place}
+use Rattle.bsi_rows.specs.declared.event.Reply.{Reply}
+use Rattle.bsi_rows.specs.declared.event.Reply.TheVariants.{Submitted, Loaded, Closed, Answered}
+use Rattle.bsi_rows.specs.declared.event.SubmitRefused.{SubmitRefused}
+use Rattle.bsi_rows.specs.declared.event.SubmitRefused.TheVariants as submit
+use Rattle.bsi_rows.specs.declared.event.LoadRefused.{LoadRefused}
+use Rattle.bsi_rows.specs.declared.event.LoadRefused.TheVariants as load
+use Rattle.bsi_rows.specs.declared.event.CloseRefused.{CloseRefused}
+use Rattle.bsi_rows.specs.declared.event.CloseRefused.TheVariants as close
+use Rattle.bsi_rows.specs.declared.errors.AskError.{AskError}
+use Rattle.bsi_rows.specs.declared.errors.AskError.TheVariants as ask
+use Rattle.bsi_rows.specs.declared.query.Answer.{Answer}
+use Rattle.bsi_rows.specs.declared.query.Answer.TheVariants.{Count, Sum, Value, Rows}
+use Rattle.bsi_rows.specs.Numbering.{place_feeder, place_number, Place}
 
 abbrev pub bad_line : List ℕ
 bad_line = codes "bad\n"

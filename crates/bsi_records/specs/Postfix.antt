@@ -3,10 +3,10 @@ use Rattle.std.specs.Prelude.{ℕ, Bool, true, false, if◌then◌else◌, List,
 use Rattle.std.specs.Ptr.{null_ptr}
 use Rattle.std.specs.Str.{bytes_eq}
 use Rattle.std.specs.declared.alloc.Global.{Global}
-use Rattle.bsi_slices.specs.declared.column.Op.{Op}
-use Rattle.bsi_slices.specs.declared.column.Op.TheVariants.{Eq, Ne, Lt, Le, Gt, Ge}
-use Rattle.bsi_table.specs.Columns.{Declared, position_of}
-use Rattle.bsi_table.specs.declared.query.Pred.{Pred, All, Compare, Null, Both', Either', Not'}
+use Rattle.bsi_orders.specs.declared.op.Op.{Op}
+use Rattle.bsi_orders.specs.declared.op.Op.TheVariants.{Eq, Ne, Lt, Le, Gt, Ge}
+use Rattle.bsi_schema.specs.Columns.{Declared, position_of}
+use Rattle.bsi_rows.specs.declared.query.Pred.{Pred, All, Compare, Null, Both', Either', Not'}
 use Rattle.bsi_records.specs.declared.predicates.Pending.{Pending}
 use Rattle.bsi_records.specs.declared.predicates.Pending.TheVariants.{Nothing, Column, Comparison}
 use Rattle.bsi_records.specs.Numbers.{Field, number_in}

@@ -1,9 +1,9 @@
 -- Which fields spell a predicate, in postfix order.
 use Rattle.std.specs.Prelude.{◌≡◌, ℕ, ◌≤◌, List, [], ◌∷◌, ◌++◌, length, Some, codes}
-use Rattle.bsi_slices.specs.declared.column.Op.{Op}
-use Rattle.bsi_slices.specs.declared.column.Op.TheVariants.{Eq, Ne, Lt, Le, Gt, Ge}
-use Rattle.bsi_table.specs.Columns.{Declared, position_of}
-use Rattle.bsi_table.specs.declared.query.Pred.{Pred, All, Compare, Null, Both', Either', Not'}
+use Rattle.bsi_orders.specs.declared.op.Op.{Op}
+use Rattle.bsi_orders.specs.declared.op.Op.TheVariants.{Eq, Ne, Lt, Le, Gt, Ge}
+use Rattle.bsi_schema.specs.Columns.{Declared, position_of}
+use Rattle.bsi_rows.specs.declared.query.Pred.{Pred, All, Compare, Null, Both', Either', Not'}
 use Rattle.bsi_records.specs.Numbers.{Field, number_in}
 
 -- the sign of a comparison

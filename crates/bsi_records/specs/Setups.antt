@@ -4,14 +4,14 @@ use Rattle.std.specs.Option.{is_none}
 use Rattle.std.specs.Str.{bytes_eq}
 use Rattle.bsi_digits.specs.Digits.{max_end}
 use Rattle.bsi_digits.specs.Refusal.{refusal}
-use Rattle.bsi_load.specs.Shown.{max_waiting, Shown}
-use Rattle.bsi_load.specs.Sizes.{new_machine}
+use Rattle.bsi_rows.specs.Shown.{max_waiting, Shown}
+use Rattle.bsi_rows.specs.Sizes.{new_machine}
 use Rattle.bsi_schema.specs.declared.form.ColumnSpec.{ColumnSpec}
 use Rattle.bsi_schema.specs.declared.form.Form.{Form}
 use Rattle.bsi_schema.specs.declared.form.Form.TheVariants.{Slices, Equality, Range}
-use Rattle.bsi_table.specs.Columns.{max_slices, Declared, form_of, named_column, no_columns, size_in, with_column}
-use Rattle.bsi_table.specs.Refusals.{form_refusal, name_refusal}
-use Rattle.bsi_table.specs.Table.{max_feeders, max_rows}
+use Rattle.bsi_schema.specs.Columns.{max_slices, Declared, form_of, named_column, no_columns, size_in, with_column}
+use Rattle.bsi_rows.specs.Refusals.{form_refusal, name_refusal}
+use Rattle.bsi_rows.specs.Table.{max_feeders, max_rows}
 use Rattle.bsi_records.specs.Numbers.{Field, bases_of, number_between, offset_of}
 use Rattle.bsi_records.specs.declared.setups.DeclaredTable.{DeclaredTable}
 

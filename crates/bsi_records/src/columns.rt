@@ -7,14 +7,14 @@
 ghost use Rattle.std.specs.Prelude.{◌≡◌, ◌≢◌, drop, false, true, option_map, option_and_then, IfOk, IsErr, MatchResult, OnErr};
 ghost use Rattle.csv.specs.Records.{fields_of};
 ghost use Rattle.bsi_schema.specs.declared.form.Form.TheVariants.{Slices};
-ghost use Rattle.bsi_table.specs.Columns.{max_slices};
+ghost use Rattle.bsi_schema.specs.Columns.{max_slices};
 ghost use Rattle.bsi_records.specs.Numbers.{number_between};
 ghost use Rattle.bsi_records.specs.Setups.{added_after, column_after, form_had, form_in, given_offset, IsChange};
 
 use crate::NoMemory;
 use crate::numbers::{read_bases, read_offset, read_within};
 use crate::records::field;
-use bsi_table::{ColumnSpec, MAX_SLICES, Schema, SchemaError};
+use bsi_rows::{ColumnSpec, MAX_SLICES, Schema, SchemaError};
 use csv::ByteRecord;
 use std::alloc::Global;
 

@@ -4,8 +4,7 @@ ghost use Rattle.std.specs.Prelude.{◌≡◌, ◌++◌, OnErr, OnOk, codes, dec
 ghost use Rattle.bsi_records.specs.Lines.{answer_line, bad_line, close_line, fed_line, load_line, reply_line, rows_text, submit_line, IsAppended};
 
 use crate::NoMemory;
-use bsi_load::{CloseRefused, LoadRefused, Reply, SubmitRefused};
-use bsi_table::{Answer, AskError};
+use bsi_rows::{Answer, AskError, CloseRefused, LoadRefused, Reply, SubmitRefused};
 use itoa::{Buffer, Integer};
 
 /// Appends the line of a reply, with its line feed, as a whole or not at all. It allocates memory only for the line.

@@ -13,9 +13,8 @@ ghost use Rattle.bsi_records.specs.Reading.{IsReadAs};
 use crate::NoMemory;
 use crate::numbers::read_in;
 use crate::records::field;
+use bsi_rows::{Op, Pred, Schema};
 use bsi_schema::MAX_COLUMNS;
-use bsi_slices::Op;
-use bsi_table::{Pred, Schema};
 use csv::ByteRecord;
 use std::alloc::Global;
 

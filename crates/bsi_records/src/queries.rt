@@ -7,7 +7,7 @@ ghost use Rattle.bsi_records.specs.Reading.{IsReadAs};
 
 use crate::NoMemory;
 use crate::predicates::read_predicate;
-use bsi_table::{Query, Schema, Total};
+use bsi_rows::{Query, Schema, Total};
 use csv::ByteRecord;
 use std::alloc::Global;
 

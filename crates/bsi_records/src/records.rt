@@ -9,8 +9,7 @@ ghost use Rattle.bsi_records.specs.Reading.{IsReadAs};
 use crate::NoMemory;
 use crate::numbers::{read_feeder, read_value};
 use crate::queries::read_query;
-use bsi_load::Event;
-use bsi_table::{Row, Schema};
+use bsi_rows::{Event, Row, Schema};
 use csv::ByteRecord;
 use std::alloc::Global;
 

@@ -1,20 +1,17 @@
 //! Records before `begin`: columns, feeders and the limit.
 
-ghost use Rattle.std.specs.Prelude.{◌≡◌, ◌≤◌, [], None, Some, drop, if◌then◌else◌, IfNone, IfOk, IfSome, OnErr};
+ghost use Rattle.std.specs.Prelude.{◌≡◌, ◌≤◌, drop, IfOk, IfSome, OnErr};
 ghost use Rattle.csv.specs.Records.{fields_of};
-ghost use Rattle.bsi_table.specs.Columns.{no_columns};
-ghost use Rattle.bsi_records.specs.Setups.{can_begin, capacities_after, declared_after, declared_table, is_begin, limit_of, machine_of, nothing_declared, only_number, table_after, undeclared_table, IsChange};
+ghost use Rattle.bsi_records.specs.Setups.{can_begin, capacities_after, declared_after, declared_table, is_begin, limit_of, nothing_declared, only_number, table_after, undeclared_table, IsChange, IsSetup};
 
 use crate::NoMemory;
 use crate::columns::declare_column;
 use crate::numbers::read_within;
 use crate::records::field;
-use bsi_load::{Core, MAX_WAITING, MakeError};
-use bsi_table::{MAX_FEEDERS, MAX_ROWS, Schema};
+use bsi_rows::{MAX_FEEDERS, MAX_ROWS, MAX_WAITING, Schema};
 use csv::ByteRecord;
 use std::alloc::Global;
 use std::marker::Model;
-use std::mem;
 
 /// The columns and the limit of an index, as records declare them.
 #[derive(Drop)]
@@ -138,34 +135,21 @@ impl Setup {
         read_setup(alloc, &mut self.table.schema, &mut self.table.limit, fields)
     }
 
-    /// Makes the machine that was declared, and moves the columns and the feeders into it. It returns `None`, and
-    /// changes nothing, if there is no column or no feeder. If memory is refused, it drops the columns and the feeders.
-    pub fn begin(&mut self, alloc: Global) -> Result<Option<Core>, NoMemory>
-        ensures made { IfOk result (λ made. made
-            ≡ (if can_begin self.old then Some (machine_of self.old) else None)) }
-        ensures kept { IfOk result (λ made. IfNone made (self.new ≡ self.old)) }
-        ensures emptied { OnErr result (self.new
-            ≡ record {
-              table = record { schema = no_columns; limit = self.old.table.limit };
-              capacities = [];
-            }) }
+    /// Returns whether a script can begin: there are a column and a feeder.
+    pub fn can_begin(&self) -> bool
+        ensures { result ≡ can_begin self.now }
     {
-        if self.table.schema.columns() == 0 || self.capacities.is_empty() {
-            return Ok(None);
-        }
-        let schema = mem::replace(&mut self.table.schema, Schema::new(alloc));
-        let capacities = mem::replace(&mut self.capacities, Vec::new(alloc));
-        Core::new(alloc, schema, capacities, self.table.limit)
-            .map_err(only_memory)
-            .map(Some)
+        self.table.schema.columns() > 0 && !self.capacities.is_empty()
     }
-}
 
-/// Turns the refusal of a machine into refused memory. No other refusal is left once the sizes are in range.
-fn only_memory(_refused: MakeError) -> NoMemory
-    requires { _refused ≡ MakeError.NoMemory }
-{
-    NoMemory
+    /// Hands over the table, and the capacity of each feeder. It allocates no memory.
+    pub fn into_parts(self) -> (DeclaredTable, Vec<u32>)
+        ensures table { result.0 ≡ self.table }
+        ensures capacities { result.1.items ≡ self.capacities }
+        ensures sizes { IsSetup self.capacities self.table.limit }
+    {
+        (self.table, self.capacities)
+    }
 }
 
 /// Declares the feeder of a record `feeder,CAP`, if there are fewer than 64 feeders, and returns whether it did.

@@ -6,8 +6,8 @@ use Rattle.std.proofs.lemmas.List.{append-nil, drop-append-le, drop-drop, drop-t
 use Rattle.std.proofs.lemmas.List.Elements.{All-contains, All-get_or, Contains-append_right}
 use Rattle.std.proofs.lemmas.Option.{get_or_from_slice_get}
 use mathlib.Core.List.{IsPrefix}
-use Rattle.bsi_table.specs.Columns.{fits, Declared}
-use Rattle.bsi_table.specs.Rows.{Entries}
+use Rattle.bsi_schema.specs.Columns.{fits, Declared}
+use Rattle.bsi_rows.specs.Rows.{Entries}
 use Rattle.bsi_rings.specs.declared.parcel.Parcel.{Parcel}
 use Rattle.bsi_rings.specs.Rings.{all_rows, first_rows, intake, rows_of, with_more_taken, ChannelName, Intake, IsChannel, IsParcel, IsWhole, Ring}
 use Rattle.bsi_rings.proofs.Parcels.{all_rows-append, parcel_fits, some_rows}

@@ -2,7 +2,7 @@
 use Rattle.std.proofs.Common.{◌≡◌, ℕ, suc, ◌+◌, length, map, List, [], ◌∷◌, ◌++◌, refl, sym, ◌∙◌, ap, arith, length-append}
 use Rattle.std.proofs.lemmas.List.{length-map, map-append}
 use Rattle.std.proofs.lemmas.List.Elements.{All-push, All-nil}
-use Rattle.bsi_table.specs.Columns.{Declared}
+use Rattle.bsi_schema.specs.Columns.{Declared}
 use Rattle.bsi_rings.specs.Rings.{channels_of, new_feeders, new_intake, new_sending, AreOpened, Intake, ChannelName, Sending}
 
 pub channels_of-append : (is js : List Intake) → channels_of (is ++ js) ≡ channels_of is ++ channels_of js

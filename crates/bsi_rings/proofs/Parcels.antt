@@ -4,10 +4,10 @@ use Rattle.std.specs.Prelude.{IsTrue}
 use Rattle.std.proofs.lemmas.List.{append-nil, length-map, take-append-le}
 use Rattle.std.proofs.lemmas.List.Elements.{All-append, All-cons, All-head, All-map, All-nil, All-push, All-tail}
 use mathlib.Core.List.{IsPrefix}
-use Rattle.bsi_table.specs.Columns.{fits, Declared}
-use Rattle.bsi_table.specs.RowBlocks.{entries_of}
-use Rattle.bsi_table.specs.Rows.{FedRow}
-use Rattle.bsi_table.specs.Table.{AreFitting}
+use Rattle.bsi_schema.specs.Columns.{fits, Declared}
+use Rattle.bsi_rows.specs.RowBlocks.{entries_of}
+use Rattle.bsi_rows.specs.Rows.{FedRow}
+use Rattle.bsi_rows.specs.Table.{AreFitting}
 use Rattle.bsi_rings.specs.declared.parcel.Parcel.{Parcel}
 use Rattle.bsi_rings.specs.declared.parcel.Parcel.TheVariants as parcel
 use Rattle.bsi_rings.specs.Rings.{all_rows, first_rows, rows_of, with_sent_rows, AllFit, IsParcel, Ring, Sending}

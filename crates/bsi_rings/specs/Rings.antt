@@ -4,10 +4,10 @@ use Rattle.std.specs.declared.alloc.Global.{Global}
 use denote.RawPtr.{Ptr}
 use Rattle.rtrb.specs.Shared.{Names}
 use Rattle.rtrb.specs.declared.end.End.{End}
-use Rattle.bsi_table.specs.Columns.{fits, Declared}
-use Rattle.bsi_table.specs.RowBlocks.{entries_of, HaveSameLimits}
-use Rattle.bsi_table.specs.Rows.{Entries}
-use Rattle.bsi_table.specs.Table.{Table}
+use Rattle.bsi_schema.specs.Columns.{fits, Declared}
+use Rattle.bsi_rows.specs.RowBlocks.{entries_of, HaveSameLimits}
+use Rattle.bsi_rows.specs.Rows.{Entries}
+use Rattle.bsi_rows.specs.Table.{Table}
 use Rattle.bsi_rings.specs.declared.feeder.BatchRefused.{BatchRefused}
 use Rattle.bsi_rings.specs.declared.feeder.BatchRefused.TheVariants as batch
 use Rattle.bsi_rings.specs.declared.feeder.SubmitRefused.{SubmitRefused}

@@ -56,7 +56,7 @@ impl Model for Channel {
 }
 
 impl Channel {
-    ghost use Rattle.bsi_table.specs.RowBlocks.{entries_of, HaveSameLimits};
+    ghost use Rattle.bsi_rows.specs.RowBlocks.{entries_of, HaveSameLimits};
     ghost use Rattle.bsi_rings.specs.Rings.{new_intake, ring_of, with_more_taken, with_seen, AllFit, IsFront, IsWhole, Settles};
 
     /// Makes the channel of a ring from which nothing has been taken.

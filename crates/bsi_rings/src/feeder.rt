@@ -47,7 +47,7 @@ pub struct Feeder {
 impl Model for Feeder {
     ghost use Rattle.std.specs.Prelude.{◌<◌, ◌≤◌, All, length};
     ghost use Rattle.rtrb.specs.Ring.{sent};
-    ghost use Rattle.bsi_table.specs.Table.{end_of_u32};
+    ghost use Rattle.bsi_rows.specs.Table.{end_of_u32};
     ghost use Rattle.bsi_rings.specs.Rings.{all_rows, ring_of, IsParcel, Sending};
 
     ghost Value = { Sending };
@@ -65,9 +65,9 @@ impl Model for Feeder {
 }
 
 impl Feeder {
-    ghost use Rattle.bsi_table.specs.RowBlocks.{entries_of};
+    ghost use Rattle.bsi_rows.specs.RowBlocks.{entries_of};
     ghost use Rattle.bsi_rings.specs.Rings.{new_sending, ring_of, with_sent, with_sent_rows, Closes, IsBatchReply, IsSubmitReply};
-    ghost use Rattle.bsi_table.specs.Table.{end_of_u32, max_rows, no_rows};
+    ghost use Rattle.bsi_rows.specs.Table.{end_of_u32, max_rows, no_rows};
 
     /// Makes the feeder of a ring to which nothing has been sent.
     pub(crate) fn new(

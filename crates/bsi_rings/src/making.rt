@@ -1,7 +1,7 @@
 //! Makes the rings of a system, each with both of its ends.
 
 ghost use Rattle.std.specs.Prelude.{◌≡◌, ◌<◌, IfOk, length};
-ghost use Rattle.bsi_table.specs.Table.{end_of_u32};
+ghost use Rattle.bsi_rows.specs.Table.{end_of_u32};
 ghost use Rattle.bsi_rings.specs.Rings.{new_intake, new_sending, AreOpened};
 
 use crate::parcel::Parcel;

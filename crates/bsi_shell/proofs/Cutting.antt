@@ -4,8 +4,8 @@ use Rattle.std.specs.Fmt.{option_append}
 use Rattle.std.specs.Io.KnownBytes.{Appends}
 use Rattle.std.specs.Prelude.{OnErr, OnOk}
 use Rattle.std.specs.Result.{is_ok}
-use Rattle.bsi_text.proofs.Waiting.{cut_all}
-use Rattle.bsi_text.specs.Waiting.{IsCut}
+use Rattle.bsi_reading.proofs.Waiting.{cut_all}
+use Rattle.bsi_reading.specs.Waiting.{IsCut}
 
 pub cut_each : {T E : Type 0} (r : Result T E) (before after : Option (List ℕ)) (text : List ℕ) → OnOk r (Appends before after text) → OnErr r (IsCut before after text)
     → IsCut before after text

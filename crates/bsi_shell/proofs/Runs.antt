@@ -10,8 +10,8 @@ use Rattle.bsi_files.specs.Runs.{IsRun}
 use Rattle.bsi_files.specs.Writing.{Leaves, WhereFilesKnown, WhereKnown, WritesAll}
 use Rattle.bsi_files.specs.declared.faults.FilesFault.{FilesFault}
 use Rattle.bsi_files.specs.declared.faults.FilesFault.TheVariants.{TooManyFiles, Write}
-use Rattle.bsi_text.proofs.Waiting.{cut_all}
-use Rattle.bsi_text.specs.Texts.{IsAnswered, IsBegun}
+use Rattle.bsi_reading.proofs.Waiting.{cut_all}
+use Rattle.bsi_reading.specs.Texts.{IsAnswered, IsBegun}
 use Rattle.bsi_shell.specs.FileRuns.{HasFailedOver, HasRunOver}
 
 -- what holds anyway holds after a refusal

@@ -3,7 +3,7 @@ use Rattle.std.proofs.Common.{◌≡◌, ◌≢◌, ℕ, List, Option, Result, O
 use Rattle.std.specs.Io.KnownBytes.{Keeps}
 use Rattle.std.specs.Prelude.{IfErr, IfSome, OnErr, OnOk}
 use Rattle.std.specs.Result.{result_and}
-use Rattle.bsi_text.specs.Texts.{IsAnswered, IsBegun, IsStopped, IsTooLong}
+use Rattle.bsi_reading.specs.Texts.{IsAnswered, IsBegun, IsStopped, IsTooLong}
 use Rattle.bsi_text.specs.declared.script.ScriptFault.{ScriptFault}
 use Rattle.bsi_text.specs.declared.script.ScriptFault.TheVariants.{NoMemory, Read, TooLong, Write}
 use Rattle.bsi_shell.specs.ScriptRuns.{LeavesScript}

@@ -6,11 +6,11 @@ use Rattle.bsi_files.specs.Runs.{IsRun}
 use Rattle.bsi_files.specs.Writing.{Leaves, WhereKnown, WritesAll}
 use Rattle.bsi_files.specs.declared.faults.FilesFault.{FilesFault}
 use Rattle.bsi_files.specs.declared.faults.FilesFault.TheVariants.{NoMemory}
-use Rattle.bsi_origins.specs.Origins.{max_feeders}
+use Rattle.bsi_rows.specs.Table.{max_feeders}
 use Rattle.bsi_shell.specs.FaultLines.{fault_line}
 use Rattle.bsi_shell.specs.declared.files.RunFault.{RunFault}
 use Rattle.bsi_shell.specs.declared.files.RunFault.TheVariants.{CannotOpen, Run}
-use Rattle.bsi_text.specs.Waiting.{IsCut}
+use Rattle.bsi_reading.specs.Waiting.{IsCut}
 
 -- some files were opened, 1 to 64 of them row files, and where it is known what they give, the lines of a run over them
 -- were put after what the output held

@@ -2,8 +2,8 @@
 use Rattle.std.specs.Io.KnownBytes.{Keeps}
 use Rattle.std.specs.Prelude.{◌≡◌, ◌⊎◌, ◌++◌, ℕ, List, Option, codes}
 use Rattle.bsi_text.specs.FaultTexts.{script_fault_text}
-use Rattle.bsi_text.specs.Texts.{IfKnown, IsBegun, IsStopped, IsTooLong}
-use Rattle.bsi_text.specs.Waiting.{IsCut}
+use Rattle.bsi_reading.specs.Texts.{IfKnown, IsBegun, IsStopped, IsTooLong}
+use Rattle.bsi_reading.specs.Waiting.{IsCut}
 use Rattle.bsi_text.specs.declared.script.ScriptFault.{ScriptFault}
 use Rattle.bsi_text.specs.declared.script.ScriptFault.TheVariants.{NoMemory, TooLong, Write}
 

@@ -1,7 +1,7 @@
 //! The lines that tell of faults.
 ghost use Rattle.std.specs.Prelude.{◌≡◌, ◌++◌, IfSome, codes};
 ghost use Rattle.bsi_shell.specs.FaultLines.{fault_line, usage_line};
-ghost use Rattle.bsi_text.specs.Waiting.{IsCut};
+ghost use Rattle.bsi_reading.specs.Waiting.{IsCut};
 
 use crate::files::RunFault;
 use arrayvec::ArrayVec;

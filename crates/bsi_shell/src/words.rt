@@ -4,8 +4,8 @@ ghost use Rattle.bsi_shell.specs.Commands.{BeginsWithFiles};
 ghost use Rattle.bsi_shell.specs.FaultLines.{usage_line};
 ghost use Rattle.bsi_shell.specs.FileRuns.{HasRunOver, HasToldFault};
 ghost use Rattle.bsi_shell.specs.ScriptRuns.{HasToldScript, LeavesScript};
-ghost use Rattle.bsi_text.specs.Texts.{IfKnown, IsAnswered, IsBegun};
-ghost use Rattle.bsi_text.specs.Waiting.{IsCut};
+ghost use Rattle.bsi_reading.specs.Texts.{IfKnown, IsAnswered, IsBegun};
+ghost use Rattle.bsi_reading.specs.Waiting.{IsCut};
 
 use crate::files::{RunFault, run_over};
 use crate::request::{Request, read_request};

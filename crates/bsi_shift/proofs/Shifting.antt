@@ -7,11 +7,11 @@ use Rattle.std.proofs.lemmas.List.{length-map, length-take-le, get_or-map, get_o
 use Rattle.std.proofs.lemmas.List.Elements.{All-head, All-tail, All-map, All-weaker}
 use Rattle.bsi_columns.specs.AnyRows.{any_entries}
 use Rattle.bsi_columns.proofs.EntryReads.{map_read}
-use Rattle.bsi_slices.specs.Orders.{compares_by, values_at}
-use Rattle.bsi_slices.specs.Rows.{number_or_zero, number_order, selects}
-use Rattle.bsi_slices.specs.declared.column.Op.{Op}
+use Rattle.bsi_orders.specs.Orders.{compares_by, values_at}
+use Rattle.bsi_orders.specs.Rows.{number_or_zero, number_order, selects}
+use Rattle.bsi_orders.specs.declared.op.Op.{Op}
 use Rattle.bsi_shift.specs.Shifted.{OffsetColumn, shifted_entries, number_of, IsInRange}
-use Rattle.bsi_shift.specs.WholeNumbers.{signed_order, signed_selects}
+use Rattle.bsi_orders.specs.WholeNumbers.{signed_order, signed_selects}
 
 -- the entries of stored numbers and an offset
 abbrev pub entries_from : ℤ → List (Option ℕ) → List (Option ℤ)

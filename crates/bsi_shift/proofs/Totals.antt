@@ -11,14 +11,15 @@ use Rattle.std.proofs.lemmas.List.Sums.{sum_by-cons}
 use mir.Syntax.{w64}
 use mir.Val.{SFits}
 use Rattle.bsi_slices.proofs.CallerLemmas.{count_cons}
-use Rattle.bsi_slices.specs.Orders.{values_at}
+use Rattle.bsi_orders.specs.Orders.{values_at}
 use Rattle.bsi_slices.specs.OrderStatistics.{IsOrderStatistic}
-use Rattle.bsi_slices.specs.Rows.{number_or_zero}
-use Rattle.bsi_slices.specs.Totals.{IsLeastOf, IsGreatestOf, IsMedianOf}
+use Rattle.bsi_orders.specs.Rows.{number_or_zero}
+use Rattle.bsi_orders.specs.Totals.{IsLeastOf, IsGreatestOf, IsMedianOf}
 use Rattle.bsi_slices.specs.declared.column.OrderStatistic.{OrderStatistic}
 use Rattle.bsi_slices.specs.declared.column.OrderStatistic.TheVariants.{Least, Greatest, Median}
 use Rattle.bsi_shift.specs.Shifted.{number_of}
-use Rattle.bsi_shift.specs.WholeNumbers.{signed_sum, IsSignedLeastOf, IsSignedGreatestOf, IsSignedMedianOf, IsSignedOrderStatistic}
+use Rattle.bsi_orders.specs.WholeNumbers.{signed_sum, IsSignedLeastOf, IsSignedGreatestOf, IsSignedMedianOf}
+use Rattle.bsi_shift.specs.OrderStatistics.{IsSignedOrderStatistic}
 
 -- ---- sums
 

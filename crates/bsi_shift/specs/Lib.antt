@@ -1,2 +1,2 @@
+pub mod OrderStatistics
 pub mod Shifted
-pub mod WholeNumbers

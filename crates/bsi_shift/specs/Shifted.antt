@@ -4,7 +4,7 @@ use Rattle.std.specs.Option.{option_map}
 use Rattle.bsi_digits.specs.Digits.{max_end, max_size}
 use Rattle.bsi_columns.specs.declared.any.AnyColumn.{AnyColumn}
 use Rattle.bsi_columns.specs.AnyRows.{any_entries, any_form, any_room, any_size}
-use Rattle.bsi_slices.specs.Rows.{number_or_zero}
+use Rattle.bsi_orders.specs.Rows.{number_or_zero}
 
 -- what a contract sees of it: the column of stored numbers, and the offset
 pub record OffsetColumn : Type 0 where

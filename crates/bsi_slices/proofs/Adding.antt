@@ -7,9 +7,9 @@ use Rattle.std.proofs.lemmas.Nat.{mod_below, mul-le, pow_pos}
 use Rattle.std.proofs.lemmas.List.Sums.{sum_by-cons}
 use Rattle.bsi_bits.specs.BitList.{BitList}
 use Rattle.bsi_words.specs.Places.{has_place, IsEncoded}
-use Rattle.bsi_slices.specs.Rows.{number_or_zero}
+use Rattle.bsi_orders.specs.Rows.{number_or_zero}
 use Rattle.bsi_slices.specs.Slices.{entries_in, IsSliced}
-use Rattle.bsi_slices.specs.Orders.{values_at}
+use Rattle.bsi_orders.specs.Orders.{values_at}
 use Rattle.bsi_slices.proofs.SliceEntries.{slice_of}
 
 -- the digits at the found rows, those of nulls being 0, add up as the digits of the numbers do

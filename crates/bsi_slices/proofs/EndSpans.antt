@@ -15,7 +15,7 @@ use Rattle.bsi_slices.specs.Slices.{bit_value}
 use Rattle.bsi_slices.specs.declared.slices.ends.End.{End}
 use Rattle.bsi_slices.specs.declared.slices.ends.End.TheVariants.{Least, Greatest}
 use Rattle.bsi_slices.specs.Ends.{comes_first, first_is_clear, nearest_place, number_at, IsEndAmong}
-use Rattle.bsi_slices.specs.Rows.{number_or_zero}
+use Rattle.bsi_orders.specs.Rows.{number_or_zero}
 use Rattle.bsi_slices.proofs.SliceSpans.{cut_bit, turned}
 use Rattle.bsi_slices.proofs.Ranking.{same_parts}
 

@@ -10,7 +10,7 @@ use Rattle.std.proofs.lemmas.Bool.{cases_eq, cases_lt}
 use Rattle.bsi_bits.specs.Packed.{bits_of}
 use Rattle.bsi_bits.proofs.Reading.{bits_are}
 use Rattle.bsi_bits.proofs.Splicing.{below_power, one_word}
-use Rattle.bsi_slices.specs.Rows.{number_or_zero}
+use Rattle.bsi_orders.specs.Rows.{number_or_zero}
 
 -- a bit moved up to place r
 raised_same : (b r : ℕ) → b < 2 → r < 64 → bit_at (b * 2 ^ r % 2 ^ 64) r ≡ b

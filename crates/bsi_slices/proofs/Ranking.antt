@@ -11,9 +11,9 @@ use Rattle.std.proofs.lemmas.Bool.Decides.{nat_tests}
 use Rattle.std.proofs.lemmas.List.{nil_from_length}
 use Rattle.std.proofs.lemmas.List.Sums.{sum_by-cons, get_or-le-sum_by}
 use Rattle.std.proofs.lemmas.List.Elements.{All-from_get_or}
-use Rattle.bsi_slices.specs.Rows.{number_or_zero}
-use Rattle.bsi_slices.specs.Orders.{values_at}
-use Rattle.bsi_slices.specs.Totals.{IsRanked, IsLeast, IsGreatest, IsLowerMedian}
+use Rattle.bsi_orders.specs.Rows.{number_or_zero}
+use Rattle.bsi_orders.specs.Orders.{values_at}
+use Rattle.bsi_orders.specs.Totals.{IsRanked, IsLeast, IsGreatest, IsLowerMedian}
 
 -- ---- counts of numbers that pass a test
 

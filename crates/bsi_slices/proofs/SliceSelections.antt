@@ -7,8 +7,8 @@ use Rattle.std.proofs.Math.Bool.{and-true, and-false}
 use Rattle.bsi_bits.specs.BitList.{BitList}
 use Rattle.bsi_bits.specs.Packed.{bit_of, bits_of}
 use Rattle.bsi_bits.proofs.Reading.{length-bits_of, get_or-bits_of}
-use Rattle.bsi_slices.specs.Rows.{compares, selects}
-use Rattle.bsi_slices.specs.declared.column.Op.{Op}
+use Rattle.bsi_orders.specs.Rows.{compares, selects}
+use Rattle.bsi_orders.specs.declared.op.Op.{Op}
 use Rattle.bsi_slices.specs.declared.decision.Test.{Test}
 use Rattle.bsi_slices.specs.declared.decision.Decision.{Decision}
 use Rattle.bsi_slices.specs.declared.decision.Decision.TheVariants.{Nothing, Everything, Tested}

@@ -4,9 +4,9 @@ use Rattle.std.specs.Prelude.{is_some, nat_eq, nat_lt, ◌&&◌}
 use Rattle.std.specs.Simd.Lanes.{zip2}
 use Rattle.std.proofs.Math.Nat.{div-eq_of_lt}
 use Rattle.bsi_words.specs.Ranks.{IsRankedRows}
-use Rattle.bsi_slices.specs.Rows.{number_or_zero}
-use Rattle.bsi_slices.specs.Orders.{values_at}
-use Rattle.bsi_slices.specs.Totals.{IsRanked}
+use Rattle.bsi_orders.specs.Rows.{number_or_zero}
+use Rattle.bsi_orders.specs.Orders.{values_at}
+use Rattle.bsi_orders.specs.Totals.{IsRanked}
 use Rattle.bsi_slices.proofs.Ranking.{IsNarrowed, count_where, narrowed_start, narrowed_step, narrowed_end}
 
 -- a number below the size is its own digit

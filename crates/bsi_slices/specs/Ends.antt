@@ -1,9 +1,9 @@
 -- The number at an end of a found set, row by row.
 use Rattle.std.specs.Prelude.{◌≡◌, ℕ, ◌<◌, ◌≤◌, ◌&&◌, Bool, true, false, not, List, Option, Some, None, MatchOption, is_some, slice_index_or}
 use Rattle.bsi_bits.specs.SetRows.{HasValue}
-use Rattle.bsi_slices.specs.Rows.{number_or_zero}
+use Rattle.bsi_orders.specs.Rows.{number_or_zero}
 use Rattle.bsi_slices.specs.Slices.{bit_value}
-use Rattle.bsi_slices.specs.Totals.{IsLeastOf, IsGreatestOf}
+use Rattle.bsi_orders.specs.Totals.{IsLeastOf, IsGreatestOf}
 use Rattle.bsi_slices.specs.declared.slices.ends.End.{End}
 use Rattle.bsi_slices.specs.declared.slices.ends.End.TheVariants.{Least, Greatest}
 

@@ -4,7 +4,4 @@ pub mod Ends
 pub mod Exchanges
 pub mod NotNull
 pub mod OrderStatistics
-pub mod Orders
-pub mod Rows
 pub mod Slices
-pub mod Totals

@@ -7,30 +7,13 @@
 ghost use Rattle.std.specs.Prelude.{◌≡◌, ◌↔◌, ℕ, ◌^◌, ◌+◌, ◌≤◌, ◌<◌, List, Option, [], ◌∷◌, ◌++◌, All, length, map, is_some, is_none, nat_lt, sum, IfOk, OnOk, OnErr, IsOk, IsTrue};
 ghost use Rattle.bsi_digits.specs.Digits.{max_size};
 ghost use Rattle.bsi_bits.specs.BitList.{max_block, max_len, sum_end};
-ghost use Rattle.bsi_slices.specs.Rows.{number_or_zero, selects};
-ghost use Rattle.bsi_slices.specs.Orders.{values_at};
+ghost use Rattle.bsi_orders.specs.Rows.{number_or_zero, selects};
+ghost use Rattle.bsi_orders.specs.Orders.{values_at};
 ghost use Rattle.bsi_slices.specs.OrderStatistics.{IsOrderStatistic};
-ghost use Rattle.bsi_slices.specs.Totals.{IsRanked, IsLeastOf, IsGreatestOf, IsMedianOf};
+ghost use Rattle.bsi_orders.specs.Totals.{IsRanked, IsLeastOf, IsGreatestOf, IsMedianOf};
 
-use crate::NoMemory;
+use crate::{NoMemory, Op};
 use bsi_bits::Bits;
-
-/// A comparison of whole numbers.
-#[derive(Clone, Copy, Debug, PartialEq, Eq)]
-pub enum Op {
-    /// `=`
-    Eq,
-    /// `!=`
-    Ne,
-    /// `<`
-    Lt,
-    /// `<=`
-    Le,
-    /// `>`
-    Gt,
-    /// `>=`
-    Ge,
-}
 
 /// Which of some numbers, taken in order.
 #[derive(Clone, Copy, Debug, PartialEq, Eq)]

@@ -5,10 +5,10 @@
 
 ghost use Rattle.std.specs.Prelude.{◌≡◌, ℕ, ◌<◌};
 ghost use Rattle.bsi_slices.specs.Decisions.{decides, IsBelowSize};
-ghost use Rattle.bsi_slices.specs.Rows.{compares};
+ghost use Rattle.bsi_orders.specs.Rows.{compares};
 ghost use Rattle.bsi_slices.specs.declared.decision.Decision.TheVariants.{Tested};
 
-use crate::column::Op;
+use crate::Op;
 
 /// The relation of a number to a constant.
 #[derive(Clone, Copy, Debug, PartialEq, Eq)]

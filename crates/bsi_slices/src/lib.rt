@@ -9,7 +9,8 @@ mod slices;
 #[doc(hidden)]
 pub mod transposing;
 
-pub use column::{Column, Op, OrderStatistic};
+pub use bsi_orders::Op;
+pub use column::{Column, OrderStatistic};
 pub use decision::{Decision, Relation, Test, decide};
 pub use not_null::NotNull;
 pub use slices::{End, Slices};

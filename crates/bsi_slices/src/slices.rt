@@ -5,13 +5,14 @@ ghost use Rattle.std.specs.Int.{bit_at};
 ghost use Rattle.bsi_words.specs.Places.{max_places};
 ghost use Rattle.bsi_bits.specs.BitList.{max_block, max_len, word_count};
 ghost use Rattle.bsi_slices.specs.Spans.{KeepsRows};
-ghost use Rattle.bsi_slices.specs.Orders.{values_at};
-ghost use Rattle.bsi_slices.specs.Rows.{number_or_zero, selects};
+ghost use Rattle.bsi_orders.specs.Orders.{values_at};
+ghost use Rattle.bsi_orders.specs.Rows.{number_or_zero, selects};
 ghost use Rattle.bsi_slices.specs.Slices.{entries_in, IsSliced};
-ghost use Rattle.bsi_slices.specs.Totals.{IsLeastOf, IsGreatestOf};
+ghost use Rattle.bsi_orders.specs.Totals.{IsLeastOf, IsGreatestOf};
 
 use crate::NoMemory;
-use crate::column::{Column, Op};
+use crate::Op;
+use crate::column::Column;
 use crate::not_null::NotNull;
 use crate::transposing::{not_null_word, transpose, write_numbers};
 use bsi_bits::{Bitmaps, Bits, MAX_BLOCK, MAX_LEN};

@@ -5,7 +5,7 @@ ghost use Rattle.std.specs.Int.{bit_at};
 ghost use Rattle.bsi_bits.specs.BitList.{max_block};
 ghost use Rattle.bsi_bits.specs.Packed.{bits_of, end_of_u64};
 ghost use Rattle.bsi_slices.specs.Exchanges.{across, IsLow};
-ghost use Rattle.bsi_slices.specs.Rows.{number_or_zero};
+ghost use Rattle.bsi_orders.specs.Rows.{number_or_zero};
 
 use bsi_bits::{MAX_BLOCK, know_fits};
 

@@ -3,9 +3,9 @@ use Rattle.std.proofs.Common.{◌≡◌, ℕ, zero, suc, List, [], ◌∷◌, �
 use Rattle.std.specs.Prelude.{slice_get}
 use Rattle.std.proofs.lemmas.List.{length-map}
 use Rattle.std.proofs.lemmas.List.Elements.{All-cons, All-map, All-nil}
-use Rattle.bsi_table.specs.Columns.{Declared}
-use Rattle.bsi_table.specs.Rows.{Entries}
-use Rattle.bsi_table.specs.Table.{no_rows}
+use Rattle.bsi_schema.specs.Columns.{Declared}
+use Rattle.bsi_rows.specs.Rows.{Entries}
+use Rattle.bsi_rows.specs.Table.{no_rows}
 use Rattle.bsi_rings.specs.Rings.{channels_of, new_feeders, new_intake, new_sending, AreOpened, Intake, IsWhole, ChannelName, Sending}
 use Rattle.bsi_versions.specs.Editions.{Written}
 use Rattle.bsi_system.specs.Running.{loading, new_loading, no_taking, seen_of, taking_at, takings_of, IsFeederOf, IsLoader, SystemName, Taking}

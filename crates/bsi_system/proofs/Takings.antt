@@ -7,12 +7,12 @@ use Rattle.std.proofs.lemmas.List.{append-nil, get_or-set_other, get_or-set_same
 use Rattle.std.proofs.lemmas.List.Elements.{filter_map-append, All-cons, All-get_or, All-head, All-nil, All-set}
 use Rattle.std.proofs.lemmas.Option.{get_or_from_slice_get, slice_get_cases, slice_get-map, slice_get_read, slice_get_within}
 use mathlib.Core.List.{IsPrefix}
-use Rattle.bsi_table.specs.Columns.{fits, Declared}
-use Rattle.bsi_table.specs.RowBlocks.{entries_of, fed_as}
-use Rattle.bsi_table.specs.Table.{Table}
-use Rattle.bsi_table.specs.Rows.{Entries, FedRow}
-use Rattle.bsi_load.specs.declared.event.LoadRefused.TheVariants as load
-use Rattle.bsi_load.specs.Runs.{rows_from}
+use Rattle.bsi_schema.specs.Columns.{fits, Declared}
+use Rattle.bsi_rows.specs.RowBlocks.{entries_of, fed_as}
+use Rattle.bsi_rows.specs.Table.{Table}
+use Rattle.bsi_rows.specs.Rows.{Entries, FedRow}
+use Rattle.bsi_rows.specs.declared.event.LoadRefused.TheVariants as load
+use Rattle.bsi_rows.specs.Runs.{rows_from}
 use Rattle.bsi_rings.specs.declared.channel.Front.{Front}
 use Rattle.bsi_rings.specs.declared.channel.Front.TheVariants as front
 use Rattle.bsi_rings.specs.Rings.{channels_of, with_more_taken, with_seen, AllFit, ChannelName, Intake, IsWhole, Sent}

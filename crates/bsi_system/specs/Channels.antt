@@ -1,10 +1,10 @@
 -- What is done with one channel of a list of them.
 use Rattle.std.specs.Prelude.{◌≡◌, ℕ, ◌<◌, ◌≤◌, Bool, true, false, All, IfSome, List, [], ◌∷◌, ◌++◌, None, Some, Result, Ok, Err, length, slice_get, slice_set}
-use Rattle.bsi_table.specs.RowBlocks.{entries_of}
-use Rattle.bsi_table.specs.Rows.{Entries}
-use Rattle.bsi_table.specs.Table.{Table}
-use Rattle.bsi_load.specs.declared.event.LoadRefused.{LoadRefused}
-use Rattle.bsi_load.specs.declared.event.LoadRefused.TheVariants as load
+use Rattle.bsi_rows.specs.RowBlocks.{entries_of}
+use Rattle.bsi_rows.specs.Rows.{Entries}
+use Rattle.bsi_rows.specs.Table.{Table}
+use Rattle.bsi_rows.specs.declared.event.LoadRefused.{LoadRefused}
+use Rattle.bsi_rows.specs.declared.event.LoadRefused.TheVariants as load
 use Rattle.bsi_rings.specs.declared.channel.Front.{Front}
 use Rattle.bsi_rings.specs.Rings.{channels_of, with_more_taken, with_seen, AllFit, Intake, IsFront, IsWhole, Sent, Settles}
 use Rattle.bsi_versions.specs.Editions.{with_held_rows, Written}

@@ -1,9 +1,9 @@
 -- Why no system is opened.
 use Rattle.std.specs.Prelude.{◌≡◌, ◌<◌, ℕ, Option, None}
-use Rattle.bsi_table.specs.Columns.{Declared}
-use Rattle.bsi_table.specs.Refusals.{IsFirstOr}
-use Rattle.bsi_load.specs.declared.sizes.MakeError.{MakeError}
-use Rattle.bsi_load.specs.declared.sizes.MakeError.TheVariants as made
+use Rattle.bsi_schema.specs.Columns.{Declared}
+use Rattle.bsi_rows.specs.Refusals.{IsFirstOr}
+use Rattle.bsi_rows.specs.declared.sizes.MakeError.{MakeError}
+use Rattle.bsi_rows.specs.declared.sizes.MakeError.TheVariants as made
 use Rattle.bsi_system.specs.Running.{new_loading}
 use Rattle.bsi_system.specs.declared.system.OpenRefused.{OpenRefused}
 use Rattle.bsi_system.specs.declared.system.OpenRefused.TheVariants.{Make, Readers}

@@ -1,12 +1,12 @@
 -- What contracts see of a loader, and what its calls may answer.
 use Rattle.std.specs.Prelude.{◌≡◌, ℕ, ◌+◌, ◌<◌, ◌≤◌, ⊤, All, IfSome, IsTrue, List, [], ◌∷◌, ◌++◌, Option, None, Some, Result, Ok, Err, drop, length, map, slice_get, slice_index_or, slice_set}
 use mathlib.Core.List.{IsPrefix}
-use Rattle.bsi_table.specs.Columns.{fits, Declared}
-use Rattle.bsi_table.specs.RowBlocks.{fed_as}
-use Rattle.bsi_table.specs.Rows.{Entries, FedRow}
-use Rattle.bsi_load.specs.declared.event.LoadRefused.{LoadRefused}
-use Rattle.bsi_load.specs.declared.event.LoadRefused.TheVariants as load
-use Rattle.bsi_load.specs.Runs.{rows_from}
+use Rattle.bsi_schema.specs.Columns.{fits, Declared}
+use Rattle.bsi_rows.specs.RowBlocks.{fed_as}
+use Rattle.bsi_rows.specs.Rows.{Entries, FedRow}
+use Rattle.bsi_rows.specs.declared.event.LoadRefused.{LoadRefused}
+use Rattle.bsi_rows.specs.declared.event.LoadRefused.TheVariants as load
+use Rattle.bsi_rows.specs.Runs.{rows_from}
 use Rattle.bsi_rings.specs.Rings.{channels_of, AllFit, ChannelName, Intake, IsWhole, Sending, Sent}
 use Rattle.bsi_versions.specs.Editions.{Written}
 

@@ -1,7 +1,7 @@
 //! Holds the rows that stand first in a feeder's ring. They stay in the ring.
 
 ghost use Rattle.std.specs.Prelude.{◌≡◌, ◌+◌, ◌<◌, ◌≤◌, IfOk, OnErr, OnOk, length, true};
-ghost use Rattle.bsi_table.specs.Table.{AreKeptAlike};
+ghost use Rattle.bsi_rows.specs.Table.{AreKeptAlike};
 ghost use Rattle.bsi_system.specs.Channels.{HasFirst, HoldsFirst};
 ghost use Rattle.bsi_system.specs.Running.{IsLoader};
 

@@ -1,8 +1,8 @@
 //! Opens a running system.
 
 ghost use Rattle.std.specs.Prelude.{◌≡◌, ◌<◌, ◌≤◌, ◌++◌, [], All, IfErr, IfOk, None, OnErr, OnOk, length, replicate};
-ghost use Rattle.bsi_table.specs.Table.{no_rows};
-ghost use Rattle.bsi_load.specs.Sizes.{sizes_refusal};
+ghost use Rattle.bsi_rows.specs.Table.{no_rows};
+ghost use Rattle.bsi_rows.specs.Sizes.{sizes_refusal};
 ghost use Rattle.bsi_rings.specs.Rings.{new_feeders};
 ghost use Rattle.bsi_system.specs.Running.{new_loading, IsFeederOf};
 ghost use Rattle.bsi_system.specs.Opening.{IsOpenRefusal};

@@ -1,9 +1,9 @@
 //! The ends of a running system, and how all but the analysts are made.
 
 ghost use Rattle.std.specs.Prelude.{◌≡◌, ◌≤◌, [], All, IfErr, IfOk, None, OnOk, length};
-ghost use Rattle.bsi_table.specs.Refusals.{IsFirstOr};
-ghost use Rattle.bsi_table.specs.Table.{no_rows};
-ghost use Rattle.bsi_load.specs.Sizes.{sizes_refusal};
+ghost use Rattle.bsi_rows.specs.Refusals.{IsFirstOr};
+ghost use Rattle.bsi_rows.specs.Table.{no_rows};
+ghost use Rattle.bsi_rows.specs.Sizes.{sizes_refusal};
 ghost use Rattle.bsi_rings.specs.Rings.{new_feeders};
 ghost use Rattle.bsi_system.specs.Running.{new_loading};
 ghost use Rattle.bsi_versions.specs.Editions.{max_analysts};

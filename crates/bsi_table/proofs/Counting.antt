@@ -5,10 +5,10 @@ use Rattle.std.specs.List.{range_with_len}
 use Rattle.std.proofs.lemmas.List.FromFn.{sum_by-map-range_with_len_more}
 use Rattle.bsi_bits.specs.Packed.{bit_of, bits_of}
 use Rattle.bsi_shift.specs.Shifted.{OffsetColumn}
-use Rattle.bsi_table.specs.declared.query.Pred.{Pred}
-use Rattle.bsi_table.specs.Rows.{holds}
-use Rattle.bsi_table.specs.Table.{row_in, rows_in}
-use Rattle.bsi_table.proofs.TableRows.{map_twice}
+use Rattle.bsi_rows.specs.declared.query.Pred.{Pred}
+use Rattle.bsi_rows.specs.Rows.{holds}
+use Rattle.bsi_table.specs.Kept.{row_in, rows_in}
+use Rattle.bsi_rows.proofs.BlockRows.{map_twice}
 
 -- how many of the first n rows it selects
 pub selected_before : List OffsetColumn → Pred → ℕ → ℕ

@@ -4,9 +4,10 @@ use Rattle.std.specs.Prelude.{IsTrue}
 use Rattle.std.proofs.lemmas.List.Elements.{All-map}
 use Rattle.bsi_schema.specs.Columns.{entry_at, fits, NamedColumn}
 use Rattle.bsi_shift.specs.Shifted.{OffsetColumn}
-use Rattle.bsi_table.specs.RowBlocks.{entries_of, fed_as}
-use Rattle.bsi_table.specs.Rows.{column_of, feeders_of, Entries, FedRow}
-use Rattle.bsi_table.specs.Table.{kept_at, AreFitting, AreFrom, HasMore, HaveMore}
+use Rattle.bsi_rows.specs.RowBlocks.{entries_of, fed_as}
+use Rattle.bsi_rows.specs.Rows.{column_of, feeders_of, Entries, FedRow}
+use Rattle.bsi_table.specs.Kept.{kept_at, HasMore, HaveMore}
+use Rattle.bsi_rows.specs.Table.{AreFitting, AreFrom}
 
 module _ (f : ℕ) where
   -- have the entries that they had

@@ -4,8 +4,9 @@ use Rattle.std.proofs.lemmas.List.{length-append, length-map}
 use Rattle.std.proofs.lemmas.List.Elements.{All-append, All-map, All-weaker}
 use Rattle.bsi_schema.specs.Columns.{NamedColumn}
 use Rattle.bsi_shift.specs.Shifted.{OffsetColumn}
-use Rattle.bsi_table.specs.Rows.{feeders_of, FedRow}
-use Rattle.bsi_table.specs.Table.{fed_rows, AreFitting, AreFrom, AreInRange, AreKept, AreSameColumns, HaveMore, IsTable, TakesRow}
+use Rattle.bsi_rows.specs.Rows.{feeders_of, FedRow}
+use Rattle.bsi_table.specs.Kept.{fed_rows, AreInRange, AreKept, AreSameColumns, HaveMore, IsTable, TakesRow}
+use Rattle.bsi_rows.specs.Table.{AreFitting, AreFrom}
 use Rattle.bsi_table.proofs.Keeping.{are_kept_same, are_kept_more, rows_taken}
 use Rattle.bsi_table.proofs.TableRows.{fed_rows-more, fed_rows-same}
 

@@ -3,17 +3,34 @@ use Rattle.std.proofs.Common.{◌≡◌, ℕ, ◌<◌, ◌≤◌, List, [], ◌�
 use Rattle.std.specs.Prelude.{slice_index_or}
 use Rattle.std.proofs.lemmas.List.{ext_get_or, get_or-map, length-map}
 use Rattle.std.proofs.lemmas.List.Elements.{All-get_or}
-use Rattle.bsi_columns.specs.AnyRows.{size_in_form, AnyForm}
-use Rattle.bsi_schema.specs.Columns.{column_at, fits, no_column, Declared, NamedColumn}
+use Rattle.bsi_columns.specs.AnyRows.{equality_under, range_under, slices_of, AnyForm}
+use Rattle.bsi_schema.specs.declared.form.Form.{Form}
+use Rattle.bsi_schema.specs.declared.form.Form.TheVariants.{Slices, Equality, Range}
+use Rattle.bsi_schema.specs.Columns.{column_at, fits, no_column, size_in, Declared, NamedColumn}
 use Rattle.bsi_schema.specs.Limits.{limits_of}
 use Rattle.bsi_schema.specs.declared.limits.Limits.{Limits}
 use Rattle.bsi_shift.specs.Shifted.{shifted_entries, OffsetColumn}
-use Rattle.bsi_table.specs.RowBlocks.{HaveSameLimits}
-use Rattle.bsi_table.specs.Rows.{FedRow}
-use Rattle.bsi_table.specs.Table.{fed_rows, kept_as, kept_at, AreAlikeColumns, AreFitting, AreFrom, AreKept, AreKeptAlike, HasMore, HaveMore, HaveRows, IsTable}
-use Rattle.bsi_table.proofs.CallerLemmas.{fitting-alike}
-use Rattle.bsi_table.proofs.Keeping.{row_in-fits, size-kept_form}
+use Rattle.bsi_rows.specs.RowBlocks.{HaveSameLimits}
+use Rattle.bsi_rows.specs.Rows.{FedRow}
+use Rattle.bsi_table.specs.Kept.{fed_rows, kept_at, kept_form, AreAlikeColumns, AreKept, HasMore, HaveMore, HaveRows, IsTable}
+use Rattle.bsi_rows.specs.Table.{kept_as, AreFitting, AreFrom, AreKeptAlike}
+use Rattle.bsi_rows.proofs.CallerLemmas.{fitting-alike}
+use Rattle.bsi_table.proofs.Keeping.{row_in-fits}
 use Rattle.bsi_table.proofs.TableRows.{All-fed_rows, column-fed_rows}
+
+-- columns that are kept in one form were declared in one
+abbrev declared_form : AnyForm → Form
+declared_form (slices_of w) = Slices w
+declared_form (equality_under bs) = Equality bs
+declared_form (range_under bs) = Range bs
+
+declared_form-kept : (form : Form) → declared_form (kept_form form) ≡ form
+declared_form-kept (Slices w) = refl
+declared_form-kept (Equality bs) = refl
+declared_form-kept (Range bs) = refl
+
+one_form : (first second : Form) → kept_form first ≡ kept_form second → first ≡ second
+one_form first second same = sym (declared_form-kept first) ∙ ap declared_form same ∙ declared_form-kept second
 
 -- two lists of columns that are kept alike
 module _ (columns others : List NamedColumn) (kept other_kept : List OffsetColumn) (n m : ℕ) (are : AreKept columns kept n) (other_are : AreKept others other_kept m) where
@@ -28,7 +45,7 @@ module _ (columns others : List NamedColumn) (kept other_kept : List OffsetColum
       ∙ get_or-map kept_as others k no_column (kept_as no_column) there in
       record {
         offset = (other_are.each k there).offset ∙ sym (ap (λ p. p.1) same) ∙ sym (are.each k here).offset;
-        form = (other_are.each k there).form ∙ sym (ap (λ p. p.0) same) ∙ sym (are.each k here).form;
+        form = (other_are.each k there).form ∙ sym (ap (λ p. kept_form p.0) same) ∙ sym (are.each k here).form;
       }
 
   -- and so are the columns of their schemas
@@ -41,21 +58,18 @@ module _ (columns others : List NamedColumn) (kept other_kept : List OffsetColum
       let there : k < length others = omega (arith, here, long, are.long, other_are.long) in
       let same = alike k (omega (arith, here, are.long)) in
       get_or-map kept_as columns k no_column (kept_as no_column) here
-      ∙ ap₂ (λ (form : AnyForm) (offset : ℤ). (form, offset))
-      (sym (are.each k here).form ∙ sym same.form ∙ (other_are.each k there).form)
+      ∙ ap₂ (λ (form : Form) (offset : ℤ). (form, offset))
+      (one_form (column_at columns k).form (column_at others k).form (sym (are.each k here).form ∙ sym same.form ∙ (other_are.each k there).form))
       (sym (are.each k here).offset ∙ sym same.offset ∙ (other_are.each k there).offset)
       ∙ sym (get_or-map kept_as others k no_column (kept_as no_column) there))
 
 -- columns that are kept alike take the same numbers
-abbrev limits_kept : AnyForm × ℤ → Limits
-limits_kept kept = record { least = kept.1; size = size_in_form kept.0 }
-
-limits-kept_as : (column : NamedColumn) → limits_kept (kept_as column) ≡ limits_of column
-limits-kept_as column = ap (λ (size : ℕ). record { least = column.offset; size = size }) (size-kept_form column.form)
+abbrev limits_kept : Form × ℤ → Limits
+limits_kept kept = record { least = kept.1; size = size_in kept.0 }
 
 limits-columns : (columns : List NamedColumn) → map limits_of columns ≡ map limits_kept (map kept_as columns)
 limits-columns [] = refl
-limits-columns (column ∷ columns) = ap₂ (λ (x : Limits) (xs : List Limits). x ∷ xs) (sym (limits-kept_as column)) (limits-columns columns)
+limits-columns (column ∷ columns) = ap (λ (xs : List Limits). limits_of column ∷ xs) (limits-columns columns)
 
 pub alike-kept : (first second : Declared) → AreKeptAlike first second → HaveSameLimits first second
 alike-kept first second alike = limits-columns first.columns ∙ ap (map limits_kept) alike ∙ sym (limits-columns second.columns)

@@ -11,8 +11,9 @@ use Rattle.bsi_shift.specs.Shifted.{number_of, shifted_entries, shifted_size, Is
 use Rattle.bsi_schema.specs.declared.form.Form.{Form}
 use Rattle.bsi_schema.specs.declared.form.Form.TheVariants.{Slices, Equality, Range}
 use Rattle.bsi_schema.specs.Columns.{column_at, fits, is_taken_by, size_in, NamedColumn}
-use Rattle.bsi_table.specs.Rows.{column_of, entry_at, Entries, FedRow}
-use Rattle.bsi_table.specs.Table.{kept_at, kept_form, row_in, AreFitting, AreInRange, AreKept, AreI64, HasMore, HaveMore, IsInForm, IsSameColumn, Keeps, TakesRow}
+use Rattle.bsi_rows.specs.Rows.{column_of, entry_at, Entries, FedRow}
+use Rattle.bsi_table.specs.Kept.{kept_at, kept_form, row_in, AreInRange, AreKept, AreI64, HasMore, HaveMore, IsInForm, IsSameColumn, Keeps, TakesRow}
+use Rattle.bsi_rows.specs.Table.{AreFitting}
 use Rattle.bsi_schema.proofs.Fitting.{fits-at, fits-each, fits-length, taken_small, within}
 use Rattle.bsi_table.proofs.TableRows.{entry-row_in}
 

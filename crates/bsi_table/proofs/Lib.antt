@@ -1,14 +1,12 @@
-pub mod BlockRows
-pub mod CallerLemmas
 pub mod Counting
 pub mod Fed
 pub mod Growing
 pub mod Joining
 pub mod Keeping
-pub mod Missing
 pub mod Parts
 pub mod Selecting
 pub mod Selections
 pub mod Singles
 pub mod TableRows
+pub use Rattle.bsi_rows.proofs.CallerLemmas
 pub use Rattle.bsi_schema.proofs.Fitting

@@ -1,6 +1,6 @@
 -- How many parts a predicate has.
 use Rattle.std.proofs.Common.{ℕ, ◌+◌}
-use Rattle.bsi_table.specs.declared.query.Pred.{Pred, All, Compare, Null, Both', Either', Not'}
+use Rattle.bsi_rows.specs.declared.query.Pred.{Pred, All, Compare, Null, Both', Either', Not'}
 
 abbrev pub parts_of : Pred → ℕ
 parts_of All = 1

@@ -14,10 +14,11 @@ use Rattle.bsi_bits.proofs.Reading.{length-bits_of, get_or-bits_of}
 use Rattle.bsi_columns.proofs.SpanParts.{bit_before, bit_behind, bit_inside}
 use Rattle.bsi_columns.proofs.WordSpans.{bit_of-chunk, or_bit, zipped_bit}
 use Rattle.bsi_shift.specs.Shifted.{shifted_entries, OffsetColumn}
-use Rattle.bsi_table.specs.declared.query.Pred.{Pred}
-use Rattle.bsi_table.specs.Rows.{entry_at, holds}
-use Rattle.bsi_table.specs.Table.{row_in, rows_in}
-use Rattle.bsi_table.proofs.TableRows.{entry-row_in, kept_read, map_twice}
+use Rattle.bsi_rows.specs.declared.query.Pred.{Pred}
+use Rattle.bsi_rows.specs.Rows.{entry_at, holds}
+use Rattle.bsi_table.specs.Kept.{row_in, rows_in}
+use Rattle.bsi_table.proofs.TableRows.{entry-row_in, kept_read}
+use Rattle.bsi_rows.proofs.BlockRows.{map_twice}
 
 -- the words that were saved last, and those before them
 module _ (s saved spare : List ℕ) (n : ℕ) (is : spare ≡ s ++ saved) (long : n ≡ length saved) where

@@ -5,7 +5,7 @@ use Rattle.std.specs.List.{range_with_len, items_where_true, cons_option}
 use Rattle.std.proofs.lemmas.List.{length-map}
 use Rattle.std.proofs.lemmas.List.Sums.{length-filter, sum_by-cons}
 use Rattle.bsi_bits.specs.BitList.{set_places}
-use Rattle.bsi_columns.specs.Orders.{values_at}
+use Rattle.bsi_orders.specs.Orders.{values_at}
 
 -- the numbers one further
 range_suc : (a n : ℕ) → range_with_len (a + 1) n ≡ map suc (range_with_len a n)

@@ -6,8 +6,8 @@ use Rattle.std.proofs.lemmas.Option.{slice_get-get_or}
 use Rattle.std.specs.List.{items_where_true, range_with_len}
 use Rattle.std.proofs.Math.IntN.{+ℤ_idr}
 use Rattle.std.proofs.lemmas.Bool.{eq-eqb, ne_eqb}
-use Rattle.bsi_columns.specs.Orders.{values_at}
-use Rattle.bsi_shift.specs.WholeNumbers.{signed_sum}
+use Rattle.bsi_orders.specs.Orders.{values_at}
+use Rattle.bsi_orders.specs.WholeNumbers.{signed_sum}
 
 -- the bits of row r alone, of places that are counted from a
 abbrev alone : ℕ → ℕ → ℕ → List Bool

@@ -7,23 +7,14 @@ use Rattle.std.proofs.lemmas.List.{ext_get_or, get_or-append-add, get_or-map, ge
 use Rattle.std.proofs.lemmas.List.Elements.{All-from_get_or, All-get_or}
 use Rattle.std.proofs.lemmas.List.FromFn.{fill_by_all, get_or-map-range_with_len, length-map-range_with_len}
 use Rattle.bsi_bits.specs.BitList.{set_places}
-use Rattle.bsi_columns.specs.Orders.{values_at}
+use Rattle.bsi_orders.specs.Orders.{values_at}
 use Rattle.bsi_shift.specs.Shifted.{shifted_entries, OffsetColumn}
-use Rattle.bsi_table.specs.declared.query.Pred.{Pred}
-use Rattle.bsi_table.specs.Rows.{column_of, entry_at, feeders_of, holds, row_at, selected, values, Entries, FedRow}
-use Rattle.bsi_table.specs.Table.{fed_rows, kept_at, no_entries, row_in, rows_in, HaveMore}
+use Rattle.bsi_rows.specs.declared.query.Pred.{Pred}
+use Rattle.bsi_rows.specs.Rows.{column_of, entry_at, feeders_of, holds, row_at, selected, values, Entries, FedRow}
+use Rattle.bsi_rows.proofs.BlockRows.{map_twice, same_below}
+use Rattle.bsi_table.specs.Kept.{fed_rows, kept_at, no_entries, row_in, rows_in, HaveMore}
 use Rattle.bsi_table.proofs.Selections.{length-places, set_places-map, values-places}
 use Rattle.std.proofs.lemmas.Bool.Decides.{nat_tests}
-
-pub map_twice : {X Y Z : Type 0} (f : Y → Z) (g : X → Y) (xs : List X) → map f (map g xs) ≡ map (λ x. f (g x)) xs
-map_twice f g [] = refl
-map_twice f g (x ∷ xs) = ap (λ ys. f (g x) ∷ ys) (map_twice f g xs)
-
--- two functions that agree below n
-pub same_below : {X : Type 0} (default : X) (f g : ℕ → X) (n : ℕ) → ((r : ℕ) → r < n → f r ≡ g r) → map f (range_with_len 0 n) ≡ map g (range_with_len 0 n)
-same_below default f g n each =
-    fill_by_all g (map f (range_with_len 0 n)) n default (length-map-range_with_len f 0 n)
-    (λ i within. get_or-map-range_with_len f 0 n i i default within (omega arith) ∙ each i within)
 
 -- a column as it is read
 pub kept_read : (kept : List OffsetColumn) (c : ℕ) (column : OffsetColumn) → c < length kept → column ≡ get_or kept c column → kept_at kept c ≡ column

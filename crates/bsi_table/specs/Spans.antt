@@ -2,9 +2,9 @@
 use Rattle.std.specs.Prelude.{◌≡◌, ℕ, ◌+◌, ◌*◌, ◌<◌, ◌&&◌, List, length}
 use Rattle.bsi_bits.specs.Packed.{bit_of}
 use Rattle.bsi_shift.specs.Shifted.{OffsetColumn}
-use Rattle.bsi_table.specs.declared.query.Pred.{Pred}
-use Rattle.bsi_table.specs.Rows.{holds}
-use Rattle.bsi_table.specs.Table.{row_in}
+use Rattle.bsi_rows.specs.declared.query.Pred.{Pred}
+use Rattle.bsi_rows.specs.Rows.{holds}
+use Rattle.bsi_table.specs.Kept.{row_in}
 
 -- of the rows that the words from `at` on stand for those are kept of which the predicate holds
 abbrev pub AreNarrowed : List OffsetColumn → ℕ → Pred → ℕ → List ℕ → List ℕ → Type 0

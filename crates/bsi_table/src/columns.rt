@@ -8,8 +8,8 @@ ghost use Rattle.bsi_bits.specs.BitList.{max_len};
 ghost use Rattle.bsi_columns.specs.AnyRows.{any_entries};
 ghost use Rattle.bsi_shift.specs.Shifted.{shifted_entries, shifted_room};
 ghost use Rattle.bsi_schema.specs.Columns.{column_at, IsForm};
-ghost use Rattle.bsi_table.specs.Rows.{row_entries};
-ghost use Rattle.bsi_table.specs.Table.{kept_at, AreAlikeColumns, AreInRange, AreKept, AreI64, AreSameColumns, HasMore, HaveMore, HaveOneMore, HaveRoom, HaveRows, IsInForm, Keeps, TakesRow, row_in};
+ghost use Rattle.bsi_rows.specs.Rows.{row_entries};
+ghost use Rattle.bsi_table.specs.Kept.{kept_at, AreAlikeColumns, AreInRange, AreKept, AreI64, AreSameColumns, HasMore, HaveMore, HaveOneMore, HaveRoom, HaveRows, IsInForm, Keeps, TakesRow, row_in};
 
 use crate::{Block, Form, NoMemory, Schema};
 use bsi_bits::Bits;

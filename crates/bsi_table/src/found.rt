@@ -9,9 +9,9 @@ ghost use Rattle.std.specs.Prelude.{◌≡◌, ℕ, ◌+◌, ◌-◌, ◌≤◌,
 ghost use Rattle.bsi_bits.specs.BitList.{max_len, word_count};
 ghost use Rattle.bsi_bits.specs.Packed.{bit_of, bits_of, IsPacked};
 ghost use Rattle.std.specs.Simd.Lanes.{zip2};
-ghost use Rattle.bsi_table.specs.Answers.{IsConjunction, ReadsAmong};
-ghost use Rattle.bsi_table.specs.Rows.{holds};
-ghost use Rattle.bsi_table.specs.Table.{rows_in, HaveRows};
+ghost use Rattle.bsi_rows.specs.Answers.{IsConjunction, ReadsAmong};
+ghost use Rattle.bsi_rows.specs.Rows.{holds};
+ghost use Rattle.bsi_table.specs.Kept.{rows_in, HaveRows};
 ghost use Rattle.bsi_table.specs.Spans.{AreFound, AreNarrowed};
 
 use crate::{NoMemory, Pred};

@@ -2,11 +2,11 @@
 //! at once.
 
 ghost use Rattle.std.specs.Prelude.{◌≡◌, ℕ, ◌+◌, ◌<◌, ◌≤◌, ◌++◌, ◌∷◌, [], All, length, replicate, OnOk};
-ghost use Rattle.bsi_origins.specs.Origins.{max_feeders};
+ghost use Rattle.bsi_rows.specs.Table.{max_feeders, AreFrom};
 ghost use Rattle.bsi_bits.specs.BitList.{max_len};
 ghost use Rattle.bsi_shift.specs.Shifted.{shifted_entries, shifted_room};
-ghost use Rattle.bsi_table.specs.Rows.{feeders_of, row_entries};
-ghost use Rattle.bsi_table.specs.Table.{kept_at, AreAlikeColumns, AreFrom, AreI64, AreInRange, AreSameColumns, HasMore, HaveMore, HaveOneMore, HaveRoom, HaveRows, TakesRow};
+ghost use Rattle.bsi_rows.specs.Rows.{feeders_of, row_entries};
+ghost use Rattle.bsi_table.specs.Kept.{kept_at, AreAlikeColumns, AreI64, AreInRange, AreSameColumns, HasMore, HaveMore, HaveOneMore, HaveRoom, HaveRows, TakesRow};
 
 use crate::columns::{clear_each, push_all_each, push_block_each, push_each, reserve_each};
 use crate::{Block, NoMemory};

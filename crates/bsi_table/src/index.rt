@@ -5,14 +5,15 @@
 
 ghost use Rattle.std.specs.Prelude.{◌≡◌, ◌≢◌, ◌↔◌, [], ◌+◌, ◌<◌, ◌≤◌, None, Some, length, map, slice_get, IfErr, IfOk, IsOk, IsTrue, true, OnErr, OnOk};
 ghost use Rattle.std.specs.Result.{result_err};
-ghost use Rattle.bsi_origins.specs.Origins.{max_feeders};
+ghost use Rattle.bsi_rows.specs.Table.{max_feeders, max_rows, no_rows, with_row, with_rows, AreFitting, AreFrom, AreKeptAlike};
 ghost use Rattle.bsi_shift.specs.Shifted.{shifted_entries};
-ghost use Rattle.bsi_table.specs.Answers.{missing_column, CountsConjunction, IsAnswer, IsReply, IsSelection, ReadsAmong};
+ghost use Rattle.bsi_rows.specs.Answers.{missing_column, CountsConjunction, IsAnswer, IsReply, ReadsAmong};
+ghost use Rattle.bsi_table.specs.Selections.{IsSelection};
 ghost use Rattle.bsi_schema.specs.Columns.{column_at, fits};
-ghost use Rattle.bsi_table.specs.Refusals.{index_refusal, row_refusal, rows_refusal, IsFirstOr};
-ghost use Rattle.bsi_table.specs.RowBlocks.{entries_of, fed_as, no_block_rows, HaveSameLimits};
-ghost use Rattle.bsi_table.specs.Rows.{column_of, holds, row_entries};
-ghost use Rattle.bsi_table.specs.Table.{max_rows, no_rows, with_row, with_rows, AreFitting, AreFrom, AreKeptAlike, IsInForm};
+ghost use Rattle.bsi_rows.specs.Refusals.{index_refusal, row_refusal, rows_refusal, IsFirstOr};
+ghost use Rattle.bsi_rows.specs.RowBlocks.{entries_of, fed_as, no_block_rows, HaveSameLimits};
+ghost use Rattle.bsi_rows.specs.Rows.{column_of, holds, row_entries};
+ghost use Rattle.bsi_table.specs.Kept.{IsInForm};
 
 use crate::columns::{are_kept_alike, copy_each, make_each, read_row, select_one};
 use crate::found::{count_selected, find_rows};
@@ -23,14 +24,12 @@ use crate::{
 };
 use bsi_bits::Bits;
 use bsi_origins::Origins;
+use bsi_rows::check_table;
 use bsi_schema::have_same_limits;
 use bsi_shift::Shifted;
 use std::alloc::Global;
 use std::marker::Model;
 use std::sync::Arc;
-
-/// The most rows of an index.
-pub const MAX_ROWS: u64 = 1 << 32;
 
 /// The rows of a schema that came from 1 to 64 feeders, at most as many as a limit. A row is stored as its entry in
 /// each column and the number of its feeder, one byte; no row is stored as it came. If there are several feeders, each
@@ -45,7 +44,8 @@ pub struct Index {
 
 // Clauses see the schema, the number of feeders, the limit, and the list of rows, each with its feeder.
 impl Model for Index {
-    ghost use Rattle.bsi_table.specs.Table.{fed_rows, table, IsTable, Table};
+    ghost use Rattle.bsi_table.specs.Kept.{fed_rows, IsTable};
+    ghost use Rattle.bsi_rows.specs.Table.{table, Table};
 
     ghost Value = { Table };
 
@@ -112,13 +112,7 @@ impl Index {
     pub fn check(schema: &Schema, limit: u64) -> Result<(), IndexError>
         ensures { result_err result ≡ index_refusal schema.now limit }
     {
-        if schema.columns() == 0 {
-            return Err(IndexError::NoColumns);
-        }
-        if limit == 0 || limit > MAX_ROWS {
-            return Err(IndexError::LimitOutOfRange);
-        }
-        Ok(())
+        check_table(schema, limit)
     }
 
     /// Returns the number of rows, at most the limit.

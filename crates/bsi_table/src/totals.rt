@@ -1,9 +1,9 @@
 //! The total that a query asks for, of the rows that its predicate selects.
 
 ghost use Rattle.std.specs.Prelude.{◌≡◌, None, length, map, IfOk};
-ghost use Rattle.bsi_table.specs.Answers.{columns_of_total, missing_of, IsAnswer};
-ghost use Rattle.bsi_table.specs.Rows.{holds, row_entries};
-ghost use Rattle.bsi_table.specs.Table.{fed_rows, HaveRows};
+ghost use Rattle.bsi_rows.specs.Answers.{columns_of_total, missing_of, IsAnswer};
+ghost use Rattle.bsi_rows.specs.Rows.{holds, row_entries};
+ghost use Rattle.bsi_table.specs.Kept.{fed_rows, HaveRows};
 
 use crate::{Answer, NoMemory, Query, Total};
 use bsi_bits::Bits;

@@ -2,7 +2,7 @@
 //! new system.
 
 ghost use Rattle.std.specs.Prelude.{◌≡◌, [], IfSome, length};
-ghost use Rattle.bsi_table.specs.Table.{no_rows};
+ghost use Rattle.bsi_rows.specs.Table.{no_rows};
 ghost use Rattle.bsi_system.specs.Running.{IsFeederOf};
 
 use crate::gates::{Meeting, Patience};

@@ -1,7 +1,7 @@
 //! Calls on a running system that tolerate one refused allocation: the call is then made again.
 
 ghost use Rattle.std.specs.Prelude.{◌≡◌, ◌≤◌, [], All, IfSome, length};
-ghost use Rattle.bsi_table.specs.Table.{no_rows};
+ghost use Rattle.bsi_rows.specs.Table.{no_rows};
 ghost use Rattle.bsi_system.specs.Running.{IsFeederOf};
 ghost use Rattle.bsi_versions.specs.Editions.{max_analysts};
 

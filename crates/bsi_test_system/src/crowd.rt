@@ -1,7 +1,7 @@
 //! Feeders, a loader and analysts on threads of their own.
 
 ghost use Rattle.std.specs.Prelude.{◌≡◌, ◌≤◌, [], All, IfSome, length};
-ghost use Rattle.bsi_table.specs.Table.{no_rows};
+ghost use Rattle.bsi_rows.specs.Table.{no_rows};
 ghost use Rattle.bsi_system.specs.Running.{IsFeederOf};
 ghost use Rattle.bsi_versions.specs.Editions.{max_analysts};
 

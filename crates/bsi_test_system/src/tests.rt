@@ -1,7 +1,7 @@
 //! Worked rows on a running system, in one thread. Each test tolerates one refused allocation.
 
 ghost use Rattle.std.specs.Prelude.{◌≡◌, [], All, length};
-ghost use Rattle.bsi_table.specs.Table.{no_rows};
+ghost use Rattle.bsi_rows.specs.Table.{no_rows};
 ghost use Rattle.bsi_system.specs.Running.{IsFeederOf};
 
 use crate::batches::send_batches;

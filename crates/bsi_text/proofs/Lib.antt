@@ -1,16 +1,1 @@
-pub mod AllRecords
-mod Declaring
-pub mod Determined
-mod Filling
-pub mod FirstRecords
-pub mod Joining
-mod Layouts
-mod Left
-pub mod Named
-mod Pasts
-pub mod Standing
-pub mod Taking
-mod Turns
-mod Unique
-pub mod Waiting
-mod Writes
+mod Machines

@@ -1,15 +1,17 @@
 //! The state of a script: its setup, and from `begin` on its machine.
 
-ghost use Rattle.std.specs.Prelude.{◌≡◌, ◌++◌, [], OnOk};
+ghost use Rattle.std.specs.Prelude.{◌≡◌, ◌++◌, [], IfOk, IsTrue, OnOk};
 ghost use Rattle.csv.specs.Records.{fields_of};
 ghost use Rattle.bsi_records.specs.Lines.{done_line};
-ghost use Rattle.bsi_text.specs.Scripts.{IsTurn, Running};
+ghost use Rattle.bsi_records.specs.Setups.{can_begin, machine_of};
+ghost use Rattle.bsi_reading.specs.Scripts.{IsTurn, Running};
 
 use crate::NoMemory;
-use bsi_load::Core;
+use bsi_load::{Core, MakeError};
 use bsi_records::{Setup, is_begin, read_event, write_bad, write_reply};
 use csv::ByteRecord;
 use std::alloc::Global;
+use std::mem;
 
 /// A script: what it declares before it begins, and its machine from then on.
 #[derive(Drop)]
@@ -22,7 +24,7 @@ pub(crate) enum Session {
 
 impl Session {
     ghost use Rattle.bsi_records.specs.Setups.{nothing_declared};
-    ghost use Rattle.bsi_text.specs.Scripts.{Declaring};
+    ghost use Rattle.bsi_reading.specs.Scripts.{Declaring};
     ghost use Rattle.bsi_text.specs.Sessions.{phase_of};
 
     /// Makes a script of which no record has been read.
@@ -47,10 +49,11 @@ impl Session {
         match self {
             Session::Running(core) => run(alloc, core, fields, line),
             Session::Declaring(setup) if is_begin(fields) => {
-                let Some(core) = setup.begin(alloc)? else {
+                if !setup.can_begin() {
                     return write_bad(line);
-                };
-                *self = Session::Running(core);
+                }
+                let declared = mem::replace(setup, Setup::new(alloc));
+                *self = Session::Running(begin(alloc, declared)?);
                 write_done(line)
             }
             Session::Declaring(setup) => {
@@ -62,6 +65,22 @@ impl Session {
             }
         }
     }
+}
+
+/// Makes the machine that a setup declares.
+fn begin(alloc: Global, declared: Setup) -> Result<Core, NoMemory>
+    requires { IsTrue (can_begin declared) }
+    ensures { IfOk result (λ core. core ≡ machine_of declared) }
+{
+    let (table, capacities) = declared.into_parts();
+    Core::new(alloc, table.schema, capacities, table.limit).map_err(only_memory)
+}
+
+/// Turns the refusal of a machine into refused memory. No other refusal is left once the sizes are in range.
+fn only_memory(_refused: MakeError) -> NoMemory
+    requires { _refused ≡ MakeError.NoMemory }
+{
+    NoMemory
 }
 
 /// Writes the line that answers a record of the setup that was carried out.

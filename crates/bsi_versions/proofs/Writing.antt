@@ -4,7 +4,7 @@ use Rattle.std.specs.Prelude.{fold, ◌⊎◌, OnErr, Result, Ok, Err}
 use Rattle.std.proofs.lemmas.List.{append-nil}
 use mathlib.Core.List.{IsPrefix}
 use Rattle.logbook.specs.Pages.{Book}
-use Rattle.bsi_table.specs.Table.{with_rows, Table}
+use Rattle.bsi_rows.specs.Table.{with_rows, Table}
 use Rattle.bsi_versions.specs.History.{with_list, Edition, Known, RowList}
 use Rattle.bsi_versions.specs.Editions.{after, with_all_published, pending_rows, written, HasStaged, IsStamped, IsStageOf, IsWriting, Stands, Written}
 use Rattle.bsi_versions.specs.declared.operation.Operation.{Operation}

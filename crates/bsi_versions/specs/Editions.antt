@@ -4,9 +4,9 @@ use mathlib.Core.List.{IsPrefix}
 use Rattle.left_right.specs.declared.Absorb.{Ghosts}
 use Rattle.left_right.specs.declared.writer.Writer.{Writer}
 use Rattle.logbook.specs.Pages.{Book}
-use Rattle.bsi_table.specs.RowBlocks.{fed_as, RowBlock}
-use Rattle.bsi_table.specs.Rows.{Entries}
-use Rattle.bsi_table.specs.Table.{no_rows, with_rows, Table}
+use Rattle.bsi_rows.specs.RowBlocks.{fed_as, RowBlock}
+use Rattle.bsi_rows.specs.Rows.{Entries}
+use Rattle.bsi_rows.specs.Table.{no_rows, with_rows, Table}
 use Rattle.bsi_versions.specs.History.{Edition, Known, RowList}
 use Rattle.bsi_versions.specs.declared.operation.Operation.{Operation}
 use Rattle.bsi_versions.specs.declared.operation.Operation.TheVariants.{Block as block_operation, Batch, Stamp}

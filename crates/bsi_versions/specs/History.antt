@@ -2,8 +2,8 @@
 use Rattle.std.specs.Prelude.{◌≡◌, ℕ, true, List, [], ◌∷◌, length}
 use mathlib.Core.List.{IsPrefix}
 use Rattle.logbook.specs.Pages.{Book, Cell, Named, Step, View}
-use Rattle.bsi_table.specs.Rows.{FedRow}
-use Rattle.bsi_table.specs.Table.{Table}
+use Rattle.bsi_rows.specs.Rows.{FedRow}
+use Rattle.bsi_rows.specs.Table.{Table}
 
 -- a list of rows, whole
 abbrev pub RowList : Type 0

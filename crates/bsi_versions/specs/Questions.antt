@@ -1,9 +1,9 @@
 -- What an analyst is answered.
 use Rattle.std.specs.Prelude.{Result, Ok, Err}
-use Rattle.bsi_table.specs.declared.query.Answer.{Answer}
-use Rattle.bsi_table.specs.declared.query.Query.{Query}
-use Rattle.bsi_table.specs.Answers.{IsReply}
-use Rattle.bsi_table.specs.Columns.{Declared}
+use Rattle.bsi_rows.specs.declared.query.Answer.{Answer}
+use Rattle.bsi_rows.specs.declared.query.Query.{Query}
+use Rattle.bsi_rows.specs.Answers.{IsReply}
+use Rattle.bsi_schema.specs.Columns.{Declared}
 use Rattle.bsi_versions.specs.History.{RowList}
 use Rattle.bsi_versions.specs.declared.analyst.AnalystRefused.{AnalystRefused}
 use Rattle.bsi_versions.specs.declared.analyst.AnalystRefused.TheVariants.{Gone, Ask}

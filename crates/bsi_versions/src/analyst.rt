@@ -2,7 +2,7 @@
 
 ghost use Rattle.std.specs.Prelude.{◌≡◌, ◌≢◌, ◌⊎◌, IfErr, IfSome, IsTrue, OnErr, OnOk};
 ghost use mathlib.Core.List.{IsPrefix};
-ghost use Rattle.bsi_table.specs.Answers.{CountsConjunction, IsReply};
+ghost use Rattle.bsi_rows.specs.Answers.{CountsConjunction, IsReply};
 
 use crate::edition::Edition;
 use crate::history::Known;

@@ -23,7 +23,7 @@ impl Model for Edition {
 }
 
 impl Edition {
-    ghost use Rattle.bsi_table.specs.Table.{with_rows};
+    ghost use Rattle.bsi_rows.specs.Table.{with_rows};
 
     /// Makes an edition of an index and the list that its rows make.
     pub(crate) fn new(index: Index, known: Known) -> Edition

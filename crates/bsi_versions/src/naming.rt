@@ -7,7 +7,7 @@ use std::marker::{Brand, PhantomData};
 /// Names a system in the types of its ends: the history that it writes, and the table with no row that it began as.
 pub trait Naming {
     ghost use Rattle.logbook.specs.Pages.{Book};
-    ghost use Rattle.bsi_table.specs.Table.{Table};
+    ghost use Rattle.bsi_rows.specs.Table.{Table};
 
     /// The history that the system writes.
     ghost book: { Book };
@@ -19,7 +19,7 @@ pub trait Naming {
 // A program picks the name at the call that opens its system.
 impl Naming for Brand {
     ghost use Rattle.std.specs.Prelude.{[], false};
-    ghost use Rattle.bsi_table.specs.Table.{no_rows};
+    ghost use Rattle.bsi_rows.specs.Table.{no_rows};
 
     ghost book = { record { number = 0; log_name = 0; cells_name = 0 } };
 

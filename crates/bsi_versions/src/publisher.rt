@@ -6,9 +6,9 @@
 //! copy would be part of what is shown.
 
 ghost use Rattle.std.specs.Prelude.{◌≡◌, ◌+◌, ◌<◌, ◌≤◌, [], IfErr, IfOk, IsTrue, OnErr, OnOk, length, ◌↔◌};
-ghost use Rattle.bsi_table.specs.Columns.{fits};
-ghost use Rattle.bsi_table.specs.RowBlocks.{entries_of};
-ghost use Rattle.bsi_table.specs.Table.{with_rows, AreKeptAlike};
+ghost use Rattle.bsi_schema.specs.Columns.{fits};
+ghost use Rattle.bsi_rows.specs.RowBlocks.{entries_of};
+ghost use Rattle.bsi_rows.specs.Table.{with_rows, AreKeptAlike};
 ghost use Rattle.bsi_versions.specs.Editions.{max_analysts, with_all_published, with_held, with_held_rows};
 
 use crate::copies::{Copies, exchange, stamp_all};

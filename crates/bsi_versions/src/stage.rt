@@ -7,9 +7,9 @@
 //! the index.
 
 ghost use Rattle.std.specs.Prelude.{◌≡◌, ◌<◌, [], IfErr, IfOk, IsTrue, OnErr, OnOk, length, ◌↔◌};
-ghost use Rattle.bsi_table.specs.Columns.{fits};
-ghost use Rattle.bsi_table.specs.RowBlocks.{emptied_block, entries_of, fed_as};
-ghost use Rattle.bsi_table.specs.Table.{with_row, with_rows, AreKeptAlike};
+ghost use Rattle.bsi_schema.specs.Columns.{fits};
+ghost use Rattle.bsi_rows.specs.RowBlocks.{emptied_block, entries_of, fed_as};
+ghost use Rattle.bsi_rows.specs.Table.{with_row, with_rows, AreKeptAlike};
 ghost use Rattle.bsi_versions.specs.Editions.{emptied, pending, HasStaged, IsFor, IsStageOf};
 
 use crate::copies::{Copies, append_batch, append_block};
@@ -29,7 +29,7 @@ pub(crate) struct Stage {
 
 // Clauses see the table of these rows.
 impl Model for Stage {
-    ghost use Rattle.bsi_table.specs.Table.{with_rows, Table};
+    ghost use Rattle.bsi_rows.specs.Table.{with_rows, Table};
     ghost use Rattle.bsi_versions.specs.Editions.{IsFor};
 
     ghost Value = { Table };

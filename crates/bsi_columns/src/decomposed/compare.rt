@@ -13,7 +13,7 @@ ghost use Rattle.std.specs.Bool.{OnTrue};
 ghost use Rattle.bsi_bits.specs.BitList.{word_count};
 ghost use Rattle.bsi_bits.specs.Packed.{bit_of};
 ghost use Rattle.bsi_digits.specs.Digits.{product};
-ghost use Rattle.bsi_columns.specs.Rows.{number_or_zero, selects};
+ghost use Rattle.bsi_orders.specs.Rows.{number_or_zero, selects};
 ghost use Rattle.bsi_columns.specs.DigitTests.{wants};
 ghost use Rattle.bsi_slices.specs.Spans.{KeepsRows};
 ghost use Rattle.bsi_slices.specs.Decisions.{as_wanted, relates};

@@ -13,7 +13,7 @@ ghost use Rattle.bsi_bits.specs.Packed.{bit_of};
 ghost use Rattle.bsi_columns.specs.SpanEnds.{AnswersEnd, IsPast, KeepsNearest};
 ghost use Rattle.bsi_bits.specs.SetRows.{HasRow};
 ghost use Rattle.bsi_columns.specs.Ends.{comes_first, leads, number_at, IsBetterIn, IsEndOf};
-ghost use Rattle.bsi_columns.specs.Orders.{values_at};
+ghost use Rattle.bsi_orders.specs.Orders.{values_at};
 
 use crate::decomposed::Decomposed;
 use crate::{Column, Encoding, EndDigit};

@@ -6,8 +6,8 @@
 
 ghost use Rattle.std.specs.Prelude.{◌≡◌, ◌<◌, length, sum, IfOk};
 ghost use Rattle.bsi_bits.specs.BitList.{sum_end};
-ghost use Rattle.bsi_columns.specs.Orders.{values_at};
-ghost use Rattle.bsi_columns.specs.Totals.{IsRanked};
+ghost use Rattle.bsi_orders.specs.Orders.{values_at};
+ghost use Rattle.bsi_orders.specs.Totals.{IsRanked};
 
 use crate::decomposed::Decomposed;
 use crate::{Column, Encoding, NoMemory};

@@ -3,7 +3,7 @@
 ghost use Rattle.std.specs.Prelude.{◌≡◌, ◌<◌, ◌&&◌, length, map, IfOk};
 ghost use Rattle.std.specs.Simd.Lanes.{zip2};
 ghost use Rattle.bsi_digits.specs.Digits.{product};
-ghost use Rattle.bsi_columns.specs.Rows.{number_or_zero};
+ghost use Rattle.bsi_orders.specs.Rows.{number_or_zero};
 ghost use Rattle.bsi_columns.specs.DigitTests.{relates_from, wants};
 ghost use Rattle.bsi_slices.specs.Decisions.{as_wanted, relates};
 

@@ -7,9 +7,10 @@ ghost use Rattle.bsi_digits.specs.Signed.{end_of_i64};
 ghost use Rattle.bsi_bits.specs.BitList.{max_len, sum_end};
 ghost use Rattle.bsi_columns.specs.AnyRows.{any_entries};
 ghost use Rattle.bsi_slices.specs.OrderStatistics.{IsOrderStatistic};
-ghost use Rattle.bsi_slices.specs.Orders.{values_at};
+ghost use Rattle.bsi_orders.specs.Orders.{values_at};
 ghost use Rattle.bsi_shift.specs.Shifted.{number_of, shifted_entries};
-ghost use Rattle.bsi_shift.specs.WholeNumbers.{signed_sum, IsSignedLeastOf, IsSignedGreatestOf, IsSignedMedianOf, IsSignedOrderStatistic};
+ghost use Rattle.bsi_orders.specs.WholeNumbers.{signed_sum, IsSignedLeastOf, IsSignedGreatestOf, IsSignedMedianOf};
+ghost use Rattle.bsi_shift.specs.OrderStatistics.{IsSignedOrderStatistic};
 
 use crate::{NoMemory, Shifted};
 use bsi_bits::{Bits, MAX_LEN};

@@ -18,11 +18,11 @@ ghost use Rattle.bsi_bits.specs.BitLists.{bits_at};
 ghost use Rattle.bsi_bits.specs.Packed.{bit_of, end_of_u64};
 ghost use Rattle.bsi_slices.specs.Spans.{max_lanes, IsKept, KeepsRows};
 ghost use Rattle.bsi_slices.specs.Decisions.{passes};
-ghost use Rattle.bsi_slices.specs.Rows.{selects};
+ghost use Rattle.bsi_orders.specs.Rows.{selects};
 ghost use Rattle.bsi_slices.specs.Slices.{entries_in, number, IsSliced};
 
 use crate::NoMemory;
-use crate::column::Op;
+use crate::Op;
 use crate::decision::{Decision, Relation, Test, decide};
 use crate::not_null::NotNull;
 use bsi_bits::{Bits, MAX_LEN, know_fits};

@@ -14,7 +14,7 @@ ghost use Rattle.bsi_bits.specs.Packed.{bit_of, end_of_u64};
 ghost use Rattle.bsi_bits.specs.SetRows.{HasRow};
 ghost use Rattle.bsi_slices.specs.Spans.{max_lanes};
 ghost use Rattle.bsi_slices.specs.Ends.{comes_first, leads, yields, IsBetterIn, IsEndUpto, IsEndOf, first_is_clear, nearest_place, number_at};
-ghost use Rattle.bsi_slices.specs.Orders.{values_at};
+ghost use Rattle.bsi_orders.specs.Orders.{values_at};
 
 use crate::Column;
 use crate::slices::Slices;

@@ -3,8 +3,8 @@
 
 ghost use Rattle.std.specs.Prelude.{◌≡◌, ◌<◌, length, sum, IfOk};
 ghost use Rattle.bsi_bits.specs.BitList.{sum_end};
-ghost use Rattle.bsi_slices.specs.Orders.{values_at};
-ghost use Rattle.bsi_slices.specs.Totals.{IsRanked};
+ghost use Rattle.bsi_orders.specs.Orders.{values_at};
+ghost use Rattle.bsi_orders.specs.Totals.{IsRanked};
 
 use crate::slices::{MAX_SLICES, Slices};
 use crate::{Column, NoMemory};

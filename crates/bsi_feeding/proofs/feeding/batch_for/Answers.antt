@@ -1,5 +1,5 @@
 use Rattle.std.proofs.Common.{◌≡◌, ◌^◌, ap, rules, ◌∙◌}
-use Rattle.bsi_table.specs.Table.{no_rows, Table}
+use Rattle.bsi_rows.specs.Table.{no_rows, Table}
 use Rattle.bsi_feeding.proofs.feeding.batch_for.Goals as goal
 
 pub returns-clause-batch : goal.returns-clause-batch

@@ -1,8 +1,8 @@
 use Rattle.std.proofs.Common.{◌≡◌, Bool, true, Option, Some, IfSome, ap, arith, sym, subst, ◌∙◌}
 use Rattle.bsi_rings.specs.Rings.{Sending}
-use Rattle.bsi_text.specs.declared.rows.SourceFault.{SourceFault}
-use Rattle.bsi_text.proofs.Joining.{taken_both}
-use Rattle.bsi_text.proofs.Taking.{taken_none}
+use Rattle.bsi_reading.specs.declared.rows.SourceFault.{SourceFault}
+use Rattle.bsi_reading.proofs.Joining.{taken_both}
+use Rattle.bsi_reading.proofs.Taking.{taken_none}
 use Rattle.bsi_feeding.specs.Feeding.{HasFailed}
 use Rattle.bsi_feeding.proofs.Feeds.{failed_after, fed_first, of_some, sent_more, sent_none}
 use Rattle.bsi_feeding.proofs.feeding.feed.Goals.{in-Stopped, in-Over, in-Failed}

@@ -1,8 +1,8 @@
 use Rattle.std.proofs.Common.{◌≡◌, ◌<◌, ◌≤◌, None, length, refl, arith, rules}
 use Rattle.std.proofs.lemmas.List.{length-map}
-use Rattle.bsi_table.specs.RowBlocks.{entries_of}
-use Rattle.bsi_table.specs.Rows.{FedRow}
-use Rattle.bsi_text.proofs.Taking.{taken_none}
+use Rattle.bsi_rows.specs.RowBlocks.{entries_of}
+use Rattle.bsi_rows.specs.Rows.{FedRow}
+use Rattle.bsi_reading.proofs.Taking.{taken_none}
 use Rattle.bsi_feeding.specs.Feeding.{max_batch_rows}
 use Rattle.bsi_feeding.proofs.Filled.{refused_now}
 use Rattle.bsi_feeding.proofs.feeding.feed_batch.Goals as goal

@@ -1,13 +1,13 @@
 use Rattle.std.proofs.Common.{◌≡◌, ◌++◌, [], None, length, refl, ap, subst, sym, arith, rules, ◌∙◌}
 use Rattle.std.proofs.lemmas.List.{append-nil, length-append, length-map}
-use Rattle.bsi_table.specs.Columns.{Declared}
-use Rattle.bsi_table.specs.RowBlocks.{entries_of, HaveSameLimits, RowBlock}
-use Rattle.bsi_table.specs.Rows.{FedRow}
-use Rattle.bsi_table.specs.Table.{with_rows, Table}
-use Rattle.bsi_table.proofs.CallerLemmas.{fitting-alike}
-use Rattle.bsi_text.proofs.Joining.{taken_both}
-use Rattle.bsi_text.proofs.Taking.{taken_none}
-use Rattle.bsi_text.specs.Sources.{GivesFirst, Source}
+use Rattle.bsi_schema.specs.Columns.{Declared}
+use Rattle.bsi_rows.specs.RowBlocks.{entries_of, HaveSameLimits, RowBlock}
+use Rattle.bsi_rows.specs.Rows.{FedRow}
+use Rattle.bsi_rows.specs.Table.{with_rows, Table}
+use Rattle.bsi_rows.proofs.CallerLemmas.{fitting-alike}
+use Rattle.bsi_reading.proofs.Joining.{taken_both}
+use Rattle.bsi_reading.proofs.Taking.{taken_none}
+use Rattle.bsi_reading.specs.Sources.{GivesFirst, Source}
 use Rattle.bsi_feeding.specs.Feeding.{FailsNow, GivesNone}
 use Rattle.bsi_feeding.proofs.Feeds.{passed_none, HasPassed}
 use Rattle.bsi_feeding.proofs.Filled.{entries_append, fill_fails, fill_over, no_entries_of, passed_fill, passed_next, same_block}

@@ -1,6 +1,6 @@
 use Rattle.std.proofs.Common.{◌≡◌, ◌*◌, ◌<◌, ◌≤◌, length}
-use Rattle.bsi_table.specs.RowBlocks.{entries_of, max_block_rows}
-use Rattle.bsi_text.specs.Sources.{max_records}
+use Rattle.bsi_rows.specs.RowBlocks.{entries_of, max_block_rows}
+use Rattle.bsi_reading.specs.Sources.{max_records}
 use Rattle.bsi_feeding.proofs.Feeds.{HasPassed}
 use Rattle.bsi_feeding.proofs.feeding.gather.Given as goal
 

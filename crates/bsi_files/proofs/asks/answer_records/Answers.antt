@@ -2,8 +2,8 @@ use Rattle.std.proofs.Common.{◌≡◌, false, true, arith, rules, sym, ◌∙�
 use Rattle.std.specs.Io.KnownBytes.{Appends}
 use Rattle.csv.specs.Records.{fields_of}
 use Rattle.std.specs.Prelude.{◌≢◌, IfErr}
-use Rattle.bsi_text.specs.RecordSources.{StopsAt, TakesNext}
-use Rattle.bsi_text.specs.Waiting.{IsCut}
+use Rattle.bsi_reading.specs.RecordSources.{StopsAt, TakesNext}
+use Rattle.bsi_reading.specs.Waiting.{IsCut}
 use Rattle.bsi_files.specs.AskLines.{IsAskLine}
 use Rattle.bsi_files.proofs.Asking.{only_long, stands_all, stands_cut, stands_more, stands_none, stands_part}
 use Rattle.bsi_files.specs.declared.faults.FilesFault.TheVariants.{TooLong, Write}

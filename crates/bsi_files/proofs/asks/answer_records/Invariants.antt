@@ -1,7 +1,7 @@
 use Rattle.std.proofs.Common.{◌≡◌, ◌≤◌, None}
 use Rattle.csv.specs.Reading.{reader_state, source_of}
-use Rattle.bsi_text.specs.Sources.{max_records}
-use Rattle.bsi_text.specs.Texts.{FromText}
+use Rattle.bsi_reading.specs.Sources.{max_records}
+use Rattle.bsi_reading.specs.Texts.{FromText}
 use Rattle.bsi_files.specs.AskLines.{IsAskLine}
 use Rattle.bsi_files.proofs.Asking.{StandsAt}
 use Rattle.bsi_files.proofs.asks.answer_records.Given as goal

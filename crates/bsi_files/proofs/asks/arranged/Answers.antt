@@ -1,5 +1,5 @@
 use Rattle.std.proofs.Common.{subst}
-use Rattle.bsi_table.specs.Answers.{IsAnswer}
+use Rattle.bsi_rows.specs.Answers.{IsAnswer}
 use Rattle.bsi_files.proofs.Rising.{shown_rows}
 use Rattle.bsi_files.proofs.asks.arranged.Goals as goal
 

@@ -2,7 +2,7 @@ use Rattle.std.proofs.Common.{◌≡◌, ◌<◌, length, slice_index_or, subst,
 use Rattle.std.specs.Prelude.{IfErr}
 use Rattle.std.specs.Io.KnownBytes.{Appends}
 use Rattle.bsi_records.specs.Lines.{fed_line}
-use Rattle.bsi_text.specs.Waiting.{IsCut}
+use Rattle.bsi_reading.specs.Waiting.{IsCut}
 use Rattle.bsi_files.specs.declared.faults.FilesFault.TheVariants.{NoMemory, Write}
 use Rattle.bsi_files.specs.declared.loading.Fed.{Fed}
 use Rattle.bsi_files.proofs.Passing.{if_err}

@@ -1,6 +1,6 @@
 use Rattle.csv.specs.Reading.{default_config, strip_bom}
 use Rattle.csv.specs.declared.parser.State.TheVariants as st
-use Rattle.bsi_text.proofs.AllRecords as texts
+use Rattle.bsi_reading.proofs.AllRecords as texts
 use Rattle.bsi_files.proofs.Certain.{one_run}
 use Rattle.bsi_files.proofs.laws.determined.Goals as goal
 

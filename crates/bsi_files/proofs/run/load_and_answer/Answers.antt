@@ -6,8 +6,8 @@ use Rattle.bsi_files.proofs.Asking.{all_follows, leaves_late, part_follows}
 use Rattle.bsi_files.proofs.Files.{few_fed, late_counted, late_quiet, run_lines}
 use Rattle.bsi_files.proofs.Passing.{if_err, if_err_both, if_some, if_some_follows, on_ok}
 use Rattle.std.specs.Prelude.{IfErr, OnOk}
-use Rattle.bsi_origins.specs.Origins.{max_feeders}
-use Rattle.bsi_table.specs.Columns.{Declared}
+use Rattle.bsi_rows.specs.Table.{max_feeders}
+use Rattle.bsi_schema.specs.Columns.{Declared}
 use Rattle.bsi_files.specs.RunFaults.{IsLoadFault}
 use Rattle.bsi_files.proofs.Failing.{late_run, leaves_loaded, load_counted, load_run}
 use Rattle.bsi_files.proofs.run.load_and_answer.Goals as goal

@@ -6,7 +6,7 @@ use Rattle.bsi_files.proofs.Failing.{few_kept, kept_load, load_early}
 use Rattle.bsi_files.proofs.Limits.{closed_all, over_limit}
 use Rattle.bsi_files.proofs.Passing.{if_err, if_err_both}
 use Rattle.bsi_files.specs.declared.faults.FilesFault.TheVariants.{IndexFull}
-use Rattle.bsi_origins.specs.Origins.{max_feeders}
+use Rattle.bsi_rows.specs.Table.{max_feeders}
 use Rattle.bsi_system.specs.Running.{SystemName}
 use Rattle.bsi_files.specs.Ends.{tasks, AreClosings, AreEndsOf}
 use Rattle.bsi_files.specs.Takings.{all_closed, IsDrained, IsFine, IsFullBefore}

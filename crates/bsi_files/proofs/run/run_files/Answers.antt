@@ -8,10 +8,10 @@ use Rattle.bsi_files.proofs.SchemaFaults.{schema_counted, schema_leaves, schema_
 use Rattle.bsi_files.specs.Begun.{Begins}
 use Rattle.bsi_files.specs.Feds.{HasRun}
 use Rattle.bsi_files.specs.Runs.{IsRun}
-use Rattle.bsi_origins.specs.Origins.{max_feeders}
-use Rattle.bsi_text.specs.SchemaTexts.{IsSchemaFault, IsSchemaText}
+use Rattle.bsi_rows.specs.Table.{max_feeders}
+use Rattle.bsi_reading.specs.SchemaTexts.{IsSchemaFault, IsSchemaText}
 use Rattle.bsi_files.specs.Writing.{Leaves, WritesAll}
-use Rattle.bsi_text.proofs.Joining.{is_whole}
+use Rattle.bsi_reading.proofs.Joining.{is_whole}
 use Rattle.bsi_files.proofs.Asking.{all_follows, leaves_follows}
 use Rattle.bsi_files.proofs.Files.{matched_long, run_of_bytes}
 use Rattle.bsi_files.proofs.Passing.{if_err, on_ok, passed_on}

@@ -2,7 +2,7 @@ use Rattle.std.proofs.Common.{◌≡◌, All, List, IfSome, inl, length, ap, ref
 use Rattle.std.specs.Prelude.{IfErr, OnOk}
 use Rattle.bsi_rings.specs.Rings.{Sending}
 use Rattle.bsi_system.specs.Running.{IsFeederOf, Loading}
-use Rattle.bsi_table.specs.Table.{Table}
+use Rattle.bsi_rows.specs.Table.{Table}
 use Rattle.bsi_files.specs.Ends.{AreFeeders, AreReady}
 use Rattle.bsi_files.specs.Feds.{HasRun}
 use Rattle.bsi_files.specs.RunFaults.{IsRunFault}

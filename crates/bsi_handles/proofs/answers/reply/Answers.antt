@@ -2,7 +2,7 @@ use Rattle.std.proofs.Common.{◌≡◌, Option, None, Some, List, ℕ, map, len
 use Rattle.std.specs.Prelude.{MatchOption}
 use Rattle.bsi_records.proofs.Spelling.{query_is_there}
 use Rattle.bsi_records.specs.Events.{IsQuery}
-use Rattle.bsi_table.specs.Answers.{missing_column}
+use Rattle.bsi_rows.specs.Answers.{missing_column}
 use Rattle.bsi_handles.proofs.answers.reply.Goals as goal
 
 -- no column of a query that was read is missing

@@ -1,5 +1,5 @@
 use Rattle.std.proofs.Common.{arith, subst, sym}
-use Rattle.bsi_table.specs.Table.{AreFitting, AreFrom}
+use Rattle.bsi_rows.specs.Table.{AreFitting, AreFrom}
 use Rattle.bsi_handles.proofs.GivenRows.{fitting-given_rows, from-given_rows}
 use Rattle.bsi_handles.proofs.blocks.append_block.Goals as goal
 

@@ -1,6 +1,6 @@
 use Rattle.std.proofs.Common.{◌≡◌, ◌<◌, ◌*◌, true, length, sym, ap, ◌∙◌, arith, subst}
-use Rattle.bsi_table.specs.RowBlocks.{RowBlock}
-use Rattle.bsi_table.specs.Table.{with_rows, Table}
+use Rattle.bsi_rows.specs.RowBlocks.{RowBlock}
+use Rattle.bsi_rows.specs.Table.{with_rows, Table}
 use Rattle.bsi_handles.specs.Columns.{are_columns, given_rows, row_count, AreTaken}
 use Rattle.bsi_handles.proofs.GivenRows.{with_none, with_block}
 use Rattle.bsi_handles.proofs.blocks.append_blocks.Goals as goal

@@ -1,6 +1,6 @@
 use Rattle.std.proofs.Common.{◌≡◌, ◌*◌}
 use Rattle.std.specs.Prelude.{min}
-use Rattle.bsi_table.specs.RowBlocks.{max_block_rows}
+use Rattle.bsi_rows.specs.RowBlocks.{max_block_rows}
 use Rattle.bsi_handles.specs.Calls.{with_first}
 use Rattle.bsi_handles.proofs.blocks.append_blocks.Given as goal
 

@@ -1,8 +1,8 @@
 use Rattle.std.proofs.Common.{◌≡◌, ◌+◌, ◌-◌, List, [], ◌∷◌, ◌++◌, true, length, refl, ap, sym, subst, ◌∙◌, arith}
 use Rattle.std.proofs.lemmas.List.{length-append}
-use Rattle.bsi_table.specs.Columns.{fits, Declared}
-use Rattle.bsi_table.specs.RowBlocks.{RowBlock}
-use Rattle.bsi_table.specs.Rows.{Entries, FedRow}
+use Rattle.bsi_schema.specs.Columns.{fits, Declared}
+use Rattle.bsi_rows.specs.RowBlocks.{RowBlock}
+use Rattle.bsi_rows.specs.Rows.{Entries, FedRow}
 use Rattle.bsi_handles.specs.Columns.{given_rows, row_of}
 use Rattle.bsi_handles.proofs.GivenRows.{given_rows-more, given_rows-none}
 use Rattle.bsi_handles.proofs.blocks.fill_block.Goals as goal

@@ -4,8 +4,8 @@ use Rattle.std.proofs.lemmas.List.{get_or-map, length-map, length_push}
 use Rattle.std.proofs.lemmas.Slice.Zip.{zip_end, zip_turn}
 use Rattle.bsi_schema.specs.Limits.{limits_of}
 use Rattle.bsi_schema.specs.declared.limits.Limits.{Limits}
-use Rattle.bsi_table.specs.Columns.{column_at, fits, is_between, is_taken_by, NamedColumn}
-use Rattle.bsi_table.specs.Rows.{entry_at}
+use Rattle.bsi_schema.specs.Columns.{column_at, fits, is_between, is_taken_by, NamedColumn}
+use Rattle.bsi_rows.specs.Rows.{entry_at}
 use Rattle.bsi_schema.proofs.Fitting.{fits-each, limits_at, limits_long, misfit-at}
 use Rattle.bsi_handles.specs.Columns.{entry_of, row_of}
 use Rattle.bsi_handles.specs.declared.columns.GivenColumn.{GivenColumn}

@@ -1,6 +1,6 @@
 use Rattle.std.proofs.Common.{◌≡◌, ℕ, ◌<◌, ◌≤◌, length, true, false}
-use Rattle.bsi_table.specs.Columns.{column_at, fits, is_taken_by}
-use Rattle.bsi_table.specs.Rows.{entry_at}
+use Rattle.bsi_schema.specs.Columns.{column_at, fits, is_taken_by}
+use Rattle.bsi_rows.specs.Rows.{entry_at}
 use Rattle.bsi_handles.specs.Columns.{row_of}
 use Rattle.bsi_handles.proofs.fitting.first_misfit.Given as goal
 

@@ -1,6 +1,6 @@
 use Rattle.std.proofs.Common.{◌≡◌, true, false, rules, tests}
 use Rattle.std.proofs.lemmas.Iterator.{first_from_Range}
-use Rattle.bsi_table.specs.Columns.{is_between}
+use Rattle.bsi_schema.specs.Columns.{is_between}
 use Rattle.bsi_handles.specs.Columns.{entry_of}
 use Rattle.bsi_handles.proofs.fitting.first_refused.Goals as goal
 

@@ -1,8 +1,8 @@
 use Rattle.std.proofs.Common.{List, ℕ, Option, refl, subst, sym}
 use Rattle.bsi_records.specs.Events.{IsQuery}
 use Rattle.bsi_records.specs.Reading.{IsReadAs}
-use Rattle.bsi_table.specs.declared.query.Query.{Query}
-use Rattle.bsi_table.specs.declared.query.Total.TheVariants.{Count}
+use Rattle.bsi_rows.specs.declared.query.Query.{Query}
+use Rattle.bsi_rows.specs.declared.query.Total.TheVariants.{Count}
 use Rattle.csv.specs.Records.{fields_of}
 use Rattle.bsi_handles.proofs.selection.read_predicate.Goals as goal
 

@@ -2,9 +2,9 @@ use Rattle.std.proofs.Common.{◌≡◌, Option, None, Some, List, ◌∷◌, �
 use Rattle.std.specs.Prelude.{MatchOption}
 use Rattle.bsi_records.proofs.Spelling.{query_is_there}
 use Rattle.bsi_records.specs.Predicates.{IsPredicate}
-use Rattle.bsi_table.specs.Answers.{missing_column}
-use Rattle.bsi_table.specs.declared.query.Query.{Query}
-use Rattle.bsi_table.specs.declared.query.Total.TheVariants.{Count}
+use Rattle.bsi_rows.specs.Answers.{missing_column}
+use Rattle.bsi_rows.specs.declared.query.Query.{Query}
+use Rattle.bsi_rows.specs.declared.query.Total.TheVariants.{Count}
 use Rattle.bsi_handles.proofs.selection.write_mask.Goals as goal
 
 -- no column of a predicate that was read is missing, as none of the count by it

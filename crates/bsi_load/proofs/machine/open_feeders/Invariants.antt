@@ -1,6 +1,6 @@
 use Rattle.std.proofs.Common.{◌≡◌, ◌≤◌, length, map, take}
 use Rattle.std.specs.Prelude.{vec_capacity}
-use Rattle.bsi_load.specs.Sizes.{new_feeder}
+use Rattle.bsi_rows.specs.Sizes.{new_feeder}
 use Rattle.bsi_load.proofs.machine.open_feeders.Given as goal
 
 abbrev pub invariant-feeders : goal.invariant-feeders

@@ -1,5 +1,5 @@
 use Rattle.std.proofs.Common.{◌≡◌, ◌<◌, All, get_or, set, get_or-set_same, sym, ap, subst, arith, ◌∙◌}
-use Rattle.bsi_origins.specs.Origins.{count_before}
+use Rattle.bsi_rows.specs.Numbering.{count_before}
 use Rattle.bsi_origins.proofs.Numbers.{counted_alone}
 use Rattle.bsi_origins.proofs.numbering.count_forward.Goals as goal
 

@@ -1,5 +1,6 @@
 use Rattle.std.proofs.Common.{◌≡◌, ◌+◌, ◌<◌, ◌≤◌, get_or, set, length-set, sym, subst, arith, ◌∙◌}
-use Rattle.bsi_origins.specs.Origins.{count_before, AreCountsBefore}
+use Rattle.bsi_rows.specs.Numbering.{count_before}
+use Rattle.bsi_origins.specs.Origins.{AreCountsBefore}
 use Rattle.bsi_origins.proofs.Numbers.{count_before-le, counted_more}
 use Rattle.bsi_origins.proofs.numbering.count_rows.Goals as goal
 

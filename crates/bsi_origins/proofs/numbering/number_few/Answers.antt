@@ -3,8 +3,7 @@ use Rattle.std.proofs.lemmas.Iterator.Consumers.{YieldsList-end, YieldsList-from
 use Rattle.std.proofs.lemmas.List.{get_or_default, length-append, take_all}
 use Rattle.std.proofs.lemmas.List.Elements.{All-get_or}
 use Rattle.bsi_bits.specs.BitList.{set_places}
-use Rattle.bsi_origins.specs.Numbering.{numbered_at, number_within}
-use Rattle.bsi_origins.specs.Origins.{count_before}
+use Rattle.bsi_rows.specs.Numbering.{numbered_at, number_within, count_before}
 use Rattle.bsi_origins.proofs.Numbers.{counted_none, numbered_more, places-rising, places-within}
 use Rattle.bsi_origins.proofs.numbering.number_few.Goals as goal
 

@@ -1,7 +1,7 @@
 use Rattle.std.proofs.Common.{◌≡◌, ◌≤◌, length, take}
 use Rattle.std.specs.Prelude.{slice_index_or}
 use Rattle.bsi_bits.specs.BitList.{set_places}
-use Rattle.bsi_origins.specs.Numbering.{numbered_at}
+use Rattle.bsi_rows.specs.Numbering.{numbered_at}
 use Rattle.bsi_origins.specs.Origins.{AreCountsBefore}
 use Rattle.bsi_origins.proofs.numbering.number_few.Given as goal
 

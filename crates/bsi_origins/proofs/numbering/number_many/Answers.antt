@@ -1,8 +1,8 @@
 use Rattle.std.proofs.Common.{◌≡◌, ◌+◌, ◌<◌, ◌++◌, ◌∷◌, [], length, get_or, set, refl, sym, ap, subst, arith, length-set, ◌∙◌}
 use Rattle.std.specs.Prelude.{slice_index_or, false}
 use Rattle.std.proofs.lemmas.Option.{get_or_from_slice_get}
-use Rattle.bsi_origins.specs.Numbering.{number_within}
-use Rattle.bsi_origins.specs.Origins.{count_before, AreCountsBefore}
+use Rattle.bsi_rows.specs.Numbering.{number_within, count_before}
+use Rattle.bsi_origins.specs.Origins.{AreCountsBefore}
 use Rattle.bsi_origins.proofs.Numbers.{counted_more, counted_none, numbered_found, numbered_passed}
 use Rattle.bsi_origins.proofs.numbering.number_many.Goals as goal
 use Rattle.bsi_origins.proofs.numbering.number_many.Goals.{then-get+in_ok-push, else-get}

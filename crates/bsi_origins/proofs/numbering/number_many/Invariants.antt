@@ -1,5 +1,5 @@
 use Rattle.std.proofs.Common.{◌≡◌, length}
-use Rattle.bsi_origins.specs.Numbering.{numbered_at}
+use Rattle.bsi_rows.specs.Numbering.{numbered_at}
 use Rattle.bsi_origins.specs.Origins.{AreCountsBefore}
 use Rattle.bsi_origins.proofs.Numbers.{places_below}
 use Rattle.bsi_origins.proofs.numbering.number_many.Given as goal

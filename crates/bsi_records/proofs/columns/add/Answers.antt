@@ -1,7 +1,7 @@
 use Rattle.std.proofs.Common.{◌≡◌, Some, None, true, false, pos, w64, IfErr, IfOk, OnOk, subst, sym, rules}
 use Rattle.std.proofs.lemmas.Int.{to_z-of_z}
-use Rattle.bsi_table.specs.Columns.{form_of, named_column, with_column}
-use Rattle.bsi_table.specs.Refusals.{column_refusal, signed_refusal, IsFirstOr}
+use Rattle.bsi_schema.specs.Columns.{form_of, named_column, with_column}
+use Rattle.bsi_rows.specs.Refusals.{column_refusal, signed_refusal, IsFirstOr}
 use Rattle.bsi_schema.specs.declared.schema_error.SchemaError.TheVariants.{NoMemory}
 use Rattle.bsi_records.specs.Setups.{added_after, IsChange}
 use Rattle.bsi_records.proofs.Adding.{added, added_signed, kept_by, refused, refused_signed, told}

@@ -1,6 +1,6 @@
 use Rattle.std.proofs.Common.{drop}
 use Rattle.csv.specs.Records.{fields_of}
-use Rattle.bsi_table.specs.declared.query.Pred.{Pred}
+use Rattle.bsi_rows.specs.declared.query.Pred.{Pred}
 use Rattle.bsi_records.specs.Predicates.{IsPredicate}
 use Rattle.bsi_records.proofs.Spelling.{is_query, no_predicate_query, no_total_query}
 use Rattle.bsi_records.proofs.queries.read_query.Goals as goal

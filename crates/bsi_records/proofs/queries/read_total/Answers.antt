@@ -1,7 +1,7 @@
 use Rattle.std.proofs.Common.{◌≡◌, true, false, drop, option_map, ap, sym, ◌∙◌, codes, subst}
 use Rattle.std.specs.Str.{bytes_eq}
 use Rattle.csv.specs.Records.{fields_of}
-use Rattle.bsi_table.specs.Columns.{position_of}
+use Rattle.bsi_schema.specs.Columns.{position_of}
 use Rattle.bsi_records.specs.Events.{total_of_column}
 use Rattle.bsi_records.proofs.SpellTotals.{count_total, list_total, named_total, no_column_total, no_name, no_total, no_word_total, other_total, word_total}
 use Rattle.bsi_records.proofs.queries.read_total.Goals as goal

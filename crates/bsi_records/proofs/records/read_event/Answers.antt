@@ -2,7 +2,7 @@ use Rattle.std.proofs.Common.{◌≡◌, true, false, Some, None, codes, drop, o
 use Rattle.std.specs.Str.{bytes_eq}
 use Rattle.std.proofs.lemmas.Result.{IfOk-weaker}
 use Rattle.csv.specs.Records.{field_at, fields_of}
-use Rattle.bsi_load.specs.declared.event.Event.TheVariants.{Load, Close}
+use Rattle.bsi_rows.specs.declared.event.Event.TheVariants.{Load, Close}
 use Rattle.bsi_records.specs.Events.{plain_event, total_of}
 use Rattle.bsi_records.proofs.EventWords.{no_close_total, no_load_total, no_submit_total}
 use Rattle.bsi_records.proofs.Events.{begins, closed, loaded, mapped, no_event, no_word, plain_read, query_event}

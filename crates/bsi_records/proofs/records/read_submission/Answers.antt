@@ -1,6 +1,6 @@
 use Rattle.std.proofs.Common.{◌≡◌, option_map, option_and_then, drop, sym, ◌∙◌, ap, rules}
 use Rattle.csv.specs.Records.{field_at, fields_of}
-use Rattle.bsi_load.specs.declared.event.Event.TheVariants.{Submit}
+use Rattle.bsi_rows.specs.declared.event.Event.TheVariants.{Submit}
 use Rattle.bsi_records.specs.Numbers.{feeder_of, values_in}
 use Rattle.bsi_records.proofs.Events.{fed_by, mapped_by, submitted}
 use Rattle.bsi_records.proofs.records.read_submission.Goals as goal

@@ -2,7 +2,7 @@ use Rattle.std.proofs.Common.{[], ◌∷◌, ap, sym, subst}
 use Rattle.bsi_shell.proofs.Cutting.{cut_each, of_ok, told_line, untold}
 use Rattle.bsi_shell.proofs.telling.tell_fault.Goals as goal
 use Rattle.bsi_shell.proofs.telling.tell_fault.Goals.{then-is_ok, else-is_ok}
-use Rattle.bsi_text.specs.Waiting.{IsCut}
+use Rattle.bsi_reading.specs.Waiting.{IsCut}
 
 pub returns-clause-told : goal.returns-clause-told
 returns-clause-told g c =

@@ -1,7 +1,7 @@
 use Rattle.std.proofs.Common.{ℕ, List, subst}
 use Rattle.bsi_shell.proofs.Cutting.{cut_each}
 use Rattle.bsi_shell.proofs.telling.tell_usage.Goals as goal
-use Rattle.bsi_text.specs.Waiting.{IsCut}
+use Rattle.bsi_reading.specs.Waiting.{IsCut}
 
 pub returns-clause-told : goal.returns-clause-told
 returns-clause-told g c =

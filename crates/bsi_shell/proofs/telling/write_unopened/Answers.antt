@@ -3,8 +3,8 @@ use Rattle.std.specs.Io.KnownBytes.{Appends}
 use Rattle.std.specs.Prelude.{codes}
 use Rattle.bsi_shell.proofs.Cutting.{cut_each}
 use Rattle.bsi_shell.proofs.telling.write_unopened.Goals as goal
-use Rattle.bsi_text.proofs.Waiting.{cut_front, cut_whole}
-use Rattle.bsi_text.specs.Waiting.{IsCut}
+use Rattle.bsi_reading.proofs.Waiting.{cut_front, cut_whole}
+use Rattle.bsi_reading.specs.Waiting.{IsCut}
 
 -- the first text was cut
 pub returns-in_err-write_bytes : goal.returns-in_err-write_bytes

@@ -1,7 +1,7 @@
 use Rattle.std.proofs.Common.{rules}
 use Rattle.std.specs.Prelude.{IfSome}
-use Rattle.bsi_text.specs.Texts.{IsAnswered, IsBegun}
-use Rattle.bsi_text.proofs.Standing.{answered_begun}
+use Rattle.bsi_reading.specs.Texts.{IsAnswered, IsBegun}
+use Rattle.bsi_reading.proofs.Standing.{answered_begun}
 use Rattle.bsi_shell.proofs.Runs.{answered_kept, begun_kept, if_some, of_each, on_both, on_err}
 use Rattle.bsi_shell.proofs.Scripts.{script_left}
 use Rattle.bsi_shell.proofs.words.run_to_end.Goals as goal

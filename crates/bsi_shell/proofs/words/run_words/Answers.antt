@@ -2,7 +2,7 @@ use Rattle.std.proofs.Common.{inl, refl, subst, sym}
 use Rattle.bsi_files.specs.declared.faults.FilesFault.TheVariants.{NoMemory}
 use Rattle.bsi_shell.specs.Commands.{BeginsWithFiles}
 use Rattle.bsi_shell.specs.declared.files.RunFault.TheVariants.{Run}
-use Rattle.bsi_text.proofs.Standing.{nothing_begun}
+use Rattle.bsi_reading.proofs.Standing.{nothing_begun}
 use Rattle.bsi_shell.proofs.Runs.{keeps_same, of_any}
 use Rattle.bsi_shell.proofs.words.run_words.Goals as goal
 

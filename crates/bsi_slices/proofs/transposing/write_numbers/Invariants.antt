@@ -1,6 +1,6 @@
 use Rattle.std.proofs.Common.{◌≡◌, ℕ, ◌<◌, ◌≤◌, length, get_or, None}
 use Rattle.bsi_bits.specs.BitList.{max_block}
-use Rattle.bsi_slices.specs.Rows.{number_or_zero}
+use Rattle.bsi_orders.specs.Rows.{number_or_zero}
 use Rattle.bsi_slices.proofs.transposing.write_numbers.Given as goal
 
 abbrev pub invariant-entries : goal.invariant-entries

@@ -2,8 +2,8 @@ use Rattle.std.proofs.Common.{ℕ, ◌≡◌, ◌<◌, Option, None, Some, List,
 use Rattle.std.specs.Prelude.{IfSome}
 use Rattle.std.specs.Option.{option_copied}
 use mathlib.Core.List.{IsPrefix}
-use Rattle.bsi_table.specs.RowBlocks.{entries_of}
-use Rattle.bsi_table.specs.Table.{Table}
+use Rattle.bsi_rows.specs.RowBlocks.{entries_of}
+use Rattle.bsi_rows.specs.Table.{Table}
 use Rattle.bsi_rings.specs.Rings.{AllFit, Intake}
 use Rattle.bsi_system.specs.Channels.{HasFirst, IsBatchAt}
 use Rattle.bsi_system.proofs.Takings.{batch_read}

@@ -1,7 +1,7 @@
 use Rattle.std.proofs.Common.{[], ◌∷◌}
 use Rattle.std.specs.Prelude.{IsTrue}
 use Rattle.std.proofs.lemmas.List.Elements.{All-head}
-use Rattle.bsi_table.specs.Columns.{fits}
+use Rattle.bsi_schema.specs.Columns.{fits}
 use Rattle.bsi_system.proofs.Takings.{first_fits, first_there}
 use Rattle.bsi_system.proofs.holding.hold_first.Goals as goal
 

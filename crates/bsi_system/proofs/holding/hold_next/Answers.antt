@@ -1,4 +1,4 @@
-use Rattle.bsi_table.specs.RowBlocks.{entries_of}
+use Rattle.bsi_rows.specs.RowBlocks.{entries_of}
 use Rattle.bsi_system.specs.Channels.{IsBatchAt}
 use Rattle.bsi_system.proofs.Takings.{first_there}
 use Rattle.bsi_system.proofs.holding.hold_next.Goals as goal

@@ -1,6 +1,6 @@
 use Rattle.std.proofs.Common.{◌≡◌, ℕ, ◌+◌, ◌<◌, ◌≤◌, [], length}
 use Rattle.bsi_shift.specs.Shifted.{shifted_entries, shifted_room, IsAlike}
-use Rattle.bsi_table.specs.Table.{kept_at}
+use Rattle.bsi_table.specs.Kept.{kept_at}
 use Rattle.bsi_table.proofs.columns.clear_each.Given as goal
 
 -- the columns so far are empty, and those behind them are those of the start

@@ -1,6 +1,6 @@
 use Rattle.std.proofs.Common.{◌≡◌, ℕ, ◌<◌, ◌≤◌, length}
 use Rattle.std.specs.Prelude.{vec_capacity}
-use Rattle.bsi_table.specs.Table.{kept_at, IsSameColumn}
+use Rattle.bsi_table.specs.Kept.{kept_at, IsSameColumn}
 use Rattle.bsi_table.proofs.columns.copy_each.Given as goal
 
 -- the columns so far are copied

@@ -2,7 +2,7 @@ use Rattle.std.proofs.Common.{◌∷◌, ◌++◌, [], length, ap, sym, subst, a
 use Rattle.std.proofs.lemmas.List.{get_or_append_left, length-append}
 use Rattle.std.proofs.Math.Seq.{get_or-append_seam}
 use Rattle.bsi_schema.specs.Columns.{column_at}
-use Rattle.bsi_table.specs.Table.{kept_at, no_entries, Keeps}
+use Rattle.bsi_table.specs.Kept.{kept_at, no_entries, Keeps}
 use Rattle.bsi_table.proofs.columns.make_each.Goals as goal
 
 pub columns-preserved : goal.columns-preserved

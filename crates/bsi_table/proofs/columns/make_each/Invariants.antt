@@ -1,7 +1,7 @@
 use Rattle.std.proofs.Common.{◌≡◌, ℕ, ◌<◌, ◌≤◌, length}
 use Rattle.std.specs.Prelude.{vec_capacity}
 use Rattle.bsi_schema.specs.Columns.{column_at}
-use Rattle.bsi_table.specs.Table.{kept_at, Keeps}
+use Rattle.bsi_table.specs.Kept.{kept_at, Keeps}
 use Rattle.bsi_table.proofs.columns.make_each.Given as goal
 
 -- the columns so far are made

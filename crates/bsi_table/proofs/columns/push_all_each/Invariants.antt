@@ -1,6 +1,6 @@
 use Rattle.std.proofs.Common.{◌≡◌, ℕ, ◌<◌, ◌≤◌, length}
 use Rattle.bsi_shift.specs.Shifted.{shifted_entries}
-use Rattle.bsi_table.specs.Table.{kept_at, HasMore}
+use Rattle.bsi_table.specs.Kept.{kept_at, HasMore}
 use Rattle.bsi_table.proofs.columns.push_all_each.Given as goal
 
 -- the columns so far have the entries of the others, and those behind them are those of the start

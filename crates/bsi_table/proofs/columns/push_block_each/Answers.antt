@@ -1,8 +1,8 @@
 use Rattle.std.proofs.Common.{◌≡◌, ℕ, ◌<◌, List, All, Option, ℤ, get_or, length, sym, subst, arith, ◌∙◌}
 use Rattle.std.proofs.lemmas.List.Elements.{All-map, All-weaker}
 use Rattle.bsi_shift.specs.Shifted.{shifted_size, IsInRange, OffsetColumn}
-use Rattle.bsi_table.specs.Rows.{column_of, entry_at, FedRow}
-use Rattle.bsi_table.specs.Table.{kept_at, TakesRow}
+use Rattle.bsi_rows.specs.Rows.{column_of, entry_at, FedRow}
+use Rattle.bsi_table.specs.Kept.{kept_at, TakesRow}
 use Rattle.bsi_table.proofs.TableRows.{kept_read}
 use Rattle.bsi_table.proofs.columns.push_block_each.Goals as goal
 

@@ -1,6 +1,6 @@
 use Rattle.std.proofs.Common.{◌≡◌, ℕ, ◌<◌, ◌≤◌}
-use Rattle.bsi_table.specs.Rows.{column_of}
-use Rattle.bsi_table.specs.Table.{kept_at, HasMore}
+use Rattle.bsi_rows.specs.Rows.{column_of}
+use Rattle.bsi_table.specs.Kept.{kept_at, HasMore}
 use Rattle.bsi_table.proofs.columns.push_block_each.Given as goal
 
 -- the columns so far have their entries of the rows, and the others are those of the start

@@ -1,6 +1,6 @@
 use Rattle.std.proofs.Common.{◌≡◌, ℕ, ◌<◌, ◌≤◌}
-use Rattle.bsi_table.specs.Rows.{entry_at}
-use Rattle.bsi_table.specs.Table.{kept_at, HasOneMore}
+use Rattle.bsi_rows.specs.Rows.{entry_at}
+use Rattle.bsi_table.specs.Kept.{kept_at, HasOneMore}
 use Rattle.bsi_table.proofs.columns.push_each.Given as goal
 
 -- the columns so far have their entries of the row, and the others are those of the start

@@ -2,9 +2,9 @@ use Rattle.std.proofs.Common.{◌≡◌, ◌<◌, Some, length, map, nat_eq, tru
 use Rattle.std.specs.Int.{w128}
 use Rattle.std.specs.List.{range_with_len}
 use Rattle.std.specs.Prelude.{slice_get}
-use Rattle.bsi_columns.specs.Orders.{values_at}
+use Rattle.bsi_orders.specs.Orders.{values_at}
 use Rattle.bsi_shift.specs.Shifted.{shifted_entries}
-use Rattle.bsi_shift.specs.WholeNumbers.{signed_sum}
+use Rattle.bsi_orders.specs.WholeNumbers.{signed_sum}
 use Rattle.bsi_table.proofs.Singles.{some_read, sum_alone}
 use Rattle.bsi_table.proofs.columns.read_entry.Goals as goal
 

@@ -1,6 +1,6 @@
 use Rattle.std.proofs.Common.{ℕ, ◌<◌, ◌≤◌, length}
 use Rattle.bsi_shift.specs.Shifted.{shifted_room}
-use Rattle.bsi_table.specs.Table.{kept_at, IsSameColumn}
+use Rattle.bsi_table.specs.Kept.{kept_at, IsSameColumn}
 use Rattle.bsi_table.proofs.columns.reserve_each.Given as goal
 
 -- the columns are those of the start, and those so far have room

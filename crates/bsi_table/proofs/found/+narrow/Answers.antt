@@ -4,11 +4,11 @@ use Rattle.std.specs.Prelude.{◌&&◌, ◌||◌, None, bit_or, bit_xor, is_none
 use Rattle.std.specs.Simd.Lanes.{zip2}
 use Rattle.bsi_bits.specs.Packed.{bit_of}
 use Rattle.bsi_shift.specs.Shifted.{shifted_entries}
-use Rattle.bsi_shift.specs.WholeNumbers.{signed_selects}
-use Rattle.bsi_table.specs.Answers.{columns_of_pred, missing_of}
-use Rattle.bsi_table.specs.Rows.{holds}
-use Rattle.bsi_table.specs.Table.{row_in}
-use Rattle.bsi_table.proofs.Missing.{none_missing_first, none_missing_second, there}
+use Rattle.bsi_orders.specs.WholeNumbers.{signed_selects}
+use Rattle.bsi_rows.specs.Answers.{columns_of_pred, missing_of}
+use Rattle.bsi_rows.specs.Rows.{holds}
+use Rattle.bsi_table.specs.Kept.{row_in}
+use Rattle.bsi_rows.proofs.Missing.{none_missing_first, none_missing_second, there}
 use Rattle.bsi_table.proofs.Parts.{parts_of}
 use Rattle.bsi_table.proofs.Selecting.{entry_read, joined_bit, saved_before, saved_last, turned_bit}
 use Rattle.bsi_table.proofs.found.+narrow.Goals as goal

@@ -4,8 +4,8 @@ use Rattle.std.proofs.lemmas.List.{length-take}
 use Rattle.std.proofs.lemmas.List.Sums.{count_by-le-length}
 use Rattle.bsi_bits.specs.Packed.{bit_of, bits_of}
 use Rattle.bsi_bits.proofs.Reading.{length-bits_of}
-use Rattle.bsi_table.specs.Rows.{holds}
-use Rattle.bsi_table.specs.Table.{row_in}
+use Rattle.bsi_rows.specs.Rows.{holds}
+use Rattle.bsi_table.specs.Kept.{row_in}
 use Rattle.bsi_table.proofs.Counting.{selected_before, all_selected, counted_more, none_selected}
 use Rattle.bsi_table.proofs.found.count_selected.Goals as goal
 

@@ -3,8 +3,8 @@ use Rattle.std.proofs.lemmas.Result.{on_ok_weaker}
 use Rattle.bsi_bits.specs.Packed.{bit_of}
 use Rattle.bsi_bits.proofs.Reading.{all_set}
 use Rattle.bsi_columns.proofs.WordSpans.{replicate_bit}
-use Rattle.bsi_table.specs.Rows.{holds}
-use Rattle.bsi_table.specs.Table.{row_in}
+use Rattle.bsi_rows.specs.Rows.{holds}
+use Rattle.bsi_table.specs.Kept.{row_in}
 use Rattle.bsi_table.proofs.found.find_span.Goals as goal
 
 -- a span of ones has each row

@@ -1,8 +1,8 @@
 use Rattle.std.proofs.Common.{◌≡◌, ℕ, ◌*◌, ◌<◌, ◌≤◌}
 use Rattle.std.specs.Prelude.{◌&&◌}
 use Rattle.bsi_bits.specs.Packed.{bit_of}
-use Rattle.bsi_table.specs.Rows.{holds}
-use Rattle.bsi_table.specs.Table.{row_in}
+use Rattle.bsi_rows.specs.Rows.{holds}
+use Rattle.bsi_table.specs.Kept.{row_in}
 use Rattle.bsi_table.proofs.found.narrow_each.Given as goal
 
 -- the spans so far are narrowed, and the others are as they were

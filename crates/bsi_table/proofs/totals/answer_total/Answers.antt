@@ -1,11 +1,11 @@
 use Rattle.std.proofs.Common.{length, ap, ap₂, sym, subst, rules, ◌∙◌, SFits, to_z, of_z, to_z-of_z}
 use Rattle.std.specs.Int.{w128}
-use Rattle.bsi_origins.specs.Numbering.{numbered_at}
-use Rattle.bsi_shift.specs.WholeNumbers.{signed_sum, IsSignedLeastOf, IsSignedGreatestOf, IsSignedMedianOf}
-use Rattle.bsi_table.specs.declared.query.Answer.TheVariants.{Count, Sum, Value, Rows}
-use Rattle.bsi_table.specs.Answers.{columns_of_total, missing_of, IsTotal}
-use Rattle.bsi_table.specs.Table.{fed_rows}
-use Rattle.bsi_table.proofs.Missing.{there}
+use Rattle.bsi_rows.specs.Numbering.{numbered_at}
+use Rattle.bsi_orders.specs.WholeNumbers.{signed_sum, IsSignedLeastOf, IsSignedGreatestOf, IsSignedMedianOf}
+use Rattle.bsi_rows.specs.declared.query.Answer.TheVariants.{Count, Sum, Value, Rows}
+use Rattle.bsi_rows.specs.Answers.{columns_of_total, missing_of, IsTotal}
+use Rattle.bsi_table.specs.Kept.{fed_rows}
+use Rattle.bsi_rows.proofs.Missing.{there}
 use Rattle.bsi_table.proofs.TableRows.{count-found, even-found, feeders-fed_rows, length-found, set_places-found, values-found}
 use Rattle.bsi_table.proofs.totals.answer_total.Goals as goal
 

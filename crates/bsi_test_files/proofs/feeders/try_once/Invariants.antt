@@ -1,5 +1,5 @@
 use Rattle.std.proofs.Common.{length}
-use Rattle.bsi_table.specs.Table.{no_rows}
+use Rattle.bsi_rows.specs.Table.{no_rows}
 use Rattle.bsi_test_files.proofs.feeders.try_once.Given as goal
 
 -- the system whose history was just made

@@ -1,9 +1,9 @@
 use Rattle.std.proofs.Common.{◌≡◌, rules, subst}
 use Rattle.std.specs.Io.KnownBytes.{Appends}
 use Rattle.csv.proofs.WriteFacts.{appends-more}
-use Rattle.bsi_text.specs.Waiting.{IsCut}
-use Rattle.bsi_text.proofs.Standing.{on_err}
-use Rattle.bsi_text.proofs.Waiting.{cut_front, cut_whole, on_fault, on_ok, put_all}
+use Rattle.bsi_reading.specs.Waiting.{IsCut}
+use Rattle.bsi_reading.proofs.Standing.{on_err}
+use Rattle.bsi_reading.proofs.Waiting.{cut_front, cut_whole, on_fault, on_ok, put_all}
 use Rattle.bsi_text.proofs.script.gather.Goals.{else-not-many-via-then-not-many+else-is_ok, else-not-many-via-else-not-many}
 use Rattle.bsi_text.proofs.script.gather.Goals as goal
 

@@ -1,8 +1,8 @@
 use Rattle.std.proofs.Common.{◌≡◌, rules, option_map}
 use Rattle.csv.specs.Reading.{source_of, strip_bom}
-use Rattle.bsi_text.specs.Texts.{IsBegun}
-use Rattle.bsi_text.proofs.Standing.{on_err}
-use Rattle.bsi_text.proofs.Waiting.{cut_all, from_known}
+use Rattle.bsi_reading.specs.Texts.{IsBegun}
+use Rattle.bsi_reading.proofs.Standing.{on_err}
+use Rattle.bsi_reading.proofs.Waiting.{cut_all, from_known}
 use Rattle.bsi_text.proofs.script.run_script.Goals as goal
 
 -- all that waited was written

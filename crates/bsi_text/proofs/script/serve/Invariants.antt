@@ -1,8 +1,8 @@
 use Rattle.csv.specs.Reading.{reader_state, source_of}
 use Rattle.bsi_text.specs.Sessions.{phase_of}
-use Rattle.bsi_text.specs.Sources.{IsPlain}
-use Rattle.bsi_text.specs.Texts.{FromText}
-use Rattle.bsi_text.proofs.Standing.{StandsAt}
+use Rattle.bsi_reading.specs.Sources.{IsPlain}
+use Rattle.bsi_reading.specs.Texts.{FromText}
+use Rattle.bsi_reading.proofs.Standing.{StandsAt}
 use Rattle.bsi_text.proofs.script.serve.Given as goal
 
 -- so many records were read, and the lines of all of them were written or wait

@@ -3,7 +3,7 @@ use Rattle.std.proofs.lemmas.Nat.{mul-le}
 use Rattle.bsi_bits.specs.Packed.{bit_of}
 use Rattle.bsi_digits.specs.Digits.{weight, product, digit_of}
 use Rattle.bsi_digits.proofs.CallerLemmas.{weight_all, weight_more, weight_pos}
-use Rattle.bsi_columns.specs.Rows.{number_or_zero}
+use Rattle.bsi_orders.specs.Rows.{number_or_zero}
 use Rattle.bsi_columns.specs.Ends.{comes_first, leads, yields, number_at}
 use Rattle.bsi_columns.specs.SpanEnds.{IsPast, IsNarrowedTo}
 use Rattle.bsi_columns.proofs.Ranking.{next_small}

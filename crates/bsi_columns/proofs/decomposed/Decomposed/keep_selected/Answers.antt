@@ -4,7 +4,7 @@ use Rattle.std.proofs.lemmas.Result.{on_ok_weaker}
 use Rattle.bsi_bits.specs.Packed.{bit_of}
 use Rattle.bsi_bits.proofs.Reading.{none_set}
 use Rattle.bsi_digits.specs.Digits.{product}
-use Rattle.bsi_columns.specs.Rows.{compares, number_or_zero}
+use Rattle.bsi_orders.specs.Rows.{compares, number_or_zero}
 use Rattle.bsi_slices.specs.Decisions.{decides}
 use Rattle.bsi_columns.specs.Decomposed.{entries_of}
 use Rattle.bsi_columns.proofs.WordSpans.{replicate_bit}

@@ -1,6 +1,6 @@
 use Rattle.std.proofs.Common.{◌≡◌, ◌%◌, length, map}
 use Rattle.bsi_digits.specs.Digits.{weight}
-use Rattle.bsi_columns.specs.Rows.{number_or_zero}
+use Rattle.bsi_orders.specs.Rows.{number_or_zero}
 use Rattle.bsi_slices.specs.Decisions.{relates}
 use Rattle.bsi_columns.proofs.decomposed.Decomposed.narrow_vectors.Given as goal
 

@@ -5,7 +5,7 @@ use Rattle.std.proofs.lemmas.Simd.{length-zip2}
 use Rattle.std.proofs.lemmas.List.{length-map}
 use Rattle.bsi_digits.specs.Digits.{weight, product, digit_of}
 use Rattle.bsi_digits.proofs.CallerLemmas.{weight_pos}
-use Rattle.bsi_columns.specs.Rows.{number_or_zero}
+use Rattle.bsi_orders.specs.Rows.{number_or_zero}
 use Rattle.bsi_columns.proofs.Ranking.{narrowed_end}
 use Rattle.bsi_columns.proofs.Rungs.{IsRung, rung_start, rung_step, fits_size}
 use Rattle.bsi_columns.proofs.decomposed.Decomposed.number_of_rank.Given as given

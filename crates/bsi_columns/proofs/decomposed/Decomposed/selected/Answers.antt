@@ -1,7 +1,7 @@
 use Rattle.std.proofs.Common.{◌≡◌, ◌<◌, ℕ, false, replicate, map, ap, ◌∙◌, arith}
 use Rattle.bsi_bits.specs.BitList.{BitList}
 use Rattle.bsi_digits.specs.Digits.{product}
-use Rattle.bsi_columns.specs.Rows.{compares, selects}
+use Rattle.bsi_orders.specs.Rows.{compares, selects}
 use Rattle.bsi_slices.specs.Decisions.{decides, relates}
 use Rattle.bsi_columns.specs.DigitTests.{answers}
 use Rattle.bsi_columns.specs.Decomposed.{entries_of}

@@ -2,8 +2,8 @@ use Rattle.std.proofs.Common.{◌≡◌, ◌+◌, ◌*◌, ◌%◌, ◌<◌, ◌
 use Rattle.std.specs.Prelude.{sum_by}
 use Rattle.bsi_digits.specs.Digits.{weight, digit_of, product}
 use Rattle.bsi_digits.proofs.CallerLemmas.{weight_pos, weight_le_size, weight_all}
-use Rattle.bsi_columns.specs.Rows.{number_or_zero}
-use Rattle.bsi_columns.specs.Orders.{values_at}
+use Rattle.bsi_orders.specs.Rows.{number_or_zero}
+use Rattle.bsi_orders.specs.Orders.{values_at}
 use Rattle.bsi_columns.proofs.Adding.{sum_small, sum_whole}
 use Rattle.bsi_columns.proofs.DigitSums.{sum_none, sum_digits}
 use Rattle.bsi_columns.proofs.decomposed.Decomposed.sum_found.Given as given

@@ -2,7 +2,7 @@ use Rattle.std.proofs.Common.{◌≡◌, ◌<◌, [], length, map, ap, ◌∙◌
 use Rattle.std.proofs.lemmas.List.{length-map}
 use Rattle.std.proofs.lemmas.List.Elements.{All-nil}
 use Rattle.bsi_digits.specs.Digits.{product}
-use Rattle.bsi_columns.specs.Rows.{number_or_zero}
+use Rattle.bsi_orders.specs.Rows.{number_or_zero}
 use Rattle.bsi_columns.specs.Decomposed.{entries_of, Decomposes}
 use Rattle.bsi_columns.proofs.EntriesFrom.{digits_long, entries_from, kept_itself, rows_of}
 use Rattle.bsi_columns.proofs.ComponentLists.{length-map_is}

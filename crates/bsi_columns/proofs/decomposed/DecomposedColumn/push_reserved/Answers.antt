@@ -3,7 +3,7 @@ use Rattle.std.specs.Prelude.{All}
 use Rattle.std.proofs.lemmas.List.{length-map}
 use Rattle.std.proofs.lemmas.List.Elements.{All-nil, All-push}
 use Rattle.bsi_digits.specs.Digits.{digit_of, product}
-use Rattle.bsi_columns.specs.Rows.{number_or_zero}
+use Rattle.bsi_orders.specs.Rows.{number_or_zero}
 use Rattle.bsi_columns.specs.Decomposed.{entries_of, Decomposes}
 use Rattle.bsi_columns.proofs.EntriesFrom.{more_entries, entries_from, kept_itself, roomy_less}
 use Rattle.bsi_columns.proofs.ComponentLists.{length-map_is}

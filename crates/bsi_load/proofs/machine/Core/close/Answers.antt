@@ -1,12 +1,12 @@
 use Rattle.std.proofs.Common.{◌<◌, true, set, length, ap, ◌∙◌, [], ◌∷◌, Ok, arith}
 use Rattle.std.proofs.lemmas.List.{get_or_default}
-use Rattle.bsi_load.specs.declared.event.CloseRefused.TheVariants as close
-use Rattle.bsi_load.specs.declared.event.Event.TheVariants.{Close}
-use Rattle.bsi_load.specs.declared.event.Reply.TheVariants.{Closed}
-use Rattle.bsi_load.specs.Runs.{shown_after}
-use Rattle.bsi_load.specs.Shown.{Shown, no_feeder}
+use Rattle.bsi_rows.specs.declared.event.CloseRefused.TheVariants as close
+use Rattle.bsi_rows.specs.declared.event.Event.TheVariants.{Close}
+use Rattle.bsi_rows.specs.declared.event.Reply.TheVariants.{Closed}
+use Rattle.bsi_rows.specs.Runs.{shown_after}
+use Rattle.bsi_rows.specs.Shown.{Shown, no_feeder}
 use Rattle.bsi_load.proofs.Changes.{close_refused, close_done, with_feeders}
-use Rattle.bsi_load.proofs.Composing.{feeder}
+use Rattle.bsi_rows.proofs.Composing.{feeder}
 use Rattle.bsi_load.proofs.machine.Core.close.Goals as goal
 
 pub returns-then-f-feeders-clause-after : goal.returns-then-f-feeders-clause-after

@@ -3,16 +3,16 @@ use Rattle.std.specs.Prelude.{All, IsTrue}
 use Rattle.std.specs.Option.{option_copied}
 use Rattle.std.proofs.lemmas.List.{get_or_default, length-drop}
 use Rattle.std.proofs.lemmas.List.Elements.{All-drop, All-head}
-use Rattle.bsi_table.specs.Columns.{fits}
-use Rattle.bsi_table.specs.Rows.{Entries}
-use Rattle.bsi_table.specs.Table.{with_row}
-use Rattle.bsi_load.specs.declared.event.LoadRefused.TheVariants as load
-use Rattle.bsi_load.specs.declared.event.Event.TheVariants.{Load}
-use Rattle.bsi_load.specs.declared.event.Reply.TheVariants.{Loaded}
-use Rattle.bsi_load.specs.Runs.{shown_after}
-use Rattle.bsi_load.specs.Shown.{Shown, feeder_at, no_feeder, IsLoadReply, IsMachine}
+use Rattle.bsi_schema.specs.Columns.{fits}
+use Rattle.bsi_rows.specs.Rows.{Entries}
+use Rattle.bsi_rows.specs.Table.{with_row}
+use Rattle.bsi_rows.specs.declared.event.LoadRefused.TheVariants as load
+use Rattle.bsi_rows.specs.declared.event.Event.TheVariants.{Load}
+use Rattle.bsi_rows.specs.declared.event.Reply.TheVariants.{Loaded}
+use Rattle.bsi_rows.specs.Runs.{shown_after}
+use Rattle.bsi_rows.specs.Shown.{Shown, feeder_at, no_feeder, IsLoadReply, IsMachine}
 use Rattle.bsi_load.proofs.Changes.{load_refused, load_done, with_feeders}
-use Rattle.bsi_load.proofs.Composing.{feeder}
+use Rattle.bsi_rows.proofs.Composing.{feeder}
 use Rattle.bsi_load.proofs.Machines.{first_row, load_failed, machine_row, machine_set, no_first, nothing_waits, old_fitting, old_small}
 use Rattle.bsi_load.proofs.machine.Core.load.Goals as goal
 

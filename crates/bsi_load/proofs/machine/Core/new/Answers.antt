@@ -1,7 +1,7 @@
 use Rattle.std.proofs.Common.{◌≡◌, None, length, map, sym, subst, rules}
-use Rattle.bsi_table.specs.Table.{no_rows}
-use Rattle.bsi_load.specs.Shown.{IsMachine}
-use Rattle.bsi_load.specs.Sizes.{new_feeder, sizes_refusal}
+use Rattle.bsi_rows.specs.Table.{no_rows}
+use Rattle.bsi_rows.specs.Shown.{IsMachine}
+use Rattle.bsi_rows.specs.Sizes.{new_feeder, sizes_refusal}
 use Rattle.bsi_load.proofs.Machines.{machine_new}
 use Rattle.bsi_load.proofs.machine.Core.new.Goals as goal
 

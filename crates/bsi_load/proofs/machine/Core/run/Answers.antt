@@ -4,10 +4,10 @@ use Rattle.std.proofs.lemmas.Iterator.Adapters.{YieldsList-from_vec}
 use Rattle.std.proofs.lemmas.Iterator.Consumers.{YieldsList-turn}
 use Rattle.std.proofs.lemmas.List.{length-append}
 use Rattle.std.proofs.lemmas.Option.{slice_get-get_or}
-use Rattle.bsi_load.specs.Runs.{past_of, shown_after, AreLawful}
-use Rattle.bsi_load.specs.Shown.{IsLawful}
-use Rattle.bsi_load.proofs.Composing.{shown_start, shown_step}
-use Rattle.bsi_load.proofs.Events.{conserved_at, done_after-push, more_lawful, none_lawful, past_none, stays_closed}
+use Rattle.bsi_rows.specs.Runs.{past_of, shown_after, AreLawful}
+use Rattle.bsi_rows.specs.Shown.{IsLawful}
+use Rattle.bsi_rows.proofs.Composing.{shown_start, shown_step}
+use Rattle.bsi_rows.proofs.Events.{conserved_at, done_after-push, more_lawful, none_lawful, past_none, stays_closed}
 use Rattle.bsi_load.proofs.machine.Core.run.Goals as goal
 
 pub events-init : goal.events-init

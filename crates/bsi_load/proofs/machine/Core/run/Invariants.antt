@@ -1,6 +1,6 @@
 use Rattle.std.proofs.Common.{◌≡◌, ◌≤◌, length}
 use Rattle.std.specs.Prelude.{vec_capacity}
-use Rattle.bsi_load.specs.Runs.{past_of, shown_after, AreLawful}
+use Rattle.bsi_rows.specs.Runs.{past_of, shown_after, AreLawful}
 use Rattle.bsi_load.proofs.machine.Core.run.Given as goal
 
 -- as many replies as events were done, each lawful, and the machine shows what they come to

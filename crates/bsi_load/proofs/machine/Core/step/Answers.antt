@@ -1,6 +1,6 @@
 use Rattle.std.proofs.Common.{ap, sym, ◌∙◌, [], ◌∷◌}
-use Rattle.bsi_load.specs.declared.event.Reply.TheVariants.{Answered}
-use Rattle.bsi_load.specs.Runs.{shown_after}
+use Rattle.bsi_rows.specs.declared.event.Reply.TheVariants.{Answered}
+use Rattle.bsi_rows.specs.Runs.{shown_after}
 use Rattle.bsi_load.proofs.Changes.{answered}
 use Rattle.bsi_load.proofs.machine.Core.step.Goals as goal
 

@@ -1,16 +1,16 @@
 use Rattle.std.proofs.Common.{◌≡◌, ◌<◌, ◌≤◌, set, length, ◌++◌, ap, sym, ◌∙◌, subst, [], ◌∷◌, Result, Ok, rules, arith}
 use Rattle.std.specs.Prelude.{All, IsTrue}
 use Rattle.std.proofs.lemmas.List.{get_or_default, set-get_or}
-use Rattle.bsi_table.specs.Columns.{fits}
-use Rattle.bsi_table.specs.Rows.{Entries}
-use Rattle.bsi_load.specs.declared.event.SubmitRefused.{SubmitRefused}
-use Rattle.bsi_load.specs.declared.event.SubmitRefused.TheVariants as submit
-use Rattle.bsi_load.specs.declared.event.Event.TheVariants.{Submit}
-use Rattle.bsi_load.specs.declared.event.Reply.TheVariants.{Submitted}
-use Rattle.bsi_load.specs.Runs.{shown_after}
-use Rattle.bsi_load.specs.Shown.{Shown, no_feeder}
+use Rattle.bsi_schema.specs.Columns.{fits}
+use Rattle.bsi_rows.specs.Rows.{Entries}
+use Rattle.bsi_rows.specs.declared.event.SubmitRefused.{SubmitRefused}
+use Rattle.bsi_rows.specs.declared.event.SubmitRefused.TheVariants as submit
+use Rattle.bsi_rows.specs.declared.event.Event.TheVariants.{Submit}
+use Rattle.bsi_rows.specs.declared.event.Reply.TheVariants.{Submitted}
+use Rattle.bsi_rows.specs.Runs.{shown_after}
+use Rattle.bsi_rows.specs.Shown.{Shown, no_feeder}
 use Rattle.bsi_load.proofs.Changes.{submit_refused, submit_accepted, with_feeders}
-use Rattle.bsi_load.proofs.Composing.{feeder}
+use Rattle.bsi_rows.proofs.Composing.{feeder}
 use Rattle.bsi_load.proofs.Machines.{by_push, machine_set, old_fitting, old_small, pushed_all, pushed_capacity, pushed_within}
 use Rattle.bsi_load.proofs.machine.Core.submit.Goals as goal
 

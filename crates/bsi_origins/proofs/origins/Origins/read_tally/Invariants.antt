@@ -1,6 +1,6 @@
 use Rattle.std.proofs.Common.{◌≡◌, ◌*◌, ◌<◌, ℕ, length}
 use Rattle.std.specs.Prelude.{slice_index}
-use Rattle.bsi_origins.specs.Origins.{count_before}
+use Rattle.bsi_rows.specs.Numbering.{count_before}
 use Rattle.bsi_origins.proofs.origins.Origins.read_tally.Given as goal
 
 abbrev pub invariant-feeders : goal.invariant-feeders

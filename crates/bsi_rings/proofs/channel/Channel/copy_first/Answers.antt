@@ -3,7 +3,7 @@ use Rattle.std.specs.Prelude.{slice_get, Some}
 use Rattle.std.proofs.lemmas.Result.{IfOk-weaker}
 use mathlib.Core.List.{IsPrefix}
 use Rattle.rtrb.specs.Ring.{known_items}
-use Rattle.bsi_table.specs.RowBlocks.{entries_of}
+use Rattle.bsi_rows.specs.RowBlocks.{entries_of}
 use Rattle.bsi_rings.specs.Rings.{rows_of}
 use Rattle.bsi_rings.proofs.Fronts.{first_at}
 use Rattle.bsi_rings.proofs.channel.Channel.copy_first.Goals as goal

@@ -1,7 +1,7 @@
 use Rattle.std.proofs.Common.{◌≡◌, List, ◌++◌, Some, ap, ap₂, sym, ◌∙◌, subst}
 use Rattle.std.specs.Prelude.{option_map, take, IfSome}
 use Rattle.rtrb.specs.Ring.{all_sent, received, known_items}
-use Rattle.bsi_table.specs.Rows.{Entries}
+use Rattle.bsi_rows.specs.Rows.{Entries}
 use Rattle.bsi_rings.specs.Rings.{all_rows, ring_of, IsWhole}
 use Rattle.bsi_rings.proofs.Fronts.{told_once, carried_view, whole_rows}
 use Rattle.bsi_rings.proofs.Parcels.{place_then, taken_then}

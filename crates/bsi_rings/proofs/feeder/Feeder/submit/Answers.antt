@@ -1,6 +1,6 @@
 use Rattle.std.proofs.Common.{◌≡◌, ◌∷◌, [], ◌++◌, All, ap, ◌∙◌, subst, sym, arith, length}
 use Rattle.std.specs.Prelude.{IsTrue}
-use Rattle.bsi_table.specs.Columns.{fits}
+use Rattle.bsi_schema.specs.Columns.{fits}
 use Rattle.rtrb.specs.Ring.{sent}
 use Rattle.bsi_rings.specs.declared.parcel.Parcel.TheVariants.{Row}
 use Rattle.bsi_rings.specs.Rings.{all_rows, ring_of, IsParcel}

@@ -1,9 +1,9 @@
 use Rattle.std.proofs.Common.{◌≡◌, ◌∷◌, [], ◌++◌, All, ap, ◌∙◌, subst, sym, arith, length}
 use Rattle.std.proofs.lemmas.List.{length-map}
 use Rattle.rtrb.specs.Ring.{sent}
-use Rattle.bsi_table.specs.RowBlocks.{entries_of, HaveSameLimits}
-use Rattle.bsi_table.specs.Rows.{FedRow}
-use Rattle.bsi_table.specs.Table.{AreFitting}
+use Rattle.bsi_rows.specs.RowBlocks.{entries_of, HaveSameLimits}
+use Rattle.bsi_rows.specs.Rows.{FedRow}
+use Rattle.bsi_rows.specs.Table.{AreFitting}
 use Rattle.bsi_rings.specs.declared.parcel.Parcel.TheVariants.{Batch}
 use Rattle.bsi_rings.specs.Rings.{all_rows, ring_of, rows_of, with_sent_rows, IsParcel}
 use Rattle.bsi_rings.proofs.Parcels.{entries_fit, one_sent, sends}

@@ -4,9 +4,9 @@ use Rattle.std.specs.Prelude.{◌<◌, ◌<ℤ◌, ◌^◌, pos, IfSome}
 use Rattle.std.proofs.lemmas.Int.{to_z-of_z}
 use mir.Syntax.{w64}
 use Rattle.bsi_columns.specs.AnyRows.{any_entries}
-use Rattle.bsi_slices.specs.Orders.{values_at}
+use Rattle.bsi_orders.specs.Orders.{values_at}
 use Rattle.bsi_shift.specs.Shifted.{shifted_entries, number_of}
-use Rattle.bsi_shift.specs.WholeNumbers.{IsSignedOrderStatistic}
+use Rattle.bsi_shift.specs.OrderStatistics.{IsSignedOrderStatistic}
 use Rattle.bsi_shift.proofs.Shifting.{length-shifted_entries, values_at-shifted_entries, fits}
 use Rattle.bsi_shift.proofs.Totals.{order_statistic_from, order_statistic_below}
 use Rattle.bsi_shift.proofs.shifted.Shifted.order_statistic.Goals as goal

@@ -5,10 +5,10 @@ use mir.Syntax.{w64, w128}
 use Rattle.std.proofs.lemmas.List.{length-map}
 use Rattle.std.proofs.lemmas.Int.{to_z-of_z}
 use Rattle.bsi_columns.specs.AnyRows.{any_entries}
-use Rattle.bsi_slices.specs.Orders.{values_at}
+use Rattle.bsi_orders.specs.Orders.{values_at}
 use Rattle.bsi_slices.proofs.CallerLemmas.{count_numbers, length-values_at}
 use Rattle.bsi_shift.specs.Shifted.{shifted_entries}
-use Rattle.bsi_shift.specs.WholeNumbers.{signed_sum}
+use Rattle.bsi_orders.specs.WholeNumbers.{signed_sum}
 use Rattle.bsi_shift.proofs.Shifting.{length-shifted_entries, values_at-shifted_entries}
 use Rattle.bsi_shift.proofs.Totals.{sum_from, sum_within}
 use Rattle.bsi_shift.proofs.shifted.Shifted.sum.Goals as goal

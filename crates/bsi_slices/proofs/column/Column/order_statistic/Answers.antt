@@ -1,7 +1,7 @@
 use Rattle.std.proofs.Common.{◌≡◌, ℕ, List, [], None, ap, sym, ◌∙◌, arith}
 use Rattle.std.specs.Prelude.{count_by, ◌&&◌, ◌<◌}
 use Rattle.std.specs.Simd.Lanes.{zip2}
-use Rattle.bsi_slices.specs.Orders.{values_at}
+use Rattle.bsi_orders.specs.Orders.{values_at}
 use Rattle.bsi_slices.specs.OrderStatistics.{IsOrderStatistic}
 use Rattle.bsi_slices.specs.declared.column.OrderStatistic.{OrderStatistic}
 use Rattle.bsi_slices.specs.declared.column.OrderStatistic.TheVariants.{Least, Greatest, Median}

@@ -1,7 +1,7 @@
 use Rattle.std.proofs.Common.{◌+◌, ◌*◌, ◌&&◌, length, ap, sym, ◌∙◌, arith}
 use Rattle.std.specs.Prelude.{None, slice_index_or}
 use Rattle.bsi_bits.specs.Packed.{bit_of}
-use Rattle.bsi_slices.specs.Rows.{selects}
+use Rattle.bsi_orders.specs.Rows.{selects}
 use Rattle.bsi_slices.specs.Slices.{entries_in}
 use Rattle.bsi_slices.proofs.SliceEntries.{length-entries_in}
 use Rattle.bsi_slices.proofs.slices.Slices.keep_selected.Goals as goal

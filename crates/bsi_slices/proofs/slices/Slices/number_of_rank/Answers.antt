@@ -7,7 +7,7 @@ use Rattle.std.proofs.lemmas.Simd.{length-zip2}
 use Rattle.bsi_bits.specs.BitList.{BitList}
 use Rattle.bsi_bits.specs.BitLists.{bits_at}
 use Rattle.bsi_words.specs.Places.{has_place, IsEncoded}
-use Rattle.bsi_slices.specs.Rows.{number_or_zero}
+use Rattle.bsi_orders.specs.Rows.{number_or_zero}
 use Rattle.bsi_slices.specs.Slices.{entries_in}
 use Rattle.bsi_slices.proofs.Adding.{number_below, places_of}
 use Rattle.bsi_slices.proofs.Ranking.{count_numbers}

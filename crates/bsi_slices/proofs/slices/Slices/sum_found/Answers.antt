@@ -5,8 +5,8 @@ use Rattle.std.proofs.lemmas.Nat.{pow_pos}
 use Rattle.bsi_bits.specs.BitList.{BitList}
 use Rattle.bsi_bits.specs.BitLists.{bits_at}
 use Rattle.bsi_words.specs.Places.{has_place, IsEncoded}
-use Rattle.bsi_slices.specs.Orders.{values_at}
-use Rattle.bsi_slices.specs.Rows.{number_or_zero}
+use Rattle.bsi_orders.specs.Orders.{values_at}
+use Rattle.bsi_orders.specs.Rows.{number_or_zero}
 use Rattle.bsi_slices.specs.Slices.{entries_in}
 use Rattle.bsi_slices.proofs.Adding.{number_below, places_of, sum_below, sum_found}
 use Rattle.bsi_slices.proofs.SliceEntries.{length-entries_in}

@@ -3,7 +3,7 @@ use Rattle.std.proofs.lemmas.Nat.{one_shl}
 use Rattle.std.proofs.lemmas.Result.{IfOk-weaker}
 use Rattle.bsi_bits.specs.Packed.{bit_of, bits_of}
 use Rattle.bsi_bits.proofs.Logic.{written}
-use Rattle.bsi_slices.specs.Rows.{selects}
+use Rattle.bsi_orders.specs.Rows.{selects}
 use Rattle.bsi_slices.specs.Slices.{entries_in}
 use Rattle.bsi_slices.proofs.SliceSelections.{selected_none, selected_all, selected_tested}
 use Rattle.bsi_slices.proofs.slices.compare.select.Goals as goal

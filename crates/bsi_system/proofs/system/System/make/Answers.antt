@@ -1,5 +1,5 @@
 use Rattle.std.proofs.Common.{◌∙◌, [], ap, length, refl, subst}
-use Rattle.bsi_table.specs.Table.{no_rows}
+use Rattle.bsi_rows.specs.Table.{no_rows}
 use Rattle.bsi_rings.specs.Rings.{AreOpened}
 use Rattle.bsi_system.proofs.Beginning.{opened_alike, opened_loader, opened_loading}
 use Rattle.bsi_system.proofs.Mapped.{mapped_ok}

@@ -1,10 +1,10 @@
 use Rattle.std.proofs.Common.{◌≡◌, ◌<◌, ℕ, length, map, ap, ap₂, sym, subst, arith, ◌∙◌}
 use Rattle.std.specs.Prelude.{count_by}
 use Rattle.bsi_shift.specs.Shifted.{shifted_entries}
-use Rattle.bsi_table.specs.declared.query.Answer.TheVariants.{Count}
-use Rattle.bsi_table.specs.Answers.{IsTotal}
-use Rattle.bsi_table.specs.Rows.{holds}
-use Rattle.bsi_table.specs.Table.{fed_rows, kept_at, rows_in}
+use Rattle.bsi_rows.specs.declared.query.Answer.TheVariants.{Count}
+use Rattle.bsi_rows.specs.Answers.{IsTotal}
+use Rattle.bsi_rows.specs.Rows.{holds}
+use Rattle.bsi_table.specs.Kept.{fed_rows, kept_at, rows_in}
 use Rattle.bsi_table.proofs.TableRows.{count-found, length-fed_rows, map-fed_rows}
 use Rattle.bsi_table.proofs.index.Index.answer.Goals as goal
 

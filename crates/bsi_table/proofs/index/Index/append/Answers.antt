@@ -2,8 +2,9 @@ use Rattle.std.proofs.Common.{◌≡◌, ◌<◌, ◌+◌, ◌++◌, ◌∷◌, 
 use Rattle.std.proofs.lemmas.List.{length-append}
 use Rattle.std.proofs.lemmas.List.Elements.{All-push}
 use Rattle.bsi_schema.specs.Columns.{fits}
-use Rattle.bsi_table.specs.Rows.{Entries, FedRow}
-use Rattle.bsi_table.specs.Table.{fed_rows, with_row, AreInRange, AreKept, Table}
+use Rattle.bsi_rows.specs.Rows.{Entries, FedRow}
+use Rattle.bsi_table.specs.Kept.{fed_rows, AreInRange, AreKept}
+use Rattle.bsi_rows.specs.Table.{with_row, Table}
 use Rattle.bsi_schema.proofs.Fitting.{fits-length}
 use Rattle.bsi_table.proofs.Keeping.{All-one, are_kept_same, are_kept_more, on_err, row_in_range, row_small}
 use Rattle.bsi_table.proofs.TableRows.{fed_rows-more, fed_rows-same, length-fed_rows}

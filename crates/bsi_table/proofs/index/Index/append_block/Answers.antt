@@ -1,8 +1,9 @@
 use Rattle.std.proofs.Common.{◌≡◌, ◌<◌, ◌+◌, ◌++◌, ℕ, List, All, length, ap, ap₂, sym, subst, arith, ◌∙◌}
 use Rattle.std.proofs.lemmas.List.{length-append, length-map}
 use Rattle.std.proofs.lemmas.List.Elements.{All-append, All-map, All-weaker}
-use Rattle.bsi_table.specs.Rows.{feeders_of, FedRow}
-use Rattle.bsi_table.specs.Table.{fed_rows, with_rows, AreFitting, AreFrom, AreInRange, AreKept, Table, TakesRow}
+use Rattle.bsi_rows.specs.Rows.{feeders_of, FedRow}
+use Rattle.bsi_table.specs.Kept.{fed_rows, AreInRange, AreKept, TakesRow}
+use Rattle.bsi_rows.specs.Table.{with_rows, AreFitting, AreFrom, Table}
 use Rattle.bsi_table.proofs.Keeping.{are_kept_same, are_kept_more, on_err, rows_taken}
 use Rattle.bsi_table.proofs.TableRows.{fed_rows-more, fed_rows-same, length-fed_rows}
 use Rattle.bsi_table.proofs.index.Index.append_block.Goals as goal

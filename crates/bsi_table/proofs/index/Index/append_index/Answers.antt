@@ -2,8 +2,9 @@ use Rattle.std.proofs.Common.{◌≡◌, ◌<◌, ◌≤◌, ◌+◌, ◌++◌, 
 use Rattle.std.proofs.lemmas.List.{length-map}
 use Rattle.bsi_schema.specs.Columns.{NamedColumn}
 use Rattle.bsi_shift.specs.Shifted.{shifted_entries}
-use Rattle.bsi_table.specs.Rows.{feeders_of, FedRow}
-use Rattle.bsi_table.specs.Table.{fed_rows, kept_as, kept_at, with_rows, AreAlikeColumns, AreFitting, AreFrom, AreKeptAlike, HasMore, HaveMore, HaveRows, IsTable, Table}
+use Rattle.bsi_rows.specs.Rows.{feeders_of, FedRow}
+use Rattle.bsi_table.specs.Kept.{fed_rows, kept_at, AreAlikeColumns, HasMore, HaveMore, HaveRows, IsTable}
+use Rattle.bsi_rows.specs.Table.{kept_as, with_rows, AreFitting, AreFrom, AreKeptAlike, Table}
 use Rattle.bsi_table.proofs.Growing.{grown_rows, grown_table}
 use Rattle.bsi_table.proofs.Joining.{alike_columns, fitting_others, fitting_rows, from_feeders, have_more}
 use Rattle.bsi_table.proofs.Keeping.{are_kept_same, on_err}

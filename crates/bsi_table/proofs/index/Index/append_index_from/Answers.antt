@@ -2,9 +2,10 @@ use Rattle.std.proofs.Common.{◌≡◌, ◌<◌, ◌≤◌, ◌+◌, ◌++◌, 
 use Rattle.std.proofs.lemmas.List.{length-map}
 use Rattle.bsi_schema.specs.Columns.{NamedColumn}
 use Rattle.bsi_shift.specs.Shifted.{shifted_entries}
-use Rattle.bsi_table.specs.RowBlocks.{entries_of, fed_as}
-use Rattle.bsi_table.specs.Rows.{FedRow}
-use Rattle.bsi_table.specs.Table.{fed_rows, kept_as, kept_at, with_rows, AreAlikeColumns, AreFitting, AreKeptAlike, HasMore, HaveMore, HaveRows, IsTable, Table}
+use Rattle.bsi_rows.specs.RowBlocks.{entries_of, fed_as}
+use Rattle.bsi_rows.specs.Rows.{FedRow}
+use Rattle.bsi_table.specs.Kept.{fed_rows, kept_at, AreAlikeColumns, HasMore, HaveMore, HaveRows, IsTable}
+use Rattle.bsi_rows.specs.Table.{kept_as, with_rows, AreFitting, AreKeptAlike, Table}
 use Rattle.bsi_table.proofs.Growing.{grown_rows, grown_table}
 use Rattle.bsi_table.proofs.Fed.{feeders-fed, fitting-fed, from-fed, have_more-fed}
 use Rattle.bsi_table.proofs.Joining.{alike_columns, fitting_others, fitting_rows, have_more}

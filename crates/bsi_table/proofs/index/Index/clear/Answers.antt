@@ -2,8 +2,9 @@ use Rattle.std.proofs.Common.{◌<◌, ℕ, List, length, ap, ap₂, sym, subst,
 use Rattle.std.specs.Prelude.{All}
 use Rattle.std.proofs.lemmas.List.Elements.{All-nil}
 use Rattle.bsi_schema.specs.Columns.{column_at}
-use Rattle.bsi_table.specs.Rows.{FedRow}
-use Rattle.bsi_table.specs.Table.{kept_at, no_rows, AreKept, Table}
+use Rattle.bsi_rows.specs.Rows.{FedRow}
+use Rattle.bsi_table.specs.Kept.{kept_at, AreKept}
+use Rattle.bsi_rows.specs.Table.{no_rows, Table}
 use Rattle.bsi_table.proofs.Keeping.{keeps_none}
 use Rattle.bsi_table.proofs.TableRows.{fed_rows-none}
 use Rattle.bsi_table.proofs.index.Index.clear.Goals as goal

@@ -1,6 +1,6 @@
 use Rattle.std.proofs.Common.{◌<◌, length, ap, sym, arith, ◌∙◌}
 use Rattle.bsi_shift.specs.Shifted.{shifted_entries}
-use Rattle.bsi_table.specs.Rows.{column_of}
+use Rattle.bsi_rows.specs.Rows.{column_of}
 use Rattle.bsi_table.proofs.TableRows.{column-fed_rows, kept_read}
 use Rattle.bsi_table.proofs.index.Index.column.Goals as goal
 

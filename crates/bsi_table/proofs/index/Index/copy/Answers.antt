@@ -1,8 +1,9 @@
 use Rattle.std.proofs.Common.{◌<◌, ℕ, List, length, ap, ap₂, sym, subst, ◌∙◌}
 use Rattle.bsi_shift.specs.Shifted.{OffsetColumn}
 use Rattle.bsi_schema.specs.Columns.{Declared}
-use Rattle.bsi_table.specs.Rows.{FedRow}
-use Rattle.bsi_table.specs.Table.{fed_rows, kept_at, IsSameColumn, IsTable, Table}
+use Rattle.bsi_rows.specs.Rows.{FedRow}
+use Rattle.bsi_table.specs.Kept.{fed_rows, kept_at, IsSameColumn, IsTable}
+use Rattle.bsi_rows.specs.Table.{Table}
 use Rattle.bsi_table.proofs.Keeping.{are_kept_same}
 use Rattle.bsi_table.proofs.TableRows.{fed_rows-same}
 use Rattle.bsi_table.proofs.index.Index.copy.Goals as goal

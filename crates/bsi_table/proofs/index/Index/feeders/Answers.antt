@@ -1,6 +1,7 @@
 use Rattle.std.proofs.Common.{◌<◌, subst}
 use Rattle.std.proofs.lemmas.List.Elements.{All-get_or}
-use Rattle.bsi_table.specs.Table.{fed_rows, AreFrom}
+use Rattle.bsi_table.specs.Kept.{fed_rows}
+use Rattle.bsi_rows.specs.Table.{AreFrom}
 use Rattle.bsi_table.proofs.TableRows.{All-fed_rows}
 use Rattle.bsi_table.proofs.index.Index.feeders.Goals as goal
 

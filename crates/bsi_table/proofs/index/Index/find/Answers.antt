@@ -1,8 +1,8 @@
 use Rattle.std.proofs.Common.{◌≡◌, ◌<◌, ℕ, length, map, ap, ap₂, sym, subst, arith, ◌∙◌}
 use Rattle.std.proofs.lemmas.Result.{IfOk-weaker}
 use Rattle.bsi_shift.specs.Shifted.{shifted_entries}
-use Rattle.bsi_table.specs.Rows.{holds, FedRow}
-use Rattle.bsi_table.specs.Table.{kept_at, rows_in}
+use Rattle.bsi_rows.specs.Rows.{holds, FedRow}
+use Rattle.bsi_table.specs.Kept.{kept_at, rows_in}
 use Rattle.bsi_table.proofs.TableRows.{length-fed_rows, map-fed_rows}
 use Rattle.bsi_table.proofs.index.Index.find.Goals as goal
 

@@ -1,7 +1,7 @@
 use Rattle.std.proofs.Common.{map, ap, subst, sym, ◌∙◌}
 use Rattle.bsi_schema.specs.Limits.{limits_of}
-use Rattle.bsi_table.specs.Table.{AreFitting, Table}
-use Rattle.bsi_table.proofs.CallerLemmas.{fitting-alike}
+use Rattle.bsi_rows.specs.Table.{AreFitting, Table}
+use Rattle.bsi_rows.proofs.CallerLemmas.{fitting-alike}
 use Rattle.bsi_table.proofs.Joining.{fitting_rows}
 use Rattle.bsi_table.proofs.index.Index.has_limits_of.Goals as goal
 

@@ -1,6 +1,7 @@
 use Rattle.std.proofs.Common.{◌≡◌, length, map, ap, sym, subst, arith, ◌∙◌}
 use Rattle.std.proofs.lemmas.List.{length-map}
-use Rattle.bsi_table.specs.Table.{kept_as, AreAlikeColumns}
+use Rattle.bsi_rows.specs.Table.{kept_as}
+use Rattle.bsi_table.specs.Kept.{AreAlikeColumns}
 use Rattle.bsi_table.proofs.Joining.{alike_columns, alike_schemas}
 use Rattle.bsi_table.proofs.index.Index.is_kept_like.Goals as goal
 

@@ -1,6 +1,7 @@
 use Rattle.std.proofs.Common.{ℕ, List, length, ap, ap₂, sym, arith, ◌∙◌}
-use Rattle.bsi_table.specs.Rows.{FedRow}
-use Rattle.bsi_table.specs.Table.{fed_rows, Table}
+use Rattle.bsi_rows.specs.Rows.{FedRow}
+use Rattle.bsi_table.specs.Kept.{fed_rows}
+use Rattle.bsi_rows.specs.Table.{Table}
 use Rattle.bsi_table.proofs.TableRows.{fed_rows-same, length-fed_rows}
 use Rattle.bsi_table.proofs.index.Index.reserve.Goals as goal
 

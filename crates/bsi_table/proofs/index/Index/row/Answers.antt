@@ -3,8 +3,8 @@ use Rattle.std.specs.List.{range_with_len}
 use Rattle.std.specs.Prelude.{slice_get}
 use Rattle.std.proofs.lemmas.List.FromFn.{length-map-range_with_len}
 use Rattle.bsi_shift.specs.Shifted.{shifted_entries}
-use Rattle.bsi_table.specs.RowBlocks.{entries_of}
-use Rattle.bsi_table.specs.Table.{kept_at, row_in}
+use Rattle.bsi_rows.specs.RowBlocks.{entries_of}
+use Rattle.bsi_table.specs.Kept.{kept_at, row_in}
 use Rattle.bsi_table.proofs.TableRows.{entries-fed_rows, length-fed_rows}
 use Rattle.bsi_table.proofs.index.Index.row.Goals as goal
 

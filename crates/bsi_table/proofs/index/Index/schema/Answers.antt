@@ -1,9 +1,8 @@
-use Rattle.std.proofs.Common.{subst}
-use Rattle.bsi_table.specs.Table.{AreFitting}
+use Rattle.std.proofs.Common.{subst, ◌≡◌, length, true}
+use Rattle.bsi_rows.specs.Table.{AreFitting}
 use Rattle.bsi_table.proofs.Keeping.{row_in-fits}
 use Rattle.bsi_table.proofs.TableRows.{All-fed_rows}
-use Rattle.bsi_table.specs.Table.{fed_rows}
-use Rattle.std.proofs.Common.{◌≡◌, length, true}
+use Rattle.bsi_table.specs.Kept.{fed_rows}
 use Rattle.bsi_schema.specs.Columns.{fits}
 use Rattle.bsi_table.proofs.index.Index.schema.Goals as goal
 

@@ -1,8 +1,8 @@
 use Rattle.std.proofs.Common.{map, ap, subst, ◌∙◌}
 use Rattle.bsi_schema.specs.Columns.{Declared}
 use Rattle.bsi_schema.specs.Limits.{limits_of}
-use Rattle.bsi_table.specs.Table.{AreFitting}
-use Rattle.bsi_table.proofs.CallerLemmas.{wide-alike}
+use Rattle.bsi_rows.specs.Table.{AreFitting}
+use Rattle.bsi_rows.proofs.CallerLemmas.{wide-alike}
 use Rattle.bsi_table.proofs.index.Index.takes.Goals as goal
 
 pub returns-then-feeders-clause-fits : goal.returns-then-feeders-clause-fits

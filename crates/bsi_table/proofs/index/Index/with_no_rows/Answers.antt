@@ -1,6 +1,6 @@
 use Rattle.std.proofs.Common.{ap₂, ℕ}
-use Rattle.bsi_table.specs.Rows.{FedRow}
-use Rattle.bsi_table.specs.Table.{Table}
+use Rattle.bsi_rows.specs.Rows.{FedRow}
+use Rattle.bsi_rows.specs.Table.{Table}
 use Rattle.std.specs.Prelude.{List}
 use Rattle.bsi_table.proofs.TableRows.{fed_rows-none}
 use Rattle.bsi_table.proofs.index.Index.with_no_rows.Goals as goal

@@ -1,5 +1,5 @@
 use Rattle.std.proofs.Common.{◌+◌, ◌-◌, ◌≡◌, ◌∷◌, [], drop, length, ap, sym, ◌∙◌, subst, arith}
-use Rattle.bsi_table.specs.Table.{Table}
+use Rattle.bsi_rows.specs.Table.{Table}
 use Rattle.bsi_versions.specs.Editions.{emptied, pending_rows, written, IsStageOf, IsStamped, IsWriting}
 use Rattle.bsi_versions.specs.History.{RowList}
 use Rattle.bsi_versions.proofs.Writing.{free_places, held_view, held_writing, on_err, staged_kept, staged_stamped, staged_view, staged_writing, with_more}

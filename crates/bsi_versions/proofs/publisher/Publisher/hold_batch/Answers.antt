@@ -1,6 +1,6 @@
 use Rattle.std.proofs.Common.{◌+◌, ◌-◌, ◌≡◌, drop, length, ap, sym, ◌∙◌, arith}
 use Rattle.std.proofs.lemmas.List.{length-map}
-use Rattle.bsi_table.specs.RowBlocks.{entries_of, fed_as}
+use Rattle.bsi_rows.specs.RowBlocks.{entries_of, fed_as}
 use Rattle.bsi_versions.specs.Editions.{emptied, pending_rows}
 use Rattle.bsi_versions.specs.History.{RowList}
 use Rattle.bsi_versions.proofs.Writing.{free_places, held_view, held_writing, with_more}

@@ -1,6 +1,6 @@
 use Rattle.std.proofs.Common.{◌≡◌, ◌++◌, List, drop, length, ap, sym, ◌∙◌, subst}
 use Rattle.std.specs.Prelude.{fold}
-use Rattle.bsi_table.specs.Table.{Table}
+use Rattle.bsi_rows.specs.Table.{Table}
 use Rattle.bsi_versions.specs.History.{Edition, RowList}
 use Rattle.bsi_versions.specs.Editions.{after, emptied, with_all_published, pending_rows, IsStageOf, IsStamped, IsWriting, Stands}
 use Rattle.bsi_versions.specs.declared.operation.Operation.{Operation}

@@ -1,5 +1,0 @@
-use Rattle.bsi_load.proofs.Events.{stays_closed}
-use Rattle.bsi_load.proofs.laws.closed_stays_closed.Goals as goal
-
-pub returns : goal.returns
-returns c = λ s events replies lawful. stays_closed s events replies lawful

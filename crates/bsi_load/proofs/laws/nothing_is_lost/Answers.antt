@@ -1,5 +1,0 @@
-use Rattle.bsi_load.proofs.Balance.{conserved}
-use Rattle.bsi_load.proofs.laws.nothing_is_lost.Goals as goal
-
-pub returns : goal.returns
-returns c = λ s past lawful. conserved s past lawful

@@ -1,0 +1,4 @@
+pub mod Orders
+pub mod Rows
+pub mod Totals
+pub mod WholeNumbers

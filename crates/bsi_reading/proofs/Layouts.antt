@@ -1,0 +1,200 @@
+-- The fields of a record by their places, and a header's names.
+use Rattle.std.proofs.Common.{◌≡◌, ℕ, ◌+◌, ◌<◌, ◌≤◌, Bool, true, false, cond, not, if◌then◌else◌, ◌&&◌, List, [], ◌∷◌, length, take, drop, get_or, Option, Some, None, map, option_and_then, nat_eq, refl, sym, ap, ap₂, ◌∙◌, arith, below_more, ℤ, ◌++◌}
+use Rattle.std.specs.List.{list_all}
+use Rattle.std.specs.Str.{bytes_eq}
+use Rattle.std.proofs.lemmas.Bool.Decides.{Decides-eqb}
+use Rattle.std.proofs.lemmas.List.{at_drop_more, get_or-map, get_or_append_left, length-append, length-map, take_all}
+use Rattle.std.proofs.lemmas.Option.{none-some, same_Some}
+use Rattle.std.proofs.Math.Seq.{get_or-append_seam}
+use Rattle.std.proofs.lemmas.Simd.{map-map}
+use Rattle.std.proofs.lemmas.List.Folds.{list_all_more, list_all_at}
+use Rattle.std.proofs.lemmas.List.Sums.{prefix_len-drop_all}
+use Rattle.bsi_schema.specs.Columns.{column_at, entry_at, fits, is_taken_by, Declared, NamedColumn}
+use Rattle.bsi_schema.specs.Limits.{limits_of}
+use Rattle.bsi_schema.specs.declared.limits.Limits.{Limits}
+use Rattle.bsi_rows.specs.Rows.{Entries}
+use Rattle.bsi_schema.proofs.Fitting.{fits-each, misfit-at}
+use Rattle.bsi_records.specs.Numbers.{Field, entry_in, value_in, values_in}
+use Rattle.bsi_reading.specs.RowFiles.{fitting, in_order, place_of}
+use Rattle.bsi_records.proofs.Values.{behind, values_done, values_next, values_stop}
+
+-- ---- a test of each element, one after another
+
+module _ {X : Type 0} (p : X → Bool) (xs : List X) (i : ℕ) (d : X) (so_far : list_all p (take i xs) ≡ true) where
+  pub all_next : i < length xs → p (get_or xs i d) ≡ true → list_all p (take (i + 1) xs) ≡ true
+  all_next within passes = list_all_more p xs i d within ∙ ap₂ (λ a b. a && b) so_far passes
+
+  pub all_done : length xs ≤ i → true ≡ list_all p xs
+  all_done all = sym (ap (list_all p) (sym (take_all i xs all)) ∙ so_far)
+
+pub all_stop : {X : Type 0} (p : X → Bool) (xs : List X) (i : ℕ) (d : X) → i < length xs → p (get_or xs i d) ≡ false → false ≡ list_all p xs
+all_stop p xs i d within fails = sym (list_all_at p xs i d within fails)
+
+-- ---- the fields before a name
+
+pub place_next : (fields : List Field) (i : ℕ) (name : Field) → i < length fields → bytes_eq (get_or fields i []) name ≡ false
+    → place_of fields name ≡ i + place_of (drop i fields) name → place_of fields name ≡ i + 1 + place_of (drop (i + 1) fields) name
+place_next fields i name within other before =
+    let rest = place_of (drop (i + 1) fields) name in
+    let step : place_of (drop i fields) name ≡ 1 + rest =
+    at_drop_more (λ fs. place_of fs name) fields i [] within ∙ ap (λ b. cond (not b) (1 + rest) 0) other in
+    omega (arith, before, step)
+
+pub place_here : (fields : List Field) (i : ℕ) (name : Field) → i < length fields → bytes_eq (get_or fields i []) name ≡ true
+    → place_of fields name ≡ i + place_of (drop i fields) name → i ≡ place_of fields name
+place_here fields i name within same before =
+    let step : place_of (drop i fields) name ≡ 0 =
+    at_drop_more (λ fs. place_of fs name) fields i [] within ∙ ap (λ b. cond (not b) (1 + place_of (drop (i + 1) fields) name) 0) same in
+    omega (arith, before, step)
+
+pub place_nowhere : (fields : List Field) (i : ℕ) (name : Field) → length fields ≡ i
+    → place_of fields name ≡ i + place_of (drop i fields) name → i ≡ place_of fields name
+place_nowhere fields i name all before =
+    let step : place_of (drop i fields) name ≡ 0 = prefix_len-drop_all (λ field. not (bytes_eq field name)) fields i (omega arith) in
+    omega (arith, before, step)
+
+-- another count than one
+pub not_one : (n m : ℕ) → n ≡ m → (n ≡ 1 → ⊥) → nat_eq m 1 ≡ false
+not_one n m same other = by (nat_eq m 1) refl
+  where
+    by : (b : Bool) → nat_eq m 1 ≡ b → nat_eq m 1 ≡ false
+    by false e = e
+    by true e = absurd (other (same ∙ (Decides-eqb m 1).0 e))
+
+-- ---- the fields in the order of the columns
+
+-- the fields at these places
+abbrev pub fields_at : List Field → List ℕ → List Field
+fields_at fields places = map (λ place. get_or fields place []) places
+
+pub ordered : (schema : Declared) (header fields : List Field) (places : List ℕ) → places ≡ map (λ column. place_of header column.name) schema.columns
+    → fields_at fields places ≡ in_order schema header fields
+ordered schema header fields places are = ap (fields_at fields) are ∙ map-map (λ place. get_or fields place []) (λ column. place_of header column.name) schema.columns
+
+-- so many of the fields were read as these values
+pub record IsRead (signed : Bool) (fields : List Field) (places : List ℕ) (i : ℕ) (values : Entries) : Type 0 where
+  pub so_far : values_in signed (fields_at fields places) ≡ behind values (values_in signed (drop i (fields_at fields places)))
+  pub long : length values ≡ i
+
+module _ (signed : Bool) (fields : List Field) (places : List ℕ) (i : ℕ) (values : Entries) (read : IsRead signed fields places i values) where
+  abbrev pub whole : Option Entries
+  whole = values_in signed (fields_at fields places)
+
+  at_place_i : i < length places → get_or (fields_at fields places) i [] ≡ get_or fields (get_or places i 0) []
+  at_place_i within = get_or-map (λ place. get_or fields place []) places i 0 [] within
+
+  there : i < length places → i < length (fields_at fields places)
+  there within = omega (arith, length-map places (λ place. get_or fields place []))
+
+  pub value_next : (value : Option ℤ) → i < length places → value_in signed (get_or fields (get_or places i 0) []) ≡ Some value
+      → IsRead signed fields places (i + 1) (values ++ value ∷ [])
+  value_next value within this = record {
+    so_far = values_next signed whole (fields_at fields places) i values read.so_far value (there within) (ap (value_in signed) (at_place_i within) ∙ this);
+    long = length-append {A = Option ℤ} values (value ∷ []) ∙ ap (λ n. n + 1) read.long;
+  }
+
+  pub value_stop : i < length places → value_in signed (get_or fields (get_or places i 0) []) ≡ None → None ≡ whole
+  value_stop within this =
+      values_stop signed whole (fields_at fields places) i values read.so_far (there within) (ap (value_in signed) (at_place_i within) ∙ this)
+
+  pub value_done : length places ≤ i → Some values ≡ whole
+  value_done all =
+      values_done signed whole (fields_at fields places) i values read.so_far (omega (arith, length-map places (λ place. get_or fields place [])))
+
+-- ---- entries that their columns take
+
+-- the entry that a column takes
+abbrev pub taken_by : NamedColumn → Option ℤ → Option (Option ℤ)
+taken_by column value = if is_taken_by column value then Some value else None
+
+taken_value : (column : NamedColumn) (found : Option (Option ℤ)) (entry : Option ℤ) → option_and_then (taken_by column) found ≡ Some entry
+    → (found ≡ Some entry) × (is_taken_by column entry ≡ true)
+taken_value column None entry is = absurd (none-some entry is)
+taken_value column (Some value) entry is = by (is_taken_by column value) refl is
+  where
+    by : (b : Bool) → is_taken_by column value ≡ b → (if b then Some value else None) ≡ Some entry → (Some value ≡ Some entry) × (is_taken_by column entry ≡ true)
+    by true taken same = (same, ap (is_taken_by column) (sym (same_Some value entry same)) ∙ taken)
+    by false taken same = absurd (none-some entry same)
+
+taken_not : (column : NamedColumn) (value : Option ℤ) → taken_by column value ≡ None → is_taken_by column value ≡ false
+taken_not column value is = by (is_taken_by column value) is
+  where
+    by : (b : Bool) → (if b then Some value else None) ≡ None → b ≡ false
+    by true same = absurd (none-some value (sym same))
+    by false same = refl
+
+-- the element between two lists
+at_seam : (entries more : Entries) (entry : Option ℤ) (i : ℕ) → length entries ≡ i → entry_at ((entries ++ entry ∷ []) ++ more) i ≡ entry
+at_seam entries more entry i long =
+    get_or_append_left (entries ++ entry ∷ []) more None i (omega (arith, length-append entries (entry ∷ []), long))
+    ∙ ap (λ n. entry_at (entries ++ entry ∷ []) n) (sym long) ∙ get_or-append_seam entries entry [] None
+
+-- a row with an entry that its column does not take does not fit
+misfit : (schema : Declared) (entries : Entries) (entry : Option ℤ) (i : ℕ) (later : Option Entries) → length entries ≡ i → i < length schema.columns
+    → is_taken_by (column_at schema.columns i) entry ≡ false → None ≡ fitting schema (behind (entries ++ entry ∷ []) later)
+misfit schema entries entry i None long within refused = refl
+misfit schema entries entry i (Some more) long within refused =
+    let row = (entries ++ entry ∷ []) ++ more in
+    ap (λ b. if b then Some row else None)
+    (misfit-at schema.columns row i within (ap (is_taken_by (column_at schema.columns i)) (at_seam entries more entry i long) ∙ refused))
+
+-- so many of the fields were read as entries that their columns take
+module _ (schema : Declared) (header fields : List Field) (i : ℕ) (entries : Entries)
+    (read : IsRead schema.signed fields (map (λ column. place_of header column.name) schema.columns) i entries) where
+  abbrev field_i : Field
+  field_i = get_or fields (get_or (map (λ column. place_of header column.name) schema.columns) i 0) []
+
+  abbrev found : Option (Option ℤ)
+  found = value_in schema.signed field_i
+
+  among : i < length schema.columns → i < length (map (λ column. place_of header column.name) schema.columns)
+  among within = omega (arith, within, length-map schema.columns (λ column. place_of header column.name))
+
+  all_fields : fields_at fields (map (λ column. place_of header column.name) schema.columns) ≡ in_order schema header fields
+  all_fields = ordered schema header fields (map (λ column. place_of header column.name) schema.columns) refl
+
+  -- what is read of the field of column i
+  pub entry_is : (signed : Bool) (limits : Limits) (text : Field) → signed ≡ schema.signed → limits ≡ limits_of (column_at schema.columns i) → text ≡ field_i
+      → entry_in signed limits text ≡ option_and_then (taken_by (column_at schema.columns i)) found
+  entry_is signed limits text signed_is limits_are text_is =
+      ap (λ s. entry_in s limits text) signed_is ∙ ap (λ l. entry_in schema.signed l text) limits_are
+      ∙ ap (entry_in schema.signed (limits_of (column_at schema.columns i))) text_is
+
+  -- one more
+  pub entry_read : (entry : Option ℤ) → i < length schema.columns → option_and_then (taken_by (column_at schema.columns i)) found ≡ Some entry
+      → IsRead schema.signed fields (map (λ column. place_of header column.name) schema.columns) (i + 1) (entries ++ entry ∷ [])
+  entry_read entry within this = value_next _ _ _ _ _ read entry (among within) (taken_value (column_at schema.columns i) found entry this).0
+
+  pub entry_taken : ((k : ℕ) → k < i → is_taken_by (column_at schema.columns k) (entry_at entries k) ≡ true)
+      → (entry : Option ℤ) → option_and_then (taken_by (column_at schema.columns i)) found ≡ Some entry
+      → (k : ℕ) → k < i + 1 → is_taken_by (column_at schema.columns k) (entry_at (entries ++ entry ∷ []) k) ≡ true
+  entry_taken before entry this =
+      below_more _ _
+      (λ k below. ap (is_taken_by (column_at schema.columns k)) (get_or_append_left entries (entry ∷ []) None k (omega (arith, below, read.long))) ∙ before k below)
+      (ap (is_taken_by (column_at schema.columns i))
+      (ap (λ n. entry_at (entries ++ entry ∷ []) n) (sym read.long) ∙ get_or-append_seam entries entry [] None)
+      ∙ (taken_value (column_at schema.columns i) found entry this).1)
+
+  -- one that is no value, or that its column does not take
+  pub entry_stop : i < length schema.columns → option_and_then (taken_by (column_at schema.columns i)) found ≡ None
+      → None ≡ fitting schema (values_in schema.signed (in_order schema header fields))
+  entry_stop within this = by found refl this ∙ ap (λ fs. fitting schema (values_in schema.signed fs)) all_fields
+    where
+      by : (o : Option (Option ℤ)) → found ≡ o → option_and_then (taken_by (column_at schema.columns i)) o ≡ None
+          → None ≡ fitting schema (values_in schema.signed (fields_at fields (map (λ column. place_of header column.name) schema.columns)))
+      by None is none = ap (fitting schema) (value_stop _ _ _ _ _ read (among within) is)
+      by (Some value) is none =
+          let more = value_next _ _ _ _ _ read value (among within) is in
+          misfit schema entries value i _ read.long within (taken_not (column_at schema.columns i) value none) ∙ sym (ap (fitting schema) more.so_far)
+
+  -- all
+  pub entries_fit : ((k : ℕ) → k < i → is_taken_by (column_at schema.columns k) (entry_at entries k) ≡ true) → i ≡ length schema.columns
+      → fits schema.columns entries ≡ true
+  entries_fit before all = fits-each schema.columns entries (read.long ∙ all) (λ k within. before k (omega (arith, within, all)))
+
+  pub entries_done : ((k : ℕ) → k < i → is_taken_by (column_at schema.columns k) (entry_at entries k) ≡ true) → i ≡ length schema.columns
+      → Some entries ≡ fitting schema (values_in schema.signed (in_order schema header fields))
+  entries_done before all =
+      ap (λ b. if b then Some entries else None) (sym (entries_fit before all))
+      ∙ ap (fitting schema) (value_done _ _ _ _ _ read (omega (arith, all, length-map schema.columns (λ column. place_of header column.name))))
+      ∙ ap (λ fs. fitting schema (values_in schema.signed fs)) all_fields

@@ -1,0 +1,9 @@
+pub mod FaultTexts
+pub mod Pasts
+pub mod RecordSources
+pub mod RowFiles
+pub mod SchemaTexts
+pub mod Scripts
+pub mod Sources
+pub mod Texts
+pub mod Waiting

@@ -1,0 +1,258 @@
+//! The header of a row file, and the rows that its records give.
+//!
+//! The header is tested as it is defined, once a file: each column has one field, and each field is a column. The loops
+//! go over places: the clauses of a record's iterator tell of one step, and would take a longer proof than the loop.
+
+ghost use Rattle.std.specs.Prelude.{◌≡◌, ◌<◌, ◌≤◌, [], if◌then◌else◌, length, map, count_by, vec_capacity, Some, None, true, false, IfOk, IsTrue, OnOk};
+ghost use Rattle.std.specs.List.{list_all};
+ghost use Rattle.std.specs.Str.{bytes_eq};
+ghost use Rattle.csv.specs.Records.{fields_of};
+ghost use Rattle.bsi_schema.specs.Columns.{fits};
+ghost use Rattle.bsi_rows.specs.RowBlocks.{max_block_rows, no_block_rows, with_block_row, HaveSameLimits};
+ghost use Rattle.bsi_records.specs.Numbers.{values_in};
+ghost use Rattle.bsi_reading.specs.RowFiles.{fitting, given, good_row, in_order, is_header, is_known, is_named_once, place_of};
+
+use crate::NoMemory;
+use bsi_records::{field, read_entry, read_value};
+use bsi_rows::{Block, Row, Schema};
+use csv::ByteRecord;
+use std::alloc::Global;
+use std::marker::Model;
+use std::mem;
+use std::sync::Arc;
+
+/// The columns of a row file, with, for each column, the place of its field in a record.
+#[derive(Drop)]
+pub(crate) struct Layout {
+    schema: Arc<Schema, Global>,
+    header: ByteRecord,
+    places: Vec<usize>,
+}
+
+// Clauses see the schema and the header.
+impl Model for Layout {
+    ghost use Rattle.std.specs.Prelude.{◌≡◌, map};
+    ghost use Rattle.csv.specs.Records.{fields_of};
+    ghost use Rattle.bsi_reading.specs.RowFiles.{place_of};
+    ghost use Rattle.bsi_reading.specs.Sources.{Layout};
+
+    ghost Value = { Layout };
+
+    ghost view = { λ l. record { schema = l.schema.value; header = fields_of l.header } };
+
+    ghost invariant = { λ l. l.places.items
+        ≡ map (λ column. place_of (fields_of l.header) column.name) l.schema.value.columns };
+}
+
+impl Layout {
+    /// Makes the layout of a header, or none if the header does not name each column once, and nothing else.
+    pub(crate) fn new(
+        alloc: Global,
+        schema: &Schema,
+        header: ByteRecord,
+    ) -> Result<Option<Layout>, NoMemory>
+        ensures { IfOk result (λ made. made
+            ≡ (if is_header schema.now (fields_of header) then Some
+            (record { schema = schema.now; header = fields_of header }) else None)) }
+    {
+        if !is_good_header(schema, &header) {
+            return Ok(None);
+        }
+        let places = places_of(alloc, schema, &header)?;
+        let schema = Arc::new(alloc, schema.copy()?)?;
+        Ok(Some(Layout {
+            schema,
+            header,
+            places,
+        }))
+    }
+
+    /// Makes a block of no rows for the rows of such files, each from one of so many feeders.
+    pub(crate) fn block(&self, alloc: Global, feeders: u32) -> Result<Block, NoMemory>
+        ensures { IfOk result (λ block. block ≡ no_block_rows self.now.schema feeders) }
+    {
+        Block::new(alloc, &self.schema, feeders)
+    }
+
+    /// Empties a row, and makes room in it for an entry of each column.
+    pub(crate) fn make_room(&self, alloc: Global, row: &mut Row) -> Result<(), NoMemory>
+        ensures { OnOk result (row.new ≡ []) }
+    {
+        let mut values = mem::replace(row, Row::new(Vec::new(alloc))).into_values();
+        values.clear();
+        values.reserve(self.places.len())?;
+        *row = Row::new(values);
+        Ok(())
+    }
+
+    /// Reads a record into a row, and returns whether the record is good. It allocates no memory if the row has room.
+    pub(crate) fn read(
+        &self,
+        alloc: Global,
+        fields: &ByteRecord,
+        row: &mut Row,
+    ) -> Result<bool, NoMemory>
+        ensures row { IfOk result (λ good. given good row.new
+            ≡ good_row self.now.schema self.now.header (fields_of fields.now)) }
+        ensures fits { IfOk result (λ good. good ≡ true →
+            IsTrue (fits self.now.schema.columns row.new)) }
+    {
+        if fields.len() != self.header.len() {
+            return Ok(false);
+        }
+        if !self.read_values(alloc, fields, row)? {
+            return Ok(false);
+        }
+        Ok(self.schema.fits(row))
+    }
+
+    /// Makes a list of no entries, with room for those of a row.
+    pub(crate) fn entries(&self, alloc: Global) -> Result<Vec<Option<i64>>, NoMemory>
+        ensures { IfOk result (λ entries. length self.now.schema.columns ≤ vec_capacity entries) }
+    {
+        Vec::with_capacity(alloc, self.places.len())
+    }
+
+    /// Reads a record into the entries of a row, adds these to a block if the record is good, and returns whether it
+    /// is.
+    pub(crate) fn add(
+        &self,
+        fields: &ByteRecord,
+        entries: &mut Vec<Option<i64>>,
+        feeder: u32,
+        block: &mut Block,
+    ) -> bool
+        requires alike { HaveSameLimits block.old.schema self.now.schema }
+        requires room { length block.old.rows < max_block_rows }
+        requires feeder { feeder < block.old.feeders }
+        requires wide { length self.now.schema.columns ≤ vec_capacity entries.old }
+        ensures row { given result entries.new.items
+            ≡ good_row self.now.schema self.now.header (fields_of fields.now) }
+        ensures fits { result ≡ true → IsTrue (fits self.now.schema.columns entries.new.items) }
+        ensures added { result ≡ true →
+            block.new ≡ with_block_row block.old feeder entries.new.items }
+        ensures kept { result ≡ false → block.new ≡ block.old }
+        ensures wide { length self.now.schema.columns ≤ vec_capacity entries.new }
+    {
+        if fields.len() != self.header.len() || !self.read_entries(fields, entries) {
+            return false;
+        }
+        block.push_fitting(feeder, entries);
+        true
+    }
+
+    /// Reads the fields of a record in the order of the columns as the entries of a row, and returns whether this fits.
+    // A block takes entries of 64 bits, tested as they are read. A row of numbers of 128 bits is read by `read_values`.
+    fn read_entries(&self, fields: &ByteRecord, entries: &mut Vec<Option<i64>>) -> bool
+        requires wide { length self.now.schema.columns ≤ vec_capacity entries.old }
+        ensures row { given result entries.new.items
+            ≡ fitting self.now.schema (values_in self.now.schema.signed
+            (in_order self.now.schema self.now.header (fields_of fields.now))) }
+        ensures fits { result ≡ true → IsTrue (fits self.now.schema.columns entries.new.items) }
+        ensures wide { length self.now.schema.columns ≤ vec_capacity entries.new }
+    {
+        let signed = self.schema.signed();
+        entries.clear();
+        'columns: for (place, limits) in self.places.iter().zip(self.schema.limits()) {
+            let text = field(fields, *place);
+            let Some(entry) = read_entry(signed, *limits, text) else {
+                return false;
+            };
+            entries.push_reserved(entry);
+        }
+        true
+    }
+
+    /// Reads the fields of a record in the order of the columns, and returns whether each is a value.
+    fn read_values(
+        &self,
+        alloc: Global,
+        fields: &ByteRecord,
+        row: &mut Row,
+    ) -> Result<bool, NoMemory>
+        ensures { IfOk result (λ read. given read row.new
+            ≡ values_in self.now.schema.signed
+            (in_order self.now.schema self.now.header (fields_of fields.now))) }
+    {
+        let signed = self.schema.signed();
+        let mut values = mem::replace(row, Row::new(Vec::new(alloc))).into_values();
+        values.clear();
+        'places: for place in &self.places {
+            let Some(value) = read_value(signed, field(fields, *place)) else {
+                *row = Row::new(values);
+                return Ok(false);
+            };
+            values.push(value)?;
+        }
+        *row = Row::new(values);
+        Ok(true)
+    }
+}
+
+/// Returns whether a header names each column exactly once, and nothing else.
+fn is_good_header(schema: &Schema, header: &ByteRecord) -> bool
+    ensures { result ≡ is_header schema.now (fields_of header.now) }
+{
+    names_each_column_once(schema, header) && names_columns_only(schema, header)
+}
+
+/// Returns whether each column is named exactly once.
+fn names_each_column_once(schema: &Schema, header: &ByteRecord) -> bool
+    ensures { result ≡ list_all (is_named_once (fields_of header.now)) schema.now.columns }
+{
+    'columns: for c in 0..schema.columns() {
+        if count_named(header, schema.name(c).as_bytes()) != 1 {
+            return false;
+        }
+    }
+    true
+}
+
+/// Returns how many fields equal this name.
+fn count_named(header: &ByteRecord, name: &[u8]) -> usize
+    ensures { result ≡ count_by (λ field. bytes_eq field name.now) (fields_of header.now) }
+{
+    let mut count = 0;
+    'fields: for place in 0..header.len() {
+        if field(header, place) == name {
+            count += 1;
+        }
+    }
+    count
+}
+
+/// Returns whether each field is the name of a column.
+fn names_columns_only(schema: &Schema, header: &ByteRecord) -> bool
+    ensures { result ≡ list_all (is_known schema.now) (fields_of header.now) }
+{
+    'fields: for place in 0..header.len() {
+        if schema.find(field(header, place)).is_none() {
+            return false;
+        }
+    }
+    true
+}
+
+/// Returns for each column how many fields stand before its name.
+fn places_of(alloc: Global, schema: &Schema, header: &ByteRecord) -> Result<Vec<usize>, NoMemory>
+    ensures { IfOk result (λ places. places.items
+        ≡ map (λ column. place_of (fields_of header.now) column.name) schema.now.columns) }
+{
+    let mut places = Vec::with_capacity(alloc, schema.columns() as usize)?;
+    'columns: for c in 0..schema.columns() {
+        places.push_reserved(place_of(header, schema.name(c).as_bytes()));
+    }
+    Ok(places)
+}
+
+/// Returns how many fields stand before the first one that equals this name.
+fn place_of(header: &ByteRecord, name: &[u8]) -> usize
+    ensures { result ≡ place_of (fields_of header.now) name.now }
+{
+    'fields: for place in 0..header.len() {
+        if field(header, place) == name {
+            return place;
+        }
+    }
+    header.len()
+}

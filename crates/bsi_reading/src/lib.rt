@@ -1,0 +1,17 @@
+//! From bytes to records and rows, and what the lines of a script are.
+#![tactic(auto)]
+
+pub mod laws;
+mod layout;
+mod reading;
+mod rows;
+mod schema_text;
+mod texts;
+mod writing;
+
+pub use bsi_records::{DeclaredTable, NoMemory};
+pub use reading::{MAX_RECORDS, plain_reader, read_next};
+pub use rows::{RowSource, SourceFault};
+pub use schema_text::{SchemaFault, read_schema};
+pub use texts::RecordSource;
+pub use writing::{WriteFault, write_bytes};

@@ -1,0 +1,9 @@
+pub mod Balance
+pub mod BlockRows
+pub mod ByFeeder
+pub mod CallerLemmas
+pub mod Composing
+pub mod Events
+pub mod Missing
+pub mod Rising
+pub use Rattle.bsi_schema.proofs.Fitting

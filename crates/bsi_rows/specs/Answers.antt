@@ -1,0 +1,87 @@
+-- What the answer to a query is.
+use Rattle.std.specs.Prelude.{◌≡◌, ℕ, List, [], ◌∷◌, ◌++◌, Option, Some, None, Result, Ok, Err, length, find, map, nat_le, ℤ}
+use Rattle.bsi_rows.specs.Numbering.{numbered_at, Place}
+use Rattle.bsi_orders.specs.WholeNumbers.{signed_sum, IsSignedLeastOf, IsSignedGreatestOf, IsSignedMedianOf}
+use Rattle.bsi_rows.specs.declared.errors.AskError.{AskError}
+use Rattle.bsi_rows.specs.declared.errors.AskError.TheVariants.{BadColumn, NoMemory}
+use Rattle.bsi_rows.specs.declared.query.Answer.{Answer}
+use Rattle.bsi_rows.specs.declared.query.Answer.TheVariants.{Count as count_answer, Sum as sum_answer, Value as value_answer, Rows as rows_answer}
+use Rattle.bsi_rows.specs.declared.query.Pred.{Pred, All, Compare, Null, Both', Either', Not'}
+use Rattle.bsi_rows.specs.declared.query.Query.{Query}
+use Rattle.bsi_rows.specs.declared.query.Total.{Total}
+use Rattle.bsi_rows.specs.declared.query.Total.TheVariants.{Count, Sum, Least, Greatest, Median, Rows}
+use Rattle.bsi_schema.specs.Columns.{Declared}
+use Rattle.bsi_rows.specs.Rows.{FedRow, feeders_of, holds, row_entries, selected, values}
+
+-- the answer is a number or none, and this is so of it
+abbrev pub IsValue : (Option ℤ → Type 0) → Answer → Type 0
+IsValue Is (value_answer number) = Is number
+IsValue Is answer = ⊥
+
+-- the answer is this list of the places of rows
+abbrev pub IsRows : List Place → Answer → Type 0
+IsRows places (rows_answer listed) = listed.items ≡ places
+IsRows places answer = ⊥
+
+-- the answer is the total of the rows that the predicate selects
+abbrev pub IsTotal : Total → Pred → List FedRow → Answer → Type 0
+IsTotal Count pred rows answer = answer ≡ count_answer (length (selected pred rows))
+IsTotal (Sum c) pred rows answer = answer ≡ sum_answer (signed_sum (values c pred rows))
+IsTotal (Least c) pred rows answer = IsValue (IsSignedLeastOf (values c pred rows)) answer
+IsTotal (Greatest c) pred rows answer = IsValue (IsSignedGreatestOf (values c pred rows)) answer
+IsTotal (Median c) pred rows answer = IsValue (IsSignedMedianOf (values c pred rows)) answer
+IsTotal Rows pred rows answer = IsRows (numbered_at (feeders_of rows) (selected pred rows)) answer
+
+abbrev pub IsAnswer : Query → List FedRow → Answer → Type 0
+IsAnswer query rows answer = IsTotal query.total query.pred rows answer
+
+-- the predicate has no `or` and no `not`
+abbrev pub IsConjunction : Pred → Type 0
+IsConjunction All = Unit {0}
+IsConjunction (Compare c op n) = Unit {0}
+IsConjunction (Null c) = Unit {0}
+IsConjunction (Both' p first q second) = IsConjunction first × IsConjunction second
+IsConjunction (Either' p first q second) = ⊥
+IsConjunction (Not' p pred) = ⊥
+
+-- the query is answered without memory: it counts the rows of a conjunction
+abbrev pub CountsConjunction : Query → Type 0
+CountsConjunction query = (query.total ≡ Count) × IsConjunction query.pred
+
+-- the columns that a total reads
+abbrev pub columns_of_total : Total → List ℕ
+columns_of_total Count = []
+columns_of_total (Sum c) = c ∷ []
+columns_of_total (Least c) = c ∷ []
+columns_of_total (Greatest c) = c ∷ []
+columns_of_total (Median c) = c ∷ []
+columns_of_total Rows = []
+
+-- the columns that a predicate reads, from left to right
+abbrev pub columns_of_pred : Pred → List ℕ
+columns_of_pred All = []
+columns_of_pred (Compare c op n) = c ∷ []
+columns_of_pred (Null c) = c ∷ []
+columns_of_pred (Both' p first q second) = columns_of_pred first ++ columns_of_pred second
+columns_of_pred (Either' p first q second) = columns_of_pred first ++ columns_of_pred second
+columns_of_pred (Not' p pred) = columns_of_pred pred
+
+-- the first of these columns that is none of the first `count`
+abbrev pub missing_of : ℕ → List ℕ → Option ℕ
+missing_of count columns = find (λ c. nat_le count c) columns
+
+-- each column that a predicate reads is one of the first `count`
+abbrev pub ReadsAmong : ℕ → Pred → Type 0
+ReadsAmong count pred = missing_of count (columns_of_pred pred) ≡ None
+
+-- the first column that a query reads and that is not there: its total's, else the first of its predicate
+abbrev pub missing_column : ℕ → Query → Option ℕ
+missing_column count query = missing_of count (columns_of_total query.total ++ columns_of_pred query.pred)
+
+-- the reply to a query over rows of a schema: the first column that is not there, else the answer, or that memory was
+-- refused
+abbrev pub IsReply : Declared → List FedRow → Query → Result Answer AskError → Type 0
+IsReply schema rows query (Ok answer) =
+    (missing_column (length schema.columns) query ≡ None) × IsAnswer query rows answer
+IsReply schema rows query (Err (BadColumn c)) = missing_column (length schema.columns) query ≡ Some c
+IsReply schema rows query (Err NoMemory) = missing_column (length schema.columns) query ≡ None

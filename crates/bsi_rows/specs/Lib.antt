@@ -1,0 +1,13 @@
+pub mod Answers
+pub mod ByFeeder
+pub mod Numbering
+pub mod Refusals
+pub mod RowBlocks
+pub mod Rows
+pub mod Runs
+pub mod Shown
+pub mod Sizes
+pub mod Table
+pub use Rattle.bsi_schema.specs.Columns
+pub use Rattle.bsi_schema.specs.Names
+pub use Rattle.bsi_schema.specs.Limits

@@ -1,0 +1,22 @@
+//! Rows from feeders, blocks of them, queries over them, and lawful runs: what an index and a machine speak of.
+#![tactic(auto)]
+
+mod arranging;
+mod block;
+mod errors;
+mod event;
+pub mod laws;
+mod query;
+mod sizes;
+
+pub use arranging::arrange;
+pub use block::{Block, MAX_BLOCK_ROWS};
+pub use bsi_orders::Op;
+pub use bsi_schema::{ColumnSpec, Form, MAX_SLICES, Row, Schema, SchemaError};
+pub use errors::{AppendError, AskError, IndexError};
+pub use event::{CloseRefused, Event, LoadRefused, Reply, RunRefused, SubmitRefused};
+pub use query::{Answer, Pred, Query, Total};
+pub use sizes::{
+    MAX_FEEDERS, MAX_ROWS, MAX_WAITING, MakeError, check_sizes, check_table,
+};
+pub use std::alloc::AllocError as NoMemory;
