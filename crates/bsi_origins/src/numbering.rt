@@ -12,6 +12,7 @@ ghost use Rattle.bsi_origins.specs.Origins.{AreCountsBefore};
 use crate::origins::{Counts, STRETCH_ROWS};
 use crate::{NoMemory, Origins};
 use bsi_bits::Bits;
+use bsi_rows::MAX_FEEDERS;
 use std::alloc::Global;
 
 /// The fewest rows per found row with which the numbering goes from one found row to the next, and not over all rows.
