@@ -1,0 +1,14 @@
+use Rattle.std.proofs.Common.{◌≡◌, ◌<◌, ◌&&◌, Bool, true, false, None, nat_lt, length, ap, refl, sym, subst, ◌∙◌, rules, arith}
+use Rattle.std.proofs.lemmas.Bool.Decides.{nat_tests}
+use Rattle.bsi_rows.specs.Sizes.{sizes_refusal}
+use Rattle.bsi_rows.specs.declared.sizes.MakeError.TheVariants.{NoMemory}
+use Rattle.bsi_rows.specs.Refusals.{IsFirstOr}
+use Rattle.bsi_text.proofs.Machines.{sizes_taken}
+use Rattle.bsi_text.proofs.session.begin.Goals as goal
+
+-- the sizes are in range
+pub map_err-requires : goal.map_err-requires
+map_err-requires c = λ refused is.
+    let setup = c.args.declared in
+    let none : sizes_refusal setup.table.schema setup.capacities setup.table.limit ≡ None = ? in
+    ?
