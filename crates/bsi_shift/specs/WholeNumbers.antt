@@ -2,8 +2,6 @@
 use Rattle.std.specs.Prelude.{ℤ, pos, ◌+ℤ◌, Bool, List, [], ◌∷◌, Option, ◌&&◌, int_lt, int_le}
 use Rattle.bsi_slices.specs.Orders.{Order, selects_by, IsLeastBy, IsGreatestBy, IsLowerMedianBy, IsNoneOr}
 use Rattle.bsi_slices.specs.declared.column.Op.{Op}
-use Rattle.bsi_slices.specs.declared.column.OrderStatistic.{OrderStatistic}
-use Rattle.bsi_slices.specs.declared.column.OrderStatistic.TheVariants.{Least, Greatest, Median}
 
 -- the whole numbers in their order
 abbrev pub signed_order : Order ℤ
@@ -26,9 +24,3 @@ IsSignedGreatestOf = IsNoneOr (IsGreatestBy signed_order)
 
 abbrev pub IsSignedMedianOf : List ℤ → Option ℤ → Type 0
 IsSignedMedianOf = IsNoneOr (IsLowerMedianBy signed_order)
-
--- the answer is this one, and none exactly where there is no number
-abbrev pub IsSignedOrderStatistic : OrderStatistic → List ℤ → Option ℤ → Type 0
-IsSignedOrderStatistic Least numbers answer = IsSignedLeastOf numbers answer
-IsSignedOrderStatistic Greatest numbers answer = IsSignedGreatestOf numbers answer
-IsSignedOrderStatistic Median numbers answer = IsSignedMedianOf numbers answer

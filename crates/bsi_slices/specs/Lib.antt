@@ -3,7 +3,6 @@ pub mod Decisions
 pub mod Ends
 pub mod Exchanges
 pub mod NotNull
-pub mod OrderStatistics
 pub mod Orders
 pub mod Rows
 pub mod Slices

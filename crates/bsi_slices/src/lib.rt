@@ -9,7 +9,7 @@ mod slices;
 #[doc(hidden)]
 pub mod transposing;
 
-pub use column::{Column, Op, OrderStatistic};
+pub use column::{Column, Op};
 pub use decision::{Decision, Relation, Test, decide};
 pub use not_null::NotNull;
 pub use slices::{End, Slices};
