@@ -12,7 +12,6 @@ use Rattle.bsi_orders.specs.Rows.{number_or_zero}
 use Rattle.bsi_bits.specs.SetRows.{HasRow, HasValue}
 use Rattle.bsi_columns.specs.Ends.{comes_first, leads, number_at}
 use Rattle.bsi_columns.specs.SpanEnds.{IsPast, IsNarrowedTo, AnswersEnd}
-use Rattle.bsi_components.specs.declared.answers.EndDigit.TheVariants.{Digit}
 use Rattle.bsi_columns.proofs.EndSpans.{IsNearest, first_digit, nearest_step}
 
 -- past a bound that the best number so far gives, no number comes before it
@@ -73,11 +72,11 @@ row_digit entries weight base r positive some = elim (cases_lt r (length entries
 
 -- ---- the digit that is kept
 
-pub end_member : (end : End) (bound : ℕ) (marked : ℕ → Bool) (digit : ℕ → ℕ) (n d : ℕ) → AnswersEnd end bound marked digit n (Digit d) → HasValue marked digit n d
+pub end_member : (end : End) (bound : ℕ) (marked : ℕ → Bool) (digit : ℕ → ℕ) (n d : ℕ) → AnswersEnd end bound marked digit n (Some d) → HasValue marked digit n d
 end_member Least bound marked digit n d is = is.member
 end_member Greatest bound marked digit n d is = is.member
 
-pub end_first : (end : End) (bound : ℕ) (marked : ℕ → Bool) (digit : ℕ → ℕ) (n d : ℕ) → AnswersEnd end bound marked digit n (Digit d) → (p : ℕ) → p < n → marked p ≡ true → comes_first end d (digit p)
+pub end_first : (end : End) (bound : ℕ) (marked : ℕ → Bool) (digit : ℕ → ℕ) (n d : ℕ) → AnswersEnd end bound marked digit n (Some d) → (p : ℕ) → p < n → marked p ≡ true → comes_first end d (digit p)
 end_first Least bound marked digit n d is = is.first
 end_first Greatest bound marked digit n d is = is.first
 

@@ -1,20 +1,18 @@
 -- The digit at an end of those of a span's rows.
-use Rattle.std.specs.Prelude.{◌≡◌, ℕ, ◌<◌, ◌&&◌, Bool, true, nat_eq}
+use Rattle.std.specs.Prelude.{◌≡◌, ℕ, ◌<◌, ◌&&◌, Bool, true, nat_eq, Option, Some, None}
 use Rattle.bsi_bits.specs.SetRows.{HasRow}
 use Rattle.bsi_slices.specs.Ends.{comes_first}
 use Rattle.bsi_slices.specs.declared.slices.ends.End.{End}
 use Rattle.bsi_slices.specs.declared.slices.ends.End.TheVariants.{Least, Greatest}
 use Rattle.bsi_components.specs.EndDigits.{AnswersLeast, AnswersGreatest}
-use Rattle.bsi_components.specs.declared.answers.EndDigit.{EndDigit}
-use Rattle.bsi_components.specs.declared.answers.EndDigit.TheVariants.{Unanswered, Past, Digit}
 
 -- the digit is farther from the end than the bound
 abbrev pub IsPast : End → ℕ → ℕ → Type 0
 IsPast Least bound digit = bound < digit
 IsPast Greatest bound digit = digit < bound
 
--- the answer is the digit at this end
-abbrev pub AnswersEnd : End → ℕ → (ℕ → Bool) → (ℕ → ℕ) → ℕ → EndDigit → Type 0
+-- the answer is the digit at this end, and none where each is past the bound
+abbrev pub AnswersEnd : End → ℕ → (ℕ → Bool) → (ℕ → ℕ) → ℕ → Option ℕ → Type 0
 AnswersEnd Least = AnswersLeast
 AnswersEnd Greatest = AnswersGreatest
 
@@ -24,8 +22,7 @@ pub record IsNarrowedTo (end : End) (old new : ℕ → Bool) (digit : ℕ → �
   pub some : HasRow new n
   pub first : (p : ℕ) → p < n → old p ≡ true → comes_first end d (digit p)
 
--- the rows are those of the digit that is answered; or each of them has one past the bound; or nothing is answered
-abbrev pub KeepsNearest : End → ℕ → (ℕ → Bool) → (ℕ → Bool) → (ℕ → ℕ) → ℕ → EndDigit → Type 0
-KeepsNearest end bound old new digit n Unanswered = Unit {0}
-KeepsNearest end bound old new digit n Past = (p : ℕ) → p < n → old p ≡ true → IsPast end bound (digit p)
-KeepsNearest end bound old new digit n (Digit d) = IsNarrowedTo end old new digit n d
+-- the rows are those of the digit that is answered, and none is where each of them has one past the bound
+abbrev pub KeepsNearest : End → ℕ → (ℕ → Bool) → (ℕ → Bool) → (ℕ → ℕ) → ℕ → Option ℕ → Type 0
+KeepsNearest end bound old new digit n None = (p : ℕ) → p < n → old p ≡ true → IsPast end bound (digit p)
+KeepsNearest end bound old new digit n (Some d) = IsNarrowedTo end old new digit n d

@@ -3,11 +3,13 @@
 //! An index keeps its columns as this type, so `keep_selected` is no call of the trait `Column`: a user's own column is
 //! asked by `compare`.
 
-ghost use Rattle.std.specs.Prelude.{◌≡◌, ◌↔◌, ◌+◌, ◌≤◌, is_none, length, IsOk, IsTrue, OnOk, OnErr};
+ghost use Rattle.std.specs.Prelude.{◌≡◌, ◌↔◌, ◌+◌, ◌≤◌, is_none, length, IfOk, IsOk, IsTrue};
 ghost use Rattle.bsi_bits.specs.BitList.{word_count};
 ghost use Rattle.bsi_slices.specs.Spans.{KeepsRows};
 ghost use Rattle.bsi_columns.specs.AnyRows.{any_entries, any_form, any_room, size_in_form, AnyForm};
+ghost use Rattle.bsi_orders.specs.Orders.{values_at};
 ghost use Rattle.bsi_orders.specs.Rows.{selects};
+ghost use Rattle.bsi_orders.specs.Totals.{IsGreatestOf, IsLeastOf};
 
 use crate::{
     Column, Decomposed, EqualityComponent, MAX_SPAN_WORDS, NoMemory, Op, RangeComponent, Slices,
@@ -29,27 +31,14 @@ pub enum AnyColumn {
 impl AnyColumn {
     /// Keeps in a span of at most 1,024 words the rows whose number satisfies the comparison `op` with `constant`,
     /// which may be past the size. The first word stands for the 64 rows from row `64 * at` on. A null row is not kept,
-    /// nor a bit past the last row. It takes no memory, and always succeeds. It answers a `Result` as a decomposed
-    /// column does, which takes memory under an encoding that works on whole vectors alone.
-    pub fn keep_selected(
-        &self,
-        op: Op,
-        constant: u64,
-        at: usize,
-        span: &mut [u64],
-    ) -> Result<(), NoMemory>
+    /// nor a bit past the last row. It takes no memory.
+    pub fn keep_selected(&self, op: Op, constant: u64, at: usize, span: &mut [u64])
         requires few { length span.old ≤ MAX_SPAN_WORDS }
         requires within { at + length span.old ≤ word_count (length (any_entries self.now)) }
-        ensures kept { OnErr result (span.new ≡ span.old) }
-        ensures rows { OnOk result
-            (KeepsRows (selects op constant) (any_entries self.now) at span.old span.new) }
-        ensures succeeds { IsOk result }
+        ensures { KeepsRows (selects op constant) (any_entries self.now) at span.old span.new }
     {
         match self {
-            AnyColumn::Slices(column) => {
-                column.keep_selected(op, constant, at, span);
-                Ok(())
-            }
+            AnyColumn::Slices(column) => column.keep_selected(op, constant, at, span),
             AnyColumn::Equality(column) => column.keep_selected(op, constant, at, span),
             AnyColumn::Range(column) => column.keep_selected(op, constant, at, span),
         }
@@ -184,7 +173,11 @@ impl Column for AnyColumn {
         }
     }
 
-    fn least(&self, found: &Bits) -> Result<Option<u64>, NoMemory> {
+    fn least(&self, found: &Bits) -> Result<Option<u64>, NoMemory>
+        requires { length (any_entries self.now) ≡ length found.now.bits }
+        ensures least { IfOk result (IsLeastOf (values_at found.now.bits (any_entries self.now))) }
+        ensures succeeds { IsOk result }
+    {
         match self {
             AnyColumn::Slices(column) => column.least(found),
             AnyColumn::Equality(column) => column.least(found),
@@ -192,7 +185,11 @@ impl Column for AnyColumn {
         }
     }
 
-    fn greatest(&self, found: &Bits) -> Result<Option<u64>, NoMemory> {
+    fn greatest(&self, found: &Bits) -> Result<Option<u64>, NoMemory>
+        requires { length (any_entries self.now) ≡ length found.now.bits }
+        ensures greatest { IfOk result (IsGreatestOf (values_at found.now.bits (any_entries self.now))) }
+        ensures succeeds { IsOk result }
+    {
         match self {
             AnyColumn::Slices(column) => column.greatest(found),
             AnyColumn::Equality(column) => column.greatest(found),

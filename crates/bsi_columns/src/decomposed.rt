@@ -1,12 +1,14 @@
 //! A column of numbers that keeps the digits of each number under a list of bases, a component a digit (Chan and
 //! Ioannidis 1998).
 
-ghost use Rattle.std.specs.Prelude.{◌≡◌, ℕ, ◌<◌, List, [], All, length, map, replicate, slice_index, IfOk};
+ghost use Rattle.std.specs.Prelude.{◌≡◌, ℕ, ◌<◌, List, [], All, length, map, replicate, slice_index, IfOk, IsOk, IsTrue};
 ghost use Rattle.bsi_digits.specs.Digits.{digit_of, product};
+ghost use Rattle.bsi_orders.specs.Orders.{values_at};
 ghost use Rattle.bsi_orders.specs.Rows.{number_or_zero};
+ghost use Rattle.bsi_orders.specs.Totals.{IsGreatestOf, IsLeastOf};
 
 use crate::growth::{clear_each, push_all_digits, push_blocks, push_digits, reserve_each};
-use crate::{Column, Encoding, NoMemory, Op, OrderStatistic};
+use crate::{Column, Encoding, NoMemory, Op};
 use bsi_bits::{Bits, MAX_BLOCK, room_to_make};
 use bsi_digits::Bases;
 use bsi_slices::transposing::{not_null_word, write_numbers};
@@ -19,8 +21,6 @@ mod ends;
 mod narrowing;
 mod totals;
 mod vectors;
-
-use ends::NoSpans;
 
 /// A column of numbers below the product of its bases, which keeps a component for each base.
 #[derive(Drop)]
@@ -160,20 +160,22 @@ impl<E: Encoding> Column for Decomposed<E> {
         self.number_of_rank(found, rank)
     }
 
-    // It passes once over the components, and takes no memory, where each works on spans.
-    fn least(&self, found: &Bits) -> Result<Option<u64>, NoMemory> {
-        match self.end_found(found, End::Least) {
-            Ok(answer) => Ok(answer),
-            Err(NoSpans) => self.order_statistic(found, OrderStatistic::Least),
-        }
+    // It passes once over the components, and takes no memory, where the encoding works on spans.
+    fn least(&self, found: &Bits) -> Result<Option<u64>, NoMemory>
+        requires { length self.now.entries ≡ length found.now.bits }
+        ensures least { IfOk result (IsLeastOf (values_at found.now.bits self.now.entries)) }
+        ensures succeeds { IsTrue E.works_on_spans → IsOk result }
+    {
+        self.end_found(found, End::Least)
     }
 
-    // It passes once over the components, and takes no memory, where each works on spans.
-    fn greatest(&self, found: &Bits) -> Result<Option<u64>, NoMemory> {
-        match self.end_found(found, End::Greatest) {
-            Ok(answer) => Ok(answer),
-            Err(NoSpans) => self.order_statistic(found, OrderStatistic::Greatest),
-        }
+    // It passes once over the components, and takes no memory, where the encoding works on spans.
+    fn greatest(&self, found: &Bits) -> Result<Option<u64>, NoMemory>
+        requires { length self.now.entries ≡ length found.now.bits }
+        ensures greatest { IfOk result (IsGreatestOf (values_at found.now.bits self.now.entries)) }
+        ensures succeeds { IsTrue E.works_on_spans → IsOk result }
+    {
+        self.end_found(found, End::Greatest)
     }
 
     fn not_null(&self) -> &Bits {

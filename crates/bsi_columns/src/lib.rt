@@ -7,8 +7,8 @@ mod decomposed;
 mod growth;
 
 pub use any::AnyColumn;
-pub use bsi_components::{Encoding, EndDigit, EqualityComponent, RangeComponent, RankedRows};
-pub use bsi_slices::{Column, Op, OrderStatistic, Slices};
+pub use bsi_components::{Encoding, EqualityComponent, RangeComponent, RankedRows};
+pub use bsi_slices::{Column, Op, Slices};
 pub use bsi_words::spans::MAX_SPAN_WORDS;
 pub use decomposed::Decomposed;
 pub use std::alloc::AllocError as NoMemory;

@@ -7,3 +7,4 @@ pub mod FoundDigits
 pub mod RangeDigits
 pub mod RangeReads
 pub mod RankSearch
+pub mod WordDigits

@@ -1,8 +1,7 @@
 //! What a component is to a column: a list of digits below its base.
 
-ghost use Rattle.std.specs.Prelude.{◌≡◌, ◌↔◌, ℕ, ◌+◌, ◌*◌, ◌≤◌, ◌<◌, ◌==◌, ◌&&◌, Bool, true, List, [], ◌∷◌, ◌++◌, length, map, sum, count_by, slice_index, nat_lt, nat_le, IfOk, OnOk, OnErr, IsOk, IsTrue};
+ghost use Rattle.std.specs.Prelude.{◌≡◌, ◌≢◌, ◌↔◌, ℕ, ◌+◌, ◌*◌, ◌≤◌, ◌<◌, ◌==◌, ◌&&◌, Bool, true, List, [], ◌∷◌, ◌++◌, length, map, sum, count_by, slice_index, nat_lt, nat_le, IfOk, OnOk, OnErr, IsOk, IsTrue, IsFalse};
 ghost use Rattle.std.specs.List.{items_where_true};
-ghost use Rattle.std.specs.Bool.{OnTrue, OnFalse};
 ghost use Rattle.bsi_bits.specs.BitList.{max_block, max_len, word_count};
 ghost use Rattle.bsi_bits.specs.Packed.{bit_of};
 ghost use Rattle.bsi_bits.specs.SetRows.{HasRow};
@@ -12,8 +11,7 @@ ghost use Rattle.bsi_components.specs.Component.{at_most_from, count_where};
 ghost use Rattle.bsi_components.specs.EndDigits.{AnswersLeast, AnswersGreatest};
 
 use crate::NoMemory;
-use crate::answers::EndDigit;
-use bsi_bits::Bits;
+use bsi_bits::{Bits, MAX_LEN};
 use bsi_words::RankedRows;
 use std::alloc::Global;
 
@@ -28,8 +26,13 @@ pub trait Encoding: Drop {
     /// How many more digits there is room for: to append these takes no memory.
     ghost room_of: { Self → ℕ };
 
-    /// Whether the calls on spans are done. An encoding without them works on whole vectors alone.
+    /// Whether the calls on spans do what they say. An encoding without them works on whole vectors alone.
     ghost works_on_spans: { Bool };
+
+    /// Returns whether the calls on spans do what they say. An encoding that works on whole vectors alone returns
+    /// `false`: its calls on spans may do anything.
+    fn on_spans() -> bool
+        ensures { result ≡ works_on_spans };
 
     /// Makes an empty component of a base from 2 to 1,024.
     fn make(alloc: Global, base: u32) -> Result<Self, NoMemory>
@@ -106,7 +109,7 @@ pub trait Encoding: Drop {
         requires room { length (digits other.now) ≤ room_of self.old }
         ensures digits { digits self.new ≡ digits self.old ++ digits other.now }
         ensures base { base_of self.new ≡ base_of self.old }
-        ensures room { room_of self.old ≤ room_of self.new + length (digits other.now) };
+        ensures room { room_of self.new + length (digits other.now) ≡ room_of self.old };
 
     /// Returns whether there is room for one more digit: to append it takes no memory.
     fn has_room(&self) -> bool
@@ -198,87 +201,115 @@ pub trait Encoding: Drop {
         ensures { IfOk result (λ c. (digits c ≡ digits self.now)
             × (base_of c ≡ base_of self.now)) };
 
-    /// Clears in a span of words the rows whose digit is not `d`. The words stand for the rows from `64 * at` on. It
-    /// returns `false`, and does nothing, if the encoding works on whole vectors alone.
-    fn eq_span(&self, d: u32, at: usize, span: &mut [u64]) -> bool
+    /// Clears in a span of words the rows whose digit is not `d`. The words stand for the rows from `64 * at` on.
+    fn eq_span(&self, d: u32, at: usize, span: &mut [u64])
         requires below { d < base_of self.now }
         requires within { at + length span.old ≤ word_count (length (digits self.now)) }
-        ensures done { IsTrue works_on_spans → IsTrue result }
-        ensures kept { OnFalse result (span.new ≡ span.old) }
-        ensures bits { OnTrue result ((p : ℕ) → p < 64 * length span.old →
+        ensures { IsTrue works_on_spans → (p : ℕ) → p < 64 * length span.old →
             64 * at + p < length (digits self.now) →
             bit_of span.new p ≡ (bit_of span.old p
-            && (slice_index (digits self.now) (64 * at + p) == d))) };
+            && (slice_index (digits self.now) (64 * at + p) == d)) };
 
     /// Sets in a span of words the rows whose digit is below `d`, and clears those whose digit is above. The words
     /// stand for the rows from `64 * at` on. Where a bit told whether a row's digits of the lower places are at most
-    /// those of a constant, it then tells so of the digits up to this one. It returns `false`, and does nothing, if
-    /// the encoding works on whole vectors alone.
-    fn le_span(&self, d: u32, at: usize, span: &mut [u64]) -> bool
+    /// those of a constant, it then tells so of the digits up to this one.
+    fn le_span(&self, d: u32, at: usize, span: &mut [u64])
         requires below { d < base_of self.now }
         requires within { at + length span.old ≤ word_count (length (digits self.now)) }
-        ensures done { IsTrue works_on_spans → IsTrue result }
-        ensures kept { OnFalse result (span.new ≡ span.old) }
-        ensures bits { OnTrue result ((p : ℕ) → p < 64 * length span.old →
+        ensures { IsTrue works_on_spans → (p : ℕ) → p < 64 * length span.old →
             64 * at + p < length (digits self.now) →
             bit_of span.new p ≡ at_most_from (bit_of span.old p)
-            (slice_index (digits self.now) (64 * at + p)) d) };
+            (slice_index (digits self.now) (64 * at + p)) d };
 
     /// Writes into a span of words whether the digit of each row is `d`. The words stand for the rows from `64 * at`
-    /// on. It returns `false` if the encoding works on whole vectors alone, and the words are then unspecified. The
-    /// provided body fills the span with ones and calls `eq_span`.
-    fn eq_span_into(&self, d: u32, at: usize, span: &mut [u64]) -> bool
+    /// on. The provided body fills the span with ones and calls `eq_span`.
+    fn eq_span_into(&self, d: u32, at: usize, span: &mut [u64])
         requires below { d < base_of self.now }
         requires within { at + length span.old ≤ word_count (length (digits self.now)) }
-        ensures done { IsTrue works_on_spans → IsTrue result }
-        ensures bits { OnTrue result ((p : ℕ) → p < 64 * length span.old →
+        ensures { IsTrue works_on_spans → (p : ℕ) → p < 64 * length span.old →
             64 * at + p < length (digits self.now) →
-            bit_of span.new p ≡ (slice_index (digits self.now) (64 * at + p) == d)) }
+            bit_of span.new p ≡ (slice_index (digits self.now) (64 * at + p) == d) }
     {
         span.fill(u64::MAX);
-        self.eq_span(d, at, span)
+        self.eq_span(d, at, span);
     }
 
     /// Writes into a span of words whether the digit of each row is at most `d`. The words stand for the rows from
-    /// `64 * at` on. It returns `false` if the encoding works on whole vectors alone, and the words are then
-    /// unspecified. The provided body fills the span with ones and calls `le_span`.
-    fn le_span_into(&self, d: u32, at: usize, span: &mut [u64]) -> bool
+    /// `64 * at` on. The provided body fills the span with ones and calls `le_span`.
+    fn le_span_into(&self, d: u32, at: usize, span: &mut [u64])
         requires below { d < base_of self.now }
         requires within { at + length span.old ≤ word_count (length (digits self.now)) }
-        ensures done { IsTrue works_on_spans → IsTrue result }
-        ensures bits { OnTrue result ((p : ℕ) → p < 64 * length span.old →
+        ensures { IsTrue works_on_spans → (p : ℕ) → p < 64 * length span.old →
             64 * at + p < length (digits self.now) →
-            bit_of span.new p ≡ nat_le (slice_index (digits self.now) (64 * at + p)) d) }
+            bit_of span.new p ≡ nat_le (slice_index (digits self.now) (64 * at + p)) d }
     {
         span.fill(u64::MAX);
-        self.le_span(d, at, span)
+        self.le_span(d, at, span);
     }
 
-    /// Returns the least digit of the rows that a span of words has, if it is at most `bound`. The words stand for
-    /// the rows from `64 * at` on, and have no row past the last one. The provided body gives no answer.
-    fn least_in_span(&self, bound: u32, at: usize, span: &[u64]) -> EndDigit
+    /// Returns whether a row of a span of words has the digit `d`. The words stand for the rows from `64 * at` on, and
+    /// have no row past the last one. The provided body calls `eq_span` for one word after the other.
+    fn has_digit(&self, d: u32, at: usize, span: &[u64]) -> bool
+        requires below { d < base_of self.now }
+        requires within { at + length span.now ≤ word_count (length (digits self.now)) }
+        requires rows { (p : ℕ) → p < 64 * length span.now → bit_of span.now p ≡ true →
+            64 * at + p < length (digits self.now) }
+        ensures some { IsTrue works_on_spans → IsTrue result →
+            HasRow (λ p. bit_of span.now p
+            && (slice_index (digits self.now) (64 * at + p) == d)) (64 * length span.now) }
+        ensures none { IsTrue works_on_spans → IsFalse result → (p : ℕ) →
+            p < 64 * length span.now → bit_of span.now p ≡ true →
+            slice_index (digits self.now) (64 * at + p) ≢ d }
+    {
+        // The proof takes from this that there are at most 2^32 rows, so at most 2^26 words.
+        prove!(self.len() <= MAX_LEN);
+        'words: for (k, word) in span.iter().enumerate() {
+            let mut kept = [*word];
+            self.eq_span(d, at + k, &mut kept);
+            // What `eq_span` leaves past the last row is open.
+            if kept[0] & word != 0 {
+                return true;
+            }
+        }
+        false
+    }
+
+    /// Returns the least digit of the rows that a span of words has, or none if each is above `bound`. The words stand
+    /// for the rows from `64 * at` on, and have no row past the last one. The provided body goes up from digit 0.
+    fn least_in_span(&self, bound: u32, at: usize, span: &[u64]) -> Option<u32>
         requires below { bound < base_of self.now }
         requires within { at + length span.now ≤ word_count (length (digits self.now)) }
         requires rows { (p : ℕ) → p < 64 * length span.now → bit_of span.now p ≡ true →
             64 * at + p < length (digits self.now) }
         requires some { HasRow (bit_of span.now) (64 * length span.now) }
-        ensures answer { AnswersLeast bound (bit_of span.now)
+        ensures { IsTrue works_on_spans → AnswersLeast bound (bit_of span.now)
             (λ p. slice_index (digits self.now) (64 * at + p)) (64 * length span.now) result }
     {
-        EndDigit::Unanswered
+        'digits: for digit in 0..=bound {
+            if self.has_digit(digit, at, span) {
+                return Some(digit);
+            }
+        }
+        None
     }
 
-    /// Returns the greatest digit of the rows that a span of words has, if it is at least `bound`. The words stand
-    /// for the rows from `64 * at` on, and have no row past the last one. The provided body gives no answer.
-    fn greatest_in_span(&self, bound: u32, at: usize, span: &[u64]) -> EndDigit
+    /// Returns the greatest digit of the rows that a span of words has, or none if each is below `bound`. The words
+    /// stand for the rows from `64 * at` on, and have no row past the last one. The provided body goes down from the
+    /// greatest digit.
+    fn greatest_in_span(&self, bound: u32, at: usize, span: &[u64]) -> Option<u32>
         requires below { bound < base_of self.now }
         requires within { at + length span.now ≤ word_count (length (digits self.now)) }
         requires rows { (p : ℕ) → p < 64 * length span.now → bit_of span.now p ≡ true →
             64 * at + p < length (digits self.now) }
         requires some { HasRow (bit_of span.now) (64 * length span.now) }
-        ensures answer { AnswersGreatest bound (bit_of span.now)
+        ensures { IsTrue works_on_spans → AnswersGreatest bound (bit_of span.now)
             (λ p. slice_index (digits self.now) (64 * at + p)) (64 * length span.now) result }
     {
-        EndDigit::Unanswered
+        'digits: for digit in (bound..self.base()).rev() {
+            if self.has_digit(digit, at, span) {
+                return Some(digit);
+            }
+        }
+        None
     }
 }

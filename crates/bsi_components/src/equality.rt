@@ -16,7 +16,7 @@ ghost use Rattle.bsi_components.specs.Equality.{first_stored, is_among};
 use crate::encoding::Encoding;
 use bsi_bits::{Bitmaps, Bits};
 use bsi_words::marks::{MAX_MARK_WORDS, MAX_SPREAD_WORDS, mark_digits};
-use bsi_words::spans::{add_in, drop_in, exceeds, meets};
+use bsi_words::spans::{add_in, drop_in};
 use std::marker::Model;
 
 mod counts;
@@ -140,25 +140,6 @@ impl EqualityComponent {
         out.copy_from(self.bitmap(from));
         'digits: for j in from + 1..to {
             out.or_with(self.bitmap(j));
-        }
-    }
-
-    /// Returns whether a row of a span has the digit `d`.
-    fn has_digit(&self, d: u32, at: usize, span: &[u64]) -> bool
-        requires below { d < self.now.base }
-        requires within { at + length span.now ≤ word_count (length self.now.digits) }
-        requires rows { (p : ℕ) → p < 64 * length span.now → bit_of span.now p ≡ true →
-            64 * at + p < length self.now.digits }
-        ensures some { IsTrue result →
-            HasRow (λ p. bit_of span.now p
-            && (slice_index self.now.digits (64 * at + p) == d)) (64 * length span.now) }
-        ensures none { IsFalse result → (p : ℕ) → p < 64 * length span.now →
-            bit_of span.now p ≡ true → slice_index self.now.digits (64 * at + p) ≢ d }
-    {
-        if self.is_stored(d) {
-            meets(self.bitmap(d), at, span)
-        } else {
-            exceeds(self.bitmap(1), at, span)
         }
     }
 

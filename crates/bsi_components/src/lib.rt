@@ -7,7 +7,6 @@ mod equality;
 mod places;
 mod range;
 
-pub use answers::EndDigit;
 pub use bsi_words::RankedRows;
 pub use encoding::Encoding;
 pub use equality::EqualityComponent;

@@ -43,6 +43,10 @@ impl<E: Encoding> Encoding for WholeVectors<E> {
 
     ghost works_on_spans = { false };
 
+    fn on_spans() -> bool {
+        false
+    }
+
     fn make(alloc: Global, base: u32) -> Result<Self, NoMemory> {
         let inner = E::make(alloc, base)?;
         Ok(WholeVectors {
@@ -90,13 +94,9 @@ impl<E: Encoding> Encoding for WholeVectors<E> {
         self.inner.le_into(d, out);
     }
 
-    fn eq_span(&self, _d: u32, _at: usize, _span: &mut [u64]) -> bool {
-        false
-    }
+    fn eq_span(&self, _d: u32, _at: usize, _span: &mut [u64]) {}
 
-    fn le_span(&self, _d: u32, _at: usize, _span: &mut [u64]) -> bool {
-        false
-    }
+    fn le_span(&self, _d: u32, _at: usize, _span: &mut [u64]) {}
 
     fn digit_sum(&self, found: &Bits) -> u128 {
         self.sums.set(self.sums.get().saturating_add(1));

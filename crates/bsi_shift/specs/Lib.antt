@@ -1,2 +1,1 @@
-pub mod OrderStatistics
 pub mod Shifted

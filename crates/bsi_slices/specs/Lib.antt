@@ -3,5 +3,4 @@ pub mod Decisions
 pub mod Ends
 pub mod Exchanges
 pub mod NotNull
-pub mod OrderStatistics
 pub mod Slices

@@ -1,30 +1,17 @@
 //! What a column is to an index: a list of optional numbers below its size.
 //!
 //! Least, greatest and median are provided calls over one required call, `ranked`; forms have their own least and
-//! greatest. `order_statistic` is a call too, as a provided call can't pass its column to a function that takes any
-//! column. The form is the column's own type, because the trait can't name the encoding of a decomposed one.
+//! greatest. The form is the column's own type, because the trait can't name the encoding of a decomposed one.
 
 ghost use Rattle.std.specs.Prelude.{◌≡◌, ◌↔◌, ℕ, ◌^◌, ◌+◌, ◌≤◌, ◌<◌, List, Option, [], ◌∷◌, ◌++◌, All, length, map, is_some, is_none, nat_lt, sum, IfOk, OnOk, OnErr, IsOk, IsTrue};
 ghost use Rattle.bsi_digits.specs.Digits.{max_size};
 ghost use Rattle.bsi_bits.specs.BitList.{max_block, max_len, sum_end};
 ghost use Rattle.bsi_orders.specs.Rows.{number_or_zero, selects};
 ghost use Rattle.bsi_orders.specs.Orders.{values_at};
-ghost use Rattle.bsi_slices.specs.OrderStatistics.{IsOrderStatistic};
 ghost use Rattle.bsi_orders.specs.Totals.{IsRanked, IsLeastOf, IsGreatestOf, IsMedianOf};
 
 use crate::{NoMemory, Op};
 use bsi_bits::Bits;
-
-/// Which of some numbers, taken in order.
-#[derive(Clone, Copy, Debug, PartialEq, Eq)]
-pub enum OrderStatistic {
-    /// The first.
-    Least,
-    /// The last.
-    Greatest,
-    /// The middle one or, of an even count, the lower of the two in the middle.
-    Median,
-}
 
 /// A column: a list of entries, each a number below the column's size or a null.
 pub trait Column: Drop {
@@ -165,27 +152,12 @@ pub trait Column: Drop {
         requires there { rank < length (values_at found.now.bits (entries self.now)) }
         ensures { IfOk result (IsRanked (values_at found.now.bits (entries self.now)) rank) };
 
-    /// Returns the least, the greatest or the median number at the rows of a found set, or none if there is no number.
-    /// The provided body counts the numbers, which tells the rank, and asks `ranked` for the number.
-    fn order_statistic(
-        &self,
-        found: &Bits,
-        statistic: OrderStatistic,
-    ) -> Result<Option<u64>, NoMemory>
+    /// Returns how many rows of a found set have a number.
+    fn count_numbers(&self, found: &Bits) -> u64
         requires { length (entries self.now) ≡ length found.now.bits }
-        ensures { IfOk result (IsOrderStatistic statistic
-            (values_at found.now.bits (entries self.now))) }
+        ensures { result ≡ length (values_at found.now.bits (entries self.now)) }
     {
-        let count = found.count_and(self.not_null());
-        if count == 0 {
-            return Ok(None);
-        }
-        let rank = match statistic {
-            OrderStatistic::Least => 0,
-            OrderStatistic::Greatest => count - 1,
-            OrderStatistic::Median => (count - 1) / 2,
-        };
-        Ok(Some(self.ranked(found, rank)?))
+        found.count_and(self.not_null())
     }
 
     /// Returns the least number at the rows of a found set, or none if there is no number. The provided body takes
@@ -194,7 +166,10 @@ pub trait Column: Drop {
         requires { length (entries self.now) ≡ length found.now.bits }
         ensures { IfOk result (IsLeastOf (values_at found.now.bits (entries self.now))) }
     {
-        self.order_statistic(found, OrderStatistic::Least)
+        match self.count_numbers(found) {
+            0 => Ok(None),
+            _ => Ok(Some(self.ranked(found, 0)?)),
+        }
     }
 
     /// Returns the greatest number at the rows of a found set, or none if there is no number. It takes memory as
@@ -203,7 +178,10 @@ pub trait Column: Drop {
         requires { length (entries self.now) ≡ length found.now.bits }
         ensures { IfOk result (IsGreatestOf (values_at found.now.bits (entries self.now))) }
     {
-        self.order_statistic(found, OrderStatistic::Greatest)
+        match self.count_numbers(found) {
+            0 => Ok(None),
+            count => Ok(Some(self.ranked(found, count - 1)?)),
+        }
     }
 
     /// Returns the lower median of the numbers at the rows of a found set, or none if there is no number. It takes
@@ -212,7 +190,10 @@ pub trait Column: Drop {
         requires { length (entries self.now) ≡ length found.now.bits }
         ensures { IfOk result (IsMedianOf (values_at found.now.bits (entries self.now))) }
     {
-        self.order_statistic(found, OrderStatistic::Median)
+        match self.count_numbers(found) {
+            0 => Ok(None),
+            count => Ok(Some(self.ranked(found, (count - 1) / 2)?)),
+        }
     }
 
     /// Returns the not-null bitmap.

@@ -10,7 +10,7 @@ mod slices;
 pub mod transposing;
 
 pub use bsi_orders::Op;
-pub use column::{Column, OrderStatistic};
+pub use column::Column;
 pub use decision::{Decision, Relation, Test, decide};
 pub use not_null::NotNull;
 pub use slices::{End, Slices};

@@ -169,7 +169,7 @@ fn narrow(
     match pred {
         Pred::All => {}
         Pred::Compare(c, op, constant) => {
-            columns[*c as usize].keep_selected(*op, *constant, at, span)?;
+            columns[*c as usize].keep_selected(*op, *constant, at, span);
         }
         Pred::Null(c) => columns[*c as usize].keep_nulls(at, span),
         Pred::Both(first, second) => {

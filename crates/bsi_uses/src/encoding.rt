@@ -41,6 +41,10 @@ impl Encoding for ByBase {
 
     ghost works_on_spans = { true };
 
+    fn on_spans() -> bool {
+        true
+    }
+
     fn make(alloc: Global, base: u32) -> Result<Self, NoMemory> {
         let kept = if base <= MAX_RANGE_BASE {
             Kept::Range(RangeComponent::make(alloc, base)?)
@@ -117,14 +121,14 @@ impl Encoding for ByBase {
         }
     }
 
-    fn eq_span(&self, d: u32, at: usize, span: &mut [u64]) -> bool {
+    fn eq_span(&self, d: u32, at: usize, span: &mut [u64]) {
         match &self.kept {
             Kept::Range(component) => component.eq_span(d, at, span),
             Kept::Equality(component) => component.eq_span(d, at, span),
         }
     }
 
-    fn le_span(&self, d: u32, at: usize, span: &mut [u64]) -> bool {
+    fn le_span(&self, d: u32, at: usize, span: &mut [u64]) {
         match &self.kept {
             Kept::Range(component) => component.le_span(d, at, span),
             Kept::Equality(component) => component.le_span(d, at, span),

@@ -7,7 +7,7 @@
 //! A component is asked for a digit within a bound, which a division of the best number gives. What its steps leave
 //! past the last row of a span is open, so the rows are cut with the not-null bitmap again.
 
-ghost use Rattle.std.specs.Prelude.{◌≡◌, ℕ, ◌+◌, ◌*◌, ◌/◌, ◌<◌, ◌≤◌, ◌&&◌, true, false, length, slice_index, slice_index_or, is_some, None, IfOk};
+ghost use Rattle.std.specs.Prelude.{◌≡◌, ℕ, ◌+◌, ◌*◌, ◌/◌, ◌<◌, ◌≤◌, ◌&&◌, true, false, length, slice_index, slice_index_or, is_some, None, IfOk, IsOk, IsTrue};
 ghost use Rattle.bsi_bits.specs.BitList.{word_count};
 ghost use Rattle.bsi_bits.specs.Packed.{bit_of};
 ghost use Rattle.bsi_columns.specs.SpanEnds.{AnswersEnd, IsPast, KeepsNearest};
@@ -16,7 +16,7 @@ ghost use Rattle.bsi_columns.specs.Ends.{comes_first, leads, number_at, IsBetter
 ghost use Rattle.bsi_orders.specs.Orders.{values_at};
 
 use crate::decomposed::Decomposed;
-use crate::{Column, Encoding, EndDigit};
+use crate::{Column, Encoding, NoMemory};
 use bsi_bits::{Bits, MAX_LEN};
 use bsi_slices::End;
 use bsi_words::spans::{copy_in, keep_in, meets};
@@ -24,15 +24,29 @@ use bsi_words::spans::{copy_in, keep_in, meets};
 /// The number of words that the search goes over at once.
 const SEARCH_WORDS: usize = 32;
 
-/// That a component works on whole vectors alone, so a search over spans has no answer.
-#[derive(Clone, Copy)]
-pub(crate) struct NoSpans;
-
 impl<E: Encoding> Decomposed<E> {
-    /// Returns the number at an end of those at the rows of a found set, or none if there is no number.
-    pub(crate) fn end_found(&self, found: &Bits, end: End) -> Result<Option<u64>, NoSpans>
+    /// Returns the number at an end of those at the rows of a found set, or none if there is no number. Where the
+    /// encoding works on whole vectors alone, it counts the numbers and asks for the one of a rank.
+    pub(crate) fn end_found(&self, found: &Bits, end: End) -> Result<Option<u64>, NoMemory>
         requires { length self.now.entries ≡ length found.now.bits }
-        ensures { IfOk result (IsEndOf end (values_at found.now.bits self.now.entries)) }
+        ensures end { IfOk result (IsEndOf end (values_at found.now.bits self.now.entries)) }
+        ensures succeeds { IsTrue E.works_on_spans → IsOk result }
+    {
+        if E::on_spans() {
+            return Ok(self.end_in_spans(found, end));
+        }
+        match (self.count_numbers(found), end) {
+            (0, _) => Ok(None),
+            (_, End::Least) => Ok(Some(self.ranked(found, 0)?)),
+            (count, End::Greatest) => Ok(Some(self.ranked(found, count - 1)?)),
+        }
+    }
+
+    /// Returns the number at an end of those at the rows of a found set, or none if there is no number, span by span.
+    fn end_in_spans(&self, found: &Bits, end: End) -> Option<u64>
+        requires spans { IsTrue E.works_on_spans }
+        requires same { length self.now.entries ≡ length found.now.bits }
+        ensures { IsEndOf end (values_at found.now.bits self.now.entries) result }
     {
         // The proof takes from this that there are at most 2^32 rows, so at most 2^26 words.
         prove!(found.len() <= MAX_LEN);
@@ -43,10 +57,9 @@ impl<E: Encoding> Decomposed<E> {
             let at = SEARCH_WORDS * k;
             let span = &mut buffer[..SEARCH_WORDS.min(len - at)];
             rows_into(found, self.not_null(), at, span);
-            let better = self.better_in_span(end, best, at, span)?;
-            best = better.or(best);
+            best = self.better_in_span(end, best, at, span).or(best);
         }
-        Ok(best)
+        best
     }
 
     /// Returns the number at an end of the rows of a span, or none if none of them comes before the best number so
@@ -57,16 +70,17 @@ impl<E: Encoding> Decomposed<E> {
         best: Option<u64>,
         at: usize,
         span: &mut [u64],
-    ) -> Result<Option<u64>, NoSpans>
+    ) -> Option<u64>
+        requires spans { IsTrue E.works_on_spans }
         requires within { at + length span.old ≤ word_count (length self.now.entries) }
         requires rows { (p : ℕ) → p < 64 * length span.old → bit_of span.old p ≡ true →
             is_some (slice_index_or self.now.entries (64 * at + p) None) ≡ true }
-        ensures { IfOk result (IsBetterIn end (bit_of span.old)
-            (λ p. number_at self.now.entries (64 * at + p)) (64 * length span.old) best) }
+        ensures { IsBetterIn end (bit_of span.old)
+            (λ p. number_at self.now.entries (64 * at + p)) (64 * length span.old) best result }
     {
         let not_null = self.not_null();
         if !meets(not_null, at, span) {
-            return Ok(None);
+            return None;
         }
         let bases = self.bases();
         let mut number = 0;
@@ -74,16 +88,13 @@ impl<E: Encoding> Decomposed<E> {
             let (base, weight) = (bases.base(i), bases.weight(i));
             let above = number * u64::from(base);
             let bound = bound_of(end, best, above, base, weight);
-            match keep_nearest(self.component(i), not_null, end, bound, at, span) {
-                EndDigit::Unanswered => return Err(NoSpans),
-                EndDigit::Past => return Ok(None),
-                EndDigit::Digit(digit) => number = above + u64::from(digit),
-            }
+            let digit = keep_nearest(self.component(i), not_null, end, bound, at, span)?;
+            number = above + u64::from(digit);
             if end.leads_all(best, number, weight) {
-                return Ok(None);
+                return None;
             }
         }
-        Ok(Some(number))
+        Some(number)
     }
 }
 
@@ -118,9 +129,10 @@ fn bound_of(end: End, best: Option<u64>, above: u64, base: u32, weight: u64) -> 
     }
 }
 
-/// Finds the digit at an end among those of a span's rows, if it is within a bound. It is a function, since a proof
+/// Finds the digit at an end among those of a span's rows, or none if each is past a bound. It is a function, since a proof
 /// loses what a `match` decides where the arms join.
-fn end_digit<E: Encoding>(component: &E, end: End, bound: u32, at: usize, span: &[u64]) -> EndDigit
+fn end_digit<E: Encoding>(component: &E, end: End, bound: u32, at: usize, span: &[u64]) -> Option<u32>
+    requires spans { IsTrue E.works_on_spans }
     requires below { bound < E.base_of component.now }
     requires within { at + length span.now ≤ word_count (length (E.digits component.now)) }
     requires rows { (p : ℕ) → p < 64 * length span.now → bit_of span.now p ≡ true →
@@ -135,7 +147,8 @@ fn end_digit<E: Encoding>(component: &E, end: End, bound: u32, at: usize, span: 
     }
 }
 
-/// Keeps those rows of a span, none of which is null, whose digit is at an end, if this digit is within a bound.
+/// Keeps those rows of a span, none of which is null, whose digit is at an end, and returns this digit, or none if each
+/// is past a bound.
 fn keep_nearest<E: Encoding>(
     component: &E,
     not_null: &Bits,
@@ -143,7 +156,8 @@ fn keep_nearest<E: Encoding>(
     bound: u32,
     at: usize,
     span: &mut [u64],
-) -> EndDigit
+) -> Option<u32>
+    requires spans { IsTrue E.works_on_spans }
     requires below { bound < E.base_of component.now }
     requires within { at + length span.old ≤ word_count (length (E.digits component.now)) }
     requires same { length not_null.now.bits ≡ length (E.digits component.now) }
@@ -156,12 +170,8 @@ fn keep_nearest<E: Encoding>(
 {
     // The proof takes from this call that each digit is below the base, and so is the digit at the end.
     let _base = component.base();
-    let answer = end_digit(component, end, bound, at, span);
-    if let EndDigit::Digit(digit) = answer {
-        if !component.eq_span(digit, at, span) {
-            return EndDigit::Unanswered;
-        }
-        keep_in(not_null, at, span);
-    }
-    answer
+    let digit = end_digit(component, end, bound, at, span)?;
+    component.eq_span(digit, at, span);
+    keep_in(not_null, at, span);
+    Some(digit)
 }

@@ -1,7 +1,6 @@
 //! One digit of a test, taken into a span of words.
 
 ghost use Rattle.std.specs.Prelude.{◌≡◌, ℕ, ◌+◌, ◌*◌, ◌≤◌, ◌<◌, ◌||◌, length, slice_index, IsTrue};
-ghost use Rattle.std.specs.Bool.{OnTrue};
 ghost use Rattle.bsi_bits.specs.BitList.{max_len, word_count};
 ghost use Rattle.bsi_bits.specs.Packed.{bit_of};
 ghost use Rattle.bsi_columns.specs.DigitTests.{relates_from};
@@ -13,8 +12,7 @@ use bsi_slices::Relation;
 /// on to the next part, so that it reads them side by side.
 const PART_WORDS: usize = 64;
 
-/// Takes one more digit into the test of a span, part by part. At the lowest digit it ignores what the span holds. It
-/// returns `false` if the component works on whole vectors alone.
+/// Takes one more digit into the test of a span, part by part. At the lowest digit it ignores what the span holds.
 pub(crate) fn narrow_digit<E: Encoding>(
     component: &E,
     relation: Relation,
@@ -22,25 +20,22 @@ pub(crate) fn narrow_digit<E: Encoding>(
     is_lowest: bool,
     at: usize,
     span: &mut [u64],
-) -> bool
+)
+    requires spans { IsTrue E.works_on_spans }
     requires below { digit < E.base_of component.now }
     requires within { at + length span.old ≤ word_count (length (E.digits component.now)) }
-    ensures done { IsTrue E.works_on_spans → IsTrue result }
-    ensures bits { OnTrue result ((p : ℕ) → p < 64 * length span.old →
+    ensures { (p : ℕ) → p < 64 * length span.old →
         64 * at + p < length (E.digits component.now) → bit_of span.new p
         ≡ relates_from relation (is_lowest || bit_of span.old p)
-        (slice_index (E.digits component.now) (64 * at + p)) digit) }
+        (slice_index (E.digits component.now) (64 * at + p)) digit }
 {
     know_rows(component);
     let len = span.len();
     'parts: for k in 0..len.div_ceil(PART_WORDS) {
         let from = PART_WORDS * k;
         let part = &mut span[from..from + PART_WORDS.min(len - from)];
-        if !narrow_part(component, relation, digit, is_lowest, at + from, part) {
-            return false;
-        }
+        narrow_part(component, relation, digit, is_lowest, at + from, part);
     }
-    true
 }
 
 /// Asks for the length alone: its clause tells a proof that a component has at most 2^32 rows.
@@ -58,14 +53,14 @@ fn narrow_part<E: Encoding>(
     is_lowest: bool,
     at: usize,
     span: &mut [u64],
-) -> bool
+)
+    requires spans { IsTrue E.works_on_spans }
     requires below { digit < E.base_of component.now }
     requires within { at + length span.old ≤ word_count (length (E.digits component.now)) }
-    ensures done { IsTrue E.works_on_spans → IsTrue result }
-    ensures bits { OnTrue result ((p : ℕ) → p < 64 * length span.old →
+    ensures { (p : ℕ) → p < 64 * length span.old →
         64 * at + p < length (E.digits component.now) → bit_of span.new p
         ≡ relates_from relation (is_lowest || bit_of span.old p)
-        (slice_index (E.digits component.now) (64 * at + p)) digit) }
+        (slice_index (E.digits component.now) (64 * at + p)) digit }
 {
     match relation {
         Relation::Equal if is_lowest => component.eq_span_into(digit, at, span),

@@ -10,12 +10,11 @@ ghost use Rattle.bsi_components.specs.Component.{at_most_from};
 ghost use Rattle.bsi_components.specs.EndDigits.{AnswersGreatest, AnswersLeast};
 
 use crate::NoMemory;
-use crate::answers::EndDigit;
 use crate::encoding::Encoding;
 use crate::equality::{EqualityComponent, first_stored, push_block};
 use crate::places::{kept_places, push_digit};
 use bsi_bits::{Bitmaps, Bits};
-use bsi_words::spans::{add_missing, copy_in, drop_in, keep_in};
+use bsi_words::spans::{add_missing, copy_in, drop_in, exceeds, keep_in, meets};
 use bsi_words::{RankedRows, rows_of_rank, sum_by_places};
 use std::alloc::Global;
 
@@ -27,6 +26,10 @@ impl Encoding for EqualityComponent {
     ghost room_of = { λ c. c.room };
 
     ghost works_on_spans = { true };
+
+    fn on_spans() -> bool {
+        true
+    }
 
     fn make(alloc: Global, base: u32) -> Result<Self, NoMemory> {
         let own = (base - first_stored(base)) as usize;
@@ -135,53 +138,26 @@ impl Encoding for EqualityComponent {
         })
     }
 
-    fn eq_span(&self, d: u32, at: usize, span: &mut [u64]) -> bool
-        requires below { d < self.now.base }
-        requires within { at + length span.old ≤ word_count (length self.now.digits) }
-        ensures done { IsTrue result }
-        ensures kept { OnFalse result (span.new ≡ span.old) }
-        ensures bits { OnTrue result ((p : ℕ) → p < 64 * length span.old →
-            64 * at + p < length self.now.digits →
-            bit_of span.new p ≡ (bit_of span.old p
-            && (slice_index self.now.digits (64 * at + p) == d))) }
-    {
+    fn eq_span(&self, d: u32, at: usize, span: &mut [u64]) {
         if self.is_stored(d) {
             keep_in(self.bitmap(d), at, span);
         } else {
             drop_in(self.bitmap(1), at, span);
         }
-        true
     }
 
     // It copies one bitmap, but for digit 0 under base 2, which has none.
-    fn eq_span_into(&self, d: u32, at: usize, span: &mut [u64]) -> bool
-        requires below { d < self.now.base }
-        requires within { at + length span.old ≤ word_count (length self.now.digits) }
-        ensures done { IsTrue result }
-        ensures bits { OnTrue result ((p : ℕ) → p < 64 * length span.old →
-            64 * at + p < length self.now.digits →
-            bit_of span.new p ≡ (slice_index self.now.digits (64 * at + p) == d)) }
-    {
+    fn eq_span_into(&self, d: u32, at: usize, span: &mut [u64]) {
         if self.is_stored(d) {
             copy_in(self.bitmap(d), at, span);
-            true
         } else {
             span.fill(u64::MAX);
-            self.eq_span(d, at, span)
+            self.eq_span(d, at, span);
         }
     }
 
     // It reads the bitmaps up to the digit, or those from it on, whichever are fewer.
-    fn le_span(&self, d: u32, at: usize, span: &mut [u64]) -> bool
-        requires below { d < self.now.base }
-        requires within { at + length span.old ≤ word_count (length self.now.digits) }
-        ensures done { IsTrue result }
-        ensures kept { OnFalse result (span.new ≡ span.old) }
-        ensures bits { OnTrue result ((p : ℕ) → p < 64 * length span.old →
-            64 * at + p < length self.now.digits →
-            bit_of span.new p ≡ at_most_from (bit_of span.old p)
-            (slice_index self.now.digits (64 * at + p)) d) }
-    {
+    fn le_span(&self, d: u32, at: usize, span: &mut [u64]) {
         let base = self.base();
         if base == 2 {
             if d == 0 {
@@ -196,57 +172,14 @@ impl Encoding for EqualityComponent {
             add_missing(self.bitmap(d), at, span);
             self.drop_among(d + 1, base, at, span);
         }
-        true
     }
 
-    // It is the provided body, under a clause that says that it is always done.
-    fn le_span_into(&self, d: u32, at: usize, span: &mut [u64]) -> bool
-        requires below { d < self.now.base }
-        requires within { at + length span.old ≤ word_count (length self.now.digits) }
-        ensures done { IsTrue result }
-        ensures bits { OnTrue result ((p : ℕ) → p < 64 * length span.old →
-            64 * at + p < length self.now.digits →
-            bit_of span.new p ≡ nat_le (slice_index self.now.digits (64 * at + p)) d) }
-    {
-        span.fill(u64::MAX);
-        self.le_span(d, at, span)
-    }
-
-    // It reads the bitmaps from digit 0 up.
-    fn least_in_span(&self, bound: u32, at: usize, span: &[u64]) -> EndDigit
-        requires below { bound < self.now.base }
-        requires within { at + length span.now ≤ word_count (length self.now.digits) }
-        requires rows { (p : ℕ) → p < 64 * length span.now → bit_of span.now p ≡ true →
-            64 * at + p < length self.now.digits }
-        requires some { HasRow (bit_of span.now) (64 * length span.now) }
-        ensures done { result ≢ EndDigit.Unanswered }
-        ensures answer { AnswersLeast bound (bit_of span.now)
-            (λ p. slice_index self.now.digits (64 * at + p)) (64 * length span.now) result }
-    {
-        'digits: for digit in 0..=bound {
-            if self.has_digit(digit, at, span) {
-                return EndDigit::Digit(digit);
-            }
+    // It reads one bitmap. The searches for the least and the greatest digit of a span read one a digit by it.
+    fn has_digit(&self, d: u32, at: usize, span: &[u64]) -> bool {
+        if self.is_stored(d) {
+            meets(self.bitmap(d), at, span)
+        } else {
+            exceeds(self.bitmap(1), at, span)
         }
-        EndDigit::Past
-    }
-
-    // It reads the bitmaps from the greatest digit down.
-    fn greatest_in_span(&self, bound: u32, at: usize, span: &[u64]) -> EndDigit
-        requires below { bound < self.now.base }
-        requires within { at + length span.now ≤ word_count (length self.now.digits) }
-        requires rows { (p : ℕ) → p < 64 * length span.now → bit_of span.now p ≡ true →
-            64 * at + p < length self.now.digits }
-        requires some { HasRow (bit_of span.now) (64 * length span.now) }
-        ensures done { result ≢ EndDigit.Unanswered }
-        ensures answer { AnswersGreatest bound (bit_of span.now)
-            (λ p. slice_index self.now.digits (64 * at + p)) (64 * length span.now) result }
-    {
-        'digits: for digit in (bound..self.base()).rev() {
-            if self.has_digit(digit, at, span) {
-                return EndDigit::Digit(digit);
-            }
-        }
-        EndDigit::Past
     }
 }

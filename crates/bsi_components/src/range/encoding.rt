@@ -9,7 +9,6 @@ ghost use Rattle.bsi_bits.specs.SetRows.{HasRow};
 ghost use Rattle.bsi_components.specs.EndDigits.{AnswersGreatest, AnswersLeast};
 
 use crate::NoMemory;
-use crate::answers::EndDigit;
 use crate::encoding::Encoding;
 use crate::places::{kept_places, push_digit};
 use crate::range::{RangeComponent, push_block};
@@ -26,6 +25,10 @@ impl Encoding for RangeComponent {
     ghost room_of = { λ c. c.room };
 
     ghost works_on_spans = { true };
+
+    fn on_spans() -> bool {
+        true
+    }
 
     fn make(alloc: Global, base: u32) -> Result<Self, NoMemory> {
         let bitmaps = Bitmaps::new(alloc, base as usize - 1 + kept_places(base))?;
@@ -126,16 +129,7 @@ impl Encoding for RangeComponent {
         })
     }
 
-    fn eq_span(&self, d: u32, at: usize, span: &mut [u64]) -> bool
-        requires below { d < self.now.base }
-        requires within { at + length span.old ≤ word_count (length self.now.digits) }
-        ensures done { IsTrue result }
-        ensures kept { OnFalse result (span.new ≡ span.old) }
-        ensures bits { OnTrue result ((p : ℕ) → p < 64 * length span.old →
-            64 * at + p < length self.now.digits →
-            bit_of span.new p ≡ (bit_of span.old p
-            && (slice_index self.now.digits (64 * at + p) == d))) }
-    {
+    fn eq_span(&self, d: u32, at: usize, span: &mut [u64]) {
         if d == self.top() {
             drop_in(self.bitmap(d - 1), at, span);
         } else if d > 0 {
@@ -143,19 +137,9 @@ impl Encoding for RangeComponent {
         } else {
             keep_in(self.bitmap(0), at, span);
         }
-        true
     }
 
-    fn le_span(&self, d: u32, at: usize, span: &mut [u64]) -> bool
-        requires below { d < self.now.base }
-        requires within { at + length span.old ≤ word_count (length self.now.digits) }
-        ensures done { IsTrue result }
-        ensures kept { OnFalse result (span.new ≡ span.old) }
-        ensures bits { OnTrue result ((p : ℕ) → p < 64 * length span.old →
-            64 * at + p < length self.now.digits →
-            bit_of span.new p ≡ at_most_from (bit_of span.old p)
-            (slice_index self.now.digits (64 * at + p)) d) }
-    {
+    fn le_span(&self, d: u32, at: usize, span: &mut [u64]) {
         if d == self.top() {
             add_in(self.bitmap(d - 1), at, span);
         } else if d > 0 {
@@ -163,81 +147,41 @@ impl Encoding for RangeComponent {
         } else {
             keep_in(self.bitmap(0), at, span);
         }
-        true
-    }
-
-    // It is the provided body, under a clause that says that it is always done.
-    fn eq_span_into(&self, d: u32, at: usize, span: &mut [u64]) -> bool
-        requires below { d < self.now.base }
-        requires within { at + length span.old ≤ word_count (length self.now.digits) }
-        ensures done { IsTrue result }
-        ensures bits { OnTrue result ((p : ℕ) → p < 64 * length span.old →
-            64 * at + p < length self.now.digits →
-            bit_of span.new p ≡ (slice_index self.now.digits (64 * at + p) == d)) }
-    {
-        span.fill(u64::MAX);
-        self.eq_span(d, at, span)
     }
 
     // It reads one bitmap, where `le_span` may read two.
-    fn le_span_into(&self, d: u32, at: usize, span: &mut [u64]) -> bool
-        requires below { d < self.now.base }
-        requires within { at + length span.old ≤ word_count (length self.now.digits) }
-        ensures done { IsTrue result }
-        ensures bits { OnTrue result ((p : ℕ) → p < 64 * length span.old →
-            64 * at + p < length self.now.digits →
-            bit_of span.new p ≡ nat_le (slice_index self.now.digits (64 * at + p)) d) }
-    {
+    fn le_span_into(&self, d: u32, at: usize, span: &mut [u64]) {
         if d == self.top() {
             span.fill(u64::MAX);
         } else {
             copy_in(self.bitmap(d), at, span);
         }
-        true
     }
 
     // The first bitmap that it reads tells whether a digit is within the bound.
-    fn least_in_span(&self, bound: u32, at: usize, span: &[u64]) -> EndDigit
-        requires below { bound < self.now.base }
-        requires within { at + length span.now ≤ word_count (length self.now.digits) }
-        requires rows { (p : ℕ) → p < 64 * length span.now → bit_of span.now p ≡ true →
-            64 * at + p < length self.now.digits }
-        requires some { HasRow (bit_of span.now) (64 * length span.now) }
-        ensures done { result ≢ EndDigit.Unanswered }
-        ensures answer { AnswersLeast bound (bit_of span.now)
-            (λ p. slice_index self.now.digits (64 * at + p)) (64 * length span.now) result }
-    {
+    fn least_in_span(&self, bound: u32, at: usize, span: &[u64]) -> Option<u32> {
         if bound < self.top() && !self.has_upto(bound, at, span) {
-            return EndDigit::Past;
+            return None;
         }
         'digits: for digit in (0..bound).rev() {
             if !self.has_upto(digit, at, span) {
-                return EndDigit::Digit(digit + 1);
+                return Some(digit + 1);
             }
         }
-        EndDigit::Digit(0)
+        Some(0)
     }
 
     // The first bitmap that it reads tells whether a digit is within the bound.
-    fn greatest_in_span(&self, bound: u32, at: usize, span: &[u64]) -> EndDigit
-        requires below { bound < self.now.base }
-        requires within { at + length span.now ≤ word_count (length self.now.digits) }
-        requires rows { (p : ℕ) → p < 64 * length span.now → bit_of span.now p ≡ true →
-            64 * at + p < length self.now.digits }
-        requires some { HasRow (bit_of span.now) (64 * length span.now) }
-        ensures done { result ≢ EndDigit.Unanswered }
-        ensures answer { AnswersGreatest bound (bit_of span.now)
-            (λ p. slice_index self.now.digits (64 * at + p)) (64 * length span.now) result }
-    {
+    fn greatest_in_span(&self, bound: u32, at: usize, span: &[u64]) -> Option<u32> {
         if bound > 0 && !self.has_above(bound - 1, at, span) {
-            return EndDigit::Past;
+            return None;
         }
         let top = self.top();
         'digits: for digit in bound..top {
             if !self.has_above(digit, at, span) {
-                return EndDigit::Digit(digit);
+                return Some(digit);
             }
         }
-        EndDigit::Digit(top)
+        Some(top)
     }
 }

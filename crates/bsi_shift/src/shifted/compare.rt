@@ -4,7 +4,7 @@
 //! stored column for `< 0` and the others for `>= 0`. Past 64 bits the greatest constant stands for it, because each
 //! stored number is below 2^63.
 
-ghost use Rattle.std.specs.Prelude.{◌≡◌, ℕ, ℤ, ◌<ℤ◌, ◌+◌, ◌<◌, ◌≤◌, length, map, is_none, IfOk, IsOk, OnOk, OnErr};
+ghost use Rattle.std.specs.Prelude.{◌≡◌, ℕ, ℤ, ◌<ℤ◌, ◌+◌, ◌<◌, ◌≤◌, length, map, is_none, IfOk};
 ghost use Rattle.bsi_digits.specs.Digits.{max_size};
 ghost use Rattle.bsi_bits.specs.BitList.{word_count};
 ghost use Rattle.bsi_slices.specs.Spans.{KeepsRows};
@@ -46,25 +46,16 @@ impl Shifted {
 
     /// Keeps in a span of at most 1,024 words the rows whose number satisfies the comparison `op` with `constant`,
     /// which may be any number. The first word stands for the 64 rows from row `64 * at` on. A null row is not kept,
-    /// nor a bit past the last row. It takes no memory, and always succeeds. It answers a `Result` as the stored column
-    /// does.
-    pub fn keep_selected(
-        &self,
-        op: Op,
-        constant: i128,
-        at: usize,
-        span: &mut [u64],
-    ) -> Result<(), NoMemory>
+    /// nor a bit past the last row. It takes no memory.
+    pub fn keep_selected(&self, op: Op, constant: i128, at: usize, span: &mut [u64])
         requires few { length span.old ≤ MAX_SPAN_WORDS }
         requires within { at + length span.old ≤ word_count (length (shifted_entries self.now)) }
-        ensures kept { OnErr result (span.new ≡ span.old) }
-        ensures rows { OnOk result (KeepsRows
-            (signed_selects op constant) (shifted_entries self.now) at span.old span.new) }
-        ensures succeeds { IsOk result }
+        ensures { KeepsRows
+            (signed_selects op constant) (shifted_entries self.now) at span.old span.new }
     {
         let comparison = stored_comparison(op, constant, self.offset);
         self.stored
-            .keep_selected(comparison.op, comparison.constant, at, span)
+            .keep_selected(comparison.op, comparison.constant, at, span);
     }
 
     /// Keeps in a span of words the rows that are null. The first word stands for the 64 rows from row `64 * at` on.

@@ -1,20 +1,17 @@
 //! Totals of whole numbers: those of the stored numbers, and the offset for each number.
 
-ghost use Rattle.std.specs.Prelude.{◌≡◌, pos, neg_ℤ, ◌+ℤ◌, ◌*ℤ◌, ◌≤ℤ◌, ◌<ℤ◌, ◌<◌, ◌≤◌, length, IfOk, IfSome};
+ghost use Rattle.std.specs.Prelude.{◌≡◌, pos, neg_ℤ, ◌+ℤ◌, ◌*ℤ◌, ◌≤ℤ◌, ◌<ℤ◌, ◌<◌, ◌≤◌, length, IfOk, IfSome, IsOk};
 ghost use Rattle.std.specs.Option.{option_map};
 ghost use Rattle.bsi_digits.specs.Digits.{max_size};
 ghost use Rattle.bsi_digits.specs.Signed.{end_of_i64};
 ghost use Rattle.bsi_bits.specs.BitList.{max_len, sum_end};
-ghost use Rattle.bsi_columns.specs.AnyRows.{any_entries};
-ghost use Rattle.bsi_slices.specs.OrderStatistics.{IsOrderStatistic};
 ghost use Rattle.bsi_orders.specs.Orders.{values_at};
 ghost use Rattle.bsi_shift.specs.Shifted.{number_of, shifted_entries};
 ghost use Rattle.bsi_orders.specs.WholeNumbers.{signed_sum, IsSignedLeastOf, IsSignedGreatestOf, IsSignedMedianOf};
-ghost use Rattle.bsi_shift.specs.OrderStatistics.{IsSignedOrderStatistic};
 
 use crate::{NoMemory, Shifted};
 use bsi_bits::{Bits, MAX_LEN};
-use bsi_columns::{AnyColumn, Column, OrderStatistic};
+use bsi_columns::Column;
 
 impl Shifted {
     /// Returns the sum of the numbers at the rows of a found set, which is from -2^95 to 2^95 - 1. A null counts for
@@ -30,36 +27,24 @@ impl Shifted {
         sum_from(self.stored.sum(found), self.offset, count)
     }
 
-    /// Returns the least, the greatest or the median number at the rows of a found set, or none if there is no number.
-    fn order_statistic(
-        &self,
-        found: &Bits,
-        statistic: OrderStatistic,
-    ) -> Result<Option<i64>, NoMemory>
-        requires { length (shifted_entries self.now) ≡ length found.now.bits }
-        ensures { IfOk result (IsSignedOrderStatistic statistic
-            (values_at found.now.bits (shifted_entries self.now))) }
-    {
-        let entry = stored_statistic(&self.stored, found, statistic)?;
-        Ok(number_from(self.offset, entry))
-    }
-
     /// Returns the least number at the rows of a found set, or none if there is no number. It takes no memory.
     pub fn least(&self, found: &Bits) -> Result<Option<i64>, NoMemory>
         requires { length (shifted_entries self.now) ≡ length found.now.bits }
-        ensures { IfOk result (IsSignedLeastOf
+        ensures least { IfOk result (IsSignedLeastOf
             (values_at found.now.bits (shifted_entries self.now))) }
+        ensures succeeds { IsOk result }
     {
-        self.order_statistic(found, OrderStatistic::Least)
+        Ok(number_from(self.offset, self.stored.least(found)?))
     }
 
     /// Returns the greatest number at the rows of a found set, or none if there is no number. It takes no memory.
     pub fn greatest(&self, found: &Bits) -> Result<Option<i64>, NoMemory>
         requires { length (shifted_entries self.now) ≡ length found.now.bits }
-        ensures { IfOk result (IsSignedGreatestOf
+        ensures greatest { IfOk result (IsSignedGreatestOf
             (values_at found.now.bits (shifted_entries self.now))) }
+        ensures succeeds { IsOk result }
     {
-        self.order_statistic(found, OrderStatistic::Greatest)
+        Ok(number_from(self.offset, self.stored.greatest(found)?))
     }
 
     /// Returns the lower median of the numbers at the rows of a found set, or none if there is no number. It copies the
@@ -69,25 +54,7 @@ impl Shifted {
         ensures { IfOk result (IsSignedMedianOf
             (values_at found.now.bits (shifted_entries self.now))) }
     {
-        self.order_statistic(found, OrderStatistic::Median)
-    }
-}
-
-/// Returns the least, the greatest or the median stored number by the column's own call: the least and the greatest
-/// need no counts.
-fn stored_statistic(
-    column: &AnyColumn,
-    found: &Bits,
-    statistic: OrderStatistic,
-) -> Result<Option<u64>, NoMemory>
-    requires { length (any_entries column.now) ≡ length found.now.bits }
-    ensures { IfOk result (IsOrderStatistic statistic
-        (values_at found.now.bits (any_entries column.now))) }
-{
-    match statistic {
-        OrderStatistic::Least => column.least(found),
-        OrderStatistic::Greatest => column.greatest(found),
-        OrderStatistic::Median => column.median(found),
+        Ok(number_from(self.offset, self.stored.median(found)?))
     }
 }
 

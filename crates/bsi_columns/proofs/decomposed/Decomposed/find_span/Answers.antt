@@ -40,10 +40,10 @@ loop-i-preserved g c =
     let before : IsNarrowed bs c.args.test.relation c.args.test.constant entries c.args.at c.loop-i.i c.loop-i.span = rw (← c.self.view_is) at c.loop-i.invariant in
     rw (← c.self.view_is)
     (narrowed_more c.len-i-end.ensures.valid c.args.test.relation c.args.test.constant entries c.args.at c.loop-i.i c.digit-digit.result c.loop-i.span c.narrow_digit.new.span
-    (g.E.Encoding.digits c.index.result.now) (omega arith) c.digit-digit.ensures.digit digits c.narrow_digit.auto.span before c.if-not-narrow_digit.ensures.bits)
+    (g.E.Encoding.digits c.index.result.now) (omega arith) c.digit-digit.ensures.digit digits c.narrow_digit.auto.span before c.narrow_digit.ensures)
 
-pub returns-clause-bits : goal.returns-clause-bits
-returns-clause-bits g c = λ p below row.
+pub returns : goal.returns
+returns g c = λ p below row.
     let inside = c.self.inside in
     let bs = inside.bases in
     let entries = entries_of bs inside.not_null.bits (map g.E.Encoding.digits inside.components.items) in

@@ -1,6 +1,5 @@
 use Rattle.std.proofs.Common.{◌≡◌, ◌<◌, ◌+◌, ◌*◌, ◌&&◌, ℕ, false, length, get_or, map, replicate, sym, ap, ◌∙◌, arith}
 use Rattle.std.specs.Prelude.{None, Option, is_some}
-use Rattle.std.proofs.lemmas.Result.{on_ok_weaker}
 use Rattle.bsi_bits.specs.Packed.{bit_of}
 use Rattle.bsi_bits.proofs.Reading.{none_set}
 use Rattle.bsi_digits.specs.Digits.{product}
@@ -15,8 +14,8 @@ use Rattle.bsi_columns.proofs.EntryReads.{all_read, map_read}
 use Rattle.bsi_columns.proofs.decomposed.Decomposed.keep_selected.Goals as goal
 
 -- no number
-pub returns-in-Nothing-clause-rows : goal.returns-in-Nothing-clause-rows
-returns-in-Nothing-clause-rows g c =
+pub returns-in-Nothing : goal.returns-in-Nothing
+returns-in-Nothing g c =
     let bs = c.self.inside.bases in
     let entries = entries_of bs c.self.inside.not_null.bits (map g.E.Encoding.digits c.self.inside.components.items) in
     let agree : (x : ℕ) → x < product bs → decides c.decide.result x ≡ compares c.args.op x c.args.constant = λ x below. c.decide.ensures.decided x (omega (arith, c.size.ensures.size)) in
@@ -30,8 +29,8 @@ returns-in-Nothing-clause-rows g c =
     ∙ ap (◌&&◌ (bit_of c.args.span.now p)) (entry_none c.args.op c.args.constant (product bs) c.decide.result agree c.in-Nothing.is e small))
 
 -- each number
-pub returns-in-Everything-clause-rows : goal.returns-in-Everything-clause-rows
-returns-in-Everything-clause-rows g c =
+pub returns-in-Everything : goal.returns-in-Everything
+returns-in-Everything g c =
     let bs = c.self.inside.bases in
     let entries = entries_of bs c.self.inside.not_null.bits (map g.E.Encoding.digits c.self.inside.components.items) in
     let agree : (x : ℕ) → x < product bs → decides c.decide.result x ≡ compares c.args.op x c.args.constant = λ x below. c.decide.ensures.decided x (omega (arith, c.size.ensures.size)) in
@@ -46,18 +45,16 @@ returns-in-Everything-clause-rows g c =
     ∙ entry_all c.args.op c.args.constant (product bs) c.decide.result agree c.in-Everything.is e small))
 
 -- the numbers that pass a test, or fail it
-pub returns-in-Tested-clause-rows : goal.returns-in-Tested-clause-rows
-returns-in-Tested-clause-rows g c =
+pub returns-in-Tested : goal.returns-in-Tested
+returns-in-Tested g c =
     let bs = c.self.inside.bases in
     let entries = entries_of bs c.self.inside.not_null.bits (map g.E.Encoding.digits c.self.inside.components.items) in
     let test = c.in-Tested.test in
     let agree : (x : ℕ) → x < product bs → decides c.decide.result x ≡ compares c.args.op x c.args.constant = λ x below. c.decide.ensures.decided x (omega (arith, c.size.ensures.size)) in
-    let tested = rw (← c.self.view_is) at c.keep_tested.ensures.rows in
+    let tested = rw (← c.self.view_is) at c.keep_tested.ensures in
     rw (← c.self.view_is)
-    (on_ok_weaker c.keep_tested.result
-    (λ each. λ (p : ℕ) (below : p < 64 * length c.args.span.now).
+    (λ (p : ℕ) (below : p < 64 * length c.args.span.now).
     let e : Option ℕ = get_or entries (64 * c.args.at + p) None in
     let small : number_or_zero e < product bs = all_read (λ e. number_or_zero e < product bs) entries (64 * c.args.at + p) (omega (arith, size_at_least_two c.size.ensures.valid)) c.self.invariant.0.below in
-    each p below
+    tested p below
     ∙ ap (◌&&◌ (bit_of c.args.span.now p)) (entry_tested c.args.op c.args.constant (product bs) c.decide.result agree test c.in-Tested.is e small))
-    tested)

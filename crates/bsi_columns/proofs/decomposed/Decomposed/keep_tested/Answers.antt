@@ -11,8 +11,8 @@ use Rattle.bsi_columns.proofs.EntryReads.{map_read}
 use Rattle.bsi_columns.proofs.decomposed.Decomposed.keep_tested.Goals as goal
 
 -- the rows of the span that pass, found in words of their own
-pub returns-then-find_span-clause-rows : goal.returns-then-find_span-clause-rows
-returns-then-find_span-clause-rows g c =
+pub returns : goal.returns
+returns g c =
     let inside = c.self.inside in
     let not_null = inside.not_null.bits in
     let entries = entries_of inside.bases not_null (map g.E.Encoding.digits inside.components.items) in
@@ -21,7 +21,7 @@ returns-then-find_span-clause-rows g c =
     let wanted = c.args.test.wanted in
     let size : length c.find_span.new.span ≡ length span =
     omega (arith, c.find_span.auto.span, c.requires.few, length-take {A = ℕ} (length span) (replicate 1024 0)) in
-    let found = rw (← c.self.view_is) at c.if-find_span.ensures.bits in
+    let found = rw (← c.self.view_is) at c.find_span.ensures in
     rw (← c.self.view_is)
     (λ p below.
     let r = 64 * c.args.at + p in

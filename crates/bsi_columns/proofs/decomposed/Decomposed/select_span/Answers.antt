@@ -17,7 +17,7 @@ returns g c = λ p below row.
     let test = λ (x : ℕ). relates c.args.test.relation x c.args.test.constant in
     let in_row : 64 * at + p < length entries = rw (← c.self.view_is) at row in
     let number : ℕ = number_or_zero (get_or entries (64 * at + p) None) in
-    let narrowed : bit_of c.find_span.new.span p ≡ test number = rw (← c.self.view_is) at (c.if-not-find_span.ensures.bits p below row) in
+    let narrowed : bit_of c.find_span.new.span p ≡ test number = rw (← c.self.view_is) at (c.find_span.ensures p below row) in
     let found : bit_of c.if-not-test.span p ≡ as_wanted c.args.test.wanted (test number) =
     elim c.if-not-test.branch [
       | then-not-test w ↦

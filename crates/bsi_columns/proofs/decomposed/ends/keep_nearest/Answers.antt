@@ -1,25 +1,24 @@
 use Rattle.std.proofs.Common.{◌≡◌, ℕ, ◌+◌, ◌*◌, ◌<◌, Bool, false, ◌&&◌, length, get_or, inl, inr, ap, ◌∙◌, arith}
-use Rattle.std.specs.Prelude.{nat_eq}
+use Rattle.std.specs.Prelude.{nat_eq, Some}
 use Rattle.std.proofs.lemmas.Bool.{cases_lt}
 use Rattle.std.proofs.lemmas.List.{get_or_past}
 use Rattle.bsi_bits.specs.Packed.{bit_of}
-use Rattle.bsi_components.specs.declared.answers.EndDigit.TheVariants.{Digit}
 use Rattle.bsi_columns.specs.SpanEnds.{AnswersEnd}
 use Rattle.bsi_columns.proofs.EndDigits.{end_member, end_first, kept_inside, kept_outside, kept_some}
 use Rattle.bsi_columns.proofs.decomposed.ends.keep_nearest.Goals as goal
 
 -- the rows of the digit, of which those past the last one are cleared with the nulls
-pub returns-else-not-eq_span-clause-digit : goal.returns-else-not-eq_span-clause-digit
-returns-else-not-eq_span-clause-digit g c =
+pub returns-in_some-digit-clause-digit : goal.returns-in_some-digit-clause-digit
+returns-in_some-digit-clause-digit g c =
     let digits = g.E.Encoding.digits c.args.component.now in
     let not_null = c.args.not_null.now.bits in
     let at = c.args.at in
-    let d = c.in-Digit.digit in
+    let d = c.in_some-digit.digit in
     let old : ℕ → Bool = bit_of c.args.span.now in
     let digit : ℕ → ℕ = λ p. get_or digits (64 * at + p) 0 in
     let n : ℕ = 64 * length c.args.span.now in
-    let answered : AnswersEnd c.args.end c.args.bound old digit n (Digit d) = rw c.in-Digit.is at c.end_digit-answer.ensures in
-    let narrowed = rw c.if-not-eq_span.false at c.eq_span.ensures.bits in
+    let answered : AnswersEnd c.args.end c.args.bound old digit n (Some d) = c.in_some-digit.ensures in
+    let narrowed = c.eq_span.ensures c.requires.spans in
     let kept : (p : ℕ) → p < n → bit_of c.keep_in.new.span p ≡ (old p && nat_eq (digit p) d) = λ p below.
     elim (cases_lt (64 * at + p) (length digits)) [
       | inl inside ↦

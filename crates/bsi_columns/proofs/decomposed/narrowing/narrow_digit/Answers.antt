@@ -18,4 +18,4 @@ parts-preserved g c =
     let long : length (take n (drop from span)) ≡ n = omega (arith, length-take n (drop from span), length-drop from span, size, begun) in
     stepped_more from (64 * (c.parts.k + 1)) (λ low v. relates_from c.args.relation (c.args.is_lowest || low) v c.args.digit) digits c.args.at n c.args.span.now span c.narrow_part.new.span
     same (omega (arith, same, size, begun)) (omega (arith, c.narrow_part.auto.span, long)) (omega (arith, size)) (λ p below inside. omega (arith, same, size, begun)) c.parts.invariant
-    (λ p below row. c.if-not-narrow_part.ensures.bits p (omega (arith, long)) row)
+    (λ p below row. c.narrow_part.ensures p (omega (arith, long)) row)

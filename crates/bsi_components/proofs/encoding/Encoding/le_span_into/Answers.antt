@@ -1,5 +1,4 @@
 use Rattle.std.proofs.Common.{◌≡◌, ◌+◌, ◌*◌, ◌-◌, ◌^◌, length, get_or, replicate, ap, ◌∙◌, arith}
-use Rattle.std.proofs.lemmas.Bool.{OnTrue_at, OnTrue_from}
 use Rattle.bsi_bits.specs.Packed.{bit_of}
 use Rattle.bsi_components.specs.Component.{at_most_from}
 use Rattle.bsi_words.proofs.SpanBits.{ones_bit}
@@ -8,14 +7,11 @@ use Rattle.bsi_components.proofs.encoding.Encoding.le_span_into.Goals as goal
 
 -- a span of ones says that the digits below are at most those of any constant
 pub returns : goal.returns
-returns g c = record {
-  done = c.le_span.ensures.done;
-  bits = OnTrue_from c.le_span.result _ (λ whole p below row.
-      let n = length c.args.span.now in
-      let digit = get_or (g.Self.Encoding.digits c.args.self.now) (64 * c.args.at + p) 0 in
-      let filled : c.fill.new.self ≡ replicate n (2 ^ 64 - 1) = c.fill.ensures.after (λ y same. same) in
-      OnTrue_at whole c.le_span.ensures.bits p (omega (arith, c.fill.ensures.len)) row
-      ∙ ap (λ ws. at_most_from (bit_of ws p) digit c.args.d) filled
-      ∙ ap (λ low. at_most_from low digit c.args.d) (ones_bit n p below)
-      ∙ at_most_first digit c.args.d);
-}
+returns g c = λ on p below row.
+    let n = length c.args.span.now in
+    let digit = get_or (g.Self.Encoding.digits c.args.self.now) (64 * c.args.at + p) 0 in
+    let filled : c.fill.new.self ≡ replicate n (2 ^ 64 - 1) = c.fill.ensures.after (λ y same. same) in
+    c.le_span.ensures on p (omega (arith, c.fill.ensures.len)) row
+    ∙ ap (λ ws. at_most_from (bit_of ws p) digit c.args.d) filled
+    ∙ ap (λ low. at_most_from low digit c.args.d) (ones_bit n p below)
+    ∙ at_most_first digit c.args.d

@@ -1,15 +1,14 @@
 use Rattle.std.proofs.Common.{◌≡◌, ◌+◌, ◌*◌, ◌-◌, ◌^◌, ◌&&◌, length, get_or, replicate, nat_eq, ap, ◌∙◌, arith}
-use Rattle.std.proofs.lemmas.Bool.{OnTrue_at, OnTrue_from}
 use Rattle.bsi_bits.specs.Packed.{bit_of}
 use Rattle.bsi_words.proofs.SpanBits.{ones_bit}
 use Rattle.bsi_components.proofs.equality.encoding.EqualityComponentEncoding.eq_span_into.Goals as goal
 
 -- where no bitmap is stored for the digit, of a span of ones the rows are kept that have it
-pub returns-else-is_stored-clause-bits : goal.returns-else-is_stored-clause-bits
-returns-else-is_stored-clause-bits c = OnTrue_from c.eq_span.result _ (λ whole p below row.
+pub returns-else-is_stored : goal.returns-else-is_stored
+returns-else-is_stored c = λ on p below row.
     let n = length c.args.span.now in
     let digit = get_or c.args.self.now.digits (64 * c.args.at + p) 0 in
     let filled : c.fill.new.self ≡ replicate n (2 ^ 64 - 1) = c.fill.ensures.after (λ y same. same) in
-    OnTrue_at whole c.eq_span.ensures.bits p (omega (arith, c.fill.ensures.len)) row
+    c.eq_span.ensures on p (omega (arith, c.fill.ensures.len)) row
     ∙ ap (λ ws. bit_of ws p && nat_eq digit c.args.d) filled
-    ∙ ap (λ b. b && nat_eq digit c.args.d) (ones_bit n p below))
+    ∙ ap (λ b. b && nat_eq digit c.args.d) (ones_bit n p below)

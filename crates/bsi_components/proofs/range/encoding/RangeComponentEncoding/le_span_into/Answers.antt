@@ -4,8 +4,8 @@ use Rattle.bsi_words.proofs.SpanBits.{ones_bit}
 use Rattle.bsi_components.proofs.range.encoding.RangeComponentEncoding.le_span_into.Goals as goal
 
 -- each digit is at most the greatest
-pub returns-then-d-top-clause-bits : goal.returns-then-d-top-clause-bits
-returns-then-d-top-clause-bits c = λ p below row.
+pub returns-then-d-top : goal.returns-then-d-top
+returns-then-d-top c = λ on p below row.
     let n = length c.args.span.now in
     let digit = get_or c.args.self.now.digits (64 * c.args.at + p) 0 in
     let filled : c.fill.new.self ≡ replicate n (2 ^ 64 - 1) = c.fill.ensures.after (λ y same. same) in

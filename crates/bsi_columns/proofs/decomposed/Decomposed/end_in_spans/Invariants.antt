@@ -1,7 +1,7 @@
 use Rattle.std.proofs.Common.{◌*◌}
 use Rattle.std.specs.Prelude.{min}
 use Rattle.bsi_columns.specs.Ends.{IsEndUpto}
-use Rattle.bsi_columns.proofs.decomposed.Decomposed.end_found.Given as goal
+use Rattle.bsi_columns.proofs.decomposed.Decomposed.end_in_spans.Given as goal
 
 -- the best one of the spans so far
 abbrev pub invariant-span : goal.invariant-span

@@ -3,7 +3,7 @@ use Rattle.std.specs.Prelude.{min}
 use Rattle.bsi_bits.specs.Packed.{bit_of}
 use Rattle.bsi_slices.specs.Decisions.{relates}
 use Rattle.bsi_columns.specs.DigitTests.{answers}
-use Rattle.bsi_columns.proofs.decomposed.Decomposed.select_spans.Given as goal
+use Rattle.bsi_columns.proofs.decomposed.Decomposed.select_words.Given as goal
 
 abbrev pub invariant-loop-k : goal.invariant-loop-k
 invariant-loop-k g l = record {
