@@ -80,6 +80,10 @@ pub end_first : (end : End) (bound : ℕ) (marked : ℕ → Bool) (digit : ℕ �
 end_first Least bound marked digit n d is = is.first
 end_first Greatest bound marked digit n d is = is.first
 
+pub end_past : (end : End) (bound : ℕ) (marked : ℕ → Bool) (digit : ℕ → ℕ) (n : ℕ) → AnswersEnd end bound marked digit n None → (p : ℕ) → p < n → marked p ≡ true → IsPast end bound (digit p)
+end_past Least bound marked digit n past = past
+end_past Greatest bound marked digit n past = past
+
 -- a row that is kept by its digit and is there
 pub kept_inside : (old there same new : Bool) → new ≡ ((old && same) && there) → (old ≡ true → there ≡ true) → new ≡ (old && same)
 kept_inside true there same new is not_null = is ∙ ap (λ t. same && t) (not_null refl) ∙ always same

@@ -4,11 +4,10 @@
 //! the digits, which stand behind the bitmaps, and a rank goes down them. Under base 2 or 3, which has none, a rank is
 //! counted one digit after another.
 
-ghost use Rattle.std.specs.Prelude.{◌≡◌, ◌≢◌, ℕ, ◌+◌, ◌-◌, ◌*◌, ◌^◌, ◌<◌, ◌≤◌, ◌==◌, ◌&&◌, ◌||◌, not, ◌++◌, length, map, true, slice_index, IsTrue, IsFalse};
+ghost use Rattle.std.specs.Prelude.{◌≡◌, ◌≢◌, ℕ, ◌+◌, ◌-◌, ◌*◌, ◌^◌, ◌<◌, ◌≤◌, ◌==◌, ◌&&◌, ◌||◌, not, ◌++◌, length, map, slice_index, IsTrue, IsFalse};
 ghost use Rattle.bsi_bits.specs.BitList.{max_block, word_count};
 ghost use Rattle.bsi_bits.specs.BitLists.{bits_at};
 ghost use Rattle.bsi_bits.specs.Packed.{bit_of};
-ghost use Rattle.bsi_bits.specs.SetRows.{HasRow};
 ghost use Rattle.bsi_digits.specs.Digits.{max_base};
 ghost use Rattle.bsi_words.specs.Places.{has_place, max_digit_places, then_places, IsCount, IsEncoded};
 ghost use Rattle.bsi_components.specs.Equality.{first_stored, is_among};

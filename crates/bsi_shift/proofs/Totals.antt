@@ -1,5 +1,5 @@
 -- Totals of numbers that are stored less an offset.
-use Rattle.std.proofs.Common.{◌≡◌, ℕ, ℤ, pos, neg_ℤ, ◌+ℤ◌, ◌*ℤ◌, ◌≤ℤ◌, ◌<ℤ◌, ◌+◌, ◌*◌, ◌-◌, ◌<◌, ◌≤◌, ◌^◌, suc, Bool, true, false, cond, List, [], ◌∷◌, Option, Some, None, length, map, ap, ap₂, sym, ◌∙◌, refl, arith}
+use Rattle.std.proofs.Common.{◌≡◌, ℕ, ℤ, pos, neg_ℤ, ◌+ℤ◌, ◌*ℤ◌, ◌≤ℤ◌, ◌<ℤ◌, ◌+◌, ◌*◌, ◌-◌, ◌<◌, ◌≤◌, ◌^◌, suc, Bool, true, false, cond, List, [], ◌∷◌, Option, Some, None, length, map, ap, ap₂, sym, subst, ◌∙◌, refl, arith}
 use Rattle.std.specs.Prelude.{All, Contains, IfSome, count_by, sum, nat_le, nat_lt, int_le, int_lt}
 use Rattle.std.specs.Option.{option_map}
 use Rattle.std.proofs.Math.IntN.{suc_ℤ-*ℤ, *ℤ_comm}
@@ -12,14 +12,13 @@ use mir.Syntax.{w64}
 use mir.Val.{SFits}
 use Rattle.bsi_slices.proofs.CallerLemmas.{count_cons}
 use Rattle.bsi_orders.specs.Orders.{values_at}
-use Rattle.bsi_slices.specs.OrderStatistics.{IsOrderStatistic}
 use Rattle.bsi_orders.specs.Rows.{number_or_zero}
 use Rattle.bsi_orders.specs.Totals.{IsLeastOf, IsGreatestOf, IsMedianOf}
-use Rattle.bsi_slices.specs.declared.column.OrderStatistic.{OrderStatistic}
-use Rattle.bsi_slices.specs.declared.column.OrderStatistic.TheVariants.{Least, Greatest, Median}
-use Rattle.bsi_shift.specs.Shifted.{number_of}
+use Rattle.bsi_columns.specs.AnyRows.{any_entries}
+use Rattle.bsi_columns.specs.declared.any.AnyColumn.{AnyColumn}
+use Rattle.bsi_shift.specs.Shifted.{number_of, shifted_entries, OffsetColumn}
 use Rattle.bsi_orders.specs.WholeNumbers.{signed_sum, IsSignedLeastOf, IsSignedGreatestOf, IsSignedMedianOf}
-use Rattle.bsi_shift.specs.OrderStatistics.{IsSignedOrderStatistic}
+use Rattle.bsi_shift.proofs.Shifting.{values_at-shifted_entries}
 
 -- ---- sums
 
@@ -67,7 +66,7 @@ module _ (offset : ℤ) where
       ∙ ap₂ (λ b k. cond b 1 0 + k) (same n) (count_from p q same numbers)
       ∙ sym (count_cons p n numbers)
 
-  least_from : (numbers : List ℕ) (answer : Option ℕ) → IsLeastOf numbers answer → IsSignedLeastOf (map (number_of offset) numbers) (option_map (number_of offset) answer)
+  pub least_from : (numbers : List ℕ) (answer : Option ℕ) → IsLeastOf numbers answer → IsSignedLeastOf (map (number_of offset) numbers) (option_map (number_of offset) answer)
   least_from numbers None none = ap (map (number_of offset)) none
   least_from numbers (Some m) is = record {
     member = member_from numbers m is.member;
@@ -75,7 +74,7 @@ module _ (offset : ℤ) where
         (All-weaker (λ n. nat_le m n ≡ true) (λ n. int_le (number_of offset m) (number_of offset n) ≡ true) (λ n le. at_most_from m n ∙ le) numbers is.none_below);
   }
 
-  greatest_from : (numbers : List ℕ) (answer : Option ℕ) → IsGreatestOf numbers answer → IsSignedGreatestOf (map (number_of offset) numbers) (option_map (number_of offset) answer)
+  pub greatest_from : (numbers : List ℕ) (answer : Option ℕ) → IsGreatestOf numbers answer → IsSignedGreatestOf (map (number_of offset) numbers) (option_map (number_of offset) answer)
   greatest_from numbers None none = ap (map (number_of offset)) none
   greatest_from numbers (Some m) is = record {
     member = member_from numbers m is.member;
@@ -83,7 +82,7 @@ module _ (offset : ℤ) where
         (All-weaker (λ n. nat_le n m ≡ true) (λ n. int_le (number_of offset n) (number_of offset m) ≡ true) (λ n le. at_most_from n m ∙ le) numbers is.none_above);
   }
 
-  median_from : (numbers : List ℕ) (answer : Option ℕ) → IsMedianOf numbers answer → IsSignedMedianOf (map (number_of offset) numbers) (option_map (number_of offset) answer)
+  pub median_from : (numbers : List ℕ) (answer : Option ℕ) → IsMedianOf numbers answer → IsSignedMedianOf (map (number_of offset) numbers) (option_map (number_of offset) answer)
   median_from numbers None none = ap (map (number_of offset)) none
   median_from numbers (Some m) is =
       let many = length-map numbers (number_of offset) in
@@ -92,11 +91,6 @@ module _ (offset : ℤ) where
         half = omega (arith, is.half, many, count_from (λ n. nat_le n m) (λ x. int_le x (number_of offset m)) (λ n. at_most_from n m) numbers);
         fewer_below = omega (arith, is.fewer_below, many, count_from (λ n. nat_lt n m) (λ x. int_lt x (number_of offset m)) (λ n. below_from n m) numbers);
       }
-
-  pub order_statistic_from : (statistic : OrderStatistic) (numbers : List ℕ) (answer : Option ℕ) → IsOrderStatistic statistic numbers answer → IsSignedOrderStatistic statistic (map (number_of offset) numbers) (option_map (number_of offset) answer)
-  order_statistic_from Least numbers answer is = least_from numbers answer is
-  order_statistic_from Greatest numbers answer is = greatest_from numbers answer is
-  order_statistic_from Median numbers answer is = median_from numbers answer is
 
 -- ---- the answer is one of the numbers, so it is below the size
 
@@ -114,22 +108,26 @@ module _ (size : ℕ) where
     member_below : (m : ℕ) → Contains (values_at found stored) m → m < size
     member_below m there = All-contains (λ n. n < size) (values_at found stored) m (numbers_below found stored below) there
 
-    least_below : (answer : Option ℕ) → IsLeastOf (values_at found stored) answer → IfSome answer (λ m. m < size)
+    pub least_below : (answer : Option ℕ) → IsLeastOf (values_at found stored) answer → IfSome answer (λ m. m < size)
     least_below None none = tt
     least_below (Some m) is = member_below m is.member
 
-    greatest_below : (answer : Option ℕ) → IsGreatestOf (values_at found stored) answer → IfSome answer (λ m. m < size)
+    pub greatest_below : (answer : Option ℕ) → IsGreatestOf (values_at found stored) answer → IfSome answer (λ m. m < size)
     greatest_below None none = tt
     greatest_below (Some m) is = member_below m is.member
 
-    median_below : (answer : Option ℕ) → IsMedianOf (values_at found stored) answer → IfSome answer (λ m. m < size)
+    pub median_below : (answer : Option ℕ) → IsMedianOf (values_at found stored) answer → IfSome answer (λ m. m < size)
     median_below None none = tt
     median_below (Some m) is = member_below m is.member
 
-    pub order_statistic_below : (statistic : OrderStatistic) (answer : Option ℕ) → IsOrderStatistic statistic (values_at found stored) answer → IfSome answer (λ m. m < size)
-    order_statistic_below Least answer is = least_below answer is
-    order_statistic_below Greatest answer is = greatest_below answer is
-    order_statistic_below Median answer is = median_below answer is
+-- ---- the answer of a column, from that of the stored one
+
+pub answer_from : (Is : List ℤ → Option ℤ → Type 0) (offset : ℤ) (stored : AnyColumn) (view : OffsetColumn) (found : List Bool) (entry : Option ℕ) (answer : Option ℤ)
+    → record { stored = stored; offset = offset } ≡ view → answer ≡ option_map (number_of offset) entry
+    → Is (map (number_of offset) (values_at found (any_entries stored))) (option_map (number_of offset) entry) → Is (values_at found (shifted_entries view)) answer
+answer_from Is offset stored view found entry answer view_is answer_is moved =
+    subst (λ v. Is (values_at found (shifted_entries v)) answer) view_is
+    (subst (λ values. Is values answer) (sym (values_at-shifted_entries _ found)) (subst (Is _) (sym answer_is) moved))
 
 -- ---- a sum of at most 2^32 numbers of 64 bits
 

@@ -131,7 +131,13 @@ fn bound_of(end: End, best: Option<u64>, above: u64, base: u32, weight: u64) -> 
 
 /// Finds the digit at an end among those of a span's rows, or none if each is past a bound. It is a function, since a proof
 /// loses what a `match` decides where the arms join.
-fn end_digit<E: Encoding>(component: &E, end: End, bound: u32, at: usize, span: &[u64]) -> Option<u32>
+fn end_digit<E: Encoding>(
+    component: &E,
+    end: End,
+    bound: u32,
+    at: usize,
+    span: &[u64],
+) -> Option<u32>
     requires spans { IsTrue E.works_on_spans }
     requires below { bound < E.base_of component.now }
     requires within { at + length span.now ≤ word_count (length (E.digits component.now)) }

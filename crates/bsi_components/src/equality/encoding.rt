@@ -1,13 +1,7 @@
 //! The calls of an equality encoded component as an encoding.
 
-ghost use Rattle.std.specs.Prelude.{◌≡◌, ◌≢◌, ℕ, ◌+◌, ◌*◌, ◌<◌, ◌≤◌, ◌==◌, ◌&&◌, length, nat_le, true, slice_index, IsTrue};
-ghost use Rattle.std.specs.Bool.{OnTrue, OnFalse};
-ghost use Rattle.bsi_bits.specs.BitList.{word_count};
-ghost use Rattle.bsi_bits.specs.Packed.{bit_of};
-ghost use Rattle.bsi_bits.specs.SetRows.{HasRow};
+ghost use Rattle.std.specs.Prelude.{◌≡◌, ℕ, ◌<◌, true, slice_index};
 ghost use Rattle.bsi_digits.specs.Digits.{IsBase};
-ghost use Rattle.bsi_components.specs.Component.{at_most_from};
-ghost use Rattle.bsi_components.specs.EndDigits.{AnswersGreatest, AnswersLeast};
 
 use crate::NoMemory;
 use crate::encoding::Encoding;

@@ -13,14 +13,14 @@ use Rattle.bsi_table.proofs.Parts.{parts_of}
 use Rattle.bsi_table.proofs.Selecting.{entry_read, joined_bit, saved_before, saved_last, turned_bit}
 use Rattle.bsi_table.proofs.found.+narrow.Goals as goal
 
-pub returns-in_ok-keep_selected-in-Compare-clause-rows : goal.returns-in_ok-keep_selected-in-Compare-clause-rows
-returns-in_ok-keep_selected-in-Compare-clause-rows t c = λ p below row.
+pub returns-in-Compare-clause-rows : goal.returns-in-Compare-clause-rows
+returns-in-Compare-clause-rows t c = λ p below row.
     let columns = c.args.columns.now in
     let r : ℕ = 64 * c.args.at + p in
     let column = c.index-columns-c.result in
     let within = there (length columns) c.in-Compare.c (ap (λ q. missing_of (length columns) (columns_of_pred q)) (sym c.in-Compare.is) ∙ c.requires.there) in
     let read : SFits w128 c.in-Compare.constant = search rules in
-    c.in_ok-keep_selected-in-Compare.ensures.rows p below
+    c.keep_selected.ensures p below
     ∙ ap (λ k. bit_of c.args.span.now p && signed_selects c.in-Compare.op k (get_or (shifted_entries column) r None)) (to_z-of_z read)
     ∙ ap (λ e. bit_of c.args.span.now p && signed_selects c.in-Compare.op c.in-Compare.constant e) (entry_read columns c.in-Compare.c column within c.index-columns-c.is r)
     ∙ ap (λ q. bit_of c.args.span.now p && holds q (row_in columns r)) (sym c.in-Compare.is)

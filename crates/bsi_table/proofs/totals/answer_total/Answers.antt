@@ -45,7 +45,7 @@ returns-in_ok-least-in-Least c =
     let values = values-found c.args.origins.now.rows c.args.columns.now c.args.query.now.pred c.args.found.now.bits c.requires.found c.requires.even c.in-Least.c c.index-columns-c-in-Least.result within c.index-columns-c-in-Least.is in
     let answer = c.in_ok-least-in-Least.field-0 in
     subst (λ t. IsTotal t c.args.query.now.pred rows (Value answer)) (sym c.in-Least.is)
-    (subst (λ numbers. IsSignedLeastOf numbers answer) values c.in_ok-least-in-Least.ensures)
+    (subst (λ numbers. IsSignedLeastOf numbers answer) values c.in_ok-least-in-Least.ensures.least)
 
 pub greatest-requires : goal.greatest-requires
 greatest-requires c =
@@ -61,7 +61,7 @@ returns-in_ok-greatest-in-Greatest c =
     let values = values-found c.args.origins.now.rows c.args.columns.now c.args.query.now.pred c.args.found.now.bits c.requires.found c.requires.even c.in-Greatest.c c.index-columns-c-in-Greatest.result within c.index-columns-c-in-Greatest.is in
     let answer = c.in_ok-greatest-in-Greatest.field-0 in
     subst (λ t. IsTotal t c.args.query.now.pred rows (Value answer)) (sym c.in-Greatest.is)
-    (subst (λ numbers. IsSignedGreatestOf numbers answer) values c.in_ok-greatest-in-Greatest.ensures)
+    (subst (λ numbers. IsSignedGreatestOf numbers answer) values c.in_ok-greatest-in-Greatest.ensures.greatest)
 
 pub median-requires : goal.median-requires
 median-requires c =

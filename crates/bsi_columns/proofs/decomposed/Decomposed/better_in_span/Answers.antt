@@ -65,8 +65,8 @@ keep_nearest-requires-clause-rows g c = λ p below there.
     ap (λ bits. get_or bits (64 * c.args.at + p) false) c.not_null-not_null.ensures ∙ not_null_row entries (64 * c.args.at + p) (c.requires.rows p within marked)
 
 -- each row has a digit past the bound
-pub returns-in-Past : goal.returns-in-Past
-returns-in-Past g c = λ p within there.
+pub returns-in_err-digit : goal.returns-in_err-digit
+returns-in_err-digit g c = rw c.from_residual.ensures (λ p within there.
     let bs = c.bases-bases.result.now in
     let entries = c.args.self.now.entries in
     let j : ℕ = c.components.i - 1 in
@@ -88,11 +88,11 @@ returns-in-Past g c = λ p within there.
     let digits_are = c.component.ensures.digits ∙ ap (λ bs. map (λ e. digit_of bs (number_or_zero e) j) entries) (sym c.bases-bases.ensures.bases) in
     let digits : (p : ℕ) → digit p ≡ numbers p / w % base = λ p. ap (λ ds. get_or ds (64 * c.args.at + p) 0) digits_are ∙ row_digit entries w base (64 * c.args.at + p) positive some in
     let bound : ℕ = c.bound_of-bound.result in
-    let past : (p : ℕ) → p < n → kept p ≡ true → IsPast c.args.end bound (digit p) = rw c.in-Past.is at c.keep_nearest.ensures.digit in
+    let past : (p : ℕ) → p < n → kept p ≡ true → IsPast c.args.end bound (digit p) = c.in_err-digit.ensures.digit in
     let leading : (d x : ℕ) → d < base → IsPast c.args.end bound d → comes_first c.args.end (c.components.number * base + d) (x / w) → leads c.args.end c.args.best x =
     rw (c.from.ensures, c.base-base.ensures.base, c.weight-weight.ensures.weight) at c.bound_of-bound.ensures.past in
     past_leads c.args.end c.args.best marked numbers n w base (weight bs c.components.i) c.components.number bound kept positive some more state
-    (λ p below on. rw (digits p) at (past p below on)) leading p (omega (arith, within, even)) there
+    (λ p below on. rw (digits p) at (past p below on)) leading p (omega (arith, within, even)) there)
 
 pub overflow_add-number : goal.overflow_add-number
 overflow_add-number g c =
@@ -116,11 +116,11 @@ overflow_add-number g c =
     let digit : ℕ → ℕ = λ p. get_or (g.E.Encoding.digits c.component.result.now) (64 * c.args.at + p) 0 in
     let digits_are = c.component.ensures.digits ∙ ap (λ bs. map (λ e. digit_of bs (number_or_zero e) j) entries) (sym c.bases-bases.ensures.bases) in
     let digits : (p : ℕ) → digit p ≡ numbers p / w % base = λ p. ap (λ ds. get_or ds (64 * c.args.at + p) 0) digits_are ∙ row_digit entries w base (64 * c.args.at + p) positive some in
-    let d : ℕ = c.in-Digit.digit in
-    let step : IsNarrowedTo c.args.end kept (bit_of c.keep_nearest.new.span) digit n d = rw c.in-Digit.is at c.keep_nearest.ensures.digit in
+    let d : ℕ = c.in_ok-digit.digit in
+    let step : IsNarrowedTo c.args.end kept (bit_of c.keep_nearest.new.span) digit n d = c.in_ok-digit.ensures.digit in
     let low : d < base = digit_low c.args.end marked numbers n w base (weight bs c.components.i) c.components.number d kept (bit_of c.keep_nearest.new.span) digit positive some more digits step in
-    let added : c.components.number * c.from.result + c.from-in-Digit.result ≡ c.components.number * base + d =
-    ap₂ (λ b v. c.components.number * b + v) (c.from.ensures ∙ c.base-base.ensures.base) c.from-in-Digit.ensures in
+    let added : c.components.number * c.from.result + c.from-in-components.result ≡ c.components.number * base + d =
+    ap₂ (λ b v. c.components.number * b + v) (c.from.ensures ∙ c.base-base.ensures.base) c.from-in-components.ensures in
     let Small : ℕ → Type 0 = λ v. c.components.number * v + v ≤ product bs in
     let before : c.components.number * (w * base) + w * base ≤ product bs = subst Small more c.components.invariant.small in
     let fits = room c.components.number w base (product bs) positive before in
@@ -148,11 +148,11 @@ leads_all-requires-clause-small g c =
     let digit : ℕ → ℕ = λ p. get_or (g.E.Encoding.digits c.component.result.now) (64 * c.args.at + p) 0 in
     let digits_are = c.component.ensures.digits ∙ ap (λ bs. map (λ e. digit_of bs (number_or_zero e) j) entries) (sym c.bases-bases.ensures.bases) in
     let digits : (p : ℕ) → digit p ≡ numbers p / w % base = λ p. ap (λ ds. get_or ds (64 * c.args.at + p) 0) digits_are ∙ row_digit entries w base (64 * c.args.at + p) positive some in
-    let d : ℕ = c.in-Digit.digit in
-    let step : IsNarrowedTo c.args.end kept (bit_of c.keep_nearest.new.span) digit n d = rw c.in-Digit.is at c.keep_nearest.ensures.digit in
+    let d : ℕ = c.in_ok-digit.digit in
+    let step : IsNarrowedTo c.args.end kept (bit_of c.keep_nearest.new.span) digit n d = c.in_ok-digit.ensures.digit in
     let low : d < base = digit_low c.args.end marked numbers n w base (weight bs c.components.i) c.components.number d kept (bit_of c.keep_nearest.new.span) digit positive some more digits step in
-    let added : c.components.number * c.from.result + c.from-in-Digit.result ≡ c.components.number * base + d =
-    ap₂ (λ b v. c.components.number * b + v) (c.from.ensures ∙ c.base-base.ensures.base) c.from-in-Digit.ensures in
+    let added : c.components.number * c.from.result + c.from-in-components.result ≡ c.components.number * base + d =
+    ap₂ (λ b v. c.components.number * b + v) (c.from.ensures ∙ c.base-base.ensures.base) c.from-in-components.ensures in
     let Small : ℕ → Type 0 = λ v. c.components.number * v + v ≤ product bs in
     let before : c.components.number * (w * base) + w * base ≤ product bs = subst Small more c.components.invariant.small in
     let fits : (c.components.number * base + d) * w + w ≤ product bs = next_small c.components.number w base d (product bs) low before in
@@ -181,16 +181,16 @@ returns-then-leads_all g c = λ p within there.
     let digit : ℕ → ℕ = λ p. get_or (g.E.Encoding.digits c.component.result.now) (64 * c.args.at + p) 0 in
     let digits_are = c.component.ensures.digits ∙ ap (λ bs. map (λ e. digit_of bs (number_or_zero e) j) entries) (sym c.bases-bases.ensures.bases) in
     let digits : (p : ℕ) → digit p ≡ numbers p / w % base = λ p. ap (λ ds. get_or ds (64 * c.args.at + p) 0) digits_are ∙ row_digit entries w base (64 * c.args.at + p) positive some in
-    let d : ℕ = c.in-Digit.digit in
-    let step : IsNarrowedTo c.args.end kept (bit_of c.keep_nearest.new.span) digit n d = rw c.in-Digit.is at c.keep_nearest.ensures.digit in
+    let d : ℕ = c.in_ok-digit.digit in
+    let step : IsNarrowedTo c.args.end kept (bit_of c.keep_nearest.new.span) digit n d = c.in_ok-digit.ensures.digit in
     let low : d < base = digit_low c.args.end marked numbers n w base (weight bs c.components.i) c.components.number d kept (bit_of c.keep_nearest.new.span) digit positive some more digits step in
-    let added : c.components.number * c.from.result + c.from-in-Digit.result ≡ c.components.number * base + d =
-    ap₂ (λ b v. c.components.number * b + v) (c.from.ensures ∙ c.base-base.ensures.base) c.from-in-Digit.ensures in
+    let added : c.components.number * c.from.result + c.from-in-components.result ≡ c.components.number * base + d =
+    ap₂ (λ b v. c.components.number * b + v) (c.from.ensures ∙ c.base-base.ensures.base) c.from-in-components.ensures in
     let lower : IsNearest c.args.end marked numbers n w (c.components.number * base + d) (bit_of c.keep_nearest.new.span) =
     component_step c.args.end marked numbers n w base (weight bs c.components.i) c.components.number d kept (bit_of c.keep_nearest.new.span) digit positive some more digits step state in
     let first = lower.first p (omega (arith, within, even)) there in
     let First : ℕ → ℕ → Type 0 = λ number v. comes_first c.args.end number (numbers p / v) in
-    let begins : First (c.components.number * c.from.result + c.from-in-Digit.result) c.weight-weight.result = rw (added, c.weight-weight.ensures.weight) first in
+    let begins : First (c.components.number * c.from.result + c.from-in-components.result) c.weight-weight.result = rw (added, c.weight-weight.ensures.weight) first in
     c.leads_all.ensures.leads c.if-leads_all.true (numbers p) begins
 
 pub components-preserved : goal.components-preserved
@@ -215,11 +215,11 @@ components-preserved g c =
     let digit : ℕ → ℕ = λ p. get_or (g.E.Encoding.digits c.component.result.now) (64 * c.args.at + p) 0 in
     let digits_are = c.component.ensures.digits ∙ ap (λ bs. map (λ e. digit_of bs (number_or_zero e) j) entries) (sym c.bases-bases.ensures.bases) in
     let digits : (p : ℕ) → digit p ≡ numbers p / w % base = λ p. ap (λ ds. get_or ds (64 * c.args.at + p) 0) digits_are ∙ row_digit entries w base (64 * c.args.at + p) positive some in
-    let d : ℕ = c.in-Digit.digit in
-    let step : IsNarrowedTo c.args.end kept (bit_of c.keep_nearest.new.span) digit n d = rw c.in-Digit.is at c.keep_nearest.ensures.digit in
+    let d : ℕ = c.in_ok-digit.digit in
+    let step : IsNarrowedTo c.args.end kept (bit_of c.keep_nearest.new.span) digit n d = c.in_ok-digit.ensures.digit in
     let low : d < base = digit_low c.args.end marked numbers n w base (weight bs c.components.i) c.components.number d kept (bit_of c.keep_nearest.new.span) digit positive some more digits step in
-    let added : c.components.number * c.from.result + c.from-in-Digit.result ≡ c.components.number * base + d =
-    ap₂ (λ b v. c.components.number * b + v) (c.from.ensures ∙ c.base-base.ensures.base) c.from-in-Digit.ensures in
+    let added : c.components.number * c.from.result + c.from-in-components.result ≡ c.components.number * base + d =
+    ap₂ (λ b v. c.components.number * b + v) (c.from.ensures ∙ c.base-base.ensures.base) c.from-in-components.ensures in
     let lower : IsNearest c.args.end marked numbers n w (c.components.number * base + d) (bit_of c.keep_nearest.new.span) =
     component_step c.args.end marked numbers n w base (weight bs c.components.i) c.components.number d kept (bit_of c.keep_nearest.new.span) digit positive some more digits step state in
     let Small : ℕ → Type 0 = λ v. c.components.number * v + v ≤ product bs in

@@ -23,7 +23,7 @@ span-preserved g c =
     let AtPlace : ℕ → Type 0 = λ r. IsEndUpto c.args.end found entries (64 * r) c.span.best in
     let AtRow : ℕ → Type 0 = λ r. IsEndUpto c.args.end found entries r (option_or c.better_in_span.result c.span.best) in
     let more = span_more c.args.end found entries (64 * at) (64 * n) (bit_of rows) bits c.span.best c.better_in_span.result (subst AtPlace from c.span.invariant) c.better_in_span.ensures in
-    rw c.or.ensures (subst AtRow to more)
+    rw c.or-best.ensures (subst AtRow to more)
 
 -- no span is left
 pub returns : goal.returns

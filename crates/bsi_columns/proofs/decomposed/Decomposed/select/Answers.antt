@@ -1,5 +1,4 @@
 use Rattle.std.proofs.Common.{◌≡◌, ◌<◌, ℕ, false, length, map, get_or, sym, ◌∙◌, arith}
-use Rattle.std.specs.Prelude.{IfSome}
 use Rattle.std.proofs.lemmas.List.{length-map}
 use Rattle.bsi_bits.specs.Packed.{bit_of}
 use Rattle.bsi_bits.proofs.Reading.{bits_are}
@@ -9,18 +8,16 @@ use Rattle.bsi_columns.specs.Decomposed.{entries_of}
 use Rattle.bsi_columns.proofs.EntriesFrom.{rows_of}
 use Rattle.bsi_columns.proofs.decomposed.Decomposed.select.Goals as goal
 
-pub returns-in-Some : goal.returns-in-Some
-returns-in-Some g c =
+pub returns-in_ok-words : goal.returns-in_ok-words
+returns-in_ok-words g c =
     let inside = c.self.inside in
     let bs = inside.bases in
     let not_null = inside.not_null.bits in
     let ds = map g.E.Encoding.digits inside.components.items in
     let entries = entries_of bs not_null ds in
     let chosen = map (answers (λ x. relates c.args.test.relation x c.args.test.constant) c.args.test.wanted) entries in
-    let told : IfSome c.in_ok-words.field-0 (λ words. (p : ℕ) → p < length entries → bit_of words.items p ≡ get_or chosen p false) =
-    rw (← c.self.view_is) at c.in_ok-words.ensures.bits in
-    let bits = rw c.in-Some.is at told in
+    let bits : (p : ℕ) → p < length entries → bit_of c.in_ok-words.words.items p ≡ get_or chosen p false = rw (← c.self.view_is) at c.in_ok-words.ensures.bits in
     let rows : c.len.result ≡ length entries = c.len.ensures.len ∙ rows_of bs not_null ds entries c.self.invariant.0 in
     let long : length chosen ≡ c.len.result = length-map entries _ ∙ sym rows in
     rw (← c.self.view_is)
-    (c.from_words.ensures ∙ sym (bits_are c.len.result c.in-Some.words.items chosen long (λ i below. sym (bits i (omega (arith, rows))))))
+    (c.from_words.ensures ∙ sym (bits_are c.len.result c.in_ok-words.words.items chosen long (λ i below. sym (bits i (omega (arith, rows))))))
