@@ -16,7 +16,5 @@ pub use bsi_schema::{ColumnSpec, Form, MAX_SLICES, Row, Schema, SchemaError};
 pub use errors::{AppendError, AskError, IndexError};
 pub use event::{CloseRefused, Event, LoadRefused, Reply, RunRefused, SubmitRefused};
 pub use query::{Answer, Pred, Query, Total};
-pub use sizes::{
-    MAX_FEEDERS, MAX_ROWS, MAX_WAITING, MakeError, check_sizes, check_table,
-};
+pub use sizes::{MAX_FEEDERS, MAX_ROWS, MAX_WAITING, MakeError, check_sizes, check_table};
 pub use std::alloc::AllocError as NoMemory;

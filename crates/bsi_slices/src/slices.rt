@@ -10,11 +10,10 @@ ghost use Rattle.bsi_orders.specs.Rows.{number_or_zero, selects};
 ghost use Rattle.bsi_slices.specs.Slices.{entries_in, IsSliced};
 ghost use Rattle.bsi_orders.specs.Totals.{IsLeastOf, IsGreatestOf};
 
-use crate::NoMemory;
-use crate::Op;
 use crate::column::Column;
 use crate::not_null::NotNull;
 use crate::transposing::{not_null_word, transpose, write_numbers};
+use crate::{NoMemory, Op};
 use bsi_bits::{Bitmaps, Bits, MAX_BLOCK, MAX_LEN};
 use compare::{keep_selected, select};
 use std::alloc::Global;

@@ -1,43 +1,55 @@
--- A table whose columns and origins grew by rows that it takes.
-use Rattle.std.proofs.Common.{◌≡◌, ℕ, ◌+◌, ◌<◌, ◌≤◌, List, ◌++◌, All, length, ap, sym, subst, ◌∙◌, arith}
+-- An index whose columns and origins grew by rows that it takes.
+use Rattle.std.proofs.Common.{◌≡◌, ℕ, ◌+◌, ◌-◌, ◌<◌, ◌≤◌, List, ◌++◌, All, length, ap, ap₂, sym, subst, ◌∙◌, arith}
 use Rattle.std.proofs.lemmas.List.{length-append, length-map}
 use Rattle.std.proofs.lemmas.List.Elements.{All-append, All-map, All-weaker}
-use Rattle.bsi_schema.specs.Columns.{NamedColumn}
+use Rattle.bsi_origins.specs.Origins.{OriginList}
+use Rattle.bsi_schema.specs.Columns.{entry_at, Declared}
 use Rattle.bsi_shift.specs.Shifted.{OffsetColumn}
+use Rattle.bsi_table.specs.Index.{AreRoomy}
 use Rattle.bsi_rows.specs.Rows.{feeders_of, FedRow}
-use Rattle.bsi_table.specs.Kept.{fed_rows, AreInRange, AreKept, AreSameColumns, HaveMore, IsTable, TakesRow}
-use Rattle.bsi_rows.specs.Table.{AreFitting, AreFrom}
-use Rattle.bsi_table.proofs.Keeping.{are_kept_same, are_kept_more, rows_taken}
-use Rattle.bsi_table.proofs.TableRows.{fed_rows-more, fed_rows-same}
+use Rattle.bsi_table.specs.Kept.{fed_rows, AreInRange, AreKept, HaveMore, IsTable, TakesRow}
+use Rattle.bsi_rows.specs.Table.{table, with_rows, AreFitting, AreFrom, Table}
+use Rattle.bsi_table.proofs.Keeping.{are_kept_more, rows_taken}
+use Rattle.bsi_table.proofs.TableRows.{fed_rows-more}
 
--- the columns got room, and then the entries of the rows
-module _ (columns : List NamedColumn) (feeders limit : ℕ) (row_feeders : List ℕ) (old : List OffsetColumn) (is : IsTable columns feeders limit row_feeders old)
-    (roomy : List OffsetColumn) (long : length roomy ≡ length old) (same : AreSameColumns old roomy)
-    (rows : List FedRow) (fit : AreFitting columns rows) (from : AreFrom feeders rows) where
-  roomy_kept : AreKept columns roomy (length row_feeders)
-  roomy_kept = are_kept_same columns old (length row_feeders) is.columns_are roomy long same
+module _ (schema : Declared) (limit : ℕ) (old : OriginList) (kept : List OffsetColumn) (is : IsTable schema.columns old.feeders limit old.rows kept)
+    (rows : List FedRow) (fit : AreFitting schema.columns rows) (from : AreFrom old.feeders rows) where
+  pub taken : All (λ row. TakesRow kept row.1) rows
+  taken = rows_taken schema.columns kept (length old.rows) is.columns_are rows fit
 
-  pub taken : All (λ row. TakesRow roomy row.1) rows
-  taken = rows_taken columns roomy (length row_feeders) roomy_kept rows fit
+  module _ (grown : List OffsetColumn) (long : length grown ≡ length kept) (more : HaveMore kept grown rows)
+      (new : OriginList) (rows_are : new.rows ≡ old.rows ++ feeders_of rows) (feeders_are : new.feeders ≡ old.feeders) where
+    length-new : length new.rows ≡ length old.rows + length rows
+    length-new = ap length rows_are ∙ length-append old.rows (feeders_of rows) ∙ ap (λ n. length old.rows + n) (length-map rows (λ row. row.0))
 
-  module _ (grown : List OffsetColumn) (grown_long : length grown ≡ length roomy) (more : HaveMore roomy grown rows) where
-    length-sources : length (row_feeders ++ feeders_of rows) ≡ length row_feeders + length rows
-    length-sources = length-append row_feeders (feeders_of rows) ∙ ap (λ n. length row_feeders + n) (length-map rows (λ row. row.0))
-
-    pub grown_table : length row_feeders + length rows ≤ limit → IsTable columns feeders limit (row_feeders ++ feeders_of rows) grown
+    pub grown_table : length old.rows + length rows ≤ limit → IsTable schema.columns new.feeders limit new.rows grown
     grown_table room = record {
-      columns_are = subst (AreKept columns grown) (sym length-sources)
-          (are_kept_more columns roomy (length row_feeders) roomy_kept grown grown_long rows
-          (All-weaker (λ row. TakesRow roomy row.1) (λ row. AreInRange roomy row.1) (λ row takes. takes.range) rows taken) more);
-      few = is.few;
-      from = All-append (λ feeder. feeder < feeders) row_feeders (feeders_of rows) is.from (All-map (λ feeder. feeder < feeders) (λ row. row.0) rows from);
-      within = omega (arith, room, length-sources);
+      columns_are = subst (AreKept schema.columns grown) (sym length-new)
+          (are_kept_more schema.columns kept (length old.rows) is.columns_are grown long rows
+          (All-weaker (λ row. TakesRow kept row.1) (λ row. AreInRange kept row.1) (λ row takes. takes.range) rows taken) more);
+      few = omega (arith, feeders_are, is.few);
+      from = subst (λ n. All (λ feeder. feeder < n) new.rows) (sym feeders_are)
+          (subst (All (λ feeder. feeder < old.feeders)) (sym rows_are)
+          (All-append (λ feeder. feeder < old.feeders) old.rows (feeders_of rows) is.from (All-map (λ feeder. feeder < old.feeders) (λ row. row.0) rows from)));
+      within = omega (arith, room, length-new);
       small = is.small;
     }
 
-    pub grown_rows : fed_rows (row_feeders ++ feeders_of rows) grown ≡ fed_rows row_feeders old ++ rows
-    grown_rows =
-        fed_rows-more row_feeders roomy grown rows grown_long
-        (All-weaker (λ row. TakesRow roomy row.1) (λ row. length row.1 ≡ length roomy) (λ row takes. takes.wide) rows taken)
-        (λ k within. (roomy_kept.each k (omega (arith, within, roomy_kept.long))).rows) more
-        ∙ ap (λ xs. xs ++ rows) (fed_rows-same row_feeders old roomy long (λ k within. (same k within).entries))
+    -- it holds these rows after its own
+    pub grown_rows : (before : Table) → table schema old.feeders limit (fed_rows old.rows kept) ≡ before → table schema new.feeders limit (fed_rows new.rows grown) ≡ with_rows before rows
+    grown_rows before was =
+        let more_rows = fed_rows-more old.rows kept grown rows long
+        (All-weaker (λ row. TakesRow kept row.1) (λ row. length row.1 ≡ length kept) (λ row takes. takes.wide) rows taken)
+        (λ k within. (is.columns_are.each k (omega (arith, within, is.columns_are.long))).rows) more in
+        ap₂ (λ n (fed : List FedRow). table schema n limit fed) feeders_are (ap (λ xs. fed_rows xs grown) rows_are ∙ more_rows)
+        ∙ ap (λ t. with_rows t rows) was
+
+    -- and has less room by as many
+    pub grown_room : (room : ℕ) → AreRoomy kept old room → length rows ≤ room → new.room + length rows ≡ old.room → AreRoomy grown new (room - length rows)
+    grown_room room roomy enough left = record {
+      within = omega (arith, roomy.within, enough, length-new);
+      columns = λ k within.
+          let here : k < length kept = omega (arith, within, long) in
+          omega (arith, (more k here).room, length-map rows (λ row. entry_at row.1 k), roomy.columns k here, enough);
+      origins = omega (arith, roomy.origins, left, enough);
+    }

@@ -7,12 +7,13 @@ use Rattle.std.proofs.lemmas.List.{length-append, length-map}
 use Rattle.std.proofs.lemmas.List.Elements.{All-append, All-cons, All-get_or, All-map, All-nil, All-weaker}
 use Rattle.bsi_columns.specs.declared.any.AnyColumn.{AnyColumn}
 use Rattle.bsi_columns.specs.AnyRows.{any_entries, any_form, any_size, size_in_form}
+use Rattle.bsi_origins.specs.Origins.{OriginList}
 use Rattle.bsi_shift.specs.Shifted.{number_of, shifted_entries, shifted_size, IsAlike, IsInRange, OffsetColumn}
 use Rattle.bsi_schema.specs.declared.form.Form.{Form}
 use Rattle.bsi_schema.specs.declared.form.Form.TheVariants.{Slices, Equality, Range}
 use Rattle.bsi_schema.specs.Columns.{column_at, fits, is_taken_by, size_in, NamedColumn}
 use Rattle.bsi_rows.specs.Rows.{column_of, entry_at, Entries, FedRow}
-use Rattle.bsi_table.specs.Kept.{kept_at, kept_form, row_in, AreInRange, AreKept, AreI64, HasMore, HaveMore, IsInForm, IsSameColumn, Keeps, TakesRow}
+use Rattle.bsi_table.specs.Kept.{kept_at, kept_form, row_in, AreInRange, AreKept, AreI64, HasMore, HaveMore, IsInForm, IsSameColumn, IsTable, Keeps, TakesRow}
 use Rattle.bsi_rows.specs.Table.{AreFitting}
 use Rattle.bsi_schema.proofs.Fitting.{fits-at, fits-each, fits-length, taken_small, within}
 use Rattle.bsi_table.proofs.TableRows.{entry-row_in}
@@ -156,3 +157,17 @@ module _ (columns : List NamedColumn) (kept : List OffsetColumn) (n : ℕ) (are 
       (λ c within.
       ap (is_taken_by (column_at columns c)) (entry-row_in kept c r (omega (arith, within, are.long)))
       ∙ taken_at (column_at columns c) (kept_at kept c) n (are.each c within) r below)
+
+-- a table whose columns and origins are the same
+pub is_table_same : (columns : List NamedColumn) (limit : ℕ) (old new : OriginList) (kept same : List OffsetColumn) → IsTable columns old.feeders limit old.rows kept
+    → length same ≡ length kept → ((k : ℕ) → k < length kept → IsSameColumn (kept_at kept k) (kept_at same k)) → new.rows ≡ old.rows → new.feeders ≡ old.feeders
+    → IsTable columns new.feeders limit new.rows same
+is_table_same columns limit old new kept same is long each rows feeders =
+    let table : IsTable columns old.feeders limit old.rows same = record {
+      columns_are = are_kept_same columns kept (length old.rows) is.columns_are same long each;
+      few = is.few;
+      from = is.from;
+      within = is.within;
+      small = is.small;
+    } in
+    subst (λ n. IsTable columns n limit new.rows same) (sym feeders) (subst (λ xs. IsTable columns old.feeders limit xs same) (sym rows) table)

@@ -1,5 +1,5 @@
 -- The columns that keep the rows of a table.
-use Rattle.std.specs.Prelude.{◌≡◌, ℕ, ◌<◌, ◌≤◌, List, [], ◌∷◌, ◌++◌, Option, None, All, length, map, slice_index, slice_index_or, ℤ, pos, ◌+ℤ◌, ◌≤ℤ◌}
+use Rattle.std.specs.Prelude.{◌≡◌, ℕ, ◌+◌, ◌<◌, ◌≤◌, List, [], ◌∷◌, ◌++◌, Option, None, All, length, map, slice_index, slice_index_or, ℤ, pos, ◌+ℤ◌, ◌≤ℤ◌}
 use Rattle.std.specs.List.{range_with_len}
 use Rattle.bsi_digits.specs.Digits.{max_end}
 use Rattle.bsi_digits.specs.Signed.{least_i64, IsI64}
@@ -70,10 +70,11 @@ pub record IsSameColumn (old new : OffsetColumn) : Type 0 where
   pub entries : shifted_entries new ≡ shifted_entries old
   pub alike : IsAlike old new
 
--- a column is another one with these entries after its own
+-- a column is another one with these entries after its own, and there is no less room but for them
 pub record HasMore (old new : OffsetColumn) (added : Entries) : Type 0 where
   pub entries : shifted_entries new ≡ shifted_entries old ++ added
   pub alike : IsAlike old new
+  pub room : shifted_room old ≤ shifted_room new + length added
 
 -- a column is another one with one more entry
 abbrev pub HasOneMore : OffsetColumn → OffsetColumn → Option ℤ → Type 0

@@ -57,6 +57,8 @@ pub(crate) fn reserve_each(columns: &mut [Shifted], more: u64) -> Result<(), NoM
         length (shifted_entries (kept_at columns.old k)) + more ≤ max_len }
     ensures same { AreSameColumns columns.old columns.new }
     ensures ok { OnOk result (HaveRoom columns.new (length columns.old) more) }
+    ensures kept { (k : ℕ) → k < length columns.old →
+        shifted_room (kept_at columns.old k) ≤ shifted_room (kept_at columns.new k) }
 {
     'columns: for column in columns.iter_mut() {
         column.reserve(more)?;

@@ -28,6 +28,9 @@ pub(crate) fn reserve_rows(
     ensures feeders { origins.new.feeders ≡ origins.old.feeders }
     ensures ok { OnOk result (HaveRoom columns.new.items (length columns.old.items) more) }
     ensures room { OnOk result (more ≤ origins.new.room) }
+    ensures kept { (k : ℕ) → k < length columns.old.items →
+        shifted_room (kept_at columns.old.items k) ≤ shifted_room (kept_at columns.new.items k) }
+    ensures kept_origins { origins.old.room ≤ origins.new.room }
 {
     reserve_each(columns, more)?;
     origins.reserve(more)
@@ -68,6 +71,7 @@ pub(crate) fn push_row(
     ensures more { HaveOneMore columns.old.items columns.new.items values.now }
     ensures rows { origins.new.rows ≡ origins.old.rows ++ feeder ∷ [] }
     ensures feeders { origins.new.feeders ≡ origins.old.feeders }
+    ensures left { origins.new.room + 1 ≡ origins.old.room }
 {
     push_each(columns, values);
     origins.push_reserved(feeder);
@@ -86,6 +90,7 @@ pub(crate) fn push_rows(columns: &mut Vec<Shifted>, origins: &mut Origins, block
     ensures more { HaveMore columns.old.items columns.new.items block.now.rows }
     ensures rows { origins.new.rows ≡ origins.old.rows ++ feeders_of block.now.rows }
     ensures feeders { origins.new.feeders ≡ origins.old.feeders }
+    ensures left { origins.new.room + length block.now.rows ≡ origins.old.room }
 {
     push_block_each(columns, block);
     push_feeders(origins, block.row_feeders());
@@ -112,6 +117,7 @@ pub(crate) fn push_all(
         (shifted_entries (kept_at others.now k)) }
     ensures rows { origins.new.rows ≡ origins.old.rows ++ other_origins.now.rows }
     ensures feeders { origins.new.feeders ≡ origins.old.feeders }
+    ensures left { origins.new.room + length other_origins.now.rows ≡ origins.old.room }
 {
     push_all_each(columns, others);
     origins.push_all_reserved(other_origins);
@@ -138,6 +144,7 @@ pub(crate) fn push_all_from(
         (shifted_entries (kept_at others.now k)) }
     ensures rows { origins.new.rows ≡ origins.old.rows ++ replicate rows feeder }
     ensures feeders { origins.new.feeders ≡ origins.old.feeders }
+    ensures left { origins.new.room + rows ≡ origins.old.room }
 {
     push_all_each(columns, others);
     origins.push_many_reserved(feeder, rows);
@@ -150,6 +157,7 @@ fn push_feeders(origins: &mut Origins, row_feeders: &[u32])
     requires bytes { origins.old.feeders ≤ max_feeders }
     ensures rows { origins.new.rows ≡ origins.old.rows ++ row_feeders.now }
     ensures feeders { origins.new.feeders ≡ origins.old.feeders }
+    ensures left { origins.new.room + length row_feeders.now ≡ origins.old.room }
 {
     'rows: for feeder in row_feeders {
         origins.push_reserved(*feeder as u8);

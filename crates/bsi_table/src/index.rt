@@ -13,6 +13,7 @@ ghost use Rattle.bsi_schema.specs.Columns.{column_at, fits};
 ghost use Rattle.bsi_rows.specs.Refusals.{index_refusal, row_refusal, rows_refusal, IsFirstOr};
 ghost use Rattle.bsi_rows.specs.RowBlocks.{entries_of, fed_as, no_block_rows, HaveSameLimits};
 ghost use Rattle.bsi_rows.specs.Rows.{column_of, holds, row_entries};
+ghost use Rattle.bsi_table.specs.Index.{table_of};
 ghost use Rattle.bsi_table.specs.Kept.{IsInForm};
 
 use crate::columns::{are_kept_alike, copy_each, make_each, read_row, select_one};
@@ -22,7 +23,7 @@ use crate::totals::answer_total;
 use crate::{
     Answer, AppendError, AskError, Block, IndexError, NoMemory, Pred, Query, Row, Schema, Total,
 };
-use bsi_bits::Bits;
+use bsi_bits::{Bits, room_to_make};
 use bsi_origins::Origins;
 use bsi_rows::check_table;
 use bsi_schema::have_same_limits;
@@ -40,27 +41,34 @@ pub struct Index {
     columns: Vec<Shifted>,
     origins: Origins,
     limit: u64,
+    // No column and not the origins have less.
+    room: u64,
 }
 
-// Clauses see the schema, the number of feeders, the limit, and the list of rows, each with its feeder.
+// Clauses see the schema, the number of feeders, the limit, the list of rows, each with its feeder, and the room.
 impl Model for Index {
     ghost use Rattle.bsi_table.specs.Kept.{fed_rows, IsTable};
-    ghost use Rattle.bsi_rows.specs.Table.{table, Table};
+    ghost use Rattle.bsi_table.specs.Index.{AreRoomy, IndexedTable};
 
-    ghost Value = { Table };
+    ghost Value = { IndexedTable };
 
-    ghost view = { λ i. table i.schema.value i.origins.feeders i.limit
-        (fed_rows i.origins.rows i.columns.items) };
+    ghost view = { λ i. record {
+      schema = i.schema.value;
+      feeders = i.origins.feeders;
+      limit = i.limit;
+      rows = fed_rows i.origins.rows i.columns.items;
+      room = i.room;
+    } };
 
     ghost invariant = { λ i. IsTable i.schema.value.columns i.origins.feeders i.limit i.origins.rows
-        i.columns.items };
+        i.columns.items × AreRoomy i.columns.items i.origins i.room };
 }
 
 impl Index {
     /// Makes an index of no rows. It drops a schema that it refuses.
     pub fn new(alloc: Global, schema: Schema, feeders: u32, limit: u64) -> Result<Index, IndexError>
         requires { (1 ≤ feeders) × (feeders ≤ max_feeders) }
-        ensures ok { IfOk result (λ index. index ≡ no_rows schema feeders limit) }
+        ensures ok { IfOk result (λ index. table_of index ≡ no_rows schema feeders limit) }
         ensures taken { OnOk result (index_refusal schema limit ≡ None) }
         ensures refused { IfErr result
             (IsFirstOr IndexError.NoMemory (index_refusal schema limit)) }
@@ -78,7 +86,8 @@ impl Index {
         limit: u64,
     ) -> Result<Index, IndexError>
         requires { (1 ≤ feeders) × (feeders ≤ max_feeders) }
-        ensures ok { IfOk result (λ index. index ≡ no_rows schema.now.value feeders limit) }
+        ensures ok { IfOk result (λ index. table_of index
+            ≡ no_rows schema.now.value feeders limit) }
         ensures taken { OnOk result (index_refusal schema.now.value limit ≡ None) }
         ensures refused { IfErr result
             (IsFirstOr IndexError.NoMemory (index_refusal schema.now.value limit)) }
@@ -97,7 +106,7 @@ impl Index {
     ) -> Result<Index, NoMemory>
         requires feeders { (1 ≤ feeders) × (feeders ≤ max_feeders) }
         requires within { limit ≤ max_rows }
-        ensures { IfOk result (λ index. index ≡ no_rows schema.value feeders limit) }
+        ensures { IfOk result (λ index. table_of index ≡ no_rows schema.value feeders limit) }
     {
         let columns = make_each(alloc, &schema)?;
         Ok(Index {
@@ -105,6 +114,7 @@ impl Index {
             columns,
             origins: Origins::new(alloc, feeders),
             limit,
+            room: 0,
         })
     }
 
@@ -130,28 +140,34 @@ impl Index {
         self.len() == 0
     }
 
-    /// Appends a row from a feeder, and returns its row position: the length before. It makes room first, so a refused
-    /// growth leaves the index as it was.
+    /// Appends a row from a feeder, and returns its row position: the length before. It takes memory only if there is no
+    /// room. It makes room first, so a refused growth leaves the index as it was.
     pub fn append(&mut self, feeder: u32, row: &Row) -> Result<u64, AppendError>
         requires fits { IsTrue (fits self.old.schema.columns row.now) }
         requires feeder { feeder < self.old.feeders }
-        ensures appended { OnOk result (self.new ≡ with_row self.old feeder row.now) }
+        ensures appended { OnOk result (table_of self.new
+            ≡ with_row (table_of self.old) feeder row.now) }
+        ensures room { OnOk result (self.old.room ≤ self.new.room + 1) }
         ensures position { IfOk result (λ position. position ≡ length self.old.rows) }
-        ensures taken { OnOk result (row_refusal self.old ≡ None) }
-        ensures refused { IfErr result (IsFirstOr AppendError.NoMemory (row_refusal self.old)) }
+        ensures taken { OnOk result (row_refusal (table_of self.old) ≡ None) }
+        ensures refused { IfErr result
+            (IsFirstOr AppendError.NoMemory (row_refusal (table_of self.old))) }
         ensures kept { OnErr result (self.new ≡ self.old) }
+        ensures succeeds { 0 < self.old.room → row_refusal (table_of self.old) ≡ None →
+            IsOk result }
     {
         let position = self.len();
         if position == self.limit() {
             return Err(AppendError::IndexFull);
         }
-        reserve_rows(&mut self.columns, &mut self.origins, 1)?;
+        self.reserve(1)?;
         push_row(
             &mut self.columns,
             &mut self.origins,
             feeder as u8,
             row.values(),
         );
+        self.room -= 1;
         Ok(position)
     }
 
@@ -162,17 +178,24 @@ impl Index {
         requires wide { length block.now.schema.columns ≡ length self.old.schema.columns }
         requires fits { AreFitting self.old.schema.columns block.now.rows }
         requires feeders { AreFrom self.old.feeders block.now.rows }
-        ensures appended { OnOk result (self.new ≡ with_rows self.old block.now.rows) }
+        ensures appended { OnOk result (table_of self.new
+            ≡ with_rows (table_of self.old) block.now.rows) }
+        ensures room { OnOk result (self.old.room ≤ self.new.room + length block.now.rows) }
         ensures position { IfOk result (λ position. position ≡ length self.old.rows) }
-        ensures taken { OnOk result (rows_refusal self.old (length block.now.rows) ≡ None) }
+        ensures taken { OnOk result
+            (rows_refusal (table_of self.old) (length block.now.rows) ≡ None) }
         ensures refused { IfErr result
-            (IsFirstOr AppendError.NoMemory (rows_refusal self.old (length block.now.rows))) }
+            (IsFirstOr AppendError.NoMemory
+            (rows_refusal (table_of self.old) (length block.now.rows))) }
         ensures kept { OnErr result (self.new ≡ self.old) }
+        ensures succeeds { length block.now.rows ≤ self.old.room →
+            rows_refusal (table_of self.old) (length block.now.rows) ≡ None → IsOk result }
     {
         let more = block.len() as u64;
         let first = self.position_for(more)?;
-        reserve_rows(&mut self.columns, &mut self.origins, more)?;
+        self.reserve(more)?;
         push_rows(&mut self.columns, &mut self.origins, block);
+        self.room -= more;
         Ok(first)
     }
 
@@ -182,18 +205,25 @@ impl Index {
     pub fn append_index(&mut self, other: &Index) -> Result<u64, AppendError>
         requires alike { AreKeptAlike self.old.schema other.now.schema }
         requires feeders { other.now.feeders ≤ self.old.feeders }
-        ensures appended { OnOk result (self.new ≡ with_rows self.old other.now.rows) }
+        ensures appended { OnOk result (table_of self.new
+            ≡ with_rows (table_of self.old) other.now.rows) }
+        ensures room { OnOk result (self.old.room ≤ self.new.room + length other.now.rows) }
         ensures position { IfOk result (λ position. position ≡ length self.old.rows) }
-        ensures taken { OnOk result (rows_refusal self.old (length other.now.rows) ≡ None) }
+        ensures taken { OnOk result
+            (rows_refusal (table_of self.old) (length other.now.rows) ≡ None) }
         ensures refused { IfErr result
-            (IsFirstOr AppendError.NoMemory (rows_refusal self.old (length other.now.rows))) }
+            (IsFirstOr AppendError.NoMemory
+            (rows_refusal (table_of self.old) (length other.now.rows))) }
         ensures kept { OnErr result (self.new ≡ self.old) }
+        ensures succeeds { length other.now.rows ≤ self.old.room →
+            rows_refusal (table_of self.old) (length other.now.rows) ≡ None → IsOk result }
     {
         let more = other.len();
         let first = self.position_for(more)?;
-        reserve_rows(&mut self.columns, &mut self.origins, more)?;
+        self.reserve(more)?;
         let (columns, origins) = (&other.columns, &other.origins);
         push_all(&mut self.columns, &mut self.origins, columns, origins);
+        self.room -= more;
         Ok(first)
     }
 
@@ -202,19 +232,30 @@ impl Index {
     pub fn append_index_from(&mut self, feeder: u32, other: &Index) -> Result<u64, AppendError>
         requires alike { AreKeptAlike self.old.schema other.now.schema }
         requires feeder { feeder < self.old.feeders }
-        ensures appended { OnOk result (self.new
-            ≡ with_rows self.old (fed_as feeder (entries_of other.now.rows))) }
+        ensures appended { OnOk result (table_of self.new
+            ≡ with_rows (table_of self.old) (fed_as feeder (entries_of other.now.rows))) }
+        ensures room { OnOk result (self.old.room ≤ self.new.room + length other.now.rows) }
         ensures position { IfOk result (λ position. position ≡ length self.old.rows) }
-        ensures taken { OnOk result (rows_refusal self.old (length other.now.rows) ≡ None) }
+        ensures taken { OnOk result
+            (rows_refusal (table_of self.old) (length other.now.rows) ≡ None) }
         ensures refused { IfErr result
-            (IsFirstOr AppendError.NoMemory (rows_refusal self.old (length other.now.rows))) }
+            (IsFirstOr AppendError.NoMemory
+            (rows_refusal (table_of self.old) (length other.now.rows))) }
         ensures kept { OnErr result (self.new ≡ self.old) }
+        ensures succeeds { length other.now.rows ≤ self.old.room →
+            rows_refusal (table_of self.old) (length other.now.rows) ≡ None → IsOk result }
     {
         let more = other.len();
         let first = self.position_for(more)?;
-        reserve_rows(&mut self.columns, &mut self.origins, more)?;
-        let (columns, feeder) = (&other.columns, feeder as u8);
-        push_all_from(&mut self.columns, &mut self.origins, columns, feeder, more);
+        self.reserve(more)?;
+        push_all_from(
+            &mut self.columns,
+            &mut self.origins,
+            &other.columns,
+            feeder as u8,
+            more,
+        );
+        self.room -= more;
         Ok(first)
     }
 
@@ -222,7 +263,7 @@ impl Index {
     fn position_for(&self, more: u64) -> Result<u64, AppendError>
         ensures position { IfOk result (λ position. position ≡ length self.now.rows) }
         ensures within { OnOk result (length self.now.rows + more ≤ self.now.limit) }
-        ensures refused { result_err result ≡ rows_refusal self.now more }
+        ensures refused { result_err result ≡ rows_refusal (table_of self.now) more }
     {
         let first = self.len();
         if more > self.limit() - first {
@@ -255,7 +296,7 @@ impl Index {
 
     /// Makes an index of no rows yet that keeps its columns as this one does, with as many feeders and the same limit.
     pub fn new_like(&self) -> Result<Index, NoMemory>
-        ensures { IfOk result (λ index. index
+        ensures { IfOk result (λ index. table_of index
             ≡ no_rows self.now.schema self.now.feeders self.now.limit) }
     {
         let schema = Arc::try_clone(&self.schema)?;
@@ -263,18 +304,41 @@ impl Index {
         Index::with_no_rows(alloc, schema, self.feeders(), self.limit())
     }
 
-    /// Makes room for `more` further rows, so that each column grows once for them. Whatever the result, the rows stay.
+    /// Returns for how many more rows there is room: to append these takes no memory.
+    pub fn room(&self) -> u64
+        ensures room { result ≡ self.now.room }
+        ensures within { length self.now.rows + result ≤ max_rows }
+    {
+        self.room
+    }
+
+    /// Makes room for `more` further rows, so that each column grows once for them. Whatever the result, the rows stay
+    /// and there is no less room than before. If it is refused, the room is as it was. It takes memory only if there is
+    /// not enough room already.
     pub fn reserve(&mut self, more: u64) -> Result<(), NoMemory>
         requires { length self.old.rows + more ≤ self.old.limit }
-        ensures { self.new ≡ self.old }
+        ensures table { table_of self.new ≡ table_of self.old }
+        ensures ok { OnOk result (more ≤ self.new.room) }
+        ensures kept { self.old.room ≤ self.new.room }
+        ensures err { OnErr result (self.new ≡ self.old) }
+        ensures succeeds { more ≤ self.old.room → IsOk result }
     {
-        reserve_rows(&mut self.columns, &mut self.origins, more)
+        if more <= self.room {
+            return Ok(());
+        }
+        let wanted = room_to_make(self.len(), more);
+        reserve_rows(&mut self.columns, &mut self.origins, wanted)?;
+        self.room = wanted;
+        Ok(())
     }
 
     /// Removes all rows. It takes no memory and keeps the room for as many.
     pub fn clear(&mut self)
-        ensures { self.new ≡ no_rows self.old.schema self.old.feeders self.old.limit }
+        ensures table { table_of self.new
+            ≡ no_rows self.old.schema self.old.feeders self.old.limit }
+        ensures room { length self.old.rows + self.old.room ≤ self.new.room }
     {
+        self.room += self.len();
         clear_rows(&mut self.columns, &mut self.origins);
     }
 
@@ -292,6 +356,8 @@ impl Index {
             length block.now.schema.columns ≡ length self.now.schema.columns }
         ensures fits { result ≡ true → AreFitting self.now.schema.columns block.now.rows }
         ensures feeders { result ≡ true → AreFrom self.now.feeders block.now.rows }
+        ensures all { block.now.feeders ≤ self.now.feeders →
+            HaveSameLimits block.now.schema self.now.schema → result ≡ true }
     {
         block.feeders() <= self.feeders() && block.has_limits_of(&self.schema)
     }
@@ -364,7 +430,7 @@ impl Index {
 
     /// Makes a second index of the same rows.
     pub fn copy(&self) -> Result<Index, NoMemory>
-        ensures { IfOk result (λ index. index ≡ self.now) }
+        ensures { IfOk result (λ index. table_of index ≡ table_of self.now) }
     {
         let schema = Arc::try_clone(&self.schema)?;
         let columns = copy_each(*self.columns.allocator(), &self.columns)?;
@@ -374,6 +440,7 @@ impl Index {
             columns,
             origins,
             limit: self.limit,
+            room: 0,
         })
     }
 

@@ -21,10 +21,9 @@ ghost use Rattle.bsi_slices.specs.Decisions.{passes};
 ghost use Rattle.bsi_orders.specs.Rows.{selects};
 ghost use Rattle.bsi_slices.specs.Slices.{entries_in, number, IsSliced};
 
-use crate::NoMemory;
-use crate::Op;
 use crate::decision::{Decision, Relation, Test, decide};
 use crate::not_null::NotNull;
+use crate::{NoMemory, Op};
 use bsi_bits::{Bits, MAX_LEN, know_fits};
 use std::alloc::Global;
 use std::simd::Simd;

@@ -8,4 +8,5 @@ abbrev pub invariant-columns : goal.invariant-columns
 invariant-columns l = record {
   same : (k : ℕ) → k < length l.columns → IsSameColumn (kept_at l.initial.columns k) (kept_at l.columns k);
   room : (k : ℕ) → k < l.column-index → l.more ≤ shifted_room (kept_at l.columns k);
+  kept : (k : ℕ) → k < length l.columns → shifted_room (kept_at l.initial.columns k) ≤ shifted_room (kept_at l.columns k);
 }

@@ -11,7 +11,7 @@ use Rattle.bsi_table.proofs.index.Index.answer.Goals as goal
 pub count_selected-requires-clause-even : goal.count_selected-requires-clause-even
 count_selected-requires-clause-even c =
     let kept = c.self.inside.columns.items in
-    let invariant = c.self.invariant.columns_are in
+    let invariant = c.self.invariant.0.columns_are in
     let rows = sym (length-fed_rows c.self.inside.origins.rows kept) ∙ ap (λ t. length t.rows) c.self.view_is ∙ sym c.len-rows.ensures.len in
     subst (λ columns. (k : ℕ) → k < length columns → length (shifted_entries (kept_at columns k)) ≡ c.len-rows.result) (sym c.deref-columns.ensures.value)
     (λ k within. (invariant.each k (omega (arith, within, invariant.long))).rows ∙ rows)
@@ -22,7 +22,7 @@ returns-in-Count-clause-answer c =
     let pred = c.args.query.now.pred in
     let row_feeders = c.self.inside.origins.rows in
     let kept = c.self.inside.columns.items in
-    let invariant = c.self.invariant.columns_are in
+    let invariant = c.self.invariant.0.columns_are in
     let long = c.len-rows.ensures.len ∙ ap (λ t. length t.rows) (sym c.self.view_is) ∙ length-fed_rows row_feeders kept in
     let all = map (λ row. holds pred row.1) (fed_rows row_feeders kept) in
     let selected = c.in_ok-count_selected.field-0 in
@@ -37,7 +37,7 @@ returns-in-Count-clause-answer c =
 pub find_rows-requires-clause-even : goal.find_rows-requires-clause-even
 find_rows-requires-clause-even c =
     let kept = c.self.inside.columns.items in
-    let invariant = c.self.invariant.columns_are in
+    let invariant = c.self.invariant.0.columns_are in
     let rows = sym (length-fed_rows c.self.inside.origins.rows kept) ∙ ap (λ t. length t.rows) c.self.view_is ∙ sym c.len-rows.ensures.len in
     subst (λ columns. (k : ℕ) → k < length columns → length (shifted_entries (kept_at columns k)) ≡ c.len-rows.result) (sym c.deref-columns.ensures.value)
     (λ k within. (invariant.each k (omega (arith, within, invariant.long))).rows ∙ rows)

@@ -1,54 +1,31 @@
-use Rattle.std.proofs.Common.{◌≡◌, ◌<◌, ◌≤◌, ◌+◌, ◌++◌, ℕ, List, length, map, replicate, refl, ap, ap₂, sym, subst, arith, ◌∙◌}
+use Rattle.std.proofs.Common.{◌≡◌, ◌<◌, ◌≤◌, ◌+◌, ◌-◌, ◌++◌, ℕ, List, length, map, replicate, refl, ap, ap₂, sym, subst, arith, ◌∙◌}
 use Rattle.std.proofs.lemmas.List.{length-map}
 use Rattle.bsi_schema.specs.Columns.{NamedColumn}
 use Rattle.bsi_shift.specs.Shifted.{shifted_entries}
+use Rattle.bsi_table.specs.Index.{table_of, AreRoomy}
 use Rattle.bsi_rows.specs.RowBlocks.{entries_of, fed_as}
-use Rattle.bsi_rows.specs.Rows.{FedRow}
-use Rattle.bsi_table.specs.Kept.{fed_rows, kept_at, AreAlikeColumns, HasMore, HaveMore, HaveRows, IsTable}
-use Rattle.bsi_rows.specs.Table.{kept_as, with_rows, AreFitting, AreKeptAlike, Table}
-use Rattle.bsi_table.proofs.Growing.{grown_rows, grown_table}
+use Rattle.bsi_rows.specs.Rows.{feeders_of, FedRow}
+use Rattle.bsi_rows.specs.Table.{kept_as, AreFitting, AreFrom, AreKeptAlike, Table}
+use Rattle.bsi_table.specs.Kept.{kept_at, AreAlikeColumns, HasMore, HaveMore, HaveRows}
+use Rattle.bsi_table.proofs.Growing.{grown_room, grown_rows, grown_table}
 use Rattle.bsi_table.proofs.Fed.{feeders-fed, fitting-fed, from-fed, have_more-fed}
 use Rattle.bsi_table.proofs.Joining.{alike_columns, fitting_others, fitting_rows, have_more}
-use Rattle.bsi_table.proofs.Keeping.{are_kept_same, on_err}
-use Rattle.bsi_table.proofs.TableRows.{fed_rows-same, length-fed_rows}
+use Rattle.bsi_table.proofs.TableRows.{length-fed_rows}
 use Rattle.bsi_table.proofs.index.Index.append_index_from.Goals as goal
-
--- there is room for so many rows within the limit
-pub reserve_rows-requires-clause-short : goal.reserve_rows-requires-clause-short
-reserve_rows-requires-clause-short c = λ k within.
-    let i = c.self.inside in
-    let rows = ap (λ t. length t.rows) (sym c.self.view_is) ∙ length-fed_rows i.origins.rows i.columns.items in
-    let limit = ap (λ t. t.limit) c.self.view_is in
-    let long = c.self.invariant.columns_are.long in
-    omega (arith, (c.self.invariant.columns_are.each k (omega (arith, within, long))).rows, rows, limit, c.in_ok-first.ensures.within, c.self.invariant.within, c.self.invariant.small)
-
-pub reserve_rows-requires-clause-few : goal.reserve_rows-requires-clause-few
-reserve_rows-requires-clause-few c =
-    let i = c.self.inside in
-    let rows = ap (λ t. length t.rows) (sym c.self.view_is) ∙ length-fed_rows i.origins.rows i.columns.items in
-    omega (arith, rows, ap (λ t. t.limit) c.self.view_is, c.in_ok-first.ensures.within, c.self.invariant.within, c.self.invariant.small)
-
-pub returns-in_err-reserve_rows-clause-kept : goal.returns-in_err-reserve_rows-clause-kept
-returns-in_err-reserve_rows-clause-kept c =
-    let i = c.self.inside in
-    let e = c.in_err-reserve_rows.ensures in
-    let table : ℕ → List FedRow → Table = λ feeders rows. record { schema = i.schema.value; feeders = feeders; limit = i.limit; rows = rows } in
-    let same = ap (λ xs. fed_rows xs c.reserve_rows.new.columns.items) e.rows
-    ∙ fed_rows-same i.origins.rows i.columns.items c.reserve_rows.new.columns.items e.long (λ k within. (e.same k within).entries) in
-    on_err c.from_residual-in_err-reserve_rows.result (ap₂ table e.feeders same ∙ c.self.view_is)
 
 -- the other index keeps its columns alike
 pub push_all_from-requires-clause-long : goal.push_all_from-requires-clause-long
 push_all_from-requires-clause-long c =
     let i = c.self.inside in
     let o = c.other.inside in
-    let schemas = ap (λ t. map kept_as t.schema.columns) c.self.view_is ∙ c.requires.alike ∙ sym (ap (λ t. map kept_as t.schema.columns) c.other.view_is) in
+    let same = ap table_of c.self.view_is ∙ c.in_ok-reserve.ensures.table in
+    let theirs = ap table_of c.other.view_is in
+    let schemas = ap (λ t. map kept_as t.schema.columns) same ∙ c.requires.alike ∙ sym (ap (λ t. map kept_as t.schema.columns) theirs) in
     omega (
       arith,
       ap length c.deref.ensures.value,
-      c.other.invariant.columns_are.long,
-      c.self.invariant.columns_are.long,
-      c.in_ok-reserve_rows.ensures.long,
+      c.other.invariant.0.columns_are.long,
+      c.self.invariant.0.columns_are.long,
       ap length schemas,
       length-map i.schema.value.columns kept_as,
       length-map o.schema.value.columns kept_as,
@@ -58,31 +35,32 @@ pub push_all_from-requires-clause-alike : goal.push_all_from-requires-clause-ali
 push_all_from-requires-clause-alike c =
     let i = c.self.inside in
     let o = c.other.inside in
-    let e = c.in_ok-reserve_rows.ensures in
-    let schemas = ap (λ t. map kept_as t.schema.columns) c.self.view_is ∙ c.requires.alike ∙ sym (ap (λ t. map kept_as t.schema.columns) c.other.view_is) in
-    let roomy = are_kept_same i.schema.value.columns i.columns.items (length i.origins.rows) c.self.invariant.columns_are c.reserve_rows.new.columns.items e.long e.same in
-    subst (AreAlikeColumns c.reserve_rows.new.columns.items) (sym c.deref.ensures.value)
-    (alike_columns i.schema.value.columns o.schema.value.columns c.reserve_rows.new.columns.items o.columns.items (length i.origins.rows) (length o.origins.rows) roomy c.other.invariant.columns_are schemas)
+    let same = ap table_of c.self.view_is ∙ c.in_ok-reserve.ensures.table in
+    let theirs = ap table_of c.other.view_is in
+    let schemas = ap (λ t. map kept_as t.schema.columns) same ∙ c.requires.alike ∙ sym (ap (λ t. map kept_as t.schema.columns) theirs) in
+    subst (AreAlikeColumns i.columns.items) (sym c.deref.ensures.value)
+    (alike_columns i.schema.value.columns o.schema.value.columns i.columns.items o.columns.items (length i.origins.rows) (length o.origins.rows)
+    c.self.invariant.0.columns_are c.other.invariant.0.columns_are schemas)
 
 pub push_all_from-requires-clause-even : goal.push_all_from-requires-clause-even
 push_all_from-requires-clause-even c = λ k within.
     let o = c.other.inside in
     let rows = ap (λ t. length t.rows) (sym c.other.view_is) ∙ length-fed_rows o.origins.rows o.columns.items in
     subst (λ xs. length (shifted_entries (kept_at xs k)) ≡ c.len-more.result) (sym c.deref.ensures.value)
-    ((c.other.invariant.columns_are.each k (omega (arith, within, ap length c.deref.ensures.value, c.other.invariant.columns_are.long))).rows ∙ sym rows ∙ sym c.len-more.ensures.len)
+    ((c.other.invariant.0.columns_are.each k (omega (arith, within, ap length c.deref.ensures.value, c.other.invariant.0.columns_are.long))).rows ∙ sym rows ∙ sym c.len-more.ensures.len)
 
 -- there is room for its rows
 pub push_all_from-requires-clause-room : goal.push_all_from-requires-clause-room
 push_all_from-requires-clause-room c = λ k within.
     let o = c.other.inside in
     let rows = ap (λ t. length t.rows) (sym c.other.view_is) ∙ length-fed_rows o.origins.rows o.columns.items in
-    omega (arith, c.in_ok-reserve_rows.ensures.ok k (omega (arith, within, c.in_ok-reserve_rows.ensures.long)), c.len-more.ensures.len, rows)
+    omega (arith, c.self.invariant.1.columns k within, c.in_ok-reserve.ensures.ok, ap (λ t. t.room) c.self.view_is, c.len-more.ensures.len, rows)
 
 pub push_all_from-requires-clause-reserved : goal.push_all_from-requires-clause-reserved
 push_all_from-requires-clause-reserved c =
     let o = c.other.inside in
     let rows = ap (λ t. length t.rows) (sym c.other.view_is) ∙ length-fed_rows o.origins.rows o.columns.items in
-    omega (arith, c.in_ok-reserve_rows.ensures.room, c.len-more.ensures.len, rows)
+    omega (arith, c.self.invariant.1.origins, c.in_ok-reserve.ensures.ok, ap (λ t. t.room) c.self.view_is, c.len-more.ensures.len, rows)
 
 -- its rows fit
 others_fit : (first second : Table) (columns : List NamedColumn) (mine : Table) → mine ≡ first → columns ≡ mine.schema.columns
@@ -91,79 +69,84 @@ others_fit first second columns mine is same alike fitting =
     subst (λ cs. AreFitting cs second.rows) (sym same)
     (subst (λ (t : Table). AreFitting t.schema.columns second.rows) (sym is) (fitting_others first.schema second.schema alike second.rows fitting))
 
-pub invariant_of-self-2 : goal.invariant_of-self-2
-invariant_of-self-2 c =
+pub invariant_of-self : goal.invariant_of-self
+invariant_of-self c =
     let i = c.self.inside in
     let o = c.other.inside in
-    let e = c.in_ok-reserve_rows.ensures in
-    let columns = i.schema.value.columns in
-    let f = c.args.feeder in
-    let theirs = c.args.other.now.rows in
-    let rows = fed_as f (entries_of theirs) in
-    let reserved = c.reserve_rows.new.columns.items in
+    let same = ap table_of c.self.view_is ∙ c.in_ok-reserve.ensures.table in
+    let theirs = ap table_of c.other.view_is in
+    let schemas = ap (λ t. map kept_as t.schema.columns) same ∙ c.requires.alike ∙ sym (ap (λ t. map kept_as t.schema.columns) theirs) in
+    let their_rows = c.args.other.now.rows in
+    let reserved = i.columns.items in
     let pushed = c.push_all_from.new.columns.items in
     let others = o.columns.items in
-    let schemas = ap (λ t. map kept_as t.schema.columns) c.self.view_is ∙ c.requires.alike ∙ sym (ap (λ t. map kept_as t.schema.columns) c.other.view_is) in
     let long : length others ≡ length reserved = omega (
       arith,
-      c.other.invariant.columns_are.long,
-      c.self.invariant.columns_are.long,
-      e.long,
+      c.other.invariant.0.columns_are.long,
+      c.self.invariant.0.columns_are.long,
       ap length schemas,
       length-map i.schema.value.columns kept_as,
       length-map o.schema.value.columns kept_as,
     ) in
     let each : (k : ℕ) → k < length reserved → HasMore (kept_at reserved k) (kept_at pushed k) (shifted_entries (kept_at others k)) =
     subst (λ xs. (k : ℕ) → k < length reserved → HasMore (kept_at reserved k) (kept_at pushed k) (shifted_entries (kept_at xs k))) c.deref.ensures.value c.push_all_from.ensures.more in
-    let even : HaveRows others (length o.origins.rows) = λ k within. (c.other.invariant.columns_are.each k (omega (arith, within, c.other.invariant.columns_are.long))).rows in
-    let more : HaveMore reserved pushed rows = have_more-fed f reserved pushed theirs (subst (λ (t : Table). HaveMore reserved pushed t.rows) c.other.view_is (have_more reserved pushed others o.origins.rows long even each)) in
+    let even : HaveRows others (length o.origins.rows) = λ k within. (c.other.invariant.0.columns_are.each k (omega (arith, within, c.other.invariant.0.columns_are.long))).rows in
+    let plain : HaveMore reserved pushed their_rows = subst (λ (t : Table). HaveMore reserved pushed t.rows) theirs (have_more reserved pushed others o.origins.rows long even each) in
+    let fitting = subst (λ (t : Table). AreFitting t.schema.columns t.rows) theirs
+    (fitting_rows o.schema.value.columns o.origins.feeders o.limit o.origins.rows o.columns.items c.other.invariant.0) in
+    let plain_fit = others_fit (table_of c.args.self.now) (table_of c.args.other.now) i.schema.value.columns _ same refl c.requires.alike fitting in
+    let f = c.args.feeder in
+    let rows = fed_as f (entries_of their_rows) in
+    let many : length rows ≡ length their_rows = length-map (entries_of their_rows) _ ∙ length-map their_rows _ in
+    let more : HaveMore reserved pushed rows = have_more-fed f reserved pushed their_rows plain in
+    let fit = fitting-fed f i.schema.value.columns their_rows plain_fit in
+    let from = from-fed f i.origins.feeders their_rows (omega (arith, c.requires.feeder, ap (λ t. t.feeders) same)) in
     let row_feeders = c.push_all_from.ensures.rows
-    ∙ ap₂ (λ (xs ys : List ℕ). xs ++ ys) e.rows (ap (λ n. replicate n f) c.len-more.ensures.len ∙ sym (feeders-fed f theirs)) in
-    let fitting = subst (λ (t : Table). AreFitting t.schema.columns t.rows) c.other.view_is
-    (fitting_rows o.schema.value.columns o.origins.feeders o.limit o.origins.rows o.columns.items c.other.invariant) in
-    let fit = fitting-fed f columns theirs (others_fit c.args.self.now c.args.other.now columns _ c.self.view_is refl c.requires.alike fitting) in
-    let from = from-fed f i.origins.feeders theirs (omega (arith, c.requires.feeder, ap (λ t. t.feeders) c.self.view_is)) in
-    let before = ap (λ t. length t.rows) (sym c.self.view_is) ∙ length-fed_rows i.origins.rows i.columns.items in
-    let many : length rows ≡ length theirs = length-map (entries_of theirs) _ ∙ length-map theirs _ in
-    let room : length i.origins.rows + length rows ≤ i.limit =
-    omega (arith, many, before, ap (λ t. t.limit) c.self.view_is, c.in_ok-first.ensures.within, c.len-more.ensures.len, c.self.invariant.within) in
-    let table = grown_table columns i.origins.feeders i.limit i.origins.rows i.columns.items c.self.invariant reserved e.long e.same rows fit from pushed c.push_all_from.ensures.long more room in
-    subst (λ n. IsTable columns n i.limit c.push_all_from.new.origins.rows pushed) (sym (c.push_all_from.ensures.feeders ∙ e.feeders))
-    (subst (λ xs. IsTable columns i.origins.feeders i.limit xs pushed) (sym row_feeders) table)
+    ∙ ap (λ ys. i.origins.rows ++ ys) (ap (λ n. replicate n f) c.len-more.ensures.len ∙ sym (feeders-fed f their_rows)) in
+    let before = ap (λ t. length t.rows) (sym same) ∙ length-fed_rows i.origins.rows i.columns.items in
+    let limit = ap (λ t. t.limit) same in
+    let counted = ap (λ t. length t.rows) (sym c.other.view_is) ∙ length-fed_rows o.origins.rows o.columns.items in
+    let room : length rows ≤ i.room = omega (arith, many, c.in_ok-reserve.ensures.ok, c.len-more.ensures.len, ap (λ t. t.room) c.self.view_is) in (
+      grown_table i.schema.value i.limit i.origins reserved c.self.invariant.0 rows fit from pushed c.push_all_from.ensures.long more
+          c.push_all_from.new.origins row_feeders c.push_all_from.ensures.feeders (omega (arith, many, before, limit, c.in_ok-first.ensures.within, c.len-more.ensures.len)),
+      subst (λ n. AreRoomy pushed c.push_all_from.new.origins (i.room - n)) (many ∙ sym c.len-more.ensures.len)
+          (grown_room i.schema.value i.limit i.origins reserved c.self.invariant.0 rows fit from pushed c.push_all_from.ensures.long more
+          c.push_all_from.new.origins row_feeders c.push_all_from.ensures.feeders i.room c.self.invariant.1 room (omega (arith, many, counted, c.push_all_from.ensures.left, c.len-more.ensures.len))),
+    )
 
 pub returns-clause-appended : goal.returns-clause-appended
 returns-clause-appended c =
     let i = c.self.inside in
     let o = c.other.inside in
-    let e = c.in_ok-reserve_rows.ensures in
-    let columns = i.schema.value.columns in
-    let f = c.args.feeder in
-    let theirs = c.args.other.now.rows in
-    let rows = fed_as f (entries_of theirs) in
-    let reserved = c.reserve_rows.new.columns.items in
+    let same = ap table_of c.self.view_is ∙ c.in_ok-reserve.ensures.table in
+    let theirs = ap table_of c.other.view_is in
+    let schemas = ap (λ t. map kept_as t.schema.columns) same ∙ c.requires.alike ∙ sym (ap (λ t. map kept_as t.schema.columns) theirs) in
+    let their_rows = c.args.other.now.rows in
+    let reserved = i.columns.items in
     let pushed = c.push_all_from.new.columns.items in
     let others = o.columns.items in
-    let schemas = ap (λ t. map kept_as t.schema.columns) c.self.view_is ∙ c.requires.alike ∙ sym (ap (λ t. map kept_as t.schema.columns) c.other.view_is) in
     let long : length others ≡ length reserved = omega (
       arith,
-      c.other.invariant.columns_are.long,
-      c.self.invariant.columns_are.long,
-      e.long,
+      c.other.invariant.0.columns_are.long,
+      c.self.invariant.0.columns_are.long,
       ap length schemas,
       length-map i.schema.value.columns kept_as,
       length-map o.schema.value.columns kept_as,
     ) in
     let each : (k : ℕ) → k < length reserved → HasMore (kept_at reserved k) (kept_at pushed k) (shifted_entries (kept_at others k)) =
     subst (λ xs. (k : ℕ) → k < length reserved → HasMore (kept_at reserved k) (kept_at pushed k) (shifted_entries (kept_at xs k))) c.deref.ensures.value c.push_all_from.ensures.more in
-    let even : HaveRows others (length o.origins.rows) = λ k within. (c.other.invariant.columns_are.each k (omega (arith, within, c.other.invariant.columns_are.long))).rows in
-    let more : HaveMore reserved pushed rows = have_more-fed f reserved pushed theirs (subst (λ (t : Table). HaveMore reserved pushed t.rows) c.other.view_is (have_more reserved pushed others o.origins.rows long even each)) in
+    let even : HaveRows others (length o.origins.rows) = λ k within. (c.other.invariant.0.columns_are.each k (omega (arith, within, c.other.invariant.0.columns_are.long))).rows in
+    let plain : HaveMore reserved pushed their_rows = subst (λ (t : Table). HaveMore reserved pushed t.rows) theirs (have_more reserved pushed others o.origins.rows long even each) in
+    let fitting = subst (λ (t : Table). AreFitting t.schema.columns t.rows) theirs
+    (fitting_rows o.schema.value.columns o.origins.feeders o.limit o.origins.rows o.columns.items c.other.invariant.0) in
+    let plain_fit = others_fit (table_of c.args.self.now) (table_of c.args.other.now) i.schema.value.columns _ same refl c.requires.alike fitting in
+    let f = c.args.feeder in
+    let rows = fed_as f (entries_of their_rows) in
+    let many : length rows ≡ length their_rows = length-map (entries_of their_rows) _ ∙ length-map their_rows _ in
+    let more : HaveMore reserved pushed rows = have_more-fed f reserved pushed their_rows plain in
+    let fit = fitting-fed f i.schema.value.columns their_rows plain_fit in
+    let from = from-fed f i.origins.feeders their_rows (omega (arith, c.requires.feeder, ap (λ t. t.feeders) same)) in
     let row_feeders = c.push_all_from.ensures.rows
-    ∙ ap₂ (λ (xs ys : List ℕ). xs ++ ys) e.rows (ap (λ n. replicate n f) c.len-more.ensures.len ∙ sym (feeders-fed f theirs)) in
-    let fitting = subst (λ (t : Table). AreFitting t.schema.columns t.rows) c.other.view_is
-    (fitting_rows o.schema.value.columns o.origins.feeders o.limit o.origins.rows o.columns.items c.other.invariant) in
-    let fit = fitting-fed f columns theirs (others_fit c.args.self.now c.args.other.now columns _ c.self.view_is refl c.requires.alike fitting) in
-    let from = from-fed f i.origins.feeders theirs (omega (arith, c.requires.feeder, ap (λ t. t.feeders) c.self.view_is)) in
-    let grown = grown_rows columns i.origins.feeders i.limit i.origins.rows i.columns.items c.self.invariant reserved e.long e.same rows fit from pushed c.push_all_from.ensures.long more in
-    let table : ℕ → List FedRow → Table = λ feeders rows. record { schema = i.schema.value; feeders = feeders; limit = i.limit; rows = rows } in
-    ap₂ table (c.push_all_from.ensures.feeders ∙ e.feeders) (ap (λ xs. fed_rows xs pushed) row_feeders ∙ grown)
-    ∙ ap (λ t. with_rows t rows) c.self.view_is
+    ∙ ap (λ ys. i.origins.rows ++ ys) (ap (λ n. replicate n f) c.len-more.ensures.len ∙ sym (feeders-fed f their_rows)) in
+    grown_rows i.schema.value i.limit i.origins reserved c.self.invariant.0 rows fit from pushed c.push_all_from.ensures.long more
+    c.push_all_from.new.origins row_feeders c.push_all_from.ensures.feeders (table_of c.args.self.now) same

@@ -4,16 +4,17 @@ use Rattle.std.proofs.lemmas.List.Elements.{All-nil}
 use Rattle.bsi_schema.specs.Columns.{column_at}
 use Rattle.bsi_rows.specs.Rows.{FedRow}
 use Rattle.bsi_table.specs.Kept.{kept_at, AreKept}
-use Rattle.bsi_rows.specs.Table.{no_rows, Table}
+use Rattle.bsi_rows.specs.Table.{no_rows, table}
 use Rattle.bsi_table.proofs.Keeping.{keeps_none}
-use Rattle.bsi_table.proofs.TableRows.{fed_rows-none}
+use Rattle.bsi_table.proofs.TableRows.{fed_rows-none, length-fed_rows}
 use Rattle.bsi_table.proofs.index.Index.clear.Goals as goal
 
 -- the columns are kept as they were, with no row
 pub invariant_of-self : goal.invariant_of-self
 invariant_of-self c =
     let i = c.self.inside in
-    let was = c.self.invariant in
+    let was = c.self.invariant.0 in
+    let lens = ap (λ t. length t.rows) (sym c.self.view_is) ∙ length-fed_rows i.origins.rows i.columns.items in
     let e = c.clear_rows.ensures in
     let columns = i.schema.value.columns in
     let new = c.clear_rows.new.columns.items in
@@ -22,18 +23,23 @@ invariant_of-self c =
       each = λ k below.
           let there : k < length i.columns.items = omega (arith, below, was.columns_are.long) in
           keeps_none (column_at columns k) (kept_at i.columns.items k) (length i.origins.rows) (was.columns_are.each k below) (kept_at new k) (e.alike k there) (e.empty k there);
-    } in
-    record {
-      columns_are = subst (AreKept columns new) (sym (ap length e.rows)) kept;
-      few = omega (arith, e.feeders, was.few);
-      from = subst (All (λ feeder. feeder < c.clear_rows.new.origins.feeders)) (sym e.rows) (All-nil (λ feeder. feeder < c.clear_rows.new.origins.feeders));
-      within = omega (arith, ap length e.rows);
-      small = was.small;
-    }
+    } in (
+      record {
+        columns_are = subst (AreKept columns new) (sym (ap length e.rows)) kept;
+        few = omega (arith, e.feeders, was.few);
+        from = subst (All (λ feeder. feeder < c.clear_rows.new.origins.feeders)) (sym e.rows) (All-nil (λ feeder. feeder < c.clear_rows.new.origins.feeders));
+        within = omega (arith, ap length e.rows);
+        small = was.small;
+      },
+      record {
+        within = omega (arith, ap length e.rows, c.self.invariant.1.within, c.len.ensures.len, lens);
+        columns = λ k within. let there : k < length i.columns.items = omega (arith, within, e.long) in omega (arith, e.room k there, c.self.invariant.1.columns k there, (was.columns_are.each k (omega (arith, there, was.columns_are.long))).rows, lens, c.len.ensures.len);
+        origins = omega (arith, e.reserved, c.self.invariant.1.origins, c.len.ensures.len, lens);
+      },
+    )
 
-pub returns : goal.returns
-returns c =
+pub returns-clause-table : goal.returns-clause-table
+returns-clause-table c =
     let i = c.self.inside in
-    let table : ℕ → List FedRow → Table = λ feeders rows. record { schema = i.schema.value; feeders = feeders; limit = i.limit; rows = rows } in
-    ap₂ table c.clear_rows.ensures.feeders (fed_rows-none c.clear_rows.new.origins.rows c.clear_rows.new.columns.items c.clear_rows.ensures.rows)
+    ap₂ (λ feeders rows. table i.schema.value feeders i.limit rows) c.clear_rows.ensures.feeders (fed_rows-none c.clear_rows.new.origins.rows c.clear_rows.new.columns.items c.clear_rows.ensures.rows)
     ∙ ap (λ t. no_rows t.schema t.feeders t.limit) c.self.view_is

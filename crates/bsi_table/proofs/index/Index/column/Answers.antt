@@ -7,7 +7,7 @@ use Rattle.bsi_table.proofs.index.Index.column.Goals as goal
 pub returns-clause-entries : goal.returns-clause-entries
 returns-clause-entries c =
     let kept = c.self.inside.columns.items in
-    let invariant = c.self.invariant.columns_are in
+    let invariant = c.self.invariant.0.columns_are in
     let columns = ap (λ t. length t.schema.columns) c.self.view_is in
     let there : c.args.c < length c.self.inside.schema.value.columns = omega (arith, c.requires, columns) in
     let within : c.args.c < length kept = omega (arith, there, invariant.long) in

@@ -1,7 +1,8 @@
-use Rattle.std.proofs.Common.{◌<◌, ℕ, List, length, ap, ap₂, sym, subst, ◌∙◌}
+use Rattle.std.proofs.Common.{◌<◌, ℕ, List, length, ap, ap₂, sym, subst, arith, ◌∙◌}
 use Rattle.bsi_shift.specs.Shifted.{OffsetColumn}
 use Rattle.bsi_schema.specs.Columns.{Declared}
 use Rattle.bsi_rows.specs.Rows.{FedRow}
+use Rattle.bsi_table.specs.Index.{table_of}
 use Rattle.bsi_table.specs.Kept.{fed_rows, kept_at, IsSameColumn, IsTable}
 use Rattle.bsi_rows.specs.Table.{Table}
 use Rattle.bsi_table.proofs.Keeping.{are_kept_same}
@@ -19,15 +20,18 @@ invariant_of-result c =
     let same : (k : ℕ) → k < length old → IsSameColumn (kept_at old k) (kept_at new k) =
     subst (λ (columns : List OffsetColumn). (k : ℕ) → k < length columns → IsSameColumn (kept_at columns k) (kept_at new k)) c.deref.ensures.value c.in_ok-columns.ensures.same in
     let table : IsTable i.schema.value.columns i.origins.feeders i.limit i.origins.rows new = record {
-      columns_are = are_kept_same i.schema.value.columns old (length i.origins.rows) c.self.invariant.columns_are new long same;
-      few = c.self.invariant.few;
-      from = c.self.invariant.from;
-      within = c.self.invariant.within;
-      small = c.self.invariant.small;
+      columns_are = are_kept_same i.schema.value.columns old (length i.origins.rows) c.self.invariant.0.columns_are new long same;
+      few = c.self.invariant.0.few;
+      from = c.self.invariant.0.from;
+      within = c.self.invariant.0.within;
+      small = c.self.invariant.0.small;
     } in
-    subst (λ (schema : Declared). IsTable schema.columns c.in_ok-origins.origins.feeders i.limit c.in_ok-origins.origins.rows new) (sym c.in_ok-schema.ensures)
+    let mine = subst (λ (schema : Declared). IsTable schema.columns c.in_ok-origins.origins.feeders i.limit c.in_ok-origins.origins.rows new) (sym c.in_ok-schema.ensures)
     (subst (λ n. IsTable i.schema.value.columns n i.limit c.in_ok-origins.origins.rows new) (sym feeders)
-    (subst (λ xs. IsTable i.schema.value.columns i.origins.feeders i.limit xs new) (sym row_feeders) table))
+    (subst (λ xs. IsTable i.schema.value.columns i.origins.feeders i.limit xs new) (sym row_feeders) table)) in (
+      mine,
+      record { within = omega (arith, mine.within, mine.small); columns = λ k within. omega arith; origins = omega arith },
+    )
 
 pub returns : goal.returns
 returns c =
@@ -41,4 +45,4 @@ returns c =
     subst (λ (columns : List OffsetColumn). (k : ℕ) → k < length columns → IsSameColumn (kept_at columns k) (kept_at new k)) c.deref.ensures.value c.in_ok-columns.ensures.same in
     let rows = ap (λ xs. fed_rows xs new) row_feeders ∙ fed_rows-same i.origins.rows old new long (λ k within. (same k within).entries) in
     let table : Declared → ℕ → List FedRow → Table = λ schema n rows. record { schema = schema; feeders = n; limit = i.limit; rows = rows } in
-    ap (λ n. table c.in_ok-schema.schema.value n (fed_rows c.in_ok-origins.origins.rows new)) feeders ∙ ap₂ (λ schema rows. table schema i.origins.feeders rows) c.in_ok-schema.ensures rows ∙ c.self.view_is
+    ap (λ n. table c.in_ok-schema.schema.value n (fed_rows c.in_ok-origins.origins.rows new)) feeders ∙ ap₂ (λ schema rows. table schema i.origins.feeders rows) c.in_ok-schema.ensures rows ∙ ap table_of c.self.view_is

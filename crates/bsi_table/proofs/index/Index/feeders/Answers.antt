@@ -10,5 +10,5 @@ returns-clause-from c =
     let i = c.self.inside in
     let rows : AreFrom i.origins.feeders (fed_rows i.origins.rows i.columns.items) =
     All-fed_rows i.origins.rows i.columns.items (λ row. row.0 < i.origins.feeders)
-    (λ r below. All-get_or (λ feeder. feeder < i.origins.feeders) i.origins.rows r 0 below c.self.invariant.from) in
+    (λ r below. All-get_or (λ feeder. feeder < i.origins.feeders) i.origins.rows r 0 below c.self.invariant.0.from) in
     subst (λ t. AreFrom t.feeders t.rows) c.self.view_is rows

@@ -9,7 +9,7 @@ use Rattle.bsi_table.proofs.index.Index.find.Goals as goal
 pub find_rows-requires-clause-even : goal.find_rows-requires-clause-even
 find_rows-requires-clause-even c =
     let kept = c.self.inside.columns.items in
-    let invariant = c.self.invariant.columns_are in
+    let invariant = c.self.invariant.0.columns_are in
     let rows = sym (length-fed_rows c.self.inside.origins.rows kept) ∙ ap (λ t. length t.rows) c.self.view_is ∙ sym c.len-rows.ensures.len in
     subst (λ columns. (k : ℕ) → k < length columns → length (shifted_entries (kept_at columns k)) ≡ c.len-rows.result) (sym c.deref-columns.ensures.value)
     (λ k within. (invariant.each k (omega (arith, within, invariant.long))).rows ∙ rows)

@@ -16,7 +16,7 @@ returns-then-feeders-clause-alike c = λ same.
     let long = sym (ap length others) ∙ c.are_kept_alike.ensures.long same ∙ ap length own in
     sym (ap (λ t. map kept_as t.schema.columns) c.self.view_is)
     ∙ alike_schemas i.schema.value.columns o.schema.value.columns i.columns.items o.columns.items (length i.origins.rows) (length o.origins.rows)
-    c.self.invariant.columns_are c.other.invariant.columns_are long alike
+    c.self.invariant.0.columns_are c.other.invariant.0.columns_are long alike
     ∙ ap (λ t. map kept_as t.schema.columns) c.other.view_is
 
 -- and where they are kept alike, each column is found to be
@@ -30,8 +30,8 @@ returns-then-feeders-clause-all c = λ few kept.
     let theirs = o.schema.value.columns in
     let same : map kept_as mine ≡ map kept_as theirs =
     ap (λ t. map kept_as t.schema.columns) c.self.view_is ∙ kept ∙ sym (ap (λ t. map kept_as t.schema.columns) c.other.view_is) in
-    let alike = alike_columns mine theirs i.columns.items o.columns.items (length i.origins.rows) (length o.origins.rows) c.self.invariant.columns_are c.other.invariant.columns_are same in
+    let alike = alike_columns mine theirs i.columns.items o.columns.items (length i.origins.rows) (length o.origins.rows) c.self.invariant.0.columns_are c.other.invariant.0.columns_are same in
     let long : length o.columns.items ≡ length i.columns.items =
-    omega (arith, c.self.invariant.columns_are.long, c.other.invariant.columns_are.long, ap length same, length-map mine kept_as, length-map theirs kept_as) in
+    omega (arith, c.self.invariant.0.columns_are.long, c.other.invariant.0.columns_are.long, ap length same, length-map mine kept_as, length-map theirs kept_as) in
     c.are_kept_alike.ensures.all (ap length others ∙ long ∙ sym (ap length own))
     (subst (λ xs. AreAlikeColumns xs c.deref-then-feeders.result.now) (sym own) (subst (λ xs. AreAlikeColumns i.columns.items xs) (sym others) alike))

@@ -15,7 +15,7 @@ read_row-requires-clause-even c = λ k within.
     let rows = ap (λ t. length t.rows) (sym c.self.view_is) ∙ length-fed_rows i.origins.rows i.columns.items in
     let bits = ap length c.in_ok-only.ensures ∙ length-map-range_with_len (nat_eq c.args.r) 0 c.len.result in
     subst (λ xs. length (shifted_entries (kept_at xs k)) ≡ length c.in_ok-only.only.bits) (sym c.deref.ensures.value)
-    ((c.self.invariant.columns_are.each k (omega (arith, within, ap length c.deref.ensures.value, c.self.invariant.columns_are.long))).rows
+    ((c.self.invariant.0.columns_are.each k (omega (arith, within, ap length c.deref.ensures.value, c.self.invariant.0.columns_are.long))).rows
     ∙ sym rows ∙ sym c.len.ensures.len ∙ sym bits)
 
 pub read_row-requires-clause-only : goal.read_row-requires-clause-only

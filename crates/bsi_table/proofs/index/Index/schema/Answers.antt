@@ -11,5 +11,5 @@ returns-clause-fitting c =
     let i = c.self.inside in
     let rows : AreFitting i.schema.value.columns (fed_rows i.origins.rows i.columns.items) =
     All-fed_rows i.origins.rows i.columns.items (λ row. fits i.schema.value.columns row.1 ≡ true)
-    (λ r below. row_in-fits i.schema.value.columns i.columns.items (length i.origins.rows) c.self.invariant.columns_are r below) in
+    (λ r below. row_in-fits i.schema.value.columns i.columns.items (length i.origins.rows) c.self.invariant.0.columns_are r below) in
     subst (λ t. AreFitting t.schema.columns t.rows) c.self.view_is rows
