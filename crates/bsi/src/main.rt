@@ -11,7 +11,7 @@ fn main(rt: HostRuntime) -> ExitCode {
     let (mut output, mut faults) = (rt.stdout(), rt.stderr());
     let status = match read_words(&rt) {
         Ok(words) => run_words(&rt, words, rt.stdin(), &mut output, &mut faults),
-        Err(_) => tell_fault(ScriptFault::NoMemory, &mut faults),
+        Err(_) => tell_fault(ScriptFault::NoMemory.text(), &mut faults),
     };
     ExitCode::from(status)
 }

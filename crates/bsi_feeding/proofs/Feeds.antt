@@ -2,7 +2,7 @@
 use Rattle.std.proofs.Common.{◌≡◌, ℕ, ◌+◌, ◌≤◌, false, List, [], ◌++◌, Option, Some, None, IfSome, length, refl, sym, ap, ◌∙◌, subst, arith, length-append}
 use Rattle.std.specs.Prelude.{Ok, Err, MatchOption}
 use Rattle.std.proofs.lemmas.List.{append_assoc, append-nil}
-use Rattle.bsi_rings.specs.Rings.{with_sent_rows, Sending}
+use Rattle.bsi_rings.specs.Rings.{with_look, with_sent_rows, Sending}
 use Rattle.bsi_rows.specs.Rows.{Entries}
 use Rattle.csv.specs.declared.reader.Reader.{Reader}
 use Rattle.bsi_reading.specs.Sources.{max_records, Counts, End, GivesFirst, GivesFirstRows, HasEnded, HasEndedBy, HasGivenRows, HasStopped, HasTaken, IsWithoutFault, Layout, Source}
@@ -149,7 +149,7 @@ module _ {R : Type 0} (rem : R → Option (List ℕ)) where
 
     module _ (n : ℕ) (now : Sending) (after : Source R) (has : HasSent feeder source n now after) where
       pub sent_more : JoinsTaken → (many : ℕ) (next : Sending) (then_ : Source R) (more : List Entries) → length more ≡ many
-          → next ≡ with_sent_rows now more → GivesNext rem after then_ more → HasSent feeder source (n + many) next then_
+          → next ≡ with_look (with_sent_rows now more) next.look → GivesNext rem after then_ more → HasSent feeder source (n + many) next then_
       sent_more join many next then_ more long is gives = record {
         rows = has.rows ++ more;
         number = ap (λ (s : Sending). s.number) is ∙ has.number;

@@ -2,7 +2,7 @@
 use Rattle.std.specs.Prelude.{◌≡◌, ◌<◌, ◌≤◌, ℕ, ◌+◌, false, List, ◌++◌, Option, None, Ok, Err, IfSome, length, MatchOption}
 use Rattle.csv.specs.declared.reader.Reader.{Reader}
 use mathlib.Core.List.{IsPrefix}
-use Rattle.bsi_rings.specs.Rings.{with_sent_rows, Sending}
+use Rattle.bsi_rings.specs.Rings.{with_look, with_sent_rows, Sending}
 use Rattle.bsi_rows.specs.Rows.{Entries}
 use Rattle.bsi_reading.specs.Sources.{max_records, Counts, GivesFirst, GivesFirstRows, HasEnded, HasGivenRows, HasStopped, HasTaken, IsOver, Source, StillHas}
 use Rattle.bsi_reading.specs.declared.rows.SourceFault.{SourceFault}
@@ -98,9 +98,9 @@ max_batch_rows = 1024
 -- was, and there is then none left where it is over
 abbrev pub IsProgress : {R : Type 0} → (R → Option (List ℕ)) → Sending → Source R → Progress → Sending → Source R → Type 0
 IsProgress rem feeder source (progress.Sent many) after rest =
-    (rows : List Entries) × (length rows ≡ many) × (many ≤ max_batch_rows) × (after ≡ with_sent_rows feeder rows)
-    × GivesNext rem source rest rows
+    (rows : List Entries) × (length rows ≡ many) × (many ≤ max_batch_rows)
+    × (after ≡ with_look (with_sent_rows feeder rows) after.look) × GivesNext rem source rest rows
 IsProgress rem feeder source progress.Over after rest = (after ≡ feeder) × GivesFirst rem source rest None
     × GivesNone rem source rest
-IsProgress rem feeder source progress.Stopped after rest = after ≡ feeder
+IsProgress rem feeder source progress.Stopped after rest = after ≡ with_look feeder after.look
 IsProgress rem feeder source (progress.Failed fault) after rest = (after ≡ feeder) × FailsNow rem source fault

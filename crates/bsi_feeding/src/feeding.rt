@@ -4,7 +4,7 @@
 //! not of a whole text.
 
 ghost use Rattle.std.specs.Prelude.{◌≡◌, ◌<◌, ◌≤◌, ◌*◌, [], IfOk, IfSome, None, OnErr, length, true, false};
-ghost use Rattle.bsi_rings.specs.Rings.{with_sent, with_sent_rows, Closes};
+ghost use Rattle.bsi_rings.specs.Rings.{with_look, with_sent, with_sent_rows, Closes};
 ghost use Rattle.bsi_rows.specs.RowBlocks.{entries_of, max_block_rows, no_block_rows, HaveSameLimits};
 ghost use Rattle.bsi_feeding.specs.Feeding.{HasFailed, HasFed, IsProgress, IsGathered};
 
@@ -224,8 +224,9 @@ fn feed_one<R: Wait, I: Read + Drop, G: Gate>(
 
 /// Tries to send a row until it is accepted or the feeder stops, and returns whether it was accepted.
 fn send<R: Wait, G: Gate>(rt: &R, feeder: &mut Feeder, mut row: Row, gate: &G, point: u64) -> bool
-    ensures sent { result ≡ true → feeder.new ≡ with_sent feeder.old row }
-    ensures kept { result ≡ false → feeder.new ≡ feeder.old }
+    ensures sent { result ≡ true →
+        feeder.new ≡ with_look (with_sent feeder.old row) feeder.new.look }
+    ensures kept { result ≡ false → feeder.new ≡ with_look feeder.old feeder.new.look }
 {
     let who = feeder.number();
     let mut pause = Pause::new(MAX_YIELDS);
@@ -255,8 +256,8 @@ fn send_batch<R: Wait, G: Gate>(
 ) -> bool
     requires place { length batch.rows ≤ feeder.old.capacity }
     ensures sent { result ≡ true →
-        feeder.new ≡ with_sent_rows feeder.old (entries_of batch.rows) }
-    ensures kept { result ≡ false → feeder.new ≡ feeder.old }
+        feeder.new ≡ with_look (with_sent_rows feeder.old (entries_of batch.rows)) feeder.new.look }
+    ensures kept { result ≡ false → feeder.new ≡ with_look feeder.old feeder.new.look }
 {
     let who = feeder.number();
     let mut pause = Pause::new(MAX_YIELDS);

@@ -5,8 +5,8 @@ ghost use Rattle.bsi_files.specs.Faults.{is_late, text_fault};
 
 use bsi_text::{SchemaFault, SourceFault, WriteFault};
 use std::alloc::AllocError;
-use std::error::Error;
 use std::fmt;
+use thiserror::Error;
 
 /// One of the two texts beside the row files.
 #[derive(Clone, Copy, Debug, PartialEq, Eq)]
@@ -34,7 +34,8 @@ impl fmt::Display for Which {
 /// Why a run over row files ends early; `run_files` says in which order it looks for the causes. A fault of the
 /// questions, of memory or of the writer may come after some lines were written; before the others,
 /// nothing was written.
-#[derive(Clone, Copy, Debug, PartialEq, Eq)]
+#[derive(Clone, Copy, Debug, PartialEq, Eq, Error)]
+#[error("{}", self.text())]
 pub enum FilesFault {
     /// There are more than 64 row files.
     TooManyFiles,
@@ -62,20 +63,24 @@ pub enum FilesFault {
     Write,
 }
 
-impl fmt::Display for FilesFault {
+/// The printed text of a fault. A clause knows its bytes; the fault itself prints the same ones.
+#[derive(Clone, Copy, Debug)]
+pub struct FilesFaultText(FilesFault);
+
+impl fmt::Display for FilesFaultText {
     ghost use Rattle.std.specs.Prelude.{Some};
     ghost use Rattle.bsi_files.specs.FaultTexts.{fault_text};
 
-    ghost output = { λ fault. Some (fault_text fault) };
+    ghost output = { λ text. Some (fault_text text.0) };
 
     fn fmt<W: fmt::Write>(&self, f: &mut fmt::Formatter<W>) -> fmt::Result {
-        match self {
+        match self.0 {
             FilesFault::TooManyFiles => write!(f, "bsi: more than 64 files"),
             FilesFault::Read(which) => write!(f, "bsi: {which}: read failed"),
             FilesFault::TooLong(which) => write!(f, "bsi: {which}: input too long"),
             FilesFault::BadSchema(record) => write!(f, "bsi: schema: bad record {record}"),
             FilesFault::NoColumns => write!(f, "bsi: schema: no columns"),
-            FilesFault::Source(file, fault) => write!(f, "bsi: file {file}: {fault}"),
+            FilesFault::Source(file, fault) => write!(f, "bsi: file {file}: {}", fault.text()),
             FilesFault::IndexFull => write!(f, "bsi: index full"),
             FilesFault::NotClosed(file) => write!(f, "bsi: file {file}: not closed"),
             FilesFault::Readers => write!(f, "bsi: no reader"),
@@ -84,8 +89,6 @@ impl fmt::Display for FilesFault {
         }
     }
 }
-
-impl Error for FilesFault {}
 
 impl From<AllocError> for FilesFault {
     ghost use Rattle.bsi_files.specs.declared.faults.FilesFault.TheVariants.{NoMemory};
@@ -122,6 +125,13 @@ impl From<SchemaFault> for FilesFault {
 }
 
 impl FilesFault {
+    /// Returns what is printed of this fault.
+    pub fn text(&self) -> FilesFaultText
+        ensures { result.0 ≡ self.now }
+    {
+        FilesFaultText(*self)
+    }
+
     /// Returns the fault of a run for a text whose records were not all read.
     pub(crate) fn of_text(which: Which, fault: SourceFault) -> FilesFault
         ensures asks { which ≡ Which.AsksFile → is_late result ≡ true }

@@ -17,13 +17,14 @@ use crate::reading::{MAX_RECORDS, end_of, plain_reader, read_next, take_record};
 use bsi_rows::{Block, MAX_BLOCK_ROWS, Row, Schema};
 use csv::{ByteRecord, Reader};
 use std::alloc::Global;
-use std::error::Error;
 use std::fmt;
 use std::io::Read;
 use std::marker::Model;
+use thiserror::Error;
 
 /// Why a row source gives no more rows.
-#[derive(Clone, Copy, Debug, PartialEq, Eq)]
+#[derive(Clone, Copy, Debug, PartialEq, Eq, Error)]
+#[error("{}", self.text())]
 pub enum SourceFault {
     /// The first record does not name each column exactly once and nothing else, or there is no record.
     BadHeader,
@@ -35,14 +36,27 @@ pub enum SourceFault {
     TooLong,
 }
 
-impl fmt::Display for SourceFault {
+/// The printed text of a fault. A clause knows its bytes; the fault itself prints the same ones.
+#[derive(Clone, Copy, Debug)]
+pub struct SourceFaultText(SourceFault);
+
+impl SourceFault {
+    /// Returns what is printed of this fault.
+    pub fn text(&self) -> SourceFaultText
+        ensures { result.0 ≡ self.now }
+    {
+        SourceFaultText(*self)
+    }
+}
+
+impl fmt::Display for SourceFaultText {
     ghost use Rattle.std.specs.Prelude.{Some};
     ghost use Rattle.bsi_reading.specs.FaultTexts.{source_fault_text};
 
-    ghost output = { λ fault. Some (source_fault_text fault) };
+    ghost output = { λ text. Some (source_fault_text text.0) };
 
     fn fmt<W: fmt::Write>(&self, f: &mut fmt::Formatter<W>) -> fmt::Result {
-        match self {
+        match self.0 {
             SourceFault::BadHeader => write!(f, "bad header"),
             SourceFault::Read => write!(f, "read failed"),
             SourceFault::NoMemory => write!(f, "no memory"),
@@ -50,8 +64,6 @@ impl fmt::Display for SourceFault {
         }
     }
 }
-
-impl Error for SourceFault {}
 
 impl From<NoMemory> for SourceFault {
     ghost use Rattle.bsi_reading.specs.declared.rows.SourceFault.TheVariants.{NoMemory};

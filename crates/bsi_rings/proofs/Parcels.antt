@@ -10,7 +10,7 @@ use Rattle.bsi_rows.specs.Rows.{FedRow}
 use Rattle.bsi_rows.specs.Table.{AreFitting}
 use Rattle.bsi_rings.specs.declared.parcel.Parcel.{Parcel}
 use Rattle.bsi_rings.specs.declared.parcel.Parcel.TheVariants as parcel
-use Rattle.bsi_rings.specs.Rings.{all_rows, first_rows, rows_of, with_sent_rows, AllFit, IsParcel, Ring, Sending}
+use Rattle.bsi_rings.specs.Rings.{all_rows, first_rows, rows_of, with_look, with_sent_rows, AllFit, IsParcel, Look, Ring, Sending}
 
 -- ---- how many there are
 
@@ -50,21 +50,21 @@ rows_fit schema (p ∷ ps) all =
     (parcel_fits schema p (All-head (IsParcel schema) p ps all)) (rows_fit schema ps (All-tail (IsParcel schema) p ps all))
 
 -- a parcel more is sent, and its rows are counted
-pub one_sent : (schema : Declared) (sent : List Parcel) (p : Parcel) (count more : ℕ) → All (IsParcel schema) sent → IsParcel schema p → count ≤ length (all_rows sent) → more ≤ count + length (rows_of p)
-    → All (IsParcel schema) (sent ++ p ∷ []) × (more ≤ length (all_rows (sent ++ p ∷ [])))
-one_sent schema sent p count more all is counted added =
-    (All-push (IsParcel schema) sent p all is, omega (arith, ap length (all_rows-push sent p), length-append (all_rows sent) (rows_of p)))
+pub one_sent : (schema : Declared) (sent : List Parcel) (p : Parcel) (count : ℕ) → All (IsParcel schema) sent → IsParcel schema p → count ≡ length (all_rows sent) + length (rows_of p)
+    → All (IsParcel schema) (sent ++ p ∷ []) × (count ≡ length (all_rows (sent ++ p ∷ [])))
+one_sent schema sent p count all is counted =
+    (All-push (IsParcel schema) sent p all is, omega (arith, counted, ap length (all_rows-push sent p), length-append (all_rows sent) (rows_of p)))
 
 -- the feeder of a ring to which a parcel more is sent
-pub sends : (number : ℕ) (ring before : Ring) (schema : Declared) (capacity places : ℕ) (sent now : List Parcel) (p : Parcel) (f : Sending)
+pub sends : (number : ℕ) (ring before : Ring) (schema : Declared) (capacity places : ℕ) (sent now : List Parcel) (seen look : Look) (p : Parcel) (f : Sending)
     → ring ≡ before → capacity ≡ places → now ≡ sent ++ p ∷ []
-    → record { number = number; channel = record { ring = before; schema = schema }; capacity = places; sent = all_rows sent } ≡ f
-    → record { number = number; channel = record { ring = ring; schema = schema }; capacity = capacity; sent = all_rows now } ≡ with_sent_rows f (rows_of p)
-sends number ring before schema capacity places sent now p f same as_many more is =
-    ap (λ (r : Ring). record { number = number; channel = record { ring = r; schema = schema }; capacity = capacity; sent = all_rows now }) same
-    ∙ (ap (λ (n : ℕ). record { number = number; channel = record { ring = before; schema = schema }; capacity = n; sent = all_rows now }) as_many
-    ∙ (ap (λ rows. record { number = number; channel = record { ring = before; schema = schema }; capacity = places; sent = rows }) (ap all_rows more ∙ all_rows-push sent p)
-    ∙ ap (λ s. with_sent_rows s (rows_of p)) is))
+    → record { number = number; channel = record { ring = before; schema = schema }; capacity = places; sent = all_rows sent; look = seen } ≡ f
+    → record { number = number; channel = record { ring = ring; schema = schema }; capacity = capacity; sent = all_rows now; look = look } ≡ with_look (with_sent_rows f (rows_of p)) look
+sends number ring before schema capacity places sent now seen look p f same as_many more is =
+    ap (λ (r : Ring). record { number = number; channel = record { ring = r; schema = schema }; capacity = capacity; sent = all_rows now; look = look }) same
+    ∙ (ap (λ (n : ℕ). record { number = number; channel = record { ring = before; schema = schema }; capacity = n; sent = all_rows now; look = look }) as_many
+    ∙ (ap (λ rows. record { number = number; channel = record { ring = before; schema = schema }; capacity = places; sent = rows; look = look }) (ap all_rows more ∙ all_rows-push sent p)
+    ∙ ap (λ s. with_look (with_sent_rows s (rows_of p)) look) is))
 
 -- ---- those that stand first
 

@@ -1,5 +1,5 @@
 -- What contracts see of a ring's ends: what was sent, what was taken out, and what the closing carried.
-use Rattle.std.specs.Prelude.{◌≡◌, ℕ, suc, ◌+◌, ◌-◌, ◌<◌, ◌≤◌, false, All, IfSome, IsTrue, List, [], ◌∷◌, ◌++◌, Option, None, Some, Result, Ok, Err, drop, length, map, option_map, take}
+use Rattle.std.specs.Prelude.{◌≡◌, ℕ, suc, ◌+◌, ◌-◌, ◌<◌, ◌≤◌, ◌⊎◌, false, All, IfSome, IsTrue, List, [], ◌∷◌, ◌++◌, Option, None, Some, Result, Ok, Err, drop, length, map, option_map, take}
 use Rattle.std.specs.declared.alloc.Global.{Global}
 use denote.RawPtr.{Ptr}
 use Rattle.rtrb.specs.Shared.{Names}
@@ -60,15 +60,26 @@ IsParcel schema (parcel.Batch batch) =
 
 -- ---- a feeder
 
+-- what a feeder has seen of its ring
+pub record Look : Type 0 where
+  pub noted : ℕ  -- how many of its rows the loader's end had noted as taken
+  pub free : ℕ  -- how many places of the ring held neither a row nor a batch
+
 pub record Sending : Type 0 where
   pub number : ℕ
   pub channel : ChannelName
   pub capacity : ℕ
   pub sent : List Entries  -- the rows that were sent, the first one first
+  pub look : Look
 
 -- nothing was sent
 abbrev pub new_sending : ℕ → ChannelName → ℕ → Sending
-new_sending number channel capacity = record { number = number; channel = channel; capacity = capacity; sent = [] }
+new_sending number channel capacity =
+    record { number = number; channel = channel; capacity = capacity; sent = []; look = record { noted = 0; free = capacity } }
+
+-- this was seen of the ring, and nothing else changed
+abbrev pub with_look : Sending → Look → Sending
+with_look s look = record s { look = look }
 
 -- these rows were sent after the others
 abbrev pub with_sent_rows : Sending → List Entries → Sending
@@ -78,20 +89,27 @@ with_sent_rows s rows = record s { sent = s.sent ++ rows }
 abbrev pub with_sent : Sending → Entries → Sending
 with_sent s row = with_sent_rows s (row ∷ [])
 
--- the reply to a submission. A row that fits may be refused only once as many were sent as the ring has places
-abbrev pub IsSubmitReply : Sending → Entries → Result (Unit {0}) SubmitRefused → Type 0
-IsSubmitReply s row (Ok done) = IsTrue (fits s.channel.schema.columns row)
-IsSubmitReply s row (Err (Misfit back)) = (back ≡ row) × (fits s.channel.schema.columns row ≡ false)
-IsSubmitReply s row (Err (Full back)) =
-    (back ≡ row) × IsTrue (fits s.channel.schema.columns row) × (s.capacity ≤ length s.sent)
+-- with so many rows more, those that were sent and not noted as taken are at most as many as the ring has places
+abbrev pub HasRoom : Sending → ℕ → Look → Type 0
+HasRoom s rows look = length s.sent + rows ≤ s.capacity + look.noted
 
--- the reply to a submission of a batch. One that is alike may be refused only once the rows that were sent and its own
--- are more than the ring has places
-abbrev pub IsBatchReply : Sending → Table → Result (Unit {0}) BatchRefused → Type 0
-IsBatchReply s sent (Ok done) = HaveSameLimits sent.schema s.channel.schema
-IsBatchReply s sent (Err (batch.Misfit back)) = (back ≡ sent) × ¬ HaveSameLimits sent.schema s.channel.schema
-IsBatchReply s sent (Err (batch.Full back)) =
-    (back ≡ sent) × HaveSameLimits sent.schema s.channel.schema × (s.capacity < length s.sent + length sent.rows)
+-- they are more, by what was noted and so by what was sent, or no place of the ring was free though as many were sent
+abbrev pub IsFull : Sending → ℕ → Look → Type 0
+IsFull s rows look = (s.capacity < length s.sent + rows) × (¬ HasRoom s rows look ⊎ (look.free ≡ 0))
+
+-- the reply to a submission, and what was then seen of the ring
+abbrev pub IsSubmitReply : Sending → Entries → Look → Result (Unit {0}) SubmitRefused → Type 0
+IsSubmitReply s row look (Ok done) = IsTrue (fits s.channel.schema.columns row) × HasRoom s 1 look
+IsSubmitReply s row look (Err (Misfit back)) = (back ≡ row) × (fits s.channel.schema.columns row ≡ false)
+IsSubmitReply s row look (Err (Full back)) =
+    (back ≡ row) × IsTrue (fits s.channel.schema.columns row) × IsFull s 1 look
+
+-- the reply to a submission of a batch
+abbrev pub IsBatchReply : Sending → Table → Look → Result (Unit {0}) BatchRefused → Type 0
+IsBatchReply s sent look (Ok done) = HaveSameLimits sent.schema s.channel.schema × HasRoom s (length sent.rows) look
+IsBatchReply s sent look (Err (batch.Misfit back)) = (back ≡ sent) × ¬ HaveSameLimits sent.schema s.channel.schema
+IsBatchReply s sent look (Err (batch.Full back)) =
+    (back ≡ sent) × HaveSameLimits sent.schema s.channel.schema × IsFull s (length sent.rows) look
 
 -- ---- a closing
 

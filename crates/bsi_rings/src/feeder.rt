@@ -1,6 +1,6 @@
 //! A feeder: the producer of one ring.
 
-ghost use Rattle.std.specs.Prelude.{◌≡◌, ◌+◌, ◌<◌, ◌≤◌, [], IfOk, IfSome, OnErr, OnOk, false, length, true};
+ghost use Rattle.std.specs.Prelude.{◌≡◌, ◌+◌, ◌<◌, ◌≤◌, ◌⊎◌, [], IfOk, IfSome, OnErr, OnOk, false, length, true};
 ghost use Rattle.rtrb.specs.Ring.{known_free, producer_capacity, sent, ProducerLooked};
 ghost use Rattle.bsi_rings.specs.Rings.{all_rows};
 
@@ -42,11 +42,11 @@ pub struct Feeder {
     places: Places,
 }
 
-// Clauses see the feeder's number, which ring it sends to, the schema, the ring's capacity, and the rows that were
-// sent.
+// Clauses see the feeder's number, which ring it sends to, the schema, the ring's capacity, the rows that were sent, and
+// what was seen of the ring.
 impl Model for Feeder {
-    ghost use Rattle.std.specs.Prelude.{◌<◌, ◌≤◌, All, length};
-    ghost use Rattle.rtrb.specs.Ring.{sent};
+    ghost use Rattle.std.specs.Prelude.{◌≡◌, ◌+◌, ◌<◌, ◌≤◌, All, length};
+    ghost use Rattle.rtrb.specs.Ring.{known_free, sent};
     ghost use Rattle.bsi_rows.specs.Table.{end_of_u32};
     ghost use Rattle.bsi_rings.specs.Rings.{all_rows, ring_of, IsParcel, Sending};
 
@@ -57,16 +57,18 @@ impl Model for Feeder {
       channel = record { ring = ring_of f.ring.end; schema = f.schema.value };
       capacity = f.ring.capacity;
       sent = all_rows (sent f.ring);
+      look = record { noted = f.places.known; free = known_free f.ring };
     } };
 
     ghost invariant = { λ f. All (IsParcel f.schema.value) (sent f.ring)
-        × (f.places.count ≤ length (all_rows (sent f.ring)))
+        × (f.places.known + f.places.on_way ≡ length (all_rows (sent f.ring)))
+        × (f.places.on_way ≤ f.ring.capacity)
         × (f.ring.capacity < end_of_u32) };
 }
 
 impl Feeder {
     ghost use Rattle.bsi_rows.specs.RowBlocks.{entries_of};
-    ghost use Rattle.bsi_rings.specs.Rings.{new_sending, ring_of, with_sent, with_sent_rows, Closes, IsBatchReply, IsSubmitReply};
+    ghost use Rattle.bsi_rings.specs.Rings.{new_sending, ring_of, with_look, with_sent, with_sent_rows, Closes, IsBatchReply, IsSubmitReply};
     ghost use Rattle.bsi_rows.specs.Table.{end_of_u32, max_rows, no_rows};
 
     /// Makes the feeder of a ring to which nothing has been sent.
@@ -77,8 +79,8 @@ impl Feeder {
         ring: Producer<Parcel>,
         places: Places,
     ) -> Feeder
-        requires ring { sent ring ≡ [] }
-        requires places { places.count ≡ 0 }
+        requires ring { (sent ring ≡ []) × (known_free ring ≡ producer_capacity ring) }
+        requires places { (places.known ≡ 0) × (places.on_way ≡ 0) }
         requires small { producer_capacity ring < end_of_u32 }
         ensures { result ≡ new_sending number
             (record { ring = ring_of ring.end; schema = schema.value }) (producer_capacity ring) }
@@ -116,18 +118,17 @@ impl Feeder {
 
     /// Sends a row. It allocates no memory and never waits.
     pub fn submit(&mut self, row: Row) -> Result<(), SubmitRefused>
-        ensures reply { IsSubmitReply self.old row result }
-        ensures sent { OnOk result (self.new ≡ with_sent self.old row) }
-        ensures kept { OnErr result (self.new ≡ self.old) }
+        ensures reply { IsSubmitReply self.old row self.new.look result }
+        ensures sent { OnOk result (self.new ≡ with_look (with_sent self.old row) self.new.look) }
+        ensures kept { OnErr result (self.new ≡ with_look self.old self.new.look) }
     {
         if !self.schema.fits(&row) {
             return Err(SubmitRefused::Misfit(row));
         }
-        if !has_free(&mut self.ring, &mut self.places, 1) {
+        if !take_places(&mut self.ring, &mut self.places, 1) {
             return Err(SubmitRefused::Full(row));
         }
         self.ring.push_reserved(Parcel::Row(row));
-        self.places.fill(1);
         Ok(())
     }
 
@@ -135,9 +136,10 @@ impl Feeder {
     /// allocates no memory and never waits. A batch of no row is sent by doing nothing. One that is not kept as the
     /// loader's index is, or has more feeders, is taken row by row, and each row costs a pass over the batch.
     pub fn submit_batch(&mut self, batch: Index) -> Result<(), BatchRefused>
-        ensures reply { IsBatchReply self.old batch result }
-        ensures sent { OnOk result (self.new ≡ with_sent_rows self.old (entries_of batch.rows)) }
-        ensures kept { OnErr result (self.new ≡ self.old) }
+        ensures reply { IsBatchReply self.old batch self.new.look result }
+        ensures sent { OnOk result
+            (self.new ≡ with_look (with_sent_rows self.old (entries_of batch.rows)) self.new.look) }
+        ensures kept { OnErr result (self.new ≡ with_look self.old self.new.look) }
     {
         if !batch.has_limits_of(&self.schema) {
             return Err(BatchRefused::Misfit(batch));
@@ -146,11 +148,10 @@ impl Feeder {
         if rows == 0 {
             return Ok(());
         }
-        if !has_free(&mut self.ring, &mut self.places, rows) {
+        if !take_places(&mut self.ring, &mut self.places, rows) {
             return Err(BatchRefused::Full(batch));
         }
         self.ring.push_reserved(Parcel::Batch(Batch::new(batch)));
-        self.places.fill(rows);
         Ok(())
     }
 
@@ -171,15 +172,22 @@ impl Feeder {
     }
 }
 
-/// Returns whether a ring has free places for a parcel of so many rows, as far as its feeder knows.
-fn has_free(ring: &mut Producer<Parcel>, places: &mut Places, rows: usize) -> bool
+/// Counts a parcel of so many rows as sent, if its feeder knows of room for it, and returns whether it does.
+fn take_places(ring: &mut Producer<Parcel>, places: &mut Places, rows: usize) -> bool
     requires some { 0 < rows }
-    requires count { places.old.count ≤ length (all_rows (sent ring.old)) }
-    ensures refused { result ≡ false →
-        producer_capacity ring.old < length (all_rows (sent ring.old)) + rows }
+    requires count { places.old.known + places.old.on_way ≡ length (all_rows (sent ring.old)) }
+    ensures filled { result ≡ true →
+        places.new.known + places.new.on_way ≡ length (all_rows (sent ring.old)) + rows }
+    ensures room { result ≡ true → places.new.on_way ≤ producer_capacity ring.old }
     ensures free { result ≡ true → 0 < known_free ring.new }
+    ensures kept { result ≡ false →
+        (places.new.known + places.new.on_way ≡ length (all_rows (sent ring.old)))
+        × (places.new.on_way ≤ places.old.on_way) }
+    ensures many { result ≡ false →
+        producer_capacity ring.old < length (all_rows (sent ring.old)) + rows }
+    ensures full { result ≡ false →
+        (producer_capacity ring.old < places.new.on_way + rows) ⊎ (known_free ring.new ≡ 0) }
     ensures looked { ProducerLooked ring.old ring.new }
-    ensures count { places.new.count ≡ places.old.count }
 {
-    places.have_free(ring.capacity(), rows) && !ring.is_full()
+    !ring.is_full() && places.fill(ring.capacity(), rows)
 }

@@ -38,7 +38,7 @@ pub(crate) fn tell_run_fault<F: Write>(fault: RunFault<'_>, faults: &mut F) -> u
             let _ = write_unopened(path, faults);
             1
         }
-        RunFault::Run(fault) => tell_fault(fault, faults),
+        RunFault::Run(fault) => tell_fault(fault.text(), faults),
     }
 }
 

@@ -58,7 +58,7 @@ pub fn run_words<
     match read_request(rt.alloc(), &words) {
         Request::Script => match run_to_end(rt.alloc(), input, output) {
             Ok(()) => 0,
-            Err(fault) => tell_fault(fault, faults),
+            Err(fault) => tell_fault(fault.text(), faults),
         },
         Request::Files(paths) => match run_over(rt, &paths, output) {
             Ok(()) => 0,

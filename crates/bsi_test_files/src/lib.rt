@@ -15,3 +15,5 @@ mod inputs;
 mod order;
 #[cfg(test)]
 mod runs;
+#[cfg(test)]
+mod texts;

@@ -1,7 +1,7 @@
 //! Batches of rows that go from a feeder to the loader at one step.
 
 use crate::calls::{load, publish, row, submit, sum_of};
-use bsi_system::{Analyst, Feeder, LoadRefused, Loader, Naming, NoMemory};
+use bsi_system::{Analyst, BatchRefused, Feeder, LoadRefused, Loader, Naming, NoMemory};
 use bsi_table::{ColumnSpec, Index, Schema};
 use std::alloc::Global;
 use std::sync::Wait;
@@ -12,7 +12,7 @@ fn new_batch(alloc: Global, width: u32) -> Result<Index, NoMemory> {
     if schema.add("number", ColumnSpec::Slices(width)).is_err() {
         return Err(NoMemory);
     }
-    Index::new(alloc, schema, 1, 64).map_err(|_| NoMemory)
+    Index::new(alloc, schema, 1, 1_000).map_err(|_| NoMemory)
 }
 
 /// Adds a row of this number, if it fits.
@@ -67,4 +67,33 @@ pub(crate) fn send_batches<B: Naming, R: Wait>(
     let loaded = load_all(loader);
     let published = publish(rt, loader) == Some(5);
     Some(sent && taken && !other && loaded && published && sum_of(analyst) == Some(11))
+}
+
+/// Sends a batch of so many rows. Returns whether the feeder takes it, or finds no room for it.
+fn submit_many(alloc: Global, feeder: &mut Feeder, rows: u32) -> Option<bool> {
+    let mut batch = new_batch(alloc, 3).ok()?;
+    for _row in 0..rows {
+        add(alloc, &mut batch, 7)?;
+    }
+    match feeder.submit_batch(batch) {
+        Ok(()) => Some(true),
+        Err(BatchRefused::Full(_)) => Some(false),
+        Err(BatchRefused::Misfit(_)) => None,
+    }
+}
+
+/// Fills a ring of 1,024 places by two batches, so that a batch between them and a row behind them find no room, and
+/// takes the first out, so that the batch does. Returns whether just that is so.
+pub(crate) fn fill_by_batches<B: Naming>(
+    alloc: Global,
+    feeder: Feeder,
+    loader: &mut Loader<B>,
+) -> Option<bool> {
+    let mut feeder = feeder;
+    let most = submit_many(alloc, &mut feeder, 1_000)?;
+    let over = submit_many(alloc, &mut feeder, 25)?;
+    let rest = submit_many(alloc, &mut feeder, 24)?;
+    let full = most && !over && rest && !submit(alloc, &mut feeder, 1);
+    let taken = load_batch(loader) == Ok(1_000);
+    Some(full && taken && submit_many(alloc, &mut feeder, 25)?)
 }

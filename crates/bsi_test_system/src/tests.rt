@@ -4,7 +4,7 @@ ghost use Rattle.std.specs.Prelude.{◌≡◌, [], All, length};
 ghost use Rattle.bsi_rows.specs.Table.{no_rows};
 ghost use Rattle.bsi_system.specs.Running.{IsFeederOf};
 
-use crate::batches::send_batches;
+use crate::batches::{fill_by_batches, send_batches};
 use crate::calls::{ask, count_of, load, opened, publish, quantities, submit, sum_of};
 use crate::refusals::{need_none, refuse};
 use bsi_system::{Analyst, AnalystRefused, Feeder, History, LoadRefused, Loader, Naming, System};
@@ -22,6 +22,7 @@ enum Worked {
     Told,
     RefusedMemory,
     Batches,
+    FullOfBatches,
     Refusals,
     NoMemory,
 }
@@ -246,6 +247,7 @@ fn play<B: Naming, R: Wait>(
         Worked::Told => Some(told(rt, alloc, feeder, loader, &mut first)),
         Worked::RefusedMemory => refused_memory(rt, alloc, feeder, loader, &mut first),
         Worked::Batches => send_batches(rt, alloc, feeder, loader, &mut first),
+        Worked::FullOfBatches => fill_by_batches(alloc, feeder, loader),
         Worked::Refusals => refuse(rt, alloc, feeders.pop()?, feeder, loader),
         Worked::NoMemory => need_none(rt, alloc, feeder, loader, first),
     }
@@ -303,6 +305,7 @@ fn sizes(worked: Worked) -> (&'static [u32], u64) {
         Worked::Refusals => (&[1, 2], 1),
         Worked::NoMemory => (&[2], 10),
         Worked::Batches => (&[5], 10),
+        Worked::FullOfBatches => (&[1_024], 2_000),
         _other => (&[4], 10),
     }
 }
@@ -345,6 +348,11 @@ fn publish_refused_memory(rt: HostRuntime) {
 #[test]
 fn batches_of_rows(rt: HostRuntime) {
     assert!(rt; works(&rt, rt.alloc(), Worked::Batches));
+}
+
+#[test]
+fn a_ring_full_of_batches(rt: HostRuntime) {
+    assert!(rt; works(&rt, rt.alloc(), Worked::FullOfBatches));
 }
 
 #[test]

@@ -9,8 +9,8 @@ use std::sync::atomic::{AtomicU64, Ordering};
 // A part of a text, and how many lines are to be written once it was given, and before more is asked for.
 type Part = (&'static str, u64);
 
-// Parts that end within a record, within a quoted line break, and behind a byte order mark.
-const TEXTS: [&[Part]; 3] = [
+// Parts that end within a record, within a quoted line break, behind a byte order mark, and at carriage returns.
+const TEXTS: [&[Part]; 4] = [
     &[
         ("column,qty,slices,3\nfee", 1),
         ("der,2\nbegin", 2),
@@ -33,6 +33,12 @@ const TEXTS: [&[Part]; 3] = [
         ("2\n", 2),
         ("\u{feff}begin\nbegin\nx", 4),
         ("\n", 5),
+    ],
+    &[
+        ("column,qty,slices,3\r\n", 1),
+        ("feeder,2\r\nbegin\r\nsubmit,0,5\r\n", 4),
+        ("load,0\r", 5),
+        ("\nsum,qty,all\r\n", 6),
     ],
 ];
 

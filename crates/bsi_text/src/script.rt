@@ -17,15 +17,16 @@ use crate::{NoMemory, WriteFault, write_bytes};
 use bsi_reading::{MAX_RECORDS, plain_reader, read_next};
 use csv::{ByteRecord, Reader};
 use std::alloc::Global;
-use std::error::Error;
 use std::fmt;
 use std::io::{Read, Write};
+use thiserror::Error;
 
 /// The most bytes of waiting lines.
 const MAX_GATHERED: usize = 1 << 16;
 
 /// Why a script ends before its input does. `run_script` says what was written.
-#[derive(Clone, Copy, Debug, PartialEq, Eq)]
+#[derive(Clone, Copy, Debug, PartialEq, Eq, Error)]
+#[error("{}", self.text())]
 pub enum ScriptFault {
     /// The reader failed.
     Read,
@@ -37,14 +38,27 @@ pub enum ScriptFault {
     TooLong,
 }
 
-impl fmt::Display for ScriptFault {
+/// The printed text of a fault. A clause knows its bytes; the fault itself prints the same ones.
+#[derive(Clone, Copy, Debug)]
+pub struct ScriptFaultText(ScriptFault);
+
+impl ScriptFault {
+    /// Returns what is printed of this fault.
+    pub fn text(&self) -> ScriptFaultText
+        ensures { result.0 ≡ self.now }
+    {
+        ScriptFaultText(*self)
+    }
+}
+
+impl fmt::Display for ScriptFaultText {
     ghost use Rattle.std.specs.Prelude.{Some};
     ghost use Rattle.bsi_text.specs.FaultTexts.{script_fault_text};
 
-    ghost output = { λ fault. Some (script_fault_text fault) };
+    ghost output = { λ text. Some (script_fault_text text.0) };
 
     fn fmt<W: fmt::Write>(&self, f: &mut fmt::Formatter<W>) -> fmt::Result {
-        match self {
+        match self.0 {
             ScriptFault::Read => write!(f, "bsi: read failed"),
             ScriptFault::Write => write!(f, "bsi: write failed"),
             ScriptFault::NoMemory => write!(f, "bsi: no memory"),
@@ -52,8 +66,6 @@ impl fmt::Display for ScriptFault {
         }
     }
 }
-
-impl Error for ScriptFault {}
 
 impl From<csv::Error> for ScriptFault {
     ghost use Rattle.std.specs.Prelude.{◌≡◌, if◌then◌else◌};

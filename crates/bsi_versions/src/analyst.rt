@@ -1,6 +1,6 @@
 //! An analyst: it asks the published index, and its answers never go back.
 
-ghost use Rattle.std.specs.Prelude.{◌≡◌, ◌≢◌, ◌⊎◌, IfErr, IfSome, IsTrue, OnErr, OnOk};
+ghost use Rattle.std.specs.Prelude.{◌≡◌, ◌≢◌, ◌⊎◌, ◌↔◌, Err, IfErr, IfSome, IsTrue, OnErr, OnOk};
 ghost use mathlib.Core.List.{IsPrefix};
 ghost use Rattle.bsi_rows.specs.Answers.{CountsConjunction, IsReply};
 
@@ -77,13 +77,15 @@ impl<B: Naming> Analyst<B> {
         Ok(answer)
     }
 
-    /// Answers a query over exactly the list that was told. It answers `Gone` also if it knows another list by then, as
-    /// it does once more rows were published. It never waits.
+    /// Answers a query over exactly the list that was told. It answers `Gone` where `ask` does, and if it knows another
+    /// list by then, as it does once more rows were published. It never waits.
     pub fn ask_told(&mut self, told: &Told<B>, query: &Query) -> Result<Answer, AnalystRefused>
         ensures reply { IsAnalystReply B.about.schema told.now query.now result }
         ensures succeeds { CountsConjunction query.now →
             IfErr result (λ refused. refused ≢ AnalystRefused.Ask AskError.NoMemory) }
         ensures told { OnOk result (self.new ≡ told.now) }
+        ensures gone { result ≡ Err AnalystRefused.Gone →
+            (self.new ≡ self.old) ⊎ (self.new ≢ told.now) }
         ensures known { IsPrefix self.old self.new }
     {
         let answer = self.ask(query)?;
@@ -95,7 +97,7 @@ impl<B: Naming> Analyst<B> {
 
     /// Returns whether the list that was told is the longest list that the analyst knows.
     fn knows(&self, told: &Told<B>) -> bool
-        ensures { IsTrue result → self.now ≡ told.now }
+        ensures { IsTrue result ↔ (self.now ≡ told.now) }
     {
         let told = told.known();
         self.known.follows(told) && told.follows(&self.known)

@@ -70,7 +70,7 @@ impl Model for Known {
 }
 
 impl Known {
-    ghost use Rattle.std.specs.Prelude.{◌≡◌, IfSome, IsFalse, IsTrue, None, length};
+    ghost use Rattle.std.specs.Prelude.{◌≡◌, ◌<◌, IfSome, IsFalse, IsTrue, None, length};
     ghost use mathlib.Core.List.{IsPrefix};
     ghost use Rattle.bsi_versions.specs.History.{head_of, with_list};
 
@@ -97,6 +97,7 @@ impl Known {
         requires { other.now.book ≡ self.now.book }
         ensures behind { IsTrue result → IsPrefix other.now.list self.now.list }
         ensures before { IsFalse result → IsPrefix self.now.list other.now.list }
+        ensures shorter { IsFalse result → length self.now.list < length other.now.list }
     {
         // What knows both lists tells the proof that one begins with the other.
         let mut both = self.seen.again();

@@ -27,18 +27,18 @@ batches-preserved g c =
 pub returns-in-batches-clause-fed : goal.returns-in-batches-clause-fed
 returns-in-batches-clause-fed g c =
     let fed = fed_first g.I.Read.remaining c.args.feeder c.args.source c.batches.accepted c.batches.feeder c.batches.source c.batches.invariant.sent (taken_both g.I.Read.remaining) c.finish.result in
-    let sent : c.feed_next.new.feeder ≡ c.batches.feeder → IfSome c.finish.result.closing (λ closing. closing.rows ≡ c.batches.feeder.sent) =
-    λ same. of_some c.finish.result.closing c.finish.ensures.closing (λ closing closes. closes.rows ∙ ap (λ (s : Sending). s.sent) same) in
+    let sent : c.feed_next.new.feeder.sent ≡ c.batches.feeder.sent → IfSome c.finish.result.closing (λ closing. closing.rows ≡ c.batches.feeder.sent) =
+    λ same. of_some c.finish.result.closing c.finish.ensures.closing (λ closing closes. closes.rows ∙ same) in
     elim c.match-feed_next.branch [
       | in-Stopped w ↦
           let told : c.match-feed_next.stopped.0 ≡ true = ap (λ (p : Bool × Option SourceFault). p.0) w.stopped-is in
-          fed (sent w.in-Stopped.ensures) c.finish.ensures.accepted (λ going fine. absurd (cc (told, c.finish.ensures.stopped, going)))
+          fed (sent (ap (λ (s : Sending). s.sent) w.in-Stopped.ensures)) c.finish.ensures.accepted (λ going fine. absurd (cc (told, c.finish.ensures.stopped, going)))
       | in-Over w ↦
-          fed (sent w.in-Over.ensures.0) c.finish.ensures.accepted
+          fed (sent (ap (λ (s : Sending). s.sent) w.in-Over.ensures.0)) c.finish.ensures.accepted
           (λ going fine. (c.feed_next.new.source, w.in-Over.ensures.1, w.in-Over.ensures.2, c.finish.ensures.bad))
       | in-Failed w ↦
           let told : c.match-feed_next.stopped.1 ≡ Some w.in-Failed.fault = ap (λ (p : Bool × Option SourceFault). p.1) w.stopped-is in
-          fed (sent w.in-Failed.ensures.0) c.finish.ensures.accepted (λ going fine. absurd (cc (told, c.finish.ensures.fault, fine)))
+          fed (sent (ap (λ (s : Sending). s.sent) w.in-Failed.ensures.0)) c.finish.ensures.accepted (λ going fine. absurd (cc (told, c.finish.ensures.fault, fine)))
     ]
 
 -- a fault is the one that the source answered

@@ -20,3 +20,7 @@ returns-clause-before c = λ test.
     let begins : IsPrefix mine both = subst (λ (l : List RowList). IsPrefix l both) (ap (λ s. s.log) c.again-both.ensures) c.learn.ensures.2 in
     once-meet mine c.other.inside.seen.log both c.args.self.now.list c.args.other.now.list (ap (λ k. k.list) c.self.view_is) (ap (λ k. k.list) c.other.view_is) begins c.learn.ensures.3 c.learn.ensures.4.1.growing
     (grind (arith, nat_tests, test, c.self.invariant, c.other.invariant, ap (λ k. length k.list) c.self.view_is, ap (λ k. length k.list) c.other.view_is))
+
+pub returns-clause-shorter : goal.returns-clause-shorter
+returns-clause-shorter c = λ test.
+    grind (arith, nat_tests, test, c.self.invariant, c.other.invariant, ap (λ k. length k.list) c.self.view_is, ap (λ k. length k.list) c.other.view_is)
