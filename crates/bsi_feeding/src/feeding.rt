@@ -155,7 +155,7 @@ fn feed_batch<R: Wait, I: Read + Drop, G: Gate>(
 {
     let most = u64::from(feeder.capacity()).min(MAX_BATCH_ROWS);
     let blocks = most / MAX_BLOCK_ROWS as u64;
-    let Ok(fault) = gather(source, &mut block, &mut batch, blocks) else {
+    let Ok(fault) = fill_batch(source, &mut block, &mut batch, blocks) else {
         return Progress::Failed(SourceFault::NoMemory);
     };
     let rows = batch.len();
@@ -170,7 +170,7 @@ fn feed_batch<R: Wait, I: Read + Drop, G: Gate>(
 
 /// Fills a block with the next rows of the source and appends it to the batch, so many times or until no row is left or
 /// the source answers a fault, which it returns.
-fn gather<I: Read + Drop>(
+fn fill_batch<I: Read + Drop>(
     source: &mut RowSource<I>,
     block: &mut Block,
     batch: &mut Index,

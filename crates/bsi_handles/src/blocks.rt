@@ -6,6 +6,7 @@ ghost use Rattle.bsi_handles.specs.Calls.{with_first, AreAppendable, AppendsColu
 ghost use Rattle.bsi_handles.specs.Columns.{are_columns, given_rows, has_rows, row_count, row_of, AreTaken};
 ghost use Rattle.bsi_rows.specs.RowBlocks.{max_block_rows};
 ghost use Rattle.bsi_rows.specs.Table.{with_rows};
+ghost use Rattle.bsi_table.specs.Index.{table_of};
 
 use crate::columns::{GivenColumn, are_columns, count_rows, entry};
 use crate::fitting::first_misfit;
@@ -79,8 +80,9 @@ fn append_block(
     ensures schema { block.new.schema ≡ block.old.schema }
     ensures feeders { block.new.feeders ≡ block.old.feeders }
     ensures appended { OnOk result
-        (index.new ≡ with_rows index.old (given_rows feeder columns.now from count)) }
-    ensures kept { OnErr result (index.new ≡ index.old) }
+        (table_of index.new
+        ≡ with_rows (table_of index.old) (given_rows feeder columns.now from count)) }
+    ensures kept { OnErr result (table_of index.new ≡ table_of index.old) }
 {
     fill_block(feeder, columns, from, count, entries, block)?;
     // All rows were tested, so only memory can be refused.
@@ -97,8 +99,9 @@ fn append_blocks(
     columns: &[GivenColumn],
     appended: &mut u64,
 ) -> Result<(), NoMemory>
-    requires { AreAppendable index.old feeder columns.now }
-    ensures rows { index.new ≡ with_first index.old feeder columns.now appended.new }
+    requires { AreAppendable (table_of index.old) feeder columns.now }
+    ensures rows { table_of index.new
+        ≡ with_first (table_of index.old) feeder columns.now appended.new }
     ensures within { appended.new ≤ row_count columns.now }
     ensures all { OnOk result (appended.new ≡ row_count columns.now) }
     ensures whole { OnErr result (appended.new % max_block_rows ≡ 0) }
@@ -133,8 +136,8 @@ fn check_rows(
     row: &mut u64,
 ) -> Result<(), Refusal>
     requires { row.old ≡ 0 }
-    ensures taken { OnOk result (AreAppendable index.now feeder columns.now) }
-    ensures refused { IfErr result (IsRowsRefusal index.now feeder columns.now row.new) }
+    ensures taken { OnOk result (AreAppendable (table_of index.now) feeder columns.now) }
+    ensures refused { IfErr result (IsRowsRefusal (table_of index.now) feeder columns.now row.new) }
 {
     if feeder >= index.feeders() {
         return Err(Refusal::BadFeeder);
@@ -165,7 +168,8 @@ pub(crate) fn append_columns(
     row: &mut u64,
 ) -> Result<(), Refusal>
     requires { row.old ≡ 0 }
-    ensures { AppendsColumns index.old feeder columns.now row.new index.new result }
+    ensures { AppendsColumns (table_of index.old) feeder columns.now row.new (table_of index.new)
+        result }
 {
     check_rows(index, feeder, columns, row)?;
     append_blocks(alloc, index, feeder, columns, row)?;

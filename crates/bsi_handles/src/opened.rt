@@ -3,6 +3,7 @@
 ghost use Rattle.std.specs.Prelude.{◌≡◌, IfErr, OnErr};
 ghost use Rattle.bsi_reading.specs.SchemaTexts.{IsSchemaText};
 ghost use Rattle.bsi_handles.specs.Calls.{with_table, AppendsColumns, IsDescribed};
+ghost use Rattle.bsi_table.specs.Index.{table_of};
 
 use crate::blocks::append_columns;
 use crate::columns::GivenColumn;
@@ -22,10 +23,11 @@ pub struct Opened {
 impl Model for Opened {
     ghost use Rattle.bsi_reading.specs.SchemaTexts.{IsSchemaText};
     ghost use Rattle.bsi_handles.specs.Opened.{Opened};
+    ghost use Rattle.bsi_table.specs.Index.{table_of};
 
     ghost Value = { Opened };
 
-    ghost view = { λ o. record { text = o.text.items; table = o.index } };
+    ghost view = { λ o. record { text = o.text.items; table = table_of o.index } };
 
     ghost invariant = { λ o. IsSchemaText o.text.items o.index.schema o.index.limit };
 }
@@ -35,14 +37,14 @@ impl Opened {
     pub(crate) fn new(text: Vec<u8>, index: Index) -> Opened
         requires { IsSchemaText text.items index.schema index.limit }
         ensures text { result.text ≡ text.items }
-        ensures table { result.table ≡ index }
+        ensures table { result.table ≡ table_of index }
     {
         Opened { text, index }
     }
 
     /// Lends the index.
     pub(crate) fn index(&self) -> &Index
-        ensures { result.now ≡ self.now.table }
+        ensures { table_of result.now ≡ self.now.table }
     {
         &self.index
     }

@@ -30,12 +30,13 @@ pub struct Core {
 // Clauses see the index, and of each feeder the rows that wait, whether it was closed, and its capacity.
 impl Model for Core {
     ghost use Rattle.bsi_rows.specs.Shown.{Shown, IsMachine};
+    ghost use Rattle.bsi_table.specs.Index.{table_of};
 
     ghost Value = { Shown };
 
-    ghost view = { λ c. record { index = c.index; feeders = c.feeders.items } };
+    ghost view = { λ c. record { index = table_of c.index; feeders = c.feeders.items } };
 
-    ghost invariant = { λ c. IsMachine c.index c.feeders.items };
+    ghost invariant = { λ c. IsMachine (table_of c.index) c.feeders.items };
 }
 
 impl Core {

@@ -7,7 +7,7 @@ use Rattle.rtrb.specs.declared.end.End.{End}
 use Rattle.bsi_schema.specs.Columns.{fits, Declared}
 use Rattle.bsi_rows.specs.RowBlocks.{entries_of, HaveSameLimits}
 use Rattle.bsi_rows.specs.Rows.{Entries}
-use Rattle.bsi_rows.specs.Table.{Table}
+use Rattle.bsi_table.specs.Index.{IndexedTable}
 use Rattle.bsi_rings.specs.declared.feeder.BatchRefused.{BatchRefused}
 use Rattle.bsi_rings.specs.declared.feeder.BatchRefused.TheVariants as batch
 use Rattle.bsi_rings.specs.declared.feeder.SubmitRefused.{SubmitRefused}
@@ -105,7 +105,7 @@ IsSubmitReply s row look (Err (Full back)) =
     (back ≡ row) × IsTrue (fits s.channel.schema.columns row) × IsFull s 1 look
 
 -- the reply to a submission of a batch
-abbrev pub IsBatchReply : Sending → Table → Look → Result (Unit {0}) BatchRefused → Type 0
+abbrev pub IsBatchReply : Sending → IndexedTable → Look → Result (Unit {0}) BatchRefused → Type 0
 IsBatchReply s sent look (Ok done) = HaveSameLimits sent.schema s.channel.schema × HasRoom s (length sent.rows) look
 IsBatchReply s sent look (Err (batch.Misfit back)) = (back ≡ sent) × ¬ HaveSameLimits sent.schema s.channel.schema
 IsBatchReply s sent look (Err (batch.Full back)) =

@@ -70,6 +70,7 @@ impl Feeder {
     ghost use Rattle.bsi_rows.specs.RowBlocks.{entries_of};
     ghost use Rattle.bsi_rings.specs.Rings.{new_sending, ring_of, with_look, with_sent, with_sent_rows, Closes, IsBatchReply, IsSubmitReply};
     ghost use Rattle.bsi_rows.specs.Table.{end_of_u32, max_rows, no_rows};
+    ghost use Rattle.bsi_table.specs.Index.{table_of};
 
     /// Makes the feeder of a ring to which nothing has been sent.
     pub(crate) fn new(
@@ -111,7 +112,8 @@ impl Feeder {
     /// Makes a batch of no rows, an index of one feeder that keeps its columns as the loader's does: the loader takes
     /// its rows by words.
     pub fn batch(&self) -> Result<Index, NoMemory>
-        ensures { IfOk result (λ batch. batch ≡ no_rows self.now.channel.schema 1 max_rows) }
+        ensures { IfOk result (λ batch. table_of batch
+            ≡ no_rows self.now.channel.schema 1 max_rows) }
     {
         Index::with_schema(self.alloc, &self.schema, 1, MAX_ROWS).map_err(|_| NoMemory)
     }

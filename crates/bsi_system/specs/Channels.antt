@@ -2,7 +2,7 @@
 use Rattle.std.specs.Prelude.{◌≡◌, ℕ, ◌<◌, ◌≤◌, Bool, true, false, All, IfSome, List, [], ◌∷◌, ◌++◌, None, Some, Result, Ok, Err, length, slice_get, slice_set}
 use Rattle.bsi_rows.specs.RowBlocks.{entries_of}
 use Rattle.bsi_rows.specs.Rows.{Entries}
-use Rattle.bsi_rows.specs.Table.{Table}
+use Rattle.bsi_table.specs.Index.{IndexedTable}
 use Rattle.bsi_rows.specs.declared.event.LoadRefused.{LoadRefused}
 use Rattle.bsi_rows.specs.declared.event.LoadRefused.TheVariants as load
 use Rattle.bsi_rings.specs.declared.channel.Front.{Front}
@@ -60,7 +60,7 @@ abbrev pub HasFirst : List Intake → ℕ → Type 0
 HasFirst intakes f = (row : Entries) × IsFirstAt intakes f row
 
 -- the rows of a batch are the first that are seen of a channel, and it has one
-pub record IsBatchAt (intakes : List Intake) (f : ℕ) (batch : Table) : Type 0 where
+pub record IsBatchAt (intakes : List Intake) (f : ℕ) (batch : IndexedTable) : Type 0 where
   pub first : AreFirstAt intakes f (entries_of batch.rows)
   pub some : 0 < length batch.rows
 

@@ -180,7 +180,7 @@ fn serve<R: Read + Drop, W: Write>(
             return Ok(());
         }
         session.answer(alloc, fields, line)?;
-        gather(line.as_slice(), waiting, writer)?;
+        let_wait(line.as_slice(), waiting, writer)?;
     }
     make_way(input, waiting, writer)?;
     if read_next(input, fields)? {
@@ -209,7 +209,7 @@ fn make_way<R: Read + Drop, W: Write>(
 }
 
 /// Lets a line wait after the others. If there would be too many bytes, or memory is refused, it writes all lines.
-fn gather<W: Write>(line: &[u8], waiting: &mut Vec<u8>, writer: &mut W) -> Result<(), WriteFault>
+fn let_wait<W: Write>(line: &[u8], waiting: &mut Vec<u8>, writer: &mut W) -> Result<(), WriteFault>
     ensures ok { OnOk result
         (IsPut (W.contents writer.old) (W.contents writer.new) waiting.new.items
         (waiting.old.items ++ line.now)) }

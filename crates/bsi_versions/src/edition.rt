@@ -15,19 +15,21 @@ pub struct Edition {
 }
 
 impl Model for Edition {
+    ghost use Rattle.bsi_table.specs.Index.{table_of};
     ghost use Rattle.bsi_versions.specs.History.{Edition};
 
     ghost Value = { Edition };
 
-    ghost view = { λ v. record { table = v.index; known = v.known } };
+    ghost view = { λ v. record { table = table_of v.index; known = v.known } };
 }
 
 impl Edition {
     ghost use Rattle.bsi_rows.specs.Table.{with_rows};
+    ghost use Rattle.bsi_table.specs.Index.{table_of};
 
     /// Makes an edition of an index and the list that its rows make.
     pub(crate) fn new(index: Index, known: Known) -> Edition
-        ensures { result ≡ record { table = index; known = known } }
+        ensures { result ≡ record { table = table_of index; known = known } }
     {
         Edition { index, known }
     }
@@ -44,14 +46,14 @@ impl Edition {
 
     /// Lends the index.
     pub(crate) fn index(&self) -> &Index
-        ensures { result.now ≡ self.now.table }
+        ensures { table_of result.now ≡ self.now.table }
     {
         &self.index
     }
 
     /// Hands over the index.
     pub(crate) fn into_index(self) -> Index
-        ensures { result ≡ self.table }
+        ensures { table_of result ≡ self.table }
     {
         self.index
     }

@@ -8,6 +8,7 @@
 ghost use Rattle.std.specs.Prelude.{◌≡◌, ◌+◌, ◌<◌, ◌≤◌, [], IfErr, IfOk, IsTrue, OnErr, OnOk, length, ◌↔◌};
 ghost use Rattle.bsi_schema.specs.Columns.{fits};
 ghost use Rattle.bsi_rows.specs.RowBlocks.{entries_of};
+ghost use Rattle.bsi_table.specs.Index.{table_of};
 ghost use Rattle.bsi_rows.specs.Table.{with_rows, AreKeptAlike};
 ghost use Rattle.bsi_versions.specs.Editions.{max_analysts, with_all_published, with_held, with_held_rows};
 
@@ -56,10 +57,11 @@ impl<B: Naming> Publisher<B> {
         analysts: u32,
     ) -> Result<Publisher<B>, NoMemory>
         requires history { history ≡ record { book = B.book; list = [] } }
-        requires index { index ≡ B.about }
+        requires index { table_of index ≡ B.about }
         requires empty { index.rows ≡ [] }
         requires few { analysts ≤ max_analysts }
-        ensures { IfOk result (λ publisher. publisher ≡ record { table = index; held = [] }) }
+        ensures { IfOk result (λ publisher. publisher
+            ≡ record { table = table_of index; held = [] }) }
     {
         let free = index.limit();
         let stage = Stage::new(&index)?;
@@ -79,7 +81,7 @@ impl<B: Naming> Publisher<B> {
 
     /// Lends the index that is published.
     pub fn published(&self) -> &Index
-        ensures { result.now ≡ self.now.table }
+        ensures { table_of result.now ≡ self.now.table }
     {
         self.copies.published().index()
     }
@@ -112,7 +114,7 @@ impl<B: Naming> Publisher<B> {
         ensures ok { OnOk result (self.new ≡ with_held self.old feeder row.now) }
         ensures err { OnErr result (self.new ≡ self.old) }
     {
-        self.stage.make_place(&mut self.copies)?;
+        self.stage.make_room(&mut self.copies)?;
         self.stage.push(feeder, row)?;
         self.free -= 1;
         Ok(())
@@ -170,7 +172,7 @@ impl<B: Naming> Publisher<B> {
     /// refused, the publisher comes back. Where no row is published or a pending operation, the stage's batch is the
     /// index; else it publishes first.
     pub fn into_table<R: Wait>(self, rt: &R) -> Result<Index, Publisher<B>>
-        ensures ok { IfOk result (λ table. table ≡ with_rows self.table self.held) }
+        ensures ok { IfOk result (λ table. table_of table ≡ with_rows self.table self.held) }
         ensures within { IfOk result (λ table. length table.rows ≤ table.limit) }
         ensures err { IfErr result (λ publisher. publisher ≡ self) }
     {
@@ -206,7 +208,7 @@ impl<B: Naming> Publisher<B> {
 
     /// Ends the publisher, and hands over the index that is published. It drops the held rows.
     fn into_published<R: Wait>(self, rt: &R) -> Index
-        ensures { result ≡ self.table }
+        ensures { table_of result ≡ self.table }
     {
         let Publisher {
             copies,

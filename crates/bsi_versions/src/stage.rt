@@ -10,6 +10,7 @@ ghost use Rattle.std.specs.Prelude.{◌≡◌, ◌<◌, [], IfErr, IfOk, IsTrue,
 ghost use Rattle.bsi_schema.specs.Columns.{fits};
 ghost use Rattle.bsi_rows.specs.RowBlocks.{emptied_block, entries_of, fed_as};
 ghost use Rattle.bsi_rows.specs.Table.{with_row, with_rows, AreKeptAlike};
+ghost use Rattle.bsi_table.specs.Index.{table_of};
 ghost use Rattle.bsi_versions.specs.Editions.{emptied, pending, HasStaged, IsFor, IsStageOf};
 
 use crate::copies::{Copies, append_batch, append_block};
@@ -30,19 +31,20 @@ pub(crate) struct Stage {
 // Clauses see the table of these rows.
 impl Model for Stage {
     ghost use Rattle.bsi_rows.specs.Table.{with_rows, Table};
+    ghost use Rattle.bsi_table.specs.Index.{table_of};
     ghost use Rattle.bsi_versions.specs.Editions.{IsFor};
 
     ghost Value = { Table };
 
-    ghost view = { λ s. with_rows s.batch s.block.rows };
+    ghost view = { λ s. with_rows (table_of s.batch) s.block.rows };
 
-    ghost invariant = { λ s. IsFor s.batch s.block };
+    ghost invariant = { λ s. IsFor (table_of s.batch) s.block };
 }
 
 impl Stage {
     /// Makes a stage of no rows yet, for rows that an index takes.
     pub(crate) fn new(table: &Index) -> Result<Stage, NoMemory>
-        ensures { IfOk result (λ stage. stage ≡ emptied table.now) }
+        ensures { IfOk result (λ stage. stage ≡ emptied (table_of table.now)) }
     {
         Ok(Stage {
             batch: table.new_like()?,
@@ -58,7 +60,7 @@ impl Stage {
         ensures err { OnErr result (self.new ≡ self.old) }
     {
         if self.block.len() == MAX_BLOCK_ROWS {
-            gather(&mut self.batch, &mut self.block)?;
+            empty_block(&mut self.batch, &mut self.block)?;
         }
         // The row fits the block, which has a place for it.
         let _ = self.block.push(feeder, row);
@@ -73,8 +75,8 @@ impl Stage {
             ≡ with_rows self.old (fed_as feeder (entries_of other.now.rows))) }
         ensures err { OnErr result (self.new ≡ self.old) }
     {
-        gather(&mut self.batch, &mut self.block)?;
-        make_room(&mut self.batch)?;
+        empty_block(&mut self.batch, &mut self.block)?;
+        reserve_batch(&mut self.batch)?;
         self.batch
             .append_index_from(feeder, other)
             .map_err(|_| NoMemory)?;
@@ -82,7 +84,7 @@ impl Stage {
     }
 
     /// Appends the batch to the pending operations, if a row more may make it too long.
-    pub(crate) fn make_place<B: Naming>(&mut self, copies: &mut Copies<B>) -> Result<(), NoMemory>
+    pub(crate) fn make_room<B: Naming>(&mut self, copies: &mut Copies<B>) -> Result<(), NoMemory>
         requires kind { IsStageOf copies.old.desk.shown.value.table self.old }
         ensures desk { copies.new.desk ≡ copies.old.desk }
         ensures staged { HasStaged (pending copies.old) self.old.rows
@@ -109,7 +111,7 @@ impl Stage {
         if self.batch.is_empty() {
             return append_block(copies, &mut self.block);
         }
-        gather(&mut self.batch, &mut self.block)?;
+        empty_block(&mut self.batch, &mut self.block)?;
         append_batch(copies, &mut self.batch)
     }
 
@@ -122,14 +124,14 @@ impl Stage {
 
     /// Hands over the index of these rows. If memory is refused, the stage comes back.
     pub(crate) fn into_table(self) -> Result<Index, Stage>
-        ensures ok { IfOk result (λ table. table ≡ self) }
+        ensures ok { IfOk result (λ table. table_of table ≡ self) }
         ensures err { IfErr result (λ stage. stage ≡ self) }
     {
         let Stage {
             mut batch,
             mut block,
         } = self;
-        match gather(&mut batch, &mut block) {
+        match empty_block(&mut batch, &mut block) {
             Ok(()) => Ok(batch),
             Err(_) => Err(Stage { batch, block }),
         }
@@ -137,25 +139,27 @@ impl Stage {
 }
 
 /// Moves the rows of a block to the batch, behind its rows.
-fn gather(batch: &mut Index, block: &mut Block) -> Result<(), NoMemory>
-    requires kind { IsFor batch.old block.old }
-    ensures ok { OnOk result ((batch.new ≡ with_rows batch.old block.old.rows)
+fn empty_block(batch: &mut Index, block: &mut Block) -> Result<(), NoMemory>
+    requires kind { IsFor (table_of batch.old) block.old }
+    ensures ok { OnOk result
+        ((table_of batch.new ≡ with_rows (table_of batch.old) block.old.rows)
         × (block.new ≡ emptied_block block.old)) }
-    ensures err { OnErr result ((batch.new ≡ batch.old) × (block.new ≡ block.old)) }
+    ensures err { OnErr result ((table_of batch.new ≡ table_of batch.old)
+        × (block.new ≡ block.old)) }
 {
     // The proof takes from `len` that the rows fit.
     if block.len() == 0 {
         return Ok(());
     }
-    make_room(batch)?;
+    reserve_batch(batch)?;
     batch.append_block(block).map_err(|_| NoMemory)?;
     block.clear();
     Ok(())
 }
 
 /// Makes room in a batch of no rows for all that blocks may bring, so that each bitmap grows once for them.
-fn make_room(batch: &mut Index) -> Result<(), NoMemory>
-    ensures { batch.new ≡ batch.old }
+fn reserve_batch(batch: &mut Index) -> Result<(), NoMemory>
+    ensures { table_of batch.new ≡ table_of batch.old }
 {
     if batch.is_empty() {
         batch.reserve(MAX_STAGED_ROWS.min(batch.limit()))?;

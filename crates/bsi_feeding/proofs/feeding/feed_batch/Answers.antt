@@ -17,13 +17,13 @@ returns-in_default g c =
 
 -- the ring has places for the batch
 pub send_batch-requires : goal.send_batch-requires
-send_batch-requires g c = omega (arith, c.gather.ensures.few, c.min-most.ensures, c.from.ensures, c.capacity.ensures)
+send_batch-requires g c = omega (arith, c.fill_batch.ensures.few, c.min-most.ensures, c.from.ensures, c.capacity.ensures)
 
 -- the rows of the batch were sent
 pub returns : goal.returns
 returns g c =
-    let rows = c.gather.new.batch.rows in
+    let rows = c.fill_batch.new.batch.rows in
     let many = length-map rows (λ (row : FedRow). row.1) in
     let some : 0 < length rows = omega (arith, c.len-rows.ensures.len, c.if-rows-eq0.false) in
-    let few : c.len-rows.result ≤ max_batch_rows = omega (arith, c.gather.ensures.few, c.len-rows.ensures.len, c.min-most.ensures) in
+    let few : c.len-rows.result ≤ max_batch_rows = omega (arith, c.fill_batch.ensures.few, c.len-rows.ensures.len, c.min-most.ensures) in
     (entries_of rows, omega (arith, many, c.len-rows.ensures.len), few, c.send_batch.ensures.sent c.if-not-send_batch.false, c.in-Ok.ensures.given.some (omega (arith, many, some)))

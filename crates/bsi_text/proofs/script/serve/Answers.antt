@@ -82,28 +82,28 @@ returns-in_err-answer-clause-part g c =
     λ bytes left. stands_cut _ bytes _ _ _ _ _ _ (stands_way _ bytes _ _ _ _ _ _ (c.records.invariant.stands bytes left) (g.W.Write.contents c.make_way.new.writer) c.make_way.new.waiting.items c.in_ok-make_way.ensures.ok)
 
 -- a first part of what waited and of the line was written
-pub returns-in_err-gather-clause-part : goal.returns-in_err-gather-clause-part
-returns-in_err-gather-clause-part g c =
+pub returns-in_err-let_wait-clause-part : goal.returns-in_err-let_wait-clause-part
+returns-in_err-let_wait-clause-part g c =
     let found : ReadRecord (λ w. g.R.Read.remaining w.inner) c.records.input c.read_next.new.input true (fields_of c.read_next.new.fields) = search rules in
     let turn : IsTurn (phase_of c.records.session) (fields_of c.read_next.new.fields) c.answer.new.line.items (phase_of c.answer.new.self) = search rules in
     λ bytes left after cut.
     stands_part (λ w. g.R.Read.remaining w.inner) c.records.input c.read_next.new.input (fields_of c.read_next.new.fields) (phase_of c.records.session) bytes _ _ _ _
     (stands_way _ bytes _ _ _ _ _ _ (c.records.invariant.stands bytes left) (g.W.Write.contents c.make_way.new.writer) c.make_way.new.waiting.items c.in_ok-make_way.ensures.ok) c.records.invariant.plain.config
     (phase_of c.answer.new.self) c.answer.new.line.items after found turn
-    (cut_end _ (g.W.Write.contents c.gather.new.writer) after _ c.gather.new.waiting.items (search rules) c.in_err-gather.ensures.none cut)
+    (cut_end _ (g.W.Write.contents c.let_wait.new.writer) after _ c.let_wait.new.waiting.items (search rules) c.in_err-let_wait.ensures.none cut)
 
 -- one more record was read, and its line waits or was written
 pub records-preserved : goal.records-preserved
 records-preserved g c =
     let found : ReadRecord (λ w. g.R.Read.remaining w.inner) c.records.input c.read_next.new.input true (fields_of c.read_next.new.fields) = search rules in
     let turn : IsTurn (phase_of c.records.session) (fields_of c.read_next.new.fields) c.answer.new.line.items (phase_of c.answer.new.self) = search rules in
-    let put : IsPut (g.W.Write.contents c.make_way.new.writer) (g.W.Write.contents c.gather.new.writer) c.gather.new.waiting.items (c.make_way.new.waiting.items ++ c.answer.new.line.items) = search rules in
+    let put : IsPut (g.W.Write.contents c.make_way.new.writer) (g.W.Write.contents c.let_wait.new.writer) c.let_wait.new.waiting.items (c.make_way.new.waiting.items ++ c.answer.new.line.items) = search rules in
     record {
       plain = search rules;
       stands = λ bytes left.
           stands_next (λ w. g.R.Read.remaining w.inner) c.records.input c.read_next.new.input (fields_of c.read_next.new.fields) (phase_of c.records.session) bytes _ _ _ _
           (stands_way _ bytes _ _ _ _ _ _ (c.records.invariant.stands bytes left) (g.W.Write.contents c.make_way.new.writer) c.make_way.new.waiting.items c.in_ok-make_way.ensures.ok) c.records.invariant.plain.config
-          (phase_of c.answer.new.self) c.answer.new.line.items (g.W.Write.contents c.gather.new.writer) c.gather.new.waiting.items found turn put;
+          (phase_of c.answer.new.self) c.answer.new.line.items (g.W.Write.contents c.let_wait.new.writer) c.let_wait.new.waiting.items found turn put;
     }
 
 -- there is one more than may be

@@ -4,8 +4,8 @@ use Rattle.csv.proofs.WriteFacts.{appends-more}
 use Rattle.bsi_reading.specs.Waiting.{IsCut}
 use Rattle.bsi_reading.proofs.Standing.{on_err}
 use Rattle.bsi_reading.proofs.Waiting.{cut_front, cut_whole, on_fault, on_ok, put_all}
-use Rattle.bsi_text.proofs.script.gather.Goals.{else-not-many-via-then-not-many+else-is_ok, else-not-many-via-else-not-many}
-use Rattle.bsi_text.proofs.script.gather.Goals as goal
+use Rattle.bsi_text.proofs.script.let_wait.Goals.{else-not-many-via-then-not-many+else-is_ok, else-not-many-via-else-not-many}
+use Rattle.bsi_text.proofs.script.let_wait.Goals as goal
 
 -- a first part of what waited was written
 pub returns-in_err-write_waiting-clause-part : goal.returns-in_err-write_waiting-clause-part

@@ -11,7 +11,7 @@ use Rattle.bsi_reading.specs.Sources.{GivesFirst, Source}
 use Rattle.bsi_feeding.specs.Feeding.{FailsNow, GivesNone}
 use Rattle.bsi_feeding.proofs.Feeds.{passed_none, HasPassed}
 use Rattle.bsi_feeding.proofs.Filled.{entries_append, fill_fails, fill_over, no_entries_of, passed_fill, passed_next, same_block}
-use Rattle.bsi_feeding.proofs.feeding.gather.Goals as goal
+use Rattle.bsi_feeding.proofs.feeding.fill_batch.Goals as goal
 
 pub fills-init : goal.fills-init
 fills-init g c =

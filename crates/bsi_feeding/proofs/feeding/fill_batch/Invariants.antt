@@ -2,7 +2,7 @@ use Rattle.std.proofs.Common.{◌≡◌, ◌*◌, ◌<◌, ◌≤◌, length}
 use Rattle.bsi_rows.specs.RowBlocks.{entries_of, max_block_rows}
 use Rattle.bsi_reading.specs.Sources.{max_records}
 use Rattle.bsi_feeding.proofs.Feeds.{HasPassed}
-use Rattle.bsi_feeding.proofs.feeding.gather.Given as goal
+use Rattle.bsi_feeding.proofs.feeding.fill_batch.Given as goal
 
 -- the batch has the next rows of the source, some of each block
 abbrev pub invariant-fills : goal.invariant-fills
