@@ -129,8 +129,8 @@ fn bound_of(end: End, best: Option<u64>, above: u64, base: u32, weight: u64) -> 
     }
 }
 
-/// Finds the digit at an end among those of a span's rows, or none if each is past a bound. It is a function, since a proof
-/// loses what a `match` decides where the arms join.
+/// Finds the digit at an end among those of a span's rows, or none if each is past a bound. It is a function, since a
+/// proof loses what a `match` decides where the arms join.
 fn end_digit<E: Encoding>(
     component: &E,
     end: End,
