@@ -16,8 +16,8 @@ pub use bsi_records::{
     DeclaredTable, NoMemory, read_number, read_query, read_row, read_setup, read_signed, write_bad,
     write_fed, write_reply,
 };
-pub use rows::{RowSource, SourceFault, SourceFaultText};
+pub use rows::{RowSource, SourceFault};
 pub use schema_text::{SchemaFault, read_schema};
-pub use script::{ScriptFault, ScriptFaultText, run_script};
+pub use script::{ScriptFault, run_script};
 pub use texts::RecordSource;
 pub use writing::{WriteFault, write_bytes};
