@@ -9,11 +9,16 @@ use std::{env, io};
 
 fn main(rt: HostRuntime) -> ExitCode {
     let (mut output, mut faults) = (rt.stdout(), rt.stderr());
-    let status = match read_words(&rt) {
-        Ok(words) => run_words(&rt, words, rt.stdin(), &mut output, &mut faults),
-        Err(_) => tell_fault(ScriptFault::NoMemory.text(), &mut faults),
-    };
-    ExitCode::from(status)
+    match read_words(&rt) {
+        Ok(words) => {
+            let ended = run_words(&rt, words, rt.stdin(), &mut output, &mut faults);
+            ExitCode::from(ended.status)
+        }
+        Err(_) => {
+            let _ = tell_fault(ScriptFault::NoMemory.text(), &mut faults);
+            ExitCode::from(1)
+        }
+    }
 }
 
 /// Reads the words behind the program's name. If one of them is not text, it returns no words, which are not a command.

@@ -1,5 +1,5 @@
 -- Faults of sources, and of a run.
-use Rattle.std.proofs.Common.{◌≡◌, ◌≢◌, All, ℕ, suc, zero, ◌≤◌, Bool, true, false, List, [], ◌∷◌, ◌++◌, length, map, take, Option, Some, None, Err, IfSome, MatchOption, inl, refl, ap, sym, ◌∙◌, subst, arith, length-append}
+use Rattle.std.proofs.Common.{◌≡◌, ◌≢◌, All, ℕ, suc, zero, ◌<◌, ◌≤◌, Bool, true, false, List, [], ◌∷◌, ◌++◌, length, map, take, Option, Some, None, Err, IfSome, MatchOption, inl, inr, refl, ap, sym, ◌∙◌, subst, arith, length-append}
 use Rattle.std.specs.Prelude.{IsSome, slice_get}
 use Rattle.std.specs.List.{AllWithin}
 use Rattle.std.proofs.lemmas.List.{take-map}
@@ -116,6 +116,12 @@ module _ {R : Type 0} (rem : R → Option (List ℕ)) where
   kept_many takings k (f ∷ feeders) (s ∷ sources) (e ∷ ends) (x ∷ feds) are told =
       (let le = kept_many takings (suc k) feeders sources ends feds are.1 told.1 in omega arith)
 
+  -- what there is stands within the list
+  at_within : (P : Fed → Type 0) (feds : List Fed) (n : ℕ) → MatchOption (slice_get feds n) ⊥ P → n < length feds
+  at_within P [] n is = absurd is
+  at_within P (fed ∷ feds) zero is = omega arith
+  at_within P (fed ∷ feds) (suc n) is = (let lt = at_within P feds n is in omega arith)
+
   pub few_kept : (takings : List Taking) (feeders : List Sending) (sources : List (Source R)) (ends : List FeedEnd) (feds : List Fed)
       → AreEndsOf rem (tasks feeders sources) ends → AreTold takings 0 ends feds → length sources ≤ max_feeders → length feds ≤ max_feeders
   few_kept takings feeders sources ends feds are told few = (let le = kept_many takings 0 feeders sources ends feds are told in omega arith)
@@ -127,8 +133,10 @@ module _ {R : Type 0} (rem : R → Option (List ℕ)) where
     kept_at takings 0 feeders sources ends feds n e are told kept.0.0,
     λ never. read_before takings 0 feeders sources ends feds n many are told kept.0.1 (kept.1 never),
   )
-  kept_load stops limit takings feeders sources ends feds many are told (run.NotClosed n) kept =
-      (let le = kept_many takings 0 feeders sources ends feds are told in omega (arith, kept, le))
+  kept_load stops limit takings feeders sources ends feds many are told (run.NotClosed n) (inl left) =
+      (let le = kept_many takings 0 feeders sources ends feds are told in omega (arith, at_within (λ fed. fed.closed ≡ false) feds n left.0, le))
+  kept_load stops limit takings feeders sources ends feds many are told (run.NotClosed n) (inr stopped) =
+      (let le = kept_many takings 0 feeders sources ends feds are told in omega (arith, at_within (λ fed. fed.stopped ≡ true) feds n stopped.1.1, le))
   kept_load stops limit takings feeders sources ends feds many are told fault kept = absurd kept.0
 
   -- ---- from the source to the bytes

@@ -6,6 +6,10 @@ use Rattle.bsi_files.specs.declared.faults.Which.{Which}
 use Rattle.bsi_files.specs.declared.faults.Which.TheVariants.{AsksFile, SchemaFile}
 use Rattle.bsi_reading.specs.FaultTexts.{source_fault_text}
 
+-- the most bytes of the text of a fault
+abbrev pub max_fault_text : ℕ
+max_fault_text = 44
+
 abbrev pub which_text : Which → List ℕ
 which_text SchemaFile = codes "schema"
 which_text AsksFile = codes "asks"
@@ -19,7 +23,7 @@ fault_text (BadSchema number) = codes "bsi: schema: bad record " ++ decimal numb
 fault_text NoColumns = codes "bsi: schema: no columns"
 fault_text (Source file fault) = codes "bsi: file " ++ decimal file ++ codes ": " ++ source_fault_text fault
 fault_text IndexFull = codes "bsi: index full"
-fault_text (NotClosed file) = codes "bsi: file " ++ decimal file ++ codes ": not closed"
+fault_text (NotClosed file) = codes "bsi: file " ++ decimal file ++ codes ": " ++ codes "not closed"
 fault_text Readers = codes "bsi: no reader"
 fault_text NoMemory = codes "bsi: no memory"
 fault_text Write = codes "bsi: write failed"

@@ -1,5 +1,5 @@
 -- What a fault of a run tells of the bytes of its files.
-use Rattle.std.specs.Prelude.{◌≡◌, ⊤, ℕ, ◌<◌, ◌≤◌, Bool, true, false, List, ◌∷◌, All, Option, None, Some, MatchOption, length, map, slice_get, take}
+use Rattle.std.specs.Prelude.{◌≡◌, ⊤, ℕ, ◌<◌, ◌≤◌, ◌⊎◌, Bool, true, false, List, ◌∷◌, All, Option, None, Some, MatchOption, length, map, slice_get, take}
 use Rattle.std.specs.List.{sum_by, AllWithin}
 use Rattle.csv.specs.declared.parser.State.{State}
 use Rattle.bsi_records.specs.Numbers.{Field}
@@ -137,15 +137,32 @@ IsSourceFault feds (run.Source number fault) =
     MatchOption (slice_get feds number) ⊥ (λ fed. fed.fault ≡ Some fault) × AllWithin (λ fed. fed.fault ≡ None) feds 0 number
 IsSourceFault feds fault = ⊥
 
--- the fault is that a feeder, one of these, was not closed
+-- this feeder is the first of these that left no closing
+abbrev pub IsFirstOpen : List Fed → ℕ → Type 0
+IsFirstOpen feds number =
+    MatchOption (slice_get feds number) ⊥ (λ fed. fed.closed ≡ false) × AllWithin (λ fed. fed.closed ≡ true) feds 0 number
+
+-- each left one, and this feeder is the first of these that was stopped
+abbrev pub IsFirstStopped : List Fed → ℕ → Type 0
+IsFirstStopped feds number =
+    All (λ fed. fed.closed ≡ true) feds × MatchOption (slice_get feds number) ⊥ (λ fed. fed.stopped ≡ true)
+    × AllWithin (λ fed. fed.stopped ≡ false) feds 0 number
+
+-- the fault is that the first feeder that left no closing was not closed
 abbrev pub IsNotClosed : List Fed → FilesFault → Type 0
-IsNotClosed feds (run.NotClosed number) = number < length feds
+IsNotClosed feds (run.NotClosed number) = IsFirstOpen feds number
 IsNotClosed feds fault = ⊥
 
--- the fault is that one of these feeders was not closed, or the first one of a source; then no feeder was stopped where
--- no gate does
+-- or, where each left one, the first that was stopped
+abbrev pub IsStopped : List Fed → FilesFault → Type 0
+IsStopped feds (run.NotClosed number) = IsFirstOpen feds number ⊎ IsFirstStopped feds number
+IsStopped feds fault = ⊥
+
+-- the fault is one of these, the latter where no gate stops a feeder, or the first one of a source; then no feeder was
+-- stopped where no gate does
 abbrev pub IsKeptFault : Bool → List Fed → FilesFault → Type 0
-IsKeptFault stops feds (run.NotClosed number) = number < length feds
+IsKeptFault stops feds (run.NotClosed number) =
+    IsFirstOpen feds number ⊎ ((stops ≡ false) × IsFirstStopped feds number)
 IsKeptFault stops feds fault = IsSourceFault feds fault × (stops ≡ false → AreGoing feds)
 
 -- a fault that is met while rows are loaded

@@ -1,12 +1,21 @@
 //! Why a run over row files ends early.
 
-ghost use Rattle.std.specs.Prelude.{◌≡◌, true};
+ghost use Rattle.std.specs.Prelude.{◌≡◌, ◌+◌, ◌≤◌, ◌++◌, codes, decimal, length, true};
+ghost use Rattle.bsi_files.specs.FaultTexts.{fault_text, which_text};
 ghost use Rattle.bsi_files.specs.Faults.{is_late, text_fault};
 
+use arrayvec::ArrayString;
 use bsi_text::{SchemaFault, SourceFault, WriteFault};
+use itoa::Buffer;
 use std::alloc::AllocError;
 use std::fmt;
 use thiserror::Error;
+
+/// The most bytes of the text of a fault: those of `bsi: schema: bad record ` and of a number of 20 digits.
+pub const MAX_FAULT_TEXT: usize = 44;
+
+/// The text of a fault.
+pub type FaultText = ArrayString<MAX_FAULT_TEXT>;
 
 /// One of the two texts beside the row files.
 #[derive(Clone, Copy, Debug, PartialEq, Eq)]
@@ -17,6 +26,18 @@ pub enum Which {
     AsksFile,
 }
 
+impl Which {
+    /// Returns what is printed of this text.
+    pub fn name(&self) -> &'static str
+        ensures { result.now ≡ which_text self.now }
+    {
+        match self {
+            Which::SchemaFile => "schema",
+            Which::AsksFile => "asks",
+        }
+    }
+}
+
 impl fmt::Display for Which {
     ghost use Rattle.std.specs.Prelude.{Some};
     ghost use Rattle.bsi_files.specs.FaultTexts.{which_text};
@@ -24,10 +45,7 @@ impl fmt::Display for Which {
     ghost output = { λ which. Some (which_text which) };
 
     fn fmt<W: fmt::Write>(&self, f: &mut fmt::Formatter<W>) -> fmt::Result {
-        match self {
-            Which::SchemaFile => write!(f, "schema"),
-            Which::AsksFile => write!(f, "asks"),
-        }
+        write!(f, "{}", self.name())
     }
 }
 
@@ -61,33 +79,6 @@ pub enum FilesFault {
     NoMemory,
     /// The writer failed, or took no byte.
     Write,
-}
-
-/// The printed text of a fault. A clause knows its bytes; the fault itself prints the same ones.
-#[derive(Clone, Copy, Debug)]
-pub struct FilesFaultText(FilesFault);
-
-impl fmt::Display for FilesFaultText {
-    ghost use Rattle.std.specs.Prelude.{Some};
-    ghost use Rattle.bsi_files.specs.FaultTexts.{fault_text};
-
-    ghost output = { λ text. Some (fault_text text.0) };
-
-    fn fmt<W: fmt::Write>(&self, f: &mut fmt::Formatter<W>) -> fmt::Result {
-        match self.0 {
-            FilesFault::TooManyFiles => write!(f, "bsi: more than 64 files"),
-            FilesFault::Read(which) => write!(f, "bsi: {which}: read failed"),
-            FilesFault::TooLong(which) => write!(f, "bsi: {which}: input too long"),
-            FilesFault::BadSchema(record) => write!(f, "bsi: schema: bad record {record}"),
-            FilesFault::NoColumns => write!(f, "bsi: schema: no columns"),
-            FilesFault::Source(file, fault) => write!(f, "bsi: file {file}: {}", fault.text()),
-            FilesFault::IndexFull => write!(f, "bsi: index full"),
-            FilesFault::NotClosed(file) => write!(f, "bsi: file {file}: not closed"),
-            FilesFault::Readers => write!(f, "bsi: no reader"),
-            FilesFault::NoMemory => write!(f, "bsi: no memory"),
-            FilesFault::Write => write!(f, "bsi: write failed"),
-        }
-    }
 }
 
 impl From<AllocError> for FilesFault {
@@ -126,10 +117,29 @@ impl From<SchemaFault> for FilesFault {
 
 impl FilesFault {
     /// Returns what is printed of this fault.
-    pub fn text(&self) -> FilesFaultText
-        ensures { result.0 ≡ self.now }
+    #[tactic(auto, using(crate::proofs::Texts::which_short, crate::proofs::Texts::source_short))]
+    pub fn text(&self) -> FaultText
+        ensures { result.bytes ≡ fault_text self.now }
     {
-        FilesFaultText(*self)
+        let mut text = FaultText::new();
+        text.push_str("bsi: ");
+        match self {
+            FilesFault::TooManyFiles => text.push_str("more than 64 files"),
+            FilesFault::Read(which) => push_both(&mut text, which.name(), ": read failed"),
+            FilesFault::TooLong(which) => push_both(&mut text, which.name(), ": input too long"),
+            FilesFault::BadSchema(record) => {
+                text.push_str("schema: bad record ");
+                text.push_str(Buffer::new().format(*record));
+            }
+            FilesFault::NoColumns => text.push_str("schema: no columns"),
+            FilesFault::Source(file, fault) => push_file(&mut text, *file, fault.text()),
+            FilesFault::IndexFull => text.push_str("index full"),
+            FilesFault::NotClosed(file) => push_file(&mut text, *file, "not closed"),
+            FilesFault::Readers => text.push_str("no reader"),
+            FilesFault::NoMemory => text.push_str("no memory"),
+            FilesFault::Write => text.push_str("write failed"),
+        }
+        text
     }
 
     /// Returns the fault of a run for a text whose records were not all read.
@@ -144,4 +154,23 @@ impl FilesFault {
             SourceFault::Read | SourceFault::BadHeader => FilesFault::Read(which),
         }
     }
+}
+
+/// Puts two texts behind what there is.
+fn push_both(text: &mut FaultText, first: &str, second: &str)
+    requires { length text.old.bytes + (length first.now + length second.now) ≤ 44 }
+    ensures { text.new.bytes ≡ text.old.bytes ++ (first.now ++ second.now) }
+{
+    text.push_str(first);
+    text.push_str(second);
+}
+
+/// Puts the number of a row file, and what is told of it, behind what there is.
+fn push_file(text: &mut FaultText, file: u32, told: &str)
+    requires { length text.old.bytes + length told.now ≤ 27 }
+    ensures { text.new.bytes ≡ text.old.bytes ++ (codes "file " ++ decimal file ++ codes ": " ++ told.now) }
+{
+    text.push_str("file ");
+    text.push_str(Buffer::new().format(file));
+    push_both(text, ": ", told);
 }

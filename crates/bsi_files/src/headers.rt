@@ -1,6 +1,7 @@
 //! The headers of the row files, which are read before any row is.
 
-ghost use Rattle.std.specs.Prelude.{◌≡◌, ◌<◌, ◌≤◌, IfErr, IfOk, length, map, true};
+ghost use Rattle.std.specs.Prelude.{◌≡◌, ◌<◌, ◌≤◌, IfErr, IfOk, length, map, replicate, true};
+ghost use Rattle.bsi_feeding.specs.Feeding.{max_batch_rows};
 ghost use Rattle.bsi_files.specs.Begun.{Begins};
 ghost use Rattle.bsi_files.specs.Matching.{AreMatched};
 ghost use Rattle.bsi_files.specs.Faults.{is_of_headers};
@@ -60,7 +61,8 @@ fn begin<I: Read + Drop>(
 
 /// Returns the capacity of each file's ring: as many of its rows may wait for the loader as a batch has.
 pub(crate) fn capacities(alloc: Global, files: usize) -> Result<Vec<u32>, NoMemory>
-    ensures { IfOk result (λ made. length made.items ≡ files) }
+    ensures many { IfOk result (λ made. length made.items ≡ files) }
+    ensures places { IfOk result (λ made. made.items ≡ replicate files max_batch_rows) }
 {
     vec![in alloc; MAX_BATCH_ROWS as u32; files]
 }

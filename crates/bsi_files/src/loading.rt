@@ -9,7 +9,7 @@ ghost use Rattle.bsi_system.specs.Running.{taking_at, IsClosingOf};
 ghost use Rattle.bsi_files.specs.Ends.{AreClosings};
 ghost use Rattle.bsi_files.specs.Takings.{all_closed, AreGoing, AreTold, IsDrained, IsFine, IsFullAt, IsFullBefore, IsFedOf, KeepsOthers, KeepsTold, TakesOnlyOf};
 ghost use Rattle.bsi_files.specs.Faults.{is_early};
-ghost use Rattle.bsi_files.specs.RunFaults.{IsKeptFault, IsNotClosed, IsSourceFault};
+ghost use Rattle.bsi_files.specs.RunFaults.{IsKeptFault, IsNotClosed, IsSourceFault, IsStopped};
 ghost use Rattle.bsi_rows.specs.Table.{max_feeders};
 
 use crate::headers::file_number;
@@ -267,7 +267,8 @@ pub(crate) fn check_all(fed: &[Fed], stops: bool) -> Result<(), FilesFault>
 /// closing. Where each left one, the full index that stops a feeder was told before.
 fn check_going(fed: &[Fed], stops: bool) -> Result<(), FilesFault>
     requires { length fed.now ≤ max_feeders }
-    ensures fault { IfErr result (IsNotClosed fed.now) }
+    ensures fault { IfErr result (IsStopped fed.now) }
+    ensures gate { OnErr result (stops ≡ false) }
     ensures going { OnOk result (stops ≡ false → AreGoing fed.now) }
     ensures stopped { OnErr result (¬ (stops ≡ false → AreGoing fed.now)) }
 {

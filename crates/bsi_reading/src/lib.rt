@@ -11,7 +11,7 @@ mod writing;
 
 pub use bsi_records::{DeclaredTable, NoMemory};
 pub use reading::{MAX_RECORDS, plain_reader, read_next};
-pub use rows::{RowSource, SourceFault, SourceFaultText};
+pub use rows::{RowSource, SourceFault};
 pub use schema_text::{SchemaFault, read_schema};
 pub use texts::RecordSource;
 pub use writing::{WriteFault, write_bytes};

@@ -8,6 +8,7 @@ ghost use Rattle.csv.specs.Reading.{reader_state, source_of, strip_bom};
 ghost use Rattle.csv.specs.declared.parser.State.TheVariants as st;
 ghost use Rattle.bsi_schema.specs.Columns.{fits};
 ghost use Rattle.bsi_rows.specs.RowBlocks.{max_block_rows, no_block_rows, HaveSameLimits};
+ghost use Rattle.bsi_reading.specs.FaultTexts.{source_fault_text};
 ghost use Rattle.bsi_reading.specs.RowFiles.{given, is_header};
 ghost use Rattle.bsi_reading.specs.Sources.{counts_of, end_after, end_of, max_records, AreCounts, Fills, GivesFirst, HasGiven, HasNoHeader, HasStopped, IsPlain, PutsRows, StandsAfter};
 
@@ -17,7 +18,6 @@ use crate::reading::{MAX_RECORDS, end_of, plain_reader, read_next, take_record};
 use bsi_rows::{Block, MAX_BLOCK_ROWS, Row, Schema};
 use csv::{ByteRecord, Reader};
 use std::alloc::Global;
-use std::fmt;
 use std::io::Read;
 use std::marker::Model;
 use thiserror::Error;
@@ -36,31 +36,16 @@ pub enum SourceFault {
     TooLong,
 }
 
-/// The printed text of a fault. A clause knows its bytes; the fault itself prints the same ones.
-#[derive(Clone, Copy, Debug)]
-pub struct SourceFaultText(SourceFault);
-
 impl SourceFault {
     /// Returns what is printed of this fault.
-    pub fn text(&self) -> SourceFaultText
-        ensures { result.0 ≡ self.now }
+    pub fn text(&self) -> &'static str
+        ensures { result.now ≡ source_fault_text self.now }
     {
-        SourceFaultText(*self)
-    }
-}
-
-impl fmt::Display for SourceFaultText {
-    ghost use Rattle.std.specs.Prelude.{Some};
-    ghost use Rattle.bsi_reading.specs.FaultTexts.{source_fault_text};
-
-    ghost output = { λ text. Some (source_fault_text text.0) };
-
-    fn fmt<W: fmt::Write>(&self, f: &mut fmt::Formatter<W>) -> fmt::Result {
-        match self.0 {
-            SourceFault::BadHeader => write!(f, "bad header"),
-            SourceFault::Read => write!(f, "read failed"),
-            SourceFault::NoMemory => write!(f, "no memory"),
-            SourceFault::TooLong => write!(f, "input too long"),
+        match self {
+            SourceFault::BadHeader => "bad header",
+            SourceFault::Read => "read failed",
+            SourceFault::NoMemory => "no memory",
+            SourceFault::TooLong => "input too long",
         }
     }
 }

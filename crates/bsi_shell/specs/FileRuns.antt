@@ -1,16 +1,16 @@
 -- What a run over files leaves in the output, and what it tells of a fault.
 use Rattle.std.specs.Io.KnownBytes.{Keeps}
-use Rattle.std.specs.Prelude.{◌≡◌, ◌<◌, ◌≤◌, ⊤, ◌⊎◌, ℕ, false, List, Option, length, map}
+use Rattle.std.specs.Prelude.{◌≡◌, ◌<◌, ◌≤◌, ⊤, ◌⊎◌, ℕ, false, List, Option, Result, length, map}
 use Rattle.bsi_files.specs.RunFaults.{IsFaultOf}
 use Rattle.bsi_files.specs.Runs.{IsRun}
 use Rattle.bsi_files.specs.Writing.{Leaves, WhereKnown, WritesAll}
 use Rattle.bsi_files.specs.declared.faults.FilesFault.{FilesFault}
 use Rattle.bsi_files.specs.declared.faults.FilesFault.TheVariants.{NoMemory}
 use Rattle.bsi_rows.specs.Table.{max_feeders}
-use Rattle.bsi_shell.specs.FaultLines.{fault_line}
+use Rattle.bsi_shell.specs.FaultLines.{fault_line, IsTold}
 use Rattle.bsi_shell.specs.declared.files.RunFault.{RunFault}
 use Rattle.bsi_shell.specs.declared.files.RunFault.TheVariants.{CannotOpen, Run}
-use Rattle.bsi_reading.specs.Waiting.{IsCut}
+use Rattle.bsi_reading.specs.declared.writing.WriteFault.{WriteFault}
 
 -- some files were opened, 1 to 64 of them row files, and where it is known what they give, the lines of a run over them
 -- were put after what the output held
@@ -49,8 +49,8 @@ abbrev pub HasEndedEarly : {S : Type 0} → (S → Option (List ℕ)) → Option
 HasEndedEarly rem before after (CannotOpen path) = Keeps before after
 HasEndedEarly rem before after (Run fault) = ((fault ≡ NoMemory) × Keeps before after) ⊎ HasFailedOver rem fault before after
 
--- a run ended early, and a first part of the line of this fault was told
-pub record HasToldFault {S : Type 0} (rem : S → Option (List ℕ)) (before after said told : Option (List ℕ)) : Type 0 where
+-- a run ended early, and the line of this fault was told
+pub record HasToldFault {S : Type 0} (rem : S → Option (List ℕ)) (before after : Option (List ℕ)) (told : Result (Unit {0}) WriteFault) (said now : Option (List ℕ)) : Type 0 where
   pub fault : RunFault
   pub failed : HasEndedEarly rem before after fault
-  pub line : IsCut said told (fault_line fault)
+  pub line : IsTold told said now (fault_line fault)

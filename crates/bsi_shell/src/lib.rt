@@ -8,11 +8,11 @@ mod request;
 mod telling;
 mod words;
 
-pub use bsi_files::{FeedEnd, FilesFault, Gate, Go, Stopping, Which, feed, run_files};
+pub use bsi_files::{FaultText, FeedEnd, FilesFault, Gate, Go, Stopping, Which, feed, run_files};
 pub use bsi_system::{
     Analyst, AnalystRefused, BatchRefused, Closing, Feeder, History, LoadRefused, Loader, Naming,
     NoMemory, OpenRefused, SettleRefused, SubmitRefused, System, Told, open,
 };
-pub use bsi_text::ScriptFault;
+pub use bsi_text::{ScriptFault, WriteFault};
 pub use telling::tell_fault;
-pub use words::run_words;
+pub use words::{CommandEnd, run_words};

@@ -55,7 +55,7 @@ fn end_once<R: AllocGlobal + Files<File = S> + Threads + Wait + Sync, S: Read + 
         ..EMPTY
     };
     Ok(LineEnd {
-        status: run_words(rt, words, reader, &mut output, &mut faults),
+        status: run_words(rt, words, reader, &mut output, &mut faults).status,
         flushes: output.flushes,
         output: output.taken,
         faults,

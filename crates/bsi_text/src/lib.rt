@@ -6,11 +6,10 @@ mod session;
 mod watched;
 
 pub use bsi_reading::{
-    RecordSource, RowSource, SchemaFault, SourceFault, SourceFaultText, WriteFault, laws,
-    read_schema, write_bytes,
+    RecordSource, RowSource, SchemaFault, SourceFault, WriteFault, laws, read_schema, write_bytes,
 };
 pub use bsi_records::{
     DeclaredTable, NoMemory, read_number, read_query, read_row, read_setup, read_signed, write_bad,
     write_fed, write_reply,
 };
-pub use script::{ScriptFault, ScriptFaultText, run_script};
+pub use script::{ScriptFault, run_script};

@@ -5,6 +5,7 @@ ghost use Rattle.std.specs.Io.KnownBytes.{Appends};
 ghost use Rattle.csv.specs.Reading.{reader_state, source_of};
 ghost use Rattle.csv.specs.declared.parser.State.TheVariants as st;
 ghost use Rattle.bsi_records.specs.Setups.{nothing_declared};
+ghost use Rattle.bsi_text.specs.FaultTexts.{script_fault_text};
 ghost use Rattle.bsi_reading.specs.Scripts.{Declaring};
 ghost use Rattle.bsi_text.specs.Sessions.{phase_of};
 ghost use Rattle.bsi_reading.specs.Sources.{IsPlain};
@@ -17,7 +18,6 @@ use crate::{NoMemory, WriteFault, write_bytes};
 use bsi_reading::{MAX_RECORDS, plain_reader, read_next};
 use csv::{ByteRecord, Reader};
 use std::alloc::Global;
-use std::fmt;
 use std::io::{Read, Write};
 use thiserror::Error;
 
@@ -38,31 +38,16 @@ pub enum ScriptFault {
     TooLong,
 }
 
-/// The printed text of a fault. A clause knows its bytes; the fault itself prints the same ones.
-#[derive(Clone, Copy, Debug)]
-pub struct ScriptFaultText(ScriptFault);
-
 impl ScriptFault {
     /// Returns what is printed of this fault.
-    pub fn text(&self) -> ScriptFaultText
-        ensures { result.0 ≡ self.now }
+    pub fn text(&self) -> &'static str
+        ensures { result.now ≡ script_fault_text self.now }
     {
-        ScriptFaultText(*self)
-    }
-}
-
-impl fmt::Display for ScriptFaultText {
-    ghost use Rattle.std.specs.Prelude.{Some};
-    ghost use Rattle.bsi_text.specs.FaultTexts.{script_fault_text};
-
-    ghost output = { λ text. Some (script_fault_text text.0) };
-
-    fn fmt<W: fmt::Write>(&self, f: &mut fmt::Formatter<W>) -> fmt::Result {
-        match self.0 {
-            ScriptFault::Read => write!(f, "bsi: read failed"),
-            ScriptFault::Write => write!(f, "bsi: write failed"),
-            ScriptFault::NoMemory => write!(f, "bsi: no memory"),
-            ScriptFault::TooLong => write!(f, "bsi: input too long"),
+        match self {
+            ScriptFault::Read => "bsi: read failed",
+            ScriptFault::Write => "bsi: write failed",
+            ScriptFault::NoMemory => "bsi: no memory",
+            ScriptFault::TooLong => "bsi: input too long",
         }
     }
 }

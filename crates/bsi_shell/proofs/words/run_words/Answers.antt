@@ -1,6 +1,7 @@
 use Rattle.std.proofs.Common.{inl, refl, subst, sym}
 use Rattle.bsi_files.specs.declared.faults.FilesFault.TheVariants.{NoMemory}
 use Rattle.bsi_shell.specs.Commands.{BeginsWithFiles}
+use Rattle.bsi_shell.specs.FaultLines.{fault_line, IsTold}
 use Rattle.bsi_shell.specs.declared.files.RunFault.TheVariants.{Run}
 use Rattle.bsi_reading.proofs.Standing.{nothing_begun}
 use Rattle.bsi_shell.proofs.Runs.{keeps_same, of_any}
@@ -15,9 +16,6 @@ returns-in-Ok-clause-ran g c = λ zero files.
 
 pub returns-in-Ok-clause-quiet : goal.returns-in-Ok-clause-quiet
 returns-in-Ok-clause-quiet g c = λ zero. refl
-
-pub returns-in-Script-clause-answered : goal.returns-in-Script-clause-answered
-returns-in-Script-clause-answered g c = λ zero other. cc (c.tell_fault.ensures.status, zero)
 
 pub returns-in-Script-clause-begun : goal.returns-in-Script-clause-begun
 returns-in-Script-clause-begun g c = λ one other. c.in-Err.ensures.fault
@@ -35,5 +33,6 @@ returns-clause-told g c = λ one files.
     record {
       fault = Run NoMemory;
       failed = inl (refl, keeps_same written written refl);
-      line = c.tell_run_fault-in-NoMemory.ensures.told;
+      line = subst (λ told. IsTold told (g.F.Write.contents c.args.faults.now) (g.F.Write.contents c.tell_run_fault-in-NoMemory.new.faults) (fault_line (Run NoMemory)))
+          (sym c.by-in-NoMemory.ensures.told) c.tell_run_fault-in-NoMemory.ensures;
     }
