@@ -4,7 +4,7 @@
 - No page is too long. A link to a file of the repository leads to one, and behind a # to a heading; so does each name docs/X.md.
 - The version in VERSION is that of the manual page, whose date is that of the newest heading of CHANGELOG.md, of that
   heading, and of README.md.
-- The lines of a block ```rust stand so, one below the other, in a file of crates/bsi_uses/src.
+- The lines of a block ```rust stand so, one below the other, in a file of crates/bsi_examples/src.
 - Each clause of a block ```text after a line `fn NAME..` is one of a function of that name, where S stands for what self shows at the call,
   and S' at the return.
 - examples/README.md names each file and folder of examples/. docs/ARCHITECTURE.md lists the crates of crates.txt, in its order, each by
@@ -123,14 +123,14 @@ def stand_in(lines, source):
 
 def fault_in_rattle(top):
     """Returns which lines of Rattle are those of no proved use, or None."""
-    sources = [text_of(path) for path in glob.glob(os.path.join(top, "crates", "bsi_uses", "src", "*.rt"))]
+    sources = [text_of(path) for path in glob.glob(os.path.join(top, "crates", "bsi_examples", "src", "*.rt"))]
     found = list(blocks(top, "rust"))
     if not any(document == "README.md" for document, _ in found):
         return "README.md has no lines of Rattle"
     for document, text in found:
         lines = text.splitlines(keepends=True)
         if not any(stand_in(lines, source) for source in sources):
-            return f"{document}: the lines from {lines[0].strip()!r} on stand in no file of crates/bsi_uses/src"
+            return f"{document}: the lines from {lines[0].strip()!r} on stand in no file of crates/bsi_examples/src"
     return None
 
 

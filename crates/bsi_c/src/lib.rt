@@ -3,12 +3,12 @@
 #![tactic(auto)]
 
 ghost use Rattle.std.specs.Prelude.{◌≡◌, ◌≢◌, Err, None, map};
-ghost use Rattle.bsi_handles.specs.Calls.{IsAppending, IsAsking, IsClosing, IsCounting, IsDescribing, IsOpening, IsSelecting, IsSharing};
-ghost use Rattle.bsi_handles.specs.States.{opened_in};
-ghost use Rattle.bsi_handles.specs.Statuses.{status_of, Tells};
-ghost use Rattle.bsi_handles.specs.declared.refusal.Refusal.TheVariants.{NoMemory, NoRoom};
+ghost use Rattle.bsi_ffi.specs.Calls.{IsAppending, IsAsking, IsClosing, IsCounting, IsDescribing, IsOpening, IsSelecting, IsSharing};
+ghost use Rattle.bsi_ffi.specs.States.{opened_in};
+ghost use Rattle.bsi_ffi.specs.Statuses.{status_of, Tells};
+ghost use Rattle.bsi_ffi.specs.declared.refusal.Refusal.TheVariants.{NoMemory, NoRoom};
 
-use bsi_handles::{
+use bsi_ffi::{
     FlatAnswer, GivenColumn, Handle, Place, append, ask, close, count, describe, open, select,
     share, status_of,
 };

@@ -2,7 +2,7 @@
 
 use bsi_bits::Bits;
 use bsi_columns::{AnyColumn, Column, NoMemory, Op};
-use bsi_plain::{FORMS, MakingError, TestForm, Wide, append, compared, empty_column, has_bits};
+use bsi_fixtures::{FORMS, MakingError, TestForm, Wide, append, compared, empty_column, has_bits};
 use std::alloc::Global;
 
 /// The comparisons of the entries 3, none and 2.

@@ -3,7 +3,7 @@
 use crate::comparisons::{FIFTEEN, selects_shown, three_rows};
 use bsi_bits::MAX_LEN;
 use bsi_columns::{AnyColumn, Column, NoMemory};
-use bsi_plain::{FORMS, MakingError, TestForm, append, empty_column};
+use bsi_fixtures::{FORMS, MakingError, TestForm, append, empty_column};
 use std::alloc::Global;
 
 // Returns whether a growth succeeds.

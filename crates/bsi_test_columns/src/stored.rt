@@ -5,7 +5,7 @@ use bsi_bits::Bits;
 use bsi_columns::{
     Column, Decomposed, Encoding, EqualityComponent, NoMemory, Op, RangeComponent, Slices,
 };
-use bsi_plain::{MakingError, WholeVectors, append, empty_decomposed, empty_slices, has_bits};
+use bsi_fixtures::{MakingError, WholeVectors, append, empty_decomposed, empty_slices, has_bits};
 use std::alloc::Global;
 
 const ENTRIES: [Option<u64>; 3] = [Some(3), None, Some(2)];

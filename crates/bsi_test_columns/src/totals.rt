@@ -6,7 +6,7 @@ ghost use Rattle.bsi_bits.specs.BitList.{max_len};
 use crate::comparisons::{column_of, selects};
 use bsi_bits::Bits;
 use bsi_columns::{AnyColumn, Column, NoMemory, Op};
-use bsi_plain::{FORMS, MakingError, TestForm, Wide};
+use bsi_fixtures::{FORMS, MakingError, TestForm, Wide};
 use std::alloc::Global;
 
 /// The sum of some numbers, and the least, the greatest and the lower median, where there are numbers.

@@ -1,6 +1,6 @@
 //! How a command line ends, and how often its output is flushed.
 
-use bsi_plain::{EMPTY, NarrowWriter, TextReader};
+use bsi_fixtures::{EMPTY, NarrowWriter, TextReader};
 use bsi_shell::run_words;
 use std::alloc::{AllocError, Global};
 use std::io;

@@ -3,7 +3,7 @@
 use crate::inputs::{QUANTITIES, broken, text};
 use crate::runs::{RunInputs, ends};
 use bsi_files::{FilesFault, Go, Which, run_files};
-use bsi_plain::NarrowWriter;
+use bsi_fixtures::NarrowWriter;
 use std::alloc::AllocError;
 use std::sync::Wait;
 use std::thread::Threads;

@@ -1,6 +1,6 @@
 //! Readers of the tests.
 
-use bsi_plain::{EMPTY, TextReader};
+use bsi_fixtures::{EMPTY, TextReader};
 
 pub(crate) type Input = TextReader<'static>;
 

@@ -3,7 +3,7 @@
 
 use crate::tables::{answer, index_of};
 use bsi_columns::NoMemory;
-use bsi_plain::{DeclaredColumn, FORMS, QTY, TestForm, row_of};
+use bsi_fixtures::{DeclaredColumn, FORMS, QTY, TestForm, row_of};
 use bsi_table::{Answer, AppendError, Block, Index, IndexError, MAX_BLOCK_ROWS, Pred, Row, Total};
 use std::alloc::Global;
 

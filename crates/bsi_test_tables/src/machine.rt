@@ -4,7 +4,7 @@ use bsi_columns::NoMemory;
 use bsi_load::{
     Core, Event, LoadRefused, MakeError, Reply, RunRefused, SubmitRefused, check_sizes,
 };
-use bsi_plain::{DeclaredColumn, QTY, row_of, schema_of};
+use bsi_fixtures::{DeclaredColumn, QTY, row_of, schema_of};
 use bsi_table::{Answer, AskError, Pred, Query, Row, Schema, SchemaError, Total};
 use std::alloc::Global;
 use std::test::Fail;

@@ -1,6 +1,6 @@
 //! Indexes that the tests make and ask. A refused allocation is tried again.
 
-use bsi_plain::{DeclaredColumn, schema_of};
+use bsi_fixtures::{DeclaredColumn, schema_of};
 use bsi_table::{
     Answer, AppendError, AskError, Index, IndexError, MAX_FEEDERS, Pred, Query, Row, Total,
 };

@@ -3,7 +3,7 @@
 
 use crate::tables::{answer, append_row, has_rows, index_of};
 use bsi_columns::{AnyColumn, NoMemory, Op};
-use bsi_plain::{DeclaredColumn, FORMS, QTY, TestForm, add, both, has_bits, not, row_of};
+use bsi_fixtures::{DeclaredColumn, FORMS, QTY, TestForm, add, both, has_bits, not, row_of};
 use bsi_table::{Answer, AskError, Index, IndexError, Pred, Row, Schema, SchemaError, Total};
 use std::alloc::Global;
 

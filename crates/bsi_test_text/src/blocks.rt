@@ -2,7 +2,7 @@
 
 use crate::ends::broken;
 use crate::row_files::schema_of;
-use bsi_plain::TextReader;
+use bsi_fixtures::TextReader;
 use bsi_table::{Block, Row, Schema};
 use bsi_text::{NoMemory, RowSource, SourceFault};
 use std::alloc::Global;

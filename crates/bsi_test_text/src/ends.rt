@@ -1,6 +1,6 @@
 //! Scripts whose readers and writers fail.
 
-use bsi_plain::{EMPTY, NarrowWriter, TextReader};
+use bsi_fixtures::{EMPTY, NarrowWriter, TextReader};
 use bsi_text::{NoMemory, ScriptFault, run_script};
 use std::alloc::Global;
 

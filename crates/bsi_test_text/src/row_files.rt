@@ -1,7 +1,7 @@
 //! The rows of row files.
 
 use crate::ends::{broken, whole};
-use bsi_plain::TextReader;
+use bsi_fixtures::TextReader;
 use bsi_table::{ColumnSpec, Row, Schema, SchemaError};
 use bsi_text::{RowSource, SourceFault};
 use std::alloc::Global;

@@ -1,7 +1,7 @@
 //! The texts of schemas.
 
 use crate::ends::{broken, whole};
-use bsi_plain::TextReader;
+use bsi_fixtures::TextReader;
 use bsi_text::{SchemaFault, SourceFault, read_schema};
 use std::alloc::Global;
 

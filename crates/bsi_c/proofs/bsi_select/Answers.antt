@@ -1,4 +1,4 @@
-use Rattle.bsi_handles.proofs.Telling.{where_refused}
+use Rattle.bsi_ffi.proofs.Telling.{where_refused}
 use Rattle.bsi_c.proofs.bsi_select.Goals as goal
 
 pub returns-clause-told : goal.returns-clause-told

@@ -1,5 +1,5 @@
-use Rattle.bsi_handles.proofs.Telling.{where_other, where_refused}
-use Rattle.bsi_handles.specs.declared.refusal.Refusal.TheVariants.{NoMemory}
+use Rattle.bsi_ffi.proofs.Telling.{where_other, where_refused}
+use Rattle.bsi_ffi.specs.declared.refusal.Refusal.TheVariants.{NoMemory}
 use Rattle.bsi_c.proofs.bsi_share.Goals as goal
 
 pub returns-clause-told : goal.returns-clause-told

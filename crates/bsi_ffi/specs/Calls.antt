@@ -1,0 +1,229 @@
+-- What each call does to what a handle holds, what it answers, and when it is refused.
+use Rattle.std.specs.Prelude.{◌≡◌, ◌≢◌, ℕ, ◌+◌, ◌*◌, ◌%◌, ◌<◌, ◌≤◌, List, length, map, slice_index_or, take, Option, Some, None, Ok, Err, IsSome, true, false, MatchOption}
+use Rattle.std.specs.Int.{cast_unsigned, w128}
+use Rattle.bsi_bits.specs.BitList.{word_count}
+use Rattle.bsi_bits.specs.Packed.{bit_of, end_of_u64}
+use Rattle.bsi_records.specs.Events.{IsQuery}
+use Rattle.bsi_records.specs.Numbers.{Field}
+use Rattle.bsi_records.specs.Predicates.{IsPredicate}
+use Rattle.bsi_rows.specs.Answers.{IsAnswer}
+use Rattle.bsi_rows.specs.RowBlocks.{max_block_rows}
+use Rattle.bsi_rows.specs.Rows.{holds, row_entries}
+use Rattle.bsi_rows.specs.Table.{max_feeders, no_rows, with_rows, Table}
+use Rattle.bsi_rows.specs.declared.query.Answer.{Answer}
+use Rattle.bsi_rows.specs.declared.query.Answer.TheVariants.{Count as count_answer, Sum as sum_answer, Value as value_answer, Rows as rows_answer}
+use Rattle.bsi_rows.specs.declared.query.Pred.{Pred}
+use Rattle.bsi_rows.specs.declared.query.Query.{Query}
+use Rattle.bsi_reading.specs.SchemaTexts.{DeclaresNoColumn, DeclaresTooLong, IsBadRecord, IsSchemaText}
+use Rattle.bsi_ffi.specs.Columns.{are_columns, given_rows, row_count, AreTaken, IsFirstMisfit}
+use Rattle.bsi_ffi.specs.Opened.{Opened}
+use Rattle.bsi_ffi.specs.States.{is_shared, opened_in}
+use Rattle.bsi_ffi.specs.Statuses.{Ending}
+use Rattle.bsi_ffi.specs.declared.answers.FlatAnswer.{FlatAnswer}
+use Rattle.bsi_ffi.specs.declared.answers.Place.{Place}
+use Rattle.bsi_ffi.specs.declared.columns.GivenColumn.{GivenColumn}
+use Rattle.bsi_ffi.specs.declared.refusal.Refusal.{Refusal}
+use Rattle.bsi_ffi.specs.declared.refusal.Refusal.TheVariants.{Closed, Open, NoMemory, BadSchema, NoColumns, BadFeeder, BadColumns, BadRow, IndexFull, Shared, BadQuery, NoRoom, BadText}
+use Rattle.bsi_ffi.specs.declared.state.State.{State}
+use Rattle.bsi_ffi.specs.declared.state.State.TheVariants.{Alone, Shared as shared_state, Moved}
+
+-- ---- opening
+
+-- an index of no rows, of the schema and the limit that the text declares
+pub record IsNew (text : List ℕ) (feeders : ℕ) (opened : Opened) : Type 0 where
+  pub text_is : opened.text ≡ text
+  pub declared : IsSchemaText text opened.table.schema opened.table.limit
+  pub empty : opened.table ≡ no_rows opened.table.schema feeders opened.table.limit
+
+-- the text is refused; of a bad record this is the number, and else it is 0
+abbrev pub IsTextRefusal : List ℕ → ℕ → Refusal → Type 0
+IsTextRefusal text number BadSchema = IsBadRecord text number
+IsTextRefusal text number NoColumns = DeclaresNoColumn text × (number ≡ 0)
+IsTextRefusal text number BadText = DeclaresTooLong text × (number ≡ 0)
+IsTextRefusal text number NoMemory = number ≡ 0
+IsTextRefusal text number why = ⊥
+
+abbrev pub IsFeederCount : ℕ → Type 0
+IsFeederCount feeders = (1 ≤ feeders) × (feeders ≤ max_feeders)
+
+abbrev pub IsOpening : Option State → List ℕ → ℕ → ℕ → Option State → Ending → Type 0
+IsOpening before text feeders number after (Ok done) =
+    (opened_in before ≡ None) × IsFeederCount feeders × MatchOption (opened_in after) ⊥ (IsNew text feeders)
+    × (is_shared after ≡ false) × (number ≡ 0)
+IsOpening before text feeders number after (Err Open) = IsSome (opened_in before) × (number ≡ 0)
+IsOpening before text feeders number after (Err BadFeeder) =
+    (opened_in before ≡ None) × (IsFeederCount feeders → ⊥) × (number ≡ 0)
+IsOpening before text feeders number after (Err why) =
+    (opened_in before ≡ None) × IsFeederCount feeders × IsTextRefusal text number why
+
+-- ---- appending
+
+-- all rows of the columns can be appended
+pub record AreAppendable (table : Table) (feeder : ℕ) (columns : List GivenColumn) : Type 0 where
+  pub fed : feeder < table.feeders
+  pub even : are_columns (length table.schema.columns) columns ≡ true
+  pub taken : AreTaken table.schema.columns columns (row_count columns)
+  pub within : length table.rows + row_count columns ≤ table.limit
+
+-- the columns are of a feeder that there is, and of the index's number and one length
+abbrev pub AreOfIndex : Table → ℕ → List GivenColumn → Type 0
+AreOfIndex table feeder columns = (feeder < table.feeders) × (are_columns (length table.schema.columns) columns ≡ true)
+
+-- the rows are refused, for the first cause that applies; of one that does not fit this is the number, and else it is 0
+abbrev pub IsRowsRefusal : Table → ℕ → List GivenColumn → ℕ → Refusal → Type 0
+IsRowsRefusal table feeder columns row BadFeeder = (table.feeders ≤ feeder) × (row ≡ 0)
+IsRowsRefusal table feeder columns row BadColumns =
+    (feeder < table.feeders) × (are_columns (length table.schema.columns) columns ≡ false) × (row ≡ 0)
+IsRowsRefusal table feeder columns row BadRow = AreOfIndex table feeder columns × IsFirstMisfit table.schema.columns columns row
+IsRowsRefusal table feeder columns row IndexFull =
+    AreOfIndex table feeder columns × AreTaken table.schema.columns columns (row_count columns)
+    × (table.limit < length table.rows + row_count columns) × (row ≡ 0)
+IsRowsRefusal table feeder columns row why = ⊥
+
+-- the first so many rows of the columns were appended
+abbrev pub with_first : Table → ℕ → List GivenColumn → ℕ → Table
+with_first table feeder columns n = with_rows table (given_rows feeder columns 0 n)
+
+-- an index takes rows: all of them, or, if memory is refused, those of the first full blocks, or none
+abbrev pub AppendsColumns : Table → ℕ → List GivenColumn → ℕ → Table → Ending → Type 0
+AppendsColumns before feeder columns row after (Ok done) =
+    AreAppendable before feeder columns × (row ≡ row_count columns) × (after ≡ with_first before feeder columns row)
+AppendsColumns before feeder columns row after (Err NoMemory) =
+    AreAppendable before feeder columns × (row ≤ row_count columns) × (row % max_block_rows ≡ 0)
+    × (after ≡ with_first before feeder columns row)
+AppendsColumns before feeder columns row after (Err why) =
+    IsRowsRefusal before feeder columns row why × (after ≡ before)
+
+-- the index of a handle, with the other table
+abbrev pub with_table : Opened → Table → Opened
+with_table opened table = record opened { table = table }
+
+abbrev pub IsAppending : Option State → ℕ → List GivenColumn → ℕ → Option State → Ending → Type 0
+IsAppending None feeder columns row after ending = (ending ≡ Err Closed) × (row ≡ 0) × (after ≡ None)
+IsAppending (Some (Alone opened)) feeder columns row after ending =
+    (table : Table) × (after ≡ Some (Alone (with_table opened table)))
+    × AppendsColumns opened.table feeder columns row table ending
+IsAppending (Some (shared_state opened)) feeder columns row after ending =
+    (ending ≡ Err Shared) × (row ≡ 0) × (after ≡ Some (shared_state opened))
+IsAppending (Some Moved) feeder columns row after ending = (ending ≡ Err Closed) × (row ≡ 0) × (after ≡ Some Moved)
+
+-- ---- asking
+
+-- the rows of an answer
+abbrev pub as_pairs : List Place → List (ℕ × ℕ)
+as_pairs places = map (λ place. (place.feeder, place.row)) places
+
+-- the kinds of an answer
+abbrev pub count_kind : ℕ
+count_kind = 1
+
+abbrev pub sum_kind : ℕ
+sum_kind = 2
+
+abbrev pub value_kind : ℕ
+value_kind = 3
+
+abbrev pub rows_kind : ℕ
+rows_kind = 4
+
+-- an answer is written so
+abbrev pub IsWritten : Answer → FlatAnswer → List Place → Type 0
+IsWritten (count_answer n) answer places = (answer.kind ≡ count_kind) × (answer.count ≡ n)
+IsWritten (sum_answer s) answer places =
+    (answer.kind ≡ sum_kind) × (answer.low + end_of_u64 * answer.high ≡ cast_unsigned w128 s)
+IsWritten (value_answer None) answer places = (answer.kind ≡ value_kind) × (answer.present ≡ false)
+IsWritten (value_answer (Some x)) answer places =
+    (answer.kind ≡ value_kind) × (answer.present ≡ true) × (answer.value ≡ x)
+IsWritten (rows_answer rows) answer places =
+    (answer.kind ≡ rows_kind) × (answer.count ≡ length rows.items) × (as_pairs (take answer.count places) ≡ rows.items)
+
+-- the answer lists more rows than there are places, and how many is written
+abbrev pub IsShort : Answer → FlatAnswer → List Place → Type 0
+IsShort (rows_answer rows) answer places =
+    (answer.kind ≡ rows_kind) × (answer.count ≡ length rows.items) × (length places < answer.count)
+IsShort other answer places = ⊥
+
+-- of a query that the fields ask, and of its answer over the rows, this is so
+abbrev pub IsAsked : Table → List Field → (Answer → Type 0) → Type 0
+IsAsked table fields Is =
+    (query : Query) × (reply : Answer) × IsQuery table.schema fields query × IsAnswer query table.rows reply × Is reply
+
+abbrev pub IsReplied : Opened → List Field → FlatAnswer → List Place → Ending → Type 0
+IsReplied opened fields answer places (Ok done) =
+    IsAsked opened.table fields (λ reply. IsWritten reply answer places)
+IsReplied opened fields answer places (Err BadQuery) = (query : Query) → IsQuery opened.table.schema fields query → ⊥
+IsReplied opened fields answer places (Err NoRoom) =
+    IsAsked opened.table fields (λ reply. IsShort reply answer places)
+IsReplied opened fields answer places (Err NoMemory) = Unit {0}
+IsReplied opened fields answer places (Err why) = ⊥
+
+-- what is so of a call of an open handle; a closed one is refused
+abbrev pub WhereOpen : Option Opened → (Opened → Ending → Type 0) → Ending → Type 0
+WhereOpen None Is ending = ending ≡ Err Closed
+WhereOpen (Some opened) Is ending = Is opened ending
+
+abbrev pub IsAsking : Option Opened → List Field → FlatAnswer → List Place → Ending → Type 0
+IsAsking held fields answer places ending =
+    WhereOpen held (λ opened ending. IsReplied opened fields answer places ending) ending
+
+-- ---- selecting
+
+-- bit i of the words says whether the predicate holds of row i; past the last row it is clear
+pub record IsMask (table : Table) (pred : Pred) (words : List ℕ) : Type 0 where
+  pub long : length words ≡ word_count (length table.rows)
+  pub bits : (i : ℕ) → bit_of words i ≡ slice_index_or (map (λ row. holds pred (row_entries row)) table.rows) i false
+
+abbrev pub IsMasked : Opened → List Field → List ℕ → Ending → Type 0
+IsMasked opened fields words (Ok done) =
+    (pred : Pred) × IsPredicate opened.table.schema fields pred × IsMask opened.table pred words
+IsMasked opened fields words (Err BadQuery) = (pred : Pred) → IsPredicate opened.table.schema fields pred → ⊥
+IsMasked opened fields words (Err NoRoom) =
+    (pred : Pred) × IsPredicate opened.table.schema fields pred × (length words ≢ word_count (length opened.table.rows))
+IsMasked opened fields words (Err NoMemory) = Unit {0}
+IsMasked opened fields words (Err why) = ⊥
+
+abbrev pub IsSelecting : Option Opened → List Field → List ℕ → Ending → Type 0
+IsSelecting held fields words ending = WhereOpen held (λ opened ending. IsMasked opened fields words ending) ending
+
+-- ---- what stands
+
+abbrev pub IsCounted : Opened → ℕ → Ending → Type 0
+IsCounted opened rows (Ok done) = rows ≡ length opened.table.rows
+IsCounted opened rows (Err why) = ⊥
+
+abbrev pub IsCounting : Option Opened → ℕ → Ending → Type 0
+IsCounting held rows ending = WhereOpen held (λ opened ending. IsCounted opened rows ending) ending
+
+-- the first bytes are a text that declares the schema and the limit
+abbrev pub IsDescribed : Opened → List ℕ → ℕ → Ending → Type 0
+IsDescribed opened bytes size (Ok done) =
+    (size ≡ length opened.text) × (take size bytes ≡ opened.text)
+    × IsSchemaText (take size bytes) opened.table.schema opened.table.limit
+IsDescribed opened bytes size (Err NoRoom) = (size ≡ length opened.text) × (length bytes < size)
+IsDescribed opened bytes size (Err why) = ⊥
+
+abbrev pub IsDescribing : Option Opened → List ℕ → ℕ → Ending → Type 0
+IsDescribing held bytes size ending = WhereOpen held (λ opened ending. IsDescribed opened bytes size ending) ending
+
+-- ---- sharing and closing
+
+-- a handle holds this index, with others
+abbrev pub HoldsShared : Option State → Option Opened → Type 0
+HoldsShared held opened = (opened_in held ≡ opened) × (is_shared held ≡ true)
+
+-- an index can't be shared: there is none, or memory was refused
+abbrev pub IsShareRefusal : Option Opened → Refusal → Type 0
+IsShareRefusal held Closed = held ≡ None
+IsShareRefusal held NoMemory = IsSome held
+IsShareRefusal held why = ⊥
+
+abbrev pub IsSharing : Option State → Option State → Option State → Option State → Ending → Type 0
+IsSharing before other after beside (Ok done) =
+    (opened_in other ≡ None) × HoldsShared after (opened_in before) × HoldsShared beside (opened_in before)
+IsSharing before other after beside (Err Open) = IsSome (opened_in other)
+IsSharing before other after beside (Err why) = (opened_in other ≡ None) × IsShareRefusal (opened_in before) why
+
+abbrev pub IsClosing : Option Opened → Ending → Type 0
+IsClosing held (Ok done) = IsSome held
+IsClosing held (Err Closed) = held ≡ None
+IsClosing held (Err why) = ⊥

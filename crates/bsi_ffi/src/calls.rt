@@ -1,0 +1,210 @@
+//! The calls on a handle.
+
+ghost use Rattle.std.specs.Prelude.{◌≡◌, ◌≢◌, None, is_some, map, IfErr, OnErr};
+ghost use Rattle.bsi_ffi.specs.Calls.{IsAppending, IsAsking, IsClosing, IsCounting, IsDescribing, IsOpening, IsSelecting, IsSharing};
+ghost use Rattle.bsi_ffi.specs.States.{opened_in};
+
+use crate::answers::{FlatAnswer, Place, reply};
+use crate::columns::GivenColumn;
+use crate::held::{Handle, put, take};
+use crate::reading::open_text;
+use crate::refusal::Refusal;
+use crate::selection::write_mask;
+use crate::state::State;
+use bsi_table::MAX_FEEDERS;
+use std::alloc::Global;
+
+/// Returns whether a handle holds an index.
+fn is_open(alloc: Global, index: &mut Handle) -> bool
+    ensures kept { index.new.held.value ≡ index.old.held.value }
+    ensures told { result ≡ is_some (opened_in index.old.held.value) }
+{
+    let Some(state) = take(index, alloc) else {
+        return false;
+    };
+    let is_open = state.opened().is_some();
+    put(index, state);
+    is_open
+}
+
+/// Opens a closed handle, with an index of no rows that a schema text declares. If a record is bad, it writes the
+/// record's number, from 1.
+pub fn open(
+    alloc: Global,
+    index: &mut Handle,
+    text: &[u8],
+    feeders: u32,
+    bad_record: &mut u64,
+) -> Result<(), Refusal>
+    ensures ending { IsOpening index.old.held.value text.now feeders bad_record.new
+        index.new.held.value result }
+    ensures kept { OnErr result (index.new.held.value ≡ index.old.held.value) }
+{
+    *bad_record = 0;
+    if is_open(alloc, index) {
+        return Err(Refusal::Open);
+    }
+    if feeders == 0 || feeders > MAX_FEEDERS {
+        return Err(Refusal::BadFeeder);
+    }
+    let opened = open_text(alloc, text, feeders, bad_record)?;
+    let Ok(state) = Box::new(alloc, State::Alone(opened)) else {
+        return Err(Refusal::NoMemory);
+    };
+    drop(take(index, alloc));
+    put(index, state);
+    Ok(())
+}
+
+/// Appends all rows of the columns, and writes how many. If one does not fit, it writes the number of the first such
+/// row, and appends none. If memory is refused, it writes how many were appended.
+pub fn append(
+    alloc: Global,
+    index: &mut Handle,
+    feeder: u32,
+    columns: &[GivenColumn],
+    row: &mut u64,
+) -> Result<(), Refusal>
+    ensures ending { IsAppending index.old.held.value feeder columns.now row.new
+        index.new.held.value result }
+    ensures kept { IfErr result (λ why. why ≢ Refusal.NoMemory →
+        index.new.held.value ≡ index.old.held.value) }
+{
+    let Some(mut state) = take(index, alloc) else {
+        *row = 0;
+        return Err(Refusal::Closed);
+    };
+    let ending = state.append(alloc, feeder, columns, row);
+    put(index, state);
+    ending
+}
+
+/// Answers the query that the fields ask.
+pub fn ask(
+    alloc: Global,
+    index: &mut Handle,
+    fields: &[&[u8]],
+    answer: &mut FlatAnswer,
+    places: &mut [Place],
+) -> Result<(), Refusal>
+    ensures ending { IsAsking (opened_in index.old.held.value) (map (λ f. f.now) fields.now)
+        answer.new places.new result }
+    ensures kept { index.new.held.value ≡ index.old.held.value }
+    ensures left { IfErr result (λ why. why ≢ Refusal.NoRoom → answer.new ≡ answer.old) }
+    ensures unfilled { OnErr result (places.new ≡ places.old) }
+{
+    let Some(state) = take(index, alloc) else {
+        return Err(Refusal::Closed);
+    };
+    let ending = match state.opened() {
+        Some(opened) => reply(alloc, opened, fields, answer, places),
+        None => Err(Refusal::Closed),
+    };
+    put(index, state);
+    ending
+}
+
+/// Writes which rows the predicate selects that the fields spell.
+pub fn select(
+    alloc: Global,
+    index: &mut Handle,
+    fields: &[&[u8]],
+    words: &mut [u64],
+) -> Result<(), Refusal>
+    ensures ending { IsSelecting (opened_in index.old.held.value) (map (λ f. f.now) fields.now)
+        words.new result }
+    ensures kept { index.new.held.value ≡ index.old.held.value }
+    ensures left { OnErr result (words.new ≡ words.old) }
+{
+    let Some(state) = take(index, alloc) else {
+        return Err(Refusal::Closed);
+    };
+    let ending = match state.opened() {
+        Some(opened) => write_mask(alloc, opened, fields, words),
+        None => Err(Refusal::Closed),
+    };
+    put(index, state);
+    ending
+}
+
+/// Writes the number of rows.
+pub fn count(alloc: Global, index: &mut Handle, rows: &mut u64) -> Result<(), Refusal>
+    ensures ending { IsCounting (opened_in index.old.held.value) rows.new result }
+    ensures kept { index.new.held.value ≡ index.old.held.value }
+    ensures left { OnErr result (rows.new ≡ rows.old) }
+{
+    let Some(state) = take(index, alloc) else {
+        return Err(Refusal::Closed);
+    };
+    let ending = match state.opened() {
+        Some(opened) => {
+            *rows = opened.index().len();
+            Ok(())
+        }
+        None => Err(Refusal::Closed),
+    };
+    put(index, state);
+    ending
+}
+
+/// Writes the schema text, if there is room, and its length.
+pub fn describe(
+    alloc: Global,
+    index: &mut Handle,
+    text: &mut [u8],
+    size: &mut usize,
+) -> Result<(), Refusal>
+    ensures ending { IsDescribing (opened_in index.old.held.value) text.new size.new result }
+    ensures kept { index.new.held.value ≡ index.old.held.value }
+    ensures left { IfErr result (λ why. why ≢ Refusal.NoRoom → size.new ≡ size.old) }
+    ensures unfilled { OnErr result (text.new ≡ text.old) }
+{
+    let Some(state) = take(index, alloc) else {
+        return Err(Refusal::Closed);
+    };
+    let ending = match state.opened() {
+        Some(opened) => opened.describe(text, size),
+        None => Err(Refusal::Closed),
+    };
+    put(index, state);
+    ending
+}
+
+/// Opens a closed handle of the same index, which then takes no more rows. If memory is refused, the index stays, but
+/// may take no more rows.
+pub fn share(alloc: Global, index: &mut Handle, other: &mut Handle) -> Result<(), Refusal>
+    ensures ending { IsSharing index.old.held.value other.old.held.value index.new.held.value
+        other.new.held.value result }
+    ensures kept { IfErr result (λ why. why ≢ Refusal.NoMemory →
+        index.new.held.value ≡ index.old.held.value) }
+    ensures held { OnErr result
+        (opened_in index.new.held.value ≡ opened_in index.old.held.value) }
+    ensures left { OnErr result (other.new.held.value ≡ other.old.held.value) }
+{
+    if is_open(alloc, other) {
+        return Err(Refusal::Open);
+    }
+    let Some(mut state) = take(index, alloc) else {
+        return Err(Refusal::Closed);
+    };
+    let made = state.share(alloc);
+    put(index, state);
+    let second = made?;
+    drop(take(other, alloc));
+    put(other, second);
+    Ok(())
+}
+
+/// Closes a handle. If no other handle holds the index, it frees the index.
+pub fn close(alloc: Global, index: &mut Handle) -> Result<(), Refusal>
+    ensures ending { IsClosing (opened_in index.old.held.value) result }
+    ensures closed { index.new.held.value ≡ None }
+{
+    let Some(state) = take(index, alloc) else {
+        return Err(Refusal::Closed);
+    };
+    if state.opened().is_none() {
+        return Err(Refusal::Closed);
+    }
+    Ok(())
+}

@@ -1,0 +1,75 @@
+//! Rows that C gives as columns.
+
+ghost use Rattle.std.specs.Prelude.{◌≡◌, ◌<◌, true};
+ghost use Rattle.std.specs.List.{list_all};
+ghost use Rattle.bsi_ffi.specs.Columns.{are_columns, entry_of, has_rows, row_count};
+ghost use Rattle.bsi_schema.specs.Columns.{is_between};
+
+use bsi_schema::Limits;
+
+/// The entries of a column: numbers, and a bitmap of which of them are there, the lowest bit of a byte first. A bitmap
+/// of no bytes says that all are.
+#[repr(C)]
+#[derive(Drop)]
+pub struct GivenColumn<'a> {
+    /// The numbers, each at least the offset of the column that they are for.
+    pub values: &'a [i64],
+    /// The bitmap.
+    pub valid: &'a [u8],
+}
+
+/// Returns whether the column has so many numbers, and a bit for each.
+fn has_rows(column: &GivenColumn, rows: usize) -> bool
+    ensures { result ≡ has_rows rows column.now }
+{
+    column.values.len() == rows
+        && (column.valid.is_empty() || rows.div_ceil(8) <= column.valid.len())
+}
+
+/// Returns whether each column has so many numbers, and a bit for each.
+fn have_rows(columns: &[GivenColumn], rows: usize) -> bool
+    ensures { result ≡ list_all (has_rows rows) columns.now }
+{
+    columns.iter().all(|column| has_rows(column, rows))
+}
+
+/// Returns how many rows the columns have.
+pub(crate) fn count_rows(columns: &[GivenColumn]) -> usize
+    ensures { result ≡ row_count columns.now }
+{
+    match columns {
+        [] => 0,
+        [first, ..] => first.values.len(),
+    }
+}
+
+/// Returns whether there are so many columns, all of one length, with a bit for each number.
+pub(crate) fn are_columns(columns: &[GivenColumn], count: u32) -> bool
+    ensures { result ≡ are_columns count columns.now }
+{
+    columns.len() == count as usize && have_rows(columns, count_rows(columns))
+}
+
+/// Returns the entry of row `r`.
+pub(crate) fn entry(column: &GivenColumn, rows: usize, r: usize) -> Option<i64>
+    requires whole { has_rows rows column.now ≡ true }
+    requires within { r < rows }
+    ensures { result ≡ entry_of r column.now }
+{
+    if !column.valid.is_empty() && column.valid[r / 8] >> (r % 8) & 1 == 0 {
+        return None;
+    }
+    Some(column.values[r])
+}
+
+/// Returns whether a column of a schema takes the entry of row `r`.
+pub(crate) fn is_taken(column: &GivenColumn, rows: usize, r: usize, limits: Limits) -> bool
+    requires whole { has_rows rows column.now ≡ true }
+    requires within { r < rows }
+    ensures { result ≡ is_between limits.least limits.size (entry_of r column.now) }
+{
+    let Some(number) = entry(column, rows, r) else {
+        return true;
+    };
+    limits.takes(Some(i128::from(number)))
+}

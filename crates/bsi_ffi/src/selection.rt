@@ -1,0 +1,85 @@
+//! Which rows a predicate selects, as words.
+
+ghost use Rattle.std.specs.Prelude.{◌≡◌, ◌≢◌, ◌∷◌, ℕ, codes, false, length, map, slice_index_or, Err, IfErr, IfOk, OnErr, OnOk};
+ghost use Rattle.csv.specs.Records.{fields_of};
+ghost use Rattle.bsi_bits.specs.BitList.{word_count};
+ghost use Rattle.bsi_bits.specs.Packed.{bit_of};
+ghost use Rattle.bsi_records.specs.Predicates.{IsPredicate};
+ghost use Rattle.bsi_records.specs.Reading.{IsReadAs};
+ghost use Rattle.bsi_ffi.specs.Calls.{IsMasked};
+
+use crate::opened::Opened;
+use crate::refusal::Refusal;
+use bsi_bits::Bits;
+use bsi_records::read_query;
+use bsi_table::{AskError, NoMemory, Pred, Schema};
+use csv::ByteRecord;
+use std::alloc::Global;
+
+/// Writes which rows the predicate selects that the fields spell.
+pub(crate) fn write_mask(
+    alloc: Global,
+    opened: &Opened,
+    fields: &[&[u8]],
+    words: &mut [u64],
+) -> Result<(), Refusal>
+    ensures masked { IsMasked opened.now (map (λ f. f.now) fields.now) words.new result }
+    ensures left { OnErr result (words.new ≡ words.old) }
+{
+    let index = opened.index();
+    let Some(pred) = read_predicate(alloc, index.schema(), fields)? else {
+        return Err(Refusal::BadQuery);
+    };
+    match index.select(&pred) {
+        Ok(found) => copy_words(&found, words),
+        Err(AskError::NoMemory) => Err(Refusal::NoMemory),
+        // By the proof this never is, since the columns of a predicate that was read are there.
+        Err(AskError::BadColumn(_)) => Err(Refusal::BadQuery),
+    }
+}
+
+/// Reads the predicate that the fields spell, as that of a count.
+fn read_predicate(
+    alloc: Global,
+    schema: &Schema,
+    fields: &[&[u8]],
+) -> Result<Option<Pred>, NoMemory>
+    ensures { IfOk result
+        (IsReadAs (IsPredicate schema.now (map (λ f. f.now) fields.now))) }
+{
+    let counted = count_record(alloc, fields)?;
+    let Some(query) = read_query(alloc, schema, &counted)? else {
+        return Ok(None);
+    };
+    Ok(Some(query.pred))
+}
+
+/// Makes the record that asks for a count, by the fields of its predicate.
+fn count_record(alloc: Global, fields: &[&[u8]]) -> Result<ByteRecord, NoMemory>
+    ensures { IfOk result
+        (λ counted. fields_of counted ≡ codes "count" ∷ map (λ f. f.now) fields.now) }
+{
+    let mut counted = ByteRecord::new(alloc);
+    counted.push_field(b"count")?;
+    'fields: for field in fields {
+        counted.push_field(field)?;
+    }
+    Ok(counted)
+}
+
+/// Writes the words of a bitmap, if there is room for just these.
+fn copy_words(found: &Bits, words: &mut [u64]) -> Result<(), Refusal>
+    ensures long { OnOk result (length words.new ≡ word_count (length found.now.bits)) }
+    ensures bits { OnOk result
+        ((i : ℕ) → bit_of words.new i ≡ slice_index_or found.now.bits i false) }
+    ensures other { IfErr result (λ why. (why ≡ Refusal.NoRoom)
+        × (length words.new ≢ word_count (length found.now.bits))) }
+    ensures left { OnErr result (words.new ≡ words.old) }
+{
+    let from = found.words();
+    if from.len() != words.len() {
+        return Err(Refusal::NoRoom);
+    }
+    words.copy_from_slice(from);
+    Ok(())
+}

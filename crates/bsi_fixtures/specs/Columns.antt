@@ -1,0 +1,28 @@
+-- What columns of tests are.
+use Rattle.std.specs.Prelude.{◌≡◌, ◌≤◌, List, ℕ, None, reverse}
+use Rattle.bsi_columns.specs.AnyRows.{AnyForm, slices_of, equality_under, range_under}
+use Rattle.bsi_digits.specs.Refusal.{refusal}
+use Rattle.bsi_schema.specs.Columns.{max_slices}
+use Rattle.bsi_fixtures.specs.declared.columns.TestForm.{TestForm}
+use Rattle.bsi_fixtures.specs.declared.columns.TestForm.TheVariants.{Slices, Equality, Range}
+use Rattle.bsi_fixtures.specs.declared.columns.Wide.{Wide}
+
+-- the form of a column so wide; its bases stand least significant first
+abbrev pub column_form : TestForm → Wide → AnyForm
+column_form Slices wide = slices_of wide.width
+column_form Equality wide = equality_under (reverse wide.bases.now)
+column_form Range wide = range_under (reverse wide.bases.now)
+
+-- a column can have so many slices
+abbrev pub IsWidth : ℕ → Type 0
+IsWidth width = (1 ≤ width) × (width ≤ max_slices)
+
+-- a list is one of bases, as written
+abbrev pub AreBases : List ℕ → Type 0
+AreBases list = refusal list ≡ None
+
+-- there is a column of the form so wide
+abbrev pub IsWide : TestForm → Wide → Type 0
+IsWide Slices wide = IsWidth wide.width
+IsWide Equality wide = AreBases wide.bases.now
+IsWide Range wide = AreBases wide.bases.now
