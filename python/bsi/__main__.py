@@ -53,7 +53,7 @@ def _arguments(words: Optional[List[str]]) -> Any:
 def _read(files: List[str], given: Any) -> Any:
     """Makes the index of the files."""
     columns = given.columns.split(",") if given.columns else None
-    progress = sys.stderr.isatty()
+    progress = sys.stderr is not None and sys.stderr.isatty()
     if not any(file.endswith((".parquet", ".pq")) for file in files):
         kinds = {name: Texts for name in given.text.split(",") if name}
         return read_csv(files, columns, kinds=kinds, nulls=given.null, parts=given.parts, progress=progress)
@@ -65,9 +65,9 @@ def _read(files: List[str], given: Any) -> Any:
     is_new = "dtype_backend" in inspect.signature(pandas.read_parquet).parameters
     nullable = {"dtype_backend": "numpy_nullable"} if is_new else {"use_nullable_dtypes": True}
     frames = (pandas.read_parquet(file, columns=columns, **nullable) for file in files)
-    forms, encoded = chosen_of(frames, columns, None, None)
-    table = Index(forms) if given.parts == 1 else Parts(given.parts, forms)
-    return table._filled(encoded, progress)
+    found = chosen_of(frames, columns)
+    table = Index(found.forms) if given.parts == 1 else Parts(given.parts, found.forms)
+    return table._filled(found, progress)
 
 
 def _shown(answer: Any) -> str:
@@ -102,10 +102,10 @@ def main(words: Optional[List[str]] = None) -> int:
         return 1
     print(table, flush=True)
     answered = [_answer(table, question) for question in questions]
-    if sys.stdin.isatty():
+    if sys.stdin is not None and sys.stdin.isatty():
         for line in _typed():
             _answer(table, line)
-    elif not questions:
+    elif sys.stdin is not None and not questions:
         answered += [_answer(table, line) for line in sys.stdin if line.strip()]
     return 0 if all(answered) else 1
 

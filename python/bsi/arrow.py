@@ -192,7 +192,9 @@ def _from_dictionary(schema: _Schema, array: _Array, layout: str, start: int, va
     if ((places < 0) | (places >= len(values))).any():
         raise BadColumns("the Arrow array names places that its dictionary has not")
     is_ordered = schema.flags & ORDERED and values.dtype == object and is_valid.all()
-    return values[places], valid & is_valid[places], zone, tuple(values.tolist()) if is_ordered else None
+    # (a text that stands twice has the first of its places)
+    order = tuple(dict.fromkeys(values.tolist())) if is_ordered else None
+    return values[places], valid & is_valid[places], zone, order
 
 
 def _texts(array: _Array, stored: str, start: int, valid: np.ndarray) -> np.ndarray:

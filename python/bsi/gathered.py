@@ -3,7 +3,7 @@
 from __future__ import annotations
 
 import threading
-from typing import Any, List, Optional, Sequence, Tuple
+from typing import Any, ContextManager, List, Optional, Sequence, Tuple
 
 import numpy as np
 
@@ -25,6 +25,10 @@ class Gathered:
         self.runs: List[Tuple[int, int]] = []
         self.lock = threading.RLock()
 
+    def alone(self) -> ContextManager[Any]:
+        """Returns what a question holds while it is answered."""
+        return self.lock
+
     def _each(self, call: str, *arguments: Any) -> List[Any]:
         """Makes a call of every part, at the same time, and returns what they answered."""
         raise NotImplementedError
@@ -33,15 +37,15 @@ class Gathered:
         return self.counts([fields])[0]
 
     def counts(self, questions: Sequence[Fields]) -> List[int]:
-        with self.lock:
+        with self.alone():
             return [sum(counts) for counts in zip(*self._each("counts", questions))]
 
     def sum(self, name: bytes, fields: Fields) -> int:
-        with self.lock:
+        with self.alone():
             return sum(self._each("sum", name, fields))
 
     def value(self, word: bytes, name: bytes, fields: Fields) -> Optional[int]:
-        with self.lock:
+        with self.alone():
             if word == b"median":
                 return self._median(name, fields)
             numbers = [number for number in self._each("value", word, name, fields) if number is not None]
@@ -67,7 +71,7 @@ class Gathered:
         return low
 
     def select(self, fields: Fields) -> Tuple[np.ndarray, int]:
-        with self.lock:
+        with self.alone():
             selected = self._each("select", fields)
             bits = [np.unpackbits(words.view(np.uint8), count=rows, bitorder="little") for words, rows in selected]
             taken, runs = [0] * len(bits), []
@@ -80,5 +84,5 @@ class Gathered:
             return packed.view(np.uint64), len(joined)
 
     def rows(self) -> int:
-        with self.lock:
+        with self.alone():
             return sum(self._each("rows"))

@@ -48,7 +48,9 @@ def first_misfit(bad: np.ndarray, values: np.ndarray, reason: str) -> None:
 
 def shown(value: Any) -> str:
     """Returns a value as an error shows it."""
-    text = repr(value.item() if isinstance(value, np.generic) and value.dtype.kind in "iufb" else value)
+    if isinstance(value, np.floating):
+        return str(value)
+    text = repr(value.item() if isinstance(value, np.generic) and value.dtype.kind in "iub" else value)
     return text if len(text) <= 60 else text[:57] + "..."
 
 
@@ -182,13 +184,16 @@ def _whole_of_floats(values: np.ndarray, valid: np.ndarray) -> np.ndarray:
 @dataclass(frozen=True)
 class Decimals(Kind):
     """Decimals of so many places, given as a number of places or as the scale, "0.01". Answers are Decimal. A float
-    stands for the decimal that it prints as."""
+    stands for the decimal that it prints as. Where `rounded`, a value of more places is kept as the nearest one, the
+    even one of two, and a float is then the number that it is."""
 
     places: Any = 2
+    rounded: bool = field(default=False, compare=False)
     takes = "decimals"
 
     def __post_init__(self):
-        places = self.places if isinstance(self.places, int) else _places_of_scale(self.places)
+        is_number = isinstance(self.places, int) and not isinstance(self.places, bool)
+        places = self.places if is_number else _places_of_scale(self.places)
         if not 0 <= places <= 18:
             raise ValueError(f"decimals have 0 to 18 places, and not {places}")
         object.__setattr__(self, "places", places)
@@ -200,11 +205,22 @@ class Decimals(Kind):
     def unfit(self) -> str:  # type: ignore[override]
         return f"has more than {self.places} decimal places"
 
+    def number(self, value: Any) -> int:
+        if not self.rounded:
+            return super().number(value)
+        found = round(fraction_of(value) * 10**self.places)
+        if abs(found) >= FAR:
+            raise ValueError(f"{shown(value)} is past 63 bits")
+        return found
+
     def parse(self, text: str) -> Decimal:
         return decimal_of(text)
 
     def decode(self, number: int) -> Decimal:
         return _decimal(number, self.places)
+
+    def show(self, number: int) -> str:
+        return f"{self.decode(number):f}"
 
     def decode_sum(self, total: int) -> Decimal:
         return _decimal(total, self.places)
@@ -217,8 +233,20 @@ class Decimals(Kind):
             first_misfit((whole > most) | (whole < -most), values, f"is past 63 bits at {self.places} decimal places")
             return whole * scale
         if values.dtype.kind == "f":
-            return self._encode_floats(values, valid)
+            return self._rounded(values, valid) if self.rounded else self._encode_floats(values, valid)
         return super().encode(values, valid)
+
+    def _rounded(self, values: np.ndarray, valid: np.ndarray) -> np.ndarray:
+        kept = np.where(valid, values, 0).astype(np.float64)
+        with np.errstate(over="ignore", invalid="ignore"):
+            scaled = kept * 10.0**self.places
+            first_misfit(~(np.abs(scaled) < 2.0**63), values, f"is past 63 bits at {self.places} decimal places")
+            found = np.rint(scaled).astype(np.int64)
+            # (the product is rounded itself, so one that lies near the middle is looked at exactly)
+            near = np.abs(np.abs(scaled - np.floor(scaled)) - 0.5) <= np.spacing(np.abs(scaled)) * 2
+        for row in np.flatnonzero(near & valid).tolist():
+            found[row] = self.number(float(kept[row]))
+        return found
 
     def _encode_floats(self, values: np.ndarray, valid: np.ndarray) -> np.ndarray:
         # A decimal of as many digits as a float keeps (15 of a double) is the only such one that the float prints as.
@@ -228,7 +256,7 @@ class Decimals(Kind):
             scaled = np.rint(np.where(valid, values, 0).astype(np.float64) * 10.0**self.places)
             back = (scaled / 10.0**self.places).astype(values.dtype)
         fits = (np.abs(scaled) <= most) & (back == np.where(valid, values, 0))
-        first_misfit(~fits, values, f"can't be kept exactly with {self.places} decimal places")
+        first_misfit(~fits, values, f"can't be kept exactly with {self.places} decimal places; round= rounds it")
         return scaled.astype(np.int64)
 
     def __str__(self) -> str:
@@ -237,12 +265,13 @@ class Decimals(Kind):
 
 def _places_of_scale(scale: Any) -> int:
     try:
-        places = -Decimal(str(scale)).log10()
+        # (1.0 may be meant as one place)
+        places = -Decimal(str(scale)).log10() if not isinstance(scale, float) or scale < 1 else Decimal("nan")
         if places == int(places):
             return int(places)
     except (ArithmeticError, ValueError):
         pass
-    raise ValueError(f"{shown(scale)} is no scale; one is 0.1, 0.01, ..")
+    raise ValueError(f"{shown(scale)} is no number of places, as 2, and no scale, as '0.01'")
 
 
 def _decimal(number: int, places: int) -> Decimal:
@@ -405,6 +434,8 @@ class Texts(Kind):
     takes = "texts"
 
     def __post_init__(self):
+        if isinstance(self.values, str):
+            raise TypeError(f"a column of texts needs the list of them, and not one text: Texts([{self.values!r}])")
         values = tuple(self.values)
         if not values or any(not isinstance(value, str) for value in values):
             raise TypeError("a column of texts needs the list of them")

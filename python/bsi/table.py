@@ -8,17 +8,19 @@ A *store* is a `native.Handle`, or a `gathered.Gathered` of several. Both have t
 from __future__ import annotations
 
 import logging
+import numbers
 import re
-from typing import Any, Dict, Iterable, List, Mapping, Optional, Sequence, Tuple, TypeVar, Union
+from typing import Any, Dict, Iterable, Iterator, List, Mapping, Optional, Sequence, Tuple, TypeVar, Union
 
 import numpy as np
 
+from .choosing import Chosen, of_each
 from .errors import BadColumns, BadQuery, BadRow, BadSchema, Error, IndexFull, NoMemory
 from .forms import Form
-from .kinds import FAR, Flags, Misfit
+from .kinds import FAR, Cut, Flags, Misfit
 from .narrowing import encode
 from .native import BAD_ROW, INDEX_FULL, NO_MEMORY, Entries, Handle, check
-from .predicates import Column, Comparison, Null, Predicate, all_rows
+from .predicates import Among, Column, Comparison, Holds, Null, Predicate, all_rows, refuse_long
 from .progress import Progress, told
 from .values import columns_of, values_of
 
@@ -59,8 +61,8 @@ def schema_of(columns: Mapping[str, Form], limit: Optional[int]) -> bytes:
             raise BadSchema(f"an index has columns by name, each {shape}, and not {name!r}: {form!r}")
     if len(columns) > MAX_COLUMNS:
         raise BadSchema(f"an index has at most {MAX_COLUMNS} columns, and not {len(columns)}; name those wanted")
-    if limit is not None and not 1 <= limit <= MAX_ROWS:
-        raise BadSchema(f"the limit is 1 to {MAX_ROWS:,} rows, and not {limit:,}")
+    if limit is not None and (not isinstance(limit, numbers.Integral) or not 1 <= limit <= MAX_ROWS):
+        raise BadSchema(f"the limit is 1 to {MAX_ROWS:,} rows, and not {limit!r}")
     within = names_within(list(columns))
     records = [form.record(within[name]) for name, form in columns.items()]
     records += [] if limit is None else [f"limit,{limit}"]
@@ -117,7 +119,7 @@ class Table:
 
     def _encoded(self, data: Any) -> List[Tuple[np.ndarray, np.ndarray]]:
         """Returns the numbers of each column, and which of them are valid."""
-        given, encoded = columns_of(data), []
+        given = columns_of(data)
         for what, names in (
             ("missing", self._forms.keys() - given.keys()),
             ("unknown", given.keys() - self._forms.keys()),
@@ -125,16 +127,18 @@ class Table:
             if names:
                 raise BadColumns(f"{what} columns: {_listed(sorted(names))}; the index has {_listed(self._forms)}")
 
-        for name, form in self._forms.items():
-            found = values_of(name, given[name])
-            try:
-                encoded.append((encode(form.kind, found), found.valid))
-            except Misfit as why:
-                raise BadRow(name, why.row, why.value, why.reason) from None
+        encoded = list(of_each(self._forms, lambda name: self._entered(name, given[name])).values())
         if len({len(numbers) for numbers, _ in encoded}) > 1:
             lengths = [f"{name!r} {len(numbers):,}" for name, (numbers, _) in zip(self._forms, encoded)]
             raise BadColumns(f"the columns differ in length: {', '.join(lengths)}")
         return encoded
+
+    def _entered(self, name: str, data: Any) -> Tuple[np.ndarray, np.ndarray]:
+        found = values_of(name, data)
+        try:
+            return encode(self._forms[name].kind, found), found.valid
+        except Misfit as why:
+            raise BadRow(name, why.row, why.value, why.reason) from None
 
     def _append(self, encoded: Sequence[Tuple[np.ndarray, np.ndarray]]) -> int:
         status, row = self._store.append([_entries(numbers, valid) for numbers, valid in encoded])
@@ -147,26 +151,24 @@ class Table:
         check(status)
         return row
 
-    def _filled(self: Self, encoded: Sequence[Tuple[np.ndarray, np.ndarray]], progress: Progress) -> Self:
+    def _filled(self: Self, chosen: Chosen, progress: Progress) -> Self:
         """Returns the table with these rows, or closes it where they can't be appended."""
         try:
-            self._fill(encoded, progress)
+            self._fill(chosen, progress)
         except BaseException:
             self.close()
             raise
         log.info("%r", self)
         return self
 
-    def _fill(self, encoded: Sequence[Tuple[np.ndarray, np.ndarray]], progress: Progress) -> None:
+    def _fill(self, chosen: Chosen, progress: Progress) -> None:
         """Appends many rows in blocks, and tells the progress."""
-        rows = len(encoded[0][0])
+        rows, done = chosen.rows(), 0
         self._refuse_full(rows)
         with told(progress, rows, "rows") as tell:
-            for start in range(0, rows, BLOCK):
-                self._append(
-                    [(numbers[start : start + BLOCK], valid[start : start + BLOCK]) for numbers, valid in encoded]
-                )
-                tell(min(start + BLOCK, rows))
+            for encoded in chosen.taken(BLOCK):
+                done += self._append(encoded)
+                tell(done)
 
     def _refuse_full(self, more: int) -> None:
         """Refuses so many further rows where they leave the limit. The row that is named is that of the data given."""
@@ -244,19 +246,48 @@ class Table:
                 fields += [self._within[self._name(term.column)], b"null"]
             elif isinstance(term, Comparison):
                 fields += self._comparison(term)
+            elif isinstance(term, Among):
+                fields += self._among(term)
+            elif isinstance(term, Holds):
+                fields += self._holds(term)
             else:
                 fields.append(term.encode())
+        refuse_long(len(fields))
         return fields
 
     def _comparison(self, term: Comparison) -> List[bytes]:
         name = self._name(term.column)
-        form = self._forms[name]
-        try:
-            sign, number = among_numbers(term.sign, *form.kind.cut(term.constant))
-        except (TypeError, ValueError, ArithmeticError) as why:
-            raise BadQuery(f"column {name!r} is compared with one of {form.kind}: {why}") from None
-        sign, number = clamped(form, sign, number)
+        sign, number = among_numbers(term.sign, *self._cut(name, term.constant))
+        sign, number = clamped(self._forms[name], sign, number)
         return [self._within[name], sign.encode(), b"%d" % number]
+
+    def _among(self, term: Among) -> List[bytes]:
+        """Returns the fields that select the numbers of the constants, run by run."""
+        name = self._name(term.column)
+        form, column, fields = self._forms[name], self._within[name], []
+        cuts = [self._cut(name, constant) for constant in term.constants]
+        found = {left for left, right in cuts if left < right and form.offset <= left <= form.most}
+        for first, last in runs_of(sorted(found)):
+            joined = [b"or"] if fields else []
+            if first == last:
+                fields += [column, b"=", b"%d" % first, *joined]
+            else:
+                fields += [column, b">=", b"%d" % first, column, b"<=", b"%d" % last, b"and", *joined]
+        return fields or [b"all", b"not"]
+
+    def _holds(self, term: Holds) -> List[bytes]:
+        name = self._name(term.column)
+        kind = self._forms[name].kind
+        if kind != Flags():
+            raise BadQuery(f"column {name!r} holds {kind}: only one of booleans is a predicate by itself")
+        return [self._within[name], b"=", b"1"]
+
+    def _cut(self, name: str, constant: Any) -> Cut:
+        kind = self._forms[name].kind
+        try:
+            return kind.cut(constant)
+        except (TypeError, ValueError, ArithmeticError) as why:
+            raise BadQuery(f"column {name!r} is compared with one of {kind}: {why}") from None
 
     # ---- Its end ----
 
@@ -283,6 +314,15 @@ def among_numbers(sign: str, left: int, right: int) -> Tuple[str, int]:
     return (sign, left) if left < right else ("<" if sign == "=" else ">=", -FAR)
 
 
+def runs_of(numbers: Sequence[int]) -> Iterator[Tuple[int, int]]:
+    """Yields the first and the last of each run of numbers that follow each other, which come in order."""
+    first = 0
+    for place, number in enumerate(numbers):
+        if place + 1 == len(numbers) or numbers[place + 1] != number + 1:
+            yield numbers[first], number
+            first = place + 1
+
+
 def clamped(form: Form, sign: str, number: int) -> Tuple[str, int]:
     """Returns the same comparison with a number that the column takes: below its least one there is none, from it on
     are all."""
@@ -304,9 +344,9 @@ def _entries(numbers: np.ndarray, valid: np.ndarray) -> Entries:
 
 
 def _span(form: Form) -> str:
-    """Returns the ends of the column as a text, where they are no matter of course."""
+    """Returns what the column takes as a text, where that is no matter of course."""
     is_known = form.kind.names_values or form.kind == Flags()
-    return "" if is_known else f", {form.show(form.offset)} to {form.show(form.most)}"
+    return "" if is_known else f", takes {form.show(form.offset)} to {form.show(form.most)}"
 
 
 def _bytes(size: float) -> str:

