@@ -16,8 +16,9 @@ from .values import Values, columns_of, parts_of, values_of
 
 # The numbers of each column, and which of them are valid.
 Entered = List[Tuple[np.ndarray, np.ndarray]]
-# How many numbers a column takes at most.
+# How many numbers a column takes at most, and how far those of so many bytes go.
 SPAN = 1 << 63
+SIZES = {np.int8: 1 << 7, np.int16: 1 << 15, np.int32: 1 << 31, np.int64: 1 << 63}
 
 
 class Block(NamedTuple):
@@ -77,13 +78,9 @@ def slim(numbers: np.ndarray) -> np.ndarray:
     """Returns numbers in as few bytes as they need."""
     if not len(numbers):
         return numbers
-    least, most = numbers.min(), numbers.max()
-    small = next(size for size in (np.int8, np.int16, np.int32, np.int64) if _fits(size, least, most))
+    least, most = int(numbers.min()), int(numbers.max())
+    small = next(size for size, end in SIZES.items() if -end <= least and most < end)
     return numbers.astype(small, copy=False)
-
-
-def _fits(size: Any, least: Any, most: Any) -> bool:
-    return np.iinfo(size).min <= least and most <= np.iinfo(size).max
 
 
 def wanted_of(columns: Optional[Iterable[str]], names: List[str], drop: Iterable[str] = ()) -> List[str]:

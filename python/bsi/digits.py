@@ -7,7 +7,7 @@ their kind.
 from __future__ import annotations
 
 import re
-from typing import Any, NamedTuple, Optional, Tuple
+from typing import List, NamedTuple, Optional, Tuple
 
 import numpy as np
 
@@ -37,22 +37,31 @@ class Numbers(NamedTuple):
     led: np.ndarray
 
 
-def whole_of(data: np.ndarray, ends: np.ndarray, lengths: Any) -> Tuple[np.ndarray, np.ndarray]:
-    """Returns the numbers of runs of at most 18 digits, by their ends and lengths, or the one length of all; and which
-    of the runs are such. An empty run is 0."""
-    total, read = np.zeros(len(ends), np.int64), np.broadcast_to(lengths <= DIGITS, len(ends))
-    windows = windows_of(data)
-    for place in range(0, min(int(np.max(lengths, initial=0)), DIGITS), WORD):
-        digits = windows[np.maximum(ends - (place + WORD), 0)]
-        digits ^= ZEROS
-        digits &= TAILS[np.minimum(np.maximum(lengths - place, 0), WORD)]
-        read = read & (((digits | (digits + SIXES)) & HIGH) == 0)
-        for kept, factor, shift in JOINED:
-            digits &= kept
-            digits *= factor
-            digits >>= shift
-        total += digits.view(np.int64) * POWERS[place] if place else digits.view(np.int64)
-    return total, read
+def whole_of(data: np.ndarray, ends: np.ndarray, lengths: np.ndarray) -> Tuple[np.ndarray, np.ndarray]:
+    """Returns the numbers of runs of at most 18 digits, by their ends and lengths, and which of the runs are such. An
+    empty run is 0."""
+    windows, longest = windows_of(data), int(lengths.max(initial=0))
+    total, read = _word(windows[np.maximum(ends - WORD, 0)], np.minimum(lengths, WORD))
+    for place in range(WORD, min(longest, DIGITS), WORD):
+        left = np.minimum(np.maximum(lengths - place, 0), WORD)
+        number, is_read = _word(windows[np.maximum(ends - (place + WORD), 0)], left)
+        total += number * POWERS[place]
+        read &= is_read
+    return total, read & (lengths <= DIGITS) if longest > DIGITS else read
+
+
+def _word(words: np.ndarray, lengths: np.ndarray) -> Tuple[np.ndarray, np.ndarray]:
+    """Returns the numbers of the last bytes of words, as many as the lengths say, and which are digits. The words are
+    written over."""
+    digits = words
+    digits ^= ZEROS
+    digits &= TAILS[lengths]
+    read = ((digits | (digits + SIXES)) & HIGH) == 0
+    for kept, factor, shift in JOINED:
+        digits &= kept
+        digits *= factor
+        digits >>= shift
+    return digits.view(np.int64), read
 
 
 def numbers_of(fields: Fields, point: int) -> Numbers:
@@ -68,8 +77,11 @@ def numbers_of(fields: Fields, point: int) -> Numbers:
         behind[others] = _behind_point(data, starts[others], ends[others], point)
         numbers[others], read[others] = _pointed(data, starts[others], ends[others], behind[others], point)
     places = np.maximum(behind, 0)
-    led = (data[starts] == ZERO) & (ends - starts - behind > 2)
-    np.negative(numbers, out=numbers, where=is_negative)
+    led = data[starts] == ZERO
+    if led.any():
+        led &= ends - starts - behind > 2
+    if is_negative.any():
+        np.negative(numbers, out=numbers, where=is_negative)
     return Numbers(numbers, places, read, bool((behind >= 0).any()), led)
 
 
@@ -81,6 +93,9 @@ def _pointed(
     if behind.max(initial=-1) < 0:
         numbers, read = whole_of(data, ends, lengths)
         return numbers, read & (lengths > 0)
+    place = int(behind[0])
+    if place >= 0 and lengths.max() <= WORD and (behind == place).all():
+        return _spliced(windows_of(data)[ends - WORD], lengths, place, point)
     places, pointed = np.maximum(behind, 0), behind >= 0
     stops = ends - places - pointed
     whole, read = whole_of(data, stops, np.maximum(stops - starts, 0))
@@ -88,6 +103,16 @@ def _pointed(
     digits = lengths - pointed
     read = read & is_read & (stops >= starts) & (digits > 0) & (digits <= DIGITS) & (~pointed | (data[stops] == point))
     return np.where(read, whole, 0) * POWERS[np.minimum(places, DIGITS)] + fraction, read
+
+
+def _spliced(words: np.ndarray, lengths: np.ndarray, places: int, point: int) -> Tuple[np.ndarray, np.ndarray]:
+    """Returns the digits of fields of at most a word as numbers, with so many places behind a point that is taken out;
+    and which are such."""
+    at, tail = np.uint64(8 * (WORD - 1 - places)), TAILS[places]
+    has_point = (words >> at) & np.uint64(0xFF) == np.uint64(point)
+    words = (words & tail) | ((words << np.uint64(8)) & ~tail)
+    numbers, read = _word(words, np.maximum(lengths - 1, 0))
+    return numbers, read & has_point & (lengths > max(1, places))
 
 
 def _behind_point(data: np.ndarray, starts: np.ndarray, ends: np.ndarray, point: int) -> np.ndarray:
@@ -122,22 +147,37 @@ def moments_of(fields: Fields, sample: str) -> Optional[Moments]:
         return None
     data, starts, ends = fields[:3]
     read = ends - starts == len(sample)
-    inside = {place for group in (1, 3, 4, 5, 6, 7, 8) for place in range(*shape.span(group))}
-    for place in set(range(len(sample))) - inside:
+    for place in (place for place in range(10, len(sample)) if not sample[place].isdigit()):
         read &= data[np.minimum(starts + place, len(data) - 1)] == ord(sample[place])
-    parts = []
-    for group in (1, 3, 4, 5, 6, 7, 8):
-        start, end = shape.span(group)
-        number, is_read = whole_of(data, starts + end, np.int64(end - start)) if start >= 0 else (np.int64(0), True)
-        read = read & is_read
-        parts.append(number)
-    year, month, day, hour, minute, second, fraction = parts
-    days, is_day = _days(year, month, day)
-    read = read & is_day & (hour < 24) & (minute < 60) & (second < 60)
-    start, end = shape.span(8)
-    seconds = np.broadcast_to((hour * 60 + minute) * 60 + second, len(read))
-    nanoseconds = np.broadcast_to(fraction * POWERS[9 - (end - start)], len(read))
+    (century, year, month), is_month = _pairs(data, starts, sample, 0, (0, 2, 5))
+    (day,), is_day = _pairs(data, starts, sample, 2, (6,))
+    days, is_there = _days(century * 100 + year, month, day)
+    read &= is_month & is_day & is_there
+    seconds = nanoseconds = np.broadcast_to(np.int64(0), len(read))
+    if shape.group(5):
+        start, places = (11, (0, 3, 6)) if shape.group(7) else (8, (3, 6))
+        clock, is_clock = _pairs(data, starts, sample, start, places)
+        hour, minute, second = clock if shape.group(7) else (*clock, np.int64(0))
+        read &= is_clock & (hour < 24) & (minute < 60) & (second < 60)
+        seconds = (hour * 60 + minute) * 60 + second
+    if shape.group(8):
+        digits = len(shape.group(8))
+        fraction, is_fraction = whole_of(data, starts + shape.end(8), np.full(len(starts), digits))
+        read, nanoseconds = read & is_fraction, fraction * POWERS[9 - digits]
     return Moments(days, seconds, nanoseconds, read, shape.group(5) is not None, shape.group(9) == "Z")
+
+
+def _pairs(
+    data: np.ndarray, starts: np.ndarray, sample: str, start: int, places: Tuple[int, ...]
+) -> Tuple[List[np.ndarray], np.ndarray]:
+    """Returns the numbers of two digits at places of the eight bytes from a start on, and which fields have digits and
+    other bytes where the sample has them."""
+    shown = [(b"0"[0], 0) if sign.isdigit() else (ord(sign), 0xFF) for sign in sample[start : start + WORD]]
+    wanted, fixed = (np.uint64(int.from_bytes(bytes(part), "little")) for part in zip(*shown))
+    words = windows_of(data)[np.minimum(starts + start, len(data) - WORD)] ^ wanted
+    read = (((words | (words + SIXES)) & HIGH) | (words & fixed)) == 0
+    words = words * np.uint64(10) + (words >> np.uint64(8))
+    return [((words >> np.uint64(8 * place)) & np.uint64(0xFF)).view(np.int64) for place in places], read
 
 
 def _days(year: np.ndarray, month: np.ndarray, day: np.ndarray) -> Tuple[np.ndarray, np.ndarray]:

@@ -46,8 +46,11 @@ class Asked(NamedTuple):
 
 
 def asked_of(fields: Fields) -> Asked:
-    """Returns fields by their words, and a key of each. Keys that are equal may have words that differ."""
+    """Returns fields by their words, and a key of each. Keys that are equal may have words that differ, and a text may
+    have several."""
     lengths, words = fields.ends - fields.starts, fields.words()[:WORDS]
+    if len(words) == 1:
+        return Asked(words[0], lengths, words)
     keys = lengths.astype(np.uint64) * FACTOR
     for word in words:
         keys = (keys ^ word) * FACTOR

@@ -105,6 +105,8 @@ class Records(NamedTuple):
 def split(run: Run, width: int, delimiter: bytes, quote: bytes) -> Optional[Records]:
     """Returns the records of a run, or None where it is not certain that each has so many fields."""
     text = run.text
+    if not text.isascii():
+        text.decode()  # (or it raises UnicodeDecodeError)
     if not run.is_whole or len(delimiter) != 1 or b"\0" in text:
         return None
     if b"\r" in text and text.count(b"\r") != text.count(b"\r\n"):
@@ -116,10 +118,11 @@ def split(run: Run, width: int, delimiter: bytes, quote: bytes) -> Optional[Reco
         marks = marks[np.searchsorted(quotes, marks) & 1 == 0]
     if len(marks) % width:
         return None
-    is_end = data[marks] == NEWLINE
-    marks, is_end = marks.reshape(-1, width), is_end.reshape(-1, width)
+    marks = marks.reshape(-1, width)
+    newlines = np.flatnonzero(inner == NEWLINE) + PAD
     ends = marks[:, -1]
-    is_even = is_end[:, -1].all() and np.count_nonzero(is_end) == len(marks)
+    breaks = newlines[np.searchsorted(quotes, newlines) & 1 == 0] if len(quotes) else newlines
+    is_even = np.array_equal(ends, breaks)
     firsts = np.concatenate([[PAD], ends[:-1] + 1])
     is_long = (ends - firsts).max(initial=0) > csv.field_size_limit()
     ends = ends - (data[ends - 1] == RETURN) if b"\r" in text else ends
@@ -133,8 +136,7 @@ def split(run: Run, width: int, delimiter: bytes, quote: bytes) -> Optional[Reco
         fields = Fields(data, starts, ends if place == width - 1 else marks[:, place], are_loose)
         return _unquoted(fields, quotes, quote) if len(quotes) else fields
 
-    newlines = np.flatnonzero(inner == NEWLINE) if len(quotes) else ends
-    places = None if len(newlines) == len(marks) else np.searchsorted(newlines + PAD, firsts)
+    places = None if len(newlines) == len(marks) else np.searchsorted(newlines, firsts)
     return Records(len(marks), column, places, len(newlines), [])
 
 

@@ -82,11 +82,12 @@ def _unpacked(stack: ExitStack, raw: IO[bytes], name: str) -> IO[bytes]:
 
 
 class Source:
-    """A file's text in UTF-8, read from its begin to its end."""
+    """A file's text in UTF-8, read from its begin to its end. That a file in UTF-8 is such is looked at later."""
 
     def __init__(self, name: str, stream: Any, raw: Optional[IO[bytes]], encoding: Optional[str]):
         self.name, self._stream, self._raw, self._encoding = name, stream, raw, encoding
         self._decoder: Optional[codecs.IncrementalDecoder] = None
+        self._is_utf8 = False
 
     def place(self) -> int:
         """Returns how many bytes of the file have been read, and 0 for a pipe, which does not know."""
@@ -98,16 +99,26 @@ class Source:
             data = self._packed()
             if isinstance(data, str):
                 return data.encode("utf-8", "surrogateescape")
+            if self._decoder is None and not self._is_utf8:
+                encoding = self._encoding or _marked(data)
+                if codecs.lookup(encoding).name in ("utf-8", "utf-8-sig"):
+                    self._is_utf8, data = True, data.removeprefix(codecs.BOM_UTF8)
+                else:
+                    self._decoder = codecs.getincrementaldecoder(encoding)()
             if self._decoder is None:
-                self._decoder = codecs.getincrementaldecoder(self._encoding or _marked(data))()
+                return data
             try:
                 text = self._decoder.decode(data, not data)
             except UnicodeDecodeError as why:
-                told = self._encoding or "UTF-8"
-                reason = f"it is no {told} text ({why.reason}); name its encoding, as encoding='cp1252'"
-                raise BadColumns(f"{self.name}: {reason}") from None
+                raise self.no_text(why) from None
             if text or not data:
                 return text.encode("utf-8", "surrogatepass")
+
+    def no_text(self, why: UnicodeDecodeError) -> BadColumns:
+        """Returns the refusal of bytes that are no text."""
+        told = self._encoding or "UTF-8"
+        reason = f"it is no {told} text ({why.reason}); name its encoding, as encoding='cp1252'"
+        return BadColumns(f"{self.name}: {reason}")
 
     def _packed(self) -> Any:
         try:

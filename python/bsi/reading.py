@@ -19,7 +19,7 @@ import numpy as np
 from .choosing import Block, Chosen, Wishes, misfits, refuse_no_kind, settled, slim, wanted_of
 from .errors import BadColumns, BadRow, Error, several
 from .fields import Fields, Lines, Records, read_each, split
-from .files import Path, Run, Runs, name_of, opened, size_of
+from .files import Path, Run, Runs, Source, name_of, opened, size_of
 from .forms import Form
 from .index import Index
 from .kinds import FAR, Kind, Texts, Whole
@@ -187,10 +187,10 @@ class _Column:
         valid = np.ones(len(fields.starts), bool)
         for text in self.options.nulls:
             valid &= ~stripped.equal(text)
-        if valid.all():
-            valid = np.broadcast_to(np.True_, len(valid))
         if self.reader is None:
-            return _Piece(valid, fields=fields if len(valid) and valid.any() else None)
+            return _Piece(valid, fields=fields if valid.any() else None)
+        if valid.all() and len(valid):
+            valid = np.lib.stride_tricks.as_strided(valid, strides=(0,), writeable=False)
         return self.read(stripped, valid)
 
     def _is_stripped(self) -> bool:
@@ -245,6 +245,14 @@ class _Column:
 _Read = Tuple[Records, List[Optional[_Piece]]]
 
 
+def _taken(waiting: Deque[Callable[[], _Read]], source: Source) -> _Read:
+    """Returns the run that is read next."""
+    try:
+        return waiting.popleft()()
+    except UnicodeDecodeError as why:
+        raise source.no_text(why) from None
+
+
 class _Reader:
     """What has been read of the files: their header, and the blocks of each wanted column."""
 
@@ -263,14 +271,18 @@ class _Reader:
         name, waiting = name_of(path), deque()  # type: Tuple[str, Deque[Callable[[], _Read]]]
         with opened(path, self._layout.encoding) as source:
             runs = Runs(source, *self._layout.marks)
-            self._line = self._head(runs, name)
-            while (run := runs.next(RUN if self._count else FIRST)).text:
-                waiting.append(self._started(run, runs))
+            try:
+                self._line = self._head(runs, name)
+            except UnicodeDecodeError as why:
+                raise source.no_text(why) from None
+            size = RUN if self._threads is None else 4 * RUN
+            while (run := runs.next(size if self._count else FIRST)).text:
+                waiting.append(self._started(run, runs, source))
                 while len(waiting) > self._ahead():
-                    self._keep(*waiting.popleft()(), name)
+                    self._keep(*_taken(waiting, source), name)
                 tell(self._bytes + source.place())
             while waiting:
-                self._keep(*waiting.popleft()(), name)
+                self._keep(*_taken(waiting, source), name)
             self._bytes += source.place()
             tell(self._bytes)
 
@@ -282,7 +294,7 @@ class _Reader:
         """Reads the header, and returns the line behind it."""
         for _ in range(self._layout.skipped):
             runs.line()
-        reader = csv.reader(iter(lambda: runs.line().decode("utf-8", "replace"), ""), strict=True, **self._layout.dialect)
+        reader = csv.reader(iter(lambda: runs.line().decode("utf-8", "surrogatepass"), ""), strict=True, **self._layout.dialect)
         try:
             header = next((record for record in reader if record), [])
         except csv.Error as why:
@@ -311,13 +323,16 @@ class _Reader:
 
     # ---- Runs ----
 
-    def _started(self, run: Run, runs: Runs) -> Callable[[], _Read]:
+    def _started(self, run: Run, runs: Runs, source: Source) -> Callable[[], _Read]:
         """Begins to read a run, on a thread where there are some, and returns what gives its columns. Where the run may
         not end as a record does, it is read with what follows it."""
         if not run.is_whole:
             lines = Lines(run.text, lambda: runs.next(RUN).text)
-            records = read_each(lines, len(self._header), self._layout.dialect)
-            runs.back(lines.rest())
+            try:
+                records = read_each(lines, len(self._header), self._layout.dialect)
+                runs.back(lines.rest())
+            except UnicodeDecodeError as why:
+                raise source.no_text(why) from None
             return lambda: self._pieces(records)
         if self._threads is not None and self._ahead():
             return self._threads.submit(self._pieces_of, run).result

@@ -83,9 +83,10 @@ class NumberReader:
 
     def read(self, fields: Fields) -> Read:
         found = numbers_of(fields, ord(self._options.decimal))
-        is_read = found.read if self._given else found.read & ~found.led
-        exact, bad = self._one_by_one(fields, np.flatnonzero(~is_read))
-        places = int(found.places[is_read].max(initial=0))
+        is_read = found.read if self._given or not found.led.any() else found.read & ~found.led
+        is_all = is_read.all()
+        exact, bad = ({}, {}) if is_all else self._one_by_one(fields, np.flatnonzero(~is_read))
+        places = int((found.places if is_all else found.places[is_read]).max(initial=0))
         places = max([places, *(-number.as_tuple().exponent for number in exact.values())])  # type: ignore[operator]
         is_decimal = found.pointed or any(number.as_tuple().exponent for number in exact.values())
         kind = self._given or (Decimals(self._places(places)) if is_decimal else Whole())
