@@ -12,7 +12,7 @@ from .errors import BadColumns, BadRow, BadSchema, Error, several
 from .forms import LEAST, MOST, Form, narrowest
 from .kinds import Kind, Misfit, Texts, Whole
 from .narrowing import MAX_TEXTS, encode, joined, narrow, recode, too_many_texts
-from .values import Values, columns_of, parts_of, values_of
+from .values import Values, columns_of, values_of
 
 # The numbers of each column, and which of them are valid.
 Entered = List[Tuple[np.ndarray, np.ndarray]]
@@ -275,7 +275,7 @@ def chosen_of(
     wishes: Optional[Wishes] = None
     blocks: Dict[str, List[Block]] = {}
     rows = 0
-    for frame in (part for one in frames for part in parts_of(one)):
+    for frame in frames:
         given = columns_of(frame)
         if wishes is None:
             wishes = Wishes(wanted_of(columns, list(given), drop), kinds, forms, spare, round)

@@ -8,7 +8,7 @@ from fractions import Fraction
 
 import numpy as np
 import pytest
-from producer import Arrow, bits, texts
+from producer import Arrow, Stream, bits, texts, views
 
 import bsi
 
@@ -134,6 +134,16 @@ CHOSEN = {
         bsi.Decimals(2),
         [Decimal("-1.25"), Decimal("0.07")],
     ),
+    "arrow views of texts": (
+        views("b", "ä" * 20, "b", validity=bits(1, 1, 1)),
+        bsi.Texts(("b", "ä" * 20)),
+        ["b", "ä" * 20, "b"],
+    ),
+    "arrow decimals of 64 bits": (
+        Arrow("d:10,1,64", 2, [None, np.array([-125, 7])]),
+        bsi.Decimals(1),
+        [Decimal("-12.5"), Decimal("0.7")],
+    ),
     "an arrow null array": (Arrow("n", 2, []), bsi.Whole(), []),
     "nothing": ([], bsi.Whole(), []),
     "nulls alone": ([None, NAN], bsi.Whole(), []),
@@ -255,6 +265,55 @@ def test_a_record_batch_is_a_frame():
         bsi.Index.from_frame(batch)
 
 
+def batch(numbers, *words):
+    columns = {"a": Arrow("l", len(numbers), [None, np.array(numbers, "i8")]), "b": views(*words)}
+    return Arrow("+s", len(numbers), [None], children=columns)
+
+
+def test_a_stream_of_record_batches_is_a_frame():
+    long = "a text of more than twelve bytes"
+    given = [batch([5, 6], "x", long), batch([7], long + "!"), batch([])]
+    stream = Stream(batch([]), *given)
+    index = bsi.Index.from_frame(stream)
+    assert (index.sum("a"), len(index), stream.released) == (18, 3, 3)
+    assert index.rows(bsi.col.b == long).tolist() == [1] and index.greatest("b") == "x"
+    assert index.append(Stream(batch([]), batch([5], "x"))) == 1 and len(index) == 4
+    assert len(bsi.Index.from_frame(Stream(batch([])))) == 0
+    with pytest.raises(bsi.BadColumns, match="the Arrow stream broke off: no more rows"):
+        bsi.Index.from_frame(Stream(batch([]), batch([5], "x"), breaks=True))
+    with pytest.raises(bsi.BadColumns, match="an Arrow record batch, and not as one array"):
+        bsi.Index.from_frame(Stream(texts("a")))
+
+
+def test_a_column_in_chunks():
+    def times(*numbers):
+        return Arrow("tsm:UTC", len(numbers), [None, np.array(numbers, "i8")])
+
+    def named(*words):
+        return Arrow("c", 2, [None, np.array([1, 0], np.int8)], dictionary=texts(*words), flags=1)
+
+    numbers = [Arrow("i", 2, [None, np.array([place] * 2, np.int32)]) for place in (1, 2)]
+    index = bsi.Index.from_frame(
+        {
+            "n": Stream(Arrow("i", 0, []), *numbers),
+            "t": Stream(times(), times(1000, 2000), times(3000, 4000)),
+            "o": Stream(named("b", "a"), named("b", "a"), named("b", "a")),
+            "x": Stream(named("b", "a"), named("b", "a"), named("c", "b")),
+        }
+    )
+    assert (index.sum("n"), index.forms["t"].kind) == (6, bsi.Times("s", datetime.timezone.utc))
+    assert index.forms["o"].kind == bsi.Texts(("b", "a"), ordered=True)
+    assert index.forms["x"].kind == bsi.Texts(("a", "b", "c")) and index.rows(bsi.col.x == "b").tolist() == [1, 2]
+
+
+@pytest.mark.parametrize("name", ["pyarrow", "polars"])
+def test_tables_of_pyarrow_and_polars(name):
+    module = pytest.importorskip(name)
+    given = {"n": [1, None, 3], "t": ["a", "a text of many bytes", None], "d": [DAY, None, DAY]}
+    index = bsi.Index.from_frame((module.table if name == "pyarrow" else module.DataFrame)(given))
+    assert (index.sum("n"), index.count(bsi.col.t == "a"), index.count(bsi.col.d == DAY)) == (4, 1, 2)
+
+
 # Values that can't be kept, the row that is named, and why.
 REFUSED = {
     "2^63": ([1, 2**63], 1, "past 63 bits|past 64 bits"),
@@ -315,6 +374,7 @@ NO_COLUMNS = {
     "a place past an arrow dictionary": Arrow("l", 1, [None, np.array([2])], dictionary=texts("a")),
     "arrow texts that are no UTF-8": Arrow("u", 1, [None, np.array([0, 1], np.int32), np.array([255], np.uint8)]),
     "an arrow time zone that is none": Arrow("tss:Nowhere/Here", 1, [None, np.array([0])]),
+    "an arrow view past its buffers": Arrow("vu", 1, [None, np.array([40, 0, 3, 0], np.int32), np.array([0], "i8")]),
     "arrow texts that go back": Arrow("u", 2, [None, np.array([0, 5, 2], np.int32), np.zeros(9, np.uint8)]),
 }
 
