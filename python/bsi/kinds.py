@@ -282,8 +282,8 @@ def _decimal(number: int, places: int) -> Decimal:
 @dataclass(frozen=True)
 class Times(Kind):
     """Points of time, as a count of days "D", seconds "s", "ms", "us" or "ns" since 1970-01-01, in UTC where there is a
-    zone. Answers are pandas.Timestamp, or datetime where there is no pandas, or numpy.datetime64 in UTC where neither
-    can be it. Constants are dates, times, or texts such as 2026-01-31T12:00.
+    zone. Answers are datetime, and numpy.datetime64 in UTC for nanoseconds and years past 9999. Constants are dates,
+    times, or texts such as 2026-01-31T12:00.
     """
 
     unit: str = "D"
@@ -310,7 +310,7 @@ class Times(Kind):
         return text
 
     def decode(self, number: int) -> Any:
-        return _time(number * NANOSECONDS[self.unit], self.zone)
+        return _time(number, self.unit, self.zone)
 
     def show(self, number: int) -> str:
         return str(self.decode(number))[:10] if self.unit == "D" else str(self.decode(number))
@@ -369,17 +369,11 @@ def nanoseconds_of(moment: Any) -> Tuple[int, bool]:
     raise TypeError(f"{shown(moment)} is no date or time")
 
 
-def _time(nanoseconds: int, zone: Any) -> Any:
-    """Returns the point of time as a pandas.Timestamp where that can be, as a datetime otherwise, and as a
-    numpy.datetime64 in UTC where neither can be it."""
-    try:
-        import pandas
-
-        if abs(nanoseconds) < 2**63:
-            return pandas.Timestamp(nanoseconds, tz=zone)
-    except (ImportError, ValueError):
-        pass
-    if nanoseconds % 1000 and abs(nanoseconds) < 2**63:
+def _time(number: int, unit: str, zone: Any) -> Any:
+    """Returns the point of time as a datetime, and as a numpy.datetime64 in UTC where that can't be: in nanoseconds,
+    and past the years 1 to 9999."""
+    nanoseconds = number * NANOSECONDS[unit]
+    if unit == "ns":
         return np.datetime64(nanoseconds, "ns")
     try:
         moment = EPOCH + timedelta(microseconds=nanoseconds // 1000)

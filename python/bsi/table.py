@@ -7,9 +7,12 @@ A *store* is a `native.Handle`, or a `gathered.Gathered` of several. Both have t
 
 from __future__ import annotations
 
+import contextlib
 import logging
+import math
 import numbers
 import re
+from fractions import Fraction
 from typing import Any, Dict, Iterable, Iterator, List, Mapping, Optional, Sequence, Tuple, TypeVar, Union
 
 import numpy as np
@@ -22,6 +25,7 @@ from .narrowing import encode
 from .native import BAD_ROW, INDEX_FULL, NO_MEMORY, Entries, Handle, check
 from .predicates import Among, Column, Comparison, Holds, Null, Predicate, all_rows, refuse_long
 from .progress import Progress, told
+from .summary import Summary, html_of
 from .values import columns_of, values_of
 
 NAME = re.compile(r"[a-z][a-z0-9_]{0,31}")
@@ -99,14 +103,23 @@ class Table:
 
     def __repr__(self) -> str:
         try:
-            rows = self._store.rows()
+            head = self._head()
         except Error as why:
             return f"{type(self).__name__} with the columns {', '.join(self._forms)}: {why}"
-        size = (sum(form.bitmaps for form in self._forms.values()) + 8) * rows / 8
         width = max(map(len, self._forms))
         texts = max(len(str(form)) for form in self._forms.values())
         lines = [f"  {name:{width}}  {form!s:{texts}}  {form.kind}{_span(form)}" for name, form in self._forms.items()]
-        return "\n".join([f"{type(self).__name__} of {rows:,} rows, about {_bytes(size)}", *lines])
+        return "\n".join([head, *lines])
+
+    def _head(self) -> str:
+        rows = self._store.rows()
+        size = (sum(form.bitmaps for form in self._forms.values()) + 8) * rows / 8
+        return f"{type(self).__name__} of {rows:,} rows, about {_bytes(size)}"
+
+    def _repr_html_(self) -> str:
+        """Shows the table in a notebook."""
+        cells = [[name, str(form), f"{form.kind}{_span(form)}"] for name, form in self._forms.items()]
+        return f"<p>{self._head()}</p>" + html_of([["column", "form", "values"], *cells])
 
     # ---- Rows ----
 
@@ -186,9 +199,64 @@ class Table:
 
     # ---- Questions ----
 
-    def count(self, where: Predicate = all_rows) -> int:
-        """Returns how many rows the predicate selects."""
-        return self._store.count(self._query(where))
+    def count(self, column: Union[Name, Predicate, None] = None, where: Predicate = all_rows) -> int:
+        """Returns how many rows the predicate selects: `count(where)`. Where a column is named, `count("price", where)`,
+        only those that have a value there."""
+        if isinstance(column, Predicate):
+            where = column if where is all_rows else column & where
+        if column is None or isinstance(column, Predicate):
+            return self._store.count(self._query(where))
+        name = self._name(column)
+        if isinstance(column, Column) and self._forms[name].kind == Flags():
+            ways = f"count({name!r}) counts its values, and count({column!r} == True) its true rows"
+            raise BadQuery(f"count({column!r}) could mean two things: {ways}")
+        return self._store.count(self._query(Column(name).notnull() & where))
+
+    def mean(self, column: Name, where: Predicate = all_rows) -> Any:
+        """Returns the mean of the column's values in these rows: a float, or a Decimal for decimals. None where there
+        is no value."""
+        name = self._name(column)
+        total, count = self.sum(name, where), self.count(name, where)
+        return total / count if count else None
+
+    def min(self, column: Name, where: Predicate = all_rows) -> Any:
+        """Returns the least value, as `least` does."""
+        return self.least(column, where)
+
+    def max(self, column: Name, where: Predicate = all_rows) -> Any:
+        """Returns the greatest value, as `greatest` does."""
+        return self.greatest(column, where)
+
+    def quantile(self, column: Name, q: Union[float, Iterable[float]], where: Predicate = all_rows) -> Any:
+        """Returns the value of the column at a part of these rows from 0 to 1, as NumPy's method "lower" has it, or a
+        list of such. It is found by a count for each bit of the column."""
+        if isinstance(q, Iterable):
+            return [self.quantile(column, one, where) for one in q]
+        if not 0 <= q <= 1:
+            raise ValueError(f"a quantile is from 0 to 1, and not {q!r}")
+        name, fields = self._name(column), self._query(where)
+        low, high = (self._store.value(word, self._within[name], fields) for word in (b"least", b"greatest"))
+        if low is None:
+            return None
+        rank = math.floor(Fraction(q) * (self.count(name, where) - 1))
+        bound = [self._within[name], b"<="]
+        while low < high:
+            middle = (low + high) // 2
+            below = self._store.count([*fields, *bound, b"%d" % middle, b"and"])
+            low, high = (low, middle) if below > rank else (middle + 1, high)
+        return self._forms[name].kind.decode(low)
+
+    def describe(self, columns: Optional[Iterable[str]] = None, where: Predicate = all_rows) -> Summary:
+        """Returns the count, the mean, the ends and the quartiles of columns in these rows, with the names that pandas
+        gives them."""
+        return Summary({self._name(one): self._figures(one, where) for one in columns or self._forms})
+
+    def _figures(self, name: str, where: Predicate) -> Dict[str, Any]:
+        figures: Dict[str, Any] = {"count": self.count(name, where)}
+        with contextlib.suppress(BadQuery):  # (texts and times have none)
+            figures["mean"] = self.mean(name, where)
+        low, *middle, high = self.quantile(name, (0, 0.25, 0.5, 0.75, 1), where)
+        return {**figures, "min": low, **dict(zip(("25%", "50%", "75%"), middle)), "max": high}
 
     def sum(self, column: Name, where: Predicate = all_rows) -> Any:
         """Returns the sum of the column's values in the rows that the predicate selects, 0 where there are none."""

@@ -210,6 +210,8 @@ def test_predicates_never_change():
         with pytest.raises(TypeError):
             wrong()
     with pytest.raises(TypeError, match="a predicate is made of bsi.col"):
+        small().sum("price", "price < 5")
+    with pytest.raises(bsi.BadQuery, match="there is no column 'price < 5'"):
         small().count("price < 5")
     with pytest.raises(TypeError):
         col[5]
@@ -263,6 +265,42 @@ def test_isin_of_many_constants():
 def test_constants_on_the_left():
     index = bsi.Index.from_frame({"t": np.array(["2026-01-31", "2026-02-01"], "M8[D]"), "f": [True, False]})
     assert index.count(np.datetime64("2026-02-01") <= col.t) == 1 and index.count(np.bool_(True) == col.f) == 1
+
+
+def test_names_that_pandas_has():
+    rng = np.random.default_rng(3)
+    x, there = rng.integers(-500, 500, 777), rng.random(777) < 0.8
+    columns = {"x": bsi.slices(10, offset=-500), "d": bsi.slices(10, offset=-500, kind=bsi.Decimals(1))}
+    for index in (bsi.Index(columns), bsi.Parts(3, columns)):
+        index.append({"x": np.ma.MaskedArray(x, ~there), "d": [Decimal(int(number)).scaleb(-1) for number in x]})
+        for where, rows in ((bsi.all_rows, x >= -500), (col.x < 100, (x < 100) & there), (col.x > 500, x > 500)):
+            found = x[rows & there]
+            assert index.count("x", where) == index.count(col.x, where) == len(found)
+            assert index.mean("x", where) == (found.mean() if len(found) else None)
+            wanted = [int(found.min()), int(found.max())] if len(found) else [None, None]
+            assert [index.min("x", where), index.max("x", where)] == wanted
+            parts = [0, 0.05, 0.25, 0.5, 0.95, 1]
+            wanted = np.quantile(found, parts, method="lower").tolist() if len(found) else [None] * 6
+            assert index.quantile("x", parts, where) == wanted and index.quantile("x", 0.5, where) == wanted[3]
+        assert index.mean("d") == sum(Decimal(int(number)) for number in x).scaleb(-1) / 777
+        with pytest.raises(ValueError, match="from 0 to 1"):
+            index.quantile("x", 1.5)
+
+
+def test_a_summary():
+    data = {"n": [1, 2, 4, None], "ok": [True, True, False, None], "t": ["b", "a", None, "<i>"]}
+    index = bsi.Index.from_frame({**data, "day": np.array(["2026-01-31"] * 4, "M8[D]")})
+    found = index.describe()
+    assert found["n"] == {"count": 3, "mean": 7 / 3, "min": 1, "25%": 1, "50%": 2, "75%": 2, "max": 4}
+    assert found["ok"]["mean"] == 2 / 3 and found["t"]["min"] == "<i>" and "mean" not in found["t"]
+    lines = repr(index.describe(["n", "day"], col.n > 1)).splitlines()
+    assert lines[0].split() == ["n", "day"] and lines[-1].split() == ["max", "4", "2026-01-31"] and len(lines) == 8
+    assert "<td>&lt;i&gt;</td>" in found._repr_html_() and "<td>equality(3)</td>" in index._repr_html_()
+    pandas = pytest.importorskip("pandas")
+    assert found.to_pandas().loc["max", "n"] == 4 and isinstance(found.to_pandas(), pandas.DataFrame)
+    with pytest.raises(bsi.BadQuery, match="count\\('ok'\\) counts its values, and count\\(col.ok == True\\)"):
+        index.count(col.ok)
+    assert index.count("ok") == 3 and index.count(where=col.n > 1) == 2 and index.count(col.n > 1, col.n < 3) == 1
 
 
 def test_a_thousand_fields():

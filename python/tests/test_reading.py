@@ -215,7 +215,7 @@ def test_units_of_several_blocks(write, monkeypatch):
 def test_times_are_read_exactly(write):
     fields = ["2026-01-31T12:00:00.123456789", "2026-01-31 12:00", "2026-01-31T12:00:00.5"]
     index = bsi.read_csv(write("t\n" + "\n".join(fields)))
-    assert index.forms["t"].kind == bsi.Times("ns") and str(index.greatest("t")) == "2026-01-31 12:00:00.500000"
+    assert index.forms["t"].kind == bsi.Times("ns") and str(index.greatest("t")) == "2026-01-31T12:00:00.500000000"
     assert [index.rows(col.t == field).tolist() for field in fields] == [[0], [1], [2]]
     index = bsi.read_csv(write("t\n1600-01-01T00:00:00.5+0130\n9999-12-31T23:59:59Z\n"))
     assert index.least("t") == datetime.datetime(1599, 12, 31, 22, 30, 0, 500_000, datetime.timezone.utc)

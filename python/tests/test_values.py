@@ -161,7 +161,10 @@ def test_values_come_back_in_their_own_type(name):
         assert index.count(bsi.col.x == value) == values.count(value)
     if values and not kind.names_values:
         least, greatest = index.least("x"), index.greatest("x")
-        assert (least, greatest) == (min(values), max(values)) and isinstance(least, type(min(values)))
+        assert (least, greatest) == (min(values), max(values))
+        is_time, is_fine = isinstance(kind, bsi.Times), kind == bsi.Times("ns")
+        wanted = np.datetime64 if is_fine else datetime.datetime if is_time else type(min(values))
+        assert type(least) is wanted
         assert str(least) == str(kind.decode(kind.number(min(values))))
 
 
@@ -248,10 +251,12 @@ def test_times_at_the_end_of_the_calendar():
     assert bsi.Times("s", ahead).decode(253402300799) == last.replace(tzinfo=datetime.timezone.utc)
 
 
-def test_nanoseconds_without_pandas(monkeypatch):
-    monkeypatch.setitem(sys.modules, "pandas", None)
-    assert bsi.Times("ns").decode(1_001) == np.datetime64(1_001, "ns")
-    assert bsi.Times("ns").decode(2_000) == datetime.datetime(1970, 1, 1, 0, 0, 0, 2)
+def test_answers_are_of_one_type_whatever_is_installed(monkeypatch):
+    for _ in range(2):
+        assert repr(bsi.Times("ns").decode(2_000)) == repr(np.datetime64(2_000, "ns"))
+        assert repr(bsi.Times("us").decode(2)) == repr(datetime.datetime(1970, 1, 1, 0, 0, 0, 2))
+        assert repr(bsi.Times("D").decode(20_000)) == repr(datetime.datetime(2024, 10, 4))
+        monkeypatch.setitem(sys.modules, "pandas", None)
 
 
 def test_a_record_batch_is_a_frame():
