@@ -3,7 +3,7 @@
 from __future__ import annotations
 
 import threading
-from typing import Any, ContextManager, List, Optional, Sequence, Tuple
+from typing import Any, ContextManager, List, NamedTuple, Optional, Sequence, Tuple
 
 import numpy as np
 
@@ -13,11 +13,41 @@ from .predicates import MAX_FIELDS
 Fields = Sequence[bytes]
 
 
+class _Left(NamedTuple):
+    """What is left for a median: from the one number to the other, how many numbers lie below the one and up to the
+    other, where that is known, and whether it is worth while to expect it between these two."""
+
+    low: int
+    high: int
+    below: Optional[int] = None
+    upto: Optional[int] = None
+    is_smooth: bool = True
+
+    def bounds(self, most: int, half: int) -> List[int]:
+        """Returns the numbers that are counted next."""
+        first, last = self.low, self.high - 1
+        if self.below is not None and self.upto is not None and self.is_smooth:
+            wanted = first + (half - self.below) * (self.high - first) // (self.upto - self.below)
+            first, last = max(first, wanted - (last - first) // 32 - 1), min(last, wanted + (last - first) // 32 + 1)
+            first = min(first, last)
+            return sorted({first + (last - first) * place // max(1, most - 1) for place in range(most)})
+        step = -(-(last + 1 - first) // (most + 1))
+        return list(range(first + step - 1, last + 1, step))
+
+    def after(self, bounds: List[int], counts: List[int], half: int) -> "_Left":
+        """Returns what is left when the numbers up to each bound are counted."""
+        under = sum(count < half for count in counts)
+        low, below = (bounds[under - 1] + 1, counts[under - 1]) if under else (self.low, self.below)
+        high, upto = (bounds[under], counts[under]) if under < len(bounds) else (self.high, self.upto)
+        return _Left(low, high, below, upto, not self.is_smooth or 8 * (high - low) <= self.high - self.low)
+
+
 class Gathered:
     """A store whose rows lie in several parts.
 
     A lower median is found by counts: it is the least number with at least half of the numbers at or below it. A round
-    asks for the counts at `bounds` numbers at once, so it leaves one in bounds + 1 of those that are possible."""
+    asks for the counts at `bounds` numbers at once. These lie near where the counts at both ends let it be expected,
+    and evenly spread after a round that was of little use."""
 
     def __init__(self, bounds: int):
         self._bounds = bounds
@@ -60,15 +90,17 @@ class Gathered:
         medians = [number for number in self._each("value", b"median", name, fields) if number is not None]
         if not medians:
             return None
-        low, high = min(medians), max(medians)
+        left = _Left(min(medians), max(medians))
         half = (self.count([*fields, name, b"null", b"not", b"and"]) + 1) // 2
-        while low < high:
-            step = -(-(high - low) // (self._bounds + 1))
-            bounds = list(range(low + step - 1, high, step))
+        while left.low < left.high:
+            if left.below == half - 1:
+                return self.value(b"least", name, [*fields, name, b">=", b"%d" % left.low, b"and"])
+            if left.upto == half:
+                return self.value(b"greatest", name, [*fields, name, b"<=", b"%d" % left.high, b"and"])
+            bounds = left.bounds(self._bounds, half)
             counts = self.counts([[*fields, name, b"<=", b"%d" % bound, b"and"] for bound in bounds])
-            below = sum(count < half for count in counts)
-            low, high = bounds[below - 1] + 1 if below else low, bounds[below] if below < len(bounds) else high
-        return low
+            left = left.after(bounds, counts, half)
+        return left.low
 
     def select(self, fields: Fields) -> Tuple[np.ndarray, int]:
         with self.alone():

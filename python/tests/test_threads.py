@@ -123,6 +123,17 @@ def test_parts_put_answers_together():
                         )
 
 
+def test_a_median_of_parts_takes_few_rounds(monkeypatch):
+    numbers = {"random": table(20_000)["a"], "in order": np.arange(1 << 20)[::50], "far": np.arange(20_000) ** 3 >> 23}
+    numbers["two"] = np.repeat([0, (1 << 20) - 1], 10_000)
+    for name, given in numbers.items():
+        parts, rounds = bsi.Parts(4, {"a": bsi.slices(20)}), []
+        parts.append({"a": given})
+        each = parts._store._each
+        monkeypatch.setattr(parts._store, "_each", lambda *asked: rounds.append(asked) or each(*asked))
+        assert parts.median("a") == np.sort(given)[(len(given) - 1) // 2] and len(rounds) <= 9, (name, len(rounds))
+
+
 def test_a_median_of_parts_takes_four_fields_less():
     parts = bsi.Parts(2, FORMS)
     parts.append(table(50))
