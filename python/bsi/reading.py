@@ -7,7 +7,6 @@ its line. Runs of records are turned into numbers as they are read, by columns, 
 from __future__ import annotations
 
 import csv
-import logging
 from collections import Counter, deque
 from concurrent.futures import ThreadPoolExecutor
 from contextlib import ExitStack
@@ -31,7 +30,6 @@ from .spelling import Bad, Meaning, Options, Reader, TextReader, misread, reader
 # How many bytes say what columns hold, how many are read at once, and how many refusals are kept of rows that are left
 # out.
 FIRST, RUN, KEPT = 1 << 16, 1 << 18, 1000
-log = logging.getLogger("bsi")
 
 
 def read_csv(
@@ -139,7 +137,8 @@ class Skipped(List[Error]):
 
     def __repr__(self) -> str:
         more = [f".. and {self.count - len(self):,} more"] if self.count > len(self) else []
-        return "\n".join([f"{self.count:,} rows were left out", *map(str, self), *more])
+        head = "1 row was left out" if self.count == 1 else f"{self.count:,} rows were left out"
+        return "\n".join([head, *map(str, self), *more])
 
 
 class _Rows(NamedTuple):
@@ -441,8 +440,6 @@ class _Reader:
             except Error as why:
                 column.refusal = why
         self._refuse()
-        if self.skipped:
-            log.warning("%r", self.skipped)
         return Chosen({one.name: one.form for one in self._columns}, [one.blocks for one in self._columns])
 
     def _refuse(self) -> None:

@@ -143,6 +143,29 @@ def test_the_command(tmp_path, capsys):
     assert main([str(path), "--null", "n/a", "count"]) == 0 and capsys.readouterr().out.endswith("3\n")
 
 
+def test_the_command_takes_what_read_csv_takes(tmp_path):
+    path = tmp_path / "rows.csv"
+    path.write_text("made by a tool\nn;Day;zip;x\n1,5;31.01.2026;00501;1\nNA;01.02.2026;10001;y\n2,255;-;0;2\n")
+    words = ["--delimiter", ";", "--decimal", ",", "--nulls", "NA,-", "--skiprows", "1", "--skip-bad", "--drop", "zip"]
+    ran = run(str(path), *words, "--dates", "%d.%m.%Y", "--round", "2", "sum n", "count", "least", "Day")
+    assert ran.stdout.splitlines()[-3:] == ["3.76", "2", "2026-01-31"] and ran.returncode == 0
+    assert ran.stderr.startswith("bsi: 1 row was left out\ncolumn 'x', row 1 (line 4 of")
+    words[-1], kinds = "x", "zip=text,n=decimals:3,Day=dates"
+    ran = run(str(path), *words, "--kinds", kinds, "sum n", "least zip")
+    assert ran.stdout.splitlines()[-2:] == ["3.755", "0"] and ran.returncode == 0
+    assert "--kinds has NAME=KIND" in run(str(path), "--kinds", "zip=code", "count").stderr
+    assert run("--version").stdout == f"bsi {bsi.__version__}\n" and bsi.__version__[0].isdigit()
+
+
+def test_a_shell_that_takes_a_sign_is_told(tmp_path):
+    path, out = tmp_path / "rows.csv", tmp_path / "100"
+    path.write_text("n\n5\n600\n")
+    line = f"{sys.executable} -m bsi {path} count n > {out}"
+    ran = subprocess.run(["sh", "-c", line], capture_output=True, text=True, check=False)
+    assert ran.returncode == 1 and "as the shell reads a > outside of quotes" in ran.stderr
+    assert run(str(path), "count", "n", "=", "5").stdout.splitlines()[-1] == "1"
+
+
 def test_the_command_without_an_input(tmp_path):
     path = tmp_path / "rows.csv"
     path.write_text("n\n5\n6\n")
@@ -169,11 +192,13 @@ def test_the_command_waits_at_a_terminal(tmp_path):
     terminal, end = os.openpty()
     command = [sys.executable, "-m", "bsi", str(path), "count"]
     with subprocess.Popen(command, stdin=end, stdout=subprocess.PIPE, stderr=subprocess.STDOUT) as started:
-        os.write(terminal, b"sum n\n\nsum x\ngreatest n n < 6\n\x04")
+        os.write(terminal, b"sum n\n\nsum x\ngreatest n n < 6\nhelp\nquit\ncount\n")
         out = started.communicate(timeout=60)[0].decode().replace("? ", "").splitlines()
     os.close(terminal)
     os.close(end)
-    assert [line for line in out[2:] if line] == ["2", "11", "bsi: there is no column 'x', only 'n'", "5"]
+    said = [line for line in out[2:] if line]
+    assert said[:4] == ["2", "11", "bsi: there is no column 'x', only 'n'", "5"]
+    assert said[4].startswith("    count [P]    rows [P]") and said[-1] != "2"
     assert started.returncode == 0
 
 
