@@ -4,6 +4,7 @@ width and an offset."""
 from __future__ import annotations
 
 from collections import deque
+from dataclasses import replace
 from typing import Any, Callable, Dict, Iterable, Iterator, List, Mapping, NamedTuple, Optional, Tuple, Union
 
 import numpy as np
@@ -124,6 +125,9 @@ class Wishes:
             if name not in names:
                 listed = ", ".join(map(repr, names))
                 raise BadColumns(f"a kind or form is given for {name!r}, and the columns are {listed}")
+        for name, kind in self.kinds.items():
+            if hasattr(kind, "categories"):  # (the dtype of a category of pandas)
+                self.kinds[name] = Texts(tuple(kind.categories), ordered=bool(kind.ordered))
         for name, form in self.forms.items():
             if not isinstance(form, Form):
                 shape = "slices(..), range(..) or equality(..)"
@@ -152,6 +156,8 @@ class Wishes:
             return self.forms[name].of(kind)
         if high - low >= SPAN:
             raise BadSchema(f"column {name!r}: {too_far(kind, low, high)}")
+        if isinstance(kind, Texts) and not isinstance(given, Texts) and not kind.ordered and self.spare:
+            kind = replace(kind, grows=True)
         return narrowest(kind, low, high, self.spare)
 
 
@@ -244,20 +250,6 @@ def refuse_misfit(name: str, form: Form, numbers: np.ndarray, valid: np.ndarray,
     if bad.any():
         row = int(bad.argmax())
         raise form.misfit(name, first + row, int(numbers[row]))
-
-
-def chosen(
-    data: Any,
-    columns: Optional[Iterable[str]] = None,
-    kinds: Optional[Mapping[str, Any]] = None,
-    forms: Optional[Mapping[str, Form]] = None,
-    *,
-    drop: Iterable[str] = (),
-    round: Union[int, Mapping[str, int], None] = None,
-    spare: int = 0,
-) -> Chosen:
-    """Returns the forms of the wanted columns of a frame, and their numbers."""
-    return chosen_of([data], columns, kinds, forms, drop=drop, round=round, spare=spare)
 
 
 def chosen_of(

@@ -106,7 +106,7 @@ def split(run: Run, width: int, delimiter: bytes, quote: bytes) -> Optional[Reco
     """Returns the records of a run, or None where it is not certain that each has so many fields."""
     text = run.text
     if not text.isascii():
-        text.decode()  # (or it raises UnicodeDecodeError)
+        text.decode()  # (or it raises UnicodeError)
     if not run.is_whole or len(delimiter) != 1 or b"\0" in text:
         return None
     if b"\r" in text and text.count(b"\r") != text.count(b"\r\n"):

@@ -109,15 +109,16 @@ class Source:
                 return data
             try:
                 text = self._decoder.decode(data, not data)
-            except UnicodeDecodeError as why:
+            except UnicodeError as why:
                 raise self.no_text(why) from None
             if text or not data:
                 return text.encode("utf-8", "surrogatepass")
 
-    def no_text(self, why: UnicodeDecodeError) -> BadColumns:
+    def no_text(self, why: UnicodeError) -> BadColumns:
         """Returns the refusal of bytes that are no text."""
         told = self._encoding or "UTF-8"
-        reason = f"it is no {told} text ({why.reason}); name its encoding, as encoding='cp1252'"
+        what = getattr(why, "reason", str(why))
+        reason = f"it is no {told} text ({what}); name its encoding, as encoding='cp1252'"
         return BadColumns(f"{self.name}: {reason}")
 
     def _packed(self) -> Any:

@@ -4,7 +4,7 @@ from __future__ import annotations
 
 from typing import Any, Iterable, Mapping, Optional, Union
 
-from .choosing import chosen
+from .choosing import chosen_of
 from .forms import Form
 from .kinds import Kind
 from .progress import Progress
@@ -46,7 +46,7 @@ class Index(Table):
         `columns` are those wanted, or all but `drop`; `kinds` and `forms` what is not to be chosen. What can't be kept
         exactly is a BadRow, but for decimals of more places than `round`. `spare` widens columns by so many bits.
         """
-        found = chosen(frame, columns, kinds, forms, drop=drop, round=round, spare=spare)
+        found = chosen_of([frame], columns, kinds, forms, drop=drop, round=round, spare=spare)
         return cls(found.forms, limit=limit)._filled(found, progress)
 
     @property

@@ -10,18 +10,22 @@ from __future__ import annotations
 
 import math
 import numbers
+import operator
 import re
 from bisect import bisect_left, bisect_right
-from dataclasses import dataclass, field
+from dataclasses import dataclass, field, replace
 from datetime import date, datetime, timedelta, timezone
 from decimal import Decimal
 from fractions import Fraction
 from itertools import repeat
-from typing import Any, Callable, Dict, Tuple
+from typing import Any, Callable, Dict, List, Tuple
 
 import numpy as np
 
 Cut = Tuple[int, int]
+COMPARE = {"=": operator.eq, "!=": operator.ne, "<": operator.lt, "<=": operator.le}
+COMPARE.update({">": operator.gt, ">=": operator.ge})
+GROWS = "; spare= leaves room for more"
 # A number past all that a column can take.
 FAR = 1 << 200
 NANOSECONDS = {"D": 86_400_000_000_000, "s": 1_000_000_000, "ms": 1_000_000, "us": 1_000, "ns": 1}
@@ -419,10 +423,12 @@ class Flags(Kind):
 @dataclass(frozen=True)
 class Texts(Kind):
     """One of these texts, as its place among them. They compare in order of their characters, and in the order given
-    where `ordered`. Answers are str."""
+    where `ordered`. Answers are str. Where it `grows`, further texts of an append get the next places, as far as the
+    column has room, so that places are in no order."""
 
     values: Tuple[str, ...]
     ordered: bool = False
+    grows: bool = field(default=False, compare=False)
     places: Dict[str, int] = field(init=False, repr=False, compare=False)
     names_values = True
     takes = "texts"
@@ -433,7 +439,7 @@ class Texts(Kind):
         values = tuple(self.values)
         if not values or any(not isinstance(value, str) for value in values):
             raise TypeError("a column of texts needs the list of them")
-        values = values if self.ordered else tuple(sorted(set(values)))
+        values = values if self.ordered or self.grows else tuple(sorted(set(values)))
         object.__setattr__(self, "values", values)
         object.__setattr__(self, "places", {value: place for place, value in enumerate(values)})
         if len(self.places) < len(values):
@@ -444,13 +450,26 @@ class Texts(Kind):
             raise TypeError(f"{shown(constant)} is no text")
         if constant in self.places:
             return self.places[constant], self.places[constant] + 1
+        if self.grows:
+            return len(self.values), len(self.values)
         if self.ordered:
             raise ValueError(f"{shown(constant)} is none of the texts, whose order was given")
         return bisect_left(self.values, constant), bisect_right(self.values, constant)
 
+    def numbers_where(self, sign: str, constant: Any) -> List[int]:
+        """Returns the places of the texts that compare so with a constant."""
+        self.cut(constant)
+        return [place for place, text in enumerate(self.values) if COMPARE[sign](text, constant)]
+
+    def grown(self, values: np.ndarray, valid: np.ndarray) -> "Texts":
+        """Returns the kind with the further texts among these values."""
+        there = dict.fromkeys(values[valid].tolist() if values.dtype == object else ())
+        more = [text for text in there if isinstance(text, str) and text not in self.places]
+        return replace(self, values=(*self.values, *more)) if more else self
+
     @property
     def unfit(self) -> str:  # type: ignore[override]
-        return f"is none of its {len(self.values)} texts"
+        return f"is none of its {len(self.values):,} texts" + ("" if self.ordered or self.grows else GROWS)
 
     def parse(self, text: str) -> str:
         return text

@@ -8,7 +8,7 @@ from operator import itemgetter
 from queue import SimpleQueue
 from typing import Any, Callable, ContextManager, Iterable, List, Mapping, Optional, Sequence, Tuple, Union
 
-from .choosing import chosen, refuse_misfit
+from .choosing import chosen_of, refuse_misfit
 from .errors import Error, NoMemory
 from .forms import Form
 from .gathered import Gathered
@@ -128,7 +128,7 @@ class Parts(Table):
         progress: Progress = None,
     ) -> "Parts":
         """Makes parts of a frame, as Index.from_frame makes an index."""
-        found = chosen(frame, columns, kinds, forms, drop=drop, round=round, spare=spare)
+        found = chosen_of([frame], columns, kinds, forms, drop=drop, round=round, spare=spare)
         return cls(n, found.forms, limit=limit)._filled(found, progress)
 
     def _append(self, encoded: Any) -> int:

@@ -62,27 +62,27 @@ def read_csv(
     and stand in `skipped`; else they are a BadRow. `spare` widens columns by so many bits. With several `parts` rows
     are read on as many threads, and split over as many indexes.
     """
-    paths = [paths] if isinstance(paths, str) or hasattr(paths, "__fspath__") or hasattr(paths, "read") else list(paths)
-    if not paths:
-        raise BadColumns("there is no file")
-    if isinstance(nulls, str):
-        raise TypeError("nulls is a list of texts")
     if bad not in ("refuse", "skip"):
         raise ValueError(f"bad is 'refuse' or 'skip', and not {bad!r}")
-    if decimal not in (".", ","):
-        raise ValueError(f"decimal is '.' or ',', and not {decimal!r}")
-    asked = _Asked(columns, drop, kinds, forms, spare, Options(None, tuple(nulls), decimal), dates, round)
-    layout = _Layout(delimiter, quotechar, skiprows, encoding)
+    asked = _Asked(columns, drop, kinds, forms, spare, _options(nulls, decimal), dates, round)
+    layout = _layout(delimiter, quotechar, skiprows, encoding)
     with ExitStack() as stack:
         threads = stack.enter_context(ThreadPoolExecutor(parts)) if parts > 1 else None
         reader = _Reader(asked, layout, bad == "skip", threads)
-        tell = stack.enter_context(told(progress, sum(map(size_of, paths)), "B"))
-        for path in paths:
-            reader.read(path, tell)
+        reader.read_all(paths, stack, progress)
     chosen = reader.chosen()
     index: Any = Index(chosen.forms, limit=limit) if parts == 1 else Parts(parts, chosen.forms, limit=limit)
     index.skipped = reader.skipped
     return index._filled(chosen, None)
+
+
+def _options(nulls: Collection[str], decimal: str) -> Options:
+    """Returns what is said of all fields."""
+    if isinstance(nulls, str):
+        raise TypeError("nulls is a list of texts")
+    if decimal not in (".", ","):
+        raise ValueError(f"decimal is '.' or ',', and not {decimal!r}")
+    return Options(None, tuple(nulls), decimal)
 
 
 class _Asked(NamedTuple):
@@ -122,6 +122,14 @@ class _Layout(NamedTuple):
     def marks(self) -> Tuple[bytes, bytes]:
         """The delimiter and the quote in UTF-8."""
         return (self.delimiter or ",").encode(), (self.quote or "").encode()
+
+
+def _layout(delimiter: Optional[str], quote: Optional[str], skipped: int, encoding: Optional[str]) -> _Layout:
+    """Returns what is said of the files. Refuses a sign that is none."""
+    for what, sign in (("delimiter", delimiter), ("quotechar", quote)):
+        if sign and (not isinstance(sign, str) or len(sign) != 1 or sign in "\r\n\0"):
+            raise ValueError(f"{what} is one character, and no end of a line, and not {sign!r}")
+    return _Layout(delimiter, quote, skipped, encoding)
 
 
 class Skipped(List[Error]):
@@ -248,7 +256,7 @@ def _taken(waiting: Deque[Callable[[], _Read]], source: Source) -> _Read:
     """Returns the run that is read next."""
     try:
         return waiting.popleft()()
-    except UnicodeDecodeError as why:
+    except UnicodeError as why:
         raise source.no_text(why) from None
 
 
@@ -265,6 +273,16 @@ class _Reader:
 
     # ---- Files ----
 
+    def read_all(self, paths: Union[Path, Iterable[Path]], stack: ExitStack, progress: Progress) -> None:
+        """Reads one file or several, and tells how far it is."""
+        is_one = isinstance(paths, str) or hasattr(paths, "__fspath__") or hasattr(paths, "read")
+        files: List[Path] = [paths] if is_one else list(paths)  # type: ignore[list-item, arg-type]
+        if not files:
+            raise BadColumns("there is no file")
+        tell = stack.enter_context(told(progress, sum(map(size_of, files)), "B"))
+        for path in files:
+            self.read(path, tell)
+
     def read(self, path: Path, tell: Callable[[int], None]) -> None:
         """Reads a file, and keeps the numbers of its wanted columns."""
         name, waiting = name_of(path), deque()  # type: Tuple[str, Deque[Callable[[], _Read]]]
@@ -272,7 +290,7 @@ class _Reader:
             runs = Runs(source, *self._layout.marks)
             try:
                 self._line = self._head(runs, name)
-            except UnicodeDecodeError as why:
+            except UnicodeError as why:
                 raise source.no_text(why) from None
             size = RUN if self._threads is None else 4 * RUN
             while (run := runs.next(size if self._count else FIRST)).text:
@@ -293,7 +311,8 @@ class _Reader:
         """Reads the header, and returns the line behind it."""
         for _ in range(self._layout.skipped):
             runs.line()
-        reader = csv.reader(iter(lambda: runs.line().decode("utf-8", "surrogatepass"), ""), strict=True, **self._layout.dialect)
+        lines = iter(lambda: runs.line().decode("utf-8", "surrogatepass"), "")
+        reader = csv.reader(lines, strict=True, **self._layout.dialect)
         try:
             header = next((record for record in reader if record), [])
         except csv.Error as why:
@@ -326,11 +345,11 @@ class _Reader:
         """Begins to read a run, on a thread where there are some, and returns what gives its columns. Where the run may
         not end as a record does, it is read with what follows it."""
         if not run.is_whole:
-            lines = Lines(run.text, lambda: runs.next(RUN).text)
             try:
+                lines = Lines(run.text, lambda: runs.next(RUN).text)
                 records = read_each(lines, len(self._header), self._layout.dialect)
                 runs.back(lines.rest())
-            except UnicodeDecodeError as why:
+            except UnicodeError as why:
                 raise source.no_text(why) from None
             return lambda: self._pieces(records)
         if self._threads is not None and self._ahead():

@@ -370,5 +370,6 @@ def misread(texts: List[str], counts: np.ndarray, options: Options) -> Bad:
             reasons = {place: told(text, f"{shown(text)} is no {reason}", options.nulls) for place, text in bad.items()}
             return {place: why + ("" if "nulls=" in why else more) for place, why in reasons.items()}
     if not there and texts:
-        return {place: told(text, f"{shown(text)} stands for no text", options.nulls) for place, text in enumerate(texts)}
+        each = enumerate(texts)
+        return {place: told(text, f"{shown(text)} stands for no text", options.nulls) for place, text in each}
     return {}

@@ -1,4 +1,4 @@
-"""A table of figures of columns, as `describe` gives it: shown as a text, as HTML in a notebook, or as a pandas frame."""
+"""A table of figures of columns, as `describe` gives it: as a text, as HTML in a notebook, or as a pandas frame."""
 
 from __future__ import annotations
 

@@ -10,9 +10,10 @@ from __future__ import annotations
 import contextlib
 import logging
 import math
-import numbers
 import re
+from dataclasses import replace
 from fractions import Fraction
+from numbers import Integral
 from typing import Any, Dict, Iterable, Iterator, List, Mapping, Optional, Sequence, Tuple, TypeVar, Union
 
 import numpy as np
@@ -20,7 +21,7 @@ import numpy as np
 from .choosing import Chosen, of_each
 from .errors import BadColumns, BadQuery, BadRow, BadSchema, Error, IndexFull, NoMemory
 from .forms import Form
-from .kinds import FAR, Cut, Flags, Misfit
+from .kinds import FAR, Cut, Flags, Misfit, Texts
 from .narrowing import encode
 from .native import BAD_ROW, INDEX_FULL, NO_MEMORY, Entries, Handle, check
 from .predicates import Among, Column, Comparison, Holds, Null, Predicate, all_rows, refuse_long
@@ -65,7 +66,7 @@ def schema_of(columns: Mapping[str, Form], limit: Optional[int]) -> bytes:
             raise BadSchema(f"an index has columns by name, each {shape}, and not {name!r}: {form!r}")
     if len(columns) > MAX_COLUMNS:
         raise BadSchema(f"an index has at most {MAX_COLUMNS} columns, and not {len(columns)}; name those wanted")
-    if limit is not None and (not isinstance(limit, numbers.Integral) or not 1 <= limit <= MAX_ROWS):
+    if limit is not None and (not isinstance(limit, Integral) or not 1 <= limit <= MAX_ROWS):
         raise BadSchema(f"the limit is 1 to {MAX_ROWS:,} rows, and not {limit!r}")
     within = names_within(list(columns))
     records = [form.record(within[name]) for name, form in columns.items()]
@@ -128,10 +129,18 @@ class Table:
         are.
 
         A value that its column does not take, and a row past the limit, are refused before anything changes."""
-        return self._append(self._encoded(data))
+        grown: Dict[str, Form] = {}
+        encoded = self._encoded(data, grown)
+        try:
+            rows = self._append(encoded)
+        except NoMemory:
+            self._forms.update(grown)  # (some rows may have their texts)
+            raise
+        self._forms.update(grown)
+        return rows
 
-    def _encoded(self, data: Any) -> List[Tuple[np.ndarray, np.ndarray]]:
-        """Returns the numbers of each column, and which of them are valid."""
+    def _encoded(self, data: Any, grown: Dict[str, Form]) -> List[Tuple[np.ndarray, np.ndarray]]:
+        """Returns the numbers of each column, and which of them are valid, and notes the columns that get texts."""
         given = columns_of(data)
         for what, names in (
             ("missing", self._forms.keys() - given.keys()),
@@ -140,16 +149,22 @@ class Table:
             if names:
                 raise BadColumns(f"{what} columns: {_listed(sorted(names))}; the index has {_listed(self._forms)}")
 
-        encoded = list(of_each(self._forms, lambda name: self._entered(name, given[name])).values())
+        encoded = list(of_each(self._forms, lambda name: self._entered(name, given[name], grown)).values())
         if len({len(numbers) for numbers, _ in encoded}) > 1:
             lengths = [f"{name!r} {len(numbers):,}" for name, (numbers, _) in zip(self._forms, encoded)]
             raise BadColumns(f"the columns differ in length: {', '.join(lengths)}")
         return encoded
 
-    def _entered(self, name: str, data: Any) -> Tuple[np.ndarray, np.ndarray]:
-        found = values_of(name, data)
+    def _entered(self, name: str, data: Any, grown: Dict[str, Form]) -> Tuple[np.ndarray, np.ndarray]:
+        found, form = values_of(name, data), self._forms[name]
+        kind = form.kind
+        if isinstance(kind, Texts) and kind.grows:
+            kind = kind.grown(found.values, found.valid)
+            if len(kind.values) > form.most + 1:
+                kind = replace(kind, values=kind.values[: form.most + 1])
+            grown[name] = form.of(kind)
         try:
-            return encode(self._forms[name].kind, found), found.valid
+            return encode(kind, found), found.valid
         except Misfit as why:
             raise BadRow(name, why.row, why.value, why.reason) from None
 
@@ -200,8 +215,8 @@ class Table:
     # ---- Questions ----
 
     def count(self, column: Union[Name, Predicate, None] = None, where: Predicate = all_rows) -> int:
-        """Returns how many rows the predicate selects: `count(where)`. Where a column is named, `count("price", where)`,
-        only those that have a value there."""
+        """Returns how many rows the predicate selects: `count(where)`. Where a column is named, as in
+        `count("price", where)`, only those that have a value there."""
         if isinstance(column, Predicate):
             where = column if where is all_rows else column & where
         if column is None or isinstance(column, Predicate):
@@ -235,6 +250,8 @@ class Table:
         if not 0 <= q <= 1:
             raise ValueError(f"a quantile is from 0 to 1, and not {q!r}")
         name, fields = self._name(column), self._query(where)
+        if isinstance(self._forms[name].kind, Texts) and self._forms[name].kind.grows:
+            return self._text_at(name, q, where)
         low, high = (self._store.value(word, self._within[name], fields) for word in (b"least", b"greatest"))
         if low is None:
             return None
@@ -295,8 +312,22 @@ class Table:
 
     def _value(self, word: bytes, column: Name, where: Predicate) -> Any:
         name = self._name(column)
+        kind = self._forms[name].kind
+        if isinstance(kind, Texts) and kind.grows:
+            return self._text_at(name, {b"least": 0, b"greatest": 1, b"median": 0.5}[word], where)
         number = self._store.value(word, self._within[name], self._query(where))
-        return None if number is None else self._forms[name].kind.decode(number)
+        return None if number is None else kind.decode(number)
+
+    def _text_at(self, name: str, q: float, where: Predicate) -> Optional[str]:
+        """Returns the text at a part of these rows, by a count of each text: their places are in no order."""
+        kind, fields = self._forms[name].kind, self._query(where)
+        asked = [[*fields, self._within[name], b"=", b"%d" % place, b"and"] for place in range(len(kind.values))]
+        counts = sorted(zip(kind.values, self._store.counts(asked)))
+        rank = math.floor(Fraction(q) * (sum(count for _, count in counts) - 1))
+        for text, count in counts:
+            if (rank := rank - count) < 0 and count:
+                return text
+        return None
 
     def _name(self, column: Name) -> str:
         name = column.name if isinstance(column, Column) else column
@@ -325,16 +356,23 @@ class Table:
 
     def _comparison(self, term: Comparison) -> List[bytes]:
         name = self._name(term.column)
-        sign, number = among_numbers(term.sign, *self._cut(name, term.constant))
+        cut, kind = self._cut(name, term.constant), self._forms[name].kind
+        if isinstance(kind, Texts) and kind.grows:
+            return self._one_of(name, kind.numbers_where(term.sign, term.constant))
+        sign, number = among_numbers(term.sign, *cut)
         sign, number = clamped(self._forms[name], sign, number)
         return [self._within[name], sign.encode(), b"%d" % number]
 
     def _among(self, term: Among) -> List[bytes]:
-        """Returns the fields that select the numbers of the constants, run by run."""
+        """Returns the fields that select the numbers of the constants."""
         name = self._name(term.column)
-        form, column, fields = self._forms[name], self._within[name], []
         cuts = [self._cut(name, constant) for constant in term.constants]
-        found = {left for left, right in cuts if left < right and form.offset <= left <= form.most}
+        return self._one_of(name, (left for left, right in cuts if left < right))
+
+    def _one_of(self, name: str, numbers: Iterable[int]) -> List[bytes]:
+        """Returns the fields that select some numbers of a column, run by run."""
+        form, column, fields = self._forms[name], self._within[name], []
+        found = {number for number in numbers if form.offset <= number <= form.most}
         for first, last in runs_of(sorted(found)):
             joined = [b"or"] if fields else []
             if first == last:

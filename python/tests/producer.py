@@ -86,7 +86,8 @@ class Stream:
         self._left, self._schema, self._kept = list(arrays), schema, arrays
         _ALIVE.append(self)
         self.released = 0
-        self._calls = [_STEP(self._give_schema), _STEP(self._give_next), _TELL(lambda _: ctypes.addressof(_WHY)), _RELEASE(int)]
+        steps = [_STEP(self._give_schema), _STEP(self._give_next)]
+        self._calls = [*steps, _TELL(lambda _: ctypes.addressof(_WHY)), _RELEASE(int)]
         self._freed = _RELEASE(self._free)
         self._breaks = breaks
         self.stream = _Stream(*[ctypes.cast(call, ctypes.c_void_p) for call in self._calls], None)

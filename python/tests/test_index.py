@@ -287,6 +287,48 @@ def test_names_that_pandas_has():
             index.quantile("x", 1.5)
 
 
+@pytest.mark.parametrize("parts", [1, 3])
+def test_room_to_grow(parts):
+    rng, words = np.random.default_rng(parts), [f"w{number:02}" for number in range(40)]
+    frames = [{"t": rng.choice(words[k % 3 :: 3], 50).tolist(), "n": rng.integers(0, 9 << k, 50)} for k in range(4)]
+    make = bsi.Index.from_frame if parts == 1 else lambda frame, **more: bsi.Parts.from_frame(parts, frame, **more)
+    index = make(frames[0], spare=5)
+    for frame in frames[1:]:
+        index.append(frame)
+    texts, numbers = sum((frame["t"] for frame in frames), []), np.concatenate([frame["n"] for frame in frames])
+    assert index.sum("n") == numbers.sum() and index.count(col.n > 20) == (numbers > 20).sum()
+    for text in [*words[::5], "", "w055", "zebra"]:
+        for where, rows in (
+            (col.t == text, [one == text for one in texts]),
+            (col.t != text, [one != text for one in texts]),
+            (col.t < text, [one < text for one in texts]),
+            (col.t >= text, [one >= text for one in texts]),
+            (col.t.isin([text, "w01"]) & (col.n > 3), [one in (text, "w01") for one in texts] & (numbers > 3)),
+        ):
+            assert index.mask(where).tolist() == list(rows), where
+            found = sorted(one for one, is_there in zip(texts, rows) if is_there)
+            ends = [found[0], found[-1], found[(len(found) - 1) // 2]] if found else [None] * 3
+            assert [index.least("t", where), index.greatest("t", where), index.median("t", where)] == ends
+    with pytest.raises(bsi.BadRow, match="row [0-9]+: 'x[0-9]+' is none of its"):
+        index.append({"t": [f"x{number}" for number in range(2000)], "n": [0] * 2000})
+    assert len(index) == 200 and index.append({"t": ["new", None], "n": [None, 1]}) == 2
+    assert index.greatest("t") == "w39" and index.least("t") == "new"
+
+
+def test_a_frame_that_follows_without_spare_bits():
+    index = bsi.Index.from_frame({"t": ["a", "b"], "n": [1, 2]})
+    with pytest.raises(bsi.BadRow, match="column 't', row 1: 'c' is none of its 2 texts; spare= leaves room for more"):
+        index.append({"t": ["a", "c"], "n": [1, 2]})
+
+
+def test_an_order_by_the_dtype_of_a_category():
+    pandas = pytest.importorskip("pandas")
+    dtype = pandas.CategoricalDtype(["low", "mid", "high"], ordered=True)
+    index = bsi.Index.from_frame({"x": ["high", "low"]}, kinds={"x": dtype})
+    assert index.greatest("x") == "high" and index.count(col.x >= "mid") == 1
+    assert index.append({"x": pandas.Series(["mid"], dtype=dtype)}) == 1
+
+
 def test_a_summary():
     data = {"n": [1, 2, 4, None], "ok": [True, True, False, None], "t": ["b", "a", None, "<i>"]}
     index = bsi.Index.from_frame({**data, "day": np.array(["2026-01-31"] * 4, "M8[D]")})

@@ -369,6 +369,9 @@ def test_files_of_other_layouts(write):
             read(write, f"n{sign}t\n1{sign}x\n")
     with pytest.raises(bsi.BadRow, match=r"\(line 5 of"):
         read(write, "made by\nn\n1\n2\nx\n", skiprows=1)
+    for more in ({"delimiter": "\n"}, {"quotechar": "ab"}, {"decimal": "x"}):
+        with pytest.raises(ValueError, match="one character|decimal is"):
+            read(write, "a\n1\n", **more)
     assert read(write, "a,b,c\n1,x,y\n", drop=["b", "c"]).columns == ["a"]
     with pytest.raises(bsi.BadColumns, match="no column 'z'"):
         read(write, "a,b\n1,2\n", drop=["z"])
