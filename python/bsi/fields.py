@@ -119,10 +119,10 @@ def split(run: Run, width: int, delimiter: bytes, quote: bytes) -> Optional[Reco
     if len(marks) % width:
         return None
     marks = marks.reshape(-1, width)
-    newlines = np.flatnonzero(inner == NEWLINE) + PAD
-    ends = marks[:, -1]
-    breaks = newlines[np.searchsorted(quotes, newlines) & 1 == 0] if len(quotes) else newlines
-    is_even = np.array_equal(ends, breaks)
+    ends, are_newlines = marks[:, -1], inner == NEWLINE
+    lines = int(np.count_nonzero(are_newlines))
+    breaks = lines if not len(quotes) else np.count_nonzero(data[marks] == NEWLINE)
+    is_even = breaks == len(ends) and (data[ends] == NEWLINE).all()
     firsts = np.concatenate([[PAD], ends[:-1] + 1])
     is_long = (ends - firsts).max(initial=0) > csv.field_size_limit()
     ends = ends - (data[ends - 1] == RETURN) if b"\r" in text else ends
@@ -136,8 +136,8 @@ def split(run: Run, width: int, delimiter: bytes, quote: bytes) -> Optional[Reco
         fields = Fields(data, starts, ends if place == width - 1 else marks[:, place], are_loose)
         return _unquoted(fields, quotes, quote) if len(quotes) else fields
 
-    places = None if len(newlines) == len(marks) else np.searchsorted(newlines, firsts)
-    return Records(len(marks), column, places, len(newlines), [])
+    places = None if lines == len(marks) else np.searchsorted(np.flatnonzero(are_newlines) + PAD, firsts)
+    return Records(len(marks), column, places, lines, [])
 
 
 def _unquoted(fields: Fields, quotes: np.ndarray, quote: bytes) -> Fields:

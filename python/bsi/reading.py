@@ -29,7 +29,7 @@ from .spelling import Bad, Meaning, Options, Reader, TextReader, misread, reader
 
 # How many bytes say what columns hold, how many are read at once, and how many refusals are kept of rows that are left
 # out.
-FIRST, RUN, KEPT = 1 << 16, 1 << 18, 1000
+FIRST, RUN, KEPT = 1 << 16, 1 << 19, 1000
 
 
 def read_csv(
@@ -178,6 +178,14 @@ class _Piece(NamedTuple):
     fields: Optional[Fields] = None
 
 
+_all = np.ones(RUN, bool)
+
+
+def all_of(rows: int) -> np.ndarray:
+    """Returns that so many rows are valid, in memory that all such share."""
+    return _all[:rows] if rows <= len(_all) else np.ones(rows, bool)
+
+
 class _Column:
     """A column that is wanted: its place in the header, how its fields are read, and its blocks."""
 
@@ -191,13 +199,12 @@ class _Column:
     def piece(self, fields: Fields) -> _Piece:
         """Reads the fields of a run, if it is known how."""
         stripped = fields.stripped() if self._is_stripped() else fields
-        valid = np.ones(len(fields.starts), bool)
+        valid = all_of(len(fields.starts))
         for text in self.options.nulls:
-            valid &= ~stripped.equal(text)
+            found = stripped.equal(text)
+            valid = valid & ~found if found.any() else valid
         if self.reader is None:
             return _Piece(valid, fields=fields if valid.any() else None)
-        if valid.all() and len(valid):
-            valid = np.lib.stride_tricks.as_strided(valid, strides=(0,), writeable=False)
         return self.read(stripped, valid)
 
     def _is_stripped(self) -> bool:
