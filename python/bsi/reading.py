@@ -466,7 +466,8 @@ class _Reader:
             except Error as why:
                 column.refusal = why
         self._refuse()
-        return Chosen({one.name: one.form for one in self._columns}, [one.blocks for one in self._columns])
+        columns, self._columns = self._columns, []  # (so that blocks can go when they are appended)
+        return Chosen({one.name: one.form for one in columns}, [one.blocks for one in columns])
 
     def _refuse(self) -> None:
         if refusals := [column.refusal for column in self._columns if column.refusal]:

@@ -31,7 +31,7 @@ from .values import columns_of, values_of
 
 NAME = re.compile(r"[a-z][a-z0-9_]{0,31}")
 WORDS = {"all", "null", "and", "or", "not"}
-MAX_ROWS, MAX_COLUMNS, BLOCK = 1 << 32, 64, 1 << 20
+MAX_ROWS, MAX_COLUMNS, BLOCK = 1 << 32, 64, 1 << 18
 Name = Union[str, Column]
 Self = TypeVar("Self", bound="Table")
 log = logging.getLogger("bsi")

@@ -511,5 +511,5 @@ def test_kinds_and_forms_that_are_given():
 
 def test_progress_is_told():
     told = []
-    bsi.Index.from_frame({"a": np.arange(1 << 20 | 5)}, progress=lambda done, total: told.append((done, total)))
-    assert told == [(1 << 20, 1048581), (1048581, 1048581)]
+    bsi.Index.from_frame({"a": np.arange(1 << 19 | 5)}, progress=lambda done, total: told.append((done, total)))
+    assert told == [(1 << 18, 524293), (1 << 19, 524293), (524293, 524293)]
