@@ -38,16 +38,17 @@ class Numbers(NamedTuple):
 
 
 def whole_of(data: np.ndarray, ends: np.ndarray, lengths: np.ndarray) -> Tuple[np.ndarray, np.ndarray]:
-    """Returns the numbers of runs of at most 18 digits, by their ends and lengths, and which of the runs are such. An
-    empty run is 0."""
+    """Returns the numbers of runs of digits within 63 bits, by their ends and lengths, and which of the runs are such.
+    An empty run is 0."""
     windows, longest = windows_of(data), int(lengths.max(initial=0))
     total, read = _word(windows[np.maximum(ends - WORD, 0)], np.minimum(lengths, WORD))
-    for place in range(WORD, min(longest, DIGITS), WORD):
+    for place in range(WORD, min(longest, DIGITS + 1), WORD):
         left = np.minimum(np.maximum(lengths - place, 0), WORD)
         number, is_read = _word(windows[np.maximum(ends - (place + WORD), 0)], left)
         total += number * POWERS[place]
         read &= is_read
-    return total, read & (lengths <= DIGITS) if longest > DIGITS else read
+    # (a number of one digit more may be past 63 bits, and has the sign of one below 0 then)
+    return total, read & (lengths <= DIGITS + 1) & (total >= 0) if longest > DIGITS else read
 
 
 def _word(words: np.ndarray, lengths: np.ndarray) -> Tuple[np.ndarray, np.ndarray]:

@@ -415,17 +415,17 @@ class _Reader:
         """Leaves rows of a run out."""
         for _, why in sorted(left.items()):
             self.skipped.add(why)
-        if not left:
+        taken = [column for column in self._columns if not column.refusal]
+        if not left or not taken:
             return
-        keep = np.ones(len(self._columns[0].blocks[place].valid), bool)
+        keep = np.ones(len(taken[0].blocks[place].valid), bool)
         keep[list(left)] = False
         rows = self._rows[place]
         lines = np.arange(len(keep)) if rows.lines is None else rows.lines
         self._rows[place] = rows._replace(lines=lines[keep])
-        for column in self._columns:
-            if not column.refusal:
-                block = column.blocks[place]
-                column.blocks[place] = block._replace(numbers=block.numbers[keep], valid=block.valid[keep])
+        for column in taken:
+            block = column.blocks[place]
+            column.blocks[place] = block._replace(numbers=block.numbers[keep], valid=block.valid[keep])
 
     def _refuse_many_texts(self, column: _Column) -> None:
         """Refuses a column that has more different texts than are taken unasked, by the first one too many."""

@@ -88,6 +88,8 @@ def test_kinds_are_chosen(write):
         (["5.", "0"], bsi.Decimals(0), Decimal("5")),
         (["-0", "12345678901234567"], bsi.Whole(), 12345678901234567),
         (["-9223372036854775808", "-9223372036854775807"], bsi.Whole(), -(2**64) + 1),
+        (["1234567890123456789", "-1234567890123456788", "7"], bsi.Whole(), 8),
+        (["9223372036854775807", "9223372036854775806"], bsi.Whole(), 2**64 - 3),
         (["true", "TRUE", "False"], bsi.Flags(), 2),
     ],
 )
@@ -316,13 +318,17 @@ def test_all_columns_that_do_not_fit_are_told(write):
         index.append({"b": [1, "x"], "c": [0.5, 1]})
 
 
-def test_rows_that_are_left_out(write):
+def test_rows_that_are_left_out(write, monkeypatch):
     text = 'n,t,d\n1,a,2026-01-31\nx,b,2026-02-30\n3,c\n4,d,2026-02-01\n5,"e\nf",soon\n6,g,2026-03-01\n'
     index = read(write, text, bad="skip", forms={"n": bsi.slices(2, offset=1)})
     assert len(index) == 2 and index.rows(col.n >= 1).tolist() == [0, 1] and index.sum("n") == 5
     assert index.skipped.count == len(index.skipped) == 4
     lines = [str(why).partition("line ")[2].partition(" of")[0] for why in index.skipped]
     assert sorted(lines) == ["3", "4", "6", "8"] and "4 rows were left out" in repr(index.skipped)
+    many = "t,n\n" + "".join(f"x{number},{number}\n" for number in range(2000)) + "y,z\n"
+    in_runs_of(monkeypatch, 500)
+    with pytest.raises(bsi.BadRow, match="column 't', row 1024 .* is one text more than the 1,024"):
+        read(write, many, bad="skip")
     with pytest.raises(ValueError, match="bad is"):
         read(write, text, bad="warn")
 
