@@ -2,6 +2,7 @@
 
 from __future__ import annotations
 
+import math
 import threading
 from typing import Any, ContextManager, List, NamedTuple, Optional, Sequence, Tuple
 
@@ -27,9 +28,11 @@ class _Left(NamedTuple):
         """Returns the numbers that are counted next."""
         first, last = self.low, self.high - 1
         if self.below is not None and self.upto is not None and self.is_smooth:
-            wanted = first + (half - self.below) * (self.high - first) // (self.upto - self.below)
-            first, last = max(first, wanted - (last - first) // 32 - 1), min(last, wanted + (last - first) // 32 + 1)
-            first = min(first, last)
+            between = self.upto - self.below
+            wanted = first + (half - self.below) * (self.high - first) // between
+            # (numbers that lie there by chance are off by the root of how many they are)
+            off = (last - first) // max(1, math.isqrt(between)) + 1
+            first, last = max(first, min(wanted - off, last)), max(first, min(last, wanted + off))
             return sorted({first + (last - first) * place // max(1, most - 1) for place in range(most)})
         step = -(-(last + 1 - first) // (most + 1))
         return list(range(first + step - 1, last + 1, step))
@@ -87,11 +90,11 @@ class Gathered:
         if len(fields) + 4 > MAX_FIELDS:
             rule = f"a median over several parts takes a predicate of at most {MAX_FIELDS - 4} fields"
             raise BadQuery(f"{rule}, and this one has {len(fields):,}")
-        medians = [number for number in self._each("value", b"median", name, fields) if number is not None]
-        if not medians:
+        found = [(number, count) for number, count in self._each("median_and_count", name, fields) if count]
+        if not found:
             return None
-        left = _Left(min(medians), max(medians))
-        half = (self.count([*fields, name, b"null", b"not", b"and"]) + 1) // 2
+        left = _Left(min(number for number, _ in found), max(number for number, _ in found))
+        half = (sum(count for _, count in found) + 1) // 2
         while left.low < left.high:
             if left.below == half - 1:
                 return self.value(b"least", name, [*fields, name, b">=", b"%d" % left.low, b"and"])

@@ -152,6 +152,10 @@ class Handle:
         answer = self._ask(word, name, *fields)
         return answer.value if answer.present else None
 
+    def median_and_count(self, name: bytes, fields: Sequence[bytes]) -> Tuple[Optional[int], int]:
+        """Returns the lower median number in these rows, and how many numbers there are."""
+        return self.value(b"median", name, fields), self.count([*fields, name, b"null", b"not", b"and"])
+
     def select(self, fields: Sequence[bytes]) -> Tuple[np.ndarray, int]:
         """Returns the words whose bits say which rows the predicate selects, and how many rows there are."""
         (slices, length, _kept), status, rows = _slices(tuple(fields)), NO_ROOM, 0

@@ -131,7 +131,7 @@ def test_a_median_of_parts_takes_few_rounds(monkeypatch):
         parts.append({"a": given})
         each = parts._store._each
         monkeypatch.setattr(parts._store, "_each", lambda *asked: rounds.append(asked) or each(*asked))
-        assert parts.median("a") == np.sort(given)[(len(given) - 1) // 2] and len(rounds) <= 9, (name, len(rounds))
+        assert parts.median("a") == np.sort(given)[(len(given) - 1) // 2] and len(rounds) <= 8, (name, len(rounds))
 
 
 def test_a_median_of_parts_takes_four_fields_less():
