@@ -12,9 +12,11 @@ MONTHS = ("jan", "feb", "mar", "apr", "may", "jun", "jul", "aug", "sep", "oct", 
 NAMES = "january|february|march|april|may|june|july|august|september|october|november|december"
 MONTH = rf"({NAMES}|sept|{'|'.join(MONTHS)})\.?"
 HOUR = r"(?:,?[T ]\s*(\d{1,2}):(\d\d)(?::(\d\d))?(?: ?([ap])\.?m\.?)?)?"
-YEAR_FIRST = re.compile(rf"(\d{{4}})/(\d\d?)/(\d\d?)(?:[T ]({CLOCK})({ZONE})?)?", re.ASCII)
+YEAR_FIRST = re.compile(rf"(\d{{4}})([-/.])(\d\d?)\2(\d\d?)(?:[T ]({CLOCK})(?: ?({ZONE}))?)?", re.ASCII)
 NUMERIC = re.compile(rf"(\d{{1,2}})([-/.])(\d{{1,2}})\2(\d{{4}}){HOUR}", re.ASCII | re.IGNORECASE)
-SHORT = re.compile(r"\d{1,2}([-/.])\d{1,2}\1\d{2}(?:[T ].*)?", re.ASCII)
+MONTHLY = re.compile(rf"{MONTH}[- ]'?\d\d(?:\d\d)?|(?:0?[1-9]|1[0-2])[-/.](?:19|20)\d\d", re.ASCII | re.IGNORECASE)
+FIRST = r"(?:0?[1-9]|[12]\d|3[01])"
+SHORT = re.compile(rf"{FIRST}([-/.]){FIRST}\1\d{{2}}(?:[T ].*)?", re.ASCII)
 WRITTEN = [
     (re.compile(rf"{MONTH} (\d\d?)(?:st|nd|rd|th)?,? (\d{{4}}){HOUR}", re.ASCII | re.IGNORECASE), (3, 1, 2)),
     (re.compile(rf"(\d\d?)[- .]+{MONTH}[- ,]+(\d{{4}}){HOUR}", re.ASCII | re.IGNORECASE), (3, 2, 1)),
@@ -28,7 +30,7 @@ def is_date(text: str) -> bool:
         nanoseconds_of_date(text)
         return True
     except ValueError:
-        return is_numeric(text)
+        return is_numeric(text) or bool(MONTHLY.fullmatch(text))
 
 
 def is_numeric(text: str) -> bool:
@@ -40,13 +42,15 @@ def nanoseconds_of_date(text: str) -> Tuple[int, bool]:
     """Returns the nanoseconds since 1970-01-01 of a text whose day and month can't be exchanged, in UTC where it has a
     zone, and whether it has one."""
     if found := YEAR_FIRST.fullmatch(text):
-        year, month, day, clock, zone = found.groups()
+        year, _, month, day, clock, zone = found.groups()
         return nanoseconds_of_text(f"{year}-{month:0>2}-{day:0>2}" + (f"T{clock}{zone or ''}" if clock else ""))
     for pattern, order in WRITTEN:
         if found := pattern.fullmatch(text):
             year, month, day = (found.group(place) for place in order)
             clock = found.groups()[3:]
             return _moment(text, int(year), MONTHS.index(month[:3].lower()) + 1, int(day), clock), False
+    if MONTHLY.fullmatch(text):
+        raise ValueError(f"{shown(text)} has no day: give dates=, as '%b %Y', or kinds= with Texts")
     return nanoseconds_of_text(text)
 
 
@@ -75,7 +79,7 @@ class Numeric(NamedTuple):
         found = NUMERIC.fullmatch(text)
         if not found:
             if SHORT.fullmatch(text):
-                raise ValueError(f"{shown(text)} has a year of two digits: give dates=, as '%d.%m.%y'")
+                raise ValueError(f"{shown(text)} has a year of two digits: give dates=, as '%d.%m.%y', or kinds=")
             return nanoseconds_of_date(text)
         first, sign, second, year = found.groups()[:4]
         if not self.is_known:

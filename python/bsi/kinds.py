@@ -31,8 +31,8 @@ FAR = 1 << 200
 NANOSECONDS = {"D": 86_400_000_000_000, "s": 1_000_000_000, "ms": 1_000_000, "us": 1_000, "ns": 1}
 UNITS = {"D": "days", "s": "seconds", "ms": "milliseconds", "us": "microseconds", "ns": "nanoseconds"}
 NUMBER = re.compile(r"-?(?:[0-9]+(?:\.[0-9]*)?|\.[0-9]+)(?:[eE][-+]?[0-9]{1,3})?")
-CLOCK, ZONE = r"\d\d:\d\d(?::\d\d(?:\.\d{1,9})?)?", r"Z|[+-](?:[01]\d|2[0-3]):?[0-5]\d"
-TIME = re.compile(rf"(\d{{4}}-\d\d-\d\d)(?:[T ]({CLOCK})({ZONE})?)?", re.ASCII)
+CLOCK, ZONE = r"\d\d:\d\d(?::\d\d(?:\.\d{1,9})?)?", r"Z|UTC|[+-](?:[01]\d|2[0-3])(?::?[0-5]\d)?"
+TIME = re.compile(rf"(\d{{4}}-\d\d-\d\d)(?:[T ]({CLOCK})(?: ?({ZONE}))?)?", re.ASCII)
 
 
 class Misfit(ValueError):
@@ -347,7 +347,8 @@ def nanoseconds_of_text(text: str) -> Tuple[int, bool]:
         seconds = int(np.datetime64(f"{day}T{clock}", "s").astype(np.int64))
     except ValueError:
         raise ValueError(f"{shown(text)} is no date or time: the calendar or the clock has no such") from None
-    ahead = 0 if zone in (None, "Z") else (int(zone[1:3]) * 60 + int(zone[-2:])) * (-60 if zone[0] == "-" else 60)
+    hours, minutes = (0, 0) if zone in (None, "Z", "UTC") else (int(zone[1:3]), int(zone[3:].strip(":") or 0))
+    ahead = (hours * 60 + minutes) * (-60 if zone and zone[0] == "-" else 60)
     return (seconds - ahead) * NANOSECONDS["s"] + int(fraction.ljust(9, "0")), zone is not None
 
 
