@@ -32,6 +32,7 @@ from .reading import read_csv
 from .version import __version__
 
 MAX_SHOWN = 20
+FOR_CSV = ("null", "nulls", "delimiter", "decimal", "dates", "encoding", "skiprows", "skip_bad")
 KINDS = {"text": lambda _: Texts, "whole": lambda _: Whole(), "flags": lambda _: Flags()}
 KINDS["decimals"], KINDS["times"] = lambda places: Decimals(int(places or 2)), lambda unit: Times(unit or "s")
 KINDS["dates"] = lambda _: Times("D")
@@ -54,7 +55,7 @@ def _arguments(words: Optional[List[str]]) -> Any:
         "--text", metavar="NAME,..", default="", help="columns that hold texts, whatever they look like"
     )
     parser.add_argument(
-        "--null", metavar="FIELD", action="append", default=[""], help="a further field that stands for a null"
+        "--null", metavar="FIELD", action="append", default=[], help="a further field that stands for a null"
     )
     parser.add_argument("--nulls", metavar="FIELD,..", default="", help="several such fields")
     parser.add_argument("--delimiter", metavar="SIGN", help="what stands between fields: a comma where it is not given")
@@ -80,14 +81,19 @@ def _kinds(given: Any) -> Dict[str, Any]:
     return kinds
 
 
+def _wishes(given: Any) -> Dict[str, Any]:
+    """Returns what is said of the columns of any file."""
+    drop = [name for name in given.drop.split(",") if name]
+    return {"kinds": _kinds(given), "drop": drop, "round": given.round}
+
+
 def _csv(files: List[str], columns: Optional[List[str]], given: Any, progress: bool) -> Any:
     """Makes the index of CSV files, and tells which rows were left out."""
-    named = ("delimiter", "decimal", "dates", "round", "encoding", "skiprows", "parts")
-    how = {name: getattr(given, name) for name in named}
-    nulls = [*given.null, *filter(None, given.nulls.split(","))]
-    drop = [name for name in given.drop.split(",") if name]
+    named = ("delimiter", "decimal", "dates", "encoding", "skiprows", "parts")
+    how = {**_wishes(given), **{name: getattr(given, name) for name in named}}
+    nulls = ["", *given.null, *filter(None, given.nulls.split(","))]
     bad = "skip" if given.skip_bad else "refuse"
-    table = read_csv(files, columns, kinds=_kinds(given), nulls=nulls, drop=drop, bad=bad, progress=progress, **how)
+    table = read_csv(files, columns, nulls=nulls, bad=bad, progress=progress, **how)
     if table.skipped:
         print(f"bsi: {table.skipped!r}", file=sys.stderr)
     return table
@@ -101,13 +107,14 @@ def _read(files: List[str], given: Any) -> Any:
         return _csv(files, columns, given, progress)
     import pandas
 
-    if given.text or len(given.null) > 1:
-        raise ValueError("--text and --null are for CSV files alone")
+    alone = [name for name in FOR_CSV if getattr(given, name) not in (None, "", 0, ".", [])]
+    if alone:
+        raise ValueError(f"--{alone[0].replace('_', '-')} is for CSV files alone")
     # (nullable types, since a whole number beside a null would be a float otherwise)
     is_new = "dtype_backend" in inspect.signature(pandas.read_parquet).parameters
     nullable = {"dtype_backend": "numpy_nullable"} if is_new else {"use_nullable_dtypes": True}
     frames = (pandas.read_parquet(file, columns=columns, **nullable) for file in files)
-    found = chosen_of(frames, columns)
+    found = chosen_of(frames, columns, **_wishes(given))
     table = Index(found.forms) if given.parts == 1 else Parts(given.parts, found.forms)
     return table._filled(found, progress)
 

@@ -21,6 +21,7 @@ import numpy as np
 from .choosing import Chosen, of_each
 from .errors import BadColumns, BadQuery, BadRow, BadSchema, Error, IndexFull, NoMemory
 from .forms import Form
+from .groups import GroupBy, Groups
 from .kinds import FAR, Cut, Flags, Misfit, Texts
 from .narrowing import encode
 from .native import BAD_ROW, INDEX_FULL, NO_MEMORY, Entries, Handle, check
@@ -262,6 +263,30 @@ class Table:
             below = self._store.count([*fields, *bound, b"%d" % middle, b"and"])
             low, high = (low, middle) if below > rank else (middle + 1, high)
         return self._forms[name].kind.decode(low)
+
+    def values_in(self, column: Name, where: Predicate = all_rows) -> Iterator[Any]:
+        """Yields the different values of a column in these rows, in order, by a question each."""
+        name, fields = self._name(column), self._query(where)
+        form = self._forms[name]
+        if isinstance(form.kind, Texts) and form.kind.grows:
+            yield from (text for text in sorted(form.kind.values) if self.count(where & (Column(name) == text)))
+            return
+        number: Optional[int] = form.offset - 1
+        while number is not None and number < form.most:
+            above = [*fields, self._within[name], b">=", b"%d" % (number + 1), b"and"]
+            number = self._store.value(b"least", self._within[name], above)
+            if number is not None:
+                yield form.kind.decode(number)
+
+    def groupby(self, column: Name) -> GroupBy:
+        """Returns the rows by the values of a column: `groupby("station").sum("rain", where)`."""
+        return GroupBy(self, self._name(column))
+
+    def value_counts(self, column: Name, where: Predicate = all_rows) -> Groups:
+        """Returns how many of these rows have each value of the column, the most frequent first."""
+        name = self._name(column)
+        counts = self.groupby(name).count(where=where)
+        return Groups(name, dict(sorted(counts.items(), key=lambda one: -one[1])))
 
     def describe(self, columns: Optional[Iterable[str]] = None, where: Predicate = all_rows) -> Summary:
         """Returns the count, the mean, the ends and the quartiles of columns in these rows, with the names that pandas

@@ -1,6 +1,7 @@
 """What an index says of itself, what it refuses, and that a refusal changes nothing."""
 
 import copy
+import datetime
 import pickle
 from decimal import Decimal
 from fractions import Fraction
@@ -285,6 +286,57 @@ def test_names_that_pandas_has():
         assert index.mean("d") == sum(Decimal(int(number)) for number in x).scaleb(-1) / 777
         with pytest.raises(ValueError, match="from 0 to 1"):
             index.quantile("x", 1.5)
+
+
+def grouped(rows, name, where, figure):
+    """Returns a figure of the rows by the values of a column, as plain Python has it."""
+    found = {}
+    for row in rows:
+        if row[name] is not None and where(row):
+            found.setdefault(row[name], []).append(row)
+    return {value: figure([row["n"] for row in found[value] if row["n"] is not None]) for value in sorted(found)}
+
+
+@pytest.mark.parametrize("seed", range(4))
+def test_groups_beside_plain_python(seed):
+    rng = np.random.default_rng(seed)
+    days = [datetime.datetime(2026, 1, 1) + datetime.timedelta(days=int(day)) for day in rng.integers(0, 5, 300)]
+    data = {
+        "t": [None if word == "x" else str(word) for word in rng.choice(["a", "b", "c", "x"], 300)],
+        "f": [None if number == 0 else bool(number - 1) for number in rng.integers(0, 3, 300)],
+        "w": rng.choice([-5, 7, 10**9], 300).tolist(),
+        "c": [Decimal(int(number)).scaleb(-1) for number in rng.integers(-3, 3, 300)],
+        "d": days,
+        "n": [None if number > 90 else int(number) for number in rng.integers(-20, 100, 300)],
+    }
+    rows = [dict(zip(data, row)) for row in zip(*data.values())]
+    for index in (bsi.Index.from_frame(data), bsi.Index.from_frame(data, spare=2), bsi.Parts.from_frame(3, data)):
+        for name in "tfwcd":
+            by = index.groupby(name)
+            for predicate, where in ((bsi.all_rows, lambda row: True), (col.w > 0, lambda row: row["w"] > 0)):
+                for word, figure in (
+                    ("sum", sum),
+                    ("least", lambda numbers: min(numbers, default=None)),
+                    ("max", lambda numbers: max(numbers, default=None)),
+                    ("mean", lambda numbers: sum(numbers) / len(numbers) if numbers else None),
+                    ("median", lambda numbers: sorted(numbers)[(len(numbers) - 1) // 2] if numbers else None),
+                    ("count", len),
+                ):
+                    assert getattr(by, word)("n", predicate) == grouped(rows, name, where, figure), (name, word)
+                counts = index.value_counts(name, predicate)
+                wanted = {value: sum(row[name] == value and where(row) for row in rows) for value in counts}
+                assert counts == wanted == by.count(predicate)
+                assert list(counts.values()) == sorted(counts.values(), reverse=True)
+
+
+def test_groups_that_are_many():
+    index = bsi.Index.from_frame({"n": range(5000), "t": ["a", "b"] * 2500})
+    with pytest.raises(bsi.BadQuery, match="column 'n' has more than 4,096 values"):
+        index.groupby("n").count()
+    pandas = pytest.importorskip("pandas")
+    series = index.groupby(col.t).max("n").to_pandas()
+    assert series.to_dict() == {"a": 4998, "b": 4999} and series.index.name == "t"
+    assert isinstance(series, pandas.Series)
 
 
 @pytest.mark.parametrize("parts", [1, 3])

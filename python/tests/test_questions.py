@@ -219,4 +219,7 @@ def test_the_command_reads_parquet_where_pandas_can(monkeypatch, capsys):
     assert main(["z.parquet", "half.parquet", "sum n"]) == 0
     assert capsys.readouterr().out.splitlines()[3:] == ["9007199254740993.5"]
     assert main(["x.parquet", "--null", "n/a", "count"]) == 1
-    assert capsys.readouterr().err == "bsi: --text and --null are for CSV files alone\n"
+    assert capsys.readouterr().err == "bsi: --null is for CSV files alone\n"
+    assert main(["x.parquet", "--skip-bad", "count"]) == 1 and "--skip-bad is for" in capsys.readouterr().err
+    assert main(["x.parquet", "--drop", "n", "--kinds", "t=text", "greatest t"]) == 0
+    assert capsys.readouterr().out.splitlines()[2:] == ["b"]
