@@ -118,13 +118,11 @@ def _spliced(words: np.ndarray, lengths: np.ndarray, places: int, point: int) ->
 
 def _behind_point(data: np.ndarray, starts: np.ndarray, ends: np.ndarray, point: int) -> np.ndarray:
     """Returns how many bytes stand behind the last point of each field, and -1 where it has none."""
-    behind = np.full(len(starts), -1, np.int64)
-    left, place = np.arange(len(starts)), 0
-    while len(left) and place <= DIGITS:
-        left = left[ends[left] - place > starts[left]]
-        is_point = data[ends[left] - place - 1] == point
-        behind[left[is_point]] = place
-        left, place = left[~is_point], place + 1
+    behind, points = np.full(len(starts), -1, np.int64), np.flatnonzero(data == point)
+    rows = np.minimum(np.searchsorted(ends, points, "right"), len(ends) - 1)
+    within = points >= starts[rows]
+    rows, points = rows[within], points[within]
+    behind[rows] = ends[rows] - 1 - points
     return behind
 
 

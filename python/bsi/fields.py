@@ -112,47 +112,60 @@ def split(run: Run, width: int, delimiter: bytes, quote: bytes) -> Optional[Reco
     if b"\r" in text and text.count(b"\r") != text.count(b"\r\n"):
         return None
     data = np.frombuffer(b"".join([LEFT, text, b"" if text.endswith(b"\n") else b"\n", RIGHT]), np.uint8)
-    inner, quotes = data[PAD:-PAD], run.quotes + PAD
-    marks = np.flatnonzero((inner == delimiter[0]) | (inner == NEWLINE)) + PAD
-    if len(quotes):
-        marks = marks[np.searchsorted(quotes, marks) & 1 == 0]
+    inner = data[PAD:-PAD]
+    are_newlines = inner == NEWLINE
+    are_marks, lines = (inner == delimiter[0]) | are_newlines, int(np.count_nonzero(are_newlines))
+    if len(run.quotes):
+        are_marks &= np.bitwise_xor.accumulate((inner == quote[0]).view(np.uint8)) == 0
+    marks = np.flatnonzero(are_marks) + PAD
     if len(marks) % width:
         return None
-    marks = marks.reshape(-1, width)
-    ends, are_newlines = marks[:, -1], inner == NEWLINE
-    lines = int(np.count_nonzero(are_newlines))
-    breaks = lines if not len(quotes) else np.count_nonzero(data[marks] == NEWLINE)
+    marks = np.ascontiguousarray(marks.reshape(-1, width).T)
+    ends = marks[-1]
+    breaks = lines if not len(run.quotes) else np.count_nonzero(are_marks & are_newlines)
     is_even = breaks == len(ends) and (data[ends] == NEWLINE).all()
     firsts = np.concatenate([[PAD], ends[:-1] + 1])
     is_long = (ends - firsts).max(initial=0) > csv.field_size_limit()
-    ends = ends - (data[ends - 1] == RETURN) if b"\r" in text else ends
-    if not is_even or is_long or width == 1 and (ends == firsts).any():
+    if not is_even or is_long or width == 1 and (_before_return(data, ends) == firsts).any():
         return None
-
-    are_loose = b" " in text or b"\t" in text
+    are_loose, doubled = b" " in text or b"\t" in text, _doubled(run.quotes + PAD)
+    ends = _before_return(data, ends) if b"\r" in text else ends
 
     def column(place: int) -> Fields:
-        starts = firsts if place == 0 else marks[:, place - 1] + 1
-        fields = Fields(data, starts, ends if place == width - 1 else marks[:, place], are_loose)
-        return _unquoted(fields, quotes, quote) if len(quotes) else fields
+        starts = firsts if place == 0 else marks[place - 1] + 1
+        fields = Fields(data, starts, ends if place == width - 1 else marks[place], are_loose)
+        return _unquoted(fields, quote, doubled) if len(run.quotes) else fields
 
-    places = None if lines == len(marks) else np.searchsorted(np.flatnonzero(are_newlines) + PAD, firsts)
-    return Records(len(marks), column, places, lines, [])
+    places = None if lines == len(ends) else np.searchsorted(np.flatnonzero(are_newlines) + PAD, firsts)
+    return Records(len(ends), column, places, lines, [])
 
 
-def _unquoted(fields: Fields, quotes: np.ndarray, quote: bytes) -> Fields:
+def _before_return(data: np.ndarray, ends: np.ndarray) -> np.ndarray:
+    """Returns where the last field of each record ends: before a carriage return."""
+    return ends - (data[ends - 1] == RETURN)
+
+
+def _doubled(quotes: np.ndarray) -> np.ndarray:
+    """Returns where two quotes stand for one, of quotes that are in pairs."""
+    return quotes[2::2][quotes[2::2] == quotes[1:-1:2] + 1]
+
+
+def _unquoted(fields: Fields, quote: bytes, doubled: np.ndarray) -> Fields:
     """Returns fields without the quotes around them, and with one for each two within."""
     data, starts, ends, are_loose = fields
     is_quoted = (data[starts] == quote[0]) & (starts < ends)
+    if not is_quoted.any():
+        return fields
     starts, ends = starts + is_quoted, ends - is_quoted
-    doubled = np.flatnonzero(np.searchsorted(quotes, starts) < np.searchsorted(quotes, ends))
-    if not len(doubled):
+    rows = np.minimum(np.searchsorted(ends, doubled), len(ends) - 1)
+    rows = np.unique(rows[(starts[rows] <= doubled) & (doubled < ends[rows])])
+    if not len(rows):
         return Fields(data, starts, ends, are_loose)
     whole = data.tobytes()
-    bounds = zip(starts[doubled].tolist(), ends[doubled].tolist())
+    bounds = zip(starts[rows].tolist(), ends[rows].tolist())
     added = [whole[start:end].replace(quote * 2, quote) for start, end in bounds]
     places = np.cumsum([len(data), *map(len, added)])
-    starts[doubled], ends[doubled] = places[:-1], places[1:]
+    starts[rows], ends[rows] = places[:-1], places[1:]
     return Fields(np.frombuffer(b"".join([whole, *added, RIGHT]), np.uint8), starts, ends, are_loose)
 
 

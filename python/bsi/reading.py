@@ -27,8 +27,9 @@ from .parts import Parts
 from .progress import Progress, told
 from .spelling import Bad, Meaning, Options, Reader, TextReader, misread, reader_for
 
-# How many bytes say what columns hold, how many are read at once, and how many refusals are kept of rows that are left
-# out.
+# How many bytes say what columns hold, how many are read at once of four columns, up to how many columns these are more
+# for more columns, and how many refusals are kept of rows that are left out.
+WIDE = 32
 FIRST, RUN, KEPT = 1 << 16, 1 << 19, 1000
 
 
@@ -299,7 +300,7 @@ class _Reader:
                 self._line = self._head(runs, name)
             except UnicodeError as why:
                 raise source.no_text(why) from None
-            size = RUN if self._threads is None else 4 * RUN
+            size = min(WIDE, max(4, len(self._header))) * RUN // 4 * (1 if self._threads is None else 2)
             while (run := runs.next(size if self._count else FIRST)).text:
                 waiting.append(self._started(run, runs, source))
                 while len(waiting) > self._ahead():
