@@ -180,6 +180,7 @@ class _Piece(NamedTuple):
 
 
 _all = np.ones(RUN, bool)
+_all.flags.writeable = False
 
 
 def all_of(rows: int) -> np.ndarray:
