@@ -68,7 +68,7 @@ plot:
 .PHONY: wheel
 wheel: lib
 	rm -rf out/wheel && mkdir -p out/wheel/build
-	cp -r python/bsi python/pyproject.toml python/setup.py VERSION LICENSE-APACHE LICENSE-MIT out/wheel/build
+	cp -r python/bsi python/pyproject.toml python/setup.py python/README.md VERSION LICENSE-APACHE LICENSE-MIT out/wheel/build
 	install -m 644 out/lib/libbsi.so out/wheel/build/bsi
 	cd out/wheel && $(PYTHON) -m pip wheel -q --no-build-isolation --no-index --no-deps ./build
 	rm -r out/wheel/build

@@ -36,6 +36,8 @@ from .parts import Parts
 from .predicates import Column, Predicate, all_rows, col
 from .questions import ask
 from .reading import read_csv
+from .summary import Summary
+from .version import __version__
 
 # (`range` is left out, so that an import of all names hides none of Python's own)
 __all__ = [
@@ -62,9 +64,11 @@ __all__ = [
     "Parts",
     "Predicate",
     "Shared",
+    "Summary",
     "Texts",
     "Times",
     "Whole",
+    "__version__",
     "all_rows",
     "ask",
     "col",

@@ -2,7 +2,7 @@
 
 Reads CSV or Parquet files, says how it keeps their columns, and answers the questions. At a terminal it then waits for
 further ones, one a line; where no question is given, it reads them from standard input. The questions are those of
-bsi.questions:
+bsi.questions, and `help` and `quit` are taken too:
 
     count price < 100 and temp null
     median "Amount (EUR)" Ordered >= 2026-01-31
@@ -13,21 +13,29 @@ from __future__ import annotations
 import argparse
 import contextlib
 import inspect
+import os
+import stat
 import sys
 from datetime import datetime
-from typing import Any, Iterator, List, Optional
+from typing import Any, Dict, Iterator, List, Optional
 
 import numpy as np
 
+from . import questions
 from .choosing import chosen_of
-from .errors import Error
+from .errors import BadQuery, Error
 from .index import Index
-from .kinds import Texts
+from .kinds import Decimals, Flags, Texts, Times, Whole
 from .parts import Parts
 from .questions import ask, is_question
 from .reading import read_csv
+from .version import __version__
 
 MAX_SHOWN = 20
+FOR_CSV = ("null", "nulls", "delimiter", "decimal", "dates", "encoding", "skiprows", "skip_bad")
+KINDS = {"text": lambda _: Texts, "whole": lambda _: Whole(), "flags": lambda _: Flags()}
+KINDS["decimals"], KINDS["times"] = lambda places: Decimals(int(places or 2)), lambda unit: Times(unit or "s")
+KINDS["dates"] = lambda _: Times("D")
 
 
 def _arguments(words: Optional[List[str]]) -> Any:
@@ -39,35 +47,76 @@ def _arguments(words: Optional[List[str]]) -> Any:
         formatter_class=argparse.RawDescriptionHelpFormatter,
     )
     parser.add_argument("words", nargs="+", metavar="WORD", help="files, and then questions about their rows")
+    parser.add_argument("--version", action="version", version=f"bsi {__version__}")
     parser.add_argument("--columns", metavar="NAME,..", help="the columns that are wanted; all where it is not given")
+    parser.add_argument("--drop", metavar="NAME,..", default="", help="columns that are not wanted")
+    parser.add_argument("--kinds", metavar="NAME=KIND,..", default="", help=f"what columns hold: {', '.join(KINDS)}")
     parser.add_argument(
         "--text", metavar="NAME,..", default="", help="columns that hold texts, whatever they look like"
     )
     parser.add_argument(
-        "--null", metavar="FIELD", action="append", default=[""], help="a further field that stands for a null"
+        "--null", metavar="FIELD", action="append", default=[], help="a further field that stands for a null"
     )
+    parser.add_argument("--nulls", metavar="FIELD,..", default="", help="several such fields")
+    parser.add_argument("--delimiter", metavar="SIGN", help="what stands between fields: a comma where it is not given")
+    parser.add_argument("--decimal", metavar="SIGN", default=".", help="the decimal sign: a point or a comma")
+    parser.add_argument("--dates", metavar="FORM", help="how dates are written, as %%d.%%m.%%Y")
+    parser.add_argument("--round", metavar="PLACES", type=int, help="rounds decimals of more places")
+    parser.add_argument("--encoding", metavar="NAME", help="as cp1252; UTF-8 where it is not given")
+    parser.add_argument("--skiprows", metavar="N", type=int, default=0, help="lines before the header")
+    parser.add_argument("--skip-bad", action="store_true", help="leaves out rows that can't be kept, and tells them")
     parser.add_argument("--parts", metavar="N", type=int, default=1, help="splits the rows over N threads")
     return parser.parse_intermixed_args(words)
+
+
+def _kinds(given: Any) -> Dict[str, Any]:
+    """Returns the kinds that --kinds and --text name."""
+    kinds: Dict[str, Any] = {name: Texts for name in given.text.split(",") if name}
+    for pair in filter(None, given.kinds.split(",")):
+        name, sign, spelt = pair.rpartition("=")
+        word, _, size = spelt.partition(":")
+        if not sign or word not in KINDS:
+            raise ValueError(f"--kinds has NAME=KIND, of the kinds {', '.join(KINDS)}, and not {pair!r}")
+        kinds[name] = KINDS[word](size)
+    return kinds
+
+
+def _wishes(given: Any) -> Dict[str, Any]:
+    """Returns what is said of the columns of any file."""
+    drop = [name for name in given.drop.split(",") if name]
+    return {"kinds": _kinds(given), "drop": drop, "round": given.round}
+
+
+def _csv(files: List[str], columns: Optional[List[str]], given: Any, progress: bool) -> Any:
+    """Makes the index of CSV files, and tells which rows were left out."""
+    named = ("delimiter", "decimal", "dates", "encoding", "skiprows", "parts")
+    how = {**_wishes(given), **{name: getattr(given, name) for name in named}}
+    nulls = ["", *given.null, *filter(None, given.nulls.split(","))]
+    bad = "skip" if given.skip_bad else "refuse"
+    table = read_csv(files, columns, nulls=nulls, bad=bad, progress=progress, **how)
+    if table.skipped:
+        print(f"bsi: {table.skipped!r}", file=sys.stderr)
+    return table
 
 
 def _read(files: List[str], given: Any) -> Any:
     """Makes the index of the files."""
     columns = given.columns.split(",") if given.columns else None
-    progress = sys.stderr.isatty()
+    progress = sys.stderr is not None and sys.stderr.isatty()
     if not any(file.endswith((".parquet", ".pq")) for file in files):
-        kinds = {name: Texts for name in given.text.split(",") if name}
-        return read_csv(files, columns, kinds=kinds, nulls=given.null, parts=given.parts, progress=progress)
+        return _csv(files, columns, given, progress)
     import pandas
 
-    if given.text or len(given.null) > 1:
-        raise ValueError("--text and --null are for CSV files alone")
+    alone = [name for name in FOR_CSV if getattr(given, name) not in (None, "", 0, ".", [])]
+    if alone:
+        raise ValueError(f"--{alone[0].replace('_', '-')} is for CSV files alone")
     # (nullable types, since a whole number beside a null would be a float otherwise)
     is_new = "dtype_backend" in inspect.signature(pandas.read_parquet).parameters
     nullable = {"dtype_backend": "numpy_nullable"} if is_new else {"use_nullable_dtypes": True}
     frames = (pandas.read_parquet(file, columns=columns, **nullable) for file in files)
-    forms, encoded = chosen_of(frames, columns, None, None)
-    table = Index(forms) if given.parts == 1 else Parts(given.parts, forms)
-    return table._filled(encoded, progress)
+    found = chosen_of(frames, columns, **_wishes(given))
+    table = Index(found.forms) if given.parts == 1 else Parts(given.parts, found.forms)
+    return table._filled(found, progress)
 
 
 def _shown(answer: Any) -> str:
@@ -81,31 +130,45 @@ def _shown(answer: Any) -> str:
     return " ".join([*map(str, answer[:MAX_SHOWN].tolist()), *more]) or "none"
 
 
-def _answer(table: Any, question: str) -> bool:
+def _answer(table: Any, question: str, is_argument: bool = False) -> bool:
     """Prints the answer to a question, and returns whether it has one."""
     try:
         print(_shown(ask(table, question)), flush=True)
         return True
     except Error as why:
         print(f"bsi: {why}", file=sys.stderr, flush=True)
+        if is_argument and isinstance(why, BadQuery) and stat.S_ISREG(os.fstat(1).st_mode):
+            quotes = "a question with > or < stands in quotes: 'count price > 100'"
+            print(f"bsi: the answers go to a file, as the shell reads a > outside of quotes; {quotes}", file=sys.stderr)
         return False
+
+
+def _joined(words: List[str]) -> List[str]:
+    """Returns the questions, of which one may be given in several words."""
+    found: List[str] = []
+    for word in words:
+        if is_question(word) or not found:
+            found.append(word)
+        else:
+            found[-1] += f" {word}"
+    return found
 
 
 def main(words: Optional[List[str]] = None) -> int:
     given = _arguments(words)
     first = next((place for place, word in enumerate(given.words) if is_question(word)), len(given.words))
-    files, questions = given.words[:first], given.words[first:]
+    files, asked = given.words[:first], _joined(given.words[first:])
     try:
         table = _read(files, given)
     except (Error, OSError, ImportError, ValueError) as why:
         print(f"bsi: {why}", file=sys.stderr)
         return 1
     print(table, flush=True)
-    answered = [_answer(table, question) for question in questions]
-    if sys.stdin.isatty():
+    answered = [_answer(table, question, True) for question in asked]
+    if sys.stdin is not None and sys.stdin.isatty():
         for line in _typed():
             _answer(table, line)
-    elif not questions:
+    elif sys.stdin is not None and not asked:
         answered += [_answer(table, line) for line in sys.stdin if line.strip()]
     return 0 if all(answered) else 1
 
@@ -116,7 +179,12 @@ def _typed() -> Iterator[str]:
         import readline  # noqa: F401 (it lets input() be edited)
     with contextlib.suppress(EOFError):
         while True:
-            if line := input("? ").strip():
+            line = input("? ").strip()
+            if line in ("quit", "exit"):
+                return
+            if line == "help":
+                print((questions.__doc__ or "").partition("\n\n")[2])
+            elif line:
                 yield line
 
 

@@ -1,4 +1,5 @@
-"""The Arrow C data interface, read by ctypes: what any library gives by `__arrow_c_array__`, without Arrow itself.
+"""The Arrow C data interface, read by ctypes: what any library gives by `__arrow_c_array__` or, in chunks, by
+`__arrow_c_stream__`, without Arrow itself.
 
 The values are copied, so nothing of the producer is kept. Its capsules release what they hold when they go.
 """
@@ -7,7 +8,7 @@ from __future__ import annotations
 
 import ctypes
 import re
-from ctypes import POINTER, Structure, c_char_p, c_int64, c_void_p
+from ctypes import POINTER, Structure, addressof, c_char_p, c_int, c_int64, c_void_p
 from datetime import timedelta, timezone
 from decimal import Decimal
 from typing import Any, List, NamedTuple, Optional, Tuple
@@ -39,7 +40,9 @@ TIMES = {
 }
 # Values, which of them are valid, the time zone of times, and the order of the texts of an ordered dictionary.
 Read = Tuple[np.ndarray, np.ndarray, Any, Optional[Tuple[str, ...]]]
-ORDERED = 1
+# The schema of a stream, and its arrays.
+Chunks = Tuple["_Taken", List["_Taken"]]
+ORDERED, INLINE = 1, 12
 OFFSET = re.compile(r"([+-])([01]\d|2[0-3]):([0-5]\d)", re.ASCII)
 
 
@@ -75,6 +78,12 @@ _Array._fields_ = [
     ("private_data", c_void_p),
 ]
 
+class _Stream(Structure):
+    _fields_ = [(name, c_void_p) for name in ("get_schema", "get_next", "get_last_error", "release", "private_data")]
+
+
+_CALL, _ERROR = ctypes.CFUNCTYPE(c_int, c_void_p, c_void_p), ctypes.CFUNCTYPE(c_char_p, c_void_p)
+_RELEASE = ctypes.CFUNCTYPE(None, c_void_p)
 _pointer_of = ctypes.pythonapi.PyCapsule_GetPointer
 _pointer_of.argtypes, _pointer_of.restype = [ctypes.py_object, c_char_p], c_void_p
 
@@ -89,34 +98,80 @@ def _opened(data: Any) -> Tuple[_Schema, _Array, Any]:
     return schema, array, capsules
 
 
-def array_of(data: Any) -> Read:
-    """Returns the values of an Arrow array."""
-    schema, array, _kept = _opened(data)
-    return _read(schema, array)
+class _Taken:
+    """A struct that a stream wrote, which is released when it goes."""
+
+    def __init__(self, struct: Any):
+        self.struct = struct
+
+    def __del__(self) -> None:
+        if self.struct.release:
+            _RELEASE(self.struct.release)(addressof(self.struct))
+
+
+def _chunks(data: Any) -> Chunks:
+    """Returns the schema of a stream, and its arrays."""
+    capsule = data.__arrow_c_stream__()
+    stream = _Stream.from_address(_pointer_of(capsule, b"arrow_array_stream"))
+    if not stream.release:
+        raise BadColumns("the Arrow stream was read before")
+    schema, arrays = _Taken(_Schema()), []
+    _next(stream, stream.get_schema, schema.struct)
+    while True:
+        array = _Taken(_Array())
+        _next(stream, stream.get_next, array.struct)
+        if not array.struct.release:
+            return schema, arrays
+        arrays.append(array)
+
+
+def _next(stream: _Stream, call: int, struct: Any) -> None:
+    """Lets a stream write a struct."""
+    if _CALL(call)(addressof(stream), addressof(struct)):
+        why = _ERROR(stream.get_last_error)(addressof(stream)) if stream.get_last_error else None
+        raise BadColumns(f"the Arrow stream broke off: {(why or b'it says no more').decode(errors='replace')}")
+
+
+def array_of(data: Any) -> List[Read]:
+    """Returns the values of an Arrow array, or of each chunk of one."""
+    if hasattr(data, "__arrow_c_array__"):
+        schema, array, _kept = _opened(data)
+        return [_read(schema, array)]
+    taken, arrays = _chunks(data)
+    return [_read(taken.struct, array.struct) for array in arrays] or [_none(taken.struct)]
 
 
 class Field(NamedTuple):
-    """A column of a record batch, whose values are read when they are wanted."""
+    """A column of record batches, whose values are read when they are wanted."""
 
-    batch: Any
+    schema: Any
+    batches: List[Any]
     place: int
+    kept: Any
 
-    def read(self) -> Read:
-        """Returns the values of the column."""
-        schema, array, _kept = self.batch
-        field, column = schema.children[self.place].contents, array.children[self.place].contents
-        values, valid, zone, order = _read(field, column, array.offset, array.length)
-        return values, valid & _validity(array), zone, order
+    def read(self) -> List[Read]:
+        """Returns the values of the column in each batch."""
+        field = self.schema.children[self.place].contents
+        return [self._read(field, batch) for batch in self.batches] or [_none(field)]
+
+    def _read(self, field: _Schema, batch: _Array) -> Read:
+        column = batch.children[self.place].contents
+        values, valid, zone, order = _read(field, column, batch.offset, batch.length)
+        return values, valid & _validity(batch), zone, order
 
 
 def struct_of(data: Any) -> List[Tuple[str, Field]]:
-    """Returns the columns of an Arrow struct array, which is how a record batch is given."""
-    batch = _opened(data)
-    schema = batch[0]
+    """Returns the columns of an Arrow struct array, which is how a record batch is given, or of a stream of them."""
+    if hasattr(data, "__arrow_c_array__"):
+        schema, array, kept = _opened(data)
+        batches: List[Any] = [array]
+    else:
+        kept = _chunks(data)
+        schema, batches = kept[0].struct, [array.struct for array in kept[1]]
     if schema.format != b"+s":
         raise BadColumns("rows come as an Arrow record batch, and not as one array")
     names = [_text(schema.children[place].contents.name or b"") for place in range(schema.n_children)]
-    return [(name, Field(batch, place)) for place, name in enumerate(names)]
+    return [(name, Field(schema, batches, place, kept)) for place, name in enumerate(names)]
 
 
 def _text(encoded: bytes) -> str:
@@ -172,9 +227,22 @@ def _read(schema: _Schema, array: _Array, skipped: int = 0, length: Optional[int
             return times, valid, _zone(layout[len(prefix) :]), None
     if layout in ("u", "U"):
         return _texts(array, "i4" if layout == "u" else "i8", start, valid), valid, None, None
-    if decimal := re.fullmatch(r"d:\d+,(-?\d+)(?:,128)?", layout):
-        return _decimals(array, int(decimal.group(1)), start, valid), valid, None, None
+    if layout == "vu":
+        return _viewed(array, start, valid), valid, None, None
+    if decimal := re.fullmatch(r"d:\d+,(-?\d+)(?:,(32|64|128))?", layout):
+        size = int(decimal.group(2) or 128) // 8
+        return _decimals(array, int(decimal.group(1)), size, start, valid), valid, None, None
     raise BadColumns(f"an Arrow array of format {layout!r} is none of numbers, times, booleans or texts")
+
+
+def _none(schema: _Schema) -> Read:
+    """Returns the values of a stream without arrays: none, of the dtype that its schema tells."""
+    nothing = (ctypes.c_uint64 * 1)()
+    address = (c_void_p * 3)(*[addressof(nothing)] * 3)
+    array = _Array(0, 0, 0, 3, 0, address)
+    if schema.dictionary:
+        array.dictionary = ctypes.pointer(_Array(0, 0, 0, 3, 0, address))
+    return _read(schema, array)
 
 
 def _fixed(array: _Array, stored: str, start: int, length: int) -> np.ndarray:
@@ -192,7 +260,9 @@ def _from_dictionary(schema: _Schema, array: _Array, layout: str, start: int, va
     if ((places < 0) | (places >= len(values))).any():
         raise BadColumns("the Arrow array names places that its dictionary has not")
     is_ordered = schema.flags & ORDERED and values.dtype == object and is_valid.all()
-    return values[places], valid & is_valid[places], zone, tuple(values.tolist()) if is_ordered else None
+    # (a text that stands twice has the first of its places)
+    order = tuple(dict.fromkeys(values.tolist())) if is_ordered else None
+    return values[places], valid & is_valid[places], zone, order
 
 
 def _texts(array: _Array, stored: str, start: int, valid: np.ndarray) -> np.ndarray:
@@ -208,11 +278,30 @@ def _texts(array: _Array, stored: str, start: int, valid: np.ndarray) -> np.ndar
     return texts
 
 
-def _decimals(array: _Array, scale: int, start: int, valid: np.ndarray) -> np.ndarray:
-    stored = _bytes(array, 1, (start + len(valid)) * 16)[start * 16 :].tobytes()
+def _viewed(array: _Array, start: int, valid: np.ndarray) -> np.ndarray:
+    """Returns texts that are given by views: of few bytes in the view itself, and else in one of several buffers."""
+    texts = np.empty(len(valid), object)
+    size = 4 + INLINE
+    views = _bytes(array, 1, (start + len(valid)) * size)[start * size :].reshape(-1, size)
+    fields = views.view("<i4")
+    sizes = _bytes(array, array.n_buffers - 1, 8 * (array.n_buffers - 3)).view("<i8") if len(valid) else np.empty(0)
+    buffers = [_bytes(array, 2 + place, int(size)).tobytes() for place, size in enumerate(sizes)]
+    for place in np.flatnonzero(valid).tolist():
+        length, _, buffer, offset = fields[place].tolist()
+        if length <= INLINE:
+            texts[place] = _text(views[place, 4 : 4 + max(length, 0)].tobytes())
+        elif not 0 <= buffer < len(buffers) or not 0 <= offset <= len(buffers[buffer]) - length:
+            raise BadColumns("the Arrow array names bytes that its buffers have not")
+        else:
+            texts[place] = _text(buffers[buffer][offset : offset + length])
+    return texts
+
+
+def _decimals(array: _Array, scale: int, size: int, start: int, valid: np.ndarray) -> np.ndarray:
+    stored = _bytes(array, 1, (start + len(valid)) * size)[start * size :].tobytes()
     decimals = np.empty(len(valid), object)
     for place in np.flatnonzero(valid).tolist():
-        number = int.from_bytes(stored[place * 16 : place * 16 + 16], "little", signed=True)
+        number = int.from_bytes(stored[place * size : place * size + size], "little", signed=True)
         decimals[place] = Decimal((number < 0, tuple(map(int, str(abs(number)))), -scale))
     return decimals
 

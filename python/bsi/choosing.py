@@ -3,19 +3,23 @@ width and an offset."""
 
 from __future__ import annotations
 
-from typing import Any, Dict, Iterable, List, Mapping, NamedTuple, Optional, Tuple
+from collections import deque
+from dataclasses import replace
+from typing import Any, Callable, Dict, Iterable, Iterator, List, Mapping, NamedTuple, Optional, Tuple, Union
 
 import numpy as np
 
-from .errors import BadColumns, BadRow, BadSchema, Error
+from .errors import BadColumns, BadRow, BadSchema, Error, several
 from .forms import LEAST, MOST, Form, narrowest
 from .kinds import Kind, Misfit, Texts, Whole
 from .narrowing import MAX_TEXTS, encode, joined, narrow, recode, too_many_texts
 from .values import Values, columns_of, values_of
 
-Encoded = List[Tuple[np.ndarray, np.ndarray]]
-# How many numbers a column takes at most.
+# The numbers of each column, and which of them are valid.
+Entered = List[Tuple[np.ndarray, np.ndarray]]
+# How many numbers a column takes at most, and how far those of so many bytes go.
 SPAN = 1 << 63
+SIZES = {np.int8: 1 << 7, np.int16: 1 << 15, np.int32: 1 << 31, np.int64: 1 << 63}
 
 
 class Block(NamedTuple):
@@ -31,13 +35,63 @@ class Block(NamedTuple):
         """Returns what a number of the block stands for."""
         return (self.kind or Whole()).decode(int(self.numbers[row]))
 
+    def part(self, start: int, end: int) -> "Block":
+        """Returns the rows from the one number to the other."""
+        return self._replace(numbers=self.numbers[start:end], valid=self.valid[start:end])
 
-def wanted_of(columns: Optional[Iterable[str]], names: List[str]) -> List[str]:
-    """Returns the columns that are wanted, all where none are named."""
+
+class Chosen(NamedTuple):
+    """The forms of columns, and the blocks of each, which have the same rows."""
+
+    forms: Dict[str, Form]
+    columns: List[List[Block]]
+
+    def rows(self) -> int:
+        """Returns how many rows there are."""
+        return sum(len(block.valid) for block in self.columns[0])
+
+    def taken(self, most: int) -> Iterator[Entered]:
+        """Yields the numbers of all columns in runs of at most so many rows. What is yielded is not kept."""
+        columns = [deque(blocks) for blocks in self.columns]
+        self.columns.clear()
+        while columns[0]:
+            taken, rows = [[] for _ in columns], 0  # type: Tuple[List[List[Block]], int]
+            while columns[0] and rows < most:
+                size = min(len(columns[0][0].valid), most - rows)
+                for blocks, parts in zip(columns, taken):
+                    block = blocks.popleft()
+                    parts.append(block.part(0, size))
+                    if size < len(block.valid):
+                        blocks.appendleft(block.part(size, len(block.valid)))
+                rows += size
+            if rows:
+                yield [_joined(parts) for parts in taken]
+
+
+def _joined(blocks: List[Block]) -> Tuple[np.ndarray, np.ndarray]:
+    if len(blocks) == 1:
+        return blocks[0].numbers.astype(np.int64, copy=False), blocks[0].valid
+    numbers = np.concatenate([block.numbers for block in blocks], dtype=np.int64, casting="unsafe")
+    return numbers, np.concatenate([block.valid for block in blocks])
+
+
+def slim(numbers: np.ndarray) -> np.ndarray:
+    """Returns numbers in as few bytes as they need."""
+    if not len(numbers):
+        return numbers
+    least, most = int(numbers.min()), int(numbers.max())
+    small = next(size for size, end in SIZES.items() if -end <= least and most < end)
+    return numbers.astype(small, copy=False)
+
+
+def wanted_of(columns: Optional[Iterable[str]], names: List[str], drop: Iterable[str] = ()) -> List[str]:
+    """Returns the columns that are wanted, all where none are named, but for those that are dropped."""
     wanted = list(names) if columns is None else [columns] if isinstance(columns, str) else list(columns)
-    unknown = [name for name in wanted if name not in names]
+    dropped = [drop] if isinstance(drop, str) else list(drop)
+    unknown = [name for name in [*wanted, *dropped] if name not in names]
     if unknown:
         raise BadColumns(f"there is no column {unknown[0]!r}, only {', '.join(map(repr, names))}")
+    wanted = [name for name in wanted if name not in dropped]
     repeated = [name for name in wanted if wanted.count(name) > 1 or names.count(name) > 1]
     if repeated:
         raise BadColumns(f"the column {repeated[0]!r} is there twice")
@@ -55,12 +109,25 @@ def refuse_no_kind(name: str, kind: Any) -> None:
 class Wishes:
     """What the caller says about kinds and forms of columns, by name."""
 
-    def __init__(self, names: List[str], kinds: Optional[Mapping[str, Any]], forms: Optional[Mapping[str, Form]]):
-        self.names, self.kinds, self.forms = names, dict(kinds or {}), dict(forms or {})
+    def __init__(
+        self,
+        names: List[str],
+        kinds: Optional[Mapping[str, Any]],
+        forms: Optional[Mapping[str, Form]],
+        spare: int = 0,
+        round: Union[int, Mapping[str, int], None] = None,
+    ):
+        self.names, self.kinds, self.forms, self.spare = names, dict(kinds or {}), dict(forms or {}), spare
+        self.round = dict.fromkeys(names, round) if isinstance(round, int) else dict(round or {})
+        if not isinstance(spare, int) or not 0 <= spare < 63:
+            raise ValueError(f"spare is 0 to 62 bits, and not {spare!r}")
         for name in [*self.kinds, *self.forms]:
             if name not in names:
                 listed = ", ".join(map(repr, names))
                 raise BadColumns(f"a kind or form is given for {name!r}, and the columns are {listed}")
+        for name, kind in self.kinds.items():
+            if hasattr(kind, "categories"):  # (the dtype of a category of pandas)
+                self.kinds[name] = Texts(tuple(kind.categories), ordered=bool(kind.ordered))
         for name, form in self.forms.items():
             if not isinstance(form, Form):
                 shape = "slices(..), range(..) or equality(..)"
@@ -72,8 +139,8 @@ class Wishes:
         """Returns the numbers that stand for the values, under the kind that is given or the narrowest."""
         kind = self.kinds.get(name)
         try:
-            if kind is None:
-                kind, numbers = narrow(values)
+            if kind is None or kind is Texts:
+                kind, numbers = narrow(values, None if kind is Texts else MAX_TEXTS, self.round.get(name))
             else:
                 refuse_no_kind(name, kind)
                 numbers = encode(kind, values)
@@ -83,12 +150,15 @@ class Wishes:
 
     def form(self, name: str, kind: Optional[Kind], low: int, high: int) -> Form:
         """Returns the form that is given for the column, or the smallest for its numbers."""
-        kind = kind or Whole()
+        given = self.kinds.get(name)
+        kind = kind or (given if isinstance(given, Kind) else Whole())
         if name in self.forms:
             return self.forms[name].of(kind)
         if high - low >= SPAN:
             raise BadSchema(f"column {name!r}: {too_far(kind, low, high)}")
-        return narrowest(kind, low, high)
+        if isinstance(kind, Texts) and not isinstance(given, Texts) and not kind.ordered and self.spare:
+            kind = replace(kind, grows=True)
+        return narrowest(kind, low, high, self.spare)
 
 
 def too_far(kind: Kind, low: int, high: int) -> str:
@@ -96,8 +166,8 @@ def too_far(kind: Kind, low: int, high: int) -> str:
     return f"from {kind.show(low)} to {kind.show(high)} are more than the 2^63 values that a column takes"
 
 
-def kind_of(name: str, blocks: Iterable[Block]) -> Optional[Kind]:
-    """Returns the kind that keeps what all blocks keep."""
+def kind_of(name: str, blocks: Iterable[Block], most: Optional[int] = MAX_TEXTS) -> Optional[Kind]:
+    """Returns the kind that keeps what all blocks keep, with at most so many texts."""
     kind: Optional[Kind] = None
     for block in blocks:
         before = kind
@@ -106,7 +176,7 @@ def kind_of(name: str, blocks: Iterable[Block]) -> Optional[Kind]:
         except TypeError as why:
             row = int(block.valid.argmax())
             raise BadRow(name, block.row + row, block.value(row), str(why)) from None
-        if isinstance(kind, Texts) and kind not in (before, block.kind) and len(kind.values) > MAX_TEXTS:
+        if isinstance(kind, Texts) and kind not in (before, block.kind) and most and len(kind.values) > most:
             raise _too_many_texts(name, dict.fromkeys(getattr(before, "values", ())), block)
     return kind
 
@@ -120,17 +190,31 @@ def _too_many_texts(name: str, found: Dict[str, None], block: Block) -> Error:
     return BadColumns(f"column {name!r} has more than {MAX_TEXTS:,} different texts; leave it out")
 
 
-def settled(name: str, blocks: List[Block], wishes: Wishes) -> Tuple[Form, Tuple[np.ndarray, np.ndarray]]:
-    """Returns the form of a column, and its numbers of all blocks. Refuses those that a form which was given does not
+def settled(name: str, blocks: List[Block], wishes: Wishes) -> Tuple[Form, List[Block]]:
+    """Returns the form of a column, and its blocks under one kind. Refuses those that a form which was given does not
     take."""
-    kind, (numbers, valid) = joined_blocks(name, blocks)
-    low, high = ends_of(numbers, valid)
+    kind = kind_of(name, blocks, None if wishes.kinds.get(name) is Texts else MAX_TEXTS)
+    blocks = [recoded(name, block, kind) for block in blocks]
+    ends = [ends_of(block.numbers, block.valid) for block in blocks if block.valid.any()]
+    low, high = min((low for low, _ in ends), default=0), max((high for _, high in ends), default=0)
     if high - low >= SPAN and name not in wishes.forms:
-        raise _first_too_far(name, kind or Whole(), numbers, valid)
+        raise _first_too_far(name, kind or Whole(), *_joined(blocks))
     form = wishes.form(name, kind, low, high)
     if name in wishes.forms:
-        refuse_misfit(name, form, numbers, valid)
-    return form, (numbers, valid)
+        for block in blocks:
+            refuse_misfit(name, form, block.numbers, block.valid, block.row)
+    return form, blocks
+
+
+def recoded(name: str, block: Block, kind: Optional[Kind]) -> Block:
+    """Returns a block under a kind that keeps what it keeps."""
+    if block.kind is None or block.kind == kind:
+        return block
+    try:
+        numbers = recode(block.numbers.astype(np.int64, copy=False), block.valid, block.kind, kind)
+        return block._replace(kind=kind, numbers=slim(numbers))
+    except Misfit as why:
+        raise BadRow(name, block.row + why.row, block.value(why.row), why.reason) from None
 
 
 def _first_too_far(name: str, kind: Kind, numbers: np.ndarray, valid: np.ndarray) -> BadRow:
@@ -146,44 +230,38 @@ def _first_too_far(name: str, kind: Kind, numbers: np.ndarray, valid: np.ndarray
 def joined_blocks(name: str, blocks: List[Block]) -> Tuple[Optional[Kind], Tuple[np.ndarray, np.ndarray]]:
     """Returns the kind of a column, and its numbers of all blocks under it."""
     kind = kind_of(name, blocks)
-    parts = []
-    for block in blocks:
-        try:
-            parts.append(recode(block.numbers, block.valid, block.kind, kind))
-        except Misfit as why:
-            raise BadRow(name, block.row + why.row, block.value(why.row), why.reason) from None
-    numbers = parts[0] if len(parts) == 1 else np.concatenate(parts)
-    valid = blocks[0].valid if len(blocks) == 1 else np.concatenate([block.valid for block in blocks])
-    return kind, (numbers, valid)
+    return kind, _joined([recoded(name, block, kind) for block in blocks])
 
 
 def ends_of(numbers: np.ndarray, valid: np.ndarray) -> Tuple[int, int]:
-    """Returns the least and the greatest number, 0 where there is none."""
-    low = int(np.min(numbers, initial=MOST, where=valid))
-    return (low, int(np.max(numbers, initial=LEAST, where=valid))) if valid.any() else (0, 0)
+    """Returns the least and the greatest of the valid numbers, and 0 twice where there is none."""
+    there = numbers if valid.all() else numbers[valid]
+    return (int(there.min()), int(there.max())) if len(there) else (0, 0)
 
 
-def refuse_misfit(name: str, form: Form, numbers: np.ndarray, valid: np.ndarray) -> None:
-    """Raises the first number that its column does not take, if there is one."""
-    bad = valid & ((numbers < form.offset) | (numbers > min(form.most, MOST)))
+def misfits(form: Form, numbers: np.ndarray, valid: np.ndarray) -> np.ndarray:
+    """Returns which of the numbers their column does not take."""
+    return valid & ((numbers < form.offset) | (numbers > min(form.most, MOST)))
+
+
+def refuse_misfit(name: str, form: Form, numbers: np.ndarray, valid: np.ndarray, first: int = 0) -> None:
+    """Raises the first number that its column does not take, if there is one. The rows begin with that number."""
+    bad = misfits(form, numbers, valid)
     if bad.any():
         row = int(bad.argmax())
-        raise form.misfit(name, row, int(numbers[row]))
-
-
-def chosen(
-    data: Any, columns: Optional[Iterable[str]], kinds: Optional[Mapping[str, Any]], forms: Optional[Mapping[str, Form]]
-) -> Tuple[Dict[str, Form], Encoded]:
-    """Returns the forms of the wanted columns of a frame, and their numbers."""
-    return chosen_of([data], columns, kinds, forms)
+        raise form.misfit(name, first + row, int(numbers[row]))
 
 
 def chosen_of(
     frames: Iterable[Any],
-    columns: Optional[Iterable[str]],
-    kinds: Optional[Mapping[str, Any]],
-    forms: Optional[Mapping[str, Form]],
-) -> Tuple[Dict[str, Form], Encoded]:
+    columns: Optional[Iterable[str]] = None,
+    kinds: Optional[Mapping[str, Any]] = None,
+    forms: Optional[Mapping[str, Form]] = None,
+    *,
+    drop: Iterable[str] = (),
+    round: Union[int, Mapping[str, int], None] = None,
+    spare: int = 0,
+) -> Chosen:
     """Returns the forms of the wanted columns of frames that follow each other, and their numbers. Each frame has the
     wanted columns of the first."""
     wishes: Optional[Wishes] = None
@@ -192,15 +270,29 @@ def chosen_of(
     for frame in frames:
         given = columns_of(frame)
         if wishes is None:
-            wishes = Wishes(wanted_of(columns, list(given)), kinds, forms)
+            wishes = Wishes(wanted_of(columns, list(given), drop), kinds, forms, spare, round)
             blocks = {name: [] for name in wishes.names}
-        for name in wanted_of(wishes.names, list(given)):
-            blocks[name].append(wishes.block(name, values_of(name, given[name]), rows))
+        names = wanted_of(wishes.names, list(given))
+        for name, block in of_each(names, lambda name: wishes.block(name, values_of(name, given[name]), rows)).items():
+            blocks[name].append(block)
         rows += _length({name: len(found[-1].numbers) for name, found in blocks.items()})
     if wishes is None:
         raise BadColumns("there is no frame")
-    found = {name: settled(name, blocks.pop(name), wishes) for name in wishes.names}
-    return {name: form for name, (form, _) in found.items()}, [encoded for _, encoded in found.values()]
+    found = of_each(wishes.names, lambda name: settled(name, blocks.pop(name), wishes))
+    return Chosen({name: form for name, (form, _) in found.items()}, [kept for _, kept in found.values()])
+
+
+def of_each(names: Iterable[str], call: Callable[[str], Any]) -> Dict[str, Any]:
+    """Returns what the call gives of each column. Where it refuses some, all of these are told."""
+    found, refusals = {}, []
+    for name in names:
+        try:
+            found[name] = call(name)
+        except Error as why:
+            refusals.append(why)
+    if refusals:
+        raise several(refusals)
+    return found
 
 
 def _length(lengths: Dict[str, int]) -> int:

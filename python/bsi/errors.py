@@ -2,44 +2,50 @@
 
 from __future__ import annotations
 
-from typing import Any, Dict, Optional, Tuple, Type
+from typing import Any, Dict, List, Optional, Tuple, Type
 
 
 class Error(Exception):
-    """A refused call. `status` is its number in bsi.h, where the library has one."""
+    """A refused call. `status` is its number in bsi.h, where the library has one. Where several columns do not fit, it
+    is that of the first, and `others` are those of the others."""
 
     status: Optional[int] = None
+    why = "the call was refused"
+    others: Tuple["Error", ...] = ()
 
     def __init__(self, reason: Optional[str] = None):
-        super().__init__(reason or (type(self).__doc__ or "").splitlines()[0].rstrip("."))
+        super().__init__(reason or self.why)
+
+    def __str__(self) -> str:
+        return "\n".join([super().__str__(), *map(str, self.others)])
 
 
 class Closed(Error):
     """The index is closed."""
 
-    status = 1
+    status, why = 1, "the index is closed"
 
 
 class Open(Error):
     """The handle is open already."""
 
-    status = 2
+    status, why = 2, "the handle is open already"
 
 
 class NoMemory(Error, MemoryError):
     """Memory was refused. `appended` says how many rows of an append stand in the index all the same."""
 
-    status = 3
+    status, why = 3, "memory was refused"
 
     def __init__(self, reason: Optional[str] = None, appended: int = 0):
-        super().__init__(reason or "memory was refused")
+        super().__init__(reason)
         self.appended = appended
 
 
 class BadSchema(Error, ValueError):
     """A column can't be kept in that form. `record` is that of the schema which the library refused, from 1."""
 
-    status = 4
+    status, why = 4, "a column can't be kept in that form"
 
     def __init__(self, reason: Optional[str] = None, record: int = 0):
         super().__init__(reason)
@@ -49,19 +55,19 @@ class BadSchema(Error, ValueError):
 class NoColumns(BadSchema):
     """An index needs a column."""
 
-    status = 5
+    status, why = 5, "an index needs a column"
 
 
 class BadFeeder(Error, ValueError):
     """There is no such feeder."""
 
-    status = 6
+    status, why = 6, "there is no such feeder"
 
 
 class BadColumns(Error, ValueError):
     """The columns given are not those of the index, or differ in length."""
 
-    status = 7
+    status, why = 7, "the columns given are not those of the index, or differ in length"
 
 
 class BadRow(Error, ValueError):
@@ -74,13 +80,13 @@ class BadRow(Error, ValueError):
         self.column, self.row, self.value, self.reason, self.place = column, row, value, reason, place
 
     def __reduce__(self):
-        return BadRow, (self.column, self.row, self.value, self.reason, self.place)
+        return BadRow, (self.column, self.row, self.value, self.reason, self.place), {"others": self.others}
 
 
 class IndexFull(Error):
     """The rows are more than the limit. `row` is the first of them, from 0, that has no place."""
 
-    status = 9
+    status, why = 9, "the rows are more than the limit"
 
     def __init__(self, reason: Optional[str] = None, row: int = 0):
         super().__init__(reason)
@@ -90,29 +96,36 @@ class IndexFull(Error):
 class Shared(Error):
     """A shared index takes no rows."""
 
-    status = 10
+    status, why = 10, "a shared index takes no rows"
 
 
 class BadQuery(Error, ValueError):
     """The index does not know that question."""
 
-    status = 11
+    status, why = 11, "the index does not know that question"
 
 
 class NoRoom(Error):
     """The room for an answer is too small."""
 
-    status = 12
+    status, why = 12, "the room for an answer is too small"
 
 
 class BadText(Error, ValueError):
     """The text of a schema is too long, or is none."""
 
-    status = 13
+    status, why = 13, "the text of a schema is too long, or is none"
 
 
 class LostWorker(Error):
     """A worker that keeps a part of the rows is gone, and its part with it."""
+
+
+def several(refusals: List[Error]) -> Error:
+    """Returns the first of the refusals, which tells the others too."""
+    first, *others = refusals
+    first.others = tuple(others)
+    return first
 
 
 _KINDS: Tuple[Type[Error], ...] = (

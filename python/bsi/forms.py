@@ -6,10 +6,10 @@ from __future__ import annotations
 import math
 from dataclasses import dataclass, replace
 from functools import cached_property
-from typing import Any, Tuple
+from typing import Any, Iterable, Tuple
 
 from .errors import BadRow
-from .kinds import Kind, Whole
+from .kinds import Flags, Kind, Whole
 
 LEAST, MOST = -(1 << 63), (1 << 63) - 1
 
@@ -27,7 +27,7 @@ class Form:
     @cached_property
     def size(self) -> int:
         """How many numbers the column takes, from the offset up."""
-        return 1 << min(self.sizes[0], 64) if self.word == "slices" else math.prod(self.sizes)
+        return 1 << min(max(self.sizes[0], 0), 64) if self.word == "slices" else math.prod(self.sizes)
 
     @cached_property
     def most(self) -> int:
@@ -92,17 +92,23 @@ def equality(*bases: int, offset: int = 0, kind: Kind = Whole()) -> Form:
     return Form("equality", _whole(bases), _whole([offset])[0], kind)
 
 
-def _whole(numbers) -> Tuple[int, ...]:
-    return tuple(number.__index__() for number in numbers)
+def _whole(sizes: Iterable[Any]) -> Tuple[int, ...]:
+    for size in sizes:
+        if not hasattr(size, "__index__"):
+            raise TypeError(f"a width, a base or an offset is a whole number, and not {size!r}")
+    return tuple(size.__index__() for size in sizes)
 
 
-def narrowest(kind: Kind, low: int, high: int) -> Form:
+def narrowest(kind: Kind, low: int, high: int, spare: int = 0) -> Form:
     """Returns the smallest form for the numbers from `low` to `high`: slices, and equality encoding for a text of few
-    values."""
+    values. With spare bits it takes numbers from as far below as above these."""
     count = high - low + 1
-    if kind.names_values and 3 <= count <= 32:
+    if kind.names_values and 3 <= count <= 32 and not spare:
         return equality(count, offset=low, kind=kind)
     width = max(1, (count - 1).bit_length())
+    if spare and kind != Flags():
+        width = min(63, width + spare)
+        low = max(LEAST, low - ((1 << width) - count) // 2) if low < 0 or high >= 1 << width else 0
     if low >= 0 and high < 1 << width:
         return slices(width, kind=kind)
     return slices(width, offset=min(low, MOST + 1 - (1 << width)), kind=kind)

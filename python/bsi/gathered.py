@@ -2,8 +2,9 @@
 
 from __future__ import annotations
 
+import math
 import threading
-from typing import Any, List, Optional, Sequence, Tuple
+from typing import Any, ContextManager, List, NamedTuple, Optional, Sequence, Tuple
 
 import numpy as np
 
@@ -13,17 +14,53 @@ from .predicates import MAX_FIELDS
 Fields = Sequence[bytes]
 
 
+class _Left(NamedTuple):
+    """What is left for a median: from the one number to the other, how many numbers lie below the one and up to the
+    other, where that is known, and whether it is worth while to expect it between these two."""
+
+    low: int
+    high: int
+    below: Optional[int] = None
+    upto: Optional[int] = None
+    is_smooth: bool = True
+
+    def bounds(self, most: int, half: int) -> List[int]:
+        """Returns the numbers that are counted next."""
+        first, last = self.low, self.high - 1
+        if self.below is not None and self.upto is not None and self.is_smooth:
+            between = self.upto - self.below
+            wanted = first + (half - self.below) * (self.high - first) // between
+            # (numbers that lie there by chance are off by the root of how many they are)
+            off = (last - first) // max(1, math.isqrt(between)) + 1
+            first, last = max(first, min(wanted - off, last)), max(first, min(last, wanted + off))
+            return sorted({first + (last - first) * place // max(1, most - 1) for place in range(most)})
+        step = -(-(last + 1 - first) // (most + 1))
+        return list(range(first + step - 1, last + 1, step))
+
+    def after(self, bounds: List[int], counts: List[int], half: int) -> "_Left":
+        """Returns what is left when the numbers up to each bound are counted."""
+        under = sum(count < half for count in counts)
+        low, below = (bounds[under - 1] + 1, counts[under - 1]) if under else (self.low, self.below)
+        high, upto = (bounds[under], counts[under]) if under < len(bounds) else (self.high, self.upto)
+        return _Left(low, high, below, upto, not self.is_smooth or 8 * (high - low) <= self.high - self.low)
+
+
 class Gathered:
     """A store whose rows lie in several parts.
 
     A lower median is found by counts: it is the least number with at least half of the numbers at or below it. A round
-    asks for the counts at `bounds` numbers at once, so it leaves one in bounds + 1 of those that are possible."""
+    asks for the counts at `bounds` numbers at once. These lie near where the counts at both ends let it be expected,
+    and evenly spread after a round that was of little use."""
 
     def __init__(self, bounds: int):
         self._bounds = bounds
         # Which rows lie where, in order of all rows: a part, and how many of its rows.
         self.runs: List[Tuple[int, int]] = []
         self.lock = threading.RLock()
+
+    def alone(self) -> ContextManager[Any]:
+        """Returns what a question holds while it is answered."""
+        return self.lock
 
     def _each(self, call: str, *arguments: Any) -> List[Any]:
         """Makes a call of every part, at the same time, and returns what they answered."""
@@ -33,15 +70,15 @@ class Gathered:
         return self.counts([fields])[0]
 
     def counts(self, questions: Sequence[Fields]) -> List[int]:
-        with self.lock:
+        with self.alone():
             return [sum(counts) for counts in zip(*self._each("counts", questions))]
 
     def sum(self, name: bytes, fields: Fields) -> int:
-        with self.lock:
+        with self.alone():
             return sum(self._each("sum", name, fields))
 
     def value(self, word: bytes, name: bytes, fields: Fields) -> Optional[int]:
-        with self.lock:
+        with self.alone():
             if word == b"median":
                 return self._median(name, fields)
             numbers = [number for number in self._each("value", word, name, fields) if number is not None]
@@ -53,21 +90,23 @@ class Gathered:
         if len(fields) + 4 > MAX_FIELDS:
             rule = f"a median over several parts takes a predicate of at most {MAX_FIELDS - 4} fields"
             raise BadQuery(f"{rule}, and this one has {len(fields):,}")
-        medians = [number for number in self._each("value", b"median", name, fields) if number is not None]
-        if not medians:
+        found = [(number, count) for number, count in self._each("median_and_count", name, fields) if count]
+        if not found:
             return None
-        low, high = min(medians), max(medians)
-        half = (self.count([*fields, name, b"null", b"not", b"and"]) + 1) // 2
-        while low < high:
-            step = -(-(high - low) // (self._bounds + 1))
-            bounds = list(range(low + step - 1, high, step))
+        left = _Left(min(number for number, _ in found), max(number for number, _ in found))
+        half = (sum(count for _, count in found) + 1) // 2
+        while left.low < left.high:
+            if left.below == half - 1:
+                return self.value(b"least", name, [*fields, name, b">=", b"%d" % left.low, b"and"])
+            if left.upto == half:
+                return self.value(b"greatest", name, [*fields, name, b"<=", b"%d" % left.high, b"and"])
+            bounds = left.bounds(self._bounds, half)
             counts = self.counts([[*fields, name, b"<=", b"%d" % bound, b"and"] for bound in bounds])
-            below = sum(count < half for count in counts)
-            low, high = bounds[below - 1] + 1 if below else low, bounds[below] if below < len(bounds) else high
-        return low
+            left = left.after(bounds, counts, half)
+        return left.low
 
     def select(self, fields: Fields) -> Tuple[np.ndarray, int]:
-        with self.lock:
+        with self.alone():
             selected = self._each("select", fields)
             bits = [np.unpackbits(words.view(np.uint8), count=rows, bitorder="little") for words, rows in selected]
             taken, runs = [0] * len(bits), []
@@ -80,5 +119,5 @@ class Gathered:
             return packed.view(np.uint64), len(joined)
 
     def rows(self) -> int:
-        with self.lock:
+        with self.alone():
             return sum(self._each("rows"))

@@ -2,9 +2,9 @@
 
 from __future__ import annotations
 
-from typing import Any, Iterable, Mapping, Optional
+from typing import Any, Iterable, Mapping, Optional, Union
 
-from .choosing import chosen
+from .choosing import chosen_of
 from .forms import Form
 from .kinds import Kind
 from .progress import Progress
@@ -34,17 +34,20 @@ class Index(Table):
         *,
         kinds: Optional[Mapping[str, Kind]] = None,
         forms: Optional[Mapping[str, Form]] = None,
+        drop: Iterable[str] = (),
+        round: Union[int, Mapping[str, int], None] = None,
+        spare: int = 0,
         limit: Optional[int] = None,
         progress: Progress = None,
     ) -> "Index":
-        """Makes an index of a pandas frame, a dict of columns or an Arrow record batch, and chooses kinds, widths and
-        offsets from the data. `repr` of the index says what it chose, and so does the logger "bsi".
+        """Makes an index of a pandas frame, a dict of columns, or what gives Arrow record batches, and chooses kinds,
+        widths and offsets from the data. `repr` of the index says what it chose, and so does the logger "bsi".
 
-        `columns` are those wanted, `kinds` and `forms` what is not to be chosen. What can't be kept exactly is a
-        BadRow.
+        `columns` are those wanted, or all but `drop`; `kinds` and `forms` what is not to be chosen. What can't be kept
+        exactly is a BadRow, but for decimals of more places than `round`. `spare` widens columns by so many bits.
         """
-        found, encoded = chosen(frame, columns, kinds, forms)
-        return cls(found, limit=limit)._filled(encoded, progress)
+        found = chosen_of([frame], columns, kinds, forms, drop=drop, round=round, spare=spare)
+        return cls(found.forms, limit=limit)._filled(found, progress)
 
     @property
     def schema(self) -> str:

@@ -10,25 +10,29 @@ from __future__ import annotations
 
 import math
 import numbers
+import operator
 import re
 from bisect import bisect_left, bisect_right
-from dataclasses import dataclass, field
+from dataclasses import dataclass, field, replace
 from datetime import date, datetime, timedelta, timezone
 from decimal import Decimal
 from fractions import Fraction
 from itertools import repeat
-from typing import Any, Callable, Dict, Tuple
+from typing import Any, Callable, Dict, List, Tuple
 
 import numpy as np
 
 Cut = Tuple[int, int]
+COMPARE = {"=": operator.eq, "!=": operator.ne, "<": operator.lt, "<=": operator.le}
+COMPARE.update({">": operator.gt, ">=": operator.ge})
+GROWS = "; spare= leaves room for more"
 # A number past all that a column can take.
 FAR = 1 << 200
 NANOSECONDS = {"D": 86_400_000_000_000, "s": 1_000_000_000, "ms": 1_000_000, "us": 1_000, "ns": 1}
 UNITS = {"D": "days", "s": "seconds", "ms": "milliseconds", "us": "microseconds", "ns": "nanoseconds"}
 NUMBER = re.compile(r"-?(?:[0-9]+(?:\.[0-9]*)?|\.[0-9]+)(?:[eE][-+]?[0-9]{1,3})?")
-CLOCK, ZONE = r"\d\d:\d\d(?::\d\d(?:\.\d{1,9})?)?", r"Z|[+-](?:[01]\d|2[0-3]):?[0-5]\d"
-TIME = re.compile(rf"(\d{{4}}-\d\d-\d\d)(?:[T ]({CLOCK})({ZONE})?)?", re.ASCII)
+CLOCK, ZONE = r"\d\d:\d\d(?::\d\d(?:\.\d{1,9})?)?", r"Z|UTC|[+-](?:[01]\d|2[0-3])(?::?[0-5]\d)?"
+TIME = re.compile(rf"(\d{{4}}-\d\d-\d\d)(?:[T ]({CLOCK})(?: ?({ZONE}))?)?", re.ASCII)
 
 
 class Misfit(ValueError):
@@ -48,7 +52,9 @@ def first_misfit(bad: np.ndarray, values: np.ndarray, reason: str) -> None:
 
 def shown(value: Any) -> str:
     """Returns a value as an error shows it."""
-    text = repr(value.item() if isinstance(value, np.generic) and value.dtype.kind in "iufb" else value)
+    if isinstance(value, np.floating):
+        return str(value)
+    text = repr(value.item() if isinstance(value, np.generic) and value.dtype.kind in "iub" else value)
     return text if len(text) <= 60 else text[:57] + "..."
 
 
@@ -182,13 +188,16 @@ def _whole_of_floats(values: np.ndarray, valid: np.ndarray) -> np.ndarray:
 @dataclass(frozen=True)
 class Decimals(Kind):
     """Decimals of so many places, given as a number of places or as the scale, "0.01". Answers are Decimal. A float
-    stands for the decimal that it prints as."""
+    stands for the decimal that it prints as. Where `rounded`, a value of more places is kept as the nearest one, the
+    even one of two, and a float is then the number that it is."""
 
     places: Any = 2
+    rounded: bool = field(default=False, compare=False)
     takes = "decimals"
 
     def __post_init__(self):
-        places = self.places if isinstance(self.places, int) else _places_of_scale(self.places)
+        is_number = isinstance(self.places, int) and not isinstance(self.places, bool)
+        places = self.places if is_number else _places_of_scale(self.places)
         if not 0 <= places <= 18:
             raise ValueError(f"decimals have 0 to 18 places, and not {places}")
         object.__setattr__(self, "places", places)
@@ -200,11 +209,22 @@ class Decimals(Kind):
     def unfit(self) -> str:  # type: ignore[override]
         return f"has more than {self.places} decimal places"
 
+    def number(self, value: Any) -> int:
+        if not self.rounded:
+            return super().number(value)
+        found = round(fraction_of(value) * 10**self.places)
+        if abs(found) >= FAR:
+            raise ValueError(f"{shown(value)} is past 63 bits")
+        return found
+
     def parse(self, text: str) -> Decimal:
         return decimal_of(text)
 
     def decode(self, number: int) -> Decimal:
         return _decimal(number, self.places)
+
+    def show(self, number: int) -> str:
+        return f"{self.decode(number):f}"
 
     def decode_sum(self, total: int) -> Decimal:
         return _decimal(total, self.places)
@@ -217,8 +237,20 @@ class Decimals(Kind):
             first_misfit((whole > most) | (whole < -most), values, f"is past 63 bits at {self.places} decimal places")
             return whole * scale
         if values.dtype.kind == "f":
-            return self._encode_floats(values, valid)
+            return self._rounded(values, valid) if self.rounded else self._encode_floats(values, valid)
         return super().encode(values, valid)
+
+    def _rounded(self, values: np.ndarray, valid: np.ndarray) -> np.ndarray:
+        kept = np.where(valid, values, 0).astype(np.float64)
+        with np.errstate(over="ignore", invalid="ignore"):
+            scaled = kept * 10.0**self.places
+            first_misfit(~(np.abs(scaled) < 2.0**63), values, f"is past 63 bits at {self.places} decimal places")
+            found = np.rint(scaled).astype(np.int64)
+            # (the product is rounded itself, so one that lies near the middle is looked at exactly)
+            near = np.abs(np.abs(scaled - np.floor(scaled)) - 0.5) <= np.spacing(np.abs(scaled)) * 2
+        for row in np.flatnonzero(near & valid).tolist():
+            found[row] = self.number(float(kept[row]))
+        return found
 
     def _encode_floats(self, values: np.ndarray, valid: np.ndarray) -> np.ndarray:
         # A decimal of as many digits as a float keeps (15 of a double) is the only such one that the float prints as.
@@ -228,7 +260,7 @@ class Decimals(Kind):
             scaled = np.rint(np.where(valid, values, 0).astype(np.float64) * 10.0**self.places)
             back = (scaled / 10.0**self.places).astype(values.dtype)
         fits = (np.abs(scaled) <= most) & (back == np.where(valid, values, 0))
-        first_misfit(~fits, values, f"can't be kept exactly with {self.places} decimal places")
+        first_misfit(~fits, values, f"can't be kept exactly with {self.places} decimal places; round= rounds it")
         return scaled.astype(np.int64)
 
     def __str__(self) -> str:
@@ -237,12 +269,13 @@ class Decimals(Kind):
 
 def _places_of_scale(scale: Any) -> int:
     try:
-        places = -Decimal(str(scale)).log10()
+        # (1.0 may be meant as one place)
+        places = -Decimal(str(scale)).log10() if not isinstance(scale, float) or scale < 1 else Decimal("nan")
         if places == int(places):
             return int(places)
     except (ArithmeticError, ValueError):
         pass
-    raise ValueError(f"{shown(scale)} is no scale; one is 0.1, 0.01, ..")
+    raise ValueError(f"{shown(scale)} is no number of places, as 2, and no scale, as '0.01'")
 
 
 def _decimal(number: int, places: int) -> Decimal:
@@ -253,8 +286,8 @@ def _decimal(number: int, places: int) -> Decimal:
 @dataclass(frozen=True)
 class Times(Kind):
     """Points of time, as a count of days "D", seconds "s", "ms", "us" or "ns" since 1970-01-01, in UTC where there is a
-    zone. Answers are pandas.Timestamp, or datetime where there is no pandas, or numpy.datetime64 in UTC where neither
-    can be it. Constants are dates, times, or texts such as 2026-01-31T12:00.
+    zone. Answers are datetime, and numpy.datetime64 in UTC for nanoseconds and years past 9999. Constants are dates,
+    times, or texts such as 2026-01-31T12:00.
     """
 
     unit: str = "D"
@@ -281,7 +314,7 @@ class Times(Kind):
         return text
 
     def decode(self, number: int) -> Any:
-        return _time(number * NANOSECONDS[self.unit], self.zone)
+        return _time(number, self.unit, self.zone)
 
     def show(self, number: int) -> str:
         return str(self.decode(number))[:10] if self.unit == "D" else str(self.decode(number))
@@ -314,7 +347,8 @@ def nanoseconds_of_text(text: str) -> Tuple[int, bool]:
         seconds = int(np.datetime64(f"{day}T{clock}", "s").astype(np.int64))
     except ValueError:
         raise ValueError(f"{shown(text)} is no date or time: the calendar or the clock has no such") from None
-    ahead = 0 if zone in (None, "Z") else (int(zone[1:3]) * 60 + int(zone[-2:])) * (-60 if zone[0] == "-" else 60)
+    hours, minutes = (0, 0) if zone in (None, "Z", "UTC") else (int(zone[1:3]), int(zone[3:].strip(":") or 0))
+    ahead = (hours * 60 + minutes) * (-60 if zone and zone[0] == "-" else 60)
     return (seconds - ahead) * NANOSECONDS["s"] + int(fraction.ljust(9, "0")), zone is not None
 
 
@@ -340,17 +374,11 @@ def nanoseconds_of(moment: Any) -> Tuple[int, bool]:
     raise TypeError(f"{shown(moment)} is no date or time")
 
 
-def _time(nanoseconds: int, zone: Any) -> Any:
-    """Returns the point of time as a pandas.Timestamp where that can be, as a datetime otherwise, and as a
-    numpy.datetime64 in UTC where neither can be it."""
-    try:
-        import pandas
-
-        if abs(nanoseconds) < 2**63:
-            return pandas.Timestamp(nanoseconds, tz=zone)
-    except (ImportError, ValueError):
-        pass
-    if nanoseconds % 1000 and abs(nanoseconds) < 2**63:
+def _time(number: int, unit: str, zone: Any) -> Any:
+    """Returns the point of time as a datetime, and as a numpy.datetime64 in UTC where that can't be: in nanoseconds,
+    and past the years 1 to 9999."""
+    nanoseconds = number * NANOSECONDS[unit]
+    if unit == "ns":
         return np.datetime64(nanoseconds, "ns")
     try:
         moment = EPOCH + timedelta(microseconds=nanoseconds // 1000)
@@ -396,19 +424,23 @@ class Flags(Kind):
 @dataclass(frozen=True)
 class Texts(Kind):
     """One of these texts, as its place among them. They compare in order of their characters, and in the order given
-    where `ordered`. Answers are str."""
+    where `ordered`. Answers are str. Where it `grows`, further texts of an append get the next places, as far as the
+    column has room, so that places are in no order."""
 
     values: Tuple[str, ...]
     ordered: bool = False
+    grows: bool = field(default=False, compare=False)
     places: Dict[str, int] = field(init=False, repr=False, compare=False)
     names_values = True
     takes = "texts"
 
     def __post_init__(self):
+        if isinstance(self.values, str):
+            raise TypeError(f"a column of texts needs the list of them, and not one text: Texts([{self.values!r}])")
         values = tuple(self.values)
         if not values or any(not isinstance(value, str) for value in values):
             raise TypeError("a column of texts needs the list of them")
-        values = values if self.ordered else tuple(sorted(set(values)))
+        values = values if self.ordered or self.grows else tuple(sorted(set(values)))
         object.__setattr__(self, "values", values)
         object.__setattr__(self, "places", {value: place for place, value in enumerate(values)})
         if len(self.places) < len(values):
@@ -419,13 +451,26 @@ class Texts(Kind):
             raise TypeError(f"{shown(constant)} is no text")
         if constant in self.places:
             return self.places[constant], self.places[constant] + 1
+        if self.grows:
+            return len(self.values), len(self.values)
         if self.ordered:
             raise ValueError(f"{shown(constant)} is none of the texts, whose order was given")
         return bisect_left(self.values, constant), bisect_right(self.values, constant)
 
+    def numbers_where(self, sign: str, constant: Any) -> List[int]:
+        """Returns the places of the texts that compare so with a constant."""
+        self.cut(constant)
+        return [place for place, text in enumerate(self.values) if COMPARE[sign](text, constant)]
+
+    def grown(self, values: np.ndarray, valid: np.ndarray) -> "Texts":
+        """Returns the kind with the further texts among these values."""
+        there = dict.fromkeys(values[valid].tolist() if values.dtype == object else ())
+        more = [text for text in there if isinstance(text, str) and text not in self.places]
+        return replace(self, values=(*self.values, *more)) if more else self
+
     @property
     def unfit(self) -> str:  # type: ignore[override]
-        return f"is none of its {len(self.values)} texts"
+        return f"is none of its {len(self.values):,} texts" + ("" if self.ordered or self.grows else GROWS)
 
     def parse(self, text: str) -> str:
         return text

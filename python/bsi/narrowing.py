@@ -4,6 +4,7 @@ parts go together."""
 from __future__ import annotations
 
 import numbers
+import sys
 from datetime import date, timezone
 from decimal import Decimal
 from typing import Any, Dict, List, Optional, Tuple
@@ -28,22 +29,30 @@ def encode(kind: Kind, given: Values) -> np.ndarray:
     return kind.encode(given.values, given.valid)
 
 
-def narrow(given: Values) -> Narrowed:
+def narrow(given: Values, texts: Optional[int] = MAX_TEXTS, round: Optional[int] = None) -> Narrowed:
     """Returns the narrowest kind of the values and the numbers that stand for them. The first value that fits in none
-    is a Misfit."""
+    is a Misfit. There are at most so many texts, and decimals of more than so many places are rounded."""
     values, valid = given.values, given.valid
     if not valid.any():
-        return None, np.zeros(len(values), np.int64)
+        return _kind_of_dtype(given), np.zeros(len(values), np.int64)
     if values.dtype == object:
-        return _of_objects(given)
+        return _of_objects(given, texts, round)
+    most, last = (MAX_PLACES, []) if round is None else (round, [Decimals(round, rounded=True)])
     kinds: Dict[str, List[Kind]] = {
         "b": [Flags()],
         "i": [Whole()],
         "u": [Whole()],
-        "f": [Whole(), *(Decimals(places) for places in range(1, MAX_PLACES + 1))],
+        "f": [Whole(), *(Decimals(places) for places in range(1, most + 1)), *last],
         "M": [Times(unit, given.zone) for unit in UNITS],
     }
     return first_that_keeps(kinds[values.dtype.kind], values, valid)
+
+
+def _kind_of_dtype(given: Values) -> Optional[Kind]:
+    """Returns the kind that the dtype of nulls alone tells, if it tells one: another array of it may follow."""
+    if given.order:
+        return Texts(given.order, ordered=True)
+    return {"M": Times("D", given.zone), "b": Flags()}.get(given.values.dtype.kind)
 
 
 def first_that_keeps(kinds: list, values: np.ndarray, valid: np.ndarray) -> Narrowed:
@@ -56,28 +65,28 @@ def first_that_keeps(kinds: list, values: np.ndarray, valid: np.ndarray) -> Narr
     return kinds[-1], kinds[-1].encode(values, valid)
 
 
-def _of_objects(given: Values) -> Narrowed:
+def _of_objects(given: Values, texts: Optional[int], round: Optional[int]) -> Narrowed:
     first = given.values[int(given.valid.argmax())]
     if isinstance(first, str):
-        return _texts(given)
+        return _texts(given, texts)
     if isinstance(first, (bool, np.bool_)):
         return Flags(), Flags().encode(given.values, given.valid)
     if isinstance(first, (date, np.datetime64)):
         return _times(given)
     if isinstance(first, (numbers.Real, Decimal, np.number)):
-        return _numbers(given)
+        return _numbers(given, round)
     raise Misfit(int(given.valid.argmax()), first, f"{shown(first)} is none of numbers, times, booleans or texts")
 
 
-def _texts(given: Values) -> Narrowed:
+def _texts(given: Values, most: Optional[int]) -> Narrowed:
     there = given.values[given.valid].tolist()
-    if set(map(type, there)) != {str} or len(set(there)) > MAX_TEXTS:
-        _refuse_texts(given)
+    if set(map(type, there)) != {str} or most is not None and len(set(there)) > most:
+        _refuse_texts(given, most)
     kind = Texts(given.order, ordered=True) if given.order else Texts(tuple(set(there)))
     return kind, kind.encode(given.values, given.valid)
 
 
-def _refuse_texts(given: Values) -> None:
+def _refuse_texts(given: Values, most: Optional[int]) -> None:
     """Raises the first value that is no text, or one text more than a column may have."""
     found = set()
     for row in np.flatnonzero(given.valid).tolist():
@@ -85,57 +94,77 @@ def _refuse_texts(given: Values) -> None:
         if not isinstance(text, str):
             raise Misfit(row, text, f"{shown(text)} is no text, as those before it are")
         found.add(text)
-        if len(found) > MAX_TEXTS:
+        if most is not None and len(found) > most:
             raise Misfit(row, text, too_many_texts(text))
+
+
+def too_fine(value: Any) -> str:
+    """Returns what is wrong with a float of more places than are tried."""
+    return f"{shown(value)} can't be kept exactly with {MAX_PLACES} decimal places; round= rounds it"
 
 
 def too_many_texts(text: str) -> str:
     """Returns what is wrong with a text past those that a column may have."""
-    return f"{shown(text)} is one text more than the {MAX_TEXTS:,} that a column may have; leave the column out"
+    ways = "kinds= with Texts takes all of them, and drop= leaves the column out"
+    return f"{shown(text)} is one text more than the {MAX_TEXTS:,} that are taken unasked; {ways}"
 
 
-def _numbers(given: Values) -> Narrowed:
+def _numbers(given: Values, round: Optional[int]) -> Narrowed:
     """Decimals of as many places as the values show, and whole numbers where none of them is a Decimal or has a
     fraction."""
     places, is_whole = 0, True
     for row in np.flatnonzero(given.valid).tolist():
         value = given.values[row]
         is_whole &= not isinstance(value, Decimal)
-        places = max(places, _places(row, value))
-    kind = Whole() if is_whole and places == 0 else Decimals(places)
+        places = max(places, _places(row, value, round))
+    rounded = Decimals(places) if round is None or places <= round else Decimals(round, rounded=True)
+    kind = Whole() if is_whole and places == 0 else rounded
     return kind, kind.encode(given.values, given.valid)
 
 
-def _places(row: int, value: Any) -> int:
+def _places(row: int, value: Any, round: Optional[int]) -> int:
     if isinstance(value, (bool, np.bool_)):
         raise Misfit(row, value, f"{shown(value)} is no number, as those before it are")
     if isinstance(value, numbers.Integral):
         return 0
     if isinstance(value, (float, np.floating)):
-        value = Decimal(0) if np.isfinite(value) and value % 1 == 0 else Decimal(str(value))
+        is_whole = np.isfinite(value) and value % 1 == 0
+        found = Decimal(0) if is_whole else Decimal(str(value))
+        if round is None and found.is_finite() and found.as_tuple().exponent < -MAX_PLACES:  # type: ignore[operator]
+            raise Misfit(row, value, too_fine(value))
+        value = found
     if not isinstance(value, Decimal):
         raise Misfit(row, value, f"{shown(value)} is no number, or no decimal")
     exponent = value.as_tuple().exponent
     if not isinstance(exponent, int):
         raise Misfit(row, value, f"{shown(value)} is no finite number")
-    if exponent < -18:
+    if round is None and exponent < -18:
         raise Misfit(row, value, f"{shown(value)} has more than 18 decimal places")
     return max(0, -exponent)
 
 
 def _times(given: Values) -> Narrowed:
-    moments, zones = np.zeros(len(given.values), object), set()
+    moments, zones = np.zeros(len(given.values), object), []
     for row in np.flatnonzero(given.valid).tolist():
         value = given.values[row]
         try:
             moments[row], is_aware = nanoseconds_of(value)
         except (TypeError, ValueError, ArithmeticError) as why:
             raise Misfit(row, value, str(why)) from None
-        zones.add(value.tzinfo if is_aware else None)
+        zone = zone_of(value.tzinfo) if is_aware else None
+        if zone not in zones:  # (a list, since not every zone has a hash)
+            zones.append(zone)
         if len(zones) > 1 and None in zones:
             has, other_has = ("a", "none") if is_aware else ("no", "one")
             raise Misfit(row, value, f"{shown(value)} has {has} time zone, and one before it has {other_has}")
-    return times_of(moments, given.values, zones.pop() if len(zones) == 1 else timezone.utc)
+    return times_of(moments, given.values, zones[0] if len(zones) == 1 else timezone.utc)
+
+
+def zone_of(zone: Any) -> Any:
+    """Returns the zone itself: pytz gives each time one that stands for a part of the year alone."""
+    pytz = sys.modules.get("pytz")
+    is_part = pytz is not None and isinstance(zone, pytz.tzinfo.DstTzInfo)
+    return pytz.timezone(zone.zone) if is_part else zone
 
 
 def times_of(moments: np.ndarray, values: Any, zone: Any) -> Narrowed:

@@ -61,13 +61,11 @@ _NO_PLACES, _NO_LENGTH = c_void_p(_NOTHING), c_size_t(0)
 def _load() -> ctypes.CDLL:
     """Loads the library: that of the variable BSI_LIBRARY, the one of the wheel, or the one that `make lib` leaves in
     the repository."""
-    here = os.path.dirname(os.path.abspath(__file__))
-    places = [
-        os.environ.get("BSI_LIBRARY"),
-        os.path.join(here, "libbsi.so"),
-        os.path.join(here, "..", "..", "out", "lib", "libbsi.so"),
-    ]
-    path = next((place for place in places if place and os.path.isfile(place)), None)
+    here, named = os.path.dirname(os.path.abspath(__file__)), os.environ.get("BSI_LIBRARY")
+    beside = [os.path.join(here, "libbsi.so"), os.path.join(here, "..", "..", "out", "lib", "libbsi.so")]
+    path = next((place for place in ([named] if named else beside) if os.path.isfile(place)), None)
+    if path is None and named:
+        raise ImportError(f"there is no {named}, which the variable BSI_LIBRARY names")
     if path is None:
         raise ImportError("there is no libbsi.so: `make wheel` puts it beside the package, or BSI_LIBRARY names it")
     library = ctypes.CDLL(path)
@@ -103,7 +101,8 @@ class Handle:
     """One open index of the library. Fields are those of a query record, as docs/FORMATS.md has them."""
 
     def __init__(self, schema: Optional[bytes] = None):
-        self._lock, self._index = threading.Lock(), _Index()
+        # (reentrant: a signal's handler may ask in the midst of a call of its own thread, when the library is done)
+        self._lock, self._index = threading.RLock(), _Index()
         self._at = byref(self._index)
         if schema is not None:
             bad_record, text = c_uint64(), np.frombuffer(schema, np.uint8)
@@ -152,6 +151,10 @@ class Handle:
         """Returns the least, greatest or lower median number in these rows, or None where there is none."""
         answer = self._ask(word, name, *fields)
         return answer.value if answer.present else None
+
+    def median_and_count(self, name: bytes, fields: Sequence[bytes]) -> Tuple[Optional[int], int]:
+        """Returns the lower median number in these rows, and how many numbers there are."""
+        return self.value(b"median", name, fields), self.count([*fields, name, b"null", b"not", b"and"])
 
     def select(self, fields: Sequence[bytes]) -> Tuple[np.ndarray, int]:
         """Returns the words whose bits say which rows the predicate selects, and how many rows there are."""

@@ -7,10 +7,12 @@ from __future__ import annotations
 
 from typing import Any, Iterable, List, NamedTuple, Tuple, Union
 
+import numpy as np
+
 from .errors import BadQuery
 
 MAX_FIELDS = 1000
-OPPOSITE = {"=": "!=", "!=": "=", "<": ">=", ">=": "<", "<=": ">", ">": "<="}
+BETTER = "write & | ~ in place of 'and', 'or', 'not', and two comparisons for a < x < b"
 
 
 class Comparison(NamedTuple):
@@ -33,7 +35,26 @@ class Null(NamedTuple):
         return f"{_name(self.column)}.isnull()"
 
 
-Term = Union[Comparison, Null, str]
+class Among(NamedTuple):
+    """A column, which is to have one of the constants."""
+
+    column: str
+    constants: Tuple[Any, ...]
+
+    def __str__(self) -> str:
+        return f"{_name(self.column)}.isin([{', '.join(map(repr, self.constants))}])"
+
+
+class Holds(NamedTuple):
+    """A column of booleans, which is to be true."""
+
+    column: str
+
+    def __str__(self) -> str:
+        return _name(self.column)
+
+
+Term = Union[Comparison, Null, Among, Holds, str]
 
 
 def _name(column: str) -> str:
@@ -41,8 +62,15 @@ def _name(column: str) -> str:
 
 
 def _fields(terms: Iterable[Term]) -> int:
-    """Returns how many fields the terms are in a query."""
-    return sum(3 if isinstance(term, Comparison) else 2 if isinstance(term, Null) else 1 for term in terms)
+    """Returns how many fields the terms are in a query at least: the constants of `isin` are joined over a table."""
+    return sum(1 if isinstance(term, str) else 2 if isinstance(term, Null) else 3 for term in terms)
+
+
+def refuse_long(fields: int) -> None:
+    """Refuses a predicate of too many fields."""
+    if fields > MAX_FIELDS:
+        rule = f"a predicate has at most {MAX_FIELDS:,} fields (a comparison has 3, isnull() 2, a run of isin() 8)"
+        raise BadQuery(f"{rule}, and this one {fields:,}")
 
 
 class Predicate:
@@ -54,9 +82,8 @@ class Predicate:
 
     def __init__(self, terms: Iterable[Term]):
         terms = tuple(terms)
-        if 3 * len(terms) > MAX_FIELDS and _fields(terms) > MAX_FIELDS:
-            rule = f"a predicate has at most {MAX_FIELDS:,} fields (a comparison has 3, isnull() 2)"
-            raise BadQuery(f"{rule}, and this one {_fields(terms):,}")
+        if 3 * len(terms) > MAX_FIELDS:
+            refuse_long(_fields(terms))
         object.__setattr__(self, "terms", terms)
 
     def __setattr__(self, name: str, value: Any):
@@ -71,23 +98,24 @@ class Predicate:
     def __hash__(self) -> int:
         return hash(self.terms)
 
-    def __and__(self, other: "Predicate") -> "Predicate":
+    def __and__(self, other: Union["Predicate", "Column"]) -> "Predicate":
         return self._with(other, "and")
 
-    def __or__(self, other: "Predicate") -> "Predicate":
+    def __or__(self, other: Union["Predicate", "Column"]) -> "Predicate":
         return self._with(other, "or")
 
     def __invert__(self) -> "Predicate":
         return Predicate((*self.terms, "not"))
 
     def _with(self, other: Any, word: str) -> "Predicate":
+        if isinstance(other, Column):
+            other = other.holds()
         if not isinstance(other, Predicate):
             raise TypeError(f"a predicate stands on each side of '{word}', and not {type(other).__name__}")
         return Predicate((*self.terms, *other.terms, word))
 
     def __bool__(self) -> bool:
-        better = "write & | ~ in place of 'and', 'or', 'not', and two comparisons for a < x < b"
-        raise TypeError(f"a predicate is neither true nor false: {better}")
+        raise TypeError(f"a predicate is neither true nor false: {BETTER}")
 
     def __repr__(self) -> str:
         stack: List[str] = []
@@ -105,6 +133,11 @@ class Predicate:
 
 
 all_rows = Predicate(("all",))
+
+
+def _scalar(constant: Any) -> Any:
+    """Returns a constant as it was: NumPy gives its scalars as arrays where they stand on the left."""
+    return constant[()] if isinstance(constant, np.ndarray) and constant.ndim == 0 else constant
 
 
 class Column:
@@ -128,7 +161,7 @@ class Column:
     def _compared(self, sign: str, constant: Any) -> Predicate:
         if isinstance(constant, (Column, Predicate)):
             raise TypeError("a column is compared with a constant, and not with another column")
-        return Predicate((Comparison(self.name, sign, constant),))
+        return Predicate((Comparison(self.name, sign, _scalar(constant)),))
 
     def __eq__(self, constant: Any) -> Predicate:  # type: ignore[override]
         return self._compared("=", constant)
@@ -150,6 +183,22 @@ class Column:
 
     __hash__ = None  # type: ignore[assignment]
 
+    def holds(self) -> Predicate:
+        """Selects the rows that have True here. `&`, `|` and `~` take a column of booleans as this."""
+        return Predicate((Holds(self.name),))
+
+    def __and__(self, other: Union[Predicate, "Column"]) -> Predicate:
+        return self.holds() & other
+
+    def __or__(self, other: Union[Predicate, "Column"]) -> Predicate:
+        return self.holds() | other
+
+    def __invert__(self) -> Predicate:
+        return ~self.holds()
+
+    def __bool__(self) -> bool:
+        raise TypeError(f"a column is neither true nor false: {BETTER}")
+
     def isnull(self) -> Predicate:
         """Selects the rows that have a null here."""
         return Predicate((Null(self.name),))
@@ -163,12 +212,10 @@ class Column:
         return (self >= least) & (self <= greatest)
 
     def isin(self, constants: Iterable[Any]) -> Predicate:
-        """Selects the rows that have one of the constants here."""
-        found = [self == constant for constant in constants]
-        if not found:
-            return ~all_rows
-        terms = found[0].terms + tuple(term for one in found[1:] for term in (*one.terms, "or"))
-        return Predicate(terms)
+        """Selects the rows that have one of the constants here. Those that follow each other are asked as one run."""
+        if isinstance(constants, (str, bytes)):
+            raise TypeError(f"isin takes a list of constants, and not a text: isin([{constants!r}])")
+        return Predicate((Among(self.name, tuple(map(_scalar, constants))),))
 
     def __repr__(self) -> str:
         return _name(self.name)

@@ -1,6 +1,7 @@
 """Questions as texts: `count price < 100 and temp null`.
 
-    count [P]    rows [P]    sum COLUMN [P]    least COLUMN [P]    greatest COLUMN [P]    median COLUMN [P]
+    count [P]    rows [P]    sum COLUMN [P]    mean COLUMN [P]    median COLUMN [P]
+    least COLUMN [P]    greatest COLUMN [P], or min and max
 
 P is made of `COLUMN SIGN CONSTANT` with one of = == != < <= > >=, `COLUMN null`, `COLUMN not null`, `all`, `and`, `or`,
 `not` and brackets; `where` may stand before it. `not` binds closest, then `and`. A name or a constant that is no plain
@@ -17,7 +18,7 @@ from .errors import BadQuery
 from .predicates import Column, Predicate, all_rows, col
 from .table import Table
 
-TOTALS = ("sum", "least", "greatest", "median")
+TOTALS = ("sum", "mean", "median", "least", "greatest", "min", "max")
 WORDS = ("count", "rows", *TOTALS)
 SIGNS = ("=", "==", "!=", "<=", ">=", "<", ">")
 TOKEN = re.compile(r"""\s*(?:("(?:[^"]|"")*"|'(?:[^']|'')*')|(==|!=|<=|>=|[=<>()])|([^\s=<>!()"']+))""")

@@ -1,68 +1,55 @@
 """CSV files as they are: any header names, decimals, dates and times, booleans, texts of few values.
 
-The first field of a column that is no null says what the column holds. A field that is none of these is refused, with
-its column and row. Each block of records is turned into numbers as it is read, so what stays in memory is 9 bytes a row
-and column until the index is made.
+The first fields of a column that are no nulls say what it holds, and a later one that is none of these is refused with
+its line. Runs of records are turned into numbers as they are read, by columns, on as many threads as there are parts.
 """
 
 from __future__ import annotations
 
 import csv
-import io
-import os
-import re
-from contextlib import contextmanager
-from datetime import timezone
-from decimal import Decimal
-from itertools import islice
-from operator import itemgetter
-from typing import IO, Any, Callable, Collection, Dict, Iterable, Iterator, List, Mapping, NamedTuple, Optional
+from collections import Counter, deque
+from concurrent.futures import ThreadPoolExecutor
+from contextlib import ExitStack
+from typing import Any, Callable, Collection, Deque, Dict, Iterable, List, Mapping, NamedTuple, Optional
 from typing import Tuple, Type, Union
 
 import numpy as np
 
-from .choosing import Block, Wishes, refuse_no_kind, settled, wanted_of
-from .errors import BadColumns, BadRow
+from .choosing import Block, Chosen, Wishes, misfits, refuse_no_kind, settled, slim, wanted_of
+from .errors import BadColumns, BadRow, Error, several
+from .fields import Fields, Lines, Records, read_each, split
+from .files import Path, Run, Runs, Source, name_of, opened, size_of
 from .forms import Form
 from .index import Index
-from .kinds import NUMBER, TIME, Decimals, Flags, Kind, Misfit, Texts, Whole, nanoseconds_of_text, shown
-from .narrowing import Narrowed, narrow, times_of
+from .kinds import FAR, Kind, Texts, Whole
+from .narrowing import too_many_texts
 from .parts import Parts
 from .progress import Progress, told
-from .values import Values
+from .spelling import Bad, Meaning, Options, Reader, TextReader, misread, reader_for
 
-Path = Union[str, "os.PathLike[str]"]
-RECORDS = 1 << 13
-# Numbers as a file spells them. One that begins with a needless 0 may be a code, whose text would be lost.
-PLAIN = re.compile(r"-?(?:0|[1-9][0-9]*)")
-POINT = re.compile(r"-?(?:0|[1-9][0-9]*)?\.[0-9]+|-?(?:0|[1-9][0-9]*)\.?")
-DAY = re.compile(r"\d{4}-\d\d-\d\d", re.ASCII)
-MICROSECONDS = re.compile(r"\d{4}-\d\d-\d\d(?:[T ]\d\d:\d\d(?::\d\d(?:\.\d{1,6})?)?)?", re.ASCII)
-
-
-class Part(NamedTuple):
-    """Records of a file that follow each other, the first one's number among the rows, and its line where each has
-    one."""
-
-    records: List[List[str]]
-    row: int
-    path: Path
-    line: Optional[int]
-
-    def place(self, row: int) -> str:
-        """Returns where a record of the part stands."""
-        return f" (of {self.path})" if self.line is None else f" (line {self.line + row} of {self.path})"
+# How many bytes say what columns hold, how many are read at once of four columns, up to how many columns these are more
+# for more columns, and how many refusals are kept of rows that are left out.
+WIDE = 32
+FIRST, RUN, KEPT = 1 << 16, 1 << 19, 1000
 
 
 def read_csv(
     paths: Union[Path, Iterable[Path]],
     columns: Optional[Iterable[str]] = None,
     *,
+    drop: Collection[str] = (),
     kinds: Optional[Mapping[str, Union[Kind, Type[Texts]]]] = None,
     forms: Optional[Mapping[str, Form]] = None,
     nulls: Collection[str] = ("",),
-    delimiter: str = ",",
-    encoding: str = "utf-8-sig",
+    decimal: str = ".",
+    dates: Union[str, Mapping[str, str], None] = None,
+    round: Union[int, Mapping[str, int], None] = None,
+    bad: str = "refuse",
+    delimiter: Optional[str] = None,
+    quotechar: Optional[str] = '"',
+    skiprows: int = 0,
+    encoding: Optional[str] = None,
+    spare: int = 0,
     limit: Optional[int] = None,
     parts: int = 1,
     progress: Progress = None,
@@ -70,222 +57,453 @@ def read_csv(
     """Makes an index of CSV files with one header, and chooses kinds, widths and offsets from what they hold. `repr`
     says what it chose.
 
-    `columns` are those wanted; `kinds` and `forms` what is not to be chosen (`Texts` keeps a column of codes as text);
-    `nulls` the fields that stand for nothing. With several `parts` the rows are split over as many indexes. What can't
-    be kept exactly is a BadRow.
+    `columns` are those wanted, or all but `drop`; `kinds` and `forms` what is not to be chosen (`Texts` keeps a column
+    of codes as text); `nulls` the fields that stand for nothing; `dates` how strptime reads dates, also by column;
+    `round` the places to which decimals of more are rounded. With `bad="skip"` rows that can't be kept are left out,
+    and stand in `skipped`; else they are a BadRow. `spare` widens columns by so many bits. With several `parts` rows
+    are read on as many threads, and split over as many indexes.
     """
-    paths = [paths] if isinstance(paths, (str, os.PathLike)) else list(paths)
-    if not paths:
-        raise BadColumns("there is no file")
+    if bad not in ("refuse", "skip"):
+        raise ValueError(f"bad is 'refuse' or 'skip', and not {bad!r}")
+    asked = _Asked(columns, drop, kinds, forms, spare, _options(nulls, decimal), dates, round)
+    layout = _layout(delimiter, quotechar, skiprows, encoding)
+    with ExitStack() as stack:
+        threads = stack.enter_context(ThreadPoolExecutor(parts)) if parts > 1 else None
+        reader = _Reader(asked, layout, bad == "skip", threads)
+        reader.read_all(paths, stack, progress)
+    chosen = reader.chosen()
+    index: Any = Index(chosen.forms, limit=limit) if parts == 1 else Parts(parts, chosen.forms, limit=limit)
+    index.skipped = reader.skipped
+    return index._filled(chosen, None)
+
+
+def _options(nulls: Collection[str], decimal: str) -> Options:
+    """Returns what is said of all fields."""
     if isinstance(nulls, str):
         raise TypeError("nulls is a list of texts")
-    reader = _Reader(columns, kinds, forms, frozenset(nulls))
-    total = sum(os.path.getsize(path) for path in paths)
-    with told(progress, total, "B") as tell:
-        for path in paths:
-            reader.read(path, delimiter, encoding, tell)
-    found = {name: settled(name, reader.blocks.pop(name), reader.wishes) for name in reader.wanted}
-    chosen, encoded = {name: form for name, (form, _) in found.items()}, [numbers for _, numbers in found.values()]
-    if parts == 1:
-        return Index(chosen, limit=limit)._filled(encoded, None)
-    return Parts(parts, chosen, limit=limit)._filled(encoded, None)
+    if decimal not in (".", ","):
+        raise ValueError(f"decimal is '.' or ',', and not {decimal!r}")
+    return Options(None, tuple(nulls), decimal)
+
+
+class _Asked(NamedTuple):
+    """What the caller says of the columns."""
+
+    columns: Optional[Iterable[str]]
+    drop: Collection[str]
+    kinds: Optional[Mapping[str, Any]]
+    forms: Optional[Mapping[str, Form]]
+    spare: int
+    options: Options
+    dates: Union[str, Mapping[str, str], None]
+    round: Union[int, Mapping[str, int], None]
+
+    def options_of(self, name: str, kind: Any) -> Options:
+        """Returns what is said of the fields of a column."""
+        dates = self.dates.get(name) if isinstance(self.dates, Mapping) else self.dates
+        places = self.round.get(name) if isinstance(self.round, Mapping) else self.round
+        return self.options._replace(kind=kind, dates=dates, round=places)
+
+
+class _Layout(NamedTuple):
+    """What the caller says of the files."""
+
+    delimiter: Optional[str]
+    quote: Optional[str]
+    skipped: int
+    encoding: Optional[str]
+
+    @property
+    def dialect(self) -> Dict[str, Any]:
+        """The words for the module csv."""
+        quoting = {"quotechar": self.quote} if self.quote else {"quoting": csv.QUOTE_NONE, "quotechar": None}
+        return {"delimiter": self.delimiter or ",", **quoting}
+
+    @property
+    def marks(self) -> Tuple[bytes, bytes]:
+        """The delimiter and the quote in UTF-8."""
+        return (self.delimiter or ",").encode(), (self.quote or "").encode()
+
+
+def _layout(delimiter: Optional[str], quote: Optional[str], skipped: int, encoding: Optional[str]) -> _Layout:
+    """Returns what is said of the files. Refuses a sign that is none."""
+    for what, sign in (("delimiter", delimiter), ("quotechar", quote)):
+        if sign and (not isinstance(sign, str) or len(sign) != 1 or sign in "\r\n\0"):
+            raise ValueError(f"{what} is one character, and no end of a line, and not {sign!r}")
+    return _Layout(delimiter, quote, skipped, encoding)
+
+
+class Skipped(List[Error]):
+    """The refusals of the first rows that were left out; `count` says how many rows they are."""
+
+    count = 0
+
+    def add(self, why: Error) -> None:
+        """Counts one more."""
+        self.count += 1
+        if len(self) < KEPT:
+            self.append(why)
+
+    def __repr__(self) -> str:
+        more = [f".. and {self.count - len(self):,} more"] if self.count > len(self) else []
+        head = "1 row was left out" if self.count == 1 else f"{self.count:,} rows were left out"
+        return "\n".join([head, *map(str, self), *more])
+
+
+class _Rows(NamedTuple):
+    """Where the rows of a run stand: in which file, from which row and line on, and each one's line where they are not
+    one a line."""
+
+    name: str
+    row: int
+    line: int
+    lines: Optional[np.ndarray]
+
+    def place(self, row: int) -> str:
+        """Returns where a row stands."""
+        return f" (line {self.line + (row if self.lines is None else int(self.lines[row]))} of {self.name})"
+
+    def bad(self, column: str, row: int, text: str, reason: str) -> BadRow:
+        """Returns the refusal of a field."""
+        return BadRow(column, self.row + row, text, reason, self.place(row))
+
+
+class _Piece(NamedTuple):
+    """Fields of a column in a run: which are valid, their kind and numbers, and which are not read with their texts;
+    or the fields themselves, where nothing said before how the column is read."""
+
+    valid: np.ndarray
+    kind: Optional[Kind] = None
+    numbers: Optional[np.ndarray] = None
+    bad: Dict[int, Tuple[str, str]] = {}
+    fields: Optional[Fields] = None
+
+
+_all = np.ones(RUN, bool)
+_all.flags.writeable = False
+
+
+def all_of(rows: int) -> np.ndarray:
+    """Returns that so many rows are valid, in memory that all such share."""
+    return _all[:rows] if rows <= len(_all) else np.ones(rows, bool)
+
+
+class _Column:
+    """A column that is wanted: its place in the header, how its fields are read, and its blocks."""
+
+    def __init__(self, name: str, place: int, options: Options):
+        self.name, self.place, self.options = name, place, options
+        self.reader: Optional[Reader] = None
+        self.blocks: List[Block] = []
+        self.refusal: Optional[Error] = None
+        self.form: Any = None
+
+    def piece(self, fields: Fields) -> _Piece:
+        """Reads the fields of a run, if it is known how."""
+        stripped = fields.stripped() if self._is_stripped() else fields
+        valid = all_of(len(fields.starts))
+        for text in self.options.nulls:
+            found = stripped.equal(text)
+            valid = valid & ~found if found.any() else valid
+        if self.reader is None:
+            return _Piece(valid, fields=fields if valid.any() else None)
+        return self.read(stripped, valid)
+
+    def _is_stripped(self) -> bool:
+        return not (isinstance(self.reader, TextReader) and self.reader.is_exact)
+
+    def choose(self, fields: Fields) -> _Piece:
+        """Chooses by the fields how the column is read, and reads them."""
+        stripped = fields.stripped()
+        nulls = frozenset(self.options.nulls)
+        texts = Counter(text for text in stripped.texts() if text not in nulls)
+        self.reader = reader_for(texts, self.options)
+        return self.piece(fields)
+
+    def read(self, fields: Fields, valid: np.ndarray) -> _Piece:
+        """Reads the fields that are valid."""
+        assert self.reader is not None
+        if not valid.any():
+            return _Piece(valid)
+        places = None if valid.all() else np.flatnonzero(valid)
+        there = fields if places is None else fields.taken(places)
+        kind, numbers, bad = self.reader.read(there)
+        texts = dict(zip(bad, there.taken(list(bad)).texts())) if bad else {}
+        rows = {row: row if places is None else int(places[row]) for row in bad}
+        told = {rows[row]: (texts[row], reason) for row, reason in sorted(bad.items())}
+        if places is not None:
+            spread = np.zeros(len(valid), numbers.dtype)
+            spread[places] = numbers
+            numbers = spread
+        return _Piece(valid, kind, slim(numbers), told)
+
+    def meaning(self) -> Tuple[Optional[Meaning], Bad, bool]:
+        """Returns what the places of texts stand for, which of them stand for nothing, and whether the column is
+        refused for those: where its texts are no texts."""
+        if not isinstance(self.reader, TextReader) or not self.reader.distinct.texts:
+            return None, {}, False
+        texts, counts = self.reader.distinct.texts, np.zeros(len(self.reader.distinct.texts), np.int64)
+        for block in self.blocks:
+            counts += np.bincount(block.numbers[block.valid], minlength=len(texts))
+        if self.reader.is_exact and self.options.kind is None and (bad := misread(texts, counts, self.options)):
+            return None, bad, True
+        meaning = self.reader.meaning()
+        return meaning, meaning.bad, False
+
+    def apply(self, meaning: Meaning) -> None:
+        """Puts what the places of texts stand for in their place."""
+        for at, block in enumerate(self.blocks):
+            found = np.where(block.valid, meaning.numbers[block.numbers], 0)
+            self.blocks[at] = block._replace(kind=meaning.kind, numbers=slim(found))
+
+
+# The records of a run, and its columns: None where a column is refused already.
+_Read = Tuple[Records, List[Optional[_Piece]]]
+
+
+def _taken(waiting: Deque[Callable[[], _Read]], source: Source) -> _Read:
+    """Returns the run that is read next."""
+    try:
+        return waiting.popleft()()
+    except UnicodeError as why:
+        raise source.no_text(why) from None
 
 
 class _Reader:
     """What has been read of the files: their header, and the blocks of each wanted column."""
 
-    def __init__(self, columns: Optional[Iterable[str]], kinds: Any, forms: Any, nulls: frozenset):
-        self._asked, self._nulls = (columns, kinds, forms), nulls
-        self._header: Optional[List[str]] = None
-        self._parsers: Dict[str, Callable[[List[str]], Narrowed]] = {}
-        self._rows = self._bytes = 0
+    def __init__(self, asked: _Asked, layout: _Layout, skips: bool, threads: Optional[ThreadPoolExecutor]):
+        self._asked, self._layout, self._skips, self._threads = asked, layout, skips, threads
+        self._header: List[str] = []
+        self._columns: List[_Column] = []
+        self._rows: List[_Rows] = []
+        self._count = self._bytes = self._line = 0
+        self.skipped = Skipped()
 
-    def read(self, path: Path, delimiter: str, encoding: str, tell: Callable[[int], None]) -> None:
+    # ---- Files ----
+
+    def read_all(self, paths: Union[Path, Iterable[Path]], stack: ExitStack, progress: Progress) -> None:
+        """Reads one file or several, and tells how far it is."""
+        is_one = isinstance(paths, str) or hasattr(paths, "__fspath__") or hasattr(paths, "read")
+        files: List[Path] = [paths] if is_one else list(paths)  # type: ignore[list-item, arg-type]
+        if not files:
+            raise BadColumns("there is no file")
+        tell = stack.enter_context(told(progress, sum(map(size_of, files)), "B"))
+        for path in files:
+            self.read(path, tell)
+
+    def read(self, path: Path, tell: Callable[[int], None]) -> None:
         """Reads a file, and keeps the numbers of its wanted columns."""
-        with _opened(path, encoding) as (raw, text):
-            records = _records(csv.reader(text, delimiter=delimiter, strict=True), path)
-            self._head(next(records, Part([[]], 0, path, None)).records[0], path)
-            for part in records:
-                self._keep(part._replace(row=self._rows))
-                self._rows += len(part.records)
-                tell(self._bytes + _place(raw))
-            self._bytes += _place(raw)
+        name, waiting = name_of(path), deque()  # type: Tuple[str, Deque[Callable[[], _Read]]]
+        with opened(path, self._layout.encoding) as source:
+            runs = Runs(source, *self._layout.marks)
+            try:
+                self._line = self._head(runs, name)
+            except UnicodeError as why:
+                raise source.no_text(why) from None
+            size = min(WIDE, max(4, len(self._header))) * RUN // 4 * (1 if self._threads is None else 2)
+            while (run := runs.next(size if self._count else FIRST)).text:
+                waiting.append(self._started(run, runs, source))
+                while len(waiting) > self._ahead():
+                    self._keep(*_taken(waiting, source), name)
+                tell(self._bytes + source.place())
+            while waiting:
+                self._keep(*_taken(waiting, source), name)
+            self._bytes += source.place()
+            tell(self._bytes)
 
-    def _head(self, header: List[str], path: Path) -> None:
-        if self._header is None:
-            if not header:
-                raise BadColumns(f"{path}: there is no header")
-            self._header = header
-            self.wanted = wanted_of(self._asked[0], header)
-            texts = {name: kind for name, kind in (self._asked[1] or {}).items() if kind is Texts}
-            self.wishes = Wishes(self.wanted, self._asked[1], self._asked[2])
-            for name in self.wishes.kinds.keys() - texts.keys():
-                refuse_no_kind(name, self.wishes.kinds[name])
-            self._parsers = {name: _texts for name in texts}
-            self.blocks: Dict[str, List[Block]] = {name: [_nothing()] for name in self.wanted}
-        elif header != self._header:
-            raise BadColumns(f"{path}: its header is {header}, and that of the first file {self._header}")
+    def _ahead(self) -> int:
+        """Returns how many runs are read at once: the first one alone, since it says what columns hold."""
+        return 2 * self._threads._max_workers if self._threads is not None and self._count else 0
 
-    def _keep(self, part: Part) -> None:
-        assert self._header is not None
-        width = len(self._header)
-        if set(map(len, part.records)) != {width}:
-            row, found = next((row, len(one)) for row, one in enumerate(part.records) if len(one) != width)
-            raise BadColumns(f"row {part.row + row}{part.place(row)} has {found} fields, and the header {width}")
-        for name in self.wanted:
-            fields = list(map(itemgetter(self._header.index(name)), part.records))
-            self.blocks[name].append(self._block(name, fields, part))
-
-    def _block(self, name: str, fields: List[str], part: Part) -> Block:
-        valid, numbers, there = np.ones(len(fields), bool), np.zeros(len(fields), np.int64), fields
-        if not self._nulls.isdisjoint(fields):
-            valid = np.array([field not in self._nulls for field in fields], bool)
-            there = [field for field in fields if field not in self._nulls]
-        if not there:
-            return Block(None, numbers, valid, part.row)
+    def _head(self, runs: Runs, name: str) -> int:
+        """Reads the header, and returns the line behind it."""
+        for _ in range(self._layout.skipped):
+            runs.line()
+        lines = iter(lambda: runs.line().decode("utf-8", "surrogatepass"), "")
+        reader = csv.reader(lines, strict=True, **self._layout.dialect)
         try:
-            kind, numbers[valid] = self._parsed(name, there)
-        except Misfit as why:
-            row = int(np.flatnonzero(valid)[why.row])
-            raise BadRow(name, part.row + row, why.value, why.reason, part.place(row)) from None
-        return Block(kind, numbers, valid, part.row)
-
-    def _parsed(self, name: str, there: List[str]) -> Narrowed:
-        kind = self.wishes.kinds.get(name)
-        if isinstance(kind, Kind):
-            return kind, _of_kind(kind, there)
-        if name not in self._parsers:
-            self._parsers[name] = _parser_for(there[0])
-        return self._parsers[name](there)
-
-
-def _nothing() -> Block:
-    return Block(None, np.zeros(0, np.int64), np.zeros(0, bool))
-
-
-@contextmanager
-def _opened(path: Path, encoding: str) -> Iterator[Tuple[IO[bytes], IO[str]]]:
-    """Opens a file as bytes, whose place says how far it is read, and as the text that they are."""
-    with open(path, "rb", buffering=0) as raw:
-        buffered = io.BufferedReader(raw, 1 << 20)
-        try:
-            yield raw, io.TextIOWrapper(buffered, encoding=encoding, newline="")
-        except UnicodeDecodeError as why:
-            raise BadColumns(f"{path}: it is no {encoding} text ({why.reason}); name its encoding") from None
-
-
-def _place(raw: IO[bytes]) -> int:
-    """Returns how many bytes of a file have been read, and 0 for a pipe, which does not know."""
-    return raw.tell() if raw.seekable() else 0
-
-
-def _records(reader: Any, path: Path) -> Iterator[Part]:
-    """Yields the header as a part of its own, and then the records in blocks. Empty lines are none."""
-    rows, most = 0, 1
-    while True:
-        line = reader.line_num
-        try:
-            read = list(islice(reader, most))
+            header = next((record for record in reader if record), [])
         except csv.Error as why:
-            raise BadColumns(f"{path}: line {reader.line_num}: {why}") from None
-        if not read:
+            raise BadColumns(f"{name}: line {self._layout.skipped + reader.line_num}: {why}") from None
+        if not header:
+            raise BadColumns(f"{name}: there is no header")
+        if not self._header:
+            self._choose(header, name)
+        elif header != self._header:
+            raise BadColumns(f"{name}: its header is {header}, and that of the first file {self._header}")
+        return self._layout.skipped + reader.line_num + 1
+
+    def _choose(self, header: List[str], name: str) -> None:
+        """Takes the header of the first file, and what is said of its columns."""
+        other = next((mark for mark in ";\t|" if mark in header[0]), None)
+        if len(header) == 1 and other and self._layout.delimiter is None:
+            raise BadColumns(f"{name}: its header is one field, {header[0]!r}; delimiter={other!r} splits it")
+        self._header = header
+        wanted = wanted_of(self._asked.columns, header, self._asked.drop)
+        self._wishes = Wishes(wanted, self._asked.kinds, self._asked.forms, self._asked.spare)
+        for column in wanted:
+            kind = self._wishes.kinds.get(column)
+            if kind is not None and kind is not Texts:
+                refuse_no_kind(column, kind)
+            self._columns.append(_Column(column, header.index(column), self._asked.options_of(column, kind)))
+
+    # ---- Runs ----
+
+    def _started(self, run: Run, runs: Runs, source: Source) -> Callable[[], _Read]:
+        """Begins to read a run, on a thread where there are some, and returns what gives its columns. Where the run may
+        not end as a record does, it is read with what follows it."""
+        if not run.is_whole:
+            try:
+                lines = Lines(run.text, lambda: runs.next(RUN).text)
+                records = read_each(lines, len(self._header), self._layout.dialect)
+                runs.back(lines.rest())
+            except UnicodeError as why:
+                raise source.no_text(why) from None
+            return lambda: self._pieces(records)
+        if self._threads is not None and self._ahead():
+            return self._threads.submit(self._pieces_of, run).result
+        return lambda: self._pieces_of(run)
+
+    def _pieces_of(self, run: Run) -> _Read:
+        """Reads a run of whole records."""
+        width = len(self._header)
+        records = split(run, width, *self._layout.marks)
+        return self._pieces(records or read_each(Lines(run.text, bytes), width, self._layout.dialect))
+
+    def _pieces(self, records: Records) -> _Read:
+        """Reads the columns of records, but for those that are refused already."""
+        return records, [
+            None if column.refusal else column.piece(records.column(column.place)) for column in self._columns
+        ]
+
+    def _keep(self, records: Records, pieces: List[Optional[_Piece]], name: str) -> None:
+        """Keeps the numbers of a run, or refuses what does not fit."""
+        rows = _Rows(name, self._count, self._line, records.places)
+        self._refuse_odd(records, name)
+        left: Dict[int, BadRow] = {}
+        for column, piece in zip(self._columns, pieces):
+            if piece is None or column.refusal:
+                continue
+            if piece.fields is not None:
+                piece = column.choose(piece.fields) if column.reader is None else column.piece(piece.fields)
+            numbers = np.broadcast_to(np.int8(0), records.rows) if piece.numbers is None else piece.numbers
+            column.blocks.append(Block(piece.kind, numbers, piece.valid, self._count))
+            for row, (text, reason) in piece.bad.items():
+                left.setdefault(row, rows.bad(column.name, row, text, reason))
+                if not self._skips:
+                    column.refusal = rows.bad(column.name, row, text, reason)
+                    break
+        self._rows.append(rows)
+        self._count, self._line = self._count + records.rows, self._line + records.lines
+        if self._skips:
+            self._leave(left, len(self._rows) - 1)
+        for column in self._columns:
+            self._refuse_many_texts(column)
+
+    def _refuse_odd(self, records: Records, name: str) -> None:
+        """Refuses the records that have another width than the header, or leaves them out."""
+        if records.broken is not None:
+            line, reason = records.broken
+            raise BadColumns(f"{name}: line {self._line - 1 + line}: {reason}")
+        for row, place, width in records.odd:
+            text = f"row {self._count + row} (line {self._line + place} of {name}) has {width} fields"
+            why = BadColumns(f"{text}, and the header {len(self._header)}")
+            if not self._skips:
+                raise why
+            self.skipped.add(why)
+
+    def _leave(self, left: Mapping[int, Error], place: int) -> None:
+        """Leaves rows of a run out."""
+        for _, why in sorted(left.items()):
+            self.skipped.add(why)
+        taken = [column for column in self._columns if not column.refusal]
+        if not left or not taken:
             return
-        records = [record for record in read if record]
-        # (lines can be told where each record is one)
-        first = line + 1 if reader.line_num - line == len(records) else None
-        if records:
-            yield Part(records, rows, path, first)
-            most = RECORDS
-        rows += len(records)
+        keep = np.ones(len(taken[0].blocks[place].valid), bool)
+        keep[list(left)] = False
+        rows = self._rows[place]
+        lines = np.arange(len(keep)) if rows.lines is None else rows.lines
+        self._rows[place] = rows._replace(lines=lines[keep])
+        for column in taken:
+            block = column.blocks[place]
+            column.blocks[place] = block._replace(numbers=block.numbers[keep], valid=block.valid[keep])
 
+    def _refuse_many_texts(self, column: _Column) -> None:
+        """Refuses a column that has more different texts than are taken unasked, by the first one too many."""
+        reader = column.reader
+        if column.refusal or not isinstance(reader, TextReader) or len(reader.distinct.texts) <= (reader.most or FAR):
+            return
+        codes = np.concatenate([np.where(block.valid, block.numbers, -1) for block in column.blocks])
+        found, firsts = np.unique(codes, return_index=True)
+        firsts = np.sort(firsts[found >= 0])
+        if len(firsts) > (reader.most or FAR):
+            at = int(firsts[reader.most])
+            column.refusal = self._bad(column, at, too_many_texts(reader.distinct.texts[int(codes[at])]))
 
-# ---- Fields ----
+    def _bad(self, column: _Column, at: int, reason: str) -> BadRow:
+        """Returns the refusal of a row of all that were kept, in a column of texts."""
+        for block, rows in zip(column.blocks, self._rows):
+            if at < len(block.valid):
+                text = column.reader.distinct.texts[int(block.numbers[at])]  # type: ignore[union-attr]
+                return rows.bad(column.name, at, text, reason)
+            at -= len(block.valid)
+        raise AssertionError("there is no such row")
 
+    # ---- The end ----
 
-def _parser_for(text: str) -> Callable[[List[str]], Narrowed]:
-    """Returns how the fields of a column are read, by the first one."""
-    if NUMBER.fullmatch(text):
-        return _numbers
-    if TIME.fullmatch(text):
-        return _times
-    return _flags if text.lower() in ("true", "false") else _texts
+    def chosen(self) -> Chosen:
+        """Returns the forms of the columns and their blocks, or raises all that does not fit."""
+        for column in self._columns:
+            if not column.refusal:
+                self._mean(column)
+        self._refuse()
+        for column in self._columns:
+            if self._skips and column.name in self._wishes.forms:
+                self._leave_misfits(column)
+            try:
+                column.form, column.blocks = settled(column.name, column.blocks, self._wishes)
+            except BadRow as why:
+                column.refusal = self._placed(why)
+            except Error as why:
+                column.refusal = why
+        self._refuse()
+        columns, self._columns = self._columns, []  # (so that blocks can go when they are appended)
+        return Chosen({one.name: one.form for one in columns}, [one.blocks for one in columns])
 
+    def _refuse(self) -> None:
+        if refusals := [column.refusal for column in self._columns if column.refusal]:
+            raise several(refusals)
 
-def _refuse_others(texts: List[str], spelling: Callable[[str], Any], what: str) -> None:
-    """Raises the first text that is not spelt so."""
-    for row, text in enumerate(texts):
-        if not spelling(text):
-            raise Misfit(row, text, f"{shown(text)} is no {what}")
+    def _placed(self, why: BadRow) -> BadRow:
+        """Returns a refusal with the line of its row."""
+        at = next((at for at, rows in enumerate(self._rows) if rows.row > why.row), len(self._rows)) - 1
+        rows = self._rows[at]
+        return BadRow(why.column, why.row, why.value, why.reason, rows.place(why.row - rows.row))
 
+    def _mean(self, column: _Column) -> None:
+        """Finds what the texts of a column stand for, and leaves out or refuses those that stand for nothing."""
+        meaning, bad, is_refused = column.meaning()
+        if bad:
+            places = np.array(list(bad), np.int64)
+            for at, (block, rows) in enumerate(zip(column.blocks, self._rows)):
+                found = np.flatnonzero(block.valid & np.isin(block.numbers, places)).tolist()
+                texts = column.reader.distinct.texts  # type: ignore[union-attr]
+                if found and (is_refused or not self._skips):
+                    place = int(block.numbers[found[0]])
+                    column.refusal = rows.bad(column.name, found[0], texts[place], bad[place])
+                    return
+                numbers = {row: int(block.numbers[row]) for row in found}
+                why = {row: rows.bad(column.name, row, texts[place], bad[place]) for row, place in numbers.items()}
+                self._leave(why, at)
+        if meaning is not None:
+            column.apply(meaning)
 
-def _numbers(texts: List[str]) -> Narrowed:
-    if all(map(PLAIN.fullmatch, texts)):
-        return Whole(), _int64(texts, texts)
-    if all(map(POINT.fullmatch, texts)):
-        places = max(len(text.partition(".")[2]) for text in texts)
-        if places <= 18:
-            return Decimals(places), _scaled(texts, places)
-    _refuse_others(texts, NUMBER.fullmatch, "number")
-    zeros = "number without the 0 before it, which a code may need; give the column's kind, as Texts or Whole()"
-    _refuse_others(texts, lambda text: not re.match(r"-?0[0-9]", text), zeros)
-    return narrow(_objects([Decimal(text) for text in texts]))
-
-
-def _scaled(texts: List[str], places: int) -> np.ndarray:
-    halves = (text.partition(".") for text in texts)
-    return _int64([whole + fraction.ljust(places, "0") for whole, _, fraction in halves], texts)
-
-
-def _int64(digits: List[str], texts: List[str]) -> np.ndarray:
-    """Returns the numbers of these digits. The first past 64 bits is a Misfit, shown as its text."""
-    try:
-        return np.array(list(map(int, digits)), np.int64)
-    except (OverflowError, ValueError):
-        far = (row for row, one in enumerate(digits) if len(one) > 40 or not -(1 << 63) <= int(one) < 1 << 63)
-        row = next(far)
-        raise Misfit(row, texts[row], f"{shown(texts[row])} is past 63 bits") from None
-
-
-def _times(texts: List[str]) -> Narrowed:
-    unit = "D" if all(map(DAY.fullmatch, texts)) else "us" if all(map(MICROSECONDS.fullmatch, texts)) else None
-    if unit is not None:
-        try:
-            return narrow(Values(np.array(texts, f"M8[{unit}]"), np.ones(len(texts), bool)))
-        except ValueError:
-            pass  # (one of them is no day of the calendar or no time of the clock, and is found below)
-    moments, zones = np.zeros(len(texts), object), set()
-    for row, text in enumerate(texts):
-        try:
-            moments[row], is_aware = nanoseconds_of_text(text)
-        except ValueError as why:
-            raise Misfit(row, text, str(why)) from None
-        zones.add(is_aware)
-        if len(zones) > 1:
-            raise Misfit(row, text, f"{shown(text)} has {'a' if is_aware else 'no'} time zone, as none before it")
-    return times_of(moments, texts, timezone.utc if zones.pop() else None)
-
-
-def _flags(texts: List[str]) -> Narrowed:
-    _refuse_others(texts, lambda text: text.lower() in ("true", "false"), "true or false")
-    return Flags(), np.fromiter((text.lower() == "true" for text in texts), np.int64, len(texts))
-
-
-def _texts(texts: List[str]) -> Narrowed:
-    return narrow(_objects(texts))
-
-
-def _objects(values: List[Any]) -> Values:
-    array = np.empty(len(values), object)
-    array[:] = values
-    return Values(array, np.ones(len(values), bool))
-
-
-def _of_kind(kind: Kind, texts: List[str]) -> np.ndarray:
-    """Returns the numbers of texts under a kind that was given."""
-    values = []
-    for row, text in enumerate(texts):
-        try:
-            values.append(kind.parse(text))
-        except (ValueError, ArithmeticError) as why:
-            raise Misfit(row, text, str(why)) from None
-    return kind.encode(_objects(values).values, np.ones(len(texts), bool))
+    def _leave_misfits(self, column: _Column) -> None:
+        """Leaves the rows out that a form which is given does not take."""
+        for at, rows in enumerate(self._rows):
+            kind, block = column.blocks[at].kind, column.blocks[at]
+            form = self._wishes.forms[column.name].of(kind or column.options.kind or Whole())
+            bad = np.flatnonzero(misfits(form, block.numbers, block.valid)).tolist()
+            why = {row: form.misfit(column.name, rows.row + row, int(block.numbers[row])) for row in bad}
+            self._leave({row: rows.bad(one.column, row, one.value, one.reason) for row, one in why.items()}, at)

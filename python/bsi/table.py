@@ -7,24 +7,32 @@ A *store* is a `native.Handle`, or a `gathered.Gathered` of several. Both have t
 
 from __future__ import annotations
 
+import contextlib
 import logging
+import math
 import re
-from typing import Any, Dict, Iterable, List, Mapping, Optional, Sequence, Tuple, TypeVar, Union
+from dataclasses import replace
+from fractions import Fraction
+from numbers import Integral
+from typing import Any, Dict, Iterable, Iterator, List, Mapping, Optional, Sequence, Tuple, TypeVar, Union
 
 import numpy as np
 
+from .choosing import Chosen, of_each
 from .errors import BadColumns, BadQuery, BadRow, BadSchema, Error, IndexFull, NoMemory
 from .forms import Form
-from .kinds import FAR, Flags, Misfit
+from .groups import GroupBy, Groups
+from .kinds import FAR, Cut, Flags, Misfit, Texts
 from .narrowing import encode
 from .native import BAD_ROW, INDEX_FULL, NO_MEMORY, Entries, Handle, check
-from .predicates import Column, Comparison, Null, Predicate, all_rows
+from .predicates import Among, Column, Comparison, Holds, Null, Predicate, all_rows, refuse_long
 from .progress import Progress, told
+from .summary import Summary, html_of
 from .values import columns_of, values_of
 
 NAME = re.compile(r"[a-z][a-z0-9_]{0,31}")
 WORDS = {"all", "null", "and", "or", "not"}
-MAX_ROWS, MAX_COLUMNS, BLOCK = 1 << 32, 64, 1 << 20
+MAX_ROWS, MAX_COLUMNS, BLOCK = 1 << 32, 64, 1 << 18
 Name = Union[str, Column]
 Self = TypeVar("Self", bound="Table")
 log = logging.getLogger("bsi")
@@ -59,8 +67,8 @@ def schema_of(columns: Mapping[str, Form], limit: Optional[int]) -> bytes:
             raise BadSchema(f"an index has columns by name, each {shape}, and not {name!r}: {form!r}")
     if len(columns) > MAX_COLUMNS:
         raise BadSchema(f"an index has at most {MAX_COLUMNS} columns, and not {len(columns)}; name those wanted")
-    if limit is not None and not 1 <= limit <= MAX_ROWS:
-        raise BadSchema(f"the limit is 1 to {MAX_ROWS:,} rows, and not {limit:,}")
+    if limit is not None and (not isinstance(limit, Integral) or not 1 <= limit <= MAX_ROWS):
+        raise BadSchema(f"the limit is 1 to {MAX_ROWS:,} rows, and not {limit!r}")
     within = names_within(list(columns))
     records = [form.record(within[name]) for name, form in columns.items()]
     records += [] if limit is None else [f"limit,{limit}"]
@@ -97,14 +105,23 @@ class Table:
 
     def __repr__(self) -> str:
         try:
-            rows = self._store.rows()
+            head = self._head()
         except Error as why:
             return f"{type(self).__name__} with the columns {', '.join(self._forms)}: {why}"
-        size = (sum(form.bitmaps for form in self._forms.values()) + 8) * rows / 8
         width = max(map(len, self._forms))
         texts = max(len(str(form)) for form in self._forms.values())
         lines = [f"  {name:{width}}  {form!s:{texts}}  {form.kind}{_span(form)}" for name, form in self._forms.items()]
-        return "\n".join([f"{type(self).__name__} of {rows:,} rows, about {_bytes(size)}", *lines])
+        return "\n".join([head, *lines])
+
+    def _head(self) -> str:
+        rows = self._store.rows()
+        size = (sum(form.bitmaps for form in self._forms.values()) + 8) * rows / 8
+        return f"{type(self).__name__} of {rows:,} rows, about {_bytes(size)}"
+
+    def _repr_html_(self) -> str:
+        """Shows the table in a notebook."""
+        cells = [[name, str(form), f"{form.kind}{_span(form)}"] for name, form in self._forms.items()]
+        return f"<p>{self._head()}</p>" + html_of([["column", "form", "values"], *cells])
 
     # ---- Rows ----
 
@@ -113,11 +130,19 @@ class Table:
         are.
 
         A value that its column does not take, and a row past the limit, are refused before anything changes."""
-        return self._append(self._encoded(data))
+        grown: Dict[str, Form] = {}
+        encoded = self._encoded(data, grown)
+        try:
+            rows = self._append(encoded)
+        except NoMemory:
+            self._forms.update(grown)  # (some rows may have their texts)
+            raise
+        self._forms.update(grown)
+        return rows
 
-    def _encoded(self, data: Any) -> List[Tuple[np.ndarray, np.ndarray]]:
-        """Returns the numbers of each column, and which of them are valid."""
-        given, encoded = columns_of(data), []
+    def _encoded(self, data: Any, grown: Dict[str, Form]) -> List[Tuple[np.ndarray, np.ndarray]]:
+        """Returns the numbers of each column, and which of them are valid, and notes the columns that get texts."""
+        given = columns_of(data)
         for what, names in (
             ("missing", self._forms.keys() - given.keys()),
             ("unknown", given.keys() - self._forms.keys()),
@@ -125,16 +150,24 @@ class Table:
             if names:
                 raise BadColumns(f"{what} columns: {_listed(sorted(names))}; the index has {_listed(self._forms)}")
 
-        for name, form in self._forms.items():
-            found = values_of(name, given[name])
-            try:
-                encoded.append((encode(form.kind, found), found.valid))
-            except Misfit as why:
-                raise BadRow(name, why.row, why.value, why.reason) from None
+        encoded = list(of_each(self._forms, lambda name: self._entered(name, given[name], grown)).values())
         if len({len(numbers) for numbers, _ in encoded}) > 1:
             lengths = [f"{name!r} {len(numbers):,}" for name, (numbers, _) in zip(self._forms, encoded)]
             raise BadColumns(f"the columns differ in length: {', '.join(lengths)}")
         return encoded
+
+    def _entered(self, name: str, data: Any, grown: Dict[str, Form]) -> Tuple[np.ndarray, np.ndarray]:
+        found, form = values_of(name, data), self._forms[name]
+        kind = form.kind
+        if isinstance(kind, Texts) and kind.grows:
+            kind = kind.grown(found.values, found.valid)
+            if len(kind.values) > form.most + 1:
+                kind = replace(kind, values=kind.values[: form.most + 1])
+            grown[name] = form.of(kind)
+        try:
+            return encode(kind, found), found.valid
+        except Misfit as why:
+            raise BadRow(name, why.row, why.value, why.reason) from None
 
     def _append(self, encoded: Sequence[Tuple[np.ndarray, np.ndarray]]) -> int:
         status, row = self._store.append([_entries(numbers, valid) for numbers, valid in encoded])
@@ -147,26 +180,24 @@ class Table:
         check(status)
         return row
 
-    def _filled(self: Self, encoded: Sequence[Tuple[np.ndarray, np.ndarray]], progress: Progress) -> Self:
+    def _filled(self: Self, chosen: Chosen, progress: Progress) -> Self:
         """Returns the table with these rows, or closes it where they can't be appended."""
         try:
-            self._fill(encoded, progress)
+            self._fill(chosen, progress)
         except BaseException:
             self.close()
             raise
         log.info("%r", self)
         return self
 
-    def _fill(self, encoded: Sequence[Tuple[np.ndarray, np.ndarray]], progress: Progress) -> None:
+    def _fill(self, chosen: Chosen, progress: Progress) -> None:
         """Appends many rows in blocks, and tells the progress."""
-        rows = len(encoded[0][0])
+        rows, done = chosen.rows(), 0
         self._refuse_full(rows)
         with told(progress, rows, "rows") as tell:
-            for start in range(0, rows, BLOCK):
-                self._append(
-                    [(numbers[start : start + BLOCK], valid[start : start + BLOCK]) for numbers, valid in encoded]
-                )
-                tell(min(start + BLOCK, rows))
+            for encoded in chosen.taken(BLOCK):
+                done += self._append(encoded)
+                tell(done)
 
     def _refuse_full(self, more: int) -> None:
         """Refuses so many further rows where they leave the limit. The row that is named is that of the data given."""
@@ -184,9 +215,90 @@ class Table:
 
     # ---- Questions ----
 
-    def count(self, where: Predicate = all_rows) -> int:
-        """Returns how many rows the predicate selects."""
-        return self._store.count(self._query(where))
+    def count(self, column: Union[Name, Predicate, None] = None, where: Predicate = all_rows) -> int:
+        """Returns how many rows the predicate selects: `count(where)`. Where a column is named, as in
+        `count("price", where)`, only those that have a value there."""
+        if isinstance(column, Predicate):
+            where = column if where is all_rows else column & where
+        if column is None or isinstance(column, Predicate):
+            return self._store.count(self._query(where))
+        name = self._name(column)
+        if isinstance(column, Column) and self._forms[name].kind == Flags():
+            ways = f"count({name!r}) counts its values, and count({column!r} == True) its true rows"
+            raise BadQuery(f"count({column!r}) could mean two things: {ways}")
+        return self._store.count(self._query(Column(name).notnull() & where))
+
+    def mean(self, column: Name, where: Predicate = all_rows) -> Any:
+        """Returns the mean of the column's values in these rows: a float, or a Decimal for decimals. None where there
+        is no value."""
+        name = self._name(column)
+        total, count = self.sum(name, where), self.count(name, where)
+        return total / count if count else None
+
+    def min(self, column: Name, where: Predicate = all_rows) -> Any:
+        """Returns the least value, as `least` does."""
+        return self.least(column, where)
+
+    def max(self, column: Name, where: Predicate = all_rows) -> Any:
+        """Returns the greatest value, as `greatest` does."""
+        return self.greatest(column, where)
+
+    def quantile(self, column: Name, q: Union[float, Iterable[float]], where: Predicate = all_rows) -> Any:
+        """Returns the value of the column at a part of these rows from 0 to 1, as NumPy's method "lower" has it, or a
+        list of such. It is found by a count for each bit of the column."""
+        if isinstance(q, Iterable):
+            return [self.quantile(column, one, where) for one in q]
+        if not 0 <= q <= 1:
+            raise ValueError(f"a quantile is from 0 to 1, and not {q!r}")
+        name, fields = self._name(column), self._query(where)
+        if isinstance(self._forms[name].kind, Texts) and self._forms[name].kind.grows:
+            return self._text_at(name, q, where)
+        low, high = (self._store.value(word, self._within[name], fields) for word in (b"least", b"greatest"))
+        if low is None:
+            return None
+        rank = math.floor(Fraction(q) * (self.count(name, where) - 1))
+        bound = [self._within[name], b"<="]
+        while low < high:
+            middle = (low + high) // 2
+            below = self._store.count([*fields, *bound, b"%d" % middle, b"and"])
+            low, high = (low, middle) if below > rank else (middle + 1, high)
+        return self._forms[name].kind.decode(low)
+
+    def values_in(self, column: Name, where: Predicate = all_rows) -> Iterator[Any]:
+        """Yields the different values of a column in these rows, in order, by a question each."""
+        name, fields = self._name(column), self._query(where)
+        form = self._forms[name]
+        if isinstance(form.kind, Texts) and form.kind.grows:
+            yield from (text for text in sorted(form.kind.values) if self.count(where & (Column(name) == text)))
+            return
+        number: Optional[int] = form.offset - 1
+        while number is not None and number < form.most:
+            above = [*fields, self._within[name], b">=", b"%d" % (number + 1), b"and"]
+            number = self._store.value(b"least", self._within[name], above)
+            if number is not None:
+                yield form.kind.decode(number)
+
+    def groupby(self, column: Name) -> GroupBy:
+        """Returns the rows by the values of a column: `groupby("station").sum("rain", where)`."""
+        return GroupBy(self, self._name(column))
+
+    def value_counts(self, column: Name, where: Predicate = all_rows) -> Groups:
+        """Returns how many of these rows have each value of the column, the most frequent first."""
+        name = self._name(column)
+        counts = self.groupby(name).count(where=where)
+        return Groups(name, dict(sorted(counts.items(), key=lambda one: -one[1])))
+
+    def describe(self, columns: Optional[Iterable[str]] = None, where: Predicate = all_rows) -> Summary:
+        """Returns the count, the mean, the ends and the quartiles of columns in these rows, with the names that pandas
+        gives them."""
+        return Summary({self._name(one): self._figures(one, where) for one in columns or self._forms})
+
+    def _figures(self, name: str, where: Predicate) -> Dict[str, Any]:
+        figures: Dict[str, Any] = {"count": self.count(name, where)}
+        with contextlib.suppress(BadQuery):  # (texts and times have none)
+            figures["mean"] = self.mean(name, where)
+        low, *middle, high = self.quantile(name, (0, 0.25, 0.5, 0.75, 1), where)
+        return {**figures, "min": low, **dict(zip(("25%", "50%", "75%"), middle)), "max": high}
 
     def sum(self, column: Name, where: Predicate = all_rows) -> Any:
         """Returns the sum of the column's values in the rows that the predicate selects, 0 where there are none."""
@@ -225,8 +337,22 @@ class Table:
 
     def _value(self, word: bytes, column: Name, where: Predicate) -> Any:
         name = self._name(column)
+        kind = self._forms[name].kind
+        if isinstance(kind, Texts) and kind.grows:
+            return self._text_at(name, {b"least": 0, b"greatest": 1, b"median": 0.5}[word], where)
         number = self._store.value(word, self._within[name], self._query(where))
-        return None if number is None else self._forms[name].kind.decode(number)
+        return None if number is None else kind.decode(number)
+
+    def _text_at(self, name: str, q: float, where: Predicate) -> Optional[str]:
+        """Returns the text at a part of these rows, by a count of each text: their places are in no order."""
+        kind, fields = self._forms[name].kind, self._query(where)
+        asked = [[*fields, self._within[name], b"=", b"%d" % place, b"and"] for place in range(len(kind.values))]
+        counts = sorted(zip(kind.values, self._store.counts(asked)))
+        rank = math.floor(Fraction(q) * (sum(count for _, count in counts) - 1))
+        for text, count in counts:
+            if (rank := rank - count) < 0 and count:
+                return text
+        return None
 
     def _name(self, column: Name) -> str:
         name = column.name if isinstance(column, Column) else column
@@ -244,19 +370,55 @@ class Table:
                 fields += [self._within[self._name(term.column)], b"null"]
             elif isinstance(term, Comparison):
                 fields += self._comparison(term)
+            elif isinstance(term, Among):
+                fields += self._among(term)
+            elif isinstance(term, Holds):
+                fields += self._holds(term)
             else:
                 fields.append(term.encode())
+        refuse_long(len(fields))
         return fields
 
     def _comparison(self, term: Comparison) -> List[bytes]:
         name = self._name(term.column)
-        form = self._forms[name]
-        try:
-            sign, number = among_numbers(term.sign, *form.kind.cut(term.constant))
-        except (TypeError, ValueError, ArithmeticError) as why:
-            raise BadQuery(f"column {name!r} is compared with one of {form.kind}: {why}") from None
-        sign, number = clamped(form, sign, number)
+        cut, kind = self._cut(name, term.constant), self._forms[name].kind
+        if isinstance(kind, Texts) and kind.grows:
+            return self._one_of(name, kind.numbers_where(term.sign, term.constant))
+        sign, number = among_numbers(term.sign, *cut)
+        sign, number = clamped(self._forms[name], sign, number)
         return [self._within[name], sign.encode(), b"%d" % number]
+
+    def _among(self, term: Among) -> List[bytes]:
+        """Returns the fields that select the numbers of the constants."""
+        name = self._name(term.column)
+        cuts = [self._cut(name, constant) for constant in term.constants]
+        return self._one_of(name, (left for left, right in cuts if left < right))
+
+    def _one_of(self, name: str, numbers: Iterable[int]) -> List[bytes]:
+        """Returns the fields that select some numbers of a column, run by run."""
+        form, column, fields = self._forms[name], self._within[name], []
+        found = {number for number in numbers if form.offset <= number <= form.most}
+        for first, last in runs_of(sorted(found)):
+            joined = [b"or"] if fields else []
+            if first == last:
+                fields += [column, b"=", b"%d" % first, *joined]
+            else:
+                fields += [column, b">=", b"%d" % first, column, b"<=", b"%d" % last, b"and", *joined]
+        return fields or [b"all", b"not"]
+
+    def _holds(self, term: Holds) -> List[bytes]:
+        name = self._name(term.column)
+        kind = self._forms[name].kind
+        if kind != Flags():
+            raise BadQuery(f"column {name!r} holds {kind}: only one of booleans is a predicate by itself")
+        return [self._within[name], b"=", b"1"]
+
+    def _cut(self, name: str, constant: Any) -> Cut:
+        kind = self._forms[name].kind
+        try:
+            return kind.cut(constant)
+        except (TypeError, ValueError, ArithmeticError) as why:
+            raise BadQuery(f"column {name!r} is compared with one of {kind}: {why}") from None
 
     # ---- Its end ----
 
@@ -283,6 +445,15 @@ def among_numbers(sign: str, left: int, right: int) -> Tuple[str, int]:
     return (sign, left) if left < right else ("<" if sign == "=" else ">=", -FAR)
 
 
+def runs_of(numbers: Sequence[int]) -> Iterator[Tuple[int, int]]:
+    """Yields the first and the last of each run of numbers that follow each other, which come in order."""
+    first = 0
+    for place, number in enumerate(numbers):
+        if place + 1 == len(numbers) or numbers[place + 1] != number + 1:
+            yield numbers[first], number
+            first = place + 1
+
+
 def clamped(form: Form, sign: str, number: int) -> Tuple[str, int]:
     """Returns the same comparison with a number that the column takes: below its least one there is none, from it on
     are all."""
@@ -304,9 +475,9 @@ def _entries(numbers: np.ndarray, valid: np.ndarray) -> Entries:
 
 
 def _span(form: Form) -> str:
-    """Returns the ends of the column as a text, where they are no matter of course."""
+    """Returns what the column takes as a text, where that is no matter of course."""
     is_known = form.kind.names_values or form.kind == Flags()
-    return "" if is_known else f", {form.show(form.offset)} to {form.show(form.most)}"
+    return "" if is_known else f", takes {form.show(form.offset)} to {form.show(form.most)}"
 
 
 def _bytes(size: float) -> str:

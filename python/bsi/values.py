@@ -10,7 +10,7 @@ import sys
 from collections.abc import Iterable, Mapping
 from datetime import date
 from decimal import Decimal
-from typing import Any, Dict, NamedTuple, Optional, Tuple
+from typing import Any, Dict, List, NamedTuple, Optional, Tuple
 
 import numpy as np
 
@@ -32,7 +32,7 @@ class Values(NamedTuple):
 
 
 def columns_of(data: Any) -> Dict[str, Any]:
-    """Returns the columns of a mapping, a pandas frame or an Arrow record batch, by name."""
+    """Returns the columns of a mapping, a pandas frame, or an Arrow record batch or stream of them, by name."""
     pandas = sys.modules.get("pandas")
     if pandas is not None and isinstance(data, pandas.DataFrame):
         names = list(data.columns)
@@ -41,13 +41,16 @@ def columns_of(data: Any) -> Dict[str, Any]:
     if isinstance(data, Mapping):
         _refuse_names(list(data))
         return dict(data)
-    if hasattr(data, "__arrow_c_array__"):
+    if _is_arrow(data):
         columns = arrow.struct_of(data)
         _refuse_names([name for name, _ in columns])
         return dict(columns)
-    raise BadColumns(
-        f"rows come as a dict of columns, a pandas frame or an Arrow record batch, and not as {type(data).__name__}"
-    )
+    kinds = "a dict of columns, a pandas frame, an Arrow table or record batch"
+    raise BadColumns(f"rows come as {kinds}, and not as {type(data).__name__}")
+
+
+def _is_arrow(data: Any) -> bool:
+    return hasattr(data, "__arrow_c_array__") or hasattr(data, "__arrow_c_stream__")
 
 
 def _refuse_names(names: list) -> None:
@@ -71,7 +74,7 @@ def _values_of(data: Any) -> Values:
     if isinstance(data, Values):
         return data
     if isinstance(data, arrow.Field):
-        return _of_arrow(*data.read())
+        return _of_arrow(data.read())
     if isinstance(data, np.ma.MaskedArray):
         found = _of_array(np.ma.getdata(data), np.ma.getmaskarray(data))
         return found._replace(valid=found.valid & ~np.ma.getmaskarray(data))
@@ -79,8 +82,8 @@ def _values_of(data: Any) -> Values:
         return _of_pandas(pandas, pandas.Series(data))
     if isinstance(data, np.ndarray):
         return _of_array(data)
-    if hasattr(data, "__arrow_c_array__"):
-        return _of_arrow(*arrow.array_of(data))
+    if _is_arrow(data):
+        return _of_arrow(arrow.array_of(data))
     if isinstance(data, (str, bytes, Mapping)) or not isinstance(data, Iterable):
         raise BadColumns(f"a column is an array, a list or a series, and not {type(data).__name__}")
     return _of_objects(list(data))
@@ -105,9 +108,13 @@ def _of_array(array: np.ndarray, hidden: Optional[np.ndarray] = None) -> Values:
     raise BadColumns(f"an array of {array.dtype} is none of numbers, times, booleans or texts")
 
 
-def _of_arrow(values: np.ndarray, valid: np.ndarray, zone: Any, order: Optional[Tuple[str, ...]]) -> Values:
+def _of_arrow(chunks: List[arrow.Read]) -> Values:
+    """Returns the values of chunks that follow each other. Texts keep an order that all chunks have."""
+    values, valid = (np.concatenate([chunk[place] for chunk in chunks]) for place in (0, 1))
+    orders = {order for _, _, _, order in chunks}
     found = _of_array(values, ~valid)
-    return found._replace(valid=found.valid & valid, zone=zone, order=order)
+    order = orders.pop() if len(orders) == 1 else None
+    return found._replace(valid=found.valid & valid, zone=chunks[0][2], order=order)
 
 
 def _of_pandas(pandas: Any, series: Any) -> Values:

@@ -113,15 +113,36 @@ def test_random_constants():
     assert answered > 400
 
 
-def test_random_files(tmp_path):
+OPTIONS = {
+    "bad": ["skip", "refuse"],
+    "decimal": [",", "."],
+    "dates": ["%d.%m.%Y", "%Y-%m-%d", {"a": "%H"}],
+    "round": [0, 2, {"b": 1}],
+    "nulls": [("",), ("", "x", "-"), ()],
+    "quotechar": ["'", None, '"'],
+    "delimiter": [",", ";", "\t", "é"],
+    "skiprows": [0, 1],
+    "parts": [1, 2],
+    "spare": [0, 5],
+    "encoding": ["latin-1", "utf-16", "utf-8"],
+    "kinds": [{"a": bsi.Texts}, {"a": bsi.Whole(), "b": bsi.Times("D")}, {"b": bsi.Flags()}, {"a": bsi.Decimals(1)}],
+    "forms": [{"a": bsi.slices(2)}, {"b": bsi.equality(3, offset=-1)}],
+}
+
+
+def test_random_files(tmp_path, monkeypatch):
     rng = random.Random(3)
     path, read = tmp_path / "rows.csv", 0
-    for _ in range(3_000):
+    for turn in range(4_000):
+        monkeypatch.setattr("bsi.reading.FIRST", rng.choice([9, 1 << 16]))
+        monkeypatch.setattr("bsi.reading.RUN", rng.choice([9, 1 << 16]))
+        names = rng.sample(sorted(OPTIONS), rng.randrange(4)) if turn % 2 else []
+        more = {name: rng.choice(OPTIONS[name]) for name in names}
         lines = ["a,b"] + [f"{rng.choice(PIECES)},{rng.choice(PIECES)}" for _ in range(rng.randrange(4))]
         text = "\n".join(lines) if rng.random() < 0.6 else "".join(rng.choices(PIECES, k=rng.randrange(12)))
         path.write_bytes(text.encode() if rng.random() < 0.9 else bytes(rng.randrange(256) for _ in range(20)))
         try:
-            read += len(bsi.read_csv(path)) >= 0
+            read += len(bsi.read_csv(path, **more)) >= 0
         except bsi.Error:
             pass
-    assert read > 300
+    assert read > 500

@@ -1,6 +1,7 @@
 """What an index says of itself, what it refuses, and that a refusal changes nothing."""
 
 import copy
+import datetime
 import pickle
 from decimal import Decimal
 from fractions import Fraction
@@ -35,7 +36,7 @@ def test_the_first_example():
 def test_it_says_what_it_is():
     index = small()
     assert repr(index).splitlines()[0].startswith("Index of 4 rows, about ")
-    assert "temp   range(10, 10, 10, offset=-400)  whole numbers, -400 to 599" in repr(index)
+    assert "temp   range(10, 10, 10, offset=-400)  whole numbers, takes -400 to 599" in repr(index)
     assert index.columns == ["price", "temp", "day"] and str(index.forms["day"]) == "equality(7)"
     assert index.schema == "column,price,slices,20\ncolumn,temp,range,10 10 10,-400\ncolumn,day,equality,7\n"
     index.close()
@@ -93,6 +94,7 @@ def test_columns_that_differ(data, why):
         ({5: bsi.slices(1)}, "by name"),
         ({"a": bsi.slices(5), "b": bsi.slices(0)}, r"column 'b' can't be kept as slices\(0\)"),
         ({"a": bsi.slices(64)}, "1 to 63 slices"),
+        ({"a": bsi.slices(-1)}, r"slices\(-1\): 1 to 63 slices"),
         ({"a": bsi.equality()}, "bases of 2 to 1,024"),
         ({"a": bsi.range(10, 1)}, "bases of 2 to 1,024"),
         ({"a": bsi.range(*[1024] * 7)}, "product of at most"),
@@ -107,9 +109,10 @@ def test_schemas_that_are_none(columns, why):
 
 
 def test_limits():
-    for limit in (0, -1, 2**32 + 1):
-        with pytest.raises(bsi.BadSchema, match="the limit is 1 to"):
-            bsi.Index({"a": bsi.slices(1)}, limit=limit)
+    for limit in (0, -1, 2**32 + 1, 2.5, "5"):
+        for make in (bsi.Index, lambda columns, limit: bsi.Parts(2, columns, limit=limit)):
+            with pytest.raises(bsi.BadSchema, match="the limit is 1 to"):
+                make({"a": bsi.slices(1)}, limit=limit)
     assert bsi.Index({"a": bsi.slices(1)}, limit=2**32).limit == bsi.Index({"a": bsi.slices(1)}).limit == 2**32
 
 
@@ -208,9 +211,190 @@ def test_predicates_never_change():
         with pytest.raises(TypeError):
             wrong()
     with pytest.raises(TypeError, match="a predicate is made of bsi.col"):
+        small().sum("price", "price < 5")
+    with pytest.raises(bsi.BadQuery, match="there is no column 'price < 5'"):
         small().count("price < 5")
     with pytest.raises(TypeError):
         col[5]
+
+
+def test_a_column_is_no_truth():
+    for wrong in (lambda: col.flag and (col.x < 3), lambda: not col.flag, lambda: col.a or col.b):
+        with pytest.raises(TypeError, match="a column is neither true nor false"):
+            wrong()
+
+
+def test_a_text_is_no_list():
+    for text in ("Meyer", b"Meyer"):
+        with pytest.raises(TypeError, match="a list of constants, and not a text"):
+            col.who.isin(text)
+    with pytest.raises(TypeError, match="and not one text"):
+        bsi.Texts("abc")
+
+
+def test_columns_of_booleans():
+    index = bsi.Index.from_frame({"flag": [True, False, None, True], "x": [1, 2, 3, 4]})
+    for where, rows in (
+        (~col.flag, [1, 2]),
+        (col.flag & (col.x < 3), [0]),
+        ((col.x > 1) & col.flag, [3]),
+        (col.flag | (col.x == 2), [0, 1, 3]),
+        (col.flag & ~col.flag, []),
+        (col.flag.holds(), [0, 3]),
+    ):
+        assert index.rows(where).tolist() == rows, where
+    assert repr(~col.flag & (col.x < 3)) == "(~col.flag & (col.x < 3))"
+    assert pickle.loads(pickle.dumps(~col.flag)) == ~col.flag
+    with pytest.raises(bsi.BadQuery, match="column 'x' holds whole numbers: only one of booleans is a predicate"):
+        index.count(~col.x)
+
+
+def test_isin_of_many_constants():
+    index = bsi.Index.from_frame({"x": [*range(2000), None], "t": [f"{number % 1000:04}" for number in range(2001)]})
+    assert index.count(col.x.isin(range(5, 1500))) == 1495 and index.count(col.x.isin(range(-5, 9999))) == 2000
+    assert index.count(col.x.isin([7, 7.0, Decimal(8), 9, 2.5, 10**30, -1])) == 3
+    assert index.rows(~col.x.isin(np.arange(1, 2000))).tolist() == [0, 2000]
+    assert index.count(col.t.isin({f"{number:04}" for number in range(1000)} | {"none"})) == 2001
+    assert repr(col.x.isin([1, 2])) == "col.x.isin([1, 2])" and col.x.isin([1]) == col.x.isin((1,))
+    assert pickle.loads(pickle.dumps(col.x.isin([1, 2]))) == col.x.isin([1, 2])
+    with pytest.raises(bsi.BadQuery, match="at most 1,000 fields"):
+        index.count(col.x.isin(range(0, 2000, 2)))
+    with pytest.raises(bsi.BadQuery, match="'a' is no number"):
+        index.count(col.x.isin([1, "a"]))
+
+
+def test_constants_on_the_left():
+    index = bsi.Index.from_frame({"t": np.array(["2026-01-31", "2026-02-01"], "M8[D]"), "f": [True, False]})
+    assert index.count(np.datetime64("2026-02-01") <= col.t) == 1 and index.count(np.bool_(True) == col.f) == 1
+
+
+def test_names_that_pandas_has():
+    rng = np.random.default_rng(3)
+    x, there = rng.integers(-500, 500, 777), rng.random(777) < 0.8
+    columns = {"x": bsi.slices(10, offset=-500), "d": bsi.slices(10, offset=-500, kind=bsi.Decimals(1))}
+    for index in (bsi.Index(columns), bsi.Parts(3, columns)):
+        index.append({"x": np.ma.MaskedArray(x, ~there), "d": [Decimal(int(number)).scaleb(-1) for number in x]})
+        for where, rows in ((bsi.all_rows, x >= -500), (col.x < 100, (x < 100) & there), (col.x > 500, x > 500)):
+            found = x[rows & there]
+            assert index.count("x", where) == index.count(col.x, where) == len(found)
+            assert index.mean("x", where) == (found.mean() if len(found) else None)
+            wanted = [int(found.min()), int(found.max())] if len(found) else [None, None]
+            assert [index.min("x", where), index.max("x", where)] == wanted
+            parts = [0, 0.05, 0.25, 0.5, 0.95, 1]
+            wanted = np.quantile(found, parts, method="lower").tolist() if len(found) else [None] * 6
+            assert index.quantile("x", parts, where) == wanted and index.quantile("x", 0.5, where) == wanted[3]
+        assert index.mean("d") == sum(Decimal(int(number)) for number in x).scaleb(-1) / 777
+        with pytest.raises(ValueError, match="from 0 to 1"):
+            index.quantile("x", 1.5)
+
+
+def grouped(rows, name, where, figure):
+    """Returns a figure of the rows by the values of a column, as plain Python has it."""
+    found = {}
+    for row in rows:
+        if row[name] is not None and where(row):
+            found.setdefault(row[name], []).append(row)
+    return {value: figure([row["n"] for row in found[value] if row["n"] is not None]) for value in sorted(found)}
+
+
+@pytest.mark.parametrize("seed", range(4))
+def test_groups_beside_plain_python(seed):
+    rng = np.random.default_rng(seed)
+    days = [datetime.datetime(2026, 1, 1) + datetime.timedelta(days=int(day)) for day in rng.integers(0, 5, 300)]
+    data = {
+        "t": [None if word == "x" else str(word) for word in rng.choice(["a", "b", "c", "x"], 300)],
+        "f": [None if number == 0 else bool(number - 1) for number in rng.integers(0, 3, 300)],
+        "w": rng.choice([-5, 7, 10**9], 300).tolist(),
+        "c": [Decimal(int(number)).scaleb(-1) for number in rng.integers(-3, 3, 300)],
+        "d": days,
+        "n": [None if number > 90 else int(number) for number in rng.integers(-20, 100, 300)],
+    }
+    rows = [dict(zip(data, row)) for row in zip(*data.values())]
+    for index in (bsi.Index.from_frame(data), bsi.Index.from_frame(data, spare=2), bsi.Parts.from_frame(3, data)):
+        for name in "tfwcd":
+            by = index.groupby(name)
+            for predicate, where in ((bsi.all_rows, lambda row: True), (col.w > 0, lambda row: row["w"] > 0)):
+                for word, figure in (
+                    ("sum", sum),
+                    ("least", lambda numbers: min(numbers, default=None)),
+                    ("max", lambda numbers: max(numbers, default=None)),
+                    ("mean", lambda numbers: sum(numbers) / len(numbers) if numbers else None),
+                    ("median", lambda numbers: sorted(numbers)[(len(numbers) - 1) // 2] if numbers else None),
+                    ("count", len),
+                ):
+                    assert getattr(by, word)("n", predicate) == grouped(rows, name, where, figure), (name, word)
+                counts = index.value_counts(name, predicate)
+                wanted = {value: sum(row[name] == value and where(row) for row in rows) for value in counts}
+                assert counts == wanted == by.count(predicate)
+                assert list(counts.values()) == sorted(counts.values(), reverse=True)
+
+
+def test_groups_that_are_many():
+    index = bsi.Index.from_frame({"n": range(5000), "t": ["a", "b"] * 2500})
+    with pytest.raises(bsi.BadQuery, match="column 'n' has more than 4,096 values"):
+        index.groupby("n").count()
+    pandas = pytest.importorskip("pandas")
+    series = index.groupby(col.t).max("n").to_pandas()
+    assert series.to_dict() == {"a": 4998, "b": 4999} and series.index.name == "t"
+    assert isinstance(series, pandas.Series)
+
+
+@pytest.mark.parametrize("parts", [1, 3])
+def test_room_to_grow(parts):
+    rng, words = np.random.default_rng(parts), [f"w{number:02}" for number in range(40)]
+    frames = [{"t": rng.choice(words[k % 3 :: 3], 50).tolist(), "n": rng.integers(0, 9 << k, 50)} for k in range(4)]
+    make = bsi.Index.from_frame if parts == 1 else lambda frame, **more: bsi.Parts.from_frame(parts, frame, **more)
+    index = make(frames[0], spare=5)
+    for frame in frames[1:]:
+        index.append(frame)
+    texts, numbers = sum((frame["t"] for frame in frames), []), np.concatenate([frame["n"] for frame in frames])
+    assert index.sum("n") == numbers.sum() and index.count(col.n > 20) == (numbers > 20).sum()
+    for text in [*words[::5], "", "w055", "zebra"]:
+        for where, rows in (
+            (col.t == text, [one == text for one in texts]),
+            (col.t != text, [one != text for one in texts]),
+            (col.t < text, [one < text for one in texts]),
+            (col.t >= text, [one >= text for one in texts]),
+            (col.t.isin([text, "w01"]) & (col.n > 3), [one in (text, "w01") for one in texts] & (numbers > 3)),
+        ):
+            assert index.mask(where).tolist() == list(rows), where
+            found = sorted(one for one, is_there in zip(texts, rows) if is_there)
+            ends = [found[0], found[-1], found[(len(found) - 1) // 2]] if found else [None] * 3
+            assert [index.least("t", where), index.greatest("t", where), index.median("t", where)] == ends
+    with pytest.raises(bsi.BadRow, match="row [0-9]+: 'x[0-9]+' is none of its"):
+        index.append({"t": [f"x{number}" for number in range(2000)], "n": [0] * 2000})
+    assert len(index) == 200 and index.append({"t": ["new", None], "n": [None, 1]}) == 2
+    assert index.greatest("t") == "w39" and index.least("t") == "new"
+
+
+def test_a_frame_that_follows_without_spare_bits():
+    index = bsi.Index.from_frame({"t": ["a", "b"], "n": [1, 2]})
+    with pytest.raises(bsi.BadRow, match="column 't', row 1: 'c' is none of its 2 texts; spare= leaves room for more"):
+        index.append({"t": ["a", "c"], "n": [1, 2]})
+
+
+def test_an_order_by_the_dtype_of_a_category():
+    pandas = pytest.importorskip("pandas")
+    dtype = pandas.CategoricalDtype(["low", "mid", "high"], ordered=True)
+    index = bsi.Index.from_frame({"x": ["high", "low"]}, kinds={"x": dtype})
+    assert index.greatest("x") == "high" and index.count(col.x >= "mid") == 1
+    assert index.append({"x": pandas.Series(["mid"], dtype=dtype)}) == 1
+
+
+def test_a_summary():
+    data = {"n": [1, 2, 4, None], "ok": [True, True, False, None], "t": ["b", "a", None, "<i>"]}
+    index = bsi.Index.from_frame({**data, "day": np.array(["2026-01-31"] * 4, "M8[D]")})
+    found = index.describe()
+    assert found["n"] == {"count": 3, "mean": 7 / 3, "min": 1, "25%": 1, "50%": 2, "75%": 2, "max": 4}
+    assert found["ok"]["mean"] == 2 / 3 and found["t"]["min"] == "<i>" and "mean" not in found["t"]
+    lines = repr(index.describe(["n", "day"], col.n > 1)).splitlines()
+    assert lines[0].split() == ["n", "day"] and lines[-1].split() == ["max", "4", "2026-01-31"] and len(lines) == 8
+    assert "<td>&lt;i&gt;</td>" in found._repr_html_() and "<td>equality(3)</td>" in index._repr_html_()
+    pandas = pytest.importorskip("pandas")
+    assert found.to_pandas().loc["max", "n"] == 4 and isinstance(found.to_pandas(), pandas.DataFrame)
+    with pytest.raises(bsi.BadQuery, match="count\\('ok'\\) counts its values, and count\\(col.ok == True\\)"):
+        index.count(col.ok)
+    assert index.count("ok") == 3 and index.count(where=col.n > 1) == 2 and index.count(col.n > 1, col.n < 3) == 1
 
 
 def test_a_thousand_fields():
@@ -246,6 +430,11 @@ def test_sums_past_64_bits():
     xs, ys = [-(2**62)] * 10 + [5], [2**62 - 1] * 11
     index.append({"x": xs, "y": ys})
     assert (index.sum("x"), index.sum("y")) == (sum(xs), sum(ys))
+
+
+def test_what_it_takes_is_said_in_words():
+    index = bsi.Index({"a": bsi.slices(3, kind=bsi.Decimals(7))})
+    assert "takes 0.0000000 to 0.0000007" in repr(index)
 
 
 def test_closing():
@@ -340,8 +529,11 @@ def test_kinds_that_are_none():
     ):
         with pytest.raises(ValueError):
             wrong()
-    for wrong in (lambda: bsi.Texts(()), lambda: bsi.Texts((1,)), lambda: bsi.slices(2.5)):
-        with pytest.raises((TypeError, AttributeError)):
+    for wrong in (lambda: bsi.Decimals(1.0), lambda: bsi.Decimals(True), lambda: bsi.Decimals(100.0)):
+        with pytest.raises(ValueError, match="is no number of places"):
+            wrong()
+    for wrong in (lambda: bsi.Texts(()), lambda: bsi.Texts((1,)), lambda: bsi.slices(20.0), lambda: bsi.range(2, "x")):
+        with pytest.raises(TypeError):
             wrong()
     assert bsi.Decimals("0.01") == bsi.Decimals(2) == bsi.Decimals(0.01) and bsi.Decimals(1) != bsi.Decimals(2)
 
@@ -371,5 +563,5 @@ def test_kinds_and_forms_that_are_given():
 
 def test_progress_is_told():
     told = []
-    bsi.Index.from_frame({"a": np.arange(1 << 20 | 5)}, progress=lambda done, total: told.append((done, total)))
-    assert told == [(1 << 20, 1048581), (1048581, 1048581)]
+    bsi.Index.from_frame({"a": np.arange(1 << 19 | 5)}, progress=lambda done, total: told.append((done, total)))
+    assert told == [(1 << 18, 524293), (1 << 19, 524293), (524293, 524293)]

@@ -115,8 +115,8 @@ def test_the_command(tmp_path, capsys):
     other.write_text("n,Day\n5,2026-02-03\n")
     ran = run(str(path), str(other), "--null", "n/a", "sum n", "greatest Day n < 5", "rows n null", "count n = x")
     assert ran.stdout.splitlines()[1:] == [
-        "  n    slices(3)                whole numbers, 0 to 7",
-        "  Day  slices(2, offset=20484)  dates, 2026-01-31 to 2026-02-03",
+        "  n    slices(3)                whole numbers, takes 0 to 7",
+        "  Day  slices(2, offset=20484)  dates, takes 2026-01-31 to 2026-02-03",
         "8",
         "2026-02-01",
         "2",
@@ -134,7 +134,7 @@ def test_the_command(tmp_path, capsys):
     ran = run(str(path))
     assert (
         ran.returncode == 1
-        and ran.stderr == f"bsi: column 'n', row 2 (line 4 of {path}): 'n/a' is no number\n"
+        and ran.stderr.startswith(f"bsi: column 'n', row 2 (line 4 of {path}): 'n/a' is no number; nulls=")
         and ran.stdout == ""
     )
     ran = run("/dev/stdin", "sum n", given="n\n5\n6\n")
@@ -143,17 +143,62 @@ def test_the_command(tmp_path, capsys):
     assert main([str(path), "--null", "n/a", "count"]) == 0 and capsys.readouterr().out.endswith("3\n")
 
 
+def test_the_command_takes_what_read_csv_takes(tmp_path):
+    path = tmp_path / "rows.csv"
+    path.write_text("made by a tool\nn;Day;zip;x\n1,5;31.01.2026;00501;1\nNA;01.02.2026;10001;y\n2,255;-;0;2\n")
+    words = ["--delimiter", ";", "--decimal", ",", "--nulls", "NA,-", "--skiprows", "1", "--skip-bad", "--drop", "zip"]
+    ran = run(str(path), *words, "--dates", "%d.%m.%Y", "--round", "2", "sum n", "count", "least", "Day")
+    assert ran.stdout.splitlines()[-3:] == ["3.76", "2", "2026-01-31"] and ran.returncode == 0
+    assert ran.stderr.startswith("bsi: 1 row was left out\ncolumn 'x', row 1 (line 4 of")
+    words[-1], kinds = "x", "zip=text,n=decimals:3,Day=dates"
+    ran = run(str(path), *words, "--kinds", kinds, "sum n", "least zip")
+    assert ran.stdout.splitlines()[-2:] == ["3.755", "0"] and ran.returncode == 0
+    assert "--kinds has NAME=KIND" in run(str(path), "--kinds", "zip=code", "count").stderr
+    assert run("--version").stdout == f"bsi {bsi.__version__}\n" and bsi.__version__[0].isdigit()
+
+
+def test_a_shell_that_takes_a_sign_is_told(tmp_path):
+    path, out = tmp_path / "rows.csv", tmp_path / "100"
+    path.write_text("n\n5\n600\n")
+    line = f"{sys.executable} -m bsi {path} count n > {out}"
+    ran = subprocess.run(["sh", "-c", line], capture_output=True, text=True, check=False)
+    assert ran.returncode == 1 and "as the shell reads a > outside of quotes" in ran.stderr
+    assert run(str(path), "count", "n", "=", "5").stdout.splitlines()[-1] == "1"
+
+
+def test_the_command_without_an_input(tmp_path):
+    path = tmp_path / "rows.csv"
+    path.write_text("n\n5\n6\n")
+    for words, out in ((f"{path} 'sum n'", "11\n"), (f"{path}", "")):
+        line = f"{sys.executable} -m bsi {words} <&-"
+        ran = subprocess.run(["sh", "-c", line], capture_output=True, text=True, check=False)
+        assert (ran.returncode, ran.stderr, ran.stdout.partition("6\n")[2]) == (0, "", out)
+
+
+@pytest.mark.parametrize("variables, words, wanted", [
+    ({}, ["-OO", "-c", "import bsi; i = bsi.Index({'a': bsi.slices(3)}); i.close(); i.count()"], "the index is closed"),
+    ({}, ["-OO", "-c", "import bsi; bsi.Index({})"], "an index needs a column"),
+    ({"BSI_LIBRARY": "/nowhere/libbsi.so"}, ["-c", "import bsi"], "there is no /nowhere/libbsi.so, which the variable"),
+])
+def test_python_of_other_settings(variables, words, wanted):
+    environment = {**os.environ, **variables}
+    ran = subprocess.run([sys.executable, *words], env=environment, capture_output=True, text=True, check=False)
+    assert ran.returncode == 1 and wanted in ran.stderr
+
+
 def test_the_command_waits_at_a_terminal(tmp_path):
     path = tmp_path / "rows.csv"
     path.write_text("n\n5\n6\n")
     terminal, end = os.openpty()
     command = [sys.executable, "-m", "bsi", str(path), "count"]
     with subprocess.Popen(command, stdin=end, stdout=subprocess.PIPE, stderr=subprocess.STDOUT) as started:
-        os.write(terminal, b"sum n\n\nsum x\ngreatest n n < 6\n\x04")
+        os.write(terminal, b"sum n\n\nsum x\ngreatest n n < 6\nhelp\nquit\ncount\n")
         out = started.communicate(timeout=60)[0].decode().replace("? ", "").splitlines()
     os.close(terminal)
     os.close(end)
-    assert [line for line in out[2:] if line] == ["2", "11", "bsi: there is no column 'x', only 'n'", "5"]
+    said = [line for line in out[2:] if line]
+    assert said[:4] == ["2", "11", "bsi: there is no column 'x', only 'n'", "5"]
+    assert said[4].startswith("    count [P]    rows [P]") and said[-1] != "2"
     assert started.returncode == 0
 
 
@@ -174,4 +219,7 @@ def test_the_command_reads_parquet_where_pandas_can(monkeypatch, capsys):
     assert main(["z.parquet", "half.parquet", "sum n"]) == 0
     assert capsys.readouterr().out.splitlines()[3:] == ["9007199254740993.5"]
     assert main(["x.parquet", "--null", "n/a", "count"]) == 1
-    assert capsys.readouterr().err == "bsi: --text and --null are for CSV files alone\n"
+    assert capsys.readouterr().err == "bsi: --null is for CSV files alone\n"
+    assert main(["x.parquet", "--skip-bad", "count"]) == 1 and "--skip-bad is for" in capsys.readouterr().err
+    assert main(["x.parquet", "--drop", "n", "--kinds", "t=text", "greatest t"]) == 0
+    assert capsys.readouterr().out.splitlines()[2:] == ["b"]

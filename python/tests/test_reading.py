@@ -1,9 +1,16 @@
 """CSV files as they are: what is chosen for their columns, what comes back, and which field is refused."""
 
+import bz2
 import datetime
+import gzip
+import io
+import lzma
 import os
+import pickle
+import zipfile
 from decimal import Decimal
 
+import numpy as np
 import pytest
 
 import bsi
@@ -24,11 +31,18 @@ def write(tmp_path):
     return written
 
 
+def in_runs_of(monkeypatch, size):
+    """Lets files be read by so many bytes at once."""
+    for name in ("FIRST", "RUN"):
+        monkeypatch.setattr(f"bsi.reading.{name}", size)
+
+
 def test_an_export():
     path = os.path.join(EXAMPLES, "own", "export.csv")
     with pytest.raises(bsi.BadRow) as refused:
         bsi.read_csv(path)
-    assert str(refused.value) == f"column 'Amount (EUR)', row 3 (line 5 of {path}): 'n/a' is no number"
+    reason = "'n/a' is no number; nulls=['', 'n/a'] makes it a null"
+    assert str(refused.value) == f"column 'Amount (EUR)', row 3 (line 5 of {path}): {reason}"
     index = bsi.read_csv(path, ["Ordered", "Amount (EUR)", "Customer"], nulls=["", "n/a"])
     assert index.columns == ["Ordered", "Amount (EUR)", "Customer"] and len(index) == 6
     assert index.median("Amount (EUR)", col.Ordered < "2026-02-01") == Decimal("12.50")
@@ -74,6 +88,8 @@ def test_kinds_are_chosen(write):
         (["5.", "0"], bsi.Decimals(0), Decimal("5")),
         (["-0", "12345678901234567"], bsi.Whole(), 12345678901234567),
         (["-9223372036854775808", "-9223372036854775807"], bsi.Whole(), -(2**64) + 1),
+        (["1234567890123456789", "-1234567890123456788", "7"], bsi.Whole(), 8),
+        (["9223372036854775807", "9223372036854775806"], bsi.Whole(), 2**64 - 3),
         (["true", "TRUE", "False"], bsi.Flags(), 2),
     ],
 )
@@ -87,7 +103,7 @@ def test_numbers_are_read_exactly(write, fields, kind, total):
     [
         (["1", "x"], 1, r"\(line 3 of .*rows.csv\): 'x' is no number"),
         (["1", "1_000"], 1, "is no number"),
-        (["1", " 2"], 1, "is no number"),
+        (["1", "2 3"], 1, "is no number"),
         (["1", "٣"], 1, "is no number"),
         (["1", "nan"], 1, "is no number"),
         (["1", "0x10"], 1, "is no number"),
@@ -99,13 +115,14 @@ def test_numbers_are_read_exactly(write, fields, kind, total):
         (["1", "0." + "1" * 19], 1, "more than 18"),
         (["10001", "00501"], 1, "without the 0 before it"),
         (["2026-01-31", "2026-02-30"], 1, "is no date or time"),
-        (["2026-01-31", "31.1.2026"], 1, "is no date or time"),
+        (["2026-01-31", "2026-31-1"], 1, "is no date or time"),
         (["2026-01-31T10:00", "2026-01-31T25:00"], 1, "is no date or time"),
         (["2026-01-31T10:00Z", "2026-01-31T10:00"], 1, "has no time zone"),
         (["2026-01-31", "9999-12-31T00:00:00.000000001"], 1, "past 63 bits of nanoseconds"),
         (["true", "yes"], 1, "no true or false"),
         ([f"text{number}" for number in range(1025)], 1024, "one text more than the 1,024"),
-        (["1", '"2\n3"'], 1, r"\(of .*rows.csv\): '2\\n3' is no number"),
+        (["1", '"2\n3"'], 1, r"\(line 3 of .*rows.csv\): '2\\n3' is no number"),
+        (['"1"', '"\n4"', "5"], 1, r"\(line 3 of .*rows.csv\): '\\n4' is no number"),
     ],
 )
 def test_what_cannot_be_kept_is_named(write, fields, row, why):
@@ -121,7 +138,7 @@ def test_what_cannot_be_kept_is_named(write, fields, row, why):
         (b"a,b\n1\n", r"row 0 \(line 2 of .*\) has 1 fields, and the header 2"),
         (b"a,b\n1,2\n1,2,3\n", r"row 1 \(line 3 of .*\) has 3 fields"),
         (b"a,a\n1,2\n", "'a' is there twice"),
-        (b"a\n\xff\n", "no utf-8-sig text .*; name its encoding"),
+        (b"a\n\xff\n", "no UTF-8 text .*; name its encoding"),
         (b'a\n"1\n', "unexpected end of data"),
         (b'a\n"1"2\n', "expected after"),
         (b"a\n" + b"x" * 200_000, "field larger than field limit"),
@@ -161,7 +178,7 @@ def test_kinds_that_are_given(write):
         ({"columns": ["zip", "none"]}, "there is no column 'none'"),
         (
             {"kinds": {"zip": bsi.Texts, "cents": bsi.Whole()}, "forms": {"cents": bsi.slices(2)}},
-            "column 'cents', row 0: 7 is not from 0 to 3",
+            r"column 'cents', row 0 \(line 2 of .*\): 7 is not from 0 to 3",
         ),
         ({"kinds": {"zip": bsi.Texts, "cents": bsi.Whole()}, "limit": 2}, "row 2 is past the limit"),
     ):
@@ -170,7 +187,7 @@ def test_kinds_that_are_given(write):
 
 
 def test_several_files_of_many_blocks(write, monkeypatch):
-    monkeypatch.setattr("bsi.reading.RECORDS", 7)
+    in_runs_of(monkeypatch, 40)
     first = write("n,t\n" + "".join(f"{number},w{number % 9}\n" for number in range(50)), "one.csv")
     second = write("n,t\n" + "".join(f"{number}.5,v{number % 3}\n" for number in range(30)), "two.csv")
     for parts in (1, 3):
@@ -185,12 +202,12 @@ def test_several_files_of_many_blocks(write, monkeypatch):
         bsi.read_csv([first, write("t,n\n1,1\n", "four.csv")])
     with pytest.raises(bsi.BadRow, match="column 't', row 50 .*"):
         bsi.read_csv([write("n,t\n" + "1,5\n" * 50, "five.csv"), write("n,t\n1,x\n", "six.csv")])
-    with pytest.raises(bsi.BadRow, match="column 't', row 1025: 'v1' is one text more than the 1,024"):
+    with pytest.raises(bsi.BadRow, match="column 't', row 1025 .*: 'v1' is one text more than the 1,024"):
         bsi.read_csv(write("t\nv0\n" + "".join(f"w{number}\n" for number in range(1023)) + "v0\nv1\nv2\n", "seven.csv"))
 
 
 def test_units_of_several_blocks(write, monkeypatch):
-    monkeypatch.setattr("bsi.reading.RECORDS", 2)
+    in_runs_of(monkeypatch, 25)
     fields = ["2026-01-31", "", "2026-01-31T00:00:01", "1969-12-31T23:59:59.5", "", "", "1900-01-01"]
     index = bsi.read_csv(write("t,n\n" + "".join(f"{field},1\n" for field in fields)))
     assert index.forms["t"].kind == bsi.Times("ms") and index.count(col.t.isnull()) == 3
@@ -200,8 +217,226 @@ def test_units_of_several_blocks(write, monkeypatch):
 def test_times_are_read_exactly(write):
     fields = ["2026-01-31T12:00:00.123456789", "2026-01-31 12:00", "2026-01-31T12:00:00.5"]
     index = bsi.read_csv(write("t\n" + "\n".join(fields)))
-    assert index.forms["t"].kind == bsi.Times("ns") and str(index.greatest("t")) == "2026-01-31 12:00:00.500000"
+    assert index.forms["t"].kind == bsi.Times("ns") and str(index.greatest("t")) == "2026-01-31T12:00:00.500000000"
     assert [index.rows(col.t == field).tolist() for field in fields] == [[0], [1], [2]]
     index = bsi.read_csv(write("t\n1600-01-01T00:00:00.5+0130\n9999-12-31T23:59:59Z\n"))
     assert index.least("t") == datetime.datetime(1599, 12, 31, 22, 30, 0, 500_000, datetime.timezone.utc)
     assert index.count(col.t > "9999-12-31T23:59:58.999999999Z") == 1
+
+
+def read(write, text, **more):
+    return bsi.read_csv(write(text), **more)
+
+
+@pytest.mark.parametrize(
+    "fields, row, why",
+    [
+        (["NA", "9", "10", "100"], 0, r"'NA' is no number; nulls=\['', 'NA'\] makes it a null"),
+        (["NA", "NA", "7"], 0, "'NA' is no number"),
+        (["null", "2026-01-31"], 0, r"'null' is no date or time.*nulls=\['', 'null'\]"),
+        (["-", "true", "false"], 0, "'-' is no true or false; nulls="),
+        (["NaN", "NaN"], 0, "'NaN' stands for no text; nulls="),
+        (["9,50", "10,25"], 0, "'9,50' is no number; decimal=',' reads it as one"),
+        (["1", "2", "three"], 2, "'three' is no number"),
+        (["2012/01/01", "2012/01/02", "soon"], 2, "'soon' is no date or time"),
+        (["01/02/2026", "03/04/2026"], 0, "day and month of '01/02/2026' could be exchanged: give dates="),
+        (["Jan 2026", "Feb 2026"], 0, "'Jan 2026' has no day: give dates="),
+        (["11/2026", "12/2026"], 0, "'11/2026' has no day: give dates="),
+        (["1/2/26", "1/3/26"], 0, "has a year of two digits: give dates="),
+        (["2026/02/30", "2026/02/01"], 0, "is no date or time: the calendar"),
+        (["31.01.2026", "05.13.2026", "30.01.2026"], 1, "the calendar or the clock has no such"),
+        (["a", "b", "c", *["1"] * 30], 0, "'a' is no number"),
+        ([*"abcdefgh"] * 4000 + ["1"] * 40_000, 0, r"line 2 of .*: 'a' is no number; kinds= says"),
+        (["1"] * 40_000 + ["x"], 40_000, r"\(line 40002 of .*\): 'x' is no number"),
+        (["2026-01-31"] * 10_000 + ["31.1.2026"], 10_000, "is no date or time"),
+    ],
+)
+def test_a_column_is_chosen_by_many_of_its_fields(write, fields, row, why):
+    with pytest.raises(bsi.BadRow, match=why) as refused:
+        read(write, "fine;x\n" + "".join(f"1;{field}\n" for field in fields), delimiter=";")
+    assert (refused.value.column, refused.value.row) == ("x", row)
+
+
+@pytest.mark.parametrize(
+    "fields, more, least, greatest",
+    [
+        (["NA", "9", "10", "100"], {"nulls": ["", "NA"]}, 9, 100),
+        (["9,50", "-,25", "1"], {"decimal": ","}, Decimal("-0.25"), Decimal("9.50")),
+        ([" 216.9", "7 ", "\t8"], {}, Decimal("7.0"), Decimal("216.9")),
+        (["31.01.2026", "05.02.2026"], {}, datetime.datetime(2026, 1, 31), datetime.datetime(2026, 2, 5)),
+        (["01/31/2026", "02/05/2026"], {}, datetime.datetime(2026, 1, 31), datetime.datetime(2026, 2, 5)),
+        (
+            ["1/2/2026", "3/4/2026"],
+            {"dates": "%m/%d/%Y"},
+            datetime.datetime(2026, 1, 2),
+            datetime.datetime(2026, 3, 4),
+        ),
+        (
+            ["1/2/2026", "3/4/2026"],
+            {"dates": {"x": "%d/%m/%Y"}},
+            datetime.datetime(2026, 2, 1),
+            datetime.datetime(2026, 4, 3),
+        ),
+        (["Mar 2026", "Jan 2027"], {"dates": "%b %Y"}, datetime.datetime(2026, 3, 1), datetime.datetime(2027, 1, 1)),
+        (["2012-1-2", "2012-01-01"], {}, datetime.datetime(2012, 1, 1), datetime.datetime(2012, 1, 2)),
+        (
+            ["2026-01-31 12:00:00+00", "2026-01-31 12:00 UTC", "2026-01-31 12:00:00 -0130"],
+            {},
+            datetime.datetime(2026, 1, 31, 12, tzinfo=datetime.timezone.utc),
+            datetime.datetime(2026, 1, 31, 13, 30, tzinfo=datetime.timezone.utc),
+        ),
+        (["2012/01/01", "2012/1/2"], {}, datetime.datetime(2012, 1, 1), datetime.datetime(2012, 1, 2)),
+        (["Jan 1 2000", "Dec 31 1999"], {}, datetime.datetime(1999, 12, 31), datetime.datetime(2000, 1, 1)),
+        (
+            ["31 January 2026", "1-Feb-2026", "2026-Mar-1"],
+            {},
+            datetime.datetime(2026, 1, 31),
+            datetime.datetime(2026, 3, 1),
+        ),
+        (
+            ["1/31/2026 3:45 PM", "1/31/2026 12:05 am"],
+            {},
+            datetime.datetime(2026, 1, 31, 0, 5),
+            datetime.datetime(2026, 1, 31, 15, 45),
+        ),
+        (["true", "false", "unknown", "yes", "no"], {}, "false", "yes"),
+        (["A", "B", "7"], {}, "7", "B"),
+        (["NA", "Meyer"], {}, "Meyer", "NA"),
+        (["1,5", "x"], {"kinds": {"x": bsi.Texts}}, "1,5", "x"),
+        ([f"t{number}" for number in range(3000)], {"kinds": {"x": bsi.Texts}}, "t0", "t999"),
+        (["0.3333333333333333333333", "0.125", "1e-30"], {"round": 2}, Decimal("0.00"), Decimal("0.33")),
+        (["0.5", "0.005", "0.015", "-0.025"], {"round": {"x": 2}}, Decimal("-0.02"), Decimal("0.50")),
+        (["1", "2.675"], {"kinds": {"x": bsi.Decimals(2, rounded=True)}}, Decimal("1.00"), Decimal("2.68")),
+    ],
+)
+def test_what_files_write(write, fields, more, least, greatest):
+    index = read(write, "x|n\n" + "".join(f"{field}|1\n" for field in fields), delimiter="|", **more)
+    assert (index.least("x"), index.greatest("x"), len(index)) == (least, greatest, len(fields))
+
+
+def test_all_columns_that_do_not_fit_are_told(write):
+    with pytest.raises(bsi.BadRow) as refused:
+        read(write, "a,b,c,d\n1,1,x,5\n2,x,y,5\n3,1,z,x\n4,2,,6\n")
+    told = str(refused.value).splitlines()
+    assert [line.split(" (line")[0] for line in told] == ["column 'b', row 1", "column 'd', row 2"]
+    assert [type(other) for other in refused.value.others] == [bsi.BadRow] and refused.value.column == "b"
+    assert str(pickle.loads(pickle.dumps(refused.value))) == str(refused.value)
+    with pytest.raises(bsi.BadRow, match="column 'b', row 0.*\ncolumn 'c', row 1"):
+        bsi.Index.from_frame({"a": [1, 2], "b": [2j, 1], "c": [1, "x"]})
+    index = bsi.Index({"b": bsi.slices(3), "c": bsi.slices(3)})
+    with pytest.raises(bsi.BadRow, match="column 'b', row 1.*\ncolumn 'c', row 0"):
+        index.append({"b": [1, "x"], "c": [0.5, 1]})
+
+
+def test_rows_that_are_left_out(write, monkeypatch):
+    text = 'n,t,d\n1,a,2026-01-31\nx,b,2026-02-30\n3,c\n4,d,2026-02-01\n5,"e\nf",soon\n6,g,2026-03-01\n'
+    index = read(write, text, bad="skip", forms={"n": bsi.slices(2, offset=1)})
+    assert len(index) == 2 and index.rows(col.n >= 1).tolist() == [0, 1] and index.sum("n") == 5
+    assert index.skipped.count == len(index.skipped) == 4
+    lines = [str(why).partition("line ")[2].partition(" of")[0] for why in index.skipped]
+    assert sorted(lines) == ["3", "4", "6", "8"] and "4 rows were left out" in repr(index.skipped)
+    many = "t,n\n" + "".join(f"x{number},{number}\n" for number in range(2000)) + "y,z\n"
+    in_runs_of(monkeypatch, 500)
+    with pytest.raises(bsi.BadRow, match="column 't', row 1024 .* is one text more than the 1,024"):
+        read(write, many, bad="skip")
+    with pytest.raises(ValueError, match="bad is"):
+        read(write, text, bad="warn")
+
+
+@pytest.mark.parametrize("ending", ["gz", "bz2", "xz", "zip"])
+def test_files_that_are_packed(write, tmp_path, ending):
+    path = tmp_path / f"rows.csv.{ending}"
+    text = b"n,t\n" + b"1,x\n2,y\n" * 1000
+    if ending == "zip":
+        with zipfile.ZipFile(path, "w") as packed:
+            packed.writestr("rows.csv", text)
+    else:
+        path.write_bytes({"gz": gzip, "bz2": bz2, "xz": lzma}[ending].compress(text))
+    assert bsi.read_csv(path).sum("n") == 3000
+    path.write_bytes(path.read_bytes()[:40] if ending != "zip" else b"PK nothing")
+    with pytest.raises(bsi.BadColumns, match="it can't be unpacked"):
+        bsi.read_csv(path)
+    with pytest.raises(bsi.BadColumns, match="not unpacked here"):
+        bsi.read_csv(write("x", "rows.csv.zst"))
+
+
+def test_files_of_any_encoding(write):
+    text = "größe,n\nübel,1\nA,2\n"
+    for encoding, given in (("utf-16", None), ("utf-8-sig", None), ("cp1252", "cp1252"), ("utf-16-le", "utf-16-le")):
+        index = bsi.read_csv(write(text.encode(encoding)), encoding=given)
+        assert index.columns == ["größe", "n"] and index.rows(col["größe"] == "übel").tolist() == [0]
+    assert bsi.read_csv(io.StringIO(text)).sum("n") == bsi.read_csv(io.BytesIO(text.encode())).sum("n") == 3
+    for encoding in ("utf-99", 5):
+        with pytest.raises(bsi.BadColumns, match="there is no encoding"):
+            bsi.read_csv(write(text), encoding=encoding)
+
+
+def test_files_of_other_layouts(write):
+    assert read(write, "n;t\n1;'x;y'\n2;z\n", delimiter=";", quotechar="'").count(col.t == "x;y") == 1
+    assert read(write, 'n,t\n1,5" pipe\n2,"z"\n').rows(col.t == '5" pipe').tolist() == [0]
+    assert read(write, 'n,t\n1,"a ""b"", c"\n2,""""\n3,""\n').rows(col.t == 'a "b", c').tolist() == [0]
+    assert read(write, 'n,t\n1,"a\n2,b"\n3,c\n', quotechar=None).count(col.t == '"a') == 1
+    assert read(write, "made by\na tool\nn\n1\n2\n", skiprows=2).sum("n") == 3
+    assert read(write, b"n,t\r1,x\r2,y\r").sum("n") == 3 and read(write, b"n,t\r\n1,x\r\n2,y").count(col.t == "y") == 1
+    assert read(write, "n\ttext\n1\tx\n", delimiter="\t").columns == ["n", "text"]
+    assert read(write, "n§t\n1§x\n", delimiter="§").columns == ["n", "t"]
+    for sign in (";", "\t", "|"):
+        with pytest.raises(bsi.BadColumns, match="delimiter=.* splits it"):
+            read(write, f"n{sign}t\n1{sign}x\n")
+    with pytest.raises(bsi.BadRow, match=r"\(line 5 of"):
+        read(write, "made by\nn\n1\n2\nx\n", skiprows=1)
+    for more in ({"delimiter": "\n"}, {"quotechar": "ab"}, {"decimal": "x"}):
+        with pytest.raises(ValueError, match="one character|decimal is"):
+            read(write, "a\n1\n", **more)
+    assert read(write, "a,b,c\n1,x,y\n", drop=["b", "c"]).columns == ["a"]
+    with pytest.raises(bsi.BadColumns, match="no column 'z'"):
+        read(write, "a,b\n1,2\n", drop=["z"])
+
+
+def test_a_column_of_nulls_keeps_the_kind_that_is_given(write):
+    index = read(write, "t,n\n,1\n,2\n", kinds={"t": bsi.Times("D")})
+    assert index.count(col.t < "2026-01-31") == 0 and index.count(col.t.isnull()) == 2
+
+
+def random_field(rng, style):
+    """Returns a field as a file may have it, and what csv and Python make of it."""
+    text = {
+        "number": lambda: str(rng.choice([0, 7, -5, 10**6, 123456789012345678, -(2**40)])),
+        "decimal": lambda: str(rng.choice(["1.5", "-.25", "7", "1e3", "12345678.125", "0.000001", "5."])),
+        "text": lambda: str(rng.choice(["a", "b c", "d,e", 'f"g', "h\ni", "größe", "x" * 70, "x" * 69 + "y", ""])),
+        "date": lambda: str(rng.choice(["2026-01-31", "1600-02-29", "9999-12-31", "0001-01-01"])),
+        "time": lambda: str(rng.choice(["2026-01-31T12:30", "2026-01-31 12:30:45.5", "2026-01-31"])),
+    }[style]()
+    is_quoted = style == "text" and (any(sign in text for sign in ',"\n') or rng.random() < 0.3)
+    return text, '"' + text.replace('"', '""') + '"' if is_quoted else text
+
+
+@pytest.mark.parametrize("seed", range(8))
+def test_random_files_beside_the_module_csv(write, monkeypatch, seed):
+    rng = np.random.default_rng(seed)
+    for _ in range(12):
+        in_runs_of(monkeypatch, int(rng.choice([10, 50, 300, 1 << 16])))
+        styles = [str(style) for style in rng.choice(["number", "decimal", "text", "date", "time"], rng.integers(2, 6))]
+        rows = [[random_field(rng, style) for style in styles] for _ in range(int(rng.choice([1, 2, 7, 200])))]
+        end, header = str(rng.choice(["\n", "\r\n"])), ",".join(f"c{place}" for place in range(len(styles)))
+        text = "".join(",".join(field for _, field in row) + end for row in rows)
+        index = bsi.read_csv(
+            write(header + end + text), parts=int(rng.choice([1, 3])), kinds=dict.fromkeys(texts_of(styles), bsi.Texts)
+        )
+        assert len(index) == len(rows)
+        for place, style in enumerate(styles):
+            kind, column = index.forms[f"c{place}"].kind, col[f"c{place}"]
+            for value in {row[place][0] for row in rows}:
+                wanted = [at for at, row in enumerate(rows) if same(style, row[place][0], value)]
+                where = column.isnull() if value == "" else column == kind.parse(value)
+                assert index.rows(where).tolist() == wanted, (style, value)
+
+
+def texts_of(styles):
+    return [f"c{place}" for place, style in enumerate(styles) if style == "text"]
+
+
+def same(style, one, other):
+    if style in ("number", "decimal"):
+        return Decimal(one) == Decimal(other)
+    return one == other if style in ("text", "date") else np.datetime64(one) == np.datetime64(other)

@@ -1,5 +1,7 @@
 """Threads that ask one index, and parts that each have a thread of their own."""
 
+import subprocess
+import sys
 import threading
 
 import numpy as np
@@ -127,6 +129,17 @@ def test_parts_put_answers_together():
                         )
 
 
+def test_a_median_of_parts_takes_few_rounds(monkeypatch):
+    numbers = {"random": table(20_000)["a"], "in order": np.arange(1 << 20)[::50], "far": np.arange(20_000) ** 3 >> 23}
+    numbers["two"] = np.repeat([0, (1 << 20) - 1], 10_000)
+    for name, given in numbers.items():
+        parts, rounds = bsi.Parts(4, {"a": bsi.slices(20)}), []
+        parts.append({"a": given})
+        each = parts._store._each
+        monkeypatch.setattr(parts._store, "_each", lambda *asked: rounds.append(asked) or each(*asked))
+        assert parts.median("a") == np.sort(given)[(len(given) - 1) // 2] and len(rounds) <= 8, (name, len(rounds))
+
+
 def test_a_median_of_parts_takes_four_fields_less():
     parts = bsi.Parts(2, FORMS)
     parts.append(table(50))
@@ -179,6 +192,46 @@ def test_an_append_to_parts_that_is_interrupted(monkeypatch):
         parts.append(table(50))
     with pytest.raises(bsi.Closed):
         parts.mask()
+
+
+# A signal whose handler asks the index, over and over while the main program asks it, and a forked child.
+SIGNALS = """
+import signal, sys
+import bsi
+table = bsi.Index({"a": bsi.slices(9)}) if sys.argv[1] == "Index" else bsi.Parts(2, {"a": bsi.slices(9)})
+table.append({"a": list(range(500))})
+heard = []
+signal.signal(signal.SIGALRM, lambda *_: heard.append(table.count(bsi.col.a < 100)))
+while len(heard) < 300:
+    signal.setitimer(signal.ITIMER_REAL, 0.00003 * (1 + len(heard) % 40))
+    before = len(heard)
+    while len(heard) == before:
+        assert table.sum("a", bsi.col.a < 3) == 3
+assert set(heard) == {100}
+"""
+FORKED = """
+import os, signal
+import bsi
+parts = bsi.Parts(2, {"a": bsi.slices(9)})
+parts.append({"a": [1, 2, 3]})
+if os.fork() == 0:
+    signal.alarm(20)
+    for ask in (parts.count, lambda: parts.append({"a": [1]}), lambda: len(parts)):
+        try:
+            ask()
+            os._exit(1)
+        except bsi.Error as why:
+            assert "not in a forked child" in str(why)
+    parts.close()
+    os._exit(0)
+assert os.waitstatus_to_exitcode(os.wait()[1]) == 0 and parts.count() == 3
+"""
+
+
+@pytest.mark.parametrize("code, word", [(SIGNALS, "Index"), (SIGNALS, "Parts"), (FORKED, "")])
+def test_signals_and_forks(code, word):
+    ran = subprocess.run([sys.executable, "-c", code, word], capture_output=True, text=True, check=False, timeout=60)
+    assert (ran.returncode, ran.stderr) == (0, "")
 
 
 def test_each_status_has_its_exception():

@@ -8,7 +8,7 @@ from fractions import Fraction
 
 import numpy as np
 import pytest
-from producer import Arrow, bits, texts
+from producer import Arrow, Stream, bits, texts, views
 
 import bsi
 
@@ -134,6 +134,16 @@ CHOSEN = {
         bsi.Decimals(2),
         [Decimal("-1.25"), Decimal("0.07")],
     ),
+    "arrow views of texts": (
+        views("b", "ä" * 20, "b", validity=bits(1, 1, 1)),
+        bsi.Texts(("b", "ä" * 20)),
+        ["b", "ä" * 20, "b"],
+    ),
+    "arrow decimals of 64 bits": (
+        Arrow("d:10,1,64", 2, [None, np.array([-125, 7])]),
+        bsi.Decimals(1),
+        [Decimal("-12.5"), Decimal("0.7")],
+    ),
     "an arrow null array": (Arrow("n", 2, []), bsi.Whole(), []),
     "nothing": ([], bsi.Whole(), []),
     "nulls alone": ([None, NAN], bsi.Whole(), []),
@@ -151,7 +161,10 @@ def test_values_come_back_in_their_own_type(name):
         assert index.count(bsi.col.x == value) == values.count(value)
     if values and not kind.names_values:
         least, greatest = index.least("x"), index.greatest("x")
-        assert (least, greatest) == (min(values), max(values)) and isinstance(least, type(min(values)))
+        assert (least, greatest) == (min(values), max(values))
+        is_time, is_fine = isinstance(kind, bsi.Times), kind == bsi.Times("ns")
+        wanted = np.datetime64 if is_fine else datetime.datetime if is_time else type(min(values))
+        assert type(least) is wanted
         assert str(least) == str(kind.decode(kind.number(min(values))))
 
 
@@ -169,6 +182,67 @@ def test_a_zone_is_kept():
         bsi.Index.from_frame({"t": [times[0].to_pydatetime(), datetime.datetime(2026, 1, 1)]})
 
 
+@pytest.mark.parametrize("package", ["dateutil.tz", "pytz"])
+def test_zones_of_other_packages(package):
+    module = pytest.importorskip(package)
+    zone = module.gettz("Europe/Paris") if package == "dateutil.tz" else module.timezone("Europe/Paris")
+    days = [datetime.datetime(2026, 1, 31, 12), datetime.datetime(2026, 7, 31, 12)]
+    times = [day.replace(tzinfo=zone) if package == "dateutil.tz" else zone.localize(day) for day in days]
+    index = bsi.Index.from_frame({"t": times})
+    assert index.least("t") == times[0] and index.greatest("t").utcoffset() == datetime.timedelta(hours=2)
+    assert index.append({"t": times}) == 2 and index.rows(bsi.col.t == times[1]).tolist() == [1, 3]
+    assert "Paris" in repr(index)
+
+
+# Columns of nulls alone, whose dtype says what they hold.
+NULLS_ALONE = {
+    "dates": (np.array(["NaT"] * 2, "M8[D]"), bsi.Times("D")),
+    "times of pandas": (pandas.Series([pandas.NaT] * 2), bsi.Times("D")),
+    "booleans": (pandas.array([None, None], dtype="boolean"), bsi.Flags()),
+    "no booleans": (np.zeros(0, bool), bsi.Flags()),
+    "arrow dates": (Arrow("tdD", 2, [bits(0, 0), np.zeros(2, np.int32)]), bsi.Times("D")),
+    "categories": (pandas.Categorical([None], ["a", "b"], ordered=True), bsi.Texts(("a", "b"), ordered=True)),
+    "floats": (np.array([np.nan]), bsi.Whole()),
+}
+
+
+@pytest.mark.parametrize("name", NULLS_ALONE)
+def test_nulls_alone_have_the_kind_of_their_dtype(name):
+    values, kind = NULLS_ALONE[name]
+    index = bsi.Index.from_frame({"x": values})
+    assert index.forms["x"].kind == kind
+    constant = {bsi.Flags(): True, bsi.Times("D"): "2026-01-31", bsi.Whole(): 5}.get(kind, "a")
+    assert index.count(bsi.col.x == constant) == 0 and index.least("x") is None
+
+
+def test_an_order_that_names_a_text_twice():
+    given = Arrow("c", 3, [None, np.array([0, 1, 2], np.int8)], dictionary=texts("b", "a", "b"), flags=1)
+    index = bsi.Index.from_frame({"x": given})
+    assert index.forms["x"].kind == bsi.Texts(("b", "a"), ordered=True) and index.count(bsi.col.x == "b") == 2
+
+
+def test_texts_that_are_wished():
+    index = bsi.Index.from_frame({"zip": [f"{number:05}" for number in range(3000)]}, kinds={"zip": bsi.Texts})
+    assert index.count(bsi.col.zip < "00100") == 100
+    with pytest.raises(bsi.BadRow, match="row 1: 5 is no text"):
+        bsi.Index.from_frame({"zip": ["00501", 5]}, kinds={"zip": bsi.Texts})
+
+
+def test_floats_that_are_rounded():
+    prices = np.array([1 / 3, 0.1 + 0.2, 2.675, -0.005, np.nan, 0.015, 1e6 * 1.19])
+    wanted = [None if value != value else Decimal(repr(round(value, 2))) for value in prices.tolist()]
+    for given in (prices, prices.tolist(), pandas.Series(prices)):
+        for more in ({"round": 2}, {"round": {"x": 2}}, {"kinds": {"x": bsi.Decimals(2, rounded=True)}}):
+            index = bsi.Index.from_frame({"x": given}, **more)
+            for value in wanted:
+                where = bsi.col.x.isnull() if value is None else bsi.col.x == value
+                assert index.rows(where).tolist() == [row for row, one in enumerate(wanted) if one == value]
+    assert bsi.Index.from_frame({"x": [1.5, 2.0]}, round=2).forms["x"].kind == bsi.Decimals(1)
+    assert index.append({"x": [1 / 7]}) == 1 and index.count(bsi.col.x == Decimal("0.14")) == 1
+    with pytest.raises(bsi.BadRow, match="past 63 bits"):
+        bsi.Index.from_frame({"x": np.array([1e300, 0.5])}, round=2)
+
+
 def test_times_at_the_end_of_the_calendar():
     ahead, behind = (datetime.timezone(datetime.timedelta(hours=hours)) for hours in (2, -2))
     last = datetime.datetime(9999, 12, 31, 23, 59, 59)
@@ -177,10 +251,12 @@ def test_times_at_the_end_of_the_calendar():
     assert bsi.Times("s", ahead).decode(253402300799) == last.replace(tzinfo=datetime.timezone.utc)
 
 
-def test_nanoseconds_without_pandas(monkeypatch):
-    monkeypatch.setitem(sys.modules, "pandas", None)
-    assert bsi.Times("ns").decode(1_001) == np.datetime64(1_001, "ns")
-    assert bsi.Times("ns").decode(2_000) == datetime.datetime(1970, 1, 1, 0, 0, 0, 2)
+def test_answers_are_of_one_type_whatever_is_installed(monkeypatch):
+    for _ in range(2):
+        assert repr(bsi.Times("ns").decode(2_000)) == repr(np.datetime64(2_000, "ns"))
+        assert repr(bsi.Times("us").decode(2)) == repr(datetime.datetime(1970, 1, 1, 0, 0, 0, 2))
+        assert repr(bsi.Times("D").decode(20_000)) == repr(datetime.datetime(2024, 10, 4))
+        monkeypatch.setitem(sys.modules, "pandas", None)
 
 
 def test_a_record_batch_is_a_frame():
@@ -194,11 +270,62 @@ def test_a_record_batch_is_a_frame():
         bsi.Index.from_frame(batch)
 
 
+def batch(numbers, *words):
+    columns = {"a": Arrow("l", len(numbers), [None, np.array(numbers, "i8")]), "b": views(*words)}
+    return Arrow("+s", len(numbers), [None], children=columns)
+
+
+def test_a_stream_of_record_batches_is_a_frame():
+    long = "a text of more than twelve bytes"
+    given = [batch([5, 6], "x", long), batch([7], long + "!"), batch([])]
+    stream = Stream(batch([]), *given)
+    index = bsi.Index.from_frame(stream)
+    assert (index.sum("a"), len(index), stream.released) == (18, 3, 3)
+    assert index.rows(bsi.col.b == long).tolist() == [1] and index.greatest("b") == "x"
+    assert index.append(Stream(batch([]), batch([5], "x"))) == 1 and len(index) == 4
+    assert len(bsi.Index.from_frame(Stream(batch([])))) == 0
+    with pytest.raises(bsi.BadColumns, match="the Arrow stream broke off: no more rows"):
+        bsi.Index.from_frame(Stream(batch([]), batch([5], "x"), breaks=True))
+    with pytest.raises(bsi.BadColumns, match="an Arrow record batch, and not as one array"):
+        bsi.Index.from_frame(Stream(texts("a")))
+
+
+def test_a_column_in_chunks():
+    def times(*numbers):
+        return Arrow("tsm:UTC", len(numbers), [None, np.array(numbers, "i8")])
+
+    def named(*words):
+        return Arrow("c", 2, [None, np.array([1, 0], np.int8)], dictionary=texts(*words), flags=1)
+
+    numbers = [Arrow("i", 2, [None, np.array([place] * 2, np.int32)]) for place in (1, 2)]
+    index = bsi.Index.from_frame(
+        {
+            "n": Stream(Arrow("i", 0, []), *numbers),
+            "t": Stream(times(), times(1000, 2000), times(3000, 4000)),
+            "o": Stream(named("b", "a"), named("b", "a"), named("b", "a")),
+            "x": Stream(named("b", "a"), named("b", "a"), named("c", "b")),
+        }
+    )
+    assert (index.sum("n"), index.forms["t"].kind) == (6, bsi.Times("s", datetime.timezone.utc))
+    assert index.forms["o"].kind == bsi.Texts(("b", "a"), ordered=True)
+    assert index.forms["x"].kind == bsi.Texts(("a", "b", "c")) and index.rows(bsi.col.x == "b").tolist() == [1, 2]
+
+
+@pytest.mark.parametrize("name", ["pyarrow", "polars"])
+def test_tables_of_pyarrow_and_polars(name):
+    module = pytest.importorskip(name)
+    given = {"n": [1, None, 3], "t": ["a", "a text of many bytes", None], "d": [DAY, None, DAY]}
+    index = bsi.Index.from_frame((module.table if name == "pyarrow" else module.DataFrame)(given))
+    assert (index.sum("n"), index.count(bsi.col.t == "a"), index.count(bsi.col.d == DAY)) == (4, 1, 2)
+
+
 # Values that can't be kept, the row that is named, and why.
 REFUSED = {
     "2^63": ([1, 2**63], 1, "past 63 bits|past 64 bits"),
     "a large uint64": (np.array([1, 2**63], np.uint64), 1, "past 63 bits"),
-    "a third": (np.array([0.5, 1 / 3, 0.1]), 1, "exactly with 6 decimal places"),
+    "a third": (np.array([0.5, 1 / 3, 0.1]), 1, "exactly with 6 decimal places; round= rounds it"),
+    "a third in a list": ([1, 1 / 3], 1, "0.3333333333333333 can't be kept exactly with 6 decimal places"),
+    "a third of few digits": (np.array([1, 1 / 3], np.float32), 1, "0.33333334 can't be kept exactly"),
     "a long double of 17 digits": (np.array([1, 1234567890123456.5], np.longdouble), 1, "exactly with"),
     "numbers far apart": ([None, -1, 5, 2**63 - 1], 3, "more than the 2\\^63 values"),
     "a large float": (np.array([0.5, 1e300]), 1, "exactly with"),
@@ -252,6 +379,7 @@ NO_COLUMNS = {
     "a place past an arrow dictionary": Arrow("l", 1, [None, np.array([2])], dictionary=texts("a")),
     "arrow texts that are no UTF-8": Arrow("u", 1, [None, np.array([0, 1], np.int32), np.array([255], np.uint8)]),
     "an arrow time zone that is none": Arrow("tss:Nowhere/Here", 1, [None, np.array([0])]),
+    "an arrow view past its buffers": Arrow("vu", 1, [None, np.array([40, 0, 3, 0], np.int32), np.array([0], "i8")]),
     "arrow texts that go back": Arrow("u", 2, [None, np.array([0, 5, 2], np.int32), np.zeros(9, np.uint8)]),
 }
 

@@ -2,8 +2,8 @@
 //! `include/bsi.h` lists.
 #![tactic(auto)]
 
-ghost use Rattle.std.specs.Prelude.{◌≡◌, ◌≢◌, Err, None, map};
-ghost use Rattle.bsi_ffi.specs.Calls.{IsAppending, IsAsking, IsClosing, IsCounting, IsDescribing, IsOpening, IsSelecting, IsSharing};
+ghost use Rattle.std.specs.Prelude.{◌≡◌, ◌≢◌, Err, None, drop, map};
+ghost use Rattle.bsi_ffi.specs.Calls.{IsAppending, IsAsking, IsClosing, IsCounting, IsDescribing, IsOpening, IsSelecting, IsSharing, LeavesRest};
 ghost use Rattle.bsi_ffi.specs.States.{opened_in};
 ghost use Rattle.bsi_ffi.specs.Statuses.{status_of, Tells};
 ghost use Rattle.bsi_ffi.specs.declared.refusal.Refusal.TheVariants.{NoMemory, NoRoom};
@@ -63,6 +63,7 @@ pub extern "C" fn bsi_ask(
     ensures kept { index.new.held.value ≡ index.old.held.value }
     ensures left { result ≢ 0 → result ≢ status_of (Err NoRoom) → answer.new ≡ answer.old }
     ensures unfilled { result ≢ 0 → places.new ≡ places.old }
+    ensures rest { result ≡ 0 → LeavesRest answer.new places.old places.new }
 {
     status_of(ask(alloc, index, fields, answer, places))
 }
@@ -107,6 +108,7 @@ pub extern "C" fn bsi_schema(
     ensures kept { index.new.held.value ≡ index.old.held.value }
     ensures left { result ≢ 0 → result ≢ status_of (Err NoRoom) → size.new ≡ size.old }
     ensures unfilled { result ≢ 0 → text.new ≡ text.old }
+    ensures rest { result ≡ 0 → drop size.new text.new ≡ drop size.new text.old }
 {
     status_of(describe(alloc, index, text, size))
 }

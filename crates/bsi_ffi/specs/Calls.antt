@@ -1,5 +1,5 @@
 -- What each call does to what a handle holds, what it answers, and when it is refused.
-use Rattle.std.specs.Prelude.{◌≡◌, ◌≢◌, ℕ, ◌+◌, ◌*◌, ◌%◌, ◌<◌, ◌≤◌, List, length, map, slice_index_or, take, Option, Some, None, Ok, Err, IsSome, true, false, MatchOption}
+use Rattle.std.specs.Prelude.{◌≡◌, ◌≢◌, ℕ, ◌+◌, ◌*◌, ◌%◌, ◌<◌, ◌≤◌, List, length, map, slice_index_or, take, Option, Some, None, Ok, Err, IsSome, true, false, MatchOption, drop, nat_eq, if◌then◌else◌}
 use Rattle.std.specs.Int.{cast_unsigned, w128}
 use Rattle.bsi_bits.specs.BitList.{word_count}
 use Rattle.bsi_bits.specs.Packed.{bit_of, end_of_u64}
@@ -84,12 +84,12 @@ IsRowsRefusal table feeder columns row why = ⊥
 abbrev pub with_first : Table → ℕ → List GivenColumn → ℕ → Table
 with_first table feeder columns n = with_rows table (given_rows feeder columns 0 n)
 
--- an index takes rows: all of them, or, if memory is refused, those of the first full blocks, or none
+-- an index takes rows: all of them, or, if memory is refused, those of the first full blocks but not all, or none
 abbrev pub AppendsColumns : Table → ℕ → List GivenColumn → ℕ → Table → Ending → Type 0
 AppendsColumns before feeder columns row after (Ok done) =
     AreAppendable before feeder columns × (row ≡ row_count columns) × (after ≡ with_first before feeder columns row)
 AppendsColumns before feeder columns row after (Err NoMemory) =
-    AreAppendable before feeder columns × (row ≤ row_count columns) × (row % max_block_rows ≡ 0)
+    AreAppendable before feeder columns × (row < row_count columns) × (row % max_block_rows ≡ 0)
     × (after ≡ with_first before feeder columns row)
 AppendsColumns before feeder columns row after (Err why) =
     IsRowsRefusal before feeder columns row why × (after ≡ before)
@@ -142,6 +142,14 @@ abbrev pub IsShort : Answer → FlatAnswer → List Place → Type 0
 IsShort (rows_answer rows) answer places =
     (answer.kind ≡ rows_kind) × (answer.count ≡ length rows.items) × (length places < answer.count)
 IsShort other answer places = ⊥
+
+-- how many places an answer takes
+abbrev pub places_of : FlatAnswer → ℕ
+places_of answer = if nat_eq answer.kind rows_kind then answer.count else 0
+
+-- the places behind those of the answer are what they were
+abbrev pub LeavesRest : FlatAnswer → List Place → List Place → Type 0
+LeavesRest answer before places = drop (places_of answer) places ≡ drop (places_of answer) before
 
 -- of a query that the fields ask, and of its answer over the rows, this is so
 abbrev pub IsAsked : Table → List Field → (Answer → Type 0) → Type 0

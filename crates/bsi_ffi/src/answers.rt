@@ -1,7 +1,7 @@
 //! Answers as C has them.
 
-ghost use Rattle.std.specs.Prelude.{◌≡◌, ◌≢◌, ◌<◌, map, take, length, Err, IfErr, OnErr, OnOk};
-ghost use Rattle.bsi_ffi.specs.Calls.{as_pairs, IsReplied, IsShort, IsWritten};
+ghost use Rattle.std.specs.Prelude.{◌≡◌, ◌≢◌, ◌<◌, drop, map, take, length, Err, IfErr, OnErr, OnOk};
+ghost use Rattle.bsi_ffi.specs.Calls.{as_pairs, IsReplied, IsShort, IsWritten, LeavesRest};
 
 use crate::opened::Opened;
 use crate::refusal::Refusal;
@@ -64,6 +64,7 @@ pub(crate) fn reply(
     ensures replied { IsReplied opened.now (map (λ f. f.now) fields.now) answer.new places.new result }
     ensures left { IfErr result (λ why. why ≢ Refusal.NoRoom → answer.new ≡ answer.old) }
     ensures unfilled { OnErr result (places.new ≡ places.old) }
+    ensures rest { OnOk result (LeavesRest answer.new places.old places.new) }
 {
     let index = opened.index();
     let fields = ByteRecord::from_fields(alloc, fields)?;
@@ -84,6 +85,7 @@ fn write(reply: &Answer, answer: &mut FlatAnswer, places: &mut [Place]) -> Resul
     ensures short { IfErr result (λ why. (why ≡ Refusal.NoRoom)
         × IsShort reply.now answer.new places.new) }
     ensures unfilled { OnErr result (places.new ≡ places.old) }
+    ensures rest { OnOk result (LeavesRest answer.new places.old places.new) }
 {
     match reply {
         Answer::Count(count) => {
@@ -120,6 +122,8 @@ fn list(rows: &[(u32, u64)], places: &mut [Place]) -> Result<(), Refusal>
     ensures short { IfErr result (λ why. (why ≡ Refusal.NoRoom)
         × (length places.new < length rows.now)) }
     ensures unfilled { OnErr result (places.new ≡ places.old) }
+    ensures rest { OnOk result
+        (drop (length rows.now) places.new ≡ drop (length rows.now) places.old) }
 {
     if rows.len() > places.len() {
         return Err(Refusal::NoRoom);

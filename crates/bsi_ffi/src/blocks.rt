@@ -104,10 +104,14 @@ fn append_blocks(
         ≡ with_first (table_of index.old) feeder columns.now appended.new }
     ensures within { appended.new ≤ row_count columns.now }
     ensures all { OnOk result (appended.new ≡ row_count columns.now) }
+    ensures some_left { OnErr result (appended.new < row_count columns.now) }
     ensures whole { OnErr result (appended.new % max_block_rows ≡ 0) }
 {
     *appended = 0;
     let rows = count_rows(columns);
+    if rows == 0 {
+        return Ok(());
+    }
     let mut entries = Vec::new(alloc);
     let mut block = index.new_block()?;
     'parts: for k in 0..rows.div_ceil(MAX_BLOCK_ROWS) {

@@ -1,7 +1,7 @@
 //! The calls on a handle.
 
-ghost use Rattle.std.specs.Prelude.{◌≡◌, ◌≢◌, None, is_some, map, IfErr, OnErr};
-ghost use Rattle.bsi_ffi.specs.Calls.{IsAppending, IsAsking, IsClosing, IsCounting, IsDescribing, IsOpening, IsSelecting, IsSharing};
+ghost use Rattle.std.specs.Prelude.{◌≡◌, ◌≢◌, None, drop, is_some, map, IfErr, OnErr, OnOk};
+ghost use Rattle.bsi_ffi.specs.Calls.{IsAppending, IsAsking, IsClosing, IsCounting, IsDescribing, IsOpening, IsSelecting, IsSharing, LeavesRest};
 ghost use Rattle.bsi_ffi.specs.States.{opened_in};
 
 use crate::answers::{FlatAnswer, Place, reply};
@@ -92,6 +92,7 @@ pub fn ask(
     ensures kept { index.new.held.value ≡ index.old.held.value }
     ensures left { IfErr result (λ why. why ≢ Refusal.NoRoom → answer.new ≡ answer.old) }
     ensures unfilled { OnErr result (places.new ≡ places.old) }
+    ensures rest { OnOk result (LeavesRest answer.new places.old places.new) }
 {
     let Some(state) = take(index, alloc) else {
         return Err(Refusal::Closed);
@@ -158,6 +159,7 @@ pub fn describe(
     ensures kept { index.new.held.value ≡ index.old.held.value }
     ensures left { IfErr result (λ why. why ≢ Refusal.NoRoom → size.new ≡ size.old) }
     ensures unfilled { OnErr result (text.new ≡ text.old) }
+    ensures rest { OnOk result (drop size.new text.new ≡ drop size.new text.old) }
 {
     let Some(state) = take(index, alloc) else {
         return Err(Refusal::Closed);

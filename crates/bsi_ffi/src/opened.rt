@@ -1,6 +1,6 @@
 //! An index that was opened, and the text of its schema.
 
-ghost use Rattle.std.specs.Prelude.{◌≡◌, IfErr, OnErr};
+ghost use Rattle.std.specs.Prelude.{◌≡◌, IfErr, OnErr, drop, OnOk};
 ghost use Rattle.bsi_reading.specs.SchemaTexts.{IsSchemaText};
 ghost use Rattle.bsi_ffi.specs.Calls.{with_table, AppendsColumns, IsDescribed};
 ghost use Rattle.bsi_table.specs.Index.{table_of};
@@ -61,6 +61,7 @@ impl Opened {
     pub(crate) fn describe(&self, text: &mut [u8], size: &mut usize) -> Result<(), Refusal>
         ensures described { IsDescribed self.now text.new size.new result }
         ensures unfilled { OnErr result (text.new ≡ text.old) }
+        ensures rest { OnOk result (drop size.new text.new ≡ drop size.new text.old) }
         ensures short { IfErr result (λ why. why ≡ Refusal.NoRoom) }
     {
         let from = self.text();

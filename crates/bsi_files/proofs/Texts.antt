@@ -1,5 +1,5 @@
 -- How long the parts of a fault's text are.
-use Rattle.std.proofs.Common.{ℕ, ◌≤◌, length, arith}
+use Rattle.std.proofs.Common.{◌≤◌, length, arith}
 use Rattle.bsi_files.specs.FaultTexts.{which_text}
 use Rattle.bsi_files.specs.declared.faults.Which.{Which}
 use Rattle.bsi_files.specs.declared.faults.Which.TheVariants.{AsksFile, SchemaFile}

@@ -1,5 +1,5 @@
 -- A line that was written whole, or in part.
-use Rattle.std.proofs.Common.{◌≡◌, ℕ, List, ◌++◌, Option, Some, None, Result, Ok, Err, ap, append_assoc, ◌∙◌}
+use Rattle.std.proofs.Common.{ℕ, List, ◌++◌, Option, Some, None, Result, Ok, Err, ap, append_assoc, ◌∙◌}
 use Rattle.std.specs.Io.KnownBytes.{Appends}
 use Rattle.std.specs.Prelude.{IsErr, OnErr, OnOk}
 use Rattle.bsi_shell.specs.FaultLines.{IsTold}

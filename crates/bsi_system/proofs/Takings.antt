@@ -9,7 +9,7 @@ use Rattle.std.proofs.lemmas.Option.{get_or_from_slice_get, slice_get_cases, sli
 use mathlib.Core.List.{IsPrefix}
 use Rattle.bsi_schema.specs.Columns.{fits, Declared}
 use Rattle.bsi_rows.specs.RowBlocks.{entries_of, fed_as}
-use Rattle.bsi_rows.specs.Table.{Table}
+use Rattle.bsi_table.specs.Index.{IndexedTable}
 use Rattle.bsi_rows.specs.Rows.{Entries, FedRow}
 use Rattle.bsi_rows.specs.declared.event.LoadRefused.TheVariants as load
 use Rattle.bsi_rows.specs.Runs.{rows_from}
@@ -226,7 +226,7 @@ module _ (intakes : List Intake) (f : ℕ) (found : HasFirst intakes f) (i : Int
       }
 
   -- or a batch of rows is
-  pub batch_read : (batch : Table) → IsPrefix (entries_of batch.rows) i.seen → 0 < length batch.rows → AllFit i.channel.schema (entries_of batch.rows) → IsBatchAt intakes f batch
+  pub batch_read : (batch : IndexedTable) → IsPrefix (entries_of batch.rows) i.seen → 0 < length batch.rows → AllFit i.channel.schema (entries_of batch.rows) → IsBatchAt intakes f batch
   batch_read batch first some fitting = record {
     first = record { intake = i; rest = first.0; at = first_intake; first = sym first.1; fitting = fitting };
     some = some;

@@ -4,6 +4,7 @@ use crate::inputs::{QUANTITIES, broken, text};
 use crate::runs::{RunInputs, ends};
 use bsi_files::{FilesFault, Go, Which, run_files};
 use bsi_fixtures::NarrowWriter;
+use bsi_text::SourceFault;
 use std::alloc::AllocError;
 use std::sync::Wait;
 use std::thread::Threads;
@@ -39,17 +40,25 @@ fn narrow_once<R: Threads + Wait + AllocGlobal + Sync>(
     Ok((run, writer.taken))
 }
 
-// Whether the run ends as the writer fails, behind these bytes.
-fn is_cut_once<R: Threads + Wait + AllocGlobal + Sync>(rt: &R, fails: bool, want: &[u8]) -> bool {
+// Whether the run ends as the writer fails, behind these bytes. It gives none where memory was refused.
+fn is_cut_once<R: Threads + Wait + AllocGlobal + Sync>(
+    rt: &R,
+    fails: bool,
+    want: &[u8],
+) -> Option<bool> {
     match narrow_once(rt, want.len(), fails) {
-        Ok((Err(FilesFault::Write), taken)) => taken.as_slice() == want,
-        _ => false,
+        Err(_)
+        | Ok((Err(FilesFault::NoMemory | FilesFault::Source(_, SourceFault::NoMemory)), _)) => None,
+        Ok((run, taken)) => Some(run == Err(FilesFault::Write) && taken.as_slice() == want),
     }
 }
 
 // Where memory was refused, the run is made again.
 fn is_cut<R: Threads + Wait + AllocGlobal + Sync>(rt: &R, fails: bool, want: &[u8]) -> bool {
-    is_cut_once(rt, fails, want) || is_cut_once(rt, fails, want)
+    match is_cut_once(rt, fails, want) {
+        None => is_cut_once(rt, fails, want) == Some(true),
+        Some(cut) => cut,
+    }
 }
 
 #[test]

@@ -23,7 +23,12 @@ fn the_first_row_file_that_fails_is_told(rt: HostRuntime) {
     let files = RunInputs {
         schema: text(QUANTITIES),
         asks: text(""),
-        rows: &[text("qty\n1\n"), broken("qty\n1\n"), broken("qty\n")],
+        rows: &[
+            text("qty\n1\n"),
+            broken("qty\n1\n"),
+            text("qty\n"),
+            broken("qty\n"),
+        ],
     };
     let told = Err(FilesFault::Source(1, SourceFault::Read));
     assert!(rt; ends(&rt, files, told, b""));

@@ -117,3 +117,16 @@ pub(crate) fn sum_of<B: Naming>(analyst: &mut Analyst<B>) -> Option<i128> {
         _ => None,
     }
 }
+
+/// Returns whether a test that was played went right. One that gave up did only where no memory is to be had, which it
+/// tells.
+pub(crate) fn went_right(rt: &HostRuntime, played: Option<bool>) -> bool {
+    if let Some(right) = played {
+        return right;
+    }
+    let refused = Vec::<u8>::with_capacity(rt.alloc(), 1).is_err();
+    if refused {
+        let _ = eprintln!(rt; "gave up: no memory for the fixture");
+    }
+    refused
+}

@@ -5,14 +5,13 @@ ghost use Rattle.bsi_rows.specs.Table.{no_rows};
 ghost use Rattle.bsi_system.specs.Running.{IsFeederOf};
 
 use crate::batches::{fill_by_batches, send_batches};
-use crate::calls::{ask, count_of, load, opened, publish, quantities, submit, sum_of};
+use crate::calls::{ask, count_of, load, opened, publish, quantities, submit, sum_of, went_right};
 use crate::refusals::{need_none, refuse};
 use bsi_system::{Analyst, AnalystRefused, Feeder, History, LoadRefused, Loader, Naming, System};
 use bsi_table::{Answer, AskError, Schema, Total};
 use std::alloc::Global;
 use std::marker::Brand;
 use std::sync::Wait;
-use std::test::Fail;
 
 /// Which test is played.
 #[derive(Clone, Copy)]
@@ -317,12 +316,17 @@ fn work<R: Wait>(rt: &R, alloc: Global, worked: Worked) -> Option<bool> {
     work_in::<Brand, R>(rt, alloc, worked, History::new(), schema, capacities, limit)
 }
 
-/// Plays a test, and plays it once more if memory was refused. It returns whether all went as it should.
-fn works<R: Wait>(rt: &R, alloc: Global, worked: Worked) -> bool {
+/// Plays a test, and plays it once more if memory was refused.
+fn work_again<R: Wait>(rt: &R, alloc: Global, worked: Worked) -> Option<bool> {
     match work(rt, alloc, worked) {
-        Some(right) => right,
-        None => work(rt, alloc, worked) == Some(true),
+        None => work(rt, alloc, worked),
+        played => played,
     }
+}
+
+/// Plays a test. It returns whether all went as it should.
+fn works<R: Wait>(rt: &R, alloc: Global, worked: Worked) -> bool {
+    work_again(rt, alloc, worked) == Some(true)
 }
 
 #[test]
@@ -361,10 +365,7 @@ fn running_refusals(rt: HostRuntime) {
 }
 
 #[test]
-fn ends_take_no_memory(rt: HostRuntime) -> Result<(), Fail> {
-    match work(&rt, rt.alloc(), Worked::NoMemory) {
-        Some(right) => assert!(rt; right),
-        None => eprintln!(rt; "gave up: no memory for the fixture")?,
-    }
-    Ok(())
+fn ends_take_no_memory(rt: HostRuntime) {
+    let played = work_again(&rt, rt.alloc(), Worked::NoMemory);
+    assert!(&rt; went_right(&rt, played));
 }

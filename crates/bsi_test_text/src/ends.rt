@@ -38,13 +38,12 @@ const LINES: &str = "ok\nok\nok\naccepted\ncount 0\nloaded 0\ncount 1\nsum 5\n";
 // How the script ends whose reader fails after this text. Where memory was refused, it runs again.
 fn read_until(alloc: Global, text: &[u8], lines: &mut Vec<u8>) -> Result<(), ScriptFault> {
     lines.clear();
-    match run_script(alloc, broken(text), lines) {
-        Err(ScriptFault::NoMemory) => {
-            lines.clear();
-            run_script(alloc, broken(text), lines)
-        }
-        run => run,
+    let run = run_script(alloc, broken(text), lines);
+    if run != Err(ScriptFault::NoMemory) && !told_of_memory(lines) {
+        return run;
     }
+    lines.clear();
+    run_script(alloc, broken(text), lines)
 }
 
 // Whether some line says that memory was refused.
@@ -58,13 +57,9 @@ fn line_ends(text: &[u8]) -> usize {
     text.iter().filter(|byte| **byte == b'\n').count()
 }
 
-// Whether the script, whose reader fails after this text, has answered its whole lines, or told that memory was
-// refused.
+// Whether the script, whose reader fails after this text, has answered its whole lines.
 fn answers_whole_lines(alloc: Global, text: &[u8], lines: &mut Vec<u8>) -> bool {
     let run = read_until(alloc, text, lines);
-    if told_of_memory(lines) {
-        return true;
-    }
     run == Err(ScriptFault::Read)
         && line_ends(lines) == line_ends(text)
         && LINES.as_bytes().starts_with(lines.as_slice())

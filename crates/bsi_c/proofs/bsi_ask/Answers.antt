@@ -1,4 +1,4 @@
-use Rattle.bsi_ffi.proofs.Telling.{where_other, where_refused}
+use Rattle.bsi_ffi.proofs.Telling.{where_done, where_other, where_refused}
 use Rattle.bsi_ffi.specs.declared.refusal.Refusal.TheVariants.{NoRoom}
 use Rattle.bsi_c.proofs.bsi_ask.Goals as goal
 
@@ -10,3 +10,6 @@ returns-clause-left c = where_other NoRoom _ c.ask.result _ c.status_of.ensures 
 
 pub returns-clause-unfilled : goal.returns-clause-unfilled
 returns-clause-unfilled c = where_refused _ c.ask.result _ c.status_of.ensures c.ask.ensures.unfilled
+
+pub returns-clause-rest : goal.returns-clause-rest
+returns-clause-rest c = where_done _ c.ask.result _ c.status_of.ensures c.ask.ensures.rest

@@ -4,6 +4,7 @@ use Rattle.bsi_schema.specs.Columns.{Declared}
 use Rattle.bsi_rows.specs.RowBlocks.{entries_of, HaveSameLimits, RowBlock}
 use Rattle.bsi_rows.specs.Rows.{FedRow}
 use Rattle.bsi_rows.specs.Table.{with_rows, Table}
+use Rattle.bsi_table.specs.Index.{table_of}
 use Rattle.bsi_rows.proofs.CallerLemmas.{fitting-alike}
 use Rattle.bsi_reading.proofs.Joining.{taken_both}
 use Rattle.bsi_reading.proofs.Taking.{taken_none}
@@ -92,7 +93,7 @@ fills-preserved g c =
     let empty = ap (λ (b : RowBlock). b.rows) c.clear.ensures in
     let full = c.fill.new.block in
     let same = same_block rem c.fills.source c.fill.new.self 0 c.clear.new.self full empty c.fill.result e.failed e.ended e.filled e.stopped in
-    let appended : c.append_block.new.self ≡ with_rows c.fills.batch full.rows = search rules in
+    let appended : table_of c.append_block.new.self ≡ with_rows (table_of c.fills.batch) full.rows = search rules in
     let many = ap (λ (t : Table). length t.rows) appended ∙ length-append c.fills.batch.rows full.rows in
     let entries = ap (λ (t : Table). entries_of t.rows) appended ∙ entries_append c.fills.batch.rows full.rows in
     record {

@@ -1,4 +1,4 @@
-use Rattle.std.proofs.Common.{◌≡◌, length, take}
+use Rattle.std.proofs.Common.{◌≡◌, drop, length, take}
 use Rattle.bsi_ffi.specs.Calls.{as_pairs}
 use Rattle.bsi_ffi.proofs.answers.list.Given as goal
 
@@ -7,4 +7,5 @@ abbrev pub invariant-rows : goal.invariant-rows
 invariant-rows l = record {
   long : length l.places ≡ length l.initial.places;
   done : as_pairs (take l.at l.places) ≡ take l.at l.rows;
+  rest : drop l.at l.places ≡ drop l.at l.initial.places;
 }

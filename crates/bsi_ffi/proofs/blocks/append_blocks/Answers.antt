@@ -1,6 +1,7 @@
 use Rattle.std.proofs.Common.{◌≡◌, ◌<◌, ◌*◌, true, length, sym, ap, ◌∙◌, arith, subst}
 use Rattle.bsi_rows.specs.RowBlocks.{RowBlock}
 use Rattle.bsi_rows.specs.Table.{with_rows, Table}
+use Rattle.bsi_table.specs.Index.{table_of}
 use Rattle.bsi_ffi.specs.Columns.{are_columns, given_rows, row_count, AreTaken}
 use Rattle.bsi_ffi.proofs.GivenRows.{with_none, with_block}
 use Rattle.bsi_ffi.proofs.blocks.append_blocks.Goals as goal
@@ -8,14 +9,14 @@ use Rattle.bsi_ffi.proofs.blocks.append_blocks.Goals as goal
 pub parts-init : goal.parts-init
 parts-init c = record {
   done = omega arith;
-  rows = sym (with_none c.args.index.now c.args.feeder c.args.columns.now);
+  rows = sym (with_none (table_of c.args.index.now) c.args.feeder c.args.columns.now);
   schema = ap (λ (b : RowBlock). b.schema) c.in_ok-block.ensures;
   feeders = ap (λ (b : RowBlock). b.feeders) c.in_ok-block.ensures;
 }
 
 -- no memory for the block: nothing was appended
 pub returns-in_err-block-clause-rows : goal.returns-in_err-block-clause-rows
-returns-in_err-block-clause-rows c = sym (with_none c.args.index.now c.args.feeder c.args.columns.now)
+returns-in_err-block-clause-rows c = sym (with_none (table_of c.args.index.now) c.args.feeder c.args.columns.now)
 
 -- the blocks so far change the rows alone
 pub append_block-requires-clause-fed : goal.append_block-requires-clause-fed
@@ -35,9 +36,13 @@ parts-preserved c =
     let before : c.parts.appended ≡ 64 * c.parts.k = omega (arith, c.parts.invariant.done, c.parts-test.true, c.div_ceil-k-end.ensures) in
     record {
       done = omega (arith, c.min-count.ensures, c.parts-test.true, c.div_ceil-k-end.ensures);
-      rows = with_block c.args.index.now c.parts.index c.append_block.new.index c.args.feeder c.args.columns.now (64 * c.parts.k) c.min-count.result _
-          (c.parts.invariant.rows ∙ ap (λ n. with_rows c.args.index.now (given_rows c.args.feeder c.args.columns.now 0 n)) before)
+      rows = with_block (table_of c.args.index.now) (table_of c.parts.index) (table_of c.append_block.new.index) c.args.feeder c.args.columns.now (64 * c.parts.k) c.min-count.result _
+          (c.parts.invariant.rows ∙ ap (λ n. with_rows (table_of c.args.index.now) (given_rows c.args.feeder c.args.columns.now 0 n)) before)
           c.in_ok-append_block.ensures.appended (omega arith);
       schema = c.append_block.ensures.schema ∙ c.parts.invariant.schema;
       feeders = c.append_block.ensures.feeders ∙ c.parts.invariant.feeders;
     }
+
+-- there is no row
+pub returns-then-rows-eq0-clause-rows : goal.returns-then-rows-eq0-clause-rows
+returns-then-rows-eq0-clause-rows c = sym (with_none (table_of c.args.index.now) c.args.feeder c.args.columns.now)

@@ -1,6 +1,7 @@
 use Rattle.std.proofs.Common.{◌≡◌, ◌*◌}
 use Rattle.std.specs.Prelude.{min}
 use Rattle.bsi_rows.specs.RowBlocks.{max_block_rows}
+use Rattle.bsi_table.specs.Index.{table_of}
 use Rattle.bsi_ffi.specs.Calls.{with_first}
 use Rattle.bsi_ffi.proofs.blocks.append_blocks.Given as goal
 
@@ -8,7 +9,7 @@ use Rattle.bsi_ffi.proofs.blocks.append_blocks.Given as goal
 abbrev pub invariant-parts : goal.invariant-parts
 invariant-parts l = record {
   done : l.appended ≡ min (max_block_rows * l.k) l.rows;
-  rows : l.index ≡ with_first l.initial.index l.feeder l.columns l.appended;
+  rows : table_of l.index ≡ with_first (table_of l.initial.index) l.feeder l.columns l.appended;
   schema : l.block.schema ≡ l.initial.index.schema;
   feeders : l.block.feeders ≡ l.initial.index.feeders;
 }

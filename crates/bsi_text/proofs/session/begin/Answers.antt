@@ -12,8 +12,8 @@ map_err-requires c = λ refused is.
     let setup = c.args.declared in
     let columns : 0 < length setup.table.schema.columns = let can = c.requires in grind (arith, nat_tests, can) in
     let feeders : 0 < length setup.capacities = let can = c.requires in grind (arith, nat_tests, can) in
-    let none = sizes_taken setup.table.schema setup.capacities setup.table.limit c.into_parts.ensures.sizes columns feeders in
+    let none = sizes_taken setup.table.schema setup.capacities setup.table.limit c.into_parts-table.ensures.sizes columns feeders in
     let told = rw is at c.new.ensures.refused in
     let first : IsFirstOr NoMemory (sizes_refusal setup.table.schema setup.capacities setup.table.limit) refused =
-    search (rules, told, c.into_parts.ensures.table, c.into_parts.ensures.capacities) in
+    search (rules, told, c.into_parts-table.ensures.table, c.into_parts-table.ensures.capacities) in
     subst (λ o. IsFirstOr NoMemory o refused) none first

@@ -1,0 +1,189 @@
+"""Numbers and times from the bytes of many fields at once.
+
+Each call reads what is spelt as nearly all files do, and says which fields it read. The others are read one by one, by
+their kind.
+"""
+
+from __future__ import annotations
+
+import re
+from typing import List, NamedTuple, Optional, Tuple
+
+import numpy as np
+
+from .fields import WORD, Fields, windows_of
+
+# A number of so many digits is within 63 bits.
+DIGITS = 18
+POWERS = 10 ** np.arange(DIGITS + 1, dtype=np.int64)
+MINUS, ZERO = b"-"[0], b"0"[0]
+ZEROS, SIXES, HIGH = (np.uint64(int.from_bytes(bytes([byte] * WORD), "little")) for byte in (0x30, 0x06, 0xF0))
+# The last bytes of a word, by how many they are.
+TAILS = np.array([((1 << 64) - 1) ^ ((1 << 64 - 8 * size) - 1) for size in range(WORD + 1)], np.uint64)
+# How two, four and eight digits of a word become one number each.
+STEPS = [(0x0F0F0F0F0F0F0F0F, 2561, 8), (0x00FF00FF00FF00FF, 6553601, 16), (0x0000FFFF0000FFFF, 42949672960001, 32)]
+JOINED = [tuple(map(np.uint64, step)) for step in STEPS]
+SHAPE = re.compile(r"(\d{4})([-/])(\d\d)\2(\d\d)(?:[T ](\d\d):(\d\d)(?::(\d\d)(?:\.(\d{1,9}))?)?)?(Z?)", re.ASCII)
+
+
+class Numbers(NamedTuple):
+    """Digits of fields as whole numbers, how many of them stand behind the point, and which fields are read; and
+    whether a field has a point, and begins with a needless 0."""
+
+    mantissas: np.ndarray
+    places: np.ndarray
+    read: np.ndarray
+    pointed: bool
+    led: np.ndarray
+
+
+def whole_of(data: np.ndarray, ends: np.ndarray, lengths: np.ndarray) -> Tuple[np.ndarray, np.ndarray]:
+    """Returns the numbers of runs of digits within 63 bits, by their ends and lengths, and which of the runs are such.
+    An empty run is 0."""
+    windows, longest = windows_of(data), int(lengths.max(initial=0))
+    total, read = _word(windows[np.maximum(ends - WORD, 0)], np.minimum(lengths, WORD))
+    for place in range(WORD, min(longest, DIGITS + 1), WORD):
+        left = np.minimum(np.maximum(lengths - place, 0), WORD)
+        number, is_read = _word(windows[np.maximum(ends - (place + WORD), 0)], left)
+        total += number * POWERS[place]
+        read &= is_read
+    # (a number of one digit more may be past 63 bits, and has the sign of one below 0 then)
+    return total, read & (lengths <= DIGITS + 1) & (total >= 0) if longest > DIGITS else read
+
+
+def _word(words: np.ndarray, lengths: np.ndarray) -> Tuple[np.ndarray, np.ndarray]:
+    """Returns the numbers of the last bytes of words, as many as the lengths say, and which are digits. The words are
+    written over."""
+    digits = words
+    digits ^= ZEROS
+    digits &= TAILS[lengths]
+    read = ((digits | (digits + SIXES)) & HIGH) == 0
+    for kept, factor, shift in JOINED:
+        digits &= kept
+        digits *= factor
+        digits >>= shift
+    return digits.view(np.int64), read
+
+
+def numbers_of(fields: Fields, point: int) -> Numbers:
+    """Reads fields such as 5, -12.50 and .5. Most have as many places as the first."""
+    data, starts, ends = fields[:3]
+    is_negative = data[starts] == MINUS
+    starts = starts + is_negative
+    first = data[starts[0] : ends[0]].tobytes()
+    behind = np.full(len(starts), len(first) - 1 - first.find(point) if point in first else -1)
+    numbers, read = _pointed(data, starts, ends, behind, point)
+    others = np.flatnonzero(~read)
+    if len(others):
+        behind[others] = _behind_point(data, starts[others], ends[others], point)
+        numbers[others], read[others] = _pointed(data, starts[others], ends[others], behind[others], point)
+    places = np.maximum(behind, 0)
+    led = data[starts] == ZERO
+    if led.any():
+        led &= ends - starts - behind > 2
+    if is_negative.any():
+        np.negative(numbers, out=numbers, where=is_negative)
+    return Numbers(numbers, places, read, bool((behind >= 0).any()), led)
+
+
+def _pointed(
+    data: np.ndarray, starts: np.ndarray, ends: np.ndarray, behind: np.ndarray, point: int
+) -> Tuple[np.ndarray, np.ndarray]:
+    """Returns the digits of fields as numbers, of which so many stand behind a point, or -1; and which are such."""
+    lengths = ends - starts
+    if behind.max(initial=-1) < 0:
+        numbers, read = whole_of(data, ends, lengths)
+        return numbers, read & (lengths > 0)
+    place = int(behind[0])
+    if place >= 0 and lengths.max() <= WORD and (behind == place).all():
+        return _spliced(windows_of(data)[ends - WORD], lengths, place, point)
+    places, pointed = np.maximum(behind, 0), behind >= 0
+    stops = ends - places - pointed
+    whole, read = whole_of(data, stops, np.maximum(stops - starts, 0))
+    fraction, is_read = whole_of(data, ends, places)
+    digits = lengths - pointed
+    read = read & is_read & (stops >= starts) & (digits > 0) & (digits <= DIGITS) & (~pointed | (data[stops] == point))
+    return np.where(read, whole, 0) * POWERS[np.minimum(places, DIGITS)] + fraction, read
+
+
+def _spliced(words: np.ndarray, lengths: np.ndarray, places: int, point: int) -> Tuple[np.ndarray, np.ndarray]:
+    """Returns the digits of fields of at most a word as numbers, with so many places behind a point that is taken out;
+    and which are such."""
+    at, tail = np.uint64(8 * (WORD - 1 - places)), TAILS[places]
+    has_point = (words >> at) & np.uint64(0xFF) == np.uint64(point)
+    words = (words & tail) | ((words << np.uint64(8)) & ~tail)
+    numbers, read = _word(words, np.maximum(lengths - 1, 0))
+    return numbers, read & has_point & (lengths > max(1, places))
+
+
+def _behind_point(data: np.ndarray, starts: np.ndarray, ends: np.ndarray, point: int) -> np.ndarray:
+    """Returns how many bytes stand behind the last point of each field, and -1 where it has none."""
+    behind, points = np.full(len(starts), -1, np.int64), np.flatnonzero(data == point)
+    rows = np.minimum(np.searchsorted(ends, points, "right"), len(ends) - 1)
+    within = points >= starts[rows]
+    rows, points = rows[within], points[within]
+    behind[rows] = ends[rows] - 1 - points
+    return behind
+
+
+class Moments(NamedTuple):
+    """Points of time as days since 1970-01-01, seconds and nanoseconds, which fields are read, whether the times have a
+    clock, and whether they have the zone Z."""
+
+    days: np.ndarray
+    seconds: np.ndarray
+    nanoseconds: np.ndarray
+    read: np.ndarray
+    has_clock: bool
+    is_aware: bool
+
+
+def moments_of(fields: Fields, sample: str) -> Optional[Moments]:
+    """Reads the fields that are spelt as the sample is: 2026-01-31, with a clock behind it or not. None where that one
+    is spelt otherwise."""
+    shape = SHAPE.fullmatch(sample)
+    if shape is None:
+        return None
+    data, starts, ends = fields[:3]
+    read = ends - starts == len(sample)
+    for place in (place for place in range(10, len(sample)) if not sample[place].isdigit()):
+        read &= data[np.minimum(starts + place, len(data) - 1)] == ord(sample[place])
+    (century, year, month), is_month = _pairs(data, starts, sample, 0, (0, 2, 5))
+    (day,), is_day = _pairs(data, starts, sample, 2, (6,))
+    days, is_there = _days(century * 100 + year, month, day)
+    read &= is_month & is_day & is_there
+    seconds = nanoseconds = np.broadcast_to(np.int64(0), len(read))
+    if shape.group(5):
+        start, places = (11, (0, 3, 6)) if shape.group(7) else (8, (3, 6))
+        clock, is_clock = _pairs(data, starts, sample, start, places)
+        hour, minute, second = clock if shape.group(7) else (*clock, np.int64(0))
+        read &= is_clock & (hour < 24) & (minute < 60) & (second < 60)
+        seconds = (hour * 60 + minute) * 60 + second
+    if shape.group(8):
+        digits = len(shape.group(8))
+        fraction, is_fraction = whole_of(data, starts + shape.end(8), np.full(len(starts), digits))
+        read, nanoseconds = read & is_fraction, fraction * POWERS[9 - digits]
+    return Moments(days, seconds, nanoseconds, read, shape.group(5) is not None, shape.group(9) == "Z")
+
+
+def _pairs(
+    data: np.ndarray, starts: np.ndarray, sample: str, start: int, places: Tuple[int, ...]
+) -> Tuple[List[np.ndarray], np.ndarray]:
+    """Returns the numbers of two digits at places of the eight bytes from a start on, and which fields have digits and
+    other bytes where the sample has them."""
+    shown = [(b"0"[0], 0) if sign.isdigit() else (ord(sign), 0xFF) for sign in sample[start : start + WORD]]
+    wanted, fixed = (np.uint64(int.from_bytes(bytes(part), "little")) for part in zip(*shown))
+    words = windows_of(data)[np.minimum(starts + start, len(data) - WORD)] ^ wanted
+    read = (((words | (words + SIXES)) & HIGH) | (words & fixed)) == 0
+    words = words * np.uint64(10) + (words >> np.uint64(8))
+    return [((words >> np.uint64(8 * place)) & np.uint64(0xFF)).view(np.int64) for place in places], read
+
+
+def _days(year: np.ndarray, month: np.ndarray, day: np.ndarray) -> Tuple[np.ndarray, np.ndarray]:
+    """Returns the days since 1970-01-01, and which of them the calendar has."""
+    is_month = (month >= 1) & (month <= 12)
+    months = np.where(is_month, (year - 1970) * 12 + month - 1, 0)
+    first, last = (int(months.min()), int(months.max())) if len(months) else (0, 0)
+    begins = np.arange(first, last + 2).astype("M8[M]").astype("M8[D]").astype(np.int64)
+    begin, end = begins[months - first], begins[months - first + 1]
+    return begin + day - 1, is_month & (day >= 1) & (begin + day <= end)

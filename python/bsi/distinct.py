@@ -1,0 +1,110 @@
+"""The different texts of a column, each with a number in the order in which it was found."""
+
+from __future__ import annotations
+
+import threading
+from typing import Dict, List, NamedTuple
+
+import numpy as np
+
+from .fields import WORD, Fields
+
+# Texts of so many words are compared as such, and longer ones one by one.
+WORDS = 8
+FACTOR = np.uint64(0x9E37_79B9_7F4A_7C15)
+
+
+class Known(NamedTuple):
+    """Texts in the order of their keys, with their numbers, lengths and words."""
+
+    keys: np.ndarray
+    codes: np.ndarray
+    lengths: np.ndarray
+    words: np.ndarray
+
+    def codes_of(self, asked: "Asked") -> np.ndarray:
+        """Returns the number of each text that is known, and -1 for the others."""
+        if not len(self.keys):
+            return np.full(len(asked.keys), -1, np.int64)
+        places = np.minimum(np.searchsorted(self.keys, asked.keys), len(self.keys) - 1)
+        is_same = (self.keys[places] == asked.keys) & (self.lengths[places] == asked.lengths)
+        for known, words in zip(self.words, asked.words):
+            is_same &= known[places] == words
+        return np.where(is_same, self.codes[places], -1)
+
+
+class Asked(NamedTuple):
+    """Fields by their words."""
+
+    keys: np.ndarray
+    lengths: np.ndarray
+    words: List[np.ndarray]
+
+    def taken(self, places: np.ndarray) -> "Asked":
+        """Returns the fields at these places."""
+        return Asked(self.keys[places], self.lengths[places], [words[places] for words in self.words])
+
+
+def asked_of(fields: Fields) -> Asked:
+    """Returns fields by their words, and a key of each. Keys that are equal may have words that differ, and a text may
+    have several."""
+    lengths, words = fields.ends - fields.starts, fields.words()[:WORDS]
+    if len(words) == 1:
+        return Asked(words[0], lengths, words)
+    keys = lengths.astype(np.uint64) * FACTOR
+    for word in words:
+        keys = (keys ^ word) * FACTOR
+        keys ^= keys >> np.uint64(29)
+    return Asked(keys, lengths, words)
+
+
+class Distinct:
+    """Different texts. Several threads may ask it."""
+
+    def __init__(self) -> None:
+        self.texts: List[str] = []
+        self._codes: Dict[str, int] = {}
+        self._lock = threading.Lock()
+        none = np.zeros(0, np.int64)
+        self._known = Known(none.astype(np.uint64), none, none, np.zeros((WORDS, 0), np.uint64))
+
+    def codes(self, fields: Fields) -> np.ndarray:
+        """Returns the number of each field's text, which is kept where it is new."""
+        asked = asked_of(fields)
+        codes = self._known.codes_of(asked)
+        codes[asked.lengths > WORDS * WORD] = -1
+        unknown = np.flatnonzero(codes < 0)
+        if len(unknown):
+            with self._lock:
+                self._learn(fields.taken(unknown), asked.taken(unknown))
+            codes[unknown] = self._known.codes_of(asked.taken(unknown))
+            codes[asked.lengths > WORDS * WORD] = -1
+            others = np.flatnonzero(codes < 0)
+            with self._lock:
+                codes[others] = [self._code(text) for text in fields.taken(others).texts()]
+        return codes
+
+    def _code(self, text: str) -> int:
+        code = self._codes.setdefault(text, len(self.texts))
+        if code == len(self.texts):
+            self.texts.append(text)
+        return code
+
+    def _learn(self, fields: Fields, asked: Asked) -> None:
+        """Keeps the texts of fields that are short, the first of each key."""
+        short = np.flatnonzero(asked.lengths <= WORDS * WORD)
+        first = short[np.sort(np.unique(asked.keys[short], return_index=True)[1])]
+        first = first[~np.isin(asked.keys[first], self._known.keys)]
+        codes = np.array([self._code(text) for text in fields.taken(first).texts()], np.int64)
+        words = np.zeros((WORDS, len(first)), np.uint64)
+        for place, word in enumerate(asked.words):
+            words[place] = word[first]
+        known = self._known
+        keys = np.concatenate([known.keys, asked.keys[first]])
+        order = np.argsort(keys)
+        self._known = Known(
+            keys[order],
+            np.concatenate([known.codes, codes])[order],
+            np.concatenate([known.lengths, asked.lengths[first]])[order],
+            np.concatenate([known.words, words], axis=1)[:, order],
+        )

@@ -1,0 +1,71 @@
+"""Answers for each value of a column: how many rows have it, and figures of other columns in these."""
+
+from __future__ import annotations
+
+from typing import TYPE_CHECKING, Any, Callable, Dict, Union
+
+from .errors import BadQuery
+from .predicates import Column, Predicate, all_rows
+
+if TYPE_CHECKING:
+    from .table import Name, Table
+
+MAX_GROUPS = 4096
+
+
+class Groups(Dict[Any, Any]):
+    """Answers by value, in order of the values."""
+
+    def __init__(self, column: str, answers: Dict[Any, Any]):
+        super().__init__(answers)
+        self._column = column
+
+    def to_pandas(self) -> Any:
+        """Returns the answers as a series of pandas, with the values as its index."""
+        import pandas
+
+        return pandas.Series(list(self.values()), pandas.Index(list(self), name=self._column))
+
+
+class GroupBy:
+    """The rows of a table by the values of a column, of which there are at most 4,096. Each value takes a question or
+    two."""
+
+    def __init__(self, table: "Table", column: str):
+        self._table, self._column = table, column
+
+    def count(self, column: Union["Name", Predicate, None] = None, where: Predicate = all_rows) -> Groups:
+        """Returns how many rows have each value, or of how many of them a column has one too."""
+        if isinstance(column, Predicate):
+            column, where = None, column if where is all_rows else column & where
+        return self._each(where, lambda one: self._table.count(column, one))
+
+    def sum(self, column: "Name", where: Predicate = all_rows) -> Groups:
+        """Returns the sum of a column in the rows of each value."""
+        return self._each(where, lambda one: self._table.sum(column, one))
+
+    def mean(self, column: "Name", where: Predicate = all_rows) -> Groups:
+        """Returns the mean of a column in the rows of each value."""
+        return self._each(where, lambda one: self._table.mean(column, one))
+
+    def median(self, column: "Name", where: Predicate = all_rows) -> Groups:
+        """Returns the lower median of a column in the rows of each value."""
+        return self._each(where, lambda one: self._table.median(column, one))
+
+    def least(self, column: "Name", where: Predicate = all_rows) -> Groups:
+        """Returns the least value of a column in the rows of each value."""
+        return self._each(where, lambda one: self._table.least(column, one))
+
+    def greatest(self, column: "Name", where: Predicate = all_rows) -> Groups:
+        """Returns the greatest value of a column in the rows of each value."""
+        return self._each(where, lambda one: self._table.greatest(column, one))
+
+    min, max = least, greatest
+
+    def _each(self, where: Predicate, ask: Callable[[Predicate], Any]) -> Groups:
+        column, answers = Column(self._column), {}
+        for value in self._table.values_in(self._column, where):
+            if len(answers) == MAX_GROUPS:
+                raise BadQuery(f"column {self._column!r} has more than {MAX_GROUPS:,} values in these rows")
+            answers[value] = ask(where & (column == value) if where is not all_rows else column == value)
+        return Groups(self._column, answers)
