@@ -97,11 +97,13 @@ fn counts_are(alloc: Global, n: u64, wanted: [u64; 3]) -> Result<bool, NoMemory>
 }
 
 /// So many places, on either side of the ends of words and lanes, and the counts of those below.
-const COUNTS: [(u64, [u64; 3]); 9] = [
+const COUNTS: [(u64, [u64; 3]); 11] = [
     (0, [0, 0, 0]),
     (63, [21, 11, 10]),
     (64, [22, 11, 11]),
     (65, [22, 11, 11]),
+    (127, [43, 22, 21]),
+    (192, [64, 32, 32]),
     (255, [85, 43, 42]),
     (256, [86, 43, 43]),
     (257, [86, 43, 43]),
