@@ -5,8 +5,8 @@
 - The version in VERSION is that of the manual page, whose date is that of the newest heading of CHANGELOG.md, of that
   heading, and of README.md.
 - The lines of a block ```rust stand so, one below the other, in a file of crates/bsi_examples/src.
-- Each clause of a block ```text after a line `fn NAME..` is one of a function of that name, where S stands for what self shows at the call,
-  and S' at the return.
+- Each clause of a block ```text after a line `fn NAME..` is one of a free function of that name, and after `fn TYPE::NAME..` of one in
+  an `impl` of that type, where S stands for what self shows at the call, and S' at the return.
 - examples/README.md names each file and folder of examples/. docs/ARCHITECTURE.md lists the crates of crates.txt, in its order, each by
   the idea with which its root file begins, and with its modules. docs/crates.svg draws them, and which of them the code of each uses.
   Each wrong body that docs/PROMISES.md names is there.
@@ -31,6 +31,8 @@ HEADING = re.compile(r"^#+ (.*)$", re.MULTILINE)
 BOX = re.compile(
     r'<rect x="(\d+)" y="(\d+)" width="(\d+)" height="(\d+)"[^>]*/>\n<text[^>]*>(\w+)</text>(?:\n<text[^>]*>also ([^<]*)</text>)?'
 )
+# An `impl` or a trait: what it is of, and its functions.
+ITEM = re.compile(r"^(?:impl|(?:pub )?trait)\b(.*?)\{$(.*?)^\}", re.MULTILINE | re.DOTALL)
 VERSION = re.compile(r"\d+\.\d+\.\d+")
 # How many bytes a page may have, and how many those may have that are named.
 MAX_SIZE = 12_288
@@ -141,11 +143,25 @@ def as_quoted(clause):
     return " ".join(re.sub(r"(\w)\.(now|old)\b", r"\1", shown).split())
 
 
-def contracts_of(source):
-    """Returns the name of each function of a source with its clauses, as a document quotes them."""
+def type_of(head):
+    """Returns the name of the type, or of the trait, that the head of an item is of."""
+    while re.search(r"<[^<>]*>", head):
+        head = re.sub(r"<[^<>]*>", "", head)
+    return re.search(r"\w+", head.rpartition(" for ")[2])[0]
+
+
+def contracts_in(owner, source):
+    """Returns each function of these lines with its owner and its clauses, as a document quotes them."""
     for name, head in re.findall(r"\bfn (\w+)(.*?)\{$", source, re.MULTILINE | re.DOTALL):
         clauses = re.findall(r"\b(requires|ensures) (\w* ?)\{(.*?)\}\s*(?=requires|ensures|//|$)", head, re.DOTALL)
-        yield name, {f"{kind} {label}".strip() + ": " + as_quoted(text) for kind, label, text in clauses}
+        yield owner + name, {f"{kind} {label}".strip() + ": " + as_quoted(text) for kind, label, text in clauses}
+
+
+def contracts_of(source):
+    """Returns each function of a source, with its type before its name where it has one, and its clauses as a document quotes them."""
+    yield from contracts_in("", ITEM.sub("", source))
+    for head, body in ITEM.findall(source):
+        yield from contracts_in(f"{type_of(head)}::", body)
 
 
 def fault_in_clauses(top):
@@ -154,7 +170,7 @@ def fault_in_clauses(top):
     contracts = [found for path in sources for found in contracts_of(text_of(path))]
     for document, text in blocks(top, "text"):
         for head, body in re.findall(r"^fn ([^\n]*)\n((?: {2}.*\n)*)", text, re.MULTILINE):
-            name = re.match(r"(?:\w+::)?(\w+)", head).group(1)
+            name = re.match(r"(?:\w+::)?\w+", head)[0]
             quoted = {" ".join(line.split()) for line in body.splitlines()}
             if not any(name == found and quoted <= clauses for found, clauses in contracts):
                 return f"{document}: no function {name} has all of the clauses {sorted(quoted)}"

@@ -85,6 +85,13 @@ class Tally:
         self.passed += 1
         print(f"ok      {text}", flush=True)
 
+    def lacks(self, text):
+        """Counts what this machine can't check: as skipped, or in .ci/run, which sets CI, as failed."""
+        if os.environ.get("CI"):
+            return self.fails(f"{text}: this machine lacks it")
+        self.skipped += 1
+        print(f"skipped {text}: this machine lacks it", flush=True)
+
     def add(self, passed, failed, skipped=0):
         self.passed, self.failed, self.skipped = self.passed + passed, self.failed + failed, self.skipped + skipped
 

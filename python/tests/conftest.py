@@ -7,3 +7,7 @@ import sys
 TOP = os.path.dirname(os.path.dirname(os.path.abspath(__file__)))
 sys.path.insert(0, TOP)
 os.environ["PYTHONPATH"] = os.pathsep.join([TOP, *filter(None, [os.environ.get("PYTHONPATH")])])
+
+
+def pytest_configure(config):
+    config.addinivalue_line("filterwarnings", "error")

@@ -2,11 +2,15 @@
 other."""
 
 import datetime
+import itertools
+import math
+import operator
 import random
 from decimal import Decimal
 from fractions import Fraction
 
 import numpy as np
+import pytest
 
 import bsi
 
@@ -61,17 +65,52 @@ def test_random_values():
     assert kept > 800
 
 
+def exact(value):
+    """Returns a number exactly, or None where it is none."""
+    if isinstance(value, np.timedelta64) or not isinstance(value, (int, float, Decimal, Fraction, np.number, np.bool_)):
+        return None
+    try:
+        return Fraction(*(int(value) if isinstance(value, (np.integer, np.bool_)) else value).as_integer_ratio())
+    except OverflowError:
+        return math.inf if value > 0 else -math.inf
+    except (AttributeError, ValueError):
+        return None
+
+
+def moment(value):
+    """Returns a time without a zone, or None where it is none or finer than nanoseconds."""
+    is_time = isinstance(value, datetime.date) and getattr(value, "tzinfo", None) is None
+    found = np.datetime64(value) if is_time or isinstance(value, np.datetime64) else np.datetime64("NaT")
+    return None if np.isnat(found) or np.datetime_data(found)[0] in ("ps", "fs", "as") else found
+
+
+# A value of each column, and what makes a constant of it comparable.
+STORED = {
+    "n": (1, exact),
+    "d": (Decimal("0.5"), exact),
+    "t": (datetime.date(2026, 1, 1), moment),
+    "f": (True, lambda value: bool(value) if isinstance(value, (bool, np.bool_)) else None),
+    "s": ("a", lambda value: str(value) if isinstance(value, str) else None),
+    "z": (None, exact),
+}
+SIGNS = {"=": "eq", "!=": "ne", "<": "lt", "<=": "le", ">": "gt", ">=": "ge"}
+
+
 def test_random_constants():
-    index = bsi.Index.from_frame(
-        {"n": [1], "d": [Decimal("0.5")], "t": [datetime.date(2026, 1, 1)], "f": [True], "s": ["a"], "z": [None]}
-    )
-    for value in (value for value in VALUES if not isinstance(value, (bsi.Column, bsi.Predicate))):
-        for name in index.columns:
-            for sign in ("=", "!=", "<", "<=", ">", ">="):
-                try:
-                    assert index.count(bsi.col[name]._compared(sign, value)) in (0, 1)
-                except bsi.BadQuery:
-                    pass
+    index, answered = bsi.Index.from_frame({name: [value] for name, (value, _) in STORED.items()}), 0
+    # (an array of one number may be a constant, and may be none)
+    constants = [value for value in VALUES if not isinstance(value, (bsi.Column, bsi.Predicate, np.ndarray))]
+    for name, value, sign in itertools.product(STORED, constants, SIGNS):
+        stored, made = STORED[name]
+        constant = made(value)
+        if constant is None:
+            with pytest.raises(bsi.BadQuery):
+                index.count(bsi.col[name]._compared(sign, value))
+            continue
+        wanted = stored is not None and getattr(operator, SIGNS[sign])(made(stored), constant)
+        assert index.count(bsi.col[name]._compared(sign, value)) == wanted, (name, sign, value)
+        answered += 1
+    assert answered > 400
 
 
 OPTIONS = {

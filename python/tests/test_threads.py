@@ -65,16 +65,22 @@ def test_an_index_is_closed_while_others_ask():
     for _ in range(20):
         index = bsi.Index(FORMS)
         index.append(table(5_000))
-        closed = []
+        asked, closed = [threading.Event() for _ in range(3)], []
 
-        def ask(index=index, closed=closed):
+        def ask(place, index=index, asked=asked, closed=closed):
             try:
-                for _ in range(200):
+                for _ in range(100_000):
                     assert index.count(col.a >= 0) == 5_000
-            except bsi.Closed as why:
-                closed.append(why)
+                    asked[place].set()
+            except bsi.Closed:
+                closed.append(place)
 
-        assert in_threads([ask, ask, ask, index.close]) == []
+        def close(index=index, asked=asked):
+            assert all(event.wait(60) for event in asked)
+            index.close()
+
+        assert in_threads([lambda: ask(0), lambda: ask(1), lambda: ask(2), close]) == []
+        assert sorted(closed) == [0, 1, 2]
 
 
 @pytest.mark.parametrize("make", [lambda: bsi.Index(FORMS), lambda: bsi.Parts(4, FORMS)])

@@ -1,19 +1,23 @@
-/* Memory is refused at each growth in turn: each call says so, changes no row but those that it counts, and leaves no
- * block. The calls by which the library asks for memory stand here in place of its own. */
+/* Memory is refused at each growth in turn, once alone and once with all later ones: each call says so, changes no row
+ * but those that it counts, and leaves no block. Where the growth is refused alone, the same call made again does what
+ * is left. The calls by which the library asks for memory stand here in place of its own. */
 #include "check.h"
 
 enum { ROWS = 200 };
 
-static long left = -1, live;
+static long left, live;
+static bool all_later, was_refused;
 static int64_t a[ROWS], b[ROWS];
 static uint8_t none[1];
 static bsi_place places[ROWS];
 static uint64_t words[4];
 static long wrong;
 
+/* Returns whether this growth is refused: the one at which `left` comes to 0, and each later one if all are. */
 static bool is_refused(void) {
     if (left > 0) left--;
-    return left == 0;
+    if (left > 0 || (was_refused && !all_later)) return false;
+    return was_refused = true;
 }
 
 void *__wrap_malloc(size_t size);
@@ -36,7 +40,10 @@ void __wrap_free(void *block) {
     __real_free(block);
 }
 
-static bool is_fair(uint32_t status) { return status == BSI_OK || status == BSI_NO_MEMORY; }
+static bool is_fair(uint32_t status) { return status == BSI_OK || (status == BSI_NO_MEMORY && was_refused); }
+
+/* Returns whether the call is to be made again: memory was refused, and comes from now on. */
+static bool is_to_repeat(uint32_t status) { return status == BSI_NO_MEMORY && !all_later; }
 
 /* Returns the lower median of b in the first rows. */
 static int64_t median_of_b(uint64_t rows) {
@@ -47,34 +54,76 @@ static int64_t median_of_b(uint64_t rows) {
     }
 }
 
-/* Asks an index of the first rows, and sees that each answer that is given is right. */
-static void question(bsi_index *index, uint64_t rows) {
+static void list_below_100(bsi_index *index, uint64_t rows) {
     bsi_answer answer = {0};
     uint32_t status = ask(index, "list a < 100", &answer, places, ROWS);
     wrong += !is_fair(status);
-    for (uint64_t k = 0; !status && k < answer.count; k++) wrong += places[k].row >= rows || a[places[k].row] >= 100;
-    status = ask(index, "median b all", &answer, places, ROWS);
+    if (is_to_repeat(status)) wrong += (status = ask(index, "list a < 100", &answer, places, ROWS)) != BSI_OK;
+    if (status) return;
+    uint64_t wanted = 0;
+    for (uint64_t row = 0; row < rows; row++) wanted += a[row] < 100;
+    wrong += answer.count != wanted;
+    for (uint64_t k = 0; k < answer.count; k++) wrong += places[k].row >= rows || a[places[k].row] >= 100;
+}
+
+static void median(bsi_index *index, uint64_t rows) {
+    bsi_answer answer = {0};
+    uint32_t status = ask(index, "median b all", &answer, places, ROWS);
     wrong += !is_fair(status);
+    if (is_to_repeat(status)) wrong += (status = ask(index, "median b all", &answer, places, ROWS)) != BSI_OK;
     wrong += !status && (answer.present != (rows > 0) || (rows && answer.value != median_of_b(rows)));
-    status = selects(index, "a < 100", words, (rows + 63) / 64);
+}
+
+static void select_below_100(bsi_index *index, uint64_t rows) {
+    uint32_t status = selects(index, "a < 100", words, (rows + 63) / 64);
     wrong += !is_fair(status);
+    if (is_to_repeat(status)) wrong += (status = selects(index, "a < 100", words, (rows + 63) / 64)) != BSI_OK;
     for (uint64_t row = 0; !status && row < rows; row++) wrong += (words[row / 64] >> (row % 64) & 1) != (a[row] < 100);
+}
+
+/* Asks an index of the first rows, and sees that each answer that is given is right. */
+static void question(bsi_index *index, uint64_t rows) {
+    list_below_100(index, rows);
+    median(index, rows);
+    select_below_100(index, rows);
+}
+
+/* Appends the rows from the first one on. Writes how many the index then has. */
+static uint32_t append_from(bsi_index *index, uint64_t first, uint64_t *rows) {
+    bsi_column columns[2] = {{a + first, ROWS - first, none, 0}, {b + first, ROWS - first, none, 0}};
+    uint64_t row;
+    uint32_t status = bsi_append(index, 0, columns, 2, &row);
+    wrong += !is_fair(status) || (!status && row != ROWS - first) || (status && (row % 64 || row >= ROWS - first));
+    wrong += bsi_rows(index, rows) != BSI_OK || *rows != first + row;
+    return status;
+}
+
+static uint32_t open_two(bsi_index *index) {
+    uint64_t bad;
+    uint32_t status = opens(index, "column,a,slices,8\ncolumn,b,range,10 10\nlimit,1000\n", 1, &bad);
+    wrong += !is_fair(status) || bad != 0 || index->full != !status;
+    return status;
+}
+
+static uint32_t share(bsi_index *index, bsi_index *other, uint64_t rows) {
+    uint64_t found;
+    uint32_t status = bsi_share(index, other);
+    wrong += !is_fair(status) || other->full != !status || bsi_rows(index, &found) != BSI_OK || found != rows;
+    return status;
 }
 
 /* Uses an index from its opening to its closing. */
 static void use(void) {
-    bsi_column columns[2] = {{a, ROWS, none, 0}, {b, ROWS, none, 0}};
     bsi_index index = {0}, other = {0};
-    uint64_t bad, row, rows;
-    uint32_t status = opens(&index, "column,a,slices,8\ncolumn,b,range,10 10\nlimit,1000\n", 1, &bad);
-    wrong += !is_fair(status) || bad != 0 || index.full != !status;
+    uint64_t rows;
+    uint32_t status = open_two(&index);
+    if (is_to_repeat(status)) wrong += (status = open_two(&index)) != BSI_OK;
     if (status) return;
-    status = bsi_append(&index, 0, columns, 2, &row);
-    wrong += !is_fair(status) || (!status && row != ROWS) || (status && row % 64);
-    wrong += bsi_rows(&index, &rows) != BSI_OK || rows != row;
+    status = append_from(&index, 0, &rows);
+    if (is_to_repeat(status)) wrong += append_from(&index, rows, &rows) != BSI_OK || rows != ROWS;
     question(&index, rows);
-    status = bsi_share(&index, &other);
-    wrong += !is_fair(status) || other.full != !status || bsi_rows(&index, &rows) != BSI_OK || rows != row;
+    status = share(&index, &other, rows);
+    if (is_to_repeat(status)) wrong += (status = share(&index, &other, rows)) != BSI_OK;
     if (!status) {
         question(&other, rows);
         bsi_close(&other);
@@ -82,19 +131,28 @@ static void use(void) {
     wrong += bsi_close(&index) != BSI_OK;
 }
 
-int main(void) {
-    long growths = 1;
-    for (int k = 0; k < ROWS; k++) a[k] = k * 7 % 256, b[k] = k % 100;
-    for (; growths < 100000; growths++) {
-        left = growths;
+/* Uses an index once for each growth, with that one refused, and returns how many growths a use asks for. */
+static long refuse_each(bool and_later) {
+    all_later = and_later;
+    for (long growth = 1; growth < 100000; growth++) {
+        left = growth;
+        was_refused = false;
         use();
-        bool all = left > 0;
-        left = -1;
         wrong += live != 0;
-        if (all) break;
+        if (!was_refused) return growth - 1;
     }
-    char text[128];
-    snprintf(text, sizeof text, "each of %ld growths is refused in turn, and no block is left", growths - 1);
-    check(growths > 10 && wrong == 0, text);
+    return 0;
+}
+
+int main(void) {
+    for (int k = 0; k < ROWS; k++) a[k] = k * 7 % 256, b[k] = k % 100;
+    for (int and_later = 0; and_later < 2; and_later++) {
+        char text[128];
+        wrong = 0;
+        long growths = refuse_each(and_later);
+        snprintf(text, sizeof text, "each of %ld growths is refused in turn%s, and no block is left", growths,
+                 and_later ? ", with all later ones" : ", alone");
+        check(growths > 10 && wrong == 0, text);
+    }
     return failed != 0;
 }

@@ -107,6 +107,38 @@ static void of_questions(void) {
     check(selects(&open_one, "x >= 2 y = 0 or", words, 1) == BSI_OK && words[0] == 4, "select: the rows of a predicate");
 }
 
+/* Returns whether the bytes from one place to another are those that `mark` put there. */
+static bool is_untouched(const void *block, size_t from, size_t to) {
+    const uint8_t *at = block;
+    for (size_t k = from; k < to; k++)
+        if (at[k] != 0xa5) return false;
+    return true;
+}
+
+static void mark(void *block, size_t size) { memset(block, 0xa5, size); }
+
+/* Each call writes what its answer says, and nothing behind it. */
+static void of_what_is_written(void) {
+    bsi_answer answer = {0};
+    uint8_t text[100];
+    size_t size = 0, one = sizeof *places;
+    mark(places, sizeof places);
+    bool right = ask(&open_one, "list y null", &answer, places, 8) == BSI_OK && answer.count == 1;
+    check(right && is_untouched(places, one, sizeof places), "ask: no place behind those of the answer is written");
+    mark(places, sizeof places);
+    right = ask(&open_one, "count all", &answer, places, 8) == BSI_OK && ask(&open_one, "sum x all", &answer, places, 8) == BSI_OK
+        && ask(&open_one, "median x all", &answer, places, 8) == BSI_OK;
+    check(right && is_untouched(places, 0, sizeof places), "ask: no place is written by a count, a sum and a median");
+    right = ask(&open_one, "list all", &answer, places, 2) == BSI_NO_ROOM;
+    check(right && is_untouched(places, 2 * one, sizeof places), "ask: too few places, and none behind them is written");
+    mark(words, sizeof words);
+    right = selects(&open_one, "all", words, 1) == BSI_OK && words[0] == 7;
+    check(right && is_untouched(words, sizeof *words, sizeof words), "select: no word behind those of the rows is written");
+    mark(text, sizeof text);
+    right = bsi_schema(&open_one, text, sizeof text, &size) == BSI_OK && size == 52;
+    check(right && is_untouched(text, size, sizeof text), "schema: no byte behind the text is written");
+}
+
 static void of_sharing(void) {
     bsi_index other = {0}, third = {0};
     bsi_column two[2] = {{numbers, 1, bits, 0}, {numbers, 1, bits, 0}};
@@ -173,6 +205,7 @@ int main(void) {
     of_schemas();
     of_columns();
     of_questions();
+    of_what_is_written();
     of_sharing();
     of_null_pointers();
     return failed != 0;

@@ -96,8 +96,27 @@ fn counts_are(alloc: Global, n: u64, wanted: [u64; 3]) -> Result<bool, NoMemory>
     Ok(a.count() == wanted[0] && both && first_alone)
 }
 
+/// So many places, on either side of the ends of words and lanes, and the counts of those below.
+const COUNTS: [(u64, [u64; 3]); 11] = [
+    (0, [0, 0, 0]),
+    (63, [21, 11, 10]),
+    (64, [22, 11, 11]),
+    (65, [22, 11, 11]),
+    (127, [43, 22, 21]),
+    (192, [64, 32, 32]),
+    (255, [85, 43, 42]),
+    (256, [86, 43, 43]),
+    (257, [86, 43, 43]),
+    (320, [107, 54, 53]),
+    (513, [171, 86, 85]),
+];
+
 fn counts_are_exact(alloc: Global) -> Result<bool, NoMemory> {
-    Ok(counts_are(alloc, 255, [85, 43, 42])? && counts_are(alloc, 513, [171, 86, 85])?)
+    let mut exact = true;
+    for (places, wanted) in COUNTS {
+        exact &= counts_are(alloc, places, wanted)?;
+    }
+    Ok(exact)
 }
 
 #[test]

@@ -1,11 +1,11 @@
 //! Step machines: what their makers refuse, runs, and calls that are refused memory.
 
 use bsi_columns::NoMemory;
+use bsi_fixtures::{DeclaredColumn, QTY, row_of, schema_of};
 use bsi_load::{
     Core, Event, LoadRefused, MakeError, Reply, RunRefused, SubmitRefused, check_sizes,
 };
-use bsi_fixtures::{DeclaredColumn, QTY, row_of, schema_of};
-use bsi_table::{Answer, AskError, Pred, Query, Row, Schema, SchemaError, Total};
+use bsi_table::{Answer, AskError, IndexError, Pred, Query, Row, Schema, SchemaError, Total};
 use std::alloc::Global;
 use std::test::Fail;
 
@@ -167,18 +167,48 @@ fn is_checked(schema: &Schema) -> bool {
         && check_sizes(schema, &[1, 0], 10) == Err(MakeError::CapacityOutOfRange(1))
 }
 
-// Whether it is refused where a machine is made.
-fn is_not_made(alloc: Global) -> bool {
-    let machine = Machine {
-        capacities: &[1, 0],
-        ..PAIR
+// Whether a machine is not made for this reason.
+fn is_refused(alloc: Global, machine: Machine, wanted: MakeError) -> bool {
+    match made(alloc, machine) {
+        Err(refused) => refused == wanted,
+        Ok(_) => false,
+    }
+}
+
+// Whether of all that is wrong with a machine the first is told.
+fn first_refusal_is_told(alloc: Global) -> bool {
+    let nothing = Machine {
+        columns: &[],
+        capacities: &[],
+        limit: 0,
     };
-    matches!(made(alloc, machine), Err(MakeError::CapacityOutOfRange(1)))
+    let many = Machine {
+        capacities: &[0; 65],
+        ..nothing
+    };
+    let no_place = Machine {
+        capacities: &[1, 0, 65_537],
+        ..nothing
+    };
+    let no_columns = Machine {
+        capacities: &[1; 64],
+        ..nothing
+    };
+    let no_limit = Machine { limit: 0, ..PAIR };
+    is_refused(alloc, nothing, MakeError::NoFeeders)
+        && is_refused(alloc, many, MakeError::TooManyFeeders)
+        && is_refused(alloc, no_place, MakeError::CapacityOutOfRange(1))
+        && is_refused(alloc, no_columns, MakeError::Index(IndexError::NoColumns))
+        && is_refused(
+            alloc,
+            no_limit,
+            MakeError::Index(IndexError::LimitOutOfRange),
+        )
 }
 
 fn sizes_are_refused(alloc: Global) -> Result<bool, SchemaError> {
     let schema = schema_of(alloc, &[QTY])?;
-    Ok(is_checked(&schema) && is_not_made(alloc))
+    Ok(is_checked(&schema) && first_refusal_is_told(alloc))
 }
 
 #[test]

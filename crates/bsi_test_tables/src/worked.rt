@@ -179,6 +179,20 @@ fn makers_of_a_schema(rt: HostRuntime) {
     assert!(rt; matches!(takes_a_name_once(rt.alloc()), Ok(true)));
 }
 
+// Whether an index of no columns is refused before one of no rows.
+fn no_index_is_made(alloc: Global) -> bool {
+    matches!(index_of(alloc, &[], 1, 0), Err(IndexError::NoColumns))
+        && matches!(
+            index_of(alloc, &[QTY], 1, 0),
+            Err(IndexError::LimitOutOfRange)
+        )
+}
+
+#[test]
+fn makers_of_an_index(rt: HostRuntime) {
+    assert!(rt; no_index_is_made(rt.alloc()));
+}
+
 fn copied_row(row: &Row) -> Result<Row, NoMemory> {
     match row.copy() {
         Err(_) => row.copy(),
