@@ -137,7 +137,7 @@ fn batch_for<I: Read + Drop>(feeder: &Feeder, source: &RowSource<I>) -> Option<E
 }
 
 /// Gathers the next rows of the source in a batch, and sends it. Where memory for its rows is refused they are not
-/// sent, and the feeder fails; `batch_for` has made room for them, but no contract of an index sees that.
+/// sent, and the feeder fails; `batch_for` has made room for them.
 fn feed_batch<R: Wait, I: Read + Drop, G: Gate>(
     rt: &R,
     feeder: &mut Feeder,
