@@ -9,6 +9,7 @@ pub use Rattle.bsi_system.specs.Opening
 pub use Rattle.bsi_system.specs.Running
 pub use Rattle.bsi_table.specs.Answers
 pub use Rattle.bsi_table.specs.Columns
+pub use Rattle.bsi_table.specs.Index
 pub use Rattle.bsi_table.specs.RowBlocks
 pub use Rattle.bsi_table.specs.Refusals
 pub use Rattle.bsi_table.specs.Rows
