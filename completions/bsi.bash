@@ -4,8 +4,8 @@ _bsi() {
     local word=${COMP_WORDS[COMP_CWORD]} before=${COMP_WORDS[COMP_CWORD - 1]} words=
     COMPREPLY=()
     if [ "$COMP_CWORD" -eq 1 ]; then
-        words='script files'
-    elif [ "${COMP_WORDS[1]}" = files ] && [ "$before" != --schema ] && [ "$before" != --asks ]; then
+        words='script files check save add ask show'
+    elif [[ ${COMP_WORDS[1]} == @(files|check) && $before != --schema && $before != --asks ]]; then
         case $word in
             -*)
                 words='--schema --asks'
@@ -16,7 +16,13 @@ _bsi() {
                 return
                 ;;
         esac
-    elif [ "${COMP_WORDS[1]}" = files ]; then
+    elif [[ ${COMP_WORDS[1]} == save && $word == -* ]]; then
+        words='--schema --to'
+    elif [[ ${COMP_WORDS[1]} == add && $word == -* ]]; then
+        words='--so-far'
+    elif [[ ${COMP_WORDS[1]} == ask && $word == -* ]]; then
+        words='--so-far --asks'
+    elif [[ ${COMP_WORDS[1]} == @(files|check|save|add|ask|show) ]]; then
         compopt -o filenames 2>/dev/null
         mapfile -t COMPREPLY < <(compgen -f -- "$word")
         return

@@ -65,20 +65,25 @@ typedef struct {
 
 /* How a call ended. */
 enum {
-    BSI_OK = 0,          /* it was done */
-    BSI_CLOSED = 1,      /* the handle is closed */
-    BSI_OPEN = 2,        /* the handle that is to be opened is open */
-    BSI_NO_MEMORY = 3,   /* memory was refused */
-    BSI_BAD_SCHEMA = 4,  /* a record of the schema is neither a column nor a limit, or can't be carried out */
-    BSI_NO_COLUMNS = 5,  /* the schema has no column */
-    BSI_BAD_FEEDER = 6,  /* a number of feeders that is not from 1 to 64; in bsi_append no such feeder */
-    BSI_BAD_COLUMNS = 7, /* another number of columns than the schema has, lengths that differ, or a short bitmap */
-    BSI_BAD_ROW = 8,     /* a row has a number that its column does not take */
-    BSI_INDEX_FULL = 9,  /* there would be more rows than the limit */
-    BSI_SHARED = 10,     /* a shared index takes no rows */
-    BSI_BAD_QUERY = 11,  /* the fields ask no query, or spell no predicate, or are more than 1,000 for the predicate */
-    BSI_NO_ROOM = 12,    /* there is too little room, or for bsi_select another number of words than the rows fill */
-    BSI_BAD_TEXT = 13    /* the schema has more than 1,000,000 records */
+    BSI_OK = 0,             /* it was done */
+    BSI_CLOSED = 1,         /* the handle is closed */
+    BSI_OPEN = 2,           /* the handle that is to be opened is open */
+    BSI_NO_MEMORY = 3,      /* memory was refused */
+    BSI_BAD_SCHEMA = 4,     /* a record of the schema is neither a column nor a limit, or can't be carried out */
+    BSI_NO_COLUMNS = 5,     /* the schema has no column */
+    BSI_BAD_FEEDER = 6,     /* a number of feeders that is not from 1 to 64; in bsi_append no such feeder */
+    BSI_BAD_COLUMNS = 7,    /* another number of columns than the schema has, lengths that differ, or a short bitmap */
+    BSI_BAD_ROW = 8,        /* a row has a number that its column does not take */
+    BSI_INDEX_FULL = 9,     /* there would be more rows than the limit */
+    BSI_SHARED = 10,        /* a shared index takes no rows */
+    BSI_BAD_QUERY = 11,     /* the fields ask no query, or spell no predicate, or are over 1,000 for the predicate */
+    BSI_NO_ROOM = 12,       /* there is too little room, or for bsi_select another number of words than the rows fill */
+    BSI_BAD_TEXT = 13,      /* the schema has more than 1,000,000 records */
+    BSI_LONG_NOTES = 14,    /* there are more than BSI_MAX_NOTES bytes of notes */
+    BSI_NOT_KEPT = 15,      /* the bytes are not those of a kept index, or there are none */
+    BSI_OTHER_VERSION = 16, /* they are of another version of the format */
+    BSI_CUT_SHORT = 17,     /* they end within a segment */
+    BSI_DAMAGED = 18        /* a segment is not as it was written */
 };
 
 /* Opens a closed handle, with no rows. The schema is the text of a schema file, as docs/FORMATS.md says: the records
@@ -108,8 +113,25 @@ uint32_t bsi_select(bsi_index *index, const bsi_text *fields, size_t fields_len,
 /* Writes the number of rows, at most 2^32. */
 uint32_t bsi_rows(bsi_index *index, uint64_t *rows);
 
-/* Writes the schema as the text that opened the index. *size is its number of bytes, at BSI_NO_ROOM too. */
+/* Writes the schema as the text that opened the index, or for kept bytes one that declares the same. *size is its number
+ * of bytes, at BSI_NO_ROOM too. */
 uint32_t bsi_schema(bsi_index *index, uint8_t *text, size_t room, size_t *size);
+
+/* The most bytes of notes, which a caller keeps beside an index. */
+#define BSI_MAX_NOTES 65536
+
+/* Writes the bytes that keep the index and the caller's notes: a file of one segment, as docs/FORMATS.md says. *size is
+ * how many they are, at BSI_NO_ROOM too, so that a call with no room asks for it. Meanwhile the call takes memory for
+ * twice these bytes or more. */
+uint32_t bsi_save(bsi_index *index, const uint8_t *notes, size_t notes_len, uint8_t *bytes, size_t room, size_t *size);
+
+/* Opens a closed handle with the index that all these bytes keep, and writes the notes of the last segment; room for
+ * BSI_MAX_NOTES is enough. *notes_len is their number, at BSI_NO_ROOM too, which leaves the handle closed. Of the bytes
+ * nothing is kept after the call. *whole is how many of the first bytes keep an index: all at BSI_OK; and at
+ * BSI_NOT_KEPT, BSI_OTHER_VERSION, BSI_CUT_SHORT and BSI_DAMAGED those before the fault, which may be opened instead, or
+ * 0. */
+uint32_t bsi_open_kept(bsi_index *index, const uint8_t *bytes, size_t len, uint8_t *notes, size_t notes_room,
+                       size_t *notes_len, uint64_t *whole);
 
 /* Opens another, closed handle of the same index, whose rows stand from then on: neither handle takes more. If memory is
  * refused, the other stays closed, and the index may take no more rows. */
@@ -133,7 +155,12 @@ static inline const char *bsi_status_text(uint32_t status) {
                                         "a shared index takes no rows",
                                         "no query",
                                         "no room",
-                                        "too many records in the schema"};
+                                        "too many records in the schema",
+                                        "too many bytes of notes",
+                                        "not a kept index",
+                                        "a kept index of another version",
+                                        "a kept index that is cut short",
+                                        "a kept index that is damaged"};
     return status < sizeof texts / sizeof *texts ? texts[status] : "no status of bsi";
 }
 

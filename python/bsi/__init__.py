@@ -15,52 +15,66 @@ of a cluster.
 from .errors import (
     BadColumns,
     BadFeeder,
+    BadNotes,
     BadQuery,
     BadRow,
     BadSchema,
     BadText,
     Closed,
+    CutShort,
+    Damaged,
     Error,
     IndexFull,
+    KeptError,
+    LongNotes,
     LostWorker,
     NoColumns,
     NoMemory,
     NoRoom,
+    NotKept,
     Open,
+    OtherVersion,
     Shared,
 )
 from .forms import Form, equality, range, slices
-from .index import Index
+from .index import Index, open
 from .kinds import Decimals, Flags, Kind, Texts, Times, Whole
-from .parts import Parts
+from .parts import Parts, open_parts
 from .predicates import Column, Predicate, all_rows, col
 from .questions import ask
 from .reading import read_csv
 from .summary import Summary
 from .version import __version__
 
-# (`range` is left out, so that an import of all names hides none of Python's own)
+# (`open` and `range` are left out, so that an import of all names hides none of Python's own)
 __all__ = [
     "BadColumns",
     "BadFeeder",
+    "BadNotes",
     "BadQuery",
     "BadRow",
     "BadSchema",
     "BadText",
     "Closed",
     "Column",
+    "CutShort",
+    "Damaged",
     "Decimals",
     "Error",
     "Flags",
     "Form",
     "Index",
     "IndexFull",
+    "KeptError",
     "Kind",
+    "LongNotes",
     "LostWorker",
     "NoColumns",
     "NoMemory",
     "NoRoom",
+    "NotKept",
     "Open",
+    "OtherVersion",
     "Parts",
     "Predicate",
     "Shared",
@@ -73,6 +87,7 @@ __all__ = [
     "ask",
     "col",
     "equality",
+    "open_parts",
     "read_csv",
     "slices",
 ]

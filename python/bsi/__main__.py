@@ -1,8 +1,8 @@
 """python -m bsi FILE.. [QUESTION..]
 
-Reads CSV or Parquet files, says how it keeps their columns, and answers the questions. At a terminal it then waits for
-further ones, one a line; where no question is given, it reads them from standard input. The questions are those of
-bsi.questions, and `help` and `quit` are taken too:
+Reads CSV or Parquet files, or opens kept indexes, says how it keeps their columns, and answers the questions. At a
+terminal it then waits for further ones, one a line; where no question is given, it reads them from standard input. The
+questions are those of bsi.questions, and `help` and `quit` are taken too:
 
     count price < 100 and temp null
     median "Amount (EUR)" Ordered >= 2026-01-31
@@ -25,8 +25,10 @@ from . import questions
 from .choosing import chosen_of
 from .errors import BadQuery, Error
 from .index import Index
+from .index import open as open_index
+from .kept import is_kept
 from .kinds import Decimals, Flags, Texts, Times, Whole
-from .parts import Parts
+from .parts import Parts, open_parts
 from .questions import ask, is_question
 from .reading import read_csv
 from .version import __version__
@@ -99,8 +101,20 @@ def _csv(files: List[str], columns: Optional[List[str]], given: Any, progress: b
     return table
 
 
+def _open(files: List[str], given: Any) -> Any:
+    """Opens the index that one file keeps, or several as parts."""
+    named = (*FOR_CSV, "columns", "drop", "kinds", "text", "round")
+    alone = [name for name in named if getattr(given, name) not in (None, "", 0, ".", [])]
+    if alone or given.parts != 1:
+        option = (alone or ["parts"])[0].replace("_", "-")
+        raise ValueError(f"--{option} is for files that are read, and not for kept indexes")
+    return open_index(files[0]) if len(files) == 1 else open_parts(files)
+
+
 def _read(files: List[str], given: Any) -> Any:
-    """Makes the index of the files."""
+    """Makes the index of the files, or opens those that keep one."""
+    if all(file.endswith(".bsi") or is_kept(file) for file in files) and files:
+        return _open(files, given)
     columns = given.columns.split(",") if given.columns else None
     progress = sys.stderr is not None and sys.stderr.isatty()
     if not any(file.endswith((".parquet", ".pq")) for file in files):

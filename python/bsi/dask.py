@@ -12,6 +12,7 @@ from __future__ import annotations
 
 import asyncio
 import contextlib
+import os
 from typing import Any, Dict, Iterable, List, Mapping, NamedTuple, Optional, Tuple, Union
 
 import dask
@@ -19,10 +20,11 @@ import numpy as np
 from distributed import Client, get_client, wait
 
 from .choosing import Block, Wishes, ends_of, joined_blocks, kind_of, refuse_misfit, wanted_of
-from .errors import BadRow, Error, IndexFull, LostWorker
+from .errors import BadRow, BadSchema, Error, IndexFull, LostWorker
 from .forms import LEAST, Form
 from .gathered import Gathered
 from .index import Index
+from .kept import Path, opened_file
 from .kinds import Kind, Misfit, Whole
 from .narrowing import encode
 from .table import MAX_ROWS, Table
@@ -75,6 +77,21 @@ class Part:
     def call(self, name: str, *arguments: Any) -> Any:
         """Makes a call of the index's store."""
         return getattr(self._index._store, name)(*arguments)
+
+
+class KeptPart:
+    """A Dask actor: the index that a file keeps, opened on its worker."""
+
+    def __init__(self, path: str):
+        self._kept = opened_file(path)
+
+    def call(self, name: str, *arguments: Any) -> Any:
+        """Makes a call of the index."""
+        return getattr(self._kept.handle, name)(*arguments)
+
+    def forms(self) -> Dict[str, Form]:
+        """Returns the columns."""
+        return self._kept.forms
 
 
 class _Actor(NamedTuple):
@@ -162,6 +179,27 @@ def from_frame(
         raise IndexFull(f"row {limit:,} is past the limit of {limit:,} rows; no index was made", limit)
     places = _places(client, partitions)
     return Workers(found, MAX_ROWS if limit is None else limit, _store(client, found, partitions, places, rows))
+
+
+def open_parts(paths: Iterable[Path], client: Optional[Client] = None) -> Workers:
+    """Opens the indexes that files keep on the workers of a cluster, by turns, which all reach the files under these
+    paths. The files have the same columns; their rows come file by file."""
+    client = client or get_client()
+    names, workers = [os.fspath(path) for path in paths], sorted(_addresses(client))
+    if not names:
+        raise ValueError("an index over workers needs a file")
+    places = [workers[place % len(workers)] for place in range(len(names))]
+    how = {"actor": True, "pure": False}
+    futures = [client.submit(KeptPart, name, workers=[place], **how) for name, place in zip(names, places)]
+    _wait(client, futures, workers)
+    actors = [_Actor(place, future.result()) for place, future in zip(places, futures)]
+    forms = [actor.proxy.forms().result() for actor in actors]
+    for name, found in zip(names, forms):
+        if found != forms[0]:
+            raise BadSchema(f"{name} has other columns than {names[0]}")
+    store = _Actors(client, actors)
+    store.runs = list(enumerate(store._each("rows")))
+    return Workers(forms[0], MAX_ROWS, store)
 
 
 def _refuse(answers: List[Any], rows: List[int]) -> None:

@@ -117,6 +117,58 @@ class BadText(Error, ValueError):
     status, why = 13, "the text of a schema is too long, or is none"
 
 
+class LongNotes(Error, ValueError):
+    """What columns mean is too long for a file, as that of very many texts."""
+
+    status, why = 14, "what the columns mean is too long for a file"
+
+
+class KeptError(Error, ValueError):
+    """A file that is not opened. `path` is its path, where there is one, `rows` how many rows stand whole before the
+    fault, and `whole` in how many bytes: `bsi.open(path, so_far=True)` opens these."""
+
+    why = "the file is not opened"
+
+    def __init__(self, reason: Optional[str] = None, path: Optional[str] = None, rows: int = 0, whole: int = 0):
+        text = reason or self.why
+        text += f" after {rows:,} whole rows; so_far=True opens these" if whole else ""
+        super().__init__(text if path is None else f"{path}: {text}")
+        self.reason, self.path, self.rows, self.whole = reason, path, rows, whole
+
+    def __reduce__(self):
+        return type(self), (self.reason, self.path, self.rows, self.whole)
+
+
+class NotKept(KeptError):
+    """A file that keeps no index."""
+
+    status, why = 15, "it keeps no index"
+
+
+class OtherVersion(KeptError):
+    """A kept index of another version."""
+
+    status, why = 16, "it keeps an index in another version of the format"
+
+
+class CutShort(KeptError):
+    """A kept index whose file ends too soon."""
+
+    status, why = 17, "it is cut short"
+
+
+class Damaged(KeptError):
+    """A kept index that is not as it was written."""
+
+    status, why = 18, "it is damaged"
+
+
+class BadNotes(KeptError):
+    """A kept index whose notes say in no known way what its columns mean."""
+
+    why = "its notes can't be read"
+
+
 class LostWorker(Error):
     """A worker that keeps a part of the rows is gone, and its part with it."""
 
@@ -130,6 +182,6 @@ def several(refusals: List[Error]) -> Error:
 
 _KINDS: Tuple[Type[Error], ...] = (
     Closed, Open, NoMemory, BadSchema, NoColumns, BadFeeder, BadColumns, BadRow, IndexFull, Shared, BadQuery, NoRoom,
-    BadText,
+    BadText, LongNotes, NotKept, OtherVersion, CutShort, Damaged,
 )  # fmt: skip
 BY_STATUS: Dict[Optional[int], Type[Error]] = {kind.status: kind for kind in _KINDS}

@@ -44,6 +44,11 @@ class Form:
             return sum(base - 1 for base in self.sizes) + places + 1
         return sum(1 if base == 2 else base for base in self.sizes) + places + 1
 
+    @property
+    def places(self) -> int:
+        """How many binary places a number of the column takes in a file."""
+        return self.sizes[0] if self.word == "slices" else sum((base - 1).bit_length() for base in self.sizes)
+
     def value(self, number: int) -> Any:
         """Returns the value that a number stands for, and the number where that can't be told, as past an end of the
         column."""

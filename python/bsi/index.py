@@ -6,6 +6,7 @@ from typing import Any, Iterable, Mapping, Optional, Union
 
 from .choosing import chosen_of
 from .forms import Form
+from .kept import Kept, Path, kept_bytes, opened_bytes, opened_file, replace
 from .kinds import Kind
 from .progress import Progress
 from .table import MAX_ROWS, Table, opened
@@ -61,3 +62,36 @@ class Index(Table):
         other = object.__new__(type(self))
         Table.__init__(other, self._forms, self._limit, self._store.share())
         return other
+
+    def save(self, path: Path) -> None:
+        """Writes the index to a file, which `open` opens. The file is replaced when the disk has all of the new one.
+        Until then, and after an error, it is as it was."""
+        replace(path, self._kept())
+
+    def _kept(self) -> Any:
+        """Returns the bytes that keep the index."""
+        return kept_bytes(self._store, self._forms)
+
+    def __reduce__(self):
+        return _copied, (type(self), self._kept().tobytes())
+
+
+def _of(cls: type, kept: Kept) -> Any:
+    """Returns an index of what was opened."""
+    index = object.__new__(cls)
+    Table.__init__(index, kept.forms, kept.limit, kept.handle)
+    return index
+
+
+def _copied(cls: type, data: bytes) -> Any:
+    """Returns the index that the bytes keep, as pickle and copy want it."""
+    return _of(cls, opened_bytes(data))
+
+
+def open(path: Path, *, so_far: bool = False) -> Index:
+    """Opens the index that a file keeps, as `save` or the command `bsi save` wrote it. It may take further rows, which
+    the file gets by another `save`.
+
+    A file that is cut short or damaged is refused; with `so_far` the rows before the fault are opened. A file of the
+    command says not what its numbers mean: it has whole numbers."""
+    return _of(Index, opened_file(path, so_far))

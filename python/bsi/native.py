@@ -20,6 +20,7 @@ import numpy as np
 from . import errors
 
 OK, BAD_SCHEMA, BAD_ROW, INDEX_FULL, NO_ROOM, NO_MEMORY = 0, 4, 8, 9, 12, 3
+MAX_NOTES = 1 << 16
 # The numbers of one column, and an Arrow validity bitmap of them or none.
 Entries = Tuple[np.ndarray, Optional[np.ndarray]]
 
@@ -50,6 +51,8 @@ _CALLS: Dict[str, List[Any]] = {
     "bsi_select": [c_void_p, c_size_t, c_void_p, c_size_t],
     "bsi_rows": [POINTER(c_uint64)],
     "bsi_schema": [c_void_p, c_size_t, POINTER(c_size_t)],
+    "bsi_save": [c_void_p, c_size_t, c_void_p, c_size_t, POINTER(c_size_t)],
+    "bsi_open_kept": [c_void_p, c_size_t, c_void_p, c_size_t, POINTER(c_size_t), POINTER(c_uint64)],
     "bsi_share": [POINTER(_Index)],
     "bsi_close": [],
 }
@@ -182,6 +185,28 @@ class Handle:
             status = self._call("bsi_schema", _address(text), len(text), byref(size))
         check(status)
         return text[: size.value].tobytes()
+
+    def save(self, notes: bytes, room: int) -> np.ndarray:
+        """Returns the bytes that keep the index and these notes, where a guess of how many they are spares a call."""
+        size, given = c_size_t(room), np.frombuffer(notes, np.uint8)
+        status, found = NO_ROOM, np.empty(0, np.uint8)
+        while status == NO_ROOM:
+            found = np.empty(size.value, np.uint8)
+            status = self._call("bsi_save", _address(given), len(given), _address(found), len(found), byref(size))
+        check(status)
+        return found[: size.value]
+
+    @classmethod
+    def of_kept(cls, data: np.ndarray) -> Tuple["Handle", bytes]:
+        """Opens the index that all these bytes keep, and returns its notes too. Raises a KeptError with how many of the
+        first bytes keep one."""
+        handle, notes, size, whole = cls(), np.empty(MAX_NOTES, np.uint8), c_size_t(), c_uint64()
+        room = (_address(notes), len(notes), byref(size), byref(whole))
+        status = handle._call("bsi_open_kept", _address(data), len(data), *room)
+        if status != OK and issubclass(errors.BY_STATUS.get(status, errors.Error), errors.KeptError):
+            raise errors.BY_STATUS[status](None, None, 0, whole.value)
+        check(status)
+        return handle, notes[: size.value].tobytes()
 
     def share(self) -> "Handle":
         """Returns another handle of the same index. From then on it takes no rows."""

@@ -4,14 +4,16 @@ from __future__ import annotations
 
 import os
 import threading
+import uuid
 from operator import itemgetter
 from queue import SimpleQueue
 from typing import Any, Callable, ContextManager, Iterable, List, Mapping, Optional, Sequence, Tuple, Union
 
 from .choosing import chosen_of, refuse_misfit
-from .errors import Error, NoMemory
+from .errors import BadNotes, BadSchema, Error, NoMemory
 from .forms import Form
 from .gathered import Gathered
+from .kept import Kept, Path, kept_bytes, opened_bytes, opened_file, replace
 from .kinds import Kind
 from .native import INDEX_FULL, OK, Entries, Handle, check
 from .progress import Progress
@@ -89,6 +91,15 @@ class _Threads(Gathered):
             for handle in self.handles:
                 handle.close()
 
+    def each_kept(self, forms: Mapping[str, Form]) -> List[Any]:
+        """Returns the bytes that keep each part. The notes of the first say which rows lie where, and those of all that
+        they belong together."""
+        with self.alone():
+            one = {"saved": uuid.uuid4().hex, "parts": len(self.handles)}
+            more = [{**one, "part": place} for place in range(len(self.handles))]
+            more[0].update(runs=_joined(self.runs), limit=self.limit)
+            return [kept_bytes(handle, forms, **notes) for handle, notes in zip(self.handles, more)]
+
     def alone(self) -> ContextManager[Any]:
         # (a forked child has none of the threads, and a lock may never be free there)
         if os.getpid() != self._process:
@@ -99,6 +110,17 @@ class _Threads(Gathered):
 def _run(column: Entries, start: int, end: int) -> Entries:
     numbers, valid = column
     return numbers[start:end], None if valid is None else valid[start // 8 : -(-min(end, len(numbers)) // 8)]
+
+
+def _joined(runs: Sequence[Tuple[int, int]]) -> List[List[int]]:
+    """Returns the runs with those of one part that follow each other as one."""
+    found: List[List[int]] = []
+    for part, rows in runs:
+        if found and found[-1][0] == part:
+            found[-1][1] += rows
+        elif rows:
+            found.append([part, rows])
+    return found
 
 
 class Parts(Table):
@@ -135,3 +157,64 @@ class Parts(Table):
         for (name, form), (numbers, valid) in zip(self._forms.items(), encoded):
             refuse_misfit(name, form, numbers, valid)
         return super()._append(encoded)
+
+    def save(self, folder: Path) -> List[str]:
+        """Writes a file for each part into a folder, which is made where it is not there, and returns their paths.
+        `open_parts` opens these."""
+        os.makedirs(folder, exist_ok=True)
+        kept = self._store.each_kept(self._forms)
+        width = len(str(len(kept) - 1))
+        paths = [os.path.join(os.fspath(folder), f"part-{place:0{width}}.bsi") for place in range(len(kept))]
+        for path, data in zip(paths, kept):
+            replace(path, data)
+        return paths
+
+    def __reduce__(self):
+        return _copied, (type(self), [data.tobytes() for data in self._store.each_kept(self._forms)])
+
+
+def _of(cls: type, each: List[Kept], paths: Sequence[str]) -> Any:
+    """Returns parts of what was opened, whose rows keep their order where one call saved them all."""
+    first = each[0]
+    for path, kept in zip(paths, each):
+        if kept.forms != first.forms:
+            raise BadSchema(f"{path} has other columns than {paths[0]}")
+    try:
+        runs, limit = _placed(each)
+    except (ValueError, KeyError, TypeError, AttributeError) as why:
+        raise BadNotes(f"it is none of these parts: {why}", paths[0], first.handle.rows()) from None
+    parts, store = object.__new__(cls), _Threads([kept.handle for kept in each], limit)
+    Table.__init__(parts, first.forms, limit, store)
+    store.runs = runs
+    return parts
+
+
+def _placed(each: Sequence[Kept]) -> Tuple[List[Tuple[int, int]], int]:
+    """Returns which rows lie where, and the limit. Raises an error where some of the files were saved together, and
+    these are not they."""
+    rows = [kept.handle.rows() for kept in each]
+    notes = each[0].more
+    if not any("saved" in kept.more for kept in each):
+        return list(enumerate(rows)), MAX_ROWS
+    if [(kept.more.get("saved"), kept.more.get("part")) for kept in each] != [
+        (notes.get("saved"), place) for place in range(notes.get("parts", 0))
+    ]:
+        raise ValueError("all files that were saved together are opened together, in their order, and no others")
+    runs = [(int(part), int(count)) for part, count in notes["runs"]]
+    if [sum(count for part, count in runs if part == place) for place in range(len(each))] != rows:
+        raise ValueError("its notes tell other rows")
+    return runs, min(MAX_ROWS, int(notes["limit"]))
+
+
+def _copied(cls: type, each: List[bytes]) -> Any:
+    return _of(cls, [opened_bytes(data) for data in each], [f"part {place}" for place in range(len(each))])
+
+
+def open_parts(paths: Iterable[Path]) -> Parts:
+    """Opens the indexes that files keep as the parts of one, each asked on a thread of its own. Files that
+    `Parts.save` wrote are all given, in their order. Any others of the same columns are taken too: their rows come file
+    by file."""
+    names = [os.fspath(path) for path in paths]
+    if not 1 <= len(names) <= 256:
+        raise ValueError(f"rows are split over 1 to 256 parts, and not {len(names)}")
+    return _of(Parts, [opened_file(name) for name in names], names)

@@ -433,7 +433,7 @@ class Table:
         self.close()
 
     def __reduce__(self):
-        raise TypeError("an index lives in one process; bsi.dask has one for each worker")
+        raise TypeError(f"{type(self).__name__} has no copy; an Index and Parts have")
 
 
 def among_numbers(sign: str, left: int, right: int) -> Tuple[str, int]:

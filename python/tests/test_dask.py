@@ -72,6 +72,27 @@ def test_a_refusal_names_the_row_of_all(client):
         bsi.dask.from_frame(frames.from_pandas(table(10), npartitions=1), ["z"])
 
 
+def test_files_are_opened_on_workers(client, tmp_path):
+    frame, paths = table(3_000), []
+    forms = bsi.Index.from_frame(frame).forms
+    for place in range(6):
+        paths.append(str(tmp_path / f"{place}.bsi"))
+        with bsi.Index(forms) as index:
+            index.append(frame[place * 500 : place * 500 + 500])
+            index.save(paths[-1])
+    rows, one = bsi.dask.open_parts(paths, client), bsi.Index.from_frame(frame)
+    assert rows.forms == one.forms and len(rows) == 3_000
+    for where in (bsi.all_rows, col.a < 345_678, (col.who == "dog") & col.b.isnull()):
+        assert (rows.mask(where) == one.mask(where)).all() and rows.sum("price", where) == one.sum("price", where)
+        assert [rows.median(name, where) for name in forms] == [one.median(name, where) for name in forms]
+    with pytest.raises(FileNotFoundError):
+        bsi.dask.open_parts([paths[0], str(tmp_path / "none.bsi")], client)
+    with bsi.Index({"a": bsi.slices(4)}) as index:
+        index.save(paths[3])
+    with pytest.raises(bsi.BadSchema, match="3.bsi has other columns"):
+        bsi.dask.open_parts(paths, client)
+
+
 def test_answers_are_exact_and_a_lost_worker_is_told(client, monkeypatch):
     frame = table()
     rows, one = bsi.dask.from_frame(frames.from_pandas(frame, npartitions=10, sort=False)), bsi.Index.from_frame(frame)

@@ -466,12 +466,6 @@ def test_sharing():
     assert third.count() == 4 and third.sum("price") == 357
 
 
-def test_an_index_stays_in_its_process():
-    for copied in (pickle.dumps, copy.copy, copy.deepcopy):
-        with pytest.raises(TypeError, match="lives in one process"):
-            copied(small())
-
-
 def test_texts_and_times_and_flags():
     index = bsi.Index.from_frame(
         {

@@ -18,11 +18,11 @@ def blocks(language, path=PAGE):
         return re.findall(rf"^```{language}\n(.*?)^```$", page.read(), re.MULTILINE | re.DOTALL)
 
 
-def test_the_page_prints_what_it_says(monkeypatch):
+def test_the_page_prints_what_it_says(monkeypatch, tmp_path):
     pytest.importorskip("pandas")
     monkeypatch.chdir(EXAMPLES)
     lines = "\n".join(blocks("python"))
-    test = doctest.DocTestParser().get_doctest(lines, {}, "PYTHON.md", PAGE, 0)
+    test = doctest.DocTestParser().get_doctest(lines, {"folder": tmp_path}, "PYTHON.md", PAGE, 0)
     found = doctest.DocTestRunner(optionflags=doctest.REPORT_NDIFF).run(test)
     assert found.attempted > 15 and found.failed == 0
 

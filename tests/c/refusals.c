@@ -11,6 +11,7 @@ static int64_t a[ROWS], b[ROWS];
 static uint8_t none[1];
 static bsi_place places[ROWS];
 static uint64_t words[4];
+static uint8_t kept[8192], notes[8];
 static long wrong;
 
 /* Returns whether this growth is refused: the one at which `left` comes to 0, and each later one if all are. */
@@ -112,6 +113,34 @@ static uint32_t share(bsi_index *index, bsi_index *other, uint64_t rows) {
     return status;
 }
 
+static uint32_t save(bsi_index *index, size_t *size) {
+    uint32_t status = bsi_save(index, notes, sizeof notes, kept, sizeof kept, size);
+    wrong += !is_fair(status);
+    return status;
+}
+
+static uint32_t open_kept(bsi_index *index, size_t size) {
+    size_t notes_len;
+    uint64_t whole = 0;
+    uint32_t status = bsi_open_kept(index, kept, size, notes, sizeof notes, &notes_len, &whole);
+    wrong += !is_fair(status) || index->full != !status || (!status && (whole != size || notes_len != sizeof notes));
+    return status;
+}
+
+/* Saves an index of the first rows, and opens it again. */
+static void keep(bsi_index *index, uint64_t rows) {
+    bsi_index opened = {0};
+    size_t size = 0;
+    uint32_t status = save(index, &size);
+    if (is_to_repeat(status)) wrong += (status = save(index, &size)) != BSI_OK;
+    if (status) return;
+    status = open_kept(&opened, size);
+    if (is_to_repeat(status)) wrong += (status = open_kept(&opened, size)) != BSI_OK;
+    if (status) return;
+    question(&opened, rows);
+    bsi_close(&opened);
+}
+
 /* Uses an index from its opening to its closing. */
 static void use(void) {
     bsi_index index = {0}, other = {0};
@@ -122,6 +151,7 @@ static void use(void) {
     status = append_from(&index, 0, &rows);
     if (is_to_repeat(status)) wrong += append_from(&index, rows, &rows) != BSI_OK || rows != ROWS;
     question(&index, rows);
+    keep(&index, rows);
     status = share(&index, &other, rows);
     if (is_to_repeat(status)) wrong += (status = share(&index, &other, rows)) != BSI_OK;
     if (!status) {

@@ -192,7 +192,12 @@ static void of_texts(void) {
         {BSI_BAD_QUERY, "no query"},
         {BSI_NO_ROOM, "no room"},
         {BSI_BAD_TEXT, "too many records in the schema"},
-        {14, "no status of bsi"},
+        {BSI_LONG_NOTES, "too many bytes of notes"},
+        {BSI_NOT_KEPT, "not a kept index"},
+        {BSI_OTHER_VERSION, "a kept index of another version"},
+        {BSI_CUT_SHORT, "a kept index that is cut short"},
+        {BSI_DAMAGED, "a kept index that is damaged"},
+        {19, "no status of bsi"},
         {UINT32_MAX, "no status of bsi"},
     };
     for (size_t k = 0; k < sizeof texts / sizeof *texts; k++)

@@ -7,7 +7,7 @@ ghost use Rattle.bsi_bits.specs.BitLists.{bits_at, room_at, AreSame};
 ghost use Rattle.bsi_bits.specs.Packed.{bits_of};
 
 use crate::NoMemory;
-use crate::bits::{Bits, room_to_make};
+use crate::bits::{Bits, MAX_LEN, room_to_make};
 use std::alloc::Global;
 use std::marker::Model;
 
@@ -40,6 +40,18 @@ impl Bitmaps {
     {
         let vectors = empty_each(alloc, count)?;
         Ok(Bitmaps { vectors, room: 0 })
+    }
+
+    /// Makes a list of these vectors, at least one and all of one length. It takes no memory.
+    pub fn from_vectors(vectors: Vec<Bits>) -> Bitmaps
+        requires some { 0 < length vectors.items }
+        requires even { (j : ℕ) → j < length vectors.items →
+            length (bits_at vectors.items j) ≡ length (bits_at vectors.items 0) }
+        ensures { result.vectors ≡ vectors.items }
+    {
+        // The proof takes from this that there are at most 2^32 bits.
+        prove!(vectors[0].len() <= MAX_LEN);
+        Bitmaps { vectors, room: 0 }
     }
 
     /// Makes a second list of vectors with the same bits.

@@ -3,14 +3,14 @@
 #![tactic(auto)]
 
 ghost use Rattle.std.specs.Prelude.{◌≡◌, ◌≢◌, Err, None, drop, map};
-ghost use Rattle.bsi_ffi.specs.Calls.{IsAppending, IsAsking, IsClosing, IsCounting, IsDescribing, IsOpening, IsSelecting, IsSharing, LeavesRest};
+ghost use Rattle.bsi_ffi.specs.Calls.{IsAppending, IsAsking, IsClosing, IsCounting, IsDescribing, IsKeeping, IsOpening, IsReopening, IsSelecting, IsSharing, LeavesRest};
 ghost use Rattle.bsi_ffi.specs.States.{opened_in};
 ghost use Rattle.bsi_ffi.specs.Statuses.{status_of, Tells};
 ghost use Rattle.bsi_ffi.specs.declared.refusal.Refusal.TheVariants.{NoMemory, NoRoom};
 
 use bsi_ffi::{
-    FlatAnswer, GivenColumn, Handle, Place, append, ask, close, count, describe, open, select,
-    share, status_of,
+    FlatAnswer, GivenColumn, Handle, Place, append, ask, close, count, describe, open, open_kept,
+    save, select, share, status_of,
 };
 use std::alloc::Global;
 
@@ -111,6 +111,46 @@ pub extern "C" fn bsi_schema(
     ensures rest { result ≡ 0 → drop size.new text.new ≡ drop size.new text.old }
 {
     status_of(describe(alloc, index, text, size))
+}
+
+/// Writes the bytes that keep the index and these notes, if there is room, and how many they are.
+#[unsafe(no_mangle)]
+pub extern "C" fn bsi_save(
+    alloc: Global,
+    index: &mut Handle,
+    notes: &[u8],
+    bytes: &mut [u8],
+    size: &mut usize,
+) -> u32
+    ensures told { Tells result
+        (IsKeeping (opened_in index.old.held.value) notes.now bytes.new size.new) }
+    ensures kept { index.new.held.value ≡ index.old.held.value }
+    ensures left { result ≢ 0 → result ≢ status_of (Err NoRoom) → size.new ≡ size.old }
+    ensures unfilled { result ≢ 0 → bytes.new ≡ bytes.old }
+    ensures rest { result ≡ 0 → drop size.new bytes.new ≡ drop size.new bytes.old }
+{
+    status_of(save(alloc, index, notes, bytes, size))
+}
+
+/// Opens a closed handle, with the index that all bytes keep, and writes the notes and their length. It writes how many
+/// of the first bytes keep an index, also where it is refused.
+#[unsafe(no_mangle)]
+pub extern "C" fn bsi_open_kept(
+    alloc: Global,
+    index: &mut Handle,
+    bytes: &[u8],
+    notes: &mut [u8],
+    size: &mut usize,
+    whole: &mut u64,
+) -> u32
+    ensures told { Tells result (IsReopening index.old.held.value bytes.now notes.new size.new
+        whole.new index.new.held.value) }
+    ensures kept { result ≢ 0 → index.new.held.value ≡ index.old.held.value }
+    ensures left { result ≢ 0 → result ≢ status_of (Err NoRoom) → size.new ≡ size.old }
+    ensures unfilled { result ≢ 0 → notes.new ≡ notes.old }
+    ensures rest { result ≡ 0 → drop size.new notes.new ≡ drop size.new notes.old }
+{
+    status_of(open_kept(alloc, index, bytes, notes, size, whole))
 }
 
 /// Opens a closed handle of the same index, for another thread. The index takes no more rows.

@@ -35,6 +35,18 @@ pub record Decomposes (bs : List ℕ) (not_null : List Bool) (ds : List (List �
       → slice_index_or ds i [] ≡ map (λ e. digit_of bs (number_or_zero e) i) entries
   pub below : All (λ e. number_or_zero e < product bs) entries
 
+-- there is a list of digits for each base, with a digit below it for each row
+pub record AreDigitsBelow (bs : List ℕ) (rows : ℕ) (ds : List (List ℕ)) : Type 0 where
+  pub count : length ds ≡ length bs
+  pub rows_are : (i : ℕ) → i < length bs → length (slice_index_or ds i []) ≡ rows
+  pub below : (i r : ℕ) → i < length bs → slice_index (slice_index_or ds i []) r < slice_index bs i
+
+-- there are such digits, 0 where a row has no number
+pub record AreDigitLists (bs : List ℕ) (not_null : List Bool) (ds : List (List ℕ)) : Type 0 where
+  pub digits : AreDigitsBelow bs (length not_null) ds
+  pub clear : (i r : ℕ) → i < length bs → r < length not_null → slice_index_or not_null r false ≡ false
+      → slice_index (slice_index_or ds i []) r ≡ 0
+
 -- after so many rows the not-null bitmap and each component have room for so many more
 pub record IsRoomy (rows room not_null : ℕ) (rooms : List ℕ) : Type 0 where
   pub within : rows + room ≤ max_len

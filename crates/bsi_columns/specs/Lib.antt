@@ -1,7 +1,9 @@
 pub mod AnyRows
 pub mod SpanEnds
+pub mod ComponentPlaces
 pub mod Decomposed
 pub mod DigitTests
+pub mod Places
 pub use Rattle.bsi_slices.specs.Ends
 pub use Rattle.bsi_orders.specs.Orders
 pub use Rattle.bsi_orders.specs.Rows

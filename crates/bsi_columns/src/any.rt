@@ -7,15 +7,18 @@ ghost use Rattle.std.specs.Prelude.{◌≡◌, ◌↔◌, ◌+◌, ◌≤◌, is
 ghost use Rattle.bsi_bits.specs.BitList.{word_count};
 ghost use Rattle.bsi_slices.specs.Spans.{KeepsRows};
 ghost use Rattle.bsi_columns.specs.AnyRows.{any_entries, any_form, any_room, size_in_form, AnyForm};
+ghost use Rattle.bsi_columns.specs.Places.{bits_each, column_bitmaps};
 ghost use Rattle.bsi_orders.specs.Orders.{values_at};
 ghost use Rattle.bsi_orders.specs.Rows.{selects};
 ghost use Rattle.bsi_orders.specs.Totals.{IsGreatestOf, IsLeastOf};
 
+use crate::bitmaps::bitmaps_of_slices;
 use crate::{
     Column, Decomposed, EqualityComponent, MAX_SPAN_WORDS, NoMemory, Op, RangeComponent, Slices,
 };
 use bsi_bits::Bits;
 use bsi_words::spans::drop_in;
+use std::alloc::Global;
 
 /// A column stored in one of the forms. Each call is that of the form.
 #[derive(Drop)]
@@ -67,6 +70,21 @@ impl AnyColumn {
         ensures { KeepsRows is_none (any_entries self.now) at span.old span.new }
     {
         drop_in(self.not_null(), at, span);
+    }
+}
+
+impl AnyColumn {
+    /// Copies the bitmaps of the column: the not-null bitmap, and then each binary place, the least first; under bases
+    /// those of the least significant digits first.
+    pub fn bitmaps(&self, alloc: Global) -> Result<Vec<Bits>, NoMemory>
+        ensures { IfOk result (λ made. bits_each made.items
+            ≡ column_bitmaps (any_form self.now) (any_entries self.now)) }
+    {
+        match self {
+            AnyColumn::Slices(column) => bitmaps_of_slices(alloc, column),
+            AnyColumn::Equality(column) => column.bitmaps(alloc),
+            AnyColumn::Range(column) => column.bitmaps(alloc),
+        }
     }
 }
 

@@ -3,13 +3,14 @@
 
 ghost use Rattle.std.specs.Prelude.{◌≡◌, ℕ, ◌<◌, List, [], All, length, map, replicate, slice_index, IfOk, IsOk, IsTrue};
 ghost use Rattle.bsi_digits.specs.Digits.{digit_of, product};
+ghost use Rattle.bsi_columns.specs.Decomposed.{AreDigitLists, Decomposes};
 ghost use Rattle.bsi_orders.specs.Orders.{values_at};
 ghost use Rattle.bsi_orders.specs.Rows.{number_or_zero};
 ghost use Rattle.bsi_orders.specs.Totals.{IsGreatestOf, IsLeastOf};
 
 use crate::growth::{clear_each, push_all_digits, push_blocks, push_digits, reserve_each};
 use crate::{Column, Encoding, NoMemory, Op};
-use bsi_bits::{Bits, MAX_BLOCK, room_to_make};
+use bsi_bits::{Bits, MAX_BLOCK, MAX_LEN, room_to_make};
 use bsi_digits::Bases;
 use bsi_slices::transposing::{not_null_word, write_numbers};
 use bsi_slices::{End, NotNull};
@@ -64,6 +65,25 @@ impl<E: Encoding> Decomposed<E> {
             not_null: NotNull::new(alloc),
             room: 0,
         })
+    }
+
+    /// Makes the column of these components, that of the least significant digits first, and of these rows that have a
+    /// number. The digits of a row without one are 0. It takes no memory.
+    pub fn from_components(bases: Bases, components: Vec<E>, not_null: Bits) -> Decomposed<E>
+        requires bases { map E.base_of components.items ≡ bases }
+        requires digits { AreDigitLists bases not_null.bits (map E.digits components.items) }
+        ensures bases { result.bases ≡ bases }
+        ensures digits { Decomposes bases not_null.bits (map E.digits components.items)
+            result.entries }
+    {
+        // The proof takes from this that there are at most 2^32 rows.
+        prove!(not_null.len() <= MAX_LEN);
+        Decomposed {
+            bases,
+            components,
+            not_null: NotNull::from_bits(not_null),
+            room: 0,
+        }
     }
 
     /// Returns the bases. Component `i` has the one at place `i`, and each number is below their product.

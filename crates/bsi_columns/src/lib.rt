@@ -3,11 +3,13 @@
 #![tactic(auto)]
 
 mod any;
+mod bitmaps;
 mod decomposed;
 mod growth;
 
 pub use any::AnyColumn;
-pub use bsi_components::{Encoding, EqualityComponent, RangeComponent, RankedRows};
+pub use bitmaps::{count_places, slices_from_bitmaps};
+pub use bsi_components::{BinaryPlaces, Encoding, EqualityComponent, RangeComponent, RankedRows};
 pub use bsi_slices::{Column, Op, Slices};
 pub use bsi_words::spans::MAX_SPAN_WORDS;
 pub use decomposed::Decomposed;

@@ -1,9 +1,12 @@
 pub mod BitmapDigits
+pub mod Built
 pub mod DigitCounts
 pub mod DigitOrders
 pub mod EqualityDigits
 pub mod EqualityReads
 pub mod FoundDigits
+pub mod PlaceCounts
+pub mod PlaceNumbers
 pub mod RangeDigits
 pub mod RangeReads
 pub mod RankSearch

@@ -1,10 +1,10 @@
 -- The vectors of a component, its bitmaps and then its binary places, as a list of digits.
-use Rattle.std.specs.Prelude.{ℕ, ◌+◌, ◌-◌, Bool, false, List, [], ◌∷◌, length, map, nat_lt, slice_index_or, if◌then◌else◌}
-use Rattle.std.specs.Int.Count.{count_leading_zeros}
+use Rattle.std.specs.Prelude.{ℕ, ◌+◌, Bool, false, List, [], ◌∷◌, length, map, nat_lt, slice_index_or, if◌then◌else◌}
 use Rattle.std.specs.List.{range_with_len}
 use Rattle.bsi_bits.specs.BitList.{BitList}
 use Rattle.bsi_bits.specs.BitLists.{bits_at}
 use Rattle.bsi_words.specs.Places.{min_base_with_places}
+use Rattle.bsi_components.specs.PlaceNumbers.{place_count}
 
 -- the bits of row k, one of each vector
 abbrev pub row : List BitList → ℕ → List Bool
@@ -21,4 +21,4 @@ digits_by digit bitmaps = map (λ k. digit (row bitmaps k)) (range_with_len 0 (l
 
 -- how many binary places of its digits a component of a base keeps: as many as they take, or none below a least base
 abbrev pub kept_places : ℕ → ℕ
-kept_places base = if nat_lt base min_base_with_places then 0 else 32 - count_leading_zeros 32 (base - 1)
+kept_places base = if nat_lt base min_base_with_places then 0 else place_count base

@@ -3,4 +3,5 @@ pub mod Component
 pub mod EndDigits
 pub mod Equality
 pub mod Range
+pub mod PlaceNumbers
 pub mod Ranks

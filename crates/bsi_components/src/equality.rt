@@ -10,6 +10,7 @@ ghost use Rattle.bsi_bits.specs.BitLists.{bits_at};
 ghost use Rattle.bsi_bits.specs.Packed.{bit_of};
 ghost use Rattle.bsi_digits.specs.Digits.{max_base};
 ghost use Rattle.bsi_words.specs.Places.{has_place, max_digit_places, then_places, IsCount, IsEncoded};
+ghost use Rattle.bsi_components.specs.Bitmaps.{kept_places};
 ghost use Rattle.bsi_components.specs.Equality.{first_stored, is_among};
 
 use crate::encoding::Encoding;
@@ -18,6 +19,7 @@ use bsi_words::marks::{MAX_MARK_WORDS, MAX_SPREAD_WORDS, mark_digits};
 use bsi_words::spans::{add_in, drop_in};
 use std::marker::Model;
 
+mod binary_places;
 mod counts;
 mod encoding;
 
@@ -120,6 +122,7 @@ impl EqualityComponent {
     /// Lends the bit vectors of the binary places of the digits, the least first, if any are stored.
     fn places(&self) -> &[Bits]
         ensures places { IsEncoded has_place result.now self.now.digits }
+        ensures many { length result.now ≡ kept_places self.now.base }
         ensures few { length result.now ≤ max_digit_places }
         ensures below { 0 < length result.now → (k : ℕ) →
             slice_index self.now.digits k < 2 ^ length result.now }

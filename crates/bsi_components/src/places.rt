@@ -8,11 +8,22 @@ ghost use Rattle.bsi_bits.specs.BitLists.{bits_at};
 ghost use Rattle.bsi_digits.specs.Digits.{IsBase};
 ghost use Rattle.bsi_words.specs.Places.{has_place, max_digit_places, min_base_with_places, then_places};
 ghost use Rattle.bsi_components.specs.Bitmaps.{kept_places};
+ghost use Rattle.bsi_components.specs.PlaceNumbers.{place_count};
 
 use bsi_bits::Bitmaps;
 
 /// The least base for which binary places are kept. Below it the bitmaps of an encoding are as few, and tell the sum.
 const MIN_BASE_WITH_PLACES: u32 = 4;
+
+/// Returns how many binary places the digits below a base take.
+pub fn place_count(base: u32) -> usize
+    requires { IsBase base }
+    ensures count { result ≡ place_count base }
+    ensures few { (1 ≤ result) × (result ≤ max_digit_places) }
+    ensures enough { base ≤ 2 ^ result }
+{
+    (u32::BITS - (base - 1).leading_zeros()) as usize
+}
 
 /// Returns how many binary places of its digits a component of a base keeps: as many as they take, or none.
 pub(crate) fn kept_places(base: u32) -> usize
@@ -25,7 +36,7 @@ pub(crate) fn kept_places(base: u32) -> usize
     if base < MIN_BASE_WITH_PLACES {
         0
     } else {
-        (u32::BITS - (base - 1).leading_zeros()) as usize
+        place_count(base)
     }
 }
 

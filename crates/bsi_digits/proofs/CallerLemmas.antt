@@ -11,3 +11,5 @@ pub use Rattle.bsi_digits.proofs.Comparing.{two_cmp, slice_cmp-digits_of}
 pub use Rattle.bsi_digits.proofs.DigitLists.{digits_of-cons, weighted_sum-cons, weighted_sum-digits_of, IsDigits-digits_of, same_digits}
 -- bases of 2, under which digits are binary
 pub use Rattle.bsi_digits.proofs.Twos.{IsBaseList-twos, weight-twos, digit_of-twos}
+-- a list of bases that is not refused
+pub use Rattle.bsi_digits.proofs.Refusals.{refusal-from_base_list}

@@ -3,7 +3,7 @@ use Rattle.std.proofs.Common.{◌≡◌, ◌≢◌, ◌<◌, ℕ, ap, ◌∙◌,
 use Rattle.std.specs.Prelude.{Ok, Err, IfErr, OnErr, OnOk}
 use Rattle.bsi_ffi.specs.Statuses.{status_of, Ending}
 use Rattle.bsi_ffi.specs.declared.refusal.Refusal.{Refusal}
-use Rattle.bsi_ffi.specs.declared.refusal.Refusal.TheVariants.{Closed, Open, NoMemory, BadSchema, NoColumns, BadFeeder, BadColumns, BadRow, IndexFull, Shared, BadQuery, NoRoom, BadText}
+use Rattle.bsi_ffi.specs.declared.refusal.Refusal.TheVariants.{Closed, Open, NoMemory, BadSchema, NoColumns, BadFeeder, BadColumns, BadRow, IndexFull, Shared, BadQuery, NoRoom, BadText, LongNotes, NotKept, OtherVersion, CutShort, Damaged}
 
 -- where the status is not 0, the call was refused
 pub where_refused : (P : Type 0) (ending : Ending) (status : ℕ) → status ≡ status_of ending → OnErr ending P → status ≢ 0 → P
@@ -32,6 +32,11 @@ not_done Shared = omega arith
 not_done BadQuery = omega arith
 not_done NoRoom = omega arith
 not_done BadText = omega arith
+not_done LongNotes = omega arith
+not_done NotKept = omega arith
+not_done OtherVersion = omega arith
+not_done CutShort = omega arith
+not_done Damaged = omega arith
 
 -- where the status is 0, the call was done
 pub where_done : (P : Type 0) (ending : Ending) (status : ℕ) → status ≡ status_of ending → OnOk ending P → status ≡ 0 → P

@@ -1,5 +1,5 @@
 -- What each call does to what a handle holds, what it answers, and when it is refused.
-use Rattle.std.specs.Prelude.{◌≡◌, ◌≢◌, ℕ, ◌+◌, ◌*◌, ◌%◌, ◌<◌, ◌≤◌, List, length, map, slice_index_or, take, Option, Some, None, Ok, Err, IsSome, true, false, MatchOption, drop, nat_eq, if◌then◌else◌}
+use Rattle.std.specs.Prelude.{◌≡◌, ◌≢◌, ℕ, ◌+◌, ◌*◌, ◌%◌, ◌<◌, ◌≤◌, ◌⊎◌, List, length, map, slice_index_or, take, Option, Some, None, Ok, Err, IsSome, true, false, MatchOption, drop, nat_eq, if◌then◌else◌}
 use Rattle.std.specs.Int.{cast_unsigned, w128}
 use Rattle.bsi_bits.specs.BitList.{word_count}
 use Rattle.bsi_bits.specs.Packed.{bit_of, end_of_u64}
@@ -15,6 +15,10 @@ use Rattle.bsi_rows.specs.declared.query.Answer.TheVariants.{Count as count_answ
 use Rattle.bsi_rows.specs.declared.query.Pred.{Pred}
 use Rattle.bsi_rows.specs.declared.query.Query.{Query}
 use Rattle.bsi_reading.specs.SchemaTexts.{DeclaresNoColumn, DeclaresTooLong, IsBadRecord, IsSchemaText}
+use Rattle.bsi_saved.specs.Faults.{IsFirstFault, IsOpened}
+use Rattle.bsi_saved.specs.Saved.{kept_file, max_notes, Keeps}
+use Rattle.bsi_saved.specs.declared.fault.OpenFault.{OpenFault}
+use Rattle.bsi_saved.specs.declared.fault.OpenFault.TheVariants as open_fault
 use Rattle.bsi_ffi.specs.Columns.{are_columns, given_rows, row_count, AreTaken, IsFirstMisfit}
 use Rattle.bsi_ffi.specs.Opened.{Opened}
 use Rattle.bsi_ffi.specs.States.{is_shared, opened_in}
@@ -23,7 +27,7 @@ use Rattle.bsi_ffi.specs.declared.answers.FlatAnswer.{FlatAnswer}
 use Rattle.bsi_ffi.specs.declared.answers.Place.{Place}
 use Rattle.bsi_ffi.specs.declared.columns.GivenColumn.{GivenColumn}
 use Rattle.bsi_ffi.specs.declared.refusal.Refusal.{Refusal}
-use Rattle.bsi_ffi.specs.declared.refusal.Refusal.TheVariants.{Closed, Open, NoMemory, BadSchema, NoColumns, BadFeeder, BadColumns, BadRow, IndexFull, Shared, BadQuery, NoRoom, BadText}
+use Rattle.bsi_ffi.specs.declared.refusal.Refusal.TheVariants.{Closed, Open, NoMemory, BadSchema, NoColumns, BadFeeder, BadColumns, BadRow, IndexFull, Shared, BadQuery, NoRoom, BadText, LongNotes, NotKept, OtherVersion, CutShort, Damaged}
 use Rattle.bsi_ffi.specs.declared.state.State.{State}
 use Rattle.bsi_ffi.specs.declared.state.State.TheVariants.{Alone, Shared as shared_state, Moved}
 
@@ -212,6 +216,72 @@ IsDescribed opened bytes size (Err why) = ⊥
 
 abbrev pub IsDescribing : Option Opened → List ℕ → ℕ → Ending → Type 0
 IsDescribing held bytes size ending = WhereOpen held (λ opened ending. IsDescribed opened bytes size ending) ending
+
+-- ---- keeping
+
+-- the first bytes keep the index and these notes
+abbrev pub IsKept : Opened → List ℕ → List ℕ → ℕ → Ending → Type 0
+IsKept opened notes bytes size (Ok done) =
+    (length notes ≤ max_notes) × (size ≡ length (kept_file opened.table notes))
+    × (take size bytes ≡ kept_file opened.table notes)
+IsKept opened notes bytes size (Err LongNotes) = max_notes < length notes
+IsKept opened notes bytes size (Err NoRoom) =
+    (length notes ≤ max_notes) × (size ≡ length (kept_file opened.table notes)) × (length bytes < size)
+IsKept opened notes bytes size (Err NoMemory) = Unit {0}
+IsKept opened notes bytes size (Err why) = ⊥
+
+abbrev pub IsKeeping : Option Opened → List ℕ → List ℕ → ℕ → Ending → Type 0
+IsKeeping held notes bytes size ending = WhereOpen held (λ opened ending. IsKept opened notes bytes size ending) ending
+
+-- ---- opening what was kept
+
+-- the refusal of bytes with this fault
+abbrev pub kept_refusal : OpenFault → Refusal
+kept_refusal open_fault.NotKept = NotKept
+kept_refusal open_fault.OtherVersion = OtherVersion
+kept_refusal open_fault.CutShort = CutShort
+kept_refusal open_fault.Damaged = Damaged
+kept_refusal open_fault.Read = NoMemory
+kept_refusal open_fault.NoMemory = NoMemory
+
+-- this fault is met at the first of the bytes, or behind the first so many, which keep an index
+abbrev pub Meets : List ℕ → ℕ → OpenFault → Type 0
+Meets bytes whole fault =
+    ((whole ≡ 0) × ((after : Option (List ℕ)) × IsFirstFault (Some bytes) after fault))
+    ⊎ ((after : Option (List ℕ)) × (t : Table) × (notes : List ℕ) × IsOpened (Some bytes) after t notes whole (Some fault))
+
+-- the first so many bytes keep an index, or they are none
+abbrev pub FirstKeep : List ℕ → ℕ → Type 0
+FirstKeep bytes whole = (whole ≡ 0) ⊎ ((t : Table) × (notes : List ℕ) × Keeps (take whole bytes) t notes)
+
+-- the bytes are refused, and so many first ones keep an index
+abbrev pub IsKeptRefusal : List ℕ → ℕ → Refusal → Type 0
+IsKeptRefusal bytes whole NotKept = Meets bytes whole open_fault.NotKept
+IsKeptRefusal bytes whole OtherVersion = Meets bytes whole open_fault.OtherVersion
+IsKeptRefusal bytes whole CutShort = Meets bytes whole open_fault.CutShort
+IsKeptRefusal bytes whole Damaged = Meets bytes whole open_fault.Damaged
+IsKeptRefusal bytes whole NoMemory = FirstKeep bytes whole
+IsKeptRefusal bytes whole why = ⊥
+
+-- all bytes keep the index, whose text declares its schema and its limit
+pub record IsKeptBy (bytes notes : List ℕ) (opened : Opened) : Type 0 where
+  pub keeps : Keeps bytes opened.table notes
+  pub declared : IsSchemaText opened.text opened.table.schema opened.table.limit
+
+-- the bytes keep notes of this length, for which there is too little room
+abbrev pub AreLong : List ℕ → List ℕ → ℕ → Type 0
+AreLong bytes room size =
+    (t : Table) × (notes : List ℕ) × Keeps bytes t notes × (size ≡ length notes) × (length room < size)
+
+-- a closed handle gets the index that all bytes keep, and the first of the room its notes
+abbrev pub IsReopening : Option State → List ℕ → List ℕ → ℕ → ℕ → Option State → Ending → Type 0
+IsReopening before bytes room size whole after (Ok done) =
+    (opened_in before ≡ None) × MatchOption (opened_in after) ⊥ (IsKeptBy bytes (take size room))
+    × (is_shared after ≡ false) × (whole ≡ length bytes)
+IsReopening before bytes room size whole after (Err Open) = IsSome (opened_in before) × (whole ≡ 0)
+IsReopening before bytes room size whole after (Err NoRoom) =
+    (opened_in before ≡ None) × AreLong bytes room size × (whole ≡ length bytes)
+IsReopening before bytes room size whole after (Err why) = (opened_in before ≡ None) × IsKeptRefusal bytes whole why
 
 -- ---- sharing and closing
 

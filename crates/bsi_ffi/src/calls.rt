@@ -1,12 +1,13 @@
 //! The calls on a handle.
 
 ghost use Rattle.std.specs.Prelude.{◌≡◌, ◌≢◌, None, drop, is_some, map, IfErr, OnErr, OnOk};
-ghost use Rattle.bsi_ffi.specs.Calls.{IsAppending, IsAsking, IsClosing, IsCounting, IsDescribing, IsOpening, IsSelecting, IsSharing, LeavesRest};
+ghost use Rattle.bsi_ffi.specs.Calls.{IsAppending, IsAsking, IsClosing, IsCounting, IsDescribing, IsKeeping, IsOpening, IsReopening, IsSelecting, IsSharing, LeavesRest};
 ghost use Rattle.bsi_ffi.specs.States.{opened_in};
 
 use crate::answers::{FlatAnswer, Place, reply};
 use crate::columns::GivenColumn;
 use crate::held::{Handle, put, take};
+use crate::keeping::{fill, keep, open_bytes};
 use crate::reading::open_text;
 use crate::refusal::Refusal;
 use crate::selection::write_mask;
@@ -170,6 +171,63 @@ pub fn describe(
     };
     put(index, state);
     ending
+}
+
+/// Writes the bytes that keep the index and these notes, if there is room, and how many they are.
+pub fn save(
+    alloc: Global,
+    index: &mut Handle,
+    notes: &[u8],
+    bytes: &mut [u8],
+    size: &mut usize,
+) -> Result<(), Refusal>
+    ensures ending { IsKeeping (opened_in index.old.held.value) notes.now bytes.new size.new
+        result }
+    ensures kept { index.new.held.value ≡ index.old.held.value }
+    ensures left { IfErr result (λ why. why ≢ Refusal.NoRoom → size.new ≡ size.old) }
+    ensures unfilled { OnErr result (bytes.new ≡ bytes.old) }
+    ensures rest { OnOk result (drop size.new bytes.new ≡ drop size.new bytes.old) }
+{
+    let Some(state) = take(index, alloc) else {
+        return Err(Refusal::Closed);
+    };
+    let ending = match state.opened() {
+        Some(opened) => keep(alloc, opened, notes, bytes, size),
+        None => Err(Refusal::Closed),
+    };
+    put(index, state);
+    ending
+}
+
+/// Opens a closed handle, with the index that all bytes keep, and writes the notes and their length. It writes how many
+/// of the first bytes keep an index, also where it is refused.
+pub fn open_kept(
+    alloc: Global,
+    index: &mut Handle,
+    bytes: &[u8],
+    notes: &mut [u8],
+    size: &mut usize,
+    whole: &mut u64,
+) -> Result<(), Refusal>
+    ensures ending { IsReopening index.old.held.value bytes.now notes.new size.new whole.new
+        index.new.held.value result }
+    ensures kept { OnErr result (index.new.held.value ≡ index.old.held.value) }
+    ensures left { IfErr result (λ why. why ≢ Refusal.NoRoom → size.new ≡ size.old) }
+    ensures unfilled { OnErr result (notes.new ≡ notes.old) }
+    ensures rest { OnOk result (drop size.new notes.new ≡ drop size.new notes.old) }
+{
+    *whole = 0;
+    if is_open(alloc, index) {
+        return Err(Refusal::Open);
+    }
+    let found = open_bytes(alloc, bytes, whole)?;
+    let Ok(state) = Box::new(alloc, State::Alone(found.opened)) else {
+        return Err(Refusal::NoMemory);
+    };
+    fill(&found.notes, notes, size)?;
+    drop(take(index, alloc));
+    put(index, state);
+    Ok(())
 }
 
 /// Opens a closed handle of the same index, which then takes no more rows. If memory is refused, the index stays, but

@@ -9,6 +9,7 @@ mod calls;
 mod columns;
 mod fitting;
 mod held;
+mod keeping;
 mod opened;
 mod reading;
 mod refusal;
@@ -16,7 +17,7 @@ mod selection;
 mod state;
 
 pub use answers::{COUNT, FlatAnswer, Place, ROWS, SUM, VALUE};
-pub use calls::{append, ask, close, count, describe, open, select, share};
+pub use calls::{append, ask, close, count, describe, open, open_kept, save, select, share};
 pub use columns::GivenColumn;
 pub use held::{Handle, Opaque, OwnedPointer};
 pub use opened::Opened;

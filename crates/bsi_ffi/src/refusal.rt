@@ -34,6 +34,16 @@ pub enum Refusal {
     NoRoom,
     /// The schema text has more than 1,000,000 records.
     BadText,
+    /// There are more than 65,536 bytes of notes.
+    LongNotes,
+    /// The bytes are not those of a kept index.
+    NotKept,
+    /// They are of another version of the format.
+    OtherVersion,
+    /// They end within a segment.
+    CutShort,
+    /// A segment is not as it was written.
+    Damaged,
 }
 
 impl From<AllocError> for Refusal {
@@ -65,5 +75,10 @@ pub fn status_of(ending: Result<(), Refusal>) -> u32
         Err(Refusal::BadQuery) => 11,
         Err(Refusal::NoRoom) => 12,
         Err(Refusal::BadText) => 13,
+        Err(Refusal::LongNotes) => 14,
+        Err(Refusal::NotKept) => 15,
+        Err(Refusal::OtherVersion) => 16,
+        Err(Refusal::CutShort) => 17,
+        Err(Refusal::Damaged) => 18,
     }
 }

@@ -21,12 +21,12 @@ use Rattle.bsi_reading.specs.declared.rows.SourceFault.TheVariants as source
 use Rattle.bsi_reading.proofs.FirstRecords.{first_join, HasReadFirst}
 use Rattle.bsi_files.specs.Begun.{Begins}
 use Rattle.bsi_files.specs.Ends.{tasks, AreEndsOf}
-use Rattle.bsi_files.specs.Faults.{is_early, is_late}
+use Rattle.bsi_files.specs.Faults.{is_early, is_late, is_of_headers}
 use Rattle.bsi_feeding.specs.Feeding.{HasFailed, StopsAfter}
 use Rattle.bsi_files.specs.Headers.{HasHeader, IsBehindHeaders, IsHeadersFault}
 use Rattle.bsi_files.specs.Matching.{AreMatched}
 use Rattle.bsi_files.specs.RowFiles.{RowFile}
-use Rattle.bsi_files.specs.RunFaults.{AreGood, AreGoodBefore, AreOverLimit, AreRowFiles, FailsAt, GaveRows, HasFirstRows, IsFaultOf, IsKeptFault, IsLoadFault, IsRunFault, IsTooLongFile, WasReadOut}
+use Rattle.bsi_files.specs.RunFaults.{AreGood, AreGoodBefore, AreOverLimit, AreRowFiles, FailsAt, GaveRows, HasFirstRows, IsFaultOf, IsKeptFault, IsLoadFault, IsTooLongFile, WasReadOut}
 use Rattle.bsi_files.specs.Takings.{AreGoing, AreTold}
 use Rattle.bsi_files.specs.Writing.{Leaves}
 use Rattle.bsi_files.specs.declared.faults.FilesFault.{FilesFault}
@@ -46,29 +46,41 @@ module _ {R : Type 0} (rem : R → Option (List ℕ)) (stops : Bool) (limit : �
   load_early run.NoMemory early over = tt
   load_early fault early over = absurd (cc (early))
 
-  pub load_run : (fault : FilesFault) → IsLoadFault rem stops limit sources fault → IsRunFault rem stops limit sources fault
-  load_run (run.Read which.AsksFile) met = tt
-  load_run (run.TooLong which.AsksFile) met = tt
-  load_run run.Write met = tt
-  load_run fault met = met
-
-  pub late_run : (fault : FilesFault) → is_late fault ≡ true → IsRunFault rem stops limit sources fault
-  late_run (run.Read which.AsksFile) late = tt
-  late_run (run.TooLong which.AsksFile) late = tt
-  late_run run.Write late = tt
-  late_run run.NoMemory late = tt
-  late_run fault late = absurd (cc (late))
+  pub load_late : (fault : FilesFault) → IsLoadFault rem stops limit sources fault → is_late fault ≡ true → fault ≡ run.NoMemory
+  load_late run.NoMemory met late = refl
+  load_late (run.Source n e) met late = absurd (cc (late))
+  load_late (run.NotClosed n) met late = absurd (cc (late))
+  load_late run.IndexFull met late = absurd (cc (late))
+  load_late fault met late = absurd met
 
   pub load_counted : (fault : FilesFault) → IsLoadFault rem stops limit sources fault → fault ≢ run.TooManyFiles
   load_counted fault met = λ is. subst (λ f. IsLoadFault rem stops limit sources f) is met
 
-pub leaves_loaded : (Is : List (List Field) → List (List ℕ) → Type 0) {R : Type 0} (rem : R → Option (List ℕ)) (stops : Bool) (limit : ℕ) (sources : List (Source R)) (asked : List ℕ)
-    (fault : FilesFault) (before after : Option (List ℕ)) → IsLoadFault rem stops limit sources fault → after ≡ before → Leaves Is asked fault before after
-leaves_loaded Is rem stops limit sources asked (run.Source number e) before after met same = same
-leaves_loaded Is rem stops limit sources asked (run.NotClosed number) before after met same = same
-leaves_loaded Is rem stops limit sources asked run.IndexFull before after met same = same
-leaves_loaded Is rem stops limit sources asked run.NoMemory before after met same = inl same
-leaves_loaded Is rem stops limit sources asked fault before after met same = absurd met
+-- a fault before any line leaves none
+pub leaves_none : (Is : List (List Field) → List (List ℕ) → Type 0) (asked : List ℕ) (fault : FilesFault) (before after : Option (List ℕ))
+    → (is_late fault ≡ true → fault ≡ run.NoMemory) → after ≡ before → Leaves Is asked fault before after
+leaves_none Is asked (run.Read which.AsksFile) before after early same = absurd (cc (early refl))
+leaves_none Is asked (run.TooLong which.AsksFile) before after early same = absurd (cc (early refl))
+leaves_none Is asked run.Write before after early same = absurd (cc (early refl))
+leaves_none Is asked run.NoMemory before after early same = inl same
+leaves_none Is asked fault before after early same = same
+
+pub headers_late : (fault : FilesFault) → is_of_headers fault ≡ true → is_late fault ≡ true → fault ≡ run.NoMemory
+headers_late run.NoMemory of late = refl
+headers_late (run.Source n e) of late = absurd (cc (late))
+headers_late fault of late = absurd (cc (of))
+
+pub headers_counted : (fault : FilesFault) → is_of_headers fault ≡ true → fault ≢ run.TooManyFiles
+headers_counted fault of = λ is. absurd (let wrong : false ≡ true = sym (ap is_of_headers is) ∙ of in cc (wrong))
+
+-- one that is met while lines are written tells that all headers are good
+pub late_fault_of : (stops : Bool) (declared : List ℕ) (texts : List (List ℕ)) (fault : FilesFault) → is_late fault ≡ true → AreGood declared texts
+    → IsFaultOf stops declared texts fault
+late_fault_of stops declared texts (run.Read which.AsksFile) late good = good
+late_fault_of stops declared texts (run.TooLong which.AsksFile) late good = good
+late_fault_of stops declared texts run.Write late good = good
+late_fault_of stops declared texts run.NoMemory late good = tt
+late_fault_of stops declared texts fault late good = absurd (cc (late))
 
 -- ---- from what was kept of an end to its source
 
@@ -205,7 +217,7 @@ module _ {R : Type 0} (rem : R → Option (List ℕ)) where
       }
 
   -- what was good before rows were loaded
-  headers_known : (schema : Declared) (readers : List R) (sources : List (Source R)) (texts : List (List ℕ)) → AreMatched (Begins rem schema) readers sources
+  pub headers_known : (schema : Declared) (readers : List R) (sources : List (Source R)) (texts : List (List ℕ)) → AreMatched (Begins rem schema) readers sources
       → map rem readers ≡ map (λ text. Some text) texts → All (HasHeader schema) texts
   headers_known schema readers sources texts begun is =
       all_known (HasHeader schema) texts (subst (λ os. All (λ other. IfSome other (HasHeader schema)) os) is (headers_of rem schema readers sources begun))
@@ -281,7 +293,7 @@ module _ {R : Type 0} (rem : R → Option (List ℕ)) where
     all_good : AreGood declared texts
     all_good = good declared schema limit readers sources texts schema_is begun is
 
-    pub run_fault_of : (fault : FilesFault) → IsRunFault rem stops limit sources fault → IsFaultOf stops declared texts fault
+    pub run_fault_of : (fault : FilesFault) → IsLoadFault rem stops limit sources fault → IsFaultOf stops declared texts fault
     run_fault_of (run.Source n source.BadHeader) met =
         let of = of_text schema readers sources texts n met.0.source begun is met.0.at in
         absurd ((stops_after schema of.reader met.0.source met.0.many source.BadHeader of.begins met.0.failed).stopped.later refl)
@@ -320,8 +332,7 @@ module _ {R : Type 0} (rem : R → Option (List ℕ)) where
       past = met.past;
     }
     run_fault_of run.NoMemory met = tt
-    run_fault_of run.Readers met = absurd met
-    run_fault_of fault met = all_good
+    run_fault_of fault met = absurd met
 
 -- at the headers
 good_before : (declared : List ℕ) (texts : List (List ℕ)) (schema : Declared) (limit : ℕ) (n : ℕ) → IsSchemaText declared schema limit

@@ -16,13 +16,13 @@ use Rattle.bsi_reading.specs.SchemaTexts.{IsSchemaText}
 use Rattle.bsi_reading.specs.Sources.{Counts, HasTaken, IsOver, IsWholeFile, Layout, Source, StandsAfter}
 use Rattle.bsi_files.specs.Begun.{Begins}
 use Rattle.bsi_feeding.specs.Feeding.{IsReadOut}
-use Rattle.bsi_files.specs.Feds.{fed_counts, AreFedFrom, HasRun, IsAllFed, IsFedFrom}
+use Rattle.bsi_files.specs.Feds.{fed_counts, AreFedFrom, IsAllFed, IsFedFrom}
 use Rattle.bsi_files.proofs.Mixing.{same_length}
 use Rattle.bsi_files.proofs.Showing.{file_by_file_too, lines_too}
 use Rattle.bsi_files.specs.Matching.{AreMatched}
 use Rattle.bsi_files.specs.Mixes.{file_by_file, IsMixOf}
 use Rattle.bsi_files.specs.RowFiles.{file_at, file_counts, file_rows, FedCounts, IsRowFile, RowFile}
-use Rattle.bsi_files.specs.Runs.{AreLines, IsRun}
+use Rattle.bsi_files.specs.Runs.{AreLines, HasLoaded, IsRun}
 use Rattle.bsi_files.specs.declared.loading.Fed.{Fed}
 
 -- the files that give the rows of a list
@@ -53,7 +53,7 @@ module _ {R : Type 0} (rem : R → Option (List ℕ)) where
   counts_from stops rows n (source ∷ sources) (x ∷ feds) fed =
       ap₂ (λ c cs. c ∷ cs) (ap (λ k. fed_of k x.bad) fed.0.many) (counts_from stops rows (suc n) sources feds fed.1)
 
-  as_many : (stops : Bool) (rows : List FedRow) (n : ℕ) (sources : List (Source R)) (feds : List Fed) → AreFedFrom rem stops rows n sources feds
+  pub as_many : (stops : Bool) (rows : List FedRow) (n : ℕ) (sources : List (Source R)) (feds : List Fed) → AreFedFrom rem stops rows n sources feds
       → length sources ≡ length feds
   as_many stops rows n [] [] fed = refl
   as_many stops rows n [] (x ∷ feds) fed = absurd fed
@@ -107,47 +107,45 @@ module _ {R : Type 0} (rem : R → Option (List ℕ)) where
       let rest : map rem readers ≡ map (λ text. Some text) texts = cc in
       (one_file law schema reader source text rows n x begin.0 first fed.0, all_files law schema readers sources texts rows (suc n) feds begin.1 rest fed.1)
 
-  run_of_files : IsWholeLaw → (schema : Declared) (limit : ℕ) (readers : List R) (sources : List (Source R)) (declared : List ℕ) (texts : List (List ℕ))
-      (records : List (List Field)) (lines : List (List ℕ))
-      → IsSchemaText declared schema limit → AreMatched (Begins rem schema) readers sources → map rem readers ≡ map (λ text. Some text) texts
-      → HasRun rem false schema limit sources records lines → IsRun declared texts records lines
-  run_of_files law schema limit readers sources declared texts records lines schema_is begin is has =
-      let feds = has.feds in
-      let files = files_from has.rows 0 feds in
-      let many = as_many false has.rows 0 sources feds has.fed.each in
-      let mix : IsMixOf files has.rows = λ f.
-      (let at : 0 + f ≡ f = omega arith in
-      sym (ap (λ m. rows_from m has.rows) at) ∙ mixed_at has.rows 0 feds f (λ g le. has.fed.none g (omega arith))) in
-      let alike = file_by_file_too files has.rows mix in
+  -- the rows of sources that were read out are those of the files
+  pub loaded_of : IsWholeLaw → (stops : Bool) → stops ≡ false → (schema : Declared) (limit : ℕ) (readers : List R) (sources : List (Source R))
+      (texts : List (List ℕ)) (rows : List FedRow) (feds : List Fed) → AreMatched (Begins rem schema) readers sources
+      → map rem readers ≡ map (λ text. Some text) texts → IsAllFed rem stops limit rows sources feds
+      → HasLoaded schema limit texts rows (map fed_counts feds)
+  loaded_of law stops never schema limit readers sources texts rows feds begin is all =
+      let fed = subst (λ b. IsAllFed rem b limit rows sources feds) never all in
+      let many = as_many false rows 0 sources feds fed.each in
       record {
-        schema = schema;
-        limit = limit;
-        files = files;
-        schema_is = schema_is;
-        files_are = all_files law schema readers sources texts has.rows 0 feds begin is has.fed.each;
-        within = subst (λ k. k ≤ limit) (same_length has.rows (file_by_file 0 (map file_rows files)) alike) has.fed.within;
-        lines_are = lines_too schema has.rows (file_by_file 0 (map file_rows files)) (map file_counts files) records lines alike
-            (subst (λ counts. AreLines schema has.rows counts records lines) (sym (counts_from false has.rows 0 sources feds has.fed.each)) has.are);
+        files = files_from rows 0 feds;
+        files_are = all_files law schema readers sources texts rows 0 feds begin is fed.each;
+        mix = λ f.
+            (let at : 0 + f ≡ f = omega arith in
+            sym (ap (λ m. rows_from m rows) at) ∙ mixed_at rows 0 feds f (λ g le. fed.none g (omega arith)));
+        within = fed.within;
+        counts_are = sym (counts_from false rows 0 sources feds fed.each);
       }
-
-  -- ---- from what was told to the bytes
-
-  pub run_lines : (stops : Bool) (schema : Declared) (limit : ℕ) (sources : List (Source R)) (told : List FedRow) (feds : List Fed)
-      → IsAllFed rem stops limit told sources feds
-      → (records : List (List Field)) (lines : List (List ℕ)) → AreLines schema told (map fed_counts feds) records lines → HasRun rem stops schema limit sources records lines
-  run_lines stops schema limit sources told feds fed records lines are = record { rows = told; feds = feds; fed = fed; are = are }
-
-  pub run_of_bytes : IsWholeLaw → (stops : Bool) → stops ≡ false → (schema : Declared) (limit : ℕ) (readers : List R) (sources : List (Source R))
-      (declared : List ℕ) (texts : List (List ℕ)) → IsSchemaText declared schema limit → AreMatched (Begins rem schema) readers sources
-      → map rem readers ≡ map (λ text. Some text) texts
-      → (records : List (List Field)) (lines : List (List ℕ)) → HasRun rem stops schema limit sources records lines → IsRun declared texts records lines
-  run_of_bytes law stops never schema limit readers sources declared texts schema_is begin is records lines has =
-      run_of_files law schema limit readers sources declared texts records lines schema_is begin is
-      (subst (λ b. HasRun rem b schema limit sources records lines) never has)
 
   pub few_fed : (stops : Bool) (limit : ℕ) (rows : List FedRow) (sources : List (Source R)) (feds : List Fed) → IsAllFed rem stops limit rows sources feds
       → length sources ≤ max_feeders → length feds ≤ max_feeders
   few_fed stops limit rows sources feds fed few = (let many = as_many stops rows 0 sources feds fed.each in omega arith)
+
+-- the lines over the rows of files are those of a run over them
+pub run_of_loaded : (schema : Declared) (limit : ℕ) (declared : List ℕ) (texts : List (List ℕ)) (rows : List FedRow) (counts : List FedCounts)
+    → IsSchemaText declared schema limit → HasLoaded schema limit texts rows counts
+    → (records : List (List Field)) (lines : List (List ℕ)) → AreLines schema rows counts records lines → IsRun declared texts records lines
+run_of_loaded schema limit declared texts rows counts schema_is loaded records lines are =
+    let ordered = file_by_file 0 (map file_rows loaded.files) in
+    let alike = file_by_file_too loaded.files rows loaded.mix in
+    record {
+      schema = schema;
+      limit = limit;
+      files = loaded.files;
+      schema_is = schema_is;
+      files_are = loaded.files_are;
+      within = subst (λ k. k ≤ limit) (same_length rows ordered alike) loaded.within;
+      lines_are = lines_too schema rows ordered (map file_counts loaded.files) records lines alike
+          (subst (λ cs. AreLines schema rows cs records lines) loaded.counts_are are);
+    }
 
 -- ---- faults and lengths
 

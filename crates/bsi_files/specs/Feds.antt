@@ -1,14 +1,11 @@
 -- What a whole run has of its sources.
-use Rattle.std.specs.Prelude.{◌≡◌, ⊤, ℕ, suc, List, [], ◌∷◌, Option, None, length, map, Bool, false, ◌≤◌}
+use Rattle.std.specs.Prelude.{◌≡◌, ⊤, ℕ, suc, List, [], ◌∷◌, Option, None, length, Bool, false, ◌≤◌}
 use Rattle.bsi_rows.specs.Runs.{rows_from}
-use Rattle.bsi_records.specs.Numbers.{Field}
-use Rattle.bsi_schema.specs.Columns.{Declared}
 use Rattle.bsi_rows.specs.Rows.{FedRow}
 use Rattle.bsi_reading.specs.Sources.{Source}
 use Rattle.bsi_feeding.specs.Feeding.{IsReadOut}
 use Rattle.bsi_files.specs.declared.loading.Fed.{Fed}
 use Rattle.bsi_files.specs.RowFiles.{FedCounts}
-use Rattle.bsi_files.specs.Runs.{AreLines}
 
 abbrev pub fed_counts : Fed → FedCounts
 fed_counts fed = record { accepted = fed.accepted; bad = fed.bad }
@@ -33,11 +30,3 @@ pub record IsAllFed {R : Type 0} (rem : R → Option (List ℕ)) (stops : Bool) 
   pub each : AreFedFrom rem stops rows 0 sources feds
   pub none : (f : ℕ) → length sources ≤ f → rows_from f rows ≡ []
   pub within : length rows ≤ limit
-
--- the lines of a run over sources, for asks of these records
-pub record HasRun {R : Type 0} (rem : R → Option (List ℕ)) (stops : Bool) (schema : Declared) (limit : ℕ)
-    (sources : List (Source R)) (records : List (List Field)) (lines : List (List ℕ)) : Type 0 where
-  pub rows : List FedRow
-  pub feds : List Fed
-  pub fed : IsAllFed rem stops limit rows sources feds
-  pub are : AreLines schema rows (map fed_counts feds) records lines

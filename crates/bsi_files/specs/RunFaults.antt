@@ -107,6 +107,12 @@ IsFaultOf stops declared texts run.NoMemory = ⊤
 IsFaultOf stops declared texts run.Readers = ⊥
 IsFaultOf stops declared texts fault = AreGood declared texts
 
+-- what a fault tells of the row files where the columns and the limit are given: as of a run that these are declared for
+abbrev pub IsFaultOver : Bool → Declared → ℕ → List (Option (List ℕ)) → FilesFault → Type 0
+IsFaultOver stops schema limit files fault =
+    (declared : List ℕ) → (texts : List (List ℕ)) → IsSchemaText declared schema limit → files ≡ map Some texts
+    → IsFaultOf stops declared texts fault
+
 -- ---- by the sources
 
 -- the source of this number had failed by the fault, or stopped at it after so many rows
@@ -173,10 +179,3 @@ IsLoadFault rem stops limit sources (run.NotClosed number) = number < length sou
 IsLoadFault rem stops limit sources run.IndexFull = AreOverLimit rem limit sources
 IsLoadFault rem stops limit sources run.NoMemory = ⊤
 IsLoadFault rem stops limit sources fault = ⊥
-
--- or from then on
-abbrev pub IsRunFault : {R : Type 0} → (R → Option (List ℕ)) → Bool → ℕ → List (Source R) → FilesFault → Type 0
-IsRunFault rem stops limit sources (run.Read which.AsksFile) = ⊤
-IsRunFault rem stops limit sources (run.TooLong which.AsksFile) = ⊤
-IsRunFault rem stops limit sources run.Write = ⊤
-IsRunFault rem stops limit sources fault = IsLoadFault rem stops limit sources fault

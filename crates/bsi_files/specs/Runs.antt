@@ -7,7 +7,7 @@ use Rattle.bsi_rows.specs.Rows.{FedRow}
 use Rattle.bsi_reading.specs.SchemaTexts.{IsSchemaText}
 use Rattle.bsi_files.specs.AskLines.{IsAskLine}
 use Rattle.bsi_files.specs.Matching.{AreMatched}
-use Rattle.bsi_files.specs.Mixes.{file_by_file}
+use Rattle.bsi_files.specs.Mixes.{file_by_file, IsMixOf}
 use Rattle.bsi_files.specs.RowFiles.{file_counts, file_rows, FedCounts, IsRowFile, RowFile}
 
 -- the line of each file, of which the first has this number
@@ -21,6 +21,15 @@ pub record AreLines (schema : Declared) (rows : List FedRow) (counts : List FedC
   pub answers : List (List ℕ)
   pub each : AreMatched (IsAskLine schema rows) records answers
   pub lines_are : lines ≡ fed_lines 0 counts ++ answers
+
+-- the good rows of files of these bytes, mixed in some way and within the limit, and what each file gave
+pub record HasLoaded (schema : Declared) (limit : ℕ) (texts : List (List ℕ)) (rows : List FedRow) (counts : List FedCounts)
+    : Type 0 where
+  pub files : List RowFile
+  pub files_are : AreMatched (IsRowFile schema) texts files
+  pub mix : IsMixOf files rows
+  pub within : length rows ≤ limit
+  pub counts_are : counts ≡ map file_counts files
 
 -- the lines of a run over files of these bytes, whose good rows are within the limit, for asks of these records
 pub record IsRun (declared : List ℕ) (texts : List (List ℕ)) (records : List (List Field)) (lines : List (List ℕ))

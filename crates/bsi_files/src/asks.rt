@@ -48,14 +48,34 @@ pub(crate) fn answer_all<A: Read + Drop, W: Write>(
         WritesFirst (AreLines table.now.schema table.now.rows (map fed_counts fed.now)) bytes fault
         (W.contents writer.old) (W.contents writer.new))) }
 {
+    tell_feds(alloc, fed, writer)?;
+    answer_asks(alloc, table, asks, writer)
+}
+
+/// Writes a line for each record of a text: the answer to its question over the rows of an index, or that it is bad.
+/// Each line is written before more of the text is asked for. It looks for more than 1,000,000 records last.
+pub fn answer_asks<A: Read + Drop, W: Write>(
+    alloc: Global,
+    table: &Index,
+    asks: A,
+    writer: &mut W,
+) -> Result<(), FilesFault>
+    ensures late { IfErr result (λ fault. is_late fault ≡ true) }
+    ensures ok { OnOk result (IfSome (A.remaining asks) (λ bytes.
+        WritesAll (AreMatched (IsAskLine table.now.schema table.now.rows)) bytes
+        (W.contents writer.old) (W.contents writer.new))) }
+    ensures part { IfErr result (λ fault. IfSome (A.remaining asks) (λ bytes.
+        WritesFirst (AreMatched (IsAskLine table.now.schema table.now.rows)) bytes fault
+        (W.contents writer.old) (W.contents writer.new))) }
+{
     let mut line = Vec::new(alloc);
-    tell_all(fed, &mut line, writer)?;
     let mut records = RecordSource::new(alloc, asks);
     answer_records(alloc, table, &mut records, &mut line, writer)
 }
 
-/// Writes a line for each feeder.
-fn tell_all<W: Write>(fed: &[Fed], line: &mut Vec<u8>, writer: &mut W) -> Result<(), FilesFault>
+/// Writes a line for each of at most 64 feeders, in their order. After a fault some first lines stand, whole unless the
+/// writer failed.
+pub fn tell_feds<W: Write>(alloc: Global, fed: &[Fed], writer: &mut W) -> Result<(), FilesFault>
     requires { length fed.now ≤ max_feeders }
     ensures late { IfErr result (λ fault. is_late fault ≡ true) }
     ensures ok { OnOk result (Appends (W.contents writer.old) (W.contents writer.new)
@@ -64,8 +84,9 @@ fn tell_all<W: Write>(fed: &[Fed], line: &mut Vec<u8>, writer: &mut W) -> Result
     ensures part { IfErr result (λ fault. AreOut fault (fed_lines 0 (map fed_counts fed.now))
         (W.contents writer.old) (W.contents writer.new)) }
 {
+    let mut line = Vec::new(alloc);
     'feeders: for (feeder, end) in fed.iter().enumerate() {
-        tell(file_number(feeder), end, line)?;
+        tell(file_number(feeder), end, &mut line)?;
         write_bytes(writer, line.as_slice())?;
     }
     Ok(())

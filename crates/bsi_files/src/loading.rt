@@ -28,9 +28,11 @@ const MAX_YIELDS: u32 = 256;
 
 /// What a feeder that read a file leaves, except for its closing.
 #[derive(Drop)]
-pub(crate) struct Fed {
-    pub(crate) accepted: u64,
-    pub(crate) bad: u64,
+pub struct Fed {
+    /// How many of its rows were accepted.
+    pub accepted: u64,
+    /// How many of its records are bad.
+    pub bad: u64,
     stopped: bool,
     fault: Option<SourceFault>,
     closed: bool,

@@ -5,13 +5,14 @@
 //! they are settled. Where a ring gave no closing, `NotClosed` or a source's fault is told in its place. Nobody asks
 //! while the threads run, so nothing is published: the loader hands over its table, and the questions are put to it.
 
-ghost use Rattle.std.specs.Prelude.{◌≡◌, ◌≢◌, ◌<◌, ◌≤◌, ◌↔◌, ◌++◌, [], Err, IfErr, IfOk, IfSome, OnOk, false, length, map, true};
+ghost use Rattle.std.specs.Prelude.{◌≡◌, ◌≢◌, ◌<◌, ◌≤◌, ◌↔◌, ◌++◌, ℕ, [], All, Err, IfErr, IfOk, List, OnOk, Some, false, length, map, true};
 ghost use Rattle.bsi_rows.specs.Table.{no_rows, max_feeders};
 ghost use Rattle.bsi_files.specs.Ends.{AreReady};
-ghost use Rattle.bsi_files.specs.Feds.{HasRun, IsAllFed};
+ghost use Rattle.bsi_files.specs.Feds.{fed_counts, IsAllFed};
 ghost use Rattle.bsi_files.specs.Faults.{is_early, is_late};
-ghost use Rattle.bsi_files.specs.RunFaults.{IsFaultOf, IsLoadFault, IsRunFault};
-ghost use Rattle.bsi_files.specs.Runs.{IsRun};
+ghost use Rattle.bsi_files.specs.Headers.{HasHeader};
+ghost use Rattle.bsi_files.specs.RunFaults.{IsFaultOf, IsFaultOver, IsLoadFault};
+ghost use Rattle.bsi_files.specs.Runs.{HasLoaded, IsRun};
 ghost use Rattle.bsi_files.specs.Writing.{Leaves, WhereFilesKnown, WhereKnown, WritesAll};
 ghost use Rattle.bsi_system.specs.Running.{AlwaysHolds};
 
@@ -30,18 +31,24 @@ use std::sync::Wait;
 use std::thread;
 use std::thread::{Scope, Threads};
 
+/// The rows of all files in one index, and what each file gave.
+#[derive(Drop)]
+pub struct Loaded {
+    /// The index. Its feeder of a number is the file of this number, from 0.
+    pub table: Index,
+    /// What each file gave, in their order.
+    pub fed: Vec<Fed>,
+}
+
 /// Loads the good rows of at most 64 files into one index, and answers the questions over all of them.
 ///
-/// The schema file declares the columns and the limit. A feeder on a thread of its own reads each file, and sends
-/// its rows through a ring of 1,024 rows; the calling thread takes the rows out. Then it writes one line for each file,
-/// in their order, and one line for each record of the questions. No line depends on how the threads ran. A feeder that
-/// the gate stops is no fault, and the rows that it sent count.
+/// The schema file declares the columns and the limit. The rows are loaded as `load_files` does. Then it writes one
+/// line for each file, in their order, and one line for each record of the questions. No line depends on how the
+/// threads ran. A feeder that the gate stops is no fault, and the rows that it sent count.
 ///
-/// It looks for faults in this order: the number of files; the schema file; the header of each row file; a thread for
-/// each feeder; the limit; a row file that gives no more rows; a feeder without a closing; the questions and the
-/// writer. Where a feeder was stopped though its gate stops none, it looks for a feeder without a closing before it
-/// looks at the row files. Of several row files or feeders it tells the first. Refused memory is answered where it is
-/// met. Lines that stand before a fault are whole, unless the writer fails. It keeps each row once, in the index.
+/// It looks for faults in this order: the number of files; the schema file; those of `load_files`; the questions and
+/// the writer. Refused memory is answered where it is met. Lines that stand before a fault are whole, unless the writer
+/// fails.
 pub fn run_files<
     R: Threads + Wait + AllocGlobal + Sync,
     S: Read + Drop,
@@ -73,37 +80,51 @@ pub fn run_files<
     if sources.len() > MAX_FEEDERS as usize {
         return Err(FilesFault::TooManyFiles);
     }
+    let DeclaredTable { schema, limit } = read_schema(rt.alloc(), schema)?;
+    let loaded = load_files(rt, schema, limit, sources, gate)?;
+    answer_all(rt.alloc(), &loaded.table, &loaded.fed, asks, writer)
+}
+
+/// Loads the good rows of 1 to 64 files into one index of this schema and limit.
+///
+/// A feeder on a thread of its own reads each file, and sends its rows through a ring of 1,024 rows; the calling thread
+/// takes the rows out. How the rows of several files mix depends on how the threads ran.
+///
+/// It looks for faults in this order: the header of each row file; a thread for each feeder; the limit; a row file that
+/// gives no more rows; a feeder without a closing. Where a feeder was stopped though its gate stops none, it looks for a
+/// feeder without a closing before it looks at the row files. Of several row files or feeders it tells the first.
+/// Refused memory is answered where it is met. It keeps each row once, in the index.
+pub fn load_files<
+    R: Threads + Wait + AllocGlobal + Sync,
+    I: Read + Drop + Send,
+    G: Gate + Stopping + Sync,
+>(rt: &R, schema: Schema, limit: u64, sources: Vec<I>, gate: &G) -> Result<Loaded, FilesFault>
+    requires some { 0 < length sources.items }
+    requires few { length sources.items ≤ max_feeders }
+    ensures schema { IfOk result (λ loaded. loaded.table.schema ≡ schema) }
+    ensures counts { IfOk result (λ loaded. length loaded.fed.items ≡ length sources.items) }
+    ensures headers { OnOk result ((texts : List (List ℕ)) →
+        map I.remaining sources.items ≡ map Some texts → All (HasHeader schema) texts) }
+    ensures counted { IfErr result (λ fault. fault ≢ FilesFault.TooManyFiles) }
+    ensures fault { IfErr result (IsFaultOver G.STOPS schema limit (map I.remaining sources.items)) }
+    ensures late { IfErr result (λ fault. is_late fault ≡ true → fault ≡ FilesFault.NoMemory) }
+
+    // By the bytes of the files, where no gate stops a feeder.
+    ensures rows { IfOk result (λ loaded. G.STOPS ≡ false → (texts : List (List ℕ)) →
+        map I.remaining sources.items ≡ map Some texts →
+        HasLoaded schema limit texts loaded.table.rows (map fed_counts loaded.fed.items)) }
+{
     let alloc = rt.alloc();
-    let DeclaredTable { schema, limit } = read_schema(alloc, schema)?;
     let sources = begin_all(alloc, &schema, sources)?;
     let capacities = capacities(alloc, sources.len())?;
-    let run = Run { sources, asks };
-    run_in::<Brand, R, A, I, W, G>(
-        rt,
-        History::new(),
-        schema,
-        capacities,
-        limit,
-        run,
-        writer,
-        gate,
-    )
+    load_in::<Brand, R, I, G>(rt, History::new(), schema, capacities, limit, sources, gate)
 }
 
-/// What a run reads, except for the schema file.
-#[derive(Drop)]
-struct Run<A: Drop, I: Read + Drop> {
-    sources: Vec<RowSource<I>>,
-    asks: A,
-}
-
-/// Opens the system of a run, and runs it.
-fn run_in<
+/// Opens a system, and loads the files by it.
+fn load_in<
     B: Naming,
     R: Threads + Wait + AllocGlobal + Sync,
-    A: Read + Drop,
     I: Read + Drop + Send,
-    W: Write,
     G: Gate + Stopping + Sync,
 >(
     rt: &R,
@@ -111,24 +132,17 @@ fn run_in<
     schema: Schema,
     capacities: Vec<u32>,
     limit: u64,
-    run: Run<A, I>,
-    writer: &mut W,
+    sources: Vec<RowSource<I>>,
     gate: &G,
-) -> Result<(), FilesFault>
+) -> Result<Loaded, FilesFault>
     requires history { history ≡ record { book = B.book; list = [] } }
     requires about { B.about ≡ no_rows schema (length capacities.items) limit }
-    requires many { length run.sources.items ≡ length capacities.items }
-    requires few { length run.sources.items ≤ max_feeders }
-    ensures counted { IfErr result (λ fault. fault ≢ FilesFault.TooManyFiles) }
-    ensures fault { IfErr result (IsRunFault I.remaining G.STOPS limit run.sources.items) }
-    ensures quiet { IfErr result (λ fault. is_late fault ≡ false →
-        W.contents writer.new ≡ W.contents writer.old) }
-    ensures lines { OnOk result (IfSome (A.remaining run.asks) (λ asked.
-        WritesAll (HasRun I.remaining G.STOPS schema limit run.sources.items) asked
-        (W.contents writer.old) (W.contents writer.new))) }
-    ensures part { IfErr result (λ fault. IfSome (A.remaining run.asks) (λ asked.
-        Leaves (HasRun I.remaining G.STOPS schema limit run.sources.items) asked fault
-        (W.contents writer.old) (W.contents writer.new))) }
+    requires many { length sources.items ≡ length capacities.items }
+    requires few { length sources.items ≤ max_feeders }
+    ensures fault { IfErr result (IsLoadFault I.remaining G.STOPS limit sources.items) }
+    ensures fed { IfOk result (λ loaded. IsAllFed I.remaining G.STOPS limit
+        loaded.table.rows sources.items loaded.fed.items) }
+    ensures schema { IfOk result (λ loaded. loaded.table.schema ≡ schema) }
 {
     match open::<B>(rt.alloc(), history, schema, capacities, limit, 0) {
         Ok(
@@ -137,7 +151,7 @@ fn run_in<
                 loader,
                 analysts: _analysts,
             },
-        ) => load_and_answer(rt, loader, feeders, run, writer, gate),
+        ) => feed_files(rt, loader, feeders, sources, gate),
         // The sizes are in range, so only memory can be refused.
         Err(OpenRefused::Make(_)) => Err(FilesFault::NoMemory),
         Err(OpenRefused::Readers(loader)) => {
@@ -179,48 +193,6 @@ impl<B: Naming, R: Wait> OwnedLoader<'_, B, R> {
     }
 }
 
-/// Loads all rows of the files, and answers the questions.
-fn load_and_answer<
-    B: Naming,
-    R: Threads + Wait + AllocGlobal + Sync,
-    A: Read + Drop,
-    I: Read + Drop + Send,
-    W: Write,
-    G: Gate + Stopping + Sync,
->(
-    rt: &R,
-    loader: Loader<B>,
-    feeders: Vec<Feeder>,
-    run: Run<A, I>,
-    writer: &mut W,
-    gate: &G,
-) -> Result<(), FilesFault>
-    requires ready { AreReady loader.system B.about.limit feeders.items run.sources.items }
-    requires schema { loader.system.schema ≡ B.about.schema }
-    ensures counted { IfErr result (λ fault. fault ≢ FilesFault.TooManyFiles) }
-    ensures fault { IfErr result
-        (IsRunFault I.remaining G.STOPS B.about.limit run.sources.items) }
-    ensures quiet { IfErr result (λ fault. is_late fault ≡ false →
-        W.contents writer.new ≡ W.contents writer.old) }
-    ensures lines { OnOk result (IfSome (A.remaining run.asks) (λ asked.
-        WritesAll (HasRun I.remaining G.STOPS B.about.schema B.about.limit run.sources.items) asked
-        (W.contents writer.old) (W.contents writer.new))) }
-    ensures part { IfErr result (λ fault. IfSome (A.remaining run.asks) (λ asked.
-        Leaves (HasRun I.remaining G.STOPS B.about.schema B.about.limit run.sources.items) asked fault
-        (W.contents writer.old) (W.contents writer.new))) }
-{
-    let Run { sources, asks } = run;
-    let loaded = feed_files(rt, loader, feeders, sources, gate)?;
-    answer_all(rt.alloc(), &loaded.table, &loaded.fed, asks, writer)
-}
-
-/// What the feeders of a run left, and the table of all their rows.
-#[derive(Drop)]
-struct Loaded {
-    fed: Vec<Fed>,
-    table: Index,
-}
-
 /// Feeds the files, and loads their rows. When it returns, all threads have ended.
 fn feed_files<
     B: Naming,
@@ -234,7 +206,7 @@ fn feed_files<
     sources: Vec<RowSource<I>>,
     gate: &G,
 ) -> Result<Loaded, FilesFault>
-    requires { AreReady loader.system B.about.limit feeders.items sources.items }
+    requires ready { AreReady loader.system B.about.limit feeders.items sources.items }
     ensures fault { IfErr result (IsLoadFault I.remaining G.STOPS B.about.limit sources.items) }
     ensures fed { IfOk result (λ loaded. IsAllFed I.remaining G.STOPS B.about.limit
         loaded.table.rows sources.items loaded.fed.items) }
@@ -281,14 +253,14 @@ fn feed_in<
     ensures schema { IfOk result (λ loaded.
         loaded.table.schema ≡ owned.entry.loader.system.schema) }
 {
-    let fed = load_files(scope, rt, flags, &mut owned.loader, feeders, sources)?;
+    let fed = load_all(scope, rt, flags, &mut owned.loader, feeders, sources)?;
     let table = owned.into_table()?;
     Ok(Loaded { fed, table })
 }
 
 /// Feeds the files by threads of a scope, loads all their rows, and returns what each feeder leaves. `into_table` gives
 /// both premises of `fed`.
-fn load_files<
+fn load_all<
     's,
     E,
     B: Naming,

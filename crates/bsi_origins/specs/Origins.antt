@@ -1,5 +1,5 @@
 -- The feeder of each row, and tallies: counts by feeder before every 512th row.
-use Rattle.std.specs.Prelude.{◌≡◌, ℕ, ◌+◌, ◌-◌, ◌*◌, ◌/◌, ◌<◌, ◌≤◌, List, All, length, take, count_by, nat_eq, nat_le, slice_index, if◌then◌else◌}
+use Rattle.std.specs.Prelude.{◌≡◌, ℕ, ◌+◌, ◌-◌, ◌*◌, ◌/◌, ◌<◌, ◌≤◌, List, All, length, nat_le, slice_index, if◌then◌else◌}
 use Rattle.bsi_bits.specs.BitList.{max_len}
 use Rattle.bsi_rows.specs.Numbering.{count_before}
 use Rattle.bsi_rows.specs.Table.{max_feeders}
@@ -10,6 +10,11 @@ pub record OriginList : Type 0 where
   pub rows : List ℕ
   pub feeders : ℕ
   pub room : ℕ
+
+-- a row came from a feeder that is not among the first so many
+abbrev pub HasOtherFeeder : ℕ → List ℕ → Type 0
+HasOtherFeeder feeders row_feeders =
+    (r : ℕ) × (r < length row_feeders) × (feeders ≤ slice_index row_feeders r)
 
 -- these are the counts of the first r rows, by feeder
 abbrev pub AreCountsBefore : ℕ → List ℕ → ℕ → List ℕ → Type 0

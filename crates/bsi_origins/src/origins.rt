@@ -5,10 +5,10 @@
 //! tallies cost 4 bytes for each feeder and 512 rows. A row that stands alone is numbered by one tally and the feeders
 //! of up to 512 rows, its own among them.
 
-ghost use Rattle.std.specs.Prelude.{◌≡◌, ◌≢◌, ◌↔◌, ◌+◌, ◌-◌, ◌*◌, ◌%◌, ◌<◌, ◌≤◌, ◌^◌, ◌++◌, ◌∷◌, [], All, IfOk, IsOk, IsTrue, OnErr, OnOk, length, min, replicate, slice_index, take, vec_len, vec_capacity};
+ghost use Rattle.std.specs.Prelude.{◌≡◌, ◌≢◌, ◌↔◌, ◌+◌, ◌-◌, ◌*◌, ◌%◌, ◌<◌, ◌≤◌, ◌^◌, ◌++◌, ◌∷◌, [], All, IfNone, IfOk, IfSome, IsOk, IsTrue, OnErr, OnOk, length, min, replicate, slice_index, take, vec_len, vec_capacity};
 ghost use Rattle.bsi_bits.specs.BitList.{max_len};
 ghost use Rattle.bsi_rows.specs.Table.{max_feeders};
-ghost use Rattle.bsi_origins.specs.Origins.{stretch_rows, tally_len, AreCountsBefore};
+ghost use Rattle.bsi_origins.specs.Origins.{stretch_rows, tally_len, AreCountsBefore, HasOtherFeeder};
 
 use crate::NoMemory;
 use bsi_bits::room_to_make;
@@ -63,6 +63,29 @@ impl Origins {
         }
     }
 
+    /// Makes the list of rows that came from these feeders, or none if one of them is not among the first so many.
+    pub fn from_feeders(
+        alloc: Global,
+        feeders: u32,
+        row_feeders: &[u8],
+    ) -> Result<Option<Origins>, NoMemory>
+        requires feeders { (1 ≤ feeders) × (feeders ≤ max_feeders) }
+        requires few { length row_feeders.now ≤ max_len }
+        ensures made { IfOk result (λ made. IfSome made (λ origins.
+            (origins.rows ≡ row_feeders.now) × (origins.feeders ≡ feeders))) }
+        ensures none { IfOk result (λ made. IfNone made (HasOtherFeeder feeders row_feeders.now)) }
+    {
+        let mut origins = Origins::new(alloc, feeders);
+        origins.reserve(row_feeders.len() as u64)?;
+        'rows: for feeder in row_feeders {
+            if u32::from(*feeder) >= feeders {
+                return Ok(None);
+            }
+            origins.push_reserved(*feeder);
+        }
+        Ok(Some(origins))
+    }
+
     /// Returns the number of rows, at most 2^32.
     pub fn len(&self) -> u64
         ensures len { result ≡ length self.now.rows }
@@ -85,6 +108,13 @@ impl Origins {
         ensures from { All (λ feeder. feeder < self.now.feeders) self.now.rows }
     {
         self.feeders
+    }
+
+    /// Lends the feeder of each row.
+    pub fn row_feeders(&self) -> &[u8]
+        ensures { result.now ≡ self.now.rows }
+    {
+        &self.row_feeders
     }
 
     /// Returns the feeder of row `r`.

@@ -1,6 +1,7 @@
 //! From bytes to records and rows, and what the lines of a script are.
 #![tactic(auto)]
 
+mod describing;
 pub mod laws;
 mod layout;
 mod reading;
@@ -10,6 +11,7 @@ mod texts;
 mod writing;
 
 pub use bsi_records::{DeclaredTable, NoMemory};
+pub use describing::describe_schema;
 pub use reading::{MAX_RECORDS, plain_reader, read_next};
 pub use rows::{RowSource, SourceFault};
 pub use schema_text::{SchemaFault, read_schema};

@@ -1,3 +1,4 @@
+pub mod Declaring
 pub mod Fitting
 pub mod Naming
 pub mod NoNames

@@ -21,12 +21,16 @@ bytes_are_ascii [] all = All-nil (λ b. b < 128)
 bytes_are_ascii (b ∷ text) all =
     All-cons (λ b. b < 128) b text (byte_is_ascii b (first_so (is_name_byte b) (list_all is_name_byte text) all)) (bytes_are_ascii text (second_so (is_name_byte b) (list_all is_name_byte text) all))
 
--- a name is text
-name_is_text : (text : List ℕ) → IsTrue (is_name text) → IsUtf8 text
-name_is_text text name =
+-- a name is ASCII
+pub name_is_ascii : (text : List ℕ) → IsTrue (is_name text) → All (λ b. b < 128) text
+name_is_ascii text name =
     let start = begins_lower text && nat_le (length text) 32 in
     let spelled = first_so (start && list_all is_name_byte text) (not (is_word text)) name in
-    IsUtf8-from_ascii text (IsAscii-from_all text (bytes_are_ascii text (second_so start (list_all is_name_byte text) spelled)))
+    bytes_are_ascii text (second_so start (list_all is_name_byte text) spelled)
+
+-- and so text
+pub name_is_text : (text : List ℕ) → IsTrue (is_name text) → IsUtf8 text
+name_is_text text name = IsUtf8-from_ascii text (IsAscii-from_all text (name_is_ascii text name))
 
 -- no column has it
 none_named : (columns : List NamedColumn) (text : List ℕ) → AreNamed columns → (IsUtf8 text → ⊥)

@@ -1,5 +1,5 @@
 -- The columns that a schema declares, and the rows that fit them.
-use Rattle.std.specs.Prelude.{ℕ, ◌^◌, ◌≤◌, Bool, true, false, ◌&&◌, ◌||◌, List, [], ◌∷◌, ◌++◌, length, position, All, Option, Some, None, reverse, slice_index_or, String, string_bytes, ℤ, pos, ◌+ℤ◌, ◌≤ℤ◌, int_le, int_lt, IsTrue}
+use Rattle.std.specs.Prelude.{◌≡◌, ℕ, ◌^◌, ◌<◌, ◌≤◌, Bool, true, false, ◌&&◌, ◌||◌, List, [], ◌∷◌, ◌++◌, length, position, take, All, Option, Some, None, reverse, slice_index_or, String, string_bytes, ℤ, pos, ◌+ℤ◌, ◌≤ℤ◌, int_le, int_lt, IsTrue}
 use Rattle.std.specs.Str.{bytes_eq}
 use Rattle.bsi_digits.specs.Digits.{max_end, product, IsBaseList}
 use Rattle.bsi_digits.specs.Signed.{least_i64}
@@ -83,6 +83,19 @@ pub record IsSchema (columns : List NamedColumn) : Type 0 where
   pub few : length columns ≤ max_columns
   pub named : AreNamed columns
   pub each : All IsColumn columns
+
+-- a column that may be declared behind these; where no column has an offset, its numbers begin at 0
+pub record MayFollow (columns : List NamedColumn) (signed : Bool) (column : NamedColumn) : Type 0 where
+  pub few : length columns < max_columns
+  pub name : IsTrue (is_name column.name)
+  pub fresh : position_of columns column.name ≡ None
+  pub valid : IsColumn column
+  pub from_zero : signed ≡ false → column.offset ≡ pos 0
+
+-- what a schema can show: each column may follow those before it
+pub record IsDeclared (schema : Declared) : Type 0 where
+  pub each : (c : ℕ) → c < length schema.columns → MayFollow (take c schema.columns) schema.signed (column_at schema.columns c)
+  pub some : schema.signed ≡ true → 0 < length schema.columns
 
 -- what a map of names has of a column: its name and its kind
 abbrev pub mapped_name : {Z : Type 0} → String Z × Kind → List ℕ

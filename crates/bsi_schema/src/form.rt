@@ -1,6 +1,6 @@
 //! The form in which a column stores its numbers.
 
-ghost use Rattle.std.specs.Prelude.{◌≡◌, ◌≤◌, IfOk};
+ghost use Rattle.std.specs.Prelude.{◌≡◌, ◌↔◌, ◌≤◌, IfOk, IsTrue};
 ghost use Rattle.std.specs.Result.{result_err};
 ghost use Rattle.bsi_digits.specs.Digits.{max_size};
 
@@ -68,6 +68,18 @@ impl Form {
             Form::Slices(width) => 1 << *width,
             Form::Equality(bases) => bases.size(),
             Form::Range(bases) => bases.size(),
+        }
+    }
+
+    /// Returns whether another form is like this one.
+    pub(crate) fn is_same(&self, other: &Form) -> bool
+        ensures { IsTrue result ↔ (self.now ≡ other.now) }
+    {
+        match (self, other) {
+            (Form::Slices(own), Form::Slices(others)) => own == others,
+            (Form::Equality(own), Form::Equality(others)) => own.is_same(others),
+            (Form::Range(own), Form::Range(others)) => own.is_same(others),
+            _ => false,
         }
     }
 

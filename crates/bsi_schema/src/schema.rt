@@ -1,9 +1,9 @@
 //! The columns of an index: their names in order of declaration, their forms and offsets.
 
-ghost use Rattle.std.specs.Prelude.{◌≡◌, ◌<◌, ◌≤◌, None, true, false, All, length, map, pos, ◌+ℤ◌, ◌≤ℤ◌, IfOk, IfErr, OnOk, OnErr, IsTrue};
+ghost use Rattle.std.specs.Prelude.{◌≡◌, ◌↔◌, ◌<◌, ◌≤◌, None, true, false, All, length, map, pos, ◌+ℤ◌, ◌≤ℤ◌, IfOk, IfErr, OnOk, OnErr, IsTrue};
 ghost use Rattle.std.specs.Result.{result_err};
 ghost use Rattle.bsi_digits.specs.Digits.{max_end, max_size};
-ghost use Rattle.bsi_schema.specs.Columns.{column_at, fits, form_of, max_columns, named_column, no_columns, position_of, size_in, with_column, AreNamed, IsColumn, IsForm};
+ghost use Rattle.bsi_schema.specs.Columns.{column_at, fits, form_of, max_columns, named_column, no_columns, position_of, size_in, with_column, AreNamed, IsColumn, IsDeclared, IsForm};
 ghost use Rattle.bsi_schema.specs.Limits.{limits_of};
 ghost use Rattle.bsi_schema.specs.Names.{is_name};
 ghost use Rattle.bsi_schema.specs.Refusals.{column_refusal, name_refusal, signed_refusal, IsFirstOr};
@@ -35,7 +35,7 @@ pub struct Schema {
 // Clauses see the list of columns, and whether one was declared with an offset.
 impl Model for Schema {
     ghost use Rattle.std.specs.Prelude.{◌≡◌, map};
-    ghost use Rattle.bsi_schema.specs.Columns.{named, Declared, IsSchema};
+    ghost use Rattle.bsi_schema.specs.Columns.{named, Declared, IsDeclared, IsSchema};
     ghost use Rattle.bsi_schema.specs.Limits.{limits_of};
 
     ghost Value = { Declared };
@@ -43,7 +43,8 @@ impl Model for Schema {
     ghost view = { λ s. record { columns = map named s.columns.entries; signed = s.signed } };
 
     ghost invariant = { λ s. IsSchema (map named s.columns.entries)
-        × (s.limits.items ≡ map limits_of (map named s.columns.entries)) };
+        × (s.limits.items ≡ map limits_of (map named s.columns.entries))
+        × IsDeclared (record { columns = map named s.columns.entries; signed = s.signed }) };
 }
 
 impl Schema {
@@ -152,6 +153,7 @@ impl Schema {
     pub fn limits(&self) -> &[Limits]
         ensures limits { result.now ≡ map limits_of self.now.columns }
         ensures columns { All IsColumn self.now.columns }
+        ensures declared { IsDeclared self.now }
     {
         &self.limits
     }
@@ -228,6 +230,7 @@ impl Schema {
         requires few { length self.old.columns < max_columns }
         requires form { IsForm kind.form }
         requires below { (kind.offset +ℤ pos (size_in kind.form)) ≤ℤ pos max_end }
+        requires from_zero { signed ≡ false → kind.offset ≡ pos 0 }
         ensures ok { OnOk result (self.new
             ≡ with_column self.old (named_column name.now kind.form kind.offset) signed) }
         ensures err { OnErr result (self.new ≡ self.old) }
@@ -239,6 +242,32 @@ impl Schema {
         self.limits.push_reserved(limits);
         self.signed |= signed;
         Ok(())
+    }
+
+    /// Returns whether another schema declares the same columns, in the same order, and offsets where this one does.
+    pub fn is_same(&self, other: &Schema) -> bool
+        ensures { IsTrue result ↔ (self.now ≡ other.now) }
+    {
+        if self.signed != other.signed || self.columns() != other.columns() {
+            return false;
+        }
+        'columns: for c in 0..self.columns() {
+            if !self.has_column_of(other, c) {
+                return false;
+            }
+        }
+        true
+    }
+
+    /// Returns whether column `c` is that of another schema.
+    fn has_column_of(&self, other: &Schema, c: u32) -> bool
+        requires own { c < length self.now.columns }
+        requires others { c < length other.now.columns }
+        ensures { IsTrue result ↔ (column_at self.now.columns c ≡ column_at other.now.columns c) }
+    {
+        self.name(c) == other.name(c)
+            && self.offset(c) == other.offset(c)
+            && self.form(c).is_same(other.form(c))
     }
 
     /// Makes a second schema of the same columns.

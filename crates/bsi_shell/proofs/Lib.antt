@@ -1,3 +1,5 @@
+mod Checking
 mod Cutting
+mod Flushing
 mod Runs
 mod Scripts

@@ -1,7 +1,30 @@
--- What the words after the program's name begin with.
-use Rattle.std.specs.Prelude.{◌≡◌, List, Some, String, codes, option_map, slice_get, string_bytes}
+-- What the words after the program's name ask for.
+use Rattle.std.specs.Prelude.{⊤, ℕ, List, Option, Some, None, String, codes, if◌then◌else◌, option_map, slice_get, string_bytes}
+use Rattle.std.specs.Str.{bytes_eq}
 use Rattle.std.specs.declared.alloc.Global.{Global}
+use Rattle.bsi_shell.specs.declared.request.Subcommand.{Subcommand}
+use Rattle.bsi_shell.specs.declared.request.Subcommand.TheVariants.{Script, Files, Check, Save, Add, Ask, Show}
 
--- the first word is the command 'files'
-abbrev pub BeginsWithFiles : List (String Global) → Type 0
-BeginsWithFiles words = option_map string_bytes (slice_get words 0) ≡ Some (codes "files")
+-- the command that a word names; a word that names no other stands for a script
+abbrev pub named_by : Option (List ℕ) → Subcommand
+named_by None = Script
+named_by (Some word) =
+    if bytes_eq word (codes "files") then Files
+    else (if bytes_eq word (codes "check") then Check
+    else (if bytes_eq word (codes "save") then Save
+    else (if bytes_eq word (codes "add") then Add
+    else (if bytes_eq word (codes "ask") then Ask
+    else (if bytes_eq word (codes "show") then Show
+    else Script)))))
+
+-- the command that the first word names
+abbrev pub subcommand_of : List (String Global) → Subcommand
+subcommand_of words = named_by (option_map string_bytes (slice_get words 0))
+
+-- it keeps an index in a file, or reads one there
+abbrev pub IsOfKept : Subcommand → Type 0
+IsOfKept Save = ⊤
+IsOfKept Add = ⊤
+IsOfKept Ask = ⊤
+IsOfKept Show = ⊤
+IsOfKept command = ⊥

@@ -4,6 +4,8 @@ use Rattle.std.specs.Prelude.{ℕ, List, ◌++◌, Option, Result, Ok, Err, code
 use Rattle.bsi_files.specs.FaultTexts.{fault_text}
 use Rattle.bsi_shell.specs.declared.files.RunFault.{RunFault}
 use Rattle.bsi_shell.specs.declared.files.RunFault.TheVariants.{CannotOpen, Run}
+use Rattle.bsi_shell.specs.declared.request.Subcommand.{Subcommand}
+use Rattle.bsi_shell.specs.declared.request.Subcommand.TheVariants.{Check, Save, Add, Ask, Show}
 use Rattle.bsi_reading.specs.Waiting.{IsCut}
 use Rattle.bsi_reading.specs.declared.writing.WriteFault.{WriteFault}
 
@@ -17,5 +19,11 @@ abbrev pub IsTold : Result (Unit {0}) WriteFault → Option (List ℕ) → Optio
 IsTold (Ok done) before after line = Appends before after line
 IsTold (Err fault) before after line = IsCut before after line
 
-abbrev pub usage_line : List ℕ
-usage_line = codes "usage: bsi script | bsi files --schema FILE --asks FILE CSV..\n"
+-- the usage line of a command; those of `script` and `files` are one
+abbrev pub usage_of : Subcommand → List ℕ
+usage_of Check = codes "usage: bsi check --schema FILE [--asks FILE] CSV..\n"
+usage_of Save = codes "usage: bsi save --schema FILE --to FILE CSV..\n"
+usage_of Add = codes "usage: bsi add [--so-far] FILE CSV..\n"
+usage_of Ask = codes "usage: bsi ask [--so-far] FILE [--asks FILE]\n"
+usage_of Show = codes "usage: bsi show FILE\n"
+usage_of command = codes "usage: bsi script | bsi files --schema FILE --asks FILE CSV..\n"

@@ -104,7 +104,7 @@ fn open_all<'a, R: AllocGlobal + Files<File = S>, S: Read + Drop>(
 }
 
 /// Opens one file for reading.
-fn open_one<'a, R: Files<File = S>, S: Read + Drop>(
+pub(crate) fn open_one<'a, R: Files<File = S>, S: Read + Drop>(
     rt: &R,
     path: &'a str,
 ) -> Result<S, RunFault<'a>>

@@ -1,12 +1,35 @@
 //! What the words after the program's name ask for.
-ghost use Rattle.std.specs.Prelude.{◌≡◌, ◌≢◌, ◌↔◌, IfOk, Ok, true};
-ghost use Rattle.bsi_shell.specs.Commands.{BeginsWithFiles};
-ghost use Rattle.bsi_shell.specs.declared.request.Request.TheVariants.{Files, Script};
+//!
+//! A further command is a variant of `Subcommand` and of `Request`, a line of `subcommand_of` and of `parse_words`, and
+//! one function of `words.rt`.
+ghost use Rattle.std.specs.Prelude.{◌≡◌, IfOk};
+ghost use Rattle.bsi_shell.specs.Commands.{subcommand_of};
+ghost use Rattle.bsi_shell.specs.Requests.{IsRequestOf};
 
-use crate::paths::Paths;
+use crate::paths::{CheckPaths, Paths};
+use bsi_store::{AddPaths, AskPaths, SavePaths};
 use clap::error::ErrorKind;
 use clap::{Arg, ArgAction, ArgMatches, Command, Error};
 use std::alloc::{AllocError, Global};
+
+/// The commands of the program.
+#[derive(Clone, Copy, Debug, PartialEq, Eq)]
+pub(crate) enum Subcommand {
+    /// Runs the script on the input.
+    Script,
+    /// Runs over files.
+    Files,
+    /// Says what a run over files would not take.
+    Check,
+    /// Keeps the rows of files in a file.
+    Save,
+    /// Adds rows to a kept index.
+    Add,
+    /// Answers questions over a kept index.
+    Ask,
+    /// Says what a kept index is.
+    Show,
+}
 
 /// What the words ask for.
 #[derive(Drop)]
@@ -15,6 +38,16 @@ pub(crate) enum Request<'a> {
     Script,
     /// Run over files.
     Files(Paths<'a>),
+    /// Say what a run over files would not take.
+    Check(CheckPaths<'a>),
+    /// Keep the rows of files in a file.
+    Save(SavePaths<'a>),
+    /// Add rows to a kept index.
+    Add(AddPaths<'a>),
+    /// Answer questions over a kept index.
+    Ask(AskPaths<'a>),
+    /// Say what the kept index of this path is.
+    Show(&'a str),
     /// The words are not a command.
     Wrong,
     /// Memory was refused while the words were read.
@@ -23,8 +56,7 @@ pub(crate) enum Request<'a> {
 
 /// Reads the words. A request for help is not a command.
 pub(crate) fn read_request<'a>(alloc: Global, words: &'a [String]) -> Request<'a>
-    ensures files { (paths : Paths) → result ≡ Files paths → BeginsWithFiles words.now }
-    ensures script { result ≡ Script → ¬ BeginsWithFiles words.now }
+    ensures { IsRequestOf (subcommand_of words.now) result }
 {
     match parse_words(alloc, words) {
         Ok(request) => request,
@@ -35,47 +67,133 @@ pub(crate) fn read_request<'a>(alloc: Global, words: &'a [String]) -> Request<'a
 
 /// Parses the words by the commands of the program.
 fn parse_words<'a>(alloc: Global, words: &'a [String]) -> Result<Request<'a>, Error>
-    ensures files { (paths : Paths) → result ≡ Ok (Files paths) → BeginsWithFiles words.now }
-    ensures script { result ≡ Ok Script → ¬ BeginsWithFiles words.now }
+    ensures { IfOk result (IsRequestOf (subcommand_of words.now)) }
 {
     let matches = commands(alloc)?.try_get_matches_from(words)?;
-    match matches.subcommand() {
-        // The first word names a command, since no option stands before it.
-        Some(("script", _)) if !begins_with_files(words) => Ok(Request::Script),
-        Some(("files", files)) if begins_with_files(words) => Ok(read_paths(alloc, files)?),
+    // The first word names a command, since no option stands before it.
+    match (matches.subcommand(), subcommand_of(words)) {
+        (Some(("script", _)), Subcommand::Script) => Ok(Request::Script),
+        (Some(("files", given)), Subcommand::Files) => Ok(read_paths(alloc, given)?),
+        (Some(("check", given)), Subcommand::Check) => Ok(read_check_paths(alloc, given)?),
+        (Some(("save", given)), Subcommand::Save) => Ok(read_save_paths(alloc, given)?),
+        (Some(("add", given)), Subcommand::Add) => Ok(read_add_paths(alloc, given)?),
+        (Some(("ask", given)), Subcommand::Ask) => Ok(read_ask_paths(given)),
+        (Some(("show", given)), Subcommand::Show) => Ok(read_show_path(given)),
         _ => Ok(Request::Wrong),
     }
 }
 
-/// Makes the commands of the program.
-fn commands<'a>(alloc: Global) -> Result<Command<'a>, AllocError> {
-    let script = Command::new(alloc, "script");
-    let files = Command::new(alloc, "files")
-        .arg(Arg::new(alloc, "schema").long("schema").required(true))?
-        .arg(Arg::new(alloc, "asks").long("asks").required(true))?
-        .arg(
-            Arg::new(alloc, "rows")
-                .required(true)
-                .num_args(1..)
-                .action(ArgAction::Append),
-        )?;
-    Command::new(alloc, "bsi")
-        .no_binary_name(true)
-        .subcommand_required(true)
-        .subcommand(script)?
-        .subcommand(files)
+/// Returns the command that the first word names, and `script` where it names no other.
+pub(crate) fn subcommand_of(words: &[String]) -> Subcommand
+    ensures { result ≡ subcommand_of words.now }
+{
+    let Some(word) = words.first() else {
+        return Subcommand::Script;
+    };
+    if word.as_str() == "files" {
+        return Subcommand::Files;
+    }
+    if word.as_str() == "check" {
+        return Subcommand::Check;
+    }
+    if word.as_str() == "save" {
+        return Subcommand::Save;
+    }
+    if word.as_str() == "add" {
+        return Subcommand::Add;
+    }
+    if word.as_str() == "ask" {
+        return Subcommand::Ask;
+    }
+    if word.as_str() == "show" {
+        return Subcommand::Show;
+    }
+    Subcommand::Script
 }
 
-/// Returns whether the first word is `files`.
-fn begins_with_files(words: &[String]) -> bool
-    ensures { (result ≡ true) ↔ BeginsWithFiles words.now }
-{
-    words.first().is_some_and(|word| word.as_str() == "files")
+/// Makes the commands of the program.
+fn commands<'a>(alloc: Global) -> Result<Command<'a>, AllocError> {
+    let command = Command::new(alloc, "bsi")
+        .no_binary_name(true)
+        .subcommand_required(true)
+        .subcommand(Command::new(alloc, "script"))?
+        .subcommand(files_command(alloc)?)?
+        .subcommand(check_command(alloc)?)?;
+    with_kept(alloc, command)
+}
+
+/// Adds the commands over a kept index.
+fn with_kept<'a>(alloc: Global, command: Command<'a>) -> Result<Command<'a>, AllocError> {
+    command
+        .subcommand(save_command(alloc)?)?
+        .subcommand(add_command(alloc)?)?
+        .subcommand(ask_command(alloc)?)?
+        .subcommand(Command::new(alloc, "show").arg(kept_file(alloc))?)
+}
+
+/// Makes the command `files`.
+fn files_command<'a>(alloc: Global) -> Result<Command<'a>, AllocError> {
+    Command::new(alloc, "files")
+        .arg(Arg::new(alloc, "schema").long("schema").required(true))?
+        .arg(Arg::new(alloc, "asks").long("asks").required(true))?
+        .arg(row_files(alloc))
+}
+
+/// Makes the command `check`.
+fn check_command<'a>(alloc: Global) -> Result<Command<'a>, AllocError> {
+    Command::new(alloc, "check")
+        .arg(Arg::new(alloc, "schema").long("schema").required(true))?
+        .arg(Arg::new(alloc, "asks").long("asks"))?
+        .arg(row_files(alloc))
+}
+
+/// Makes the command `save`.
+fn save_command<'a>(alloc: Global) -> Result<Command<'a>, AllocError> {
+    Command::new(alloc, "save")
+        .arg(Arg::new(alloc, "schema").long("schema").required(true))?
+        .arg(Arg::new(alloc, "to").long("to").required(true))?
+        .arg(row_files(alloc))
+}
+
+/// Makes the command `add`.
+fn add_command<'a>(alloc: Global) -> Result<Command<'a>, AllocError> {
+    Command::new(alloc, "add")
+        .arg(so_far(alloc))?
+        .arg(kept_file(alloc))?
+        .arg(row_files(alloc))
+}
+
+/// Makes the command `ask`.
+fn ask_command<'a>(alloc: Global) -> Result<Command<'a>, AllocError> {
+    Command::new(alloc, "ask")
+        .arg(so_far(alloc))?
+        .arg(kept_file(alloc))?
+        .arg(Arg::new(alloc, "asks").long("asks"))
+}
+
+/// Makes the argument of the file that keeps an index.
+fn kept_file<'a>(alloc: Global) -> Arg<'a> {
+    Arg::new(alloc, "kept").required(true)
+}
+
+/// Makes the flag by which a file that is not whole is taken as far as it goes.
+fn so_far<'a>(alloc: Global) -> Arg<'a> {
+    Arg::new(alloc, "so-far")
+        .long("so-far")
+        .action(ArgAction::SetTrue)
+}
+
+/// Makes the argument of the row files.
+fn row_files<'a>(alloc: Global) -> Arg<'a> {
+    Arg::new(alloc, "rows")
+        .required(true)
+        .num_args(1..)
+        .action(ArgAction::Append)
 }
 
 /// Takes the paths from the matches of the command `files`.
 fn read_paths<'a>(alloc: Global, files: &ArgMatches<'a>) -> Result<Request<'a>, AllocError>
-    ensures { IfOk result (λ request. request ≢ Script) }
+    ensures { IfOk result (IsRequestOf Subcommand.Files) }
 {
     let (Some(schema), Some(asks), Some(rows)) = (
         files.get_str("schema"),
@@ -89,4 +207,71 @@ fn read_paths<'a>(alloc: Global, files: &ArgMatches<'a>) -> Result<Request<'a>, 
     }
     let rows = rows.to_vec(alloc)?;
     Ok(Request::Files(Paths { schema, asks, rows }))
+}
+
+/// Takes the paths from the matches of the command `check`.
+fn read_check_paths<'a>(alloc: Global, files: &ArgMatches<'a>) -> Result<Request<'a>, AllocError>
+    ensures { IfOk result (IsRequestOf Subcommand.Check) }
+{
+    let (Some(schema), Some(rows)) = (files.get_str("schema"), files.get_strs("rows")) else {
+        return Ok(Request::Wrong);
+    };
+    let asks = files.get_str("asks");
+    let rows = rows.to_vec(alloc)?;
+    Ok(Request::Check(CheckPaths { schema, asks, rows }))
+}
+
+/// Takes the paths from the matches of the command `save`.
+fn read_save_paths<'a>(alloc: Global, given: &ArgMatches<'a>) -> Result<Request<'a>, AllocError>
+    ensures { IfOk result (IsRequestOf Subcommand.Save) }
+{
+    let (Some(schema), Some(to), Some(rows)) = (
+        given.get_str("schema"),
+        given.get_str("to"),
+        given.get_strs("rows"),
+    ) else {
+        return Ok(Request::Wrong);
+    };
+    if rows.is_empty() {
+        return Ok(Request::Wrong);
+    }
+    let rows = rows.to_vec(alloc)?;
+    Ok(Request::Save(SavePaths { schema, to, rows }))
+}
+
+/// Takes the paths from the matches of the command `add`.
+fn read_add_paths<'a>(alloc: Global, given: &ArgMatches<'a>) -> Result<Request<'a>, AllocError>
+    ensures { IfOk result (IsRequestOf Subcommand.Add) }
+{
+    let (Some(kept), Some(rows)) = (given.get_str("kept"), given.get_strs("rows")) else {
+        return Ok(Request::Wrong);
+    };
+    if rows.is_empty() {
+        return Ok(Request::Wrong);
+    }
+    let rows = rows.to_vec(alloc)?;
+    let so_far = given.get_flag("so-far");
+    Ok(Request::Add(AddPaths { kept, rows, so_far }))
+}
+
+/// Takes the paths from the matches of the command `ask`.
+fn read_ask_paths<'a>(given: &ArgMatches<'a>) -> Request<'a>
+    ensures { IsRequestOf Subcommand.Ask result }
+{
+    let Some(kept) = given.get_str("kept") else {
+        return Request::Wrong;
+    };
+    let asks = given.get_str("asks");
+    let so_far = given.get_flag("so-far");
+    Request::Ask(AskPaths { kept, asks, so_far })
+}
+
+/// Takes the path from the matches of the command `show`.
+fn read_show_path<'a>(given: &ArgMatches<'a>) -> Request<'a>
+    ensures { IsRequestOf Subcommand.Show result }
+{
+    match given.get_str("kept") {
+        Some(kept) => Request::Show(kept),
+        None => Request::Wrong,
+    }
 }

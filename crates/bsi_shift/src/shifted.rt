@@ -36,10 +36,9 @@ impl Model for Shifted {
 }
 
 impl Shifted {
-    /// Makes a column of no rows yet. Its numbers are those from `offset` on, as many as the size of `column`, which
-    /// stores them, and the last of them is below 2^63. It takes no memory.
+    /// Makes a column of the rows of a stored one. Its numbers are those from `offset` on, as many as the size of
+    /// `column`, and the last of them is below 2^63. It takes no memory.
     pub fn new(column: AnyColumn, offset: i64) -> Shifted
-        requires empty { any_entries column ≡ [] }
         requires within { (offset +ℤ pos (any_size column)) ≤ℤ pos max_end }
         ensures { result ≡ record { stored = column; offset = offset } }
     {

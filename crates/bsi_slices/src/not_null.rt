@@ -43,6 +43,14 @@ impl NotNull {
         }
     }
 
+    /// Makes the bitmap of these bits. It takes no memory.
+    pub fn from_bits(bits: Bits) -> NotNull
+        ensures { result ≡ bits }
+    {
+        let has_null = bits.count() < bits.len();
+        NotNull { bits, has_null }
+    }
+
     /// Returns the bits, one for each row.
     pub fn bits(&self) -> &Bits
         ensures { result.now ≡ self.now }

@@ -1,9 +1,11 @@
 //! A column as bit slices: one bit vector for each binary place of its numbers (O'Neil and Quass 1997).
 
-ghost use Rattle.std.specs.Prelude.{◌≡◌, ℕ, ◌++◌, ◌∷◌, [], All, ◌<◌, ◌≤◌, ◌^◌, ◌+◌, ◌==◌, length, map, min, IfOk, IsOk, OnOk, OnErr};
+ghost use Rattle.std.specs.Prelude.{◌≡◌, ℕ, ◌++◌, ◌∷◌, [], All, ◌<◌, ◌≤◌, ◌^◌, ◌+◌, ◌==◌, length, map, min, is_some, IfNone, IfOk, IfSome, IsOk, OnOk, OnErr};
 ghost use Rattle.std.specs.Int.{bit_at};
+ghost use Rattle.bsi_words.specs.Nulls.{HasBitOfNull};
 ghost use Rattle.bsi_words.specs.Places.{max_places};
 ghost use Rattle.bsi_bits.specs.BitList.{max_block, max_len, word_count};
+ghost use Rattle.bsi_bits.specs.BitLists.{bits_at};
 ghost use Rattle.bsi_slices.specs.Spans.{KeepsRows};
 ghost use Rattle.bsi_orders.specs.Orders.{values_at};
 ghost use Rattle.bsi_orders.specs.Rows.{number_or_zero, selects};
@@ -15,6 +17,7 @@ use crate::not_null::NotNull;
 use crate::transposing::{not_null_word, transpose, write_numbers};
 use crate::{NoMemory, Op};
 use bsi_bits::{Bitmaps, Bits, MAX_BLOCK, MAX_LEN};
+use bsi_words::nulls::are_clear_at_nulls;
 use compare::{keep_selected, select};
 use std::alloc::Global;
 use std::marker::Model;
@@ -63,6 +66,29 @@ impl Slices {
         Ok(Slices {
             slices,
             not_null: NotNull::new(alloc),
+        })
+    }
+
+    /// Makes the column of these slices, the least place first, and of these rows that have a number, or none if a row
+    /// without a number has a bit in a slice. It takes no memory.
+    pub fn from_places(places: Vec<Bits>, not_null: Bits) -> Option<Slices>
+        requires some { (1 ≤ length places.items) × (length places.items ≤ max_places) }
+        requires even { (k : ℕ) → k < length places.items →
+            length (bits_at places.items k) ≡ length not_null.bits }
+        ensures width { IfSome result (λ c. c.width ≡ length places.items) }
+        ensures not_null { IfSome result (λ c. not_null.bits ≡ map is_some c.entries) }
+        ensures places { IfSome result (λ c. (k : ℕ) → k < length places.items →
+            bits_at places.items k ≡ map (λ e. bit_at (number_or_zero e) k == 1) c.entries) }
+        ensures none { IfNone result (HasBitOfNull not_null.bits places.items) }
+    {
+        if !are_clear_at_nulls(&places, &not_null) {
+            return None;
+        }
+        // The proof takes from this that there are at most 2^32 rows.
+        prove!(not_null.len() <= MAX_LEN);
+        Some(Slices {
+            slices: Bitmaps::from_vectors(places),
+            not_null: NotNull::from_bits(not_null),
         })
     }
 

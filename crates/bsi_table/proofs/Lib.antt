@@ -1,9 +1,11 @@
+pub mod BitmapRows
 pub mod Counting
 pub mod Fed
 pub mod Growing
 pub mod Joining
 pub mod Keeping
 pub mod Parts
+pub mod RowBitmaps
 pub mod Selecting
 pub mod Selections
 pub mod Singles

@@ -1,3 +1,4 @@
+pub mod Bitmaps
 pub mod Index
 pub mod Kept
 pub mod Selections

@@ -5,16 +5,18 @@
 
 ghost use Rattle.std.specs.Prelude.{◌≡◌, ◌≢◌, ◌↔◌, [], ◌+◌, ◌<◌, ◌≤◌, None, Some, length, map, slice_get, IfErr, IfOk, IsOk, IsTrue, true, OnErr, OnOk};
 ghost use Rattle.std.specs.Result.{result_err};
-ghost use Rattle.bsi_rows.specs.Table.{max_feeders, max_rows, no_rows, with_row, with_rows, AreFitting, AreFrom, AreKeptAlike};
+ghost use Rattle.bsi_rows.specs.Table.{max_feeders, max_rows, no_rows, table, with_row, with_rows, AreFitting, AreFrom, AreKeptAlike};
 ghost use Rattle.bsi_shift.specs.Shifted.{shifted_entries};
 ghost use Rattle.bsi_rows.specs.Answers.{missing_column, CountsConjunction, IsAnswer, IsReply, ReadsAmong};
 ghost use Rattle.bsi_table.specs.Selections.{IsSelection};
 ghost use Rattle.bsi_schema.specs.Columns.{column_at, fits};
 ghost use Rattle.bsi_rows.specs.Refusals.{index_refusal, row_refusal, rows_refusal, IsFirstOr};
 ghost use Rattle.bsi_rows.specs.RowBlocks.{entries_of, fed_as, no_block_rows, HaveSameLimits};
-ghost use Rattle.bsi_rows.specs.Rows.{column_of, holds, row_entries};
+ghost use Rattle.bsi_rows.specs.Rows.{column_of, feeders_of, holds, row_entries};
+ghost use Rattle.bsi_columns.specs.Places.{bits_each};
+ghost use Rattle.bsi_table.specs.Bitmaps.{bitmaps_of};
 ghost use Rattle.bsi_table.specs.Index.{table_of};
-ghost use Rattle.bsi_table.specs.Kept.{IsInForm};
+ghost use Rattle.bsi_table.specs.Kept.{fed_rows, AreKept, IsInForm};
 
 use crate::columns::{are_kept_alike, copy_each, make_each, read_row, select_one};
 use crate::found::{count_selected, find_rows};
@@ -113,6 +115,30 @@ impl Index {
             schema,
             columns,
             origins: Origins::new(alloc, feeders),
+            limit,
+            room: 0,
+        })
+    }
+
+    /// Makes the index of these columns, which are those that the schema declares, and of the feeder of each row.
+    pub fn from_parts(
+        alloc: Global,
+        schema: Schema,
+        columns: Vec<Shifted>,
+        origins: Origins,
+        limit: u64,
+    ) -> Result<Index, NoMemory>
+        requires columns { AreKept schema.columns columns.items (length origins.rows) }
+        requires within { (length origins.rows ≤ limit) × (limit ≤ max_rows) }
+        ensures { IfOk result (λ index. table_of index
+            ≡ table schema origins.feeders limit (fed_rows origins.rows columns.items)) }
+    {
+        // The proof takes from this that each row came from one of at most 64 feeders.
+        let _feeders = origins.feeders();
+        Ok(Index {
+            schema: share(alloc, schema)?,
+            columns,
+            origins,
             limit,
             room: 0,
         })
@@ -426,6 +452,23 @@ impl Index {
         ensures offset { result.now.offset ≡ (column_at self.now.schema.columns c).offset }
     {
         &self.columns[c as usize]
+    }
+
+    /// Copies the bitmaps of column `c`: the not-null bitmap, and then each binary place, the least first; under bases
+    /// those of the least significant digits first.
+    pub fn bitmaps(&self, c: u32) -> Result<Vec<Bits>, NoMemory>
+        requires { c < length self.now.schema.columns }
+        ensures { IfOk result (λ made. bits_each made.items
+            ≡ bitmaps_of self.now.schema self.now.rows c) }
+    {
+        self.column(c).stored().bitmaps(*self.columns.allocator())
+    }
+
+    /// Lends the feeder of each row.
+    pub fn row_feeders(&self) -> &[u8]
+        ensures { result.now ≡ feeders_of self.now.rows }
+    {
+        self.origins.row_feeders()
     }
 
     /// Makes a second index of the same rows.

@@ -1,12 +1,14 @@
 //! An index: rows from feeders, kept column by column, and the answers to queries over them.
 #![tactic(auto)]
 
+mod bitmaps;
 mod columns;
 mod found;
 mod growth;
 mod index;
 mod totals;
 
+pub use bitmaps::{column_from_bitmaps, count_bitmaps};
 pub use bsi_rows::{
     Answer, AppendError, AskError, Block, ColumnSpec, Form, IndexError, MAX_BLOCK_ROWS,
     MAX_FEEDERS, MAX_ROWS, MAX_SLICES, Op, Pred, Query, Row, Schema, SchemaError, Total,

@@ -1,8 +1,9 @@
 //! How a command line ends, and how often its output is flushed.
 
 use bsi_fixtures::{EMPTY, NarrowWriter, TextReader};
-use bsi_shell::run_words;
+use bsi_shell::{LockFile, run_words};
 use std::alloc::{AllocError, Global};
+use std::fs::OpenFile;
 use std::io;
 use std::io::{PipeReader, Read, Write};
 use std::os::fd::AsRawFd;
@@ -37,10 +38,10 @@ fn words_of(alloc: Global, line: &str) -> Result<Vec<String>, AllocError> {
     Ok(list)
 }
 
-fn end_once<R: AllocGlobal + Files<File = S> + Threads + Wait + Sync, S: Read + Drop + Send>(
-    rt: &R,
-    line: Line<'_>,
-) -> Result<LineEnd, AllocError> {
+fn end_once<
+    R: AllocGlobal + Files<File = S> + Threads + Wait + Sync,
+    S: Read + Write + OpenFile + LockFile + Drop + Send,
+>(rt: &R, line: Line<'_>) -> Result<LineEnd, AllocError> {
     let words = words_of(rt.alloc(), line.words)?;
     let mut output = NarrowWriter {
         taken: Vec::with_capacity(rt.alloc(), 4096)?,
@@ -63,10 +64,10 @@ fn end_once<R: AllocGlobal + Files<File = S> + Threads + Wait + Sync, S: Read + 
 }
 
 // How the line ends. Where memory was refused, it is run again.
-fn end_of<R: AllocGlobal + Files<File = S> + Threads + Wait + Sync, S: Read + Drop + Send>(
-    rt: &R,
-    line: Line<'_>,
-) -> Result<LineEnd, AllocError> {
+fn end_of<
+    R: AllocGlobal + Files<File = S> + Threads + Wait + Sync,
+    S: Read + Write + OpenFile + LockFile + Drop + Send,
+>(rt: &R, line: Line<'_>) -> Result<LineEnd, AllocError> {
     match end_once(rt, line) {
         Ok(end) if end.faults.as_slice() != b"bsi: no memory\n".as_slice() => Ok(end),
         _ => end_once(rt, line),
@@ -93,13 +94,10 @@ impl LineEnd {
 }
 
 // Whether a line ends so, tells this on its faults and writes this.
-fn ends<R: AllocGlobal + Files<File = S> + Threads + Wait + Sync, S: Read + Drop + Send>(
-    rt: &R,
-    line: Line<'_>,
-    status: u8,
-    output: &str,
-    faults: &str,
-) -> bool {
+fn ends<
+    R: AllocGlobal + Files<File = S> + Threads + Wait + Sync,
+    S: Read + Write + OpenFile + LockFile + Drop + Send,
+>(rt: &R, line: Line<'_>, status: u8, output: &str, faults: &str) -> bool {
     match end_of(rt, line) {
         Ok(end) => end.is(status, output, faults),
         Err(_) => false,
@@ -139,11 +137,10 @@ fn pipe_of<R: AllocGlobal + Files>(rt: &R, text: &str) -> io::Result<(PipeReader
 }
 
 // How a run over these files ends whose flush fails.
-fn end_over<R: AllocGlobal + Files<File = S> + Threads + Wait + Sync, S: Read + Drop + Send>(
-    rt: &R,
-    schema: &str,
-    rows: &str,
-) -> io::Result<LineEnd> {
+fn end_over<
+    R: AllocGlobal + Files<File = S> + Threads + Wait + Sync,
+    S: Read + Write + OpenFile + LockFile + Drop + Send,
+>(rt: &R, schema: &str, rows: &str) -> io::Result<LineEnd> {
     let words = format!(in rt.alloc(); "files --schema {schema} --asks /dev/null {rows}")?;
     let line = Line {
         words: words.as_str(),
@@ -154,17 +151,19 @@ fn end_over<R: AllocGlobal + Files<File = S> + Threads + Wait + Sync, S: Read + 
 }
 
 // How a run over files ends that goes well, and whose flush fails.
-fn unflushed<R: AllocGlobal + Files<File = S> + Threads + Wait + Sync, S: Read + Drop + Send>(
-    rt: &R,
-) -> io::Result<LineEnd> {
+fn unflushed<
+    R: AllocGlobal + Files<File = S> + Threads + Wait + Sync,
+    S: Read + Write + OpenFile + LockFile + Drop + Send,
+>(rt: &R) -> io::Result<LineEnd> {
     let (_schema, schema) = pipe_of(rt, "column,qty,slices,3\n")?;
     let (_rows, rows) = pipe_of(rt, "qty\n5\n")?;
     end_over(rt, schema.as_str(), rows.as_str())
 }
 
-fn is_unflushed<R: AllocGlobal + Files<File = S> + Threads + Wait + Sync, S: Read + Drop + Send>(
-    rt: &R,
-) -> bool {
+fn is_unflushed<
+    R: AllocGlobal + Files<File = S> + Threads + Wait + Sync,
+    S: Read + Write + OpenFile + LockFile + Drop + Send,
+>(rt: &R) -> bool {
     match unflushed(rt) {
         Ok(end) => end.is(1, "fed 0 1 0\n", "bsi: write failed\n"),
         Err(_) => false,

@@ -1,3 +1,4 @@
 pub mod Marks
+pub mod Nulls
 pub mod Places
 pub mod Ranks

@@ -3,6 +3,7 @@
 #![tactic(auto)]
 
 pub mod marks;
+pub mod nulls;
 mod ranks;
 pub mod spans;
 mod sums;

@@ -1,118 +1,81 @@
-use Rattle.std.proofs.Common.{◌≡◌, ◌≤◌, ℕ, List, Option, IfSome, arith, inl, map, refl, rules, subst, sym, ◌∙◌}
-use Rattle.std.specs.Prelude.{◌≢◌, IfErr}
-use Rattle.bsi_files.specs.Headers.{IsHeadersFault}
-use Rattle.bsi_files.specs.RunFaults.{IsFaultOf}
-use Rattle.bsi_files.specs.declared.faults.FilesFault.TheVariants.{NoMemory, TooManyFiles}
-use Rattle.bsi_files.proofs.Failing.{headers_fault_of, run_fault_of}
-use Rattle.bsi_files.proofs.SchemaFaults.{schema_counted, schema_leaves, schema_tells}
-use Rattle.bsi_files.specs.Begun.{Begins}
-use Rattle.bsi_files.specs.Feds.{HasRun}
-use Rattle.bsi_files.specs.Runs.{IsRun}
-use Rattle.bsi_rows.specs.Table.{max_feeders}
-use Rattle.bsi_reading.specs.SchemaTexts.{IsSchemaFault, IsSchemaText}
-use Rattle.bsi_files.specs.Writing.{Leaves, WritesAll}
-use Rattle.bsi_reading.proofs.Joining.{is_whole}
-use Rattle.bsi_files.proofs.Asking.{all_follows, leaves_follows}
-use Rattle.bsi_files.proofs.Files.{matched_long, run_of_bytes}
-use Rattle.bsi_files.proofs.Passing.{if_err, on_ok, passed_on}
+use Rattle.std.proofs.Common.{◌≡◌, ℕ, All, List, Option, Some, IfSome, map, rules, subst, sym, true}
+use Rattle.std.specs.Prelude.{IfErr}
+use Rattle.bsi_schema.specs.Columns.{Declared}
+use Rattle.bsi_records.specs.Numbers.{Field}
+use Rattle.bsi_reading.specs.SchemaTexts.{IsSchemaText}
+use Rattle.bsi_files.specs.Feds.{fed_counts}
+use Rattle.bsi_files.specs.RunFaults.{AreGood, IsFaultOver}
+use Rattle.bsi_files.specs.RowFiles.{FedCounts}
+use Rattle.bsi_files.specs.Runs.{AreLines, HasLoaded, IsRun}
+use Rattle.bsi_files.specs.Writing.{WritesAll, WritesFirst}
+use Rattle.bsi_files.specs.declared.loading.Fed.{Fed}
+use Rattle.bsi_files.proofs.Asking.{all_follows, leaves_late, part_follows}
+use Rattle.bsi_files.proofs.Failing.{late_fault_of}
+use Rattle.bsi_files.proofs.Files.{run_of_loaded}
+use Rattle.bsi_files.proofs.Passing.{if_err, if_err_both, on_ok}
 use Rattle.bsi_files.proofs.run.run_files.Goals as goal
-
-pub run_in-requires-clause-few : goal.run_in-requires-clause-few
-run_in-requires-clause-few g c =
-    let many = matched_long (Begins g.I.Read.remaining c.in_ok-schema.field-0.schema) c.args.sources.items c.in_ok-sources.sources.items c.in_ok-sources.ensures.begun in
-    λ κs within. subst (λ n. n ≤ max_feeders) (c.len.ensures ∙ (c.args.sources.ok.0 ∙ many)) c.if-len.false
-
-pub returns-clause-lines : goal.returns-clause-lines
-returns-clause-lines g c =
-    let rem = g.I.Read.remaining in
-    let stops = g.G.Stopping.STOPS in
-    let schema = c.in_ok-schema.field-0.schema in
-    let limit = c.in_ok-schema.field-0.limit in
-    let readers = c.args.sources.items in
-    let sources = c.in_ok-sources.sources.items in
-    let before = g.W.Write.contents c.args.writer.now in
-    let after = g.W.Write.contents c.run_in.new.writer in
-    let begin = c.in_ok-sources.ensures.begun in
-    on_ok c.run_in.result
-    (λ lines never declared texts asked s i a.
-    (let declares : IsSchemaText declared schema limit = subst (λ (o : Option (List ℕ)). IfSome o (λ bytes. IsSchemaText bytes schema limit)) s c.in_ok-schema.ensures.declared in
-    all_follows (run_of_bytes rem (is_whole rem) stops never schema limit readers sources declared texts declares begin i) asked before after
-    (subst (λ (o : Option (List ℕ)). IfSome o (λ bytes. WritesAll (HasRun rem stops schema limit sources) bytes before after)) a lines)))
-    c.run_in.ensures.lines
-
-pub returns-clause-part : goal.returns-clause-part
-returns-clause-part g c =
-    let rem = g.I.Read.remaining in
-    let stops = g.G.Stopping.STOPS in
-    let schema = c.in_ok-schema.field-0.schema in
-    let limit = c.in_ok-schema.field-0.limit in
-    let readers = c.args.sources.items in
-    let sources = c.in_ok-sources.sources.items in
-    let before = g.W.Write.contents c.args.writer.now in
-    let after = g.W.Write.contents c.run_in.new.writer in
-    let begin = c.in_ok-sources.ensures.begun in
-    if_err c.run_in.result
-    (λ fault leaves never declared texts asked s i a.
-    (let declares : IsSchemaText declared schema limit = subst (λ (o : Option (List ℕ)). IfSome o (λ bytes. IsSchemaText bytes schema limit)) s c.in_ok-schema.ensures.declared in
-    leaves_follows (run_of_bytes rem (is_whole rem) stops never schema limit readers sources declared texts declares begin i) asked fault before after
-    (subst (λ (o : Option (List ℕ)). IfSome o (λ bytes. Leaves (HasRun rem stops schema limit sources) bytes fault before after)) a leaves)))
-    c.run_in.ensures.part
 
 -- ---- faults
 
-pub returns-in_err-schema-clause-fault : goal.returns-in_err-schema-clause-fault
-returns-in_err-schema-clause-fault g c =
-    let why = c.in_err-schema.field-0.0 in
-    passed_on c.from_residual.result
-    (λ fault is declared texts s i. subst (λ f. IsFaultOf g.G.Stopping.STOPS declared texts f) (sym is) (schema_tells g.G.Stopping.STOPS declared texts why
-    (subst (λ (o : Option (List ℕ)). IfSome o (λ bytes. IsSchemaFault bytes why)) s c.in_err-schema.ensures.fault))) c.from_residual.ensures.1
-
-pub returns-in_err-schema-clause-files : goal.returns-in_err-schema-clause-files
-returns-in_err-schema-clause-files g c =
-    let why = c.in_err-schema.field-0.0 in
-    let counted : IfErr c.from_residual.result (λ fault. fault ≢ TooManyFiles) =
-    passed_on c.from_residual.result (λ fault is same. schema_counted why (sym is ∙ same)) c.from_residual.ensures.1 in (
-      λ is. absurd (subst (λ r. IfErr r (λ fault. fault ≢ TooManyFiles)) is counted refl),
-      λ many. absurd (omega (arith, many, c.len.ensures, c.args.sources.ok.0, c.if-len.false)),
-    )
-
-pub returns-in_err-schema-clause-part : goal.returns-in_err-schema-clause-part
-returns-in_err-schema-clause-part g c =
-    let held = g.W.Write.contents c.args.writer.now in
-    passed_on c.from_residual.result
-    (λ fault is never declared texts asked s i a. subst (λ f. Leaves (IsRun declared texts) asked f held held) (sym is)
-    (schema_leaves (IsRun declared texts) asked c.in_err-schema.field-0.0 held)) c.from_residual.ensures.1
-
-pub returns-in_err-sources-clause-fault : goal.returns-in_err-sources-clause-fault
-returns-in_err-sources-clause-fault g c =
+pub returns-in_err-loaded-clause-fault : goal.returns-in_err-loaded-clause-fault
+returns-in_err-loaded-clause-fault g c =
     let schema = c.in_ok-schema.field-0.schema in
     let limit = c.in_ok-schema.field-0.limit in
-    let met : IfErr c.from_residual-in_err-sources.result (IsHeadersFault schema (map g.I.Read.remaining c.args.sources.items)) = search rules in
-    if_err c.from_residual-in_err-sources.result
-    (λ fault is declared texts s i.
-    (let declares : IsSchemaText declared schema limit = subst (λ (o : Option (List ℕ)). IfSome o (λ bytes. IsSchemaText bytes schema limit)) s c.in_ok-schema.ensures.declared in
-    headers_fault_of g.G.Stopping.STOPS declared texts schema limit declares fault (subst (λ files. IsHeadersFault schema files fault) i is))) met
-
-pub returns-in_err-capacities-clause-fault : goal.returns-in_err-capacities-clause-fault
-returns-in_err-capacities-clause-fault g c =
-    let refused : IfErr c.from_residual-in_err-capacities.result (λ fault. fault ≡ NoMemory) = search rules in
-    if_err c.from_residual-in_err-capacities.result (λ fault is declared texts s i. subst (λ f. IsFaultOf g.G.Stopping.STOPS declared texts f) (sym is) tt) refused
-
-pub returns-in_err-capacities-clause-part : goal.returns-in_err-capacities-clause-part
-returns-in_err-capacities-clause-part g c =
-    let held = g.W.Write.contents c.args.writer.now in
-    let refused : IfErr c.from_residual-in_err-capacities.result (λ fault. fault ≡ NoMemory) = search rules in
-    if_err c.from_residual-in_err-capacities.result
-    (λ fault is never declared texts asked s i a. subst (λ f. Leaves (IsRun declared texts) asked f held held) (sym is) (inl refl)) refused
+    let met : IfErr c.from_residual-in_err-loaded.result (IsFaultOver g.G.Stopping.STOPS schema limit (map g.I.Read.remaining c.args.sources.items)) = search rules in
+    if_err c.from_residual-in_err-loaded.result
+    (λ fault is declared texts s i. is declared texts
+    (subst (λ (o : Option (List ℕ)). IfSome o (λ bytes. IsSchemaText bytes schema limit)) s c.in_ok-schema.ensures.declared) i) met
 
 pub returns-clause-fault : goal.returns-clause-fault
 returns-clause-fault g c =
-    let rem = g.I.Read.remaining in
     let schema = c.in_ok-schema.field-0.schema in
     let limit = c.in_ok-schema.field-0.limit in
-    let readers = c.args.sources.items in
-    let sources = c.in_ok-sources.sources.items in
-    let begin = c.in_ok-sources.ensures.begun in
-    if_err c.run_in.result (λ fault met declared texts s i.
-    (let declares : IsSchemaText declared schema limit = subst (λ (o : Option (List ℕ)). IfSome o (λ bytes. IsSchemaText bytes schema limit)) s c.in_ok-schema.ensures.declared in
-    run_fault_of rem (is_whole rem) g.G.Stopping.STOPS declared schema limit readers sources texts declares begin i fault met)) c.run_in.ensures.fault
+    if_err c.answer_all.result
+    (λ fault late declared texts s i.
+    (let good : AreGood declared texts = record {
+      schema = schema;
+      limit = limit;
+      schema_is = subst (λ (o : Option (List ℕ)). IfSome o (λ bytes. IsSchemaText bytes schema limit)) s c.in_ok-schema.ensures.declared;
+      headers = c.in_ok-loaded.ensures.headers texts i;
+    } in late_fault_of g.G.Stopping.STOPS declared texts fault late good)) c.answer_all.ensures.late
+
+-- ---- lines
+
+pub returns-clause-lines : goal.returns-clause-lines
+returns-clause-lines g c =
+    let schema = c.in_ok-schema.field-0.schema in
+    let limit = c.in_ok-schema.field-0.limit in
+    let rows = c.in_ok-loaded.loaded.table.rows in
+    let feds = c.deref.result.now in
+    let before = g.W.Write.contents c.args.writer.now in
+    let after = g.W.Write.contents c.answer_all.new.writer in
+    on_ok c.answer_all.result
+    (λ some never declared texts asked s i a.
+    (let declares = subst (λ (o : Option (List ℕ)). IfSome o (λ bytes. IsSchemaText bytes schema limit)) s c.in_ok-schema.ensures.declared in
+    let loaded = subst (λ (xs : List Fed). HasLoaded schema limit texts rows (map fed_counts xs)) (sym c.deref.ensures.value) (c.in_ok-loaded.ensures.rows never texts i) in
+    let written = subst (λ (o : Option (List ℕ)). IfSome o (λ bytes. WritesAll (AreLines c.in_ok-loaded.loaded.table.schema rows (map fed_counts feds)) bytes before after)) a some in
+    all_follows {Is = AreLines c.in_ok-loaded.loaded.table.schema rows (map fed_counts feds)}
+    (λ records lines are. run_of_loaded schema limit declared texts rows (map fed_counts feds) declares loaded records lines
+    (subst (λ (d : Declared). AreLines d rows (map fed_counts feds) records lines) c.in_ok-loaded.ensures.schema are))
+    asked before after written))
+    c.answer_all.ensures.ok
+
+pub returns-clause-part : goal.returns-clause-part
+returns-clause-part g c =
+    let schema = c.in_ok-schema.field-0.schema in
+    let limit = c.in_ok-schema.field-0.limit in
+    let rows = c.in_ok-loaded.loaded.table.rows in
+    let feds = c.deref.result.now in
+    let before = g.W.Write.contents c.args.writer.now in
+    let after = g.W.Write.contents c.answer_all.new.writer in
+    if_err_both c.answer_all.result
+    (λ fault late some never declared texts asked s i a.
+    (let declares = subst (λ (o : Option (List ℕ)). IfSome o (λ bytes. IsSchemaText bytes schema limit)) s c.in_ok-schema.ensures.declared in
+    let loaded = subst (λ (xs : List Fed). HasLoaded schema limit texts rows (map fed_counts xs)) (sym c.deref.ensures.value) (c.in_ok-loaded.ensures.rows never texts i) in
+    let written = subst (λ (o : Option (List ℕ)). IfSome o (λ bytes. WritesFirst (AreLines c.in_ok-loaded.loaded.table.schema rows (map fed_counts feds)) bytes fault before after)) a some in
+    leaves_late (IsRun declared texts) asked fault before after late
+    (part_follows {Is = AreLines c.in_ok-loaded.loaded.table.schema rows (map fed_counts feds)}
+    (λ records lines are. run_of_loaded schema limit declared texts rows (map fed_counts feds) declares loaded records lines
+    (subst (λ (d : Declared). AreLines d rows (map fed_counts feds) records lines) c.in_ok-loaded.ensures.schema are))
+    asked fault before after written)))
+    c.answer_all.ensures.late c.answer_all.ensures.part

@@ -5,5 +5,5 @@ use Rattle.bsi_shell.specs.declared.files.RunFault.{RunFault}
 
 pub returns-in-CannotOpen : goal.returns-in-CannotOpen
 returns-in-CannotOpen g c =
-    subst (λ (fault : RunFault). IsTold c.tell_unopened.result (g.F.Write.contents c.args.faults.now) (g.F.Write.contents c.tell_unopened.new.faults) (fault_line fault))
-    (sym c.in-CannotOpen.is) c.tell_unopened.ensures
+    subst (λ (fault : RunFault). IsTold c.tell_around.result (g.F.Write.contents c.args.faults.now) (g.F.Write.contents c.tell_around.new.faults) (fault_line fault))
+    (sym c.in-CannotOpen.is) c.tell_around.ensures

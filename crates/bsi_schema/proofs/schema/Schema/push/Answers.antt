@@ -2,9 +2,10 @@ use Rattle.std.proofs.Common.{◌≡◌, ◌||◌, ◌++◌, ◌∷◌, [], leng
 use Rattle.std.proofs.lemmas.Int.{ints}
 use Rattle.std.proofs.lemmas.List.Elements.{All-push}
 use Rattle.std.proofs.lemmas.List.{length-append, map-append}
-use Rattle.bsi_schema.specs.Columns.{named, position_of, with_column, IsColumn, IsSchema, NamedColumn}
+use Rattle.bsi_schema.specs.Columns.{named, position_of, with_column, IsColumn, IsDeclared, IsSchema, MayFollow, NamedColumn}
 use Rattle.bsi_schema.specs.Limits.{limits_of}
 use Rattle.bsi_schema.specs.Names.{is_name}
+use Rattle.bsi_schema.proofs.Declaring.{declared_more}
 use Rattle.bsi_schema.proofs.Naming.{named-insert}
 use Rattle.bsi_schema.proofs.schema.Schema.push.Goals as goal
 
@@ -25,7 +26,18 @@ invariant_of-self-2 c =
     c.push_reserved.ensures.items ∙ ap (λ ls. ls ++ c.of-limits.result ∷ []) (c.in_ok-reserve.ensures.items ∙ c.self.invariant.1)
     ∙ ap (λ l. map limits_of (map named before.entries) ++ l ∷ []) c.of-limits.ensures
     ∙ sym (map-append limits_of (map named before.entries) (column ∷ [])) in
-    (subst IsSchema (sym columns) listed, limits ∙ ap (map limits_of) (sym columns))
+    let may : MayFollow (map named before.entries) c.args.signed column = record {
+      few = omega (arith, c.requires.few, ap (λ s. length s.columns) c.self.view_is);
+      name = c.requires.name;
+      fresh = fresh;
+      valid = valid;
+      from_zero = c.requires.from_zero;
+    } in
+    let declared = declared_more (record { columns = map named before.entries; signed = c.self.inside.signed }) column c.args.signed c.self.invariant.2 may in (
+      subst IsSchema (sym columns) listed,
+      limits ∙ ap (map limits_of) (sym columns),
+      subst (λ cs. IsDeclared (record { columns = cs; signed = c.self.inside.signed || c.args.signed })) (sym columns) declared,
+    )
 
 pub returns-clause-ok : goal.returns-clause-ok
 returns-clause-ok c =

@@ -1,0 +1,98 @@
+-- The records of a row file, good ones and bad ones, one after another.
+use Rattle.std.proofs.Common.{◌≡◌, ℕ, ◌+◌, ◌<◌, ◌≤◌, Bool, true, false, List, [], ◌∷◌, ◌++◌, Option, Some, None, IfSome, is_some, option_map, refl, sym, ap, ap₂, subst, ◌∙◌, arith}
+use Rattle.csv.specs.Reading.{ReadRecord, source_of, strip_bom}
+use Rattle.csv.specs.declared.reader.Reader.{Reader}
+use Rattle.bsi_rows.specs.Rows.{Entries}
+use Rattle.bsi_records.specs.Numbers.{Field}
+use Rattle.bsi_schema.specs.Columns.{Declared}
+use Rattle.bsi_reading.specs.RowFiles.{good_row, is_header}
+use Rattle.bsi_reading.specs.Sources.{counts_of, max_records, AreCounts, Counts, HasTaken, IsOver, IsPlain, IsWholeFile, Layout, StandsAfter}
+use Rattle.bsi_reading.proofs.Joining.{is_whole, taken_both}
+use Rattle.bsi_reading.proofs.Taking.{is_over, of_text, taken_bad, taken_good, taken_none, AreTaken}
+use Rattle.bsi_check.specs.Checks.{layout_of, HasCounted, IsCounted}
+use Rattle.bsi_check.specs.declared.found.FileCounts.{FileCounts}
+
+-- where the count of records stands between two of them
+pub record AreCounted {R : Type 0} (rem : R → Option (List ℕ)) (layout : Layout) (old new : Reader R) (records bad : ℕ) : Type 0 where
+  pub rows : List Entries
+  pub taken : HasTaken rem layout old new (counts_of 0 0) (counts_of records bad) rows
+  pub plain : IsPlain new
+  pub few : records ≤ max_records
+  pub fewer : bad ≤ records
+
+pub counted_none : {R : Type 0} (rem : R → Option (List ℕ)) (layout : Layout) (input : Reader R) → IsPlain input → AreCounted rem layout input input 0 0
+counted_none rem layout input plain = record {
+  rows = [];
+  taken = taken_none rem layout input (counts_of 0 0);
+  plain = plain;
+  few = omega arith;
+  fewer = omega arith;
+}
+
+module _ {R : Type 0} (rem : R → Option (List ℕ)) (layout : Layout) (old b : Reader R) (records bad : ℕ)
+    (are : AreCounted rem layout old b records bad) where
+  abbrev now : Counts
+  now = counts_of records bad
+
+  here : AreTaken rem layout b b now now
+  here = record {
+    taken = taken_none rem layout b now;
+    plain = are.plain;
+    counts = record { few = are.few; bad = are.fewer };
+  }
+
+  pub counted_good : (c : Reader R) (fields : List Field) → ReadRecord rem b c true fields → IsPlain c → records < max_records
+      → true ≡ is_some (good_row layout.schema layout.header fields) → AreCounted rem layout old c (records + 1) bad
+  counted_good c fields next plain few good = by (good_row layout.schema layout.header fields) refl good
+    where
+      by : (o : Option Entries) → good_row layout.schema layout.header fields ≡ o → true ≡ is_some o → AreCounted rem layout old c (records + 1) bad
+      by None is good = cc (good)
+      by (Some row) is good = record {
+        rows = are.rows ++ row ∷ [];
+        taken = taken_both rem layout old b c (counts_of 0 0) now (counts_of (records + 1) bad) are.rows (row ∷ []) are.taken
+            (taken_good rem layout b b now now here c fields row next (sym is));
+        plain = plain;
+        few = omega (arith, few);
+        fewer = omega (arith, are.fewer);
+      }
+
+  pub counted_bad : (c : Reader R) (fields : List Field) → ReadRecord rem b c true fields → IsPlain c → records < max_records
+      → false ≡ is_some (good_row layout.schema layout.header fields) → AreCounted rem layout old c (records + 1) (bad + 1)
+  counted_bad c fields next plain few good = by (good_row layout.schema layout.header fields) refl good
+    where
+      by : (o : Option Entries) → good_row layout.schema layout.header fields ≡ o → false ≡ is_some o → AreCounted rem layout old c (records + 1) (bad + 1)
+      by (Some row) is good = cc (good)
+      by None is good =
+          let one = taken_bad rem layout b b now now here c fields next plain few (sym is) in
+          record {
+            rows = are.rows ++ [];
+            taken = taken_both rem layout old b c (counts_of 0 0) now (counts_of (records + 1) (bad + 1)) are.rows [] are.taken one.taken;
+            plain = plain;
+            few = omega (arith, few);
+            fewer = omega (arith, are.fewer);
+          }
+
+  pub counted_all : (c : Reader R) (fields : List Field) (counts : FileCounts) → counts.records ≡ records → counts.bad ≡ bad
+      → ReadRecord rem b c false fields → HasCounted rem layout old counts
+  counted_all c fields counts many others none = record {
+    at = b;
+    rows = are.rows;
+    taken = subst (λ (cs : Counts). HasTaken rem layout old b (counts_of 0 0) cs are.rows) (ap₂ (λ m n. counts_of m n) (sym many) (sym others)) are.taken;
+    over = is_over rem old b c fields are.plain.config none;
+  }
+
+-- a file whose header was read, and then its records
+pub counted_text : {R : Type 0} (rem : R → Option (List ℕ)) (schema : Declared) (header : List Field) (a b : Reader R) (counts : FileCounts) (known : Option (List ℕ))
+    → is_header schema header ≡ true → source_of rem a ≡ option_map strip_bom known → IfSome (source_of rem a) (StandsAfter rem (layout_of schema header) b)
+    → HasCounted rem (layout_of schema header) b counts → IfSome known (IsCounted schema counts)
+counted_text rem schema header a b counts known named is stands counted =
+    by known (of_text (λ text. StandsAfter rem (layout_of schema header) b text) known (source_of rem a) is stands)
+  where
+    by : (o : Option (List ℕ)) → IfSome o (λ bytes. StandsAfter rem (layout_of schema header) b (strip_bom bytes)) → IfSome o (IsCounted schema counts)
+    by None after = tt
+    by (Some bytes) after = record {
+      header = header;
+      rows = counted.rows;
+      named = named;
+      whole = is_whole rem (layout_of schema header) b counted.at (strip_bom bytes) (counts_of 0 0) (counts_of counts.records counts.bad) counted.rows after counted.taken counted.over;
+    }

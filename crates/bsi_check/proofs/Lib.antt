@@ -1,0 +1,6 @@
+mod Asking
+mod Counting
+mod Headers
+mod InOrder
+mod Joined
+mod Telling

@@ -1,0 +1,79 @@
+use Rattle.std.proofs.Common.{◌≡◌, ◌+◌, true, false, rules, arith, refl, sym, subst, Bool}
+use Rattle.csv.specs.Reading.{ReadRecord}
+use Rattle.csv.specs.Records.{fields_of}
+use Rattle.bsi_check.specs.Checks.{IsAskVerdict, TellsUnless}
+use Rattle.bsi_check.proofs.Asking.{asks_all, asks_bad, asks_good, asks_none}
+use Rattle.bsi_check.proofs.Telling.{grows, tells_some, told_some}
+use Rattle.bsi_check.proofs.asks.count_asks.Goals as goal
+
+pub records-init : goal.records-init
+records-init g c = record {
+  asked = λ bytes left. asks_none c.args.schema.now bytes g.A.Read.remaining c.args.input.now c.requires.start left;
+  plain = c.requires.plain;
+  few = omega arith;
+  fewer = omega arith;
+  told = refl;
+}
+
+pub returns-then-not-branch-clause-counted : goal.returns-then-not-branch-clause-counted
+returns-then-not-branch-clause-counted g c = λ bytes left.
+    let fields = fields_of c.read_next.new.fields in
+    let none : ReadRecord g.A.Read.remaining c.records.input c.read_next.new.input false fields = search rules in
+    asks_all c.args.schema.now bytes g.A.Read.remaining c.records.input c.records.records c.records.bad (c.records.invariant.asked bytes left) c.records.invariant.plain
+    c.read_next.new.input fields none c.records.invariant.few
+
+pub records-preserved-then-asks : goal.records-preserved-then-asks
+records-preserved-then-asks g c =
+    let fields = fields_of c.read_next.new.fields in
+    let next : ReadRecord g.A.Read.remaining c.records.input c.read_next.new.input true fields = search rules in
+    let asked = subst (λ (b : Bool). IsAskVerdict c.args.schema.now fields b) c.if-asks.true c.in_ok-asks.ensures in
+    record {
+      asked = λ bytes left.
+          asks_good c.args.schema.now bytes g.A.Read.remaining c.records.input c.records.records c.records.bad (c.records.invariant.asked bytes left) c.records.invariant.plain
+          c.read_next.new.input fields next asked;
+      plain = c.in_ok-read_next.ensures.plain;
+      few = omega (arith, c.records-test.true);
+      fewer = omega (arith, c.records.invariant.fewer);
+      told = c.records.invariant.told;
+    }
+
+-- one that is no query, and is told
+pub records-preserved-then-bad-le-MAX_TOLD : goal.records-preserved-then-bad-le-MAX_TOLD
+records-preserved-then-bad-le-MAX_TOLD g c =
+    let fields = fields_of c.read_next.new.fields in
+    let next : ReadRecord g.A.Read.remaining c.records.input c.read_next.new.input true fields = search rules in
+    let none = subst (λ (b : Bool). IsAskVerdict c.args.schema.now fields b) c.if-asks.false c.in_ok-asks.ensures in
+    record {
+      asked = λ bytes left.
+          asks_bad c.args.schema.now bytes g.A.Read.remaining c.records.input c.records.records c.records.bad (c.records.invariant.asked bytes left) c.records.invariant.plain
+          c.read_next.new.input fields next none;
+      plain = c.in_ok-read_next.ensures.plain;
+      few = omega (arith, c.records-test.true);
+      fewer = omega (arith, c.records.invariant.fewer);
+      told = tells_some (c.records.bad + 1) c.args.reasons.now.items c.tell_at.new.reasons.items (omega arith)
+          (omega (arith, grows _ c.args.reasons.now.items c.records.reasons.items c.records.invariant.told, c.in_ok-tell_at.ensures));
+    }
+
+-- and one past the first 100
+pub records-preserved : goal.records-preserved
+records-preserved g c =
+    let fields = fields_of c.read_next.new.fields in
+    let next : ReadRecord g.A.Read.remaining c.records.input c.read_next.new.input true fields = search rules in
+    let none = subst (λ (b : Bool). IsAskVerdict c.args.schema.now fields b) c.if-asks.false c.in_ok-asks.ensures in
+    record {
+      asked = λ bytes left.
+          asks_bad c.args.schema.now bytes g.A.Read.remaining c.records.input c.records.records c.records.bad (c.records.invariant.asked bytes left) c.records.invariant.plain
+          c.read_next.new.input fields next none;
+      plain = c.in_ok-read_next.ensures.plain;
+      few = omega (arith, c.records-test.true);
+      fewer = omega (arith, c.records.invariant.fewer);
+      told = tells_some (c.records.bad + 1) c.args.reasons.now.items c.records.reasons.items (omega arith)
+          (told_some c.records.bad c.args.reasons.now.items c.records.reasons.items (omega (arith, c.if-bad-le-MAX_TOLD.false)) c.records.invariant.told);
+    }
+
+pub returns-clause-counted : goal.returns-clause-counted
+returns-clause-counted g c = λ bytes left.
+    let fields = fields_of c.read_next-2.new.fields in
+    let none : ReadRecord g.A.Read.remaining c.records.input c.read_next-2.new.input false fields = search rules in
+    asks_all c.args.schema.now bytes g.A.Read.remaining c.records.input c.records.records c.records.bad (c.records.invariant.asked bytes left) c.records.invariant.plain
+    c.read_next-2.new.input fields none c.records.invariant.few

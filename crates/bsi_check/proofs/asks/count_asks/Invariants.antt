@@ -1,0 +1,21 @@
+use Rattle.std.proofs.Common.{◌-◌, ◌≤◌, nat_eq}
+use Rattle.csv.specs.Reading.{source_of}
+use Rattle.bsi_reading.specs.Sources.{max_records, IsPlain}
+use Rattle.bsi_reading.specs.Texts.{FromText}
+use Rattle.bsi_check.specs.Checks.{TellsUnless}
+use Rattle.bsi_check.proofs.Asking.{AreAsks}
+use Rattle.bsi_check.proofs.asks.count_asks.Given as goal
+
+-- the asks so far were counted, and the bad ones told
+abbrev pub invariant-records : goal.invariant-records
+invariant-records g l = record {
+  asked : FromText (source_of g.A.Read.remaining l.initial.input) (λ bytes.
+      AreAsks l.schema bytes (g.A.Read.remaining) l.input l.records l.bad);
+  plain : IsPlain l.input;
+  few : l.records ≤ max_records;
+  fewer : l.bad ≤ l.records;
+  told : TellsUnless (nat_eq l.bad 0) l.initial.reasons.items l.reasons.items;
+}
+
+abbrev pub decreases-records : goal.decreases-records
+decreases-records g l = max_records - l.records

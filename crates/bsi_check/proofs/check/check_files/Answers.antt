@@ -1,0 +1,21 @@
+use Rattle.std.proofs.Common.{List, ℕ, subst, rules}
+use Rattle.std.specs.Io.KnownBytes.{Appends}
+use Rattle.csv.proofs.WriteFacts.{appends-more}
+use Rattle.bsi_check.proofs.check.check_files.Goals as goal
+
+-- the reasons were written, and then the lines
+pub returns-clause-reported : goal.returns-clause-reported
+returns-clause-reported g c =
+    let before = g.W.Write.contents c.args.output.now in
+    let middle = g.W.Write.contents c.write_bytes.new.writer in
+    let after = g.W.Write.contents c.write_bytes-2.new.writer in
+    let report = c.in_ok-report.report in
+    let first : Appends before middle report.reasons.items = subst (λ (bytes : List ℕ). Appends before middle bytes) c.deref.ensures.value c.in_ok-write_bytes.ensures.ok in
+    let last : Appends middle after report.fed.items = subst (λ (bytes : List ℕ). Appends middle after bytes) c.deref-2.ensures.value c.in_ok-write_bytes-2.ensures.ok in
+    record {
+      reasons = report.reasons.items;
+      fed = report.fed.items;
+      report = c.in_ok-report.ensures;
+      good_is = search rules;
+      written = appends-more before middle after report.reasons.items report.fed.items first last;
+    }

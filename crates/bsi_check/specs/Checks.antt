@@ -1,0 +1,101 @@
+-- What a check finds of the files of a run, and when it tells reasons.
+use Rattle.std.specs.Io.KnownBytes.{Appends}
+use Rattle.std.specs.Prelude.{◌≡◌, ⊤, ◌⊎◌, ℕ, suc, ◌+◌, ◌-◌, ◌<◌, ◌≤◌, Bool, true, false, ◌&&◌, nat_eq, List, [], ◌∷◌, ◌++◌, length, map, sum, Option, None, Some, IfSome, option_and_then}
+use Rattle.csv.specs.Reading.{strip_bom}
+use Rattle.csv.specs.declared.reader.Reader.{Reader}
+use Rattle.bsi_records.specs.Events.{IsQuery}
+use Rattle.bsi_records.specs.Lines.{fed_line}
+use Rattle.bsi_records.specs.Numbers.{Field}
+use Rattle.bsi_rows.specs.Rows.{Entries}
+use Rattle.bsi_rows.specs.declared.query.Query.{Query}
+use Rattle.bsi_schema.specs.Columns.{Declared}
+use Rattle.bsi_reading.specs.RowFiles.{is_header}
+use Rattle.bsi_reading.specs.SchemaTexts.{IsSchemaFault, IsSchemaText}
+use Rattle.bsi_reading.specs.Sources.{counts_of, max_records, HasNoHeader, HasTaken, IsOver, IsWholeFile, Layout}
+use Rattle.bsi_reading.specs.Texts.{AreAllRecords}
+use Rattle.bsi_reading.specs.declared.schema_text.SchemaFault.{SchemaFault}
+use Rattle.bsi_records.specs.declared.setups.DeclaredTable.{DeclaredTable}
+use Rattle.bsi_check.specs.declared.found.FileCounts.{FileCounts}
+use Rattle.bsi_check.specs.declared.found.FileFound.{FileFound}
+use Rattle.bsi_check.specs.declared.found.FileFound.TheVariants.{Counted, NoHeader, Unread}
+
+-- ---- reasons
+
+-- reasons were added to a text just where this is not so
+abbrev pub TellsUnless : Bool → List ℕ → List ℕ → Type 0
+TellsUnless true before after = after ≡ before
+TellsUnless false before after = length before < length after
+
+-- ---- a row file
+
+abbrev pub layout_of : Declared → List Field → Layout
+layout_of schema header = record { schema = schema; header = header }
+
+-- all records that a reader had left were read, so many, and so many of them are bad
+pub record HasCounted {R : Type 0} (rem : R → Option (List ℕ)) (layout : Layout) (input : Reader R)
+    (counts : FileCounts) : Type 0 where
+  pub at : Reader R
+  pub rows : List Entries
+  pub taken : HasTaken rem layout input at (counts_of 0 0) (counts_of counts.records counts.bad) rows
+  pub over : IsOver rem at
+
+-- the text is a row file of this schema, with so many records after its header, of which so many are bad
+pub record IsCounted (schema : Declared) (counts : FileCounts) (text : List ℕ) : Type 0 where
+  pub header : List Field
+  pub rows : List Entries
+  pub named : is_header schema header ≡ true
+  pub whole : IsWholeFile (layout_of schema header) (strip_bom text) (counts_of 0 0)
+      (counts_of counts.records counts.bad) rows
+
+-- what is found of a row file of this text
+abbrev pub IsFound : Declared → FileFound → List ℕ → Type 0
+IsFound schema (Counted counts) text = IsCounted schema counts text
+IsFound schema NoHeader text = HasNoHeader schema (strip_bom text)
+IsFound schema (Unread fault) text = ⊤
+
+-- all its records are good
+abbrev pub is_clean : FileFound → Bool
+is_clean (Counted counts) = nat_eq counts.bad 0
+is_clean NoHeader = false
+is_clean (Unread fault) = false
+
+-- ---- the schema
+
+-- what is found of a schema file of this text: what it declares, or why it declares no schema
+abbrev pub IsSchemaFound : Option DeclaredTable → List ℕ → Type 0
+IsSchemaFound (Some table) text = IsSchemaText text table.schema table.limit
+IsSchemaFound None text = (fault : SchemaFault) × IsSchemaFault text fault
+
+-- ---- the asks
+
+-- the record asks for a query
+abbrev pub IsAsked : Declared → List Field → Type 0
+IsAsked schema fields = (query : Query) × IsQuery schema fields query
+
+-- the record asks for none
+abbrev pub IsNoQuery : Declared → List Field → Type 0
+IsNoQuery schema fields = (query : Query) → IsQuery schema fields query → ⊥
+
+-- what is said of a record: that it asks for a query, or that it asks for none
+abbrev pub IsAskVerdict : Declared → List Field → Bool → Type 0
+IsAskVerdict schema fields true = IsAsked schema fields
+IsAskVerdict schema fields false = IsNoQuery schema fields
+
+-- so many of the records ask for none, and the others for a query each
+unfoldable pub HaveBadAsks : Declared → List (List Field) → ℕ → Type 0
+HaveBadAsks schema [] bad = bad ≡ 0
+HaveBadAsks schema (fields ∷ records) bad =
+    (IsAsked schema fields × HaveBadAsks schema records bad)
+    ⊎ (IsNoQuery schema fields × (others : ℕ) × (bad ≡ others + 1) × HaveBadAsks schema records others)
+
+-- the text has at most 1,000,000 records, and so many of them ask for no query
+pub record AreCountedAsks (schema : Declared) (bad : ℕ) (text : List ℕ) : Type 0 where
+  pub records : List (List Field)
+  pub all : AreAllRecords text records
+  pub few : length records ≤ max_records
+  pub asked : HaveBadAsks schema records bad
+
+-- the asks were read to their end, and none is bad
+abbrev pub has_good_asks : Option ℕ → Bool
+has_good_asks None = false
+has_good_asks (Some bad) = nat_eq bad 0

@@ -1,0 +1,107 @@
+//! The check of the asks: which of them are no queries, and where each of these ends.
+
+ghost use Rattle.std.specs.Prelude.{◌≡◌, ◌≢◌, ◌<◌, ◌≤◌, length, nat_eq, IfErr, IfOk, IfSome, OnOk};
+ghost use Rattle.csv.specs.Reading.{reader_state, source_of};
+ghost use Rattle.csv.specs.Records.{fields_of};
+ghost use Rattle.csv.specs.declared.parser.State.TheVariants as st;
+ghost use Rattle.bsi_reading.specs.Sources.{IsPlain};
+ghost use Rattle.bsi_reading.specs.Texts.{FromText};
+ghost use Rattle.bsi_check.specs.Checks.{has_good_asks, AreCountedAsks, IsAskVerdict, TellsUnless};
+
+use crate::NoMemory;
+use crate::lines::{LineEnds, MAX_TOLD, tell_at, tell_more};
+use crate::rows::tell_unread;
+use crate::why_ask::why_no_query;
+use bsi_reading::{MAX_RECORDS, SourceFault, plain_reader, read_next};
+use bsi_records::read_query;
+use bsi_schema::Schema;
+use csv::{ByteRecord, Reader};
+use std::alloc::Global;
+use std::io::Read;
+
+/// Reads the asks to their end, and adds the reason of each that is no query to `reasons`, at most 100 of them. It
+/// returns how many are none, or nothing, with the reason added, if the asks can't be read or are more than 1,000,000.
+pub(crate) fn check_asks<A: Read + Drop>(
+    alloc: Global,
+    schema: &Schema,
+    path: &str,
+    asks: A,
+    reasons: &mut Vec<u8>,
+) -> Result<Option<u64>, NoMemory>
+    ensures found { IfOk result (λ found. IfSome found (λ bad.
+        IfSome (A.remaining asks) (AreCountedAsks schema.now bad))) }
+    ensures told { IfOk result (λ found.
+        TellsUnless (has_good_asks found) reasons.old.items reasons.new.items) }
+{
+    let mut input = plain_reader(alloc, asks);
+    match count_asks(alloc, schema, path, &mut input, reasons) {
+        Ok(bad) => {
+            if bad > MAX_TOLD {
+                tell_more(alloc, reasons, path, bad)?;
+            }
+            Ok(Some(bad))
+        }
+        Err(fault) => {
+            tell_unread(alloc, path, fault, reasons)?;
+            Ok(None)
+        }
+    }
+}
+
+/// Reads the asks of a text of which no record was read, adds the reason of each of the first 100 that are no queries,
+/// and returns how many are none.
+fn count_asks<A: Read + Drop>(
+    alloc: Global,
+    schema: &Schema,
+    path: &str,
+    input: &mut Reader<A>,
+    reasons: &mut Vec<u8>,
+) -> Result<u64, SourceFault>
+    requires plain { IsPlain input.old }
+    requires start { reader_state input.old ≡ st.StartRecord }
+    ensures counted { IfOk result (λ bad. FromText (source_of A.remaining input.old)
+        (AreCountedAsks schema.now bad)) }
+    ensures told { IfOk result (λ bad.
+        TellsUnless (nat_eq bad 0) reasons.old.items reasons.new.items) }
+    ensures kept { IfErr result (λ fault. fault ≢ SourceFault.NoMemory →
+        length reasons.old.items ≤ length reasons.new.items) }
+{
+    let (mut records, mut bad) = (0u64, 0u64);
+    let mut fields = ByteRecord::new(alloc);
+    let mut ends = None;
+    'records: while records < MAX_RECORDS {
+        if !read_next(input, &mut fields)? {
+            return Ok(bad);
+        }
+        let after = input.position();
+        let ends = *ends.get_or_insert(LineEnds::of(&fields, after));
+        let asks = is_query(alloc, schema, &fields)?;
+        records += 1;
+        if asks {
+            continue;
+        }
+        bad += 1;
+        if bad <= MAX_TOLD {
+            let why = why_no_query(alloc, schema, &fields)?;
+            tell_at(
+                alloc,
+                reasons,
+                path,
+                ends.line_of(&fields, after),
+                why.as_str(),
+            )?;
+        }
+    }
+    if read_next(input, &mut fields)? {
+        return Err(SourceFault::TooLong);
+    }
+    Ok(bad)
+}
+
+/// Returns whether a record is a query.
+fn is_query(alloc: Global, schema: &Schema, fields: &ByteRecord) -> Result<bool, NoMemory>
+    ensures { IfOk result (IsAskVerdict schema.now (fields_of fields.now)) }
+{
+    let query = read_query(alloc, schema, fields)?;
+    Ok(query.is_some())
+}

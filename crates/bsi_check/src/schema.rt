@@ -1,0 +1,94 @@
+//! The check of a schema file.
+
+ghost use Rattle.std.specs.Prelude.{◌≡◌, ◌<◌, is_some, length, IfOk, IfSome, OnOk};
+ghost use Rattle.bsi_reading.specs.SchemaTexts.{IsSchemaText};
+ghost use Rattle.bsi_check.specs.Checks.{IsSchemaFound, TellsUnless};
+
+use crate::NoMemory;
+use crate::lines::{LineEnds, shown_record, tell, tell_at};
+use crate::rows::tell_unread;
+use crate::setups::why_bad_setup;
+use bsi_reading::{DeclaredTable, SchemaFault, SourceFault, plain_reader, read_next, read_schema};
+use bsi_records::read_setup;
+use csv::ByteRecord;
+use std::alloc::Global;
+use std::io::{ErrorKind, Read};
+
+/// Reads the columns and the limit that a file declares. It returns nothing, and adds the reason to `reasons`, where a
+/// run over files would not take the schema. It keeps the text while it reads it.
+pub(crate) fn check_schema<S: Read + Drop>(
+    alloc: Global,
+    path: &str,
+    mut file: S,
+    reasons: &mut Vec<u8>,
+) -> Result<Option<DeclaredTable>, NoMemory>
+    ensures declared { IfOk result (λ found. IfSome (S.remaining file) (IsSchemaFound found)) }
+    ensures told { IfOk result (λ found.
+        TellsUnless (is_some found) reasons.old.items reasons.new.items) }
+{
+    let mut text = Vec::new(alloc);
+    if let Err(error) = file.read_to_end(&mut text) {
+        let fault = fault_of(error.kind());
+        tell_unread(alloc, path, fault, reasons)?;
+        return Ok(None);
+    }
+    match read_schema(alloc, text.as_slice()) {
+        Ok(table) => Ok(Some(table)),
+        Err(SchemaFault::Source(fault)) => {
+            tell_unread(alloc, path, fault, reasons)?;
+            Ok(None)
+        }
+        Err(SchemaFault::NoColumns) => {
+            tell(alloc, reasons, path, "declares no column")?;
+            Ok(None)
+        }
+        Err(SchemaFault::BadRecord(number)) => {
+            tell_bad_record(alloc, path, text.as_slice(), number, reasons)?;
+            Ok(None)
+        }
+    }
+}
+
+/// Returns the fault of a reader that failed.
+fn fault_of(kind: ErrorKind) -> SourceFault {
+    if kind == ErrorKind::OutOfMemory {
+        SourceFault::NoMemory
+    } else {
+        SourceFault::Read
+    }
+}
+
+/// Adds the reason of the bad record of this number, from 1.
+fn tell_bad_record(
+    alloc: Global,
+    path: &str,
+    text: &[u8],
+    number: u64,
+    reasons: &mut Vec<u8>,
+) -> Result<(), NoMemory>
+    ensures { OnOk result (length reasons.old.items < length reasons.new.items) }
+{
+    let mut input = plain_reader(alloc, text);
+    let mut fields = ByteRecord::new(alloc);
+    let mut table = DeclaredTable::new(alloc);
+    let mut line = 0;
+    let mut ends = None;
+    'records: for before in 0..number {
+        match read_next(&mut input, &mut fields) {
+            Ok(true) => {}
+            Ok(false) => break,
+            // A slice is always read: memory was refused.
+            Err(_) => return Err(NoMemory),
+        }
+        let after = input.position();
+        let ends = *ends.get_or_insert(LineEnds::of(&fields, after));
+        line = ends.line_of(&fields, after);
+        if before + 1 < number {
+            let _ = read_setup(alloc, &mut table.schema, &mut table.limit, &fields)?;
+        }
+    }
+    let record = shown_record(alloc, &fields)?;
+    let why = why_bad_setup(alloc, &mut table.schema, &fields)?;
+    let text = format!(in alloc; "{record}: {why}")?;
+    tell_at(alloc, reasons, path, line, text.as_str())
+}

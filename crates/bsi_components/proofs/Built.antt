@@ -1,0 +1,98 @@
+-- Components whose bitmaps are made of the binary places of their digits.
+use Rattle.std.proofs.Common.{◌≡◌, ℕ, ◌+◌, ◌-◌, ◌^◌, ◌<◌, ◌≤◌, Bool, true, false, List, ◌++◌, length, get_or, map, inl, inr, ap, sym, ◌∙◌, refl, arith, length-append}
+use Rattle.std.specs.Prelude.{◌==◌, nat_le, nat_lt, if◌then◌else◌}
+use Rattle.std.proofs.lemmas.Bool.{cases_lt}
+use Rattle.std.proofs.lemmas.Bool.Decides.{nat_tests}
+use Rattle.bsi_bits.specs.BitList.{BitList}
+use Rattle.bsi_bits.specs.BitLists.{bits_at}
+use Rattle.bsi_digits.specs.Digits.{IsBase}
+use Rattle.bsi_words.specs.Places.{has_place, then_places, IsEncoded}
+use Rattle.bsi_words.proofs.DigitMaps.{map_same}
+use Rattle.bsi_words.proofs.PlaceBitmaps.{own_test, place_test, count_made}
+use Rattle.bsi_components.specs.Bitmaps.{kept_places}
+use Rattle.bsi_components.specs.Equality.{first_stored, IsEquality}
+use Rattle.bsi_components.specs.Range.{IsRange}
+use Rattle.bsi_components.proofs.BitmapDigits.{length-bits_at}
+use Rattle.bsi_components.proofs.PlaceNumbers.{bits_left, bits_right}
+
+-- how many places are kept
+pub record IsKeptCount (base kept : ℕ) : Type 0 where
+  pub kept_is : kept ≡ kept_places base
+  pub few : kept ≤ 10
+  pub enough : 0 < kept → base ≤ 2 ^ kept
+  pub some : 4 ≤ base → 0 < kept
+
+-- the bitmaps, and the places behind them if any are kept
+abbrev pub behind : ℕ → List BitList → List BitList → List BitList
+behind kept made places = if nat_lt 0 kept then made ++ places else made
+
+more_than : (k : ℕ) → nat_lt 0 k ≡ true → 0 < k
+more_than k on = grind (arith, nat_tests)
+
+not_more : (k : ℕ) → nat_lt 0 k ≡ false → k ≡ 0
+not_more k off = grind (arith, nat_tests)
+
+module _ (own kept : ℕ) (holds : ℕ → ℕ → Bool) (made places : List BitList) (ns : List ℕ) (long : length made ≡ own)
+    (bits : (j : ℕ) → j < own → bits_at made j ≡ map (holds j) ns) (encoded : IsEncoded has_place places ns) (many : 0 < kept → kept ≡ length places) where
+  long_by : (more : Bool) → nat_lt 0 kept ≡ more → length (if more then made ++ places else made) ≡ own + kept
+  long_by true is = omega (arith, length-append made places, long, many (more_than kept is))
+  long_by false is = omega (arith, long, not_more kept is)
+
+  pub built_long : length (behind kept made places) ≡ own + kept
+  built_long = long_by (nat_lt 0 kept) refl
+
+  own_bitmap : (j : ℕ) → j < own → map (holds j) ns ≡ map (then_places own holds j) ns
+  own_bitmap j inside = sym (map_same (then_places own holds j) (holds j) (λ v. own_test own holds j v inside) ns)
+
+  encoded_by : (more : Bool) → nat_lt 0 kept ≡ more → IsEncoded (then_places own holds) (if more then made ++ places else made) ns
+  encoded_by true is = record {
+    each = λ j below. elim (cases_lt j own) [
+      | inl inside ↦ bits_left made places j (omega (arith, inside, long)) ∙ bits j inside ∙ own_bitmap j inside
+      | inr past ↦
+          bits_right made places own j long past
+          ∙ encoded.each (j - own) (omega (arith, below, past, long, length-append made places))
+          ∙ sym (map_same (then_places own holds j) (has_place (j - own)) (λ v. place_test own holds j v past) ns)
+    ];
+  }
+  encoded_by false is = record {
+    each = λ j below. let inside : j < own = omega (arith, below, long) in bits j inside ∙ own_bitmap j inside;
+  }
+
+  pub built : IsEncoded (then_places own holds) (behind kept made places) ns
+  built = encoded_by (nat_lt 0 kept) refl
+
+  pub built_even : 0 < own → (j : ℕ) → j < length (behind kept made places) → length (bits_at (behind kept made places) j) ≡ length (bits_at (behind kept made places) 0)
+  built_even some j below =
+      length-bits_at (then_places own holds) (behind kept made places) ns built j below
+      ∙ sym (length-bits_at (then_places own holds) (behind kept made places) ns built 0 (omega (arith, some, built_long)))
+
+-- a range encoded component
+pub range_built : (base kept : ℕ) (made places : List BitList) (ns : List ℕ) → IsBase base → IsKeptCount base kept → length made ≡ base - 1
+    → ((j : ℕ) → j < base - 1 → bits_at made j ≡ map (λ v. nat_le v j) ns) → IsEncoded has_place places ns → (0 < kept → kept ≡ length places)
+    → ((k : ℕ) → get_or ns k 0 < base) → IsRange base (behind kept made places) ns
+range_built base kept made places ns is_base count long bits encoded many below =
+    let n = built_long (base - 1) kept (λ j v. nat_le v j) made places ns long bits encoded many in
+    record {
+      count = count_made base (base - 1) kept (length (behind kept made places)) n count.few count.enough count.some;
+      many = n ∙ ap (λ k. base - 1 + k) count.kept_is;
+      least = is_base.0;
+      most = is_base.1;
+      below = below;
+      encoded = built (base - 1) kept (λ j v. nat_le v j) made places ns long bits encoded many;
+    }
+
+-- an equality encoded component
+pub equality_built : (base kept : ℕ) (made places : List BitList) (ns : List ℕ) → IsBase base → IsKeptCount base kept → length made ≡ base - first_stored base
+    → ((j : ℕ) → j < base - first_stored base → bits_at made j ≡ map (λ v. v == first_stored base + j) ns) → IsEncoded has_place places ns → (0 < kept → kept ≡ length places)
+    → ((k : ℕ) → get_or ns k 0 < base) → IsEquality base (behind kept made places) ns
+equality_built base kept made places ns is_base count long bits encoded many below =
+    let own = base - first_stored base in
+    let n = built_long own kept (λ j v. v == first_stored base + j) made places ns long bits encoded many in
+    record {
+      count = count_made base own kept (length (behind kept made places)) n count.few count.enough count.some;
+      many = n ∙ ap (λ k. own + k) count.kept_is;
+      least = is_base.0;
+      most = is_base.1;
+      below = below;
+      encoded = built own kept (λ j v. v == first_stored base + j) made places ns long bits encoded many;
+    }

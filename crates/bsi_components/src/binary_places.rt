@@ -1,0 +1,30 @@
+//! Components by the binary places of their digits: what each place is, and the component that is made of all of them.
+
+ghost use Rattle.std.specs.Prelude.{◌≡◌, ℕ, ◌<◌, length, map, slice_index, IfNone, IfOk, IfSome, OnSome};
+ghost use Rattle.bsi_digits.specs.Digits.{IsBase};
+ghost use Rattle.bsi_words.specs.Places.{has_place};
+ghost use Rattle.bsi_components.specs.PlaceNumbers.{numbers_in, place_count, AreLevel, HasPast};
+
+use crate::{Encoding, NoMemory};
+use bsi_bits::Bits;
+
+/// An encoding that tells the binary places of its digits, and is made of them.
+pub trait BinaryPlaces: Encoding {
+    /// Writes for each row whether binary place `k` of its digit is 1.
+    fn place_into(&self, k: usize, out: &mut Bits)
+        requires within { k < place_count (Self.base_of self.now) }
+        requires same { length (Self.digits self.now) ≡ length out.old.bits }
+        ensures { out.new.bits ≡ map (has_place k) (Self.digits self.now) };
+
+    /// Makes the component of the digits whose binary places these are, the least first, or none if a digit is not
+    /// below the base.
+    fn from_places(base: u32, places: Vec<Bits>) -> Result<Option<Self>, NoMemory>
+        requires base { IsBase base }
+        requires count { length places.items ≡ place_count base }
+        requires level { AreLevel places.items }
+        ensures made { IfOk result (λ made. IfSome made (λ c. (Self.base_of c ≡ base)
+            × (Self.digits c ≡ numbers_in places.items))) }
+        ensures below { IfOk result (λ made. OnSome made ((k : ℕ) →
+            slice_index (numbers_in places.items) k < base)) }
+        ensures none { IfOk result (λ made. IfNone made (HasPast base (numbers_in places.items))) };
+}

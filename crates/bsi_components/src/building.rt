@@ -1,0 +1,166 @@
+//! The bitmaps of a component, made of the binary places of its digits.
+//!
+//! Each bitmap is made by one pass over the places, as a comparison with its digit. A digit that is not below the base
+//! is found first.
+
+ghost use Rattle.std.specs.Prelude.{◌≡◌, ℕ, ◌+◌, ◌-◌, ◌*◌, ◌^◌, ◌<◌, ◌≤◌, ◌==◌, ◌&&◌, ◌||◌, ◌++◌, if◌then◌else◌, length, map, nat_le, nat_lt, true, slice_index, vec_capacity, IfOk, IsTrue, IsFalse};
+ghost use Rattle.std.specs.Simd.Lanes.{zip2};
+ghost use Rattle.bsi_bits.specs.BitList.{without};
+ghost use Rattle.bsi_bits.specs.BitLists.{bits_at};
+ghost use Rattle.bsi_digits.specs.Digits.{IsBase};
+ghost use Rattle.bsi_words.specs.Places.{has_place, max_digit_places, min_base_with_places};
+ghost use Rattle.bsi_components.specs.Equality.{first_stored};
+ghost use Rattle.bsi_components.specs.PlaceNumbers.{numbers_in, place_count, AreLevel, HasPast};
+
+use crate::NoMemory;
+use bsi_bits::Bits;
+use std::alloc::Global;
+
+/// Takes one more place, from the least up, into the rows whose number is above a constant. `is_one` tells whether the
+/// place is 1 in the constant.
+fn step_above(rows: &mut Bits, place: &Bits, is_one: bool)
+    requires { length rows.old.bits ≡ length place.now.bits }
+    ensures { rows.new.bits ≡ (if is_one then zip2 ◌&&◌ rows.old.bits place.now.bits else zip2 ◌||◌
+        rows.old.bits place.now.bits) }
+{
+    if is_one {
+        rows.and_with(place);
+    } else {
+        rows.or_with(place);
+    }
+}
+
+/// Takes one more place into the rows whose number is a constant.
+fn step_equal(rows: &mut Bits, place: &Bits, is_one: bool)
+    requires { length rows.old.bits ≡ length place.now.bits }
+    ensures { rows.new.bits ≡ (if is_one then zip2 ◌&&◌ rows.old.bits place.now.bits else zip2
+        without rows.old.bits place.now.bits) }
+{
+    if is_one {
+        rows.and_with(place);
+    } else {
+        rows.and_not_with(place);
+    }
+}
+
+/// Returns for each row whether its number is above `d`.
+fn rows_above(alloc: Global, places: &[Bits], d: u32) -> Result<Bits, NoMemory>
+    requires level { AreLevel places.now }
+    requires few { length places.now ≤ max_digit_places }
+    requires below { d < 2 ^ length places.now }
+    ensures { IfOk result (λ rows. rows.bits ≡ map (nat_lt d) (numbers_in places.now)) }
+{
+    let mut rows = Bits::filled(alloc, places[0].len(), false)?;
+    'places: for (k, place) in places.iter().enumerate() {
+        step_above(&mut rows, place, d >> k & 1 == 1);
+    }
+    Ok(rows)
+}
+
+/// Returns for each row whether its number is `d`.
+fn rows_equal(alloc: Global, places: &[Bits], d: u32) -> Result<Bits, NoMemory>
+    requires level { AreLevel places.now }
+    requires few { length places.now ≤ max_digit_places }
+    requires below { d < 2 ^ length places.now }
+    ensures { IfOk result (λ rows. rows.bits ≡ map (λ v. v == d) (numbers_in places.now)) }
+{
+    let mut rows = Bits::filled(alloc, places[0].len(), true)?;
+    'places: for (k, place) in places.iter().enumerate() {
+        step_equal(&mut rows, place, d >> k & 1 == 1);
+    }
+    Ok(rows)
+}
+
+/// Returns whether each row has a number below the base.
+pub(crate) fn are_below(alloc: Global, places: &[Bits], base: u32) -> Result<bool, NoMemory>
+    requires base { IsBase base }
+    requires level { AreLevel places.now }
+    requires few { length places.now ≤ max_digit_places }
+    requires enough { base ≤ 2 ^ length places.now }
+    ensures all { IfOk result (λ all. IsTrue all →
+        (k : ℕ) → slice_index (numbers_in places.now) k < base) }
+    ensures past { IfOk result (λ all. IsFalse all → HasPast base (numbers_in places.now)) }
+{
+    let past = rows_above(alloc, places, base - 1)?;
+    Ok(past.count() == 0)
+}
+
+/// Makes the bitmaps of a range encoding: bitmap j says of each row whether its number is at most j. There is room for
+/// `more` further ones.
+pub(crate) fn range_bitmaps(
+    alloc: Global,
+    places: &[Bits],
+    base: u32,
+    more: usize,
+) -> Result<Vec<Bits>, NoMemory>
+    requires base { IsBase base }
+    requires level { AreLevel places.now }
+    requires few { length places.now ≤ max_digit_places }
+    requires enough { base ≤ 2 ^ length places.now }
+    requires little { more ≤ max_digit_places }
+    ensures count { IfOk result (λ made. length made.items ≡ base - 1) }
+    ensures room { IfOk result (λ made. vec_capacity made ≡ base - 1 + more) }
+    ensures bits { IfOk result (λ made. (j : ℕ) → j < base - 1 →
+        bits_at made.items j ≡ map (λ v. nat_le v j) (numbers_in places.now)) }
+{
+    let mut made = Vec::with_capacity(alloc, base as usize - 1 + more)?;
+    'digits: for j in 0..base - 1 {
+        let mut rows = rows_above(alloc, places, j)?;
+        rows.flip();
+        made.push_reserved(rows);
+    }
+    Ok(made)
+}
+
+/// Makes the bitmaps of an equality encoding: bitmap j says of each row whether its number is `first + j`. There is
+/// room for `more` further ones.
+pub(crate) fn equality_bitmaps(
+    alloc: Global,
+    places: &[Bits],
+    first: u32,
+    base: u32,
+    more: usize,
+) -> Result<Vec<Bits>, NoMemory>
+    requires base { IsBase base }
+    requires first { first ≤ base }
+    requires level { AreLevel places.now }
+    requires few { length places.now ≤ max_digit_places }
+    requires enough { base ≤ 2 ^ length places.now }
+    requires little { more ≤ max_digit_places }
+    ensures count { IfOk result (λ made. length made.items ≡ base - first) }
+    ensures room { IfOk result (λ made. vec_capacity made ≡ base - first + more) }
+    ensures bits { IfOk result (λ made. (j : ℕ) → j < base - first →
+        bits_at made.items j ≡ map (λ v. v == first + j) (numbers_in places.now)) }
+{
+    let mut made = Vec::with_capacity(alloc, (base - first) as usize + more)?;
+    'digits: for d in first..base {
+        made.push_reserved(rows_equal(alloc, places, d)?);
+    }
+    Ok(made)
+}
+
+/// Puts the places behind the bitmaps if any are kept, into room that is already there.
+pub(crate) fn with_places(mut made: Vec<Bits>, mut places: Vec<Bits>, kept: usize) -> Vec<Bits>
+    requires room { length made.items + kept ≤ vec_capacity made }
+    requires all { 0 < kept → kept ≡ length places.items }
+    ensures { result.items ≡ (if nat_lt 0 kept then made.items ++ places.items else made.items) }
+{
+    if kept > 0 {
+        // There is room, so no memory is asked for.
+        made.append(&mut places).unwrap();
+    }
+    made
+}
+
+/// Tells the digit that a binary place stands for under a base without stored places: the bitmap of digit 1 or 2 is
+/// that of place 0 or 1.
+pub(crate) fn digit_of_place(base: u32, k: usize) -> u32
+    requires base { IsBase base }
+    requires few { base < min_base_with_places }
+    requires within { k < place_count base }
+    ensures digit { result ≡ k + 1 }
+    ensures below { result < base }
+    ensures same { (v : ℕ) → v < base → (v == result) ≡ has_place k v }
+{
+    k as u32 + 1
+}

@@ -1,0 +1,31 @@
+//! An equality encoded component by the binary places of its digits.
+
+use crate::NoMemory;
+use crate::binary_places::BinaryPlaces;
+use crate::building::{are_below, digit_of_place, equality_bitmaps, with_places};
+use crate::encoding::Encoding;
+use crate::equality::{EqualityComponent, first_stored};
+use crate::places::kept_places;
+use bsi_bits::{Bitmaps, Bits};
+
+impl BinaryPlaces for EqualityComponent {
+    fn place_into(&self, k: usize, out: &mut Bits) {
+        let places = self.places();
+        if places.is_empty() {
+            self.eq_into(digit_of_place(self.base(), k), out);
+        } else {
+            out.copy_from(&places[k]);
+        }
+    }
+
+    fn from_places(base: u32, places: Vec<Bits>) -> Result<Option<Self>, NoMemory> {
+        let alloc = *places.allocator();
+        if !are_below(alloc, &places, base)? {
+            return Ok(None);
+        }
+        let kept = kept_places(base);
+        let made = equality_bitmaps(alloc, &places, first_stored(base), base, kept)?;
+        let bitmaps = Bitmaps::from_vectors(with_places(made, places, kept));
+        Ok(Some(EqualityComponent { base, bitmaps }))
+    }
+}

@@ -1,0 +1,31 @@
+//! A range encoded component by the binary places of its digits.
+
+use crate::NoMemory;
+use crate::binary_places::BinaryPlaces;
+use crate::building::{are_below, digit_of_place, range_bitmaps, with_places};
+use crate::encoding::Encoding;
+use crate::places::kept_places;
+use crate::range::RangeComponent;
+use bsi_bits::{Bitmaps, Bits};
+
+impl BinaryPlaces for RangeComponent {
+    fn place_into(&self, k: usize, out: &mut Bits) {
+        let places = self.places();
+        if places.is_empty() {
+            self.eq_into(digit_of_place(self.base(), k), out);
+        } else {
+            out.copy_from(&places[k]);
+        }
+    }
+
+    fn from_places(base: u32, places: Vec<Bits>) -> Result<Option<Self>, NoMemory> {
+        let alloc = *places.allocator();
+        if !are_below(alloc, &places, base)? {
+            return Ok(None);
+        }
+        let kept = kept_places(base);
+        let made = range_bitmaps(alloc, &places, base, kept)?;
+        let bitmaps = Bitmaps::from_vectors(with_places(made, places, kept));
+        Ok(Some(RangeComponent { base, bitmaps }))
+    }
+}

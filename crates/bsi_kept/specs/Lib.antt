@@ -1,0 +1,4 @@
+pub mod Bitmaps
+pub mod Bytes
+pub mod Schemas
+pub mod Segments

@@ -1,0 +1,6 @@
+mod Bodies
+mod BodyWords
+mod ColumnWords
+mod Cutting
+mod Files
+mod OneTable

@@ -1,0 +1,3 @@
+pub mod Faults
+pub mod Saved
+pub mod Taking

@@ -1,0 +1,51 @@
+//! The words of the body of a segment: those that keep an index.
+
+ghost use Rattle.std.specs.Prelude.{◌≡◌, ◌<◌, ◌++◌, IfOk, OnOk, length};
+ghost use Rattle.std.specs.List.{flat_map};
+ghost use Rattle.bsi_columns.specs.Places.{bits_each};
+ghost use Rattle.bsi_table.specs.Index.{table_of};
+ghost use Rattle.bsi_kept.specs.Bitmaps.{packed};
+ghost use Rattle.bsi_saved.specs.Saved.{body, columns_words};
+
+use crate::NoMemory;
+use bsi_bits::Bits;
+use bsi_kept::{put_bits, put_bytes, put_schema, put_text};
+use bsi_table::Index;
+use std::alloc::Global;
+
+/// Makes the body of the segment that keeps an index and these notes.
+pub(crate) fn body_of(alloc: Global, index: &Index, notes: &[u8]) -> Result<Vec<u64>, NoMemory>
+    ensures { IfOk result (λ words. words.items ≡ body (table_of index.now) notes.now) }
+{
+    let sizes = [index.len(), u64::from(index.feeders()), index.limit()];
+    let mut words = Vec::from_slice(alloc, &sizes)?;
+    put_text(notes, &mut words)?;
+    put_schema(index.schema(), &mut words)?;
+    put_columns(index, &mut words)?;
+    if index.feeders() != 1 {
+        put_bytes(index.row_feeders(), &mut words)?;
+    }
+    Ok(words)
+}
+
+/// Appends the words of the bitmaps of each column.
+fn put_columns(index: &Index, words: &mut Vec<u64>) -> Result<(), NoMemory>
+    ensures { OnOk result (words.new.items ≡ words.old.items
+        ++ columns_words index.now.schema index.now.rows 0 (length index.now.schema.columns)) }
+{
+    'columns: for c in 0..index.schema().columns() {
+        put_bitmaps(&index.bitmaps(c)?, words)?;
+    }
+    Ok(())
+}
+
+/// Appends the words of bitmaps, one after another.
+fn put_bitmaps(bitmaps: &[Bits], words: &mut Vec<u64>) -> Result<(), NoMemory>
+    ensures { OnOk result (words.new.items ≡ words.old.items
+        ++ flat_map packed (bits_each bitmaps.now)) }
+{
+    'bitmaps: for bits in bitmaps {
+        put_bits(bits, words)?;
+    }
+    Ok(())
+}

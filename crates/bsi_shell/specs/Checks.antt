@@ -1,0 +1,28 @@
+-- What a check leaves in the output, and what it tells of a fault.
+use Rattle.std.specs.Io.KnownBytes.{Keeps}
+use Rattle.std.specs.Prelude.{◌≡◌, ◌⊎◌, ℕ, Bool, true, false, List, Option, Result, Ok, map, option_and_then}
+use Rattle.bsi_check.specs.Reports.{HasReported}
+use Rattle.bsi_reading.specs.declared.writing.WriteFault.{WriteFault}
+use Rattle.bsi_shell.specs.FaultLines.{fault_line, IsTold}
+use Rattle.bsi_shell.specs.declared.files.RunFault.{RunFault}
+
+-- some files were opened, and a check of them was put behind what the output held; it says whether there was no reason
+pub record HasReportedOver {S : Type 0} (rem : S → Option (List ℕ)) (before after : Option (List ℕ)) (good : Bool)
+    : Type 0 where
+  pub schema : S
+  pub asks : Option S
+  pub rows : List S
+  pub middle : Option (List ℕ)
+  pub reported : HasReported (rem schema) (map rem rows) (option_and_then rem asks) before middle good
+  pub kept : Keeps middle after
+
+-- and there was none: the schema is one, all records are good, and each ask is a query
+abbrev pub HasChecked : {S : Type 0} → (S → Option (List ℕ)) → Option (List ℕ) → Option (List ℕ) → Type 0
+HasChecked rem before after = HasReportedOver rem before after true
+
+-- or there were reasons, and no line was told; or the check ended early by a fault whose line was told
+abbrev pub HasToldCheck : {S : Type 0} → (S → Option (List ℕ)) → Option (List ℕ) → Option (List ℕ)
+    → Result (Unit {0}) WriteFault → Option (List ℕ) → Option (List ℕ) → Type 0
+HasToldCheck rem before after told said now =
+    (HasReportedOver rem before after false × (told ≡ Ok tt) × (now ≡ said))
+    ⊎ ((fault : RunFault) × IsTold told said now (fault_line fault))

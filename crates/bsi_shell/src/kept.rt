@@ -1,0 +1,133 @@
+//! The commands over a kept index.
+ghost use Rattle.std.specs.Prelude.{◌≡◌, ◌≤◌, IsOk, OnOk};
+ghost use Rattle.std.specs.Io.KnownBytes.{Keeps};
+ghost use Rattle.bsi_shell.specs.Kept.{HasAskedEither, HasToldStore, IsFlushed};
+ghost use Rattle.bsi_store.specs.Asked.{HasShown};
+ghost use Rattle.bsi_store.specs.Loads.{HasAdded, HasSaved};
+
+use crate::telling::tell_store_fault;
+use crate::words::CommandEnd;
+use bsi_store::{
+    AddPaths, AskPaths, LockFile, SavePaths, StoreFault, add_rows, ask_input, ask_over, save_rows,
+    show_index,
+};
+use bsi_text::WriteFault;
+use std::fs::OpenFile;
+use std::io::{Read, Write};
+use std::rt::Files;
+use std::sync::Wait;
+use std::thread::Threads;
+
+/// Carries out `bsi save`.
+pub(crate) fn answer_save<
+    'a,
+    R: AllocGlobal + Files<File = S> + Threads + Wait + Sync,
+    S: Read + Write + OpenFile + LockFile + Drop + Send,
+    O: Write,
+    F: Write,
+>(rt: &R, paths: &SavePaths<'a>, output: &mut O, faults: &mut F) -> CommandEnd
+    ensures status { result.status ≤ 1 }
+    ensures saved { result.status ≡ 0 →
+        IsFlushed (HasSaved S.remaining S.contents) (O.contents output.old) (O.contents output.new) }
+    ensures told { result.status ≡ 1 →
+        HasToldStore result.told (F.contents faults.old) (F.contents faults.new) }
+    ensures quiet { result.status ≡ 0 → F.contents faults.new ≡ F.contents faults.old }
+{
+    let run = save_rows(rt, paths, output);
+    end_by(run, output, faults)
+}
+
+/// Carries out `bsi add`.
+pub(crate) fn answer_add<
+    'a,
+    R: AllocGlobal + Files<File = S> + Threads + Wait + Sync,
+    S: Read + Write + OpenFile + LockFile + Drop + Send,
+    O: Write,
+    F: Write,
+>(rt: &R, paths: &AddPaths<'a>, output: &mut O, faults: &mut F) -> CommandEnd
+    ensures status { result.status ≤ 1 }
+    ensures added { result.status ≡ 0 →
+        IsFlushed (HasAdded S.remaining S.contents) (O.contents output.old) (O.contents output.new) }
+    ensures told { result.status ≡ 1 →
+        HasToldStore result.told (F.contents faults.old) (F.contents faults.new) }
+    ensures quiet { result.status ≡ 0 → F.contents faults.new ≡ F.contents faults.old }
+{
+    let run = add_rows(rt, paths, output);
+    end_by(run, output, faults)
+}
+
+/// Carries out `bsi ask`.
+pub(crate) fn answer_ask<
+    'a,
+    R: AllocGlobal + Files<File = S>,
+    S: Read + LockFile + Drop,
+    I: Read + Drop,
+    O: Write,
+    F: Write,
+>(rt: &R, paths: &AskPaths<'a>, input: I, output: &mut O, faults: &mut F) -> CommandEnd
+    ensures status { result.status ≤ 1 }
+    ensures asked { result.status ≡ 0 →
+        IsFlushed (HasAskedEither S.remaining (I.remaining input)) (O.contents output.old) (O.contents output.new) }
+    ensures told { result.status ≡ 1 →
+        HasToldStore result.told (F.contents faults.old) (F.contents faults.new) }
+    ensures quiet { result.status ≡ 0 → F.contents faults.new ≡ F.contents faults.old }
+{
+    let run = ask_either(rt, paths, input, output);
+    end_by(run, output, faults)
+}
+
+/// Carries out `bsi show`.
+pub(crate) fn answer_show<
+    'a,
+    R: AllocGlobal + Files<File = S>,
+    S: Read + LockFile + Drop,
+    O: Write,
+    F: Write,
+>(rt: &R, path: &'a str, output: &mut O, faults: &mut F) -> CommandEnd
+    ensures status { result.status ≤ 1 }
+    ensures shown { result.status ≡ 0 →
+        IsFlushed (HasShown S.remaining) (O.contents output.old) (O.contents output.new) }
+    ensures told { result.status ≡ 1 →
+        HasToldStore result.told (F.contents faults.old) (F.contents faults.new) }
+    ensures quiet { result.status ≡ 0 → F.contents faults.new ≡ F.contents faults.old }
+{
+    let run = show_index(rt, path, output);
+    end_by(run, output, faults)
+}
+
+/// Answers the questions of the file of a path, or those of the input.
+fn ask_either<
+    'a,
+    R: AllocGlobal + Files<File = S>,
+    S: Read + LockFile + Drop,
+    I: Read + Drop,
+    O: Write,
+>(rt: &R, paths: &AskPaths<'a>, input: I, output: &mut O) -> Result<(), StoreFault<'a>>
+    ensures { OnOk result (HasAskedEither S.remaining (I.remaining input)
+        (O.contents output.old) (O.contents output.new)) }
+{
+    match paths.asks {
+        Some(asks) => ask_over(rt, paths, asks, output),
+        None => ask_input(rt, paths, input, output),
+    }
+}
+
+/// Ends a command, and flushes the output. A flush that fails counts only if the command met no fault.
+fn end_by<O: Write, F: Write>(
+    run: Result<(), StoreFault<'_>>,
+    output: &mut O,
+    faults: &mut F,
+) -> CommandEnd
+    ensures status { result.status ≤ 1 }
+    ensures ok { result.status ≡ 0 → IsOk run.entry }
+    ensures kept { Keeps (O.contents output.old) (O.contents output.new) }
+    ensures told { result.status ≡ 1 →
+        HasToldStore result.told (F.contents faults.old) (F.contents faults.new) }
+    ensures quiet { result.status ≡ 0 → F.contents faults.new ≡ F.contents faults.old }
+{
+    let flushed = output.flush().map_err(|_| StoreFault::from(WriteFault));
+    match run.and(flushed) {
+        Ok(()) => CommandEnd::by(0, Ok(())),
+        Err(fault) => CommandEnd::by(1, tell_store_fault(fault, faults)),
+    }
+}

@@ -1,0 +1,164 @@
+//! Why a command over a kept index ends early.
+
+ghost use Rattle.std.specs.Prelude.{◌≡◌, ◌+◌, ◌≤◌, ◌++◌, [], decimal, length};
+ghost use Rattle.bsi_store.specs.Faults.{cut_off, file_fault_text, unopened};
+
+use arrayvec::ArrayString;
+use bsi_files::FilesFault;
+use bsi_saved::{OpenFault, SaveFault};
+use bsi_text::{SchemaFault, WriteFault};
+use itoa::Buffer;
+use std::alloc::AllocError;
+
+/// The most bytes of what is told of a file: those of `cut short after `, of a number of 20 digits and of ` rows`.
+pub const MAX_FILE_TEXT: usize = 41;
+
+/// What is told of a file.
+pub type FileText = ArrayString<MAX_FILE_TEXT>;
+
+/// What is wrong with a file that is to keep an index.
+#[derive(Clone, Copy, Debug, PartialEq, Eq)]
+pub enum FileFault {
+    /// Its bytes are not those of a kept index.
+    NotKept,
+    /// It is of another version of the format.
+    OtherVersion,
+    /// It ends within a segment, behind so many whole rows.
+    CutShort(u64),
+    /// It is not as it was written, behind so many whole rows.
+    Damaged(u64),
+    /// It can't be read to its end.
+    Read,
+    /// Another command uses it.
+    InUse,
+    /// Its rows come from so many feeders, and there are more row files.
+    TooManyFiles(u32),
+}
+
+/// Why a command over a kept index ends early. Each path is as it was written.
+#[derive(Clone, Copy, Debug)]
+pub enum StoreFault<'a> {
+    /// The file of this path can't be opened.
+    CannotOpen(&'a str),
+    /// The file of this path, or the new one beside it, can't be written.
+    CannotWrite(&'a str),
+    /// This is wrong with the file of this path.
+    Unusable(&'a str, FileFault),
+    /// The run over the row files or the questions met a fault.
+    Run(FilesFault),
+}
+
+impl From<FilesFault> for StoreFault<'_> {
+    ghost use Rattle.bsi_store.specs.declared.fault.StoreFault.TheVariants.{Run};
+
+    ghost from_gives = { λ fault e. e ≡ Run fault };
+
+    fn from(fault: FilesFault) -> Self {
+        StoreFault::Run(fault)
+    }
+}
+
+impl From<AllocError> for StoreFault<'_> {
+    ghost use Rattle.bsi_files.specs.declared.faults.FilesFault.TheVariants.{NoMemory};
+    ghost use Rattle.bsi_store.specs.declared.fault.StoreFault.TheVariants.{Run};
+
+    ghost from_gives = { λ _ e. e ≡ Run NoMemory };
+
+    fn from(_refused: AllocError) -> Self {
+        StoreFault::Run(FilesFault::NoMemory)
+    }
+}
+
+impl From<WriteFault> for StoreFault<'_> {
+    ghost use Rattle.bsi_files.specs.declared.faults.FilesFault.TheVariants.{Write};
+    ghost use Rattle.bsi_store.specs.declared.fault.StoreFault.TheVariants.{Run};
+
+    ghost from_gives = { λ _ e. e ≡ Run Write };
+
+    fn from(_fault: WriteFault) -> Self {
+        StoreFault::Run(FilesFault::Write)
+    }
+}
+
+impl From<SchemaFault> for StoreFault<'_> {
+    ghost use Rattle.bsi_files.specs.Faults.{schema_fault};
+    ghost use Rattle.bsi_store.specs.declared.fault.StoreFault.TheVariants.{Run};
+
+    ghost from_gives = { λ fault e. e ≡ Run (schema_fault fault) };
+
+    fn from(fault: SchemaFault) -> Self {
+        StoreFault::Run(FilesFault::from(fault))
+    }
+}
+
+impl<'a> StoreFault<'a> {
+    /// Returns the fault of an index that was not written to the file of a path.
+    pub(crate) fn unsaved(path: &'a str, fault: SaveFault) -> StoreFault<'a> {
+        match fault {
+            SaveFault::Write => StoreFault::CannotWrite(path),
+            SaveFault::NoMemory => StoreFault::Run(FilesFault::NoMemory),
+        }
+    }
+
+    /// Returns the fault of a file of a path that no index was opened of.
+    pub(crate) fn unopened(path: &'a str, fault: OpenFault) -> StoreFault<'a>
+        ensures { result ≡ unopened path.entry fault }
+    {
+        match fault {
+            OpenFault::NotKept => StoreFault::Unusable(path, FileFault::NotKept),
+            fault => StoreFault::cut_off(path, fault, 0),
+        }
+    }
+
+    /// Returns the fault of a file of a path behind so many rows that were opened.
+    pub(crate) fn cut_off(path: &'a str, fault: OpenFault, rows: u64) -> StoreFault<'a>
+        ensures { result ≡ cut_off path.entry fault rows }
+    {
+        match fault {
+            OpenFault::NotKept | OpenFault::Damaged => {
+                StoreFault::Unusable(path, FileFault::Damaged(rows))
+            }
+            OpenFault::OtherVersion => StoreFault::Unusable(path, FileFault::OtherVersion),
+            OpenFault::CutShort => StoreFault::Unusable(path, FileFault::CutShort(rows)),
+            OpenFault::Read => StoreFault::Unusable(path, FileFault::Read),
+            OpenFault::NoMemory => StoreFault::Run(FilesFault::NoMemory),
+        }
+    }
+}
+
+impl FileFault {
+    /// Returns what is told of the file.
+    pub fn text(&self) -> FileText
+        ensures { result.bytes ≡ file_fault_text self.now }
+    {
+        let mut text = FileText::new();
+        match self {
+            FileFault::NotKept => text.push_str("not a kept index"),
+            FileFault::OtherVersion => text.push_str("of another version"),
+            FileFault::CutShort(rows) => push_counted(
+                &mut text,
+                "cut short after ",
+                *rows,
+                " rows",
+            ),
+            FileFault::Damaged(rows) => push_counted(&mut text, "damaged after ", *rows, " rows"),
+            FileFault::Read => text.push_str("read failed"),
+            FileFault::InUse => text.push_str("in use"),
+            FileFault::TooManyFiles(feeders) => {
+                push_counted(&mut text, "more than ", u64::from(*feeders), " files");
+            }
+        }
+        text
+    }
+}
+
+/// Puts a number between two texts.
+fn push_counted(text: &mut FileText, before: &str, number: u64, after: &str)
+    requires empty { text.old.bytes ≡ [] }
+    requires room { length before.now + length after.now ≤ 21 }
+    ensures { text.new.bytes ≡ before.now ++ decimal number ++ after.now }
+{
+    text.push_str(before);
+    text.push_str(Buffer::new().format(number));
+    text.push_str(after);
+}

@@ -1,0 +1,295 @@
+"""An index that is kept in a file: what its columns mean as notes beside its rows, and a file that is replaced at once.
+
+The library makes the bytes of the file and opens an index from them. Its notes are packed JSON: of each column the name
+and the kind, which the schema of the library does not say. A file without notes has whole numbers.
+"""
+
+from __future__ import annotations
+
+import errno
+import fcntl
+import json
+import mmap
+import os
+import stat
+import zlib
+from contextlib import ExitStack, contextmanager
+from datetime import datetime, timedelta, timezone
+from typing import IO, Any, Dict, Iterable, Iterator, Mapping, NamedTuple, Optional, Tuple, Union
+
+import numpy as np
+
+from .errors import BadNotes, Error, KeptError, LongNotes, NotKept
+from .forms import Form
+from .kinds import Decimals, Flags, Kind, Texts, Times, Whole
+from .native import Handle
+from .table import names_within
+
+Path = Union[str, "os.PathLike[str]"]
+VERSION = 1
+MAX_NOTES = 1 << 16
+# What notes may take when they are unpacked: texts that pack well, and not memory without end.
+MAX_UNPACKED = 1 << 24
+# Room in a file for its head, the notes and the schema.
+SPARE = 1 << 17
+MAGIC = b"bsikept"
+
+
+class Meaning(NamedTuple):
+    """What the notes of a file say: the kind of each column by its name, and what its writer keeps besides."""
+
+    kinds: Dict[str, Kind]
+    more: Dict[str, Any]
+
+
+class Kept(NamedTuple):
+    """An index that was opened: its columns, its limit, its handle, and what its notes say besides."""
+
+    forms: Dict[str, Form]
+    limit: int
+    handle: Handle
+    more: Dict[str, Any]
+
+
+# ---- Notes ----
+
+
+def notes_of(forms: Mapping[str, Form], **more: Any) -> bytes:
+    """Returns the notes that say what columns mean, or raises LongNotes."""
+    columns = [{"name": name, **_spelt(name, form.kind)} for name, form in forms.items()]
+    packed = zlib.compress(json.dumps({"bsi": VERSION, "columns": columns, **more}).encode(), 9)
+    if len(packed) > MAX_NOTES:
+        texts = sum(len(form.kind.values) for form in forms.values() if isinstance(form.kind, Texts))
+        what = f"the names and the {texts:,} texts of the columns take {len(packed):,} bytes when packed"
+        raise LongNotes(f"{what}, and a file has room for {MAX_NOTES:,}; nothing was written")
+    return packed
+
+
+def _spelt(name: str, kind: Kind) -> Dict[str, Any]:
+    """Returns a kind as JSON has it."""
+    if isinstance(kind, Decimals):
+        return {"kind": "decimals", "places": kind.places, "rounded": kind.rounded}
+    if isinstance(kind, Times):
+        return {"kind": "times", "unit": kind.unit, "zone": _zone_name(name, kind.zone)}
+    if isinstance(kind, Texts):
+        return {"kind": "texts", "values": list(kind.values), "ordered": kind.ordered, "grows": kind.grows}
+    return {"kind": "flags" if isinstance(kind, Flags) else "whole"}
+
+
+def _zone_name(name: str, zone: Any) -> Optional[str]:
+    """Returns a time zone's name, or the seconds that it is ahead of UTC, as +7200."""
+    if zone is None:
+        return None
+    found = getattr(zone, "key", None) or getattr(zone, "zone", None)
+    if isinstance(found, str):
+        return found
+    if isinstance(zone, timezone):
+        return f"{round(zone.utcoffset(None).total_seconds()):+d}"
+    if zone.utcoffset(datetime(2026, 1, 1)) == timedelta(0) and "utc" in repr(zone).lower():
+        return "+0"
+    raise Error(f"column {name!r} has the time zone {zone!r}, which has no name to be kept by; zoneinfo.ZoneInfo has")
+
+
+def _zone(name: Optional[str]) -> Any:
+    if name is None:
+        return None
+    if name[:1] in ("+", "-"):
+        return timezone(timedelta(seconds=int(name)))
+    if name == "UTC":
+        return timezone.utc
+    from zoneinfo import ZoneInfo
+
+    return ZoneInfo(name)
+
+
+def meaning_of(notes: bytes) -> Meaning:
+    """Returns what notes say, or raises ValueError, KeyError or TypeError where they are none of this package."""
+    unpacker = zlib.decompressobj()
+    try:
+        text = unpacker.decompress(notes, MAX_UNPACKED)
+    except zlib.error:
+        raise ValueError("they are not packed by zlib") from None
+    if not unpacker.eof or unpacker.unused_data:
+        raise ValueError("they are not packed as a whole")
+    found = json.loads(text)
+    if not isinstance(found, dict) or "bsi" not in found:
+        raise ValueError("they are another program's")
+    if found["bsi"] != VERSION:
+        raise ValueError(f"they are of version {found['bsi']!r}, and this package knows {VERSION}")
+    kinds = {column["name"]: _kind(column) for column in found["columns"]}
+    if len(kinds) < len(found["columns"]) or not all(isinstance(name, str) for name in kinds):
+        raise ValueError("they name a column twice, or by no text")
+    return Meaning(kinds, {key: value for key, value in found.items() if key not in ("bsi", "columns")})
+
+
+def _kind(column: Mapping[str, Any]) -> Kind:
+    word = column["kind"]
+    if word == "decimals":
+        return Decimals(column["places"], column["rounded"])
+    if word == "times":
+        return Times(column["unit"], _zone(column["zone"]))
+    if word == "texts":
+        return Texts(tuple(column["values"]), column["ordered"], column["grows"])
+    if word not in ("flags", "whole"):
+        raise ValueError(f"they have the kind {word!r}, which this package does not know")
+    return Flags() if word == "flags" else Whole()
+
+
+# ---- The schema ----
+
+
+def read_schema(text: str) -> Tuple[Dict[str, Form], int]:
+    """Returns the forms by the names that the library has, and the limit, of a schema that it wrote."""
+    forms: Dict[str, Form] = {}
+    limit = 1 << 32
+    for record in text.splitlines():
+        word, *fields = record.split(",")
+        if word == "limit":
+            limit = int(fields[0])
+        else:
+            name, form, sizes, *offset = fields
+            forms[name] = Form(form, tuple(map(int, sizes.split())), int(offset[0]) if offset else 0)
+    return forms, limit
+
+
+def _named(forms: Dict[str, Form], notes: bytes) -> Tuple[Dict[str, Form], Dict[str, Any]]:
+    """Returns the forms under the names and with the kinds that the notes give, and what they say besides."""
+    if not notes:
+        return forms, {}
+    kinds, more = meaning_of(notes)
+    if list(names_within(list(kinds)).values()) != list(forms):
+        raise ValueError("they are of other columns")
+    return {name: form.of(kind) for (name, kind), form in zip(kinds.items(), forms.values())}, more
+
+
+def _refuse_unknown(handle: Handle, within: Iterable[str], forms: Mapping[str, Form]) -> None:
+    """Raises ValueError where a column has a number that stands for no text, or is neither true nor false."""
+    for name, (column, form) in zip(within, forms.items()):
+        count = len(form.kind.values) if isinstance(form.kind, Texts) else 2
+        if isinstance(form.kind, (Texts, Flags)):
+            ends = [handle.value(word, name.encode(), [b"all"]) for word in (b"least", b"greatest")]
+            if not all(end is None or 0 <= end < count for end in ends):
+                raise ValueError(f"column {column!r} has a number that stands for nothing")
+
+
+# ---- Bytes ----
+
+
+def kept_bytes(handle: Handle, forms: Mapping[str, Form], **more: Any) -> np.ndarray:
+    """Returns the bytes that keep an index, or raises LongNotes. Of these bytes the library makes a copy besides."""
+    notes = notes_of(forms, **more)
+    bitmaps = sum(1 + form.places for form in forms.values())
+    return handle.save(notes, 8 * bitmaps * (handle.rows() // 64 + 1) + SPARE)
+
+
+def opened_bytes(data: Any, path: Optional[str] = None, so_far: bool = False) -> Kept:
+    """Opens the index that the bytes keep. Raises a KeptError with the path where they do not, unless the rows before
+    the fault are wanted."""
+    given = np.frombuffer(data, np.uint8)
+    try:
+        handle, notes = Handle.of_kept(given)
+    except KeptError as why:
+        # (what stands whole is opened, to tell how many rows it has)
+        before = Handle.of_kept(given[: why.whole]) if why.whole else None
+        if before is None or not so_far:
+            rows = before[0].rows() if before else 0
+            raise type(why)(None, path, rows, why.whole) from None
+        handle, notes = before
+    within, limit = read_schema(handle.schema().decode())
+    try:
+        forms, more = _named(within, notes)
+        _refuse_unknown(handle, within, forms)
+    except (ValueError, KeyError, TypeError, AttributeError, RecursionError) as why:
+        raise BadNotes(f"its notes can't be read: {_reason(why)}", path, handle.rows()) from None
+    return Kept(forms, limit, handle, more)
+
+
+def _reason(why: BaseException) -> str:
+    if isinstance(why, KeyError) and "time zone" not in str(why):
+        return f"they lack {why}"
+    return str(why)
+
+
+def opened_file(path: Path, so_far: bool = False) -> Kept:
+    """Opens the index that a file keeps. The file is mapped, and no copy of it is made."""
+    name = os.fspath(path)
+    if not (stat.S_ISREG(os.stat(name).st_mode) or os.path.isdir(name)):
+        raise NotKept("it is no regular file", name)
+    with open(name, "rb", buffering=0) as file:
+        if not os.fstat(file.fileno()).st_size:
+            raise NotKept(None, name)
+        # (no close of the map: an exception may still hold what lies over it)
+        return opened_bytes(mmap.mmap(file.fileno(), 0, access=mmap.ACCESS_READ), name, so_far)
+
+
+def is_kept(path: str) -> bool:
+    """Returns whether a file's first bytes are those of a kept index."""
+    try:
+        with open(path, "rb") as file:
+            return stat.S_ISREG(os.fstat(file.fileno()).st_mode) and file.read(len(MAGIC)) == MAGIC
+    except OSError:
+        return False
+
+
+# ---- Replacing a file ----
+
+
+def replace(path: Path, data: Any) -> None:
+    """Replaces a file by these bytes, or leaves it as it is. They go to a new file beside it, which takes its place
+    when the disk has all of it. What a crash left of such a file is replaced."""
+    name = os.path.realpath(os.fspath(path))
+    if os.path.isdir(name):
+        raise IsADirectoryError(errno.EISDIR, os.strerror(errno.EISDIR), os.fspath(path))
+    folder, new = os.path.dirname(name), f"{name}.new"
+    with _alone(new) as file:
+        try:
+            file.truncate(0)
+            _keep_mode(name, file)
+            _write_all(file, memoryview(data))
+            os.fsync(file.fileno())
+            os.replace(new, name)
+        except BaseException:
+            os.unlink(new)
+            raise
+    handle = os.open(folder, os.O_RDONLY | os.O_DIRECTORY)
+    try:
+        os.fsync(handle)
+    finally:
+        os.close(handle)
+
+
+@contextmanager
+def _alone(new: str) -> Iterator[IO[bytes]]:
+    """Opens the new file for one writer at a time. One that another writer has put in its place is opened anew."""
+    with ExitStack() as stack:
+        while True:
+            number = os.open(new, os.O_RDWR | os.O_CREAT | os.O_NOFOLLOW | os.O_CLOEXEC, 0o666)
+            file = stack.enter_context(open(number, "r+b", buffering=0))
+            try:
+                fcntl.flock(number, fcntl.LOCK_EX | fcntl.LOCK_NB)
+            except BlockingIOError:
+                raise Error(f"{new}: another program is writing it") from None
+            if _is_still(new, number):
+                yield file
+                return
+
+
+def _is_still(name: str, number: int) -> bool:
+    """Returns whether a name still stands for the file that was opened."""
+    try:
+        return os.path.samestat(os.stat(name, follow_symlinks=False), os.fstat(number))
+    except FileNotFoundError:
+        return False
+
+
+def _keep_mode(name: str, file: IO[bytes]) -> None:
+    """Gives the new file the rights of the old one."""
+    try:
+        os.fchmod(file.fileno(), stat.S_IMODE(os.stat(name).st_mode))
+    except FileNotFoundError:
+        pass
+
+
+def _write_all(file: IO[bytes], data: memoryview) -> None:
+    while len(data):
+        data = data[file.write(data[: 1 << 30]) :]
