@@ -2,7 +2,8 @@
 //! returns.
 #![tactic(auto)]
 
-use bsi_shell::{ScriptFault, run_words, tell_fault};
+use bsi_shell::{Progress, ScriptFault, run_words, tell_fault};
+use std::io::IsTerminal;
 use std::process::ExitCode;
 use std::rt::Env;
 use std::{env, io};
@@ -11,7 +12,8 @@ fn main(rt: HostRuntime) -> ExitCode {
     let (mut output, mut faults) = (rt.stdout(), rt.stderr());
     match read_words(&rt) {
         Ok(words) => {
-            let ended = run_words(&rt, words, rt.stdin(), &mut output, &mut faults);
+            let progress = Progress::new(&rt, faults.is_terminal());
+            let ended = run_words(&rt, words, rt.stdin(), &mut output, &mut faults, &progress);
             ExitCode::from(ended.status)
         }
         Err(_) => {

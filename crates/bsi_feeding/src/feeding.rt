@@ -9,9 +9,9 @@ ghost use Rattle.bsi_rows.specs.RowBlocks.{entries_of, max_block_rows, no_block_
 ghost use Rattle.bsi_feeding.specs.Feeding.{HasFailed, HasFed, IsProgress, IsGathered};
 
 use crate::{Gate, Pause};
+use bsi_reading::{RowSource, SourceFault};
 use bsi_rings::{BatchRefused, Closing, Feeder, NoMemory, SubmitRefused};
 use bsi_table::{Block, Index, MAX_BLOCK_ROWS, Row};
-use bsi_text::{RowSource, SourceFault};
 use std::io::Read;
 use std::sync::Wait;
 

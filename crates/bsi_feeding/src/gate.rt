@@ -13,6 +13,9 @@ pub trait Gate {
     /// Returns whether feeder `who` is to try again. The feeder calls it after each try that found no place in the
     /// ring, with the `point` of the row, or of the batch's first row.
     fn again<R: Wait>(&self, rt: &R, who: u32, point: u64) -> bool;
+
+    /// Is told that no feeder calls it any more. A run calls it once its feeders have ended, before it writes a line.
+    fn done(&self) {}
 }
 
 /// The gate that holds nobody up and stops nobody.

@@ -6,8 +6,9 @@ ghost use Rattle.bsi_ffi.specs.Calls.{IsFeederCount, IsNew, IsTextRefusal};
 
 use crate::opened::Opened;
 use crate::refusal::Refusal;
+use bsi_reading::{SchemaFault, SourceFault, read_schema};
+use bsi_records::DeclaredTable;
 use bsi_table::Index;
-use bsi_text::{DeclaredTable, SchemaFault, SourceFault, read_schema};
 use std::alloc::Global;
 
 /// Makes the index of no rows that the text declares. If a record is bad, it writes the record's number, from 1.

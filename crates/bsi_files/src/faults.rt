@@ -5,7 +5,7 @@ ghost use Rattle.bsi_files.specs.FaultTexts.{fault_text, which_text};
 ghost use Rattle.bsi_files.specs.Faults.{is_late, text_fault};
 
 use arrayvec::ArrayString;
-use bsi_text::{SchemaFault, SourceFault, WriteFault};
+use bsi_reading::{SchemaFault, SourceFault, WriteFault};
 use itoa::Buffer;
 use std::alloc::AllocError;
 use std::fmt;

@@ -10,8 +10,8 @@ ghost use Rattle.bsi_rows.specs.Table.{max_feeders};
 
 use crate::{FilesFault, NoMemory};
 use bsi_feeding::MAX_BATCH_ROWS;
+use bsi_reading::RowSource;
 use bsi_table::Schema;
-use bsi_text::RowSource;
 use std::alloc::Global;
 use std::io::Read;
 

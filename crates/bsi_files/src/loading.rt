@@ -16,8 +16,8 @@ use crate::headers::file_number;
 use crate::threads::RunFlags;
 use crate::{FeedEnd, FilesFault, Gate, NoMemory};
 use bsi_feeding::Pause;
+use bsi_reading::SourceFault;
 use bsi_system::{Closing, LoadRefused, Loader, Naming};
-use bsi_text::SourceFault;
 use std::sync::Wait;
 
 /// Once so many rows of one feeder were taken, the next feeder comes.

@@ -21,9 +21,10 @@ use crate::headers::{begin_all, capacities, file_number};
 use crate::loading::{Fed, check_all, load_beside, load_rest, settle_all};
 use crate::threads::{RunFlags, join_all, start_all};
 use crate::{FilesFault, Gate, NoMemory, Stopping};
+use bsi_reading::{RowSource, read_schema};
+use bsi_records::DeclaredTable;
 use bsi_system::{Feeder, History, Loader, Naming, OpenRefused, System, open};
 use bsi_table::{Index, MAX_FEEDERS, Schema};
-use bsi_text::{DeclaredTable, RowSource, read_schema};
 use std::alloc::Global;
 use std::io::{Read, Write};
 use std::marker::Brand;
@@ -102,6 +103,7 @@ pub fn load_files<
     requires some { 0 < length sources.items }
     requires few { length sources.items ≤ max_feeders }
     ensures schema { IfOk result (λ loaded. loaded.table.schema ≡ schema) }
+    ensures limit { IfOk result (λ loaded. loaded.table.limit ≡ limit) }
     ensures counts { IfOk result (λ loaded. length loaded.fed.items ≡ length sources.items) }
     ensures headers { OnOk result ((texts : List (List ℕ)) →
         map I.remaining sources.items ≡ map Some texts → All (HasHeader schema) texts) }
@@ -117,7 +119,10 @@ pub fn load_files<
     let alloc = rt.alloc();
     let sources = begin_all(alloc, &schema, sources)?;
     let capacities = capacities(alloc, sources.len())?;
-    load_in::<Brand, R, I, G>(rt, History::new(), schema, capacities, limit, sources, gate)
+    let history = History::new();
+    let loaded = load_in::<Brand, R, I, G>(rt, history, schema, capacities, limit, sources, gate);
+    gate.done();
+    loaded
 }
 
 /// Opens a system, and loads the files by it.
@@ -143,6 +148,7 @@ fn load_in<
     ensures fed { IfOk result (λ loaded. IsAllFed I.remaining G.STOPS limit
         loaded.table.rows sources.items loaded.fed.items) }
     ensures schema { IfOk result (λ loaded. loaded.table.schema ≡ schema) }
+    ensures limit { IfOk result (λ loaded. loaded.table.limit ≡ limit) }
 {
     match open::<B>(rt.alloc(), history, schema, capacities, limit, 0) {
         Ok(
@@ -179,6 +185,7 @@ impl<B: Naming, R: Wait> OwnedLoader<'_, B, R> {
     fn into_table(self) -> Result<Index, NoMemory>
         ensures rows { IfOk result (λ table. table.rows ≡ self.entry.loader.published ++ self.entry.loader.held) }
         ensures schema { IfOk result (λ table. table.schema ≡ self.entry.loader.system.schema) }
+        ensures limit { IfOk result (λ table. table.limit ≡ self.entry.loader.system.limit) }
         ensures within { IfOk result (λ table. length table.rows ≤ self.entry.loader.system.limit) }
         ensures always { AlwaysHolds self.entry.loader }
     {
@@ -211,6 +218,7 @@ fn feed_files<
     ensures fed { IfOk result (λ loaded. IsAllFed I.remaining G.STOPS B.about.limit
         loaded.table.rows sources.items loaded.fed.items) }
     ensures schema { IfOk result (λ loaded. loaded.table.schema ≡ loader.system.schema) }
+    ensures limit { IfOk result (λ loaded. loaded.table.limit ≡ loader.system.limit) }
 {
     let flags = RunFlags::new(gate);
     let shared = &flags;
@@ -226,6 +234,8 @@ fn feed_files<
                 loaded.table.rows sources.items loaded.fed.items) }
             ensures schema { IfOk result (λ loaded.
                 loaded.table.schema ≡ owned.entry.loader.system.schema) }
+            ensures limit { IfOk result (λ loaded.
+                loaded.table.limit ≡ owned.entry.loader.system.limit) }
         { feed_in(scope, rt, shared, owned, feeders, sources) },
     )
 }
@@ -252,6 +262,7 @@ fn feed_in<
         loaded.table.rows sources.items loaded.fed.items) }
     ensures schema { IfOk result (λ loaded.
         loaded.table.schema ≡ owned.entry.loader.system.schema) }
+    ensures limit { IfOk result (λ loaded. loaded.table.limit ≡ owned.entry.loader.system.limit) }
 {
     let fed = load_all(scope, rt, flags, &mut owned.loader, feeders, sources)?;
     let table = owned.into_table()?;

@@ -1,9 +1,9 @@
 //! A run over files: it opens all files in the order of the words, and then reads them.
-ghost use Rattle.std.specs.Prelude.{◌≡◌, ◌<◌, IfErr, IfOk, OnOk, length};
+ghost use Rattle.std.specs.Prelude.{◌≡◌, ◌<◌, IfErr, IfOk, OnOk, false, length};
 ghost use Rattle.bsi_shell.specs.FileRuns.{HasEndedEarly, HasFailedOver, HasRunOver, IsOpenFault};
 
 use crate::paths::Paths;
-use bsi_files::{FilesFault, Go, run_files};
+use bsi_files::{FilesFault, Gate, Stopping, run_files};
 use std::alloc::AllocError;
 use std::fs;
 use std::io::{Read, Write};
@@ -56,31 +56,35 @@ pub(crate) fn run_over<
     R: AllocGlobal + Files<File = S> + Threads + Wait + Sync,
     S: Read + Drop + Send,
     O: Write,
->(rt: &R, paths: &Paths<'a>, output: &mut O) -> Result<(), RunFault<'a>>
+    G: Gate + Stopping + Sync,
+>(rt: &R, paths: &Paths<'a>, output: &mut O, gate: &G) -> Result<(), RunFault<'a>>
+    requires { G.STOPS ≡ false }
     ensures ran { OnOk result
         (HasRunOver S.remaining (O.contents output.old) (O.contents output.new)) }
     ensures failed { IfErr result (HasEndedEarly S.remaining (O.contents output.old) (O.contents output.new)) }
 {
     let opened = open_all(rt, paths)?;
-    run_opened(rt, opened, output)?;
+    run_opened(rt, opened, output, gate)?;
     Ok(())
 }
 
 /// Answers the questions over the rows of files, and flushes the output. A flush that fails counts only if the run met
 /// no fault.
-fn run_opened<R: AllocGlobal + Threads + Wait + Sync, S: Read + Drop + Send, O: Write>(
-    rt: &R,
-    opened: OpenFiles<S>,
-    output: &mut O,
-) -> Result<(), FilesFault>
-    requires { 0 < length opened.rows.items }
+fn run_opened<
+    R: AllocGlobal + Threads + Wait + Sync,
+    S: Read + Drop + Send,
+    O: Write,
+    G: Gate + Stopping + Sync,
+>(rt: &R, opened: OpenFiles<S>, output: &mut O, gate: &G) -> Result<(), FilesFault>
+    requires some { 0 < length opened.rows.items }
+    requires never { G.STOPS ≡ false }
     ensures ran { OnOk result
         (HasRunOver S.remaining (O.contents output.old) (O.contents output.new)) }
     ensures failed { IfErr result (λ fault.
         HasFailedOver S.remaining fault (O.contents output.old) (O.contents output.new)) }
 {
     let OpenFiles { schema, asks, rows } = opened;
-    let run = run_files(rt, schema, asks, rows, output, &Go);
+    let run = run_files(rt, schema, asks, rows, output, gate);
     let flushed = output.flush().map_err(|_| FilesFault::Write);
     run.and(flushed)
 }

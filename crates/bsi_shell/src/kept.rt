@@ -1,5 +1,5 @@
 //! The commands over a kept index.
-ghost use Rattle.std.specs.Prelude.{◌≡◌, ◌≤◌, IsOk, OnOk};
+ghost use Rattle.std.specs.Prelude.{◌≡◌, ◌≤◌, IsOk, OnOk, false};
 ghost use Rattle.std.specs.Io.KnownBytes.{Keeps};
 ghost use Rattle.bsi_shell.specs.Kept.{HasAskedEither, HasToldStore, IsFlushed};
 ghost use Rattle.bsi_store.specs.Asked.{HasShown};
@@ -7,6 +7,7 @@ ghost use Rattle.bsi_store.specs.Loads.{HasAdded, HasSaved};
 
 use crate::telling::tell_store_fault;
 use crate::words::CommandEnd;
+use bsi_files::{Gate, Stopping};
 use bsi_store::{
     AddPaths, AskPaths, LockFile, SavePaths, StoreFault, add_rows, ask_input, ask_over, save_rows,
     show_index,
@@ -25,7 +26,9 @@ pub(crate) fn answer_save<
     S: Read + Write + OpenFile + LockFile + Drop + Send,
     O: Write,
     F: Write,
->(rt: &R, paths: &SavePaths<'a>, output: &mut O, faults: &mut F) -> CommandEnd
+    G: Gate + Stopping + Sync,
+>(rt: &R, paths: &SavePaths<'a>, output: &mut O, faults: &mut F, gate: &G) -> CommandEnd
+    requires { G.STOPS ≡ false }
     ensures status { result.status ≤ 1 }
     ensures saved { result.status ≡ 0 →
         IsFlushed (HasSaved S.remaining S.contents) (O.contents output.old) (O.contents output.new) }
@@ -33,7 +36,7 @@ pub(crate) fn answer_save<
         HasToldStore result.told (F.contents faults.old) (F.contents faults.new) }
     ensures quiet { result.status ≡ 0 → F.contents faults.new ≡ F.contents faults.old }
 {
-    let run = save_rows(rt, paths, output);
+    let run = save_rows(rt, paths, output, gate);
     end_by(run, output, faults)
 }
 
@@ -44,7 +47,9 @@ pub(crate) fn answer_add<
     S: Read + Write + OpenFile + LockFile + Drop + Send,
     O: Write,
     F: Write,
->(rt: &R, paths: &AddPaths<'a>, output: &mut O, faults: &mut F) -> CommandEnd
+    G: Gate + Stopping + Sync,
+>(rt: &R, paths: &AddPaths<'a>, output: &mut O, faults: &mut F, gate: &G) -> CommandEnd
+    requires { G.STOPS ≡ false }
     ensures status { result.status ≤ 1 }
     ensures added { result.status ≡ 0 →
         IsFlushed (HasAdded S.remaining S.contents) (O.contents output.old) (O.contents output.new) }
@@ -52,7 +57,7 @@ pub(crate) fn answer_add<
         HasToldStore result.told (F.contents faults.old) (F.contents faults.new) }
     ensures quiet { result.status ≡ 0 → F.contents faults.new ≡ F.contents faults.old }
 {
-    let run = add_rows(rt, paths, output);
+    let run = add_rows(rt, paths, output, gate);
     end_by(run, output, faults)
 }
 

@@ -1,5 +1,5 @@
 //! The command line: the words after the program's name, and the status that they end with.
-ghost use Rattle.std.specs.Prelude.{◌≡◌, ◌≤◌, IfErr, OnErr, OnOk};
+ghost use Rattle.std.specs.Prelude.{◌≡◌, ◌≤◌, IfErr, OnErr, OnOk, false};
 ghost use Rattle.bsi_shell.specs.Checks.{HasChecked, HasToldCheck};
 ghost use Rattle.bsi_shell.specs.Commands.{subcommand_of, IsOfKept};
 ghost use Rattle.bsi_shell.specs.FaultLines.{usage_of, IsTold};
@@ -16,7 +16,7 @@ use crate::kept::{answer_add, answer_ask, answer_save, answer_show};
 use crate::paths::{CheckPaths, Paths};
 use crate::request::{Request, Subcommand, read_request, subcommand_of};
 use crate::telling::{tell_fault, tell_run_fault, tell_usage};
-use bsi_files::FilesFault;
+use bsi_files::{FilesFault, Gate, Stopping};
 use bsi_store::LockFile;
 use bsi_text::{ScriptFault, WriteFault, run_script};
 use std::alloc::Global;
@@ -46,14 +46,17 @@ impl CommandEnd {
 
 /// Carries out what the words after the program's name ask for. The status is 0, or 1 with one line on `faults` that
 /// tells which fault was met, or 2 with the usage line for words that are not a command. A check ends with status 1 and
-/// no such line where it has written reasons. The status does not depend on whether the line can be written.
+/// no such line where it has written reasons. The status does not depend on whether the line can be written. Where rows
+/// are read from files, the feeders call the gate.
 pub fn run_words<
     R: AllocGlobal + Files<File = S> + Threads + Wait + Sync,
     S: Read + Write + OpenFile + LockFile + Drop + Send,
     I: Read + Drop,
     O: Write,
     F: Write,
->(rt: &R, words: Vec<String>, input: I, output: &mut O, faults: &mut F) -> CommandEnd
+    G: Gate + Stopping + Sync,
+>(rt: &R, words: Vec<String>, input: I, output: &mut O, faults: &mut F, gate: &G) -> CommandEnd
+    requires { G.STOPS ≡ false }
     ensures status { result.status ≤ 2 }
 
     // Where the first word names no other command, a run with no fault has answered the whole input. After status 1 the
@@ -107,10 +110,10 @@ pub fn run_words<
 {
     match read_request(rt.alloc(), &words) {
         Request::Script => answer_script(rt.alloc(), input, output, faults),
-        Request::Files(paths) => answer_files(rt, &paths, output, faults),
+        Request::Files(paths) => answer_files(rt, &paths, output, faults, gate),
         Request::Check(paths) => answer_check(rt, &paths, output, faults),
-        Request::Save(paths) => answer_save(rt, &paths, output, faults),
-        Request::Add(paths) => answer_add(rt, &paths, output, faults),
+        Request::Save(paths) => answer_save(rt, &paths, output, faults, gate),
+        Request::Add(paths) => answer_add(rt, &paths, output, faults, gate),
         Request::Ask(paths) => answer_ask(rt, &paths, input, output, faults),
         Request::Show(path) => answer_show(rt, path, output, faults),
         Request::Wrong => CommandEnd::by(2, tell_usage(subcommand_of(&words), faults)),
@@ -153,7 +156,9 @@ fn answer_files<
     S: Read + Drop + Send,
     O: Write,
     F: Write,
->(rt: &R, paths: &Paths<'a>, output: &mut O, faults: &mut F) -> CommandEnd
+    G: Gate + Stopping + Sync,
+>(rt: &R, paths: &Paths<'a>, output: &mut O, faults: &mut F, gate: &G) -> CommandEnd
+    requires { G.STOPS ≡ false }
     ensures status { result.status ≤ 1 }
     ensures ran { result.status ≡ 0 →
         HasRunOver S.remaining (O.contents output.old) (O.contents output.new) }
@@ -162,7 +167,7 @@ fn answer_files<
         (F.contents faults.old) (F.contents faults.new) }
     ensures quiet { result.status ≡ 0 → F.contents faults.new ≡ F.contents faults.old }
 {
-    match run_over(rt, paths, output) {
+    match run_over(rt, paths, output, gate) {
         Ok(()) => CommandEnd::by(0, Ok(())),
         Err(fault) => CommandEnd::by(1, tell_run_fault(fault, faults)),
     }

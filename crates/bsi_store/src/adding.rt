@@ -1,6 +1,6 @@
 //! Rows that are added to a kept index.
 
-ghost use Rattle.std.specs.Prelude.{◌≡◌, ◌+◌, ◌<◌, ◌≤◌, IfOk, List, OnOk, Some, length, map, ℕ};
+ghost use Rattle.std.specs.Prelude.{◌≡◌, ◌+◌, ◌<◌, ◌≤◌, IfOk, List, OnOk, Some, false, length, map, ℕ};
 ghost use Rattle.std.specs.Io.KnownBytes.{Appends};
 ghost use Rattle.bsi_files.specs.Feds.{fed_counts};
 ghost use Rattle.bsi_files.specs.Runs.{HasLoaded};
@@ -11,9 +11,10 @@ ghost use Rattle.bsi_table.specs.Index.{table_of};
 
 use crate::locks::LockFile;
 use crate::opening::{open_each, open_to_add, read_kept};
-use crate::telling::tell_loaded;
+use crate::telling::text_of;
 use crate::{FileFault, StoreFault};
-use bsi_files::{FilesFault, Go, Loaded, load_files};
+use bsi_files::{FilesFault, Gate, Loaded, Stopping, load_files};
+use bsi_reading::write_bytes;
 use bsi_saved::{Opened, write_index};
 use bsi_table::{Index, NoMemory};
 use std::alloc::Global;
@@ -36,35 +37,39 @@ pub struct AddPaths<'a> {
 }
 
 /// Loads row files as a run over files does, by the schema of a kept index, and adds their rows to its file. Row file k
-/// is feeder k. It writes the line of each file, and how many rows were added. Where it meets a fault before it writes
-/// these lines, the whole segments of the file stay.
+/// is feeder k. It writes the line of each file, and how many rows were added. After a fault the file keeps the rows
+/// that it kept, unless only these lines could not be written: then the rows are added.
 pub fn add_rows<
     'a,
     R: AllocGlobal + Files<File = S> + Threads + Wait + Sync,
     S: Read + Write + OpenFile + LockFile + Drop + Send,
     O: Write,
->(rt: &R, paths: &AddPaths<'a>, output: &mut O) -> Result<(), StoreFault<'a>>
+    G: Gate + Stopping + Sync,
+>(rt: &R, paths: &AddPaths<'a>, output: &mut O, gate: &G) -> Result<(), StoreFault<'a>>
+    requires { G.STOPS ≡ false }
     ensures { OnOk result
         (HasAdded S.remaining S.contents (O.contents output.old) (O.contents output.new)) }
 {
     let mut file = open_to_add(rt, paths.kept)?;
     let rows = open_each(rt, &paths.rows)?;
     let kept = read_kept(rt.alloc(), paths.kept, &mut file, paths.so_far)?;
-    let more = load_more(rt, paths.kept, &kept.index, rows)?;
+    let more = load_more(rt, paths.kept, &kept.index, rows, gate)?;
+    let text = text_of(rt.alloc(), "added", &more)?;
     put_segment(rt.alloc(), paths.kept, &kept, &more.table, &mut file)?;
-    tell_loaded(rt.alloc(), "added", &more, output)?;
+    write_bytes(output, text.as_slice())?;
     Ok(())
 }
 
 /// Loads row files into an index that keeps its columns as another does, and has as many feeders. It refuses more rows
 /// than that one has room for, and more files than it has feeders.
-fn load_more<'a, R: AllocGlobal + Threads + Wait + Sync, S: Read + Drop + Send>(
-    rt: &R,
-    path: &'a str,
-    kept: &Index,
-    rows: Vec<S>,
-) -> Result<Loaded, StoreFault<'a>>
-    requires { 0 < length rows.items }
+fn load_more<
+    'a,
+    R: AllocGlobal + Threads + Wait + Sync,
+    S: Read + Drop + Send,
+    G: Gate + Stopping + Sync,
+>(rt: &R, path: &'a str, kept: &Index, rows: Vec<S>, gate: &G) -> Result<Loaded, StoreFault<'a>>
+    requires some { 0 < length rows.items }
+    requires never { G.STOPS ≡ false }
     ensures schema { IfOk result (λ loaded. loaded.table.schema ≡ kept.now.schema) }
     ensures feeders { IfOk result (λ loaded. loaded.table.feeders ≡ kept.now.feeders) }
     ensures limit { IfOk result (λ loaded. loaded.table.limit ≡ kept.now.limit) }
@@ -80,7 +85,7 @@ fn load_more<'a, R: AllocGlobal + Threads + Wait + Sync, S: Read + Drop + Send>(
         return Err(StoreFault::Unusable(path, FileFault::TooManyFiles(kept.feeders())));
     }
     let schema = kept.schema().copy()?;
-    let Loaded { table, fed } = load_files(rt, schema, kept.limit(), rows, &Go)?;
+    let Loaded { table, fed } = load_files(rt, schema, kept.limit(), rows, gate)?;
     if table.len() > kept.limit() - kept.len() {
         return Err(StoreFault::Run(FilesFault::IndexFull));
     }

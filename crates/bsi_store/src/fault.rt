@@ -5,8 +5,8 @@ ghost use Rattle.bsi_store.specs.Faults.{cut_off, file_fault_text, unopened};
 
 use arrayvec::ArrayString;
 use bsi_files::FilesFault;
+use bsi_reading::{SchemaFault, WriteFault};
 use bsi_saved::{OpenFault, SaveFault};
-use bsi_text::{SchemaFault, WriteFault};
 use itoa::Buffer;
 use std::alloc::AllocError;
 

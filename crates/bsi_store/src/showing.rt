@@ -8,9 +8,8 @@ use crate::StoreFault;
 use crate::locks::LockFile;
 use crate::opening::open_kept;
 use crate::telling::{tell_bytes, tell_count};
-use bsi_reading::describe_schema;
+use bsi_reading::{WriteFault, describe_schema, write_bytes};
 use bsi_table::{Index, count_bitmaps};
-use bsi_text::{WriteFault, write_bytes};
 use std::io::{Read, Write};
 use std::rt::Files;
 

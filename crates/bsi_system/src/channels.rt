@@ -7,8 +7,8 @@ ghost use Rattle.bsi_system.specs.Running.{seen_at, seen_of, takings_of, IsSeenW
 ghost use Rattle.bsi_system.specs.Channels.{AreUntaken, HasFirst, IsBatchAt, IsFirstAt, IsFirstReply, LooksAt, SettlesAt, TakesAt};
 
 use crate::NoMemory;
-use bsi_load::LoadRefused;
 use bsi_rings::{Channel, Closing, Front};
+use bsi_rows::LoadRefused;
 use bsi_table::{Index, Row};
 
 /// Why a closing is not accepted.

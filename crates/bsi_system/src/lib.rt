@@ -7,8 +7,8 @@ mod loader;
 mod opening;
 mod system;
 
-pub use bsi_load::{LoadRefused, MakeError};
 pub use bsi_rings::{BatchRefused, Closing, Feeder, SubmitRefused};
+pub use bsi_rows::{LoadRefused, MakeError};
 pub use bsi_versions::{Analyst, AnalystRefused, History, Naming, Told};
 pub use channels::SettleRefused;
 pub use loader::Loader;

@@ -9,8 +9,8 @@ ghost use Rattle.bsi_system.specs.Running.{carried, published_all, seen, settled
 use crate::NoMemory;
 use crate::channels::{SettleRefused, find_first, settle_of, take_of};
 use crate::holding::{hold_first, hold_next};
-use bsi_load::LoadRefused;
 use bsi_rings::{Channel, Closing};
+use bsi_rows::LoadRefused;
 use bsi_table::Index;
 use bsi_versions::{Analyst, Naming, Publisher, Told};
 use std::marker::Model;

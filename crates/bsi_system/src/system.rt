@@ -9,8 +9,8 @@ ghost use Rattle.bsi_system.specs.Running.{new_loading};
 ghost use Rattle.bsi_versions.specs.Editions.{max_analysts};
 
 use crate::Loader;
-use bsi_load::{MakeError, check_sizes};
 use bsi_rings::{Feeder, Rings, open_rings};
+use bsi_rows::{MakeError, check_sizes};
 use bsi_table::{Index, Schema};
 use bsi_versions::{Analyst, History, Naming, Publisher};
 use std::alloc::Global;

@@ -1,7 +1,7 @@
 //! How a command line ends, and how often its output is flushed.
 
 use bsi_fixtures::{EMPTY, NarrowWriter, TextReader};
-use bsi_shell::{LockFile, run_words};
+use bsi_shell::{Go, LockFile, run_words};
 use std::alloc::{AllocError, Global};
 use std::fs::OpenFile;
 use std::io;
@@ -56,7 +56,7 @@ fn end_once<
         ..EMPTY
     };
     Ok(LineEnd {
-        status: run_words(rt, words, reader, &mut output, &mut faults).status,
+        status: run_words(rt, words, reader, &mut output, &mut faults, &Go).status,
         flushes: output.flushes,
         output: output.taken,
         faults,

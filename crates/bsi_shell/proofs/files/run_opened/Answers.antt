@@ -1,4 +1,4 @@
-use Rattle.std.proofs.Common.{length, refl, rules}
+use Rattle.std.proofs.Common.{length, rules}
 use Rattle.bsi_shell.proofs.Runs.{failed_over, few_files, if_err_so, on_both, on_ok_both, on_ok_so, run_kept}
 use Rattle.bsi_shell.proofs.files.run_opened.Goals as goal
 
@@ -11,7 +11,7 @@ returns-clause-ran g c =
     on_both c.run_files-run.result c.map_err-flushed.result c.and.result c.and.ensures
     (on_ok_both _ _ c.run_files-run.result (few_files c.run_files-run.result (length rows) c.run_files-run.ensures.files) c.run_files-run.ensures.lines)
     (λ both. run_kept g.S.Read.remaining c.args.opened.schema c.args.opened.asks rows before after (g.O.Write.contents c.flush.new.self)
-    c.flush.ensures.bytes c.requires both.0 (both.1 refl))
+    c.flush.ensures.bytes c.requires.some both.0 (both.1 c.requires.never))
 
 -- or the run met a fault, or the flush did
 pub returns-clause-failed : goal.returns-clause-failed
@@ -19,8 +19,8 @@ returns-clause-failed g c =
     let before = g.O.Write.contents c.args.output.now in
     let middle = g.O.Write.contents c.run_files-run.new.writer in
     failed_over g.S.Read.remaining c.args.opened.schema c.args.opened.asks c.args.opened.rows.items before middle (g.O.Write.contents c.flush.new.self)
-    c.flush.ensures.bytes c.requires c.run_files-run.result c.map_err-flushed.result c.and.result c.and.ensures
-    (on_ok_so _ _ c.run_files-run.result c.run_files-run.ensures.lines refl)
+    c.flush.ensures.bytes c.requires.some c.run_files-run.result c.map_err-flushed.result c.and.result c.and.ensures
+    (on_ok_so _ _ c.run_files-run.result c.run_files-run.ensures.lines c.requires.never)
     c.run_files-run.ensures.fault
-    (if_err_so _ _ c.run_files-run.result c.run_files-run.ensures.part refl)
+    (if_err_so _ _ c.run_files-run.result c.run_files-run.ensures.part c.requires.never)
     (search rules)

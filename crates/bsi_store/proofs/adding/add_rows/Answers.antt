@@ -1,4 +1,5 @@
-use Rattle.std.proofs.Common.{map}
+use Rattle.std.proofs.Common.{ℕ, List, map, subst}
+use Rattle.std.specs.Io.KnownBytes.{Appends}
 use Rattle.bsi_files.specs.Feds.{fed_counts}
 use Rattle.bsi_store.proofs.Notes.{notes_few}
 use Rattle.bsi_store.proofs.adding.add_rows.Goals as goal
@@ -15,6 +16,9 @@ returns g c =
     let kept = c.in_ok-kept.kept in
     let read = c.in_ok-kept.ensures.read in
     let more = c.in_ok-more.more in
+    let before = g.O.Write.contents c.args.output.now in
+    let after = g.O.Write.contents c.write_bytes.new.writer in
+    let text = c.in_ok-text.text.items in
     record {
       file = c.in_ok-file.file;
       behind = read.0;
@@ -34,6 +38,7 @@ returns g c =
         old = c.read_kept.new.file;
         new = c.put_segment.new.file;
         given = c.in_ok-put_segment.ensures;
-        lines = c.in_ok-tell_loaded.ensures;
+        lines = subst (λ (bytes : List ℕ). Appends before after bytes) c.in_ok-text.ensures
+            (subst (λ (bytes : List ℕ). Appends before after bytes) c.as_slice.ensures.value c.in_ok-write_bytes.ensures.ok);
       };
     }
