@@ -2,6 +2,7 @@ pub mod BitmapDigits
 pub mod Built
 pub mod DigitCounts
 pub mod DigitOrders
+pub mod EndRows
 pub mod EqualityDigits
 pub mod EqualityReads
 pub mod FoundDigits
