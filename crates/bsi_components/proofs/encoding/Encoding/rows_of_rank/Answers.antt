@@ -1,4 +1,4 @@
-use Rattle.std.proofs.Common.{◌≡◌, ◌-◌, ◌<◌, ◌≤◌, ℕ, length, get_or, ap, sym, subst, ◌∙◌, arith}
+use Rattle.std.proofs.Common.{◌≡◌, ◌-◌, ◌<◌, ◌≤◌, ℕ, length, get_or, ap, sym, subst, ◌∙◌, arith, rules}
 use Rattle.std.specs.Prelude.{nat_le, ◌==◌, ◌&&◌}
 use Rattle.std.specs.Simd.Lanes.{zip2}
 use Rattle.bsi_bits.proofs.Pairs.{zip2-map_right}
@@ -39,3 +39,39 @@ returns-clause-ranked g c =
     let ranked = ranked_rows c.args.rank low rank found digits rows
     (omega (arith, c.digits.invariant.below_is, c.digits.invariant.at_least)) (omega (arith, c.digits.invariant.under, upto)) rows_are in
     subst (λ (n : ℕ). IsRankedRows c.args.rank found digits n rank rows) (sym c.from.ensures) ranked
+
+pub returns-in_err-scratch-clause-digit : goal.returns-in_err-scratch-clause-digit
+returns-in_err-scratch-clause-digit g c = search rules
+
+pub returns-in_err-scratch-clause-ranked : goal.returns-in_err-scratch-clause-ranked
+returns-in_err-scratch-clause-ranked g c = search rules
+
+pub overflow_sub-high : goal.overflow_sub-high
+overflow_sub-high g c = search rules
+
+pub overflow_sub-middle : goal.overflow_sub-middle
+overflow_sub-middle g c = search rules
+
+pub overflow_add-middle : goal.overflow_add-middle
+overflow_add-middle g c = search rules
+
+pub digits-smaller-then-rank-upto : goal.digits-smaller-then-rank-upto
+digits-smaller-then-rank-upto g c = search rules
+
+pub digits-preserved-then-rank-upto : goal.digits-preserved-then-rank-upto
+digits-preserved-then-rank-upto g c = search rules
+
+pub overflow_add-low : goal.overflow_add-low
+overflow_add-low g c = search rules
+
+pub digits-smaller : goal.digits-smaller
+digits-smaller g c = search rules
+
+pub digits-preserved : goal.digits-preserved
+digits-preserved g c = search rules
+
+pub overflow_sub-result : goal.overflow_sub-result
+overflow_sub-result g c = search rules
+
+pub returns-clause-digit : goal.returns-clause-digit
+returns-clause-digit g c = search rules
