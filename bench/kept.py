@@ -41,6 +41,7 @@ class Room:
         frame = pandas.DataFrame({name: chance.integers(0, bound, rows) for name, bound in bounds.items()})
         frame.to_csv(self.at("rows.csv"), index=False)
         frame[: rows // SEGMENTS].to_csv(self.at("part.csv"), index=False)
+        frame[:0].to_csv(self.at("none.csv"), index=False)
         for name, text in (("schema", SCHEMA), ("asks", ASKS)):
             with open(self.at(name), "w", encoding="ascii") as file:
                 file.write(text)
@@ -119,6 +120,8 @@ class Form:
         room.bsi("save", "--schema", self.schema, "--to", self.several, room.at("part.csv"))
         for _ in range(SEGMENTS - 1):
             room.bsi("add", self.several, room.at("part.csv"))
+        self.none = room.at(f"{form}.none")
+        room.bsi("save", "--schema", self.schema, "--to", self.none, room.at("none.csv"))
         self.data = numpy.fromfile(self.one, numpy.uint8)
         self.opened, _ = self.handle_of(self.data)
 
@@ -157,10 +160,12 @@ def sizes_of(form, rows):
     of_index, of_file = (8 * -(-rows // 64) * count for count in bitmaps_of(form.schema))
     size, parts = os.path.getsize(form.one), os.path.getsize(form.several)
     lines = {"the file, bytes": f"{size:,}", "to the words of its places": f"{size / of_file:.4f}", "the index, bytes": f"{of_index:,}"}
+    empty = form.peak(form.none)
+    lines["`bsi ask` of no rows, bytes"] = f"{empty:,}"
     for name, path, body in (("one segment", form.one, size), (f"{SEGMENTS} segments", form.several, parts // SEGMENTS)):
-        peak = form.peak(path)
-        lines[f"peak of `bsi ask`, {name}, bytes"] = f"{peak:,}"
-        lines["to the index and a body" + (", several" if path == form.several else "")] = f"{peak / (of_index + body):.2f}"
+        more = form.peak(path) - empty
+        lines[f"more for {name}, bytes"] = f"{more:,}"
+        lines[f"to the index and the body, {name}"] = f"{more / (of_index + body):.2f}"
     return lines
 
 
@@ -178,10 +183,10 @@ def print_forms(room, rounds, rows):
         times = {"from CSV, ms": f"{read:.1f}", "opened, ms": f"{opened:.2f}", "opened / from CSV": f"{opened / read:.3f}"}
         speeds = {f"{word}, GB/s": f"{len(form.data) / 1e6 / spent:.2f}" for word, spent in (("opened", opened), ("saved", saved))}
         table[name] = {**times, **speeds, **sizes_of(form, rows)}
-    print("", "", *table, "", sep=" | ")
+    print("| |", " | ".join(table), "|")
     print("|---" * (1 + len(table)) + "|")
     for line in table["slices"]:
-        print("", line, *(table[name][line] for name in table), "", sep=" | ")
+        print("|", " | ".join([line, *(table[name][line] for name in table)]), "|")
 
 
 def print_commands(room, rounds):
