@@ -1,0 +1,108 @@
+"""Files between the package and the command `bsi`: each opens what the other saved, and answers as it does.
+
+The variable BSI_PROGRAM names the command where it is not built in the repository."""
+
+import os
+import subprocess
+from decimal import Decimal
+
+import numpy as np
+import pytest
+
+import bsi
+
+TOP = os.path.join(os.path.dirname(os.path.abspath(__file__)), "..", "..")
+PROGRAM = os.environ.get("BSI_PROGRAM") or os.path.join(TOP, "crates", "bsi", "out", "bsi")
+WEATHER = os.path.join(TOP, "examples", "weather")
+STATIONS = ["airport.csv", "harbour.csv", "hill.csv", "valley.csv"]
+FORMS = {
+    "day": bsi.range(11, 10, 10),
+    "temp": bsi.range(10, 10, 10, offset=-400),
+    "rain": bsi.slices(11),
+    "wind": bsi.equality(12, 12),
+}
+# Questions as the command reads them, and as the package asks them.
+c = bsi.col
+QUESTIONS = {
+    "count,temp,<,0,rain,>,0,and": lambda index: index.count((c.temp < 0) & (c.rain > 0)),
+    "sum,temp,all": lambda index: index.sum("temp"),
+    "sum,rain,day,<,366,not": lambda index: index.sum("rain", ~(c.day < 366)),
+    "least,temp,wind,null,not": lambda index: index.least("temp", c.wind.notnull()),
+    "greatest,wind,rain,=,0": lambda index: index.greatest("wind", c.rain == 0),
+    "greatest,wind,day,>,5000": lambda index: index.greatest("wind", c.day > 5000),
+    "median,temp,day,>=,731": lambda index: index.median("temp", c.day >= 731),
+    "list,temp,>,250,rain,null,or": lambda index: index.rows((c.temp > 250) | c.rain.isnull()),
+    "list,all,not": lambda index: index.rows(~(c.day.isnull() | c.day.notnull())),
+}
+
+pytestmark = pytest.mark.skipif(not os.path.isfile(PROGRAM), reason=f"there is no {PROGRAM}; make build")
+
+
+def command(*words, asks=None):
+    """Returns the lines that the command writes, but those of its row files."""
+    line = [PROGRAM, *map(str, words)]
+    ran = subprocess.run(line, input=asks, capture_output=True, text=True, cwd=WEATHER, check=True)
+    return [line for line in ran.stdout.splitlines() if not line.startswith("fed ")]
+
+
+def text_of(questions):
+    return "".join(f"{question}\n" for question in questions)
+
+
+def line_of(question, found):
+    """Returns the line by which the command says what the package found."""
+    word = question.partition(",")[0]
+    if word in ("count", "sum"):
+        return f"{word} {found}"
+    if word == "list":
+        return " ".join(["rows", *(f"0:{row}" for row in found)])
+    return "none" if found is None else f"value {found}"
+
+
+def check_answers(path, questions):
+    """Checks that the command and the package answer questions of a file alike, and returns the lines."""
+    lines = command("ask", path, asks=text_of(questions))
+    with bsi.open(path) as index:
+        assert lines == [line_of(question, QUESTIONS[question](index)) for question in questions]
+    return lines
+
+
+@pytest.mark.parametrize("files", [STATIONS, ["hill.csv"]], ids=len)
+def test_what_the_command_saves_is_opened(tmp_path, files):
+    # (the package numbers rows as they were appended, and the command those of each file)
+    questions = [question for question in QUESTIONS if len(files) == 1 or not question.startswith("list")]
+    path, asks = tmp_path / "weather.bsi", tmp_path / "asks"
+    asks.write_text(text_of(questions))
+    of_rows = command("files", "--schema", "schema", "--asks", asks, *files)
+    saved = command("save", "--schema", "schema", "--to", path, *files)
+    with bsi.open(path) as index:
+        assert saved == [f"saved {len(index)}"] and index.forms == FORMS
+    assert check_answers(path, questions) == of_rows
+
+
+def some_rows(rng, rows):
+    """Returns random values of each column, of which some are null."""
+    data = {name: rng.integers(form.offset, form.most + 1, rows) for name, form in FORMS.items()}
+    return {name: [int(one) if rng.random() < 0.9 else None for one in numbers] for name, numbers in data.items()}
+
+
+def test_what_the_package_saves_is_asked(tmp_path):
+    rng, path = np.random.default_rng(11), tmp_path / "some.bsi"
+    for rows in (0, 1, 64, 1000):
+        with bsi.Index(FORMS) as index:
+            index.append(some_rows(rng, rows))
+            index.save(path)
+            wanted = [line_of(question, ask(index)) for question, ask in QUESTIONS.items()]
+            assert check_answers(path, QUESTIONS) == wanted
+
+
+def test_the_command_adds_to_a_file_of_the_package(tmp_path):
+    path, tenths = tmp_path / "some.bsi", {**FORMS, "temp": FORMS["temp"].of(bsi.Decimals(1))}
+    with bsi.Index(tenths) as index:
+        index.append({"day": [1], "temp": [Decimal("-1.5")], "rain": [3], "wind": [None]})
+        index.save(path)
+    assert command("add", path, "hill.csv") == ["added 1094"]
+    with bsi.open(path) as index:
+        assert index.forms == tenths and len(index) == 1095
+        (total,) = command("ask", path, asks="sum,temp,all\n")
+        assert index.sum("temp") * 10 == int(total.split()[1])

@@ -1,0 +1,98 @@
+"""Random tables: a schema, row files and questions, and the plain lists of the rows that each segment of their kept index has."""
+
+import itertools
+import random
+from math import prod
+
+import files_model
+import script_model
+
+NAMES = ("a", "b_2", "day", "price", "x")
+WIDTHS = (1, 3, 10, 31, 63)
+BASES = (2, 3, 4, 7, 10, 16, 33, 100)
+ROWS = (0, 1, 5, 63, 64, 65, 300)
+MOST_FILES = 4
+SIGNS = [sign.decode() for sign in script_model.SIGNS]
+TOTALS = ("sum", "least", "greatest", "median")
+
+
+def column_record(chance, name):
+    """Returns the record of a random column."""
+    form = chance.choice(("slices", "range", "equality"))
+    sizes = [chance.choice(WIDTHS)] if form == "slices" else chance.choices(BASES, k=chance.randint(1, 4))
+    size = 2 ** sizes[0] if form == "slices" else prod(sizes)
+    offset = chance.choice(("", "", ",0", ",-20", f",{-size // 2}", f",{2**63 - size}", f",{-2**63}"))
+    return f"column,{name},{form},{' '.join(map(str, sizes))}{offset}\n"
+
+
+class Table:
+    """A random table. `segments` has the rows of each segment, each with its feeder, and `ends` where it ends in the file."""
+
+    def __init__(self, seed):
+        self.chance, self.segments, self.ends = random.Random(seed), [], []
+        self.names = self.chance.sample(NAMES, self.chance.randint(1, len(NAMES)))
+        self.feeders = self.chance.randint(1, MOST_FILES)
+        records = [column_record(self.chance, name) for name in self.names]
+        # (the rows that are saved come to this limit at most, and those that are added may pass it)
+        limit = f"limit,{max(ROWS) * self.feeders}\n"
+        self.schema = "".join([*records, self.chance.choice(("", limit))]).encode()
+        self.machine = files_model.read_schema(self.schema)
+        self.machine.has_begun = True
+        # (numbers that come often)
+        self.often = [[0, column.size - 1, *(self.chance.randrange(column.size) for _ in range(5))] for column in self.machine.columns]
+
+    def number(self, at):
+        """Returns a number that column `at` takes."""
+        column = self.machine.columns[at]
+        return column.least + (self.chance.choice(self.often[at]) if self.chance.random() < 0.5 else self.chance.randrange(column.size))
+
+    def record(self, order):
+        """Returns a record of a row file, which is seldom bad."""
+        if self.chance.random() < 0.05:
+            past = [str(column.least + column.size) for column in self.machine.columns]
+            return self.chance.choice(("bad", "1,2,3,4,5,6", ",".join("-1" for _ in order), ",".join(past[at] for at in order)))
+        return ",".join("" if self.chance.random() < 0.2 else str(self.number(at)) for at in order) or '""'
+
+    def row_file(self):
+        """Returns a random row file."""
+        order = self.chance.sample(range(len(self.names)), len(self.names))
+        records = [self.record(order) for _ in range(self.chance.choice(ROWS))]
+        return "\n".join([",".join(self.names[at] for at in order), *records, ""]).encode()
+
+    def predicate(self, depth=3):
+        """Returns the fields of a random predicate. Constants lie among the numbers of a column and past both ends."""
+        shape, at = self.chance.random(), self.chance.randrange(len(self.names))
+        if depth and shape < 0.15:
+            return [*self.predicate(depth - 1), "not"]
+        if depth and shape < 0.6:
+            return [*self.predicate(depth - 1), *self.predicate(depth - 1), self.chance.choice(("and", "or"))]
+        if self.chance.random() < 0.2:
+            return self.chance.choice((["all"], [self.names[at], "null"]))
+        return [self.names[at], self.chance.choice(SIGNS), str(self.number(at) + self.chance.choice((-1, 0, 0, 1)))]
+
+    def asks(self):
+        """Returns random questions, and a line that is none."""
+        heads = [[word] for word in ("count", "list")] + [[word, self.chance.choice(self.names)] for word in TOTALS]
+        lines = [",".join([*head, *self.predicate()]) for head in 2 * heads]
+        return "\n".join([*lines, "wrong", ""]).encode()
+
+    def answers(self, asks):
+        """Returns the lines that answer questions over the rows of all segments."""
+        self.machine.indexed = sorted(itertools.chain(*self.segments), key=lambda row: row[0])
+        return script_model.text_of(files_model.answer(self.machine, record) for record in script_model.records(asks))
+
+    def rows(self):
+        return sum(map(len, self.segments))
+
+    def put(self, word, files):
+        """Takes the good rows of row files as a further segment, and returns what the command must write that does so, and how it ends."""
+        try:
+            read = files_model.fed(self.machine, files)
+            rows = [(file, row) for file, (good, _) in enumerate(read) for row in good]
+            if self.rows() + len(rows) > self.machine.limit:
+                raise files_model.Fault(b"index full")
+        except files_model.Fault as fault:
+            return files_model.Written(b"", fault.line, 1)
+        self.segments.append(rows)
+        lines = [b"fed %d %d %d" % (file, len(good), bad) for file, (good, bad) in enumerate(read)]
+        return files_model.Written(script_model.text_of([*lines, b"%s %d" % (word, len(rows))]), b"", 0)
