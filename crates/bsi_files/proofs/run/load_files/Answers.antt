@@ -12,8 +12,8 @@ use Rattle.bsi_files.proofs.Files.{as_many, loaded_of, matched_long}
 use Rattle.bsi_files.proofs.Passing.{if_err, if_ok, so_ok}
 use Rattle.bsi_files.proofs.run.load_files.Goals as goal
 
-pub load_in-requires-clause-few : goal.load_in-requires-clause-few
-load_in-requires-clause-few g c =
+pub load_in-loaded-requires-clause-few : goal.load_in-loaded-requires-clause-few
+load_in-loaded-requires-clause-few g c =
     let many = matched_long (Begins g.I.Read.remaining c.args.schema) c.args.sources.items c.in_ok-sources.sources.items c.in_ok-sources.ensures.begun in
     λ κs within. subst (λ n. n ≤ max_feeders) many c.requires.few
 
@@ -24,14 +24,14 @@ returns-clause-counts g c =
     let rem = g.I.Read.remaining in
     let sources = c.in_ok-sources.sources.items in
     let many = matched_long (Begins rem c.args.schema) c.args.sources.items sources c.in_ok-sources.ensures.begun in
-    if_ok c.load_in.result
+    if_ok c.load_in-loaded.result
     (λ loaded all. sym (as_many rem g.G.Stopping.STOPS loaded.table.rows 0 sources loaded.fed.items all.each) ∙ sym many)
-    c.load_in.ensures.fed
+    c.load_in-loaded.ensures.fed
 
 pub returns-clause-headers : goal.returns-clause-headers
 returns-clause-headers g c =
     let rem = g.I.Read.remaining in
-    so_ok c.load_in.result
+    so_ok c.load_in-loaded.result
     (λ texts is. headers_known rem c.args.schema c.args.sources.items c.in_ok-sources.sources.items texts c.in_ok-sources.ensures.begun is)
 
 pub returns-clause-rows : goal.returns-clause-rows
@@ -39,10 +39,10 @@ returns-clause-rows g c =
     let rem = g.I.Read.remaining in
     let readers = c.args.sources.items in
     let sources = c.in_ok-sources.sources.items in
-    if_ok c.load_in.result
+    if_ok c.load_in-loaded.result
     (λ loaded all never texts is. loaded_of rem (is_whole rem) g.G.Stopping.STOPS never c.args.schema c.args.limit readers sources texts
     loaded.table.rows loaded.fed.items c.in_ok-sources.ensures.begun is all)
-    c.load_in.ensures.fed
+    c.load_in-loaded.ensures.fed
 
 -- ---- faults
 
@@ -52,16 +52,16 @@ returns-clause-fault g c =
     let readers = c.args.sources.items in
     let sources = c.in_ok-sources.sources.items in
     let begin = c.in_ok-sources.ensures.begun in
-    if_err c.load_in.result (λ fault met declared texts declares i.
-    run_fault_of rem (is_whole rem) g.G.Stopping.STOPS declared c.args.schema c.args.limit readers sources texts declares begin i fault met) c.load_in.ensures.fault
+    if_err c.load_in-loaded.result (λ fault met declared texts declares i.
+    run_fault_of rem (is_whole rem) g.G.Stopping.STOPS declared c.args.schema c.args.limit readers sources texts declares begin i fault met) c.load_in-loaded.ensures.fault
 
 pub returns-clause-counted : goal.returns-clause-counted
 returns-clause-counted g c =
-    if_err c.load_in.result (load_counted g.I.Read.remaining g.G.Stopping.STOPS c.args.limit c.in_ok-sources.sources.items) c.load_in.ensures.fault
+    if_err c.load_in-loaded.result (load_counted g.I.Read.remaining g.G.Stopping.STOPS c.args.limit c.in_ok-sources.sources.items) c.load_in-loaded.ensures.fault
 
 pub returns-clause-late : goal.returns-clause-late
 returns-clause-late g c =
-    if_err c.load_in.result (load_late g.I.Read.remaining g.G.Stopping.STOPS c.args.limit c.in_ok-sources.sources.items) c.load_in.ensures.fault
+    if_err c.load_in-loaded.result (load_late g.I.Read.remaining g.G.Stopping.STOPS c.args.limit c.in_ok-sources.sources.items) c.load_in-loaded.ensures.fault
 
 -- at the headers
 pub returns-in_err-sources-clause-fault : goal.returns-in_err-sources-clause-fault
