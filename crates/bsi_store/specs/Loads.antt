@@ -46,5 +46,5 @@ pub record HasAdded {S : Type 0} (rem put : S → Option (List ℕ)) (before aft
   pub added : HasPut rem put (codes "added") kept.schema kept.limit notes more before after
 
 -- a text, put after what a writer held, tells what happened
-pub Tells : (Option (List ℕ) → Option (List ℕ) → Type 0) → List ℕ → Type 0
+abbrev pub Tells : (Option (List ℕ) → Option (List ℕ) → Type 0) → List ℕ → Type 0
 Tells Happened text = (before after : Option (List ℕ)) → Appends before after text → Happened before after
