@@ -91,6 +91,11 @@ class Kind:
         """Returns what a sum of numbers stands for, or raises TypeError where such values have no sum."""
         raise TypeError(f"{self.takes} have no sum")
 
+    def decode_between(self, number: Fraction) -> Any:
+        """Returns what a number stands for that may lie between two of the column's, or raises TypeError where such
+        values have none between them."""
+        raise TypeError(f"{self.takes} have none between them")
+
     def number(self, value: Any) -> int:
         """Returns the number that stands for a value, or raises TypeError or ValueError."""
         left, right = self.cut(value)
@@ -157,6 +162,9 @@ class Whole(Kind):
 
     def decode_sum(self, total: int) -> int:
         return total
+
+    def decode_between(self, number: Fraction) -> float:
+        return float(number)
 
     def encode(self, values: np.ndarray, valid: np.ndarray) -> np.ndarray:
         if values.dtype.kind in "iub":
@@ -228,6 +236,11 @@ class Decimals(Kind):
 
     def decode_sum(self, total: int) -> Decimal:
         return _decimal(total, self.places)
+
+    def decode_between(self, number: Fraction) -> Decimal:
+        if number.denominator == 1:
+            return self.decode(int(number))
+        return Decimal(number.numerator) / (number.denominator * 10**self.places)
 
     def encode(self, values: np.ndarray, valid: np.ndarray) -> np.ndarray:
         scale = 10**self.places
@@ -315,6 +328,11 @@ class Times(Kind):
 
     def decode(self, number: int) -> Any:
         return _time(number, self.unit, self.zone)
+
+    def decode_between(self, number: Fraction) -> Any:
+        # (to the microseconds that a datetime has, unless the column is finer)
+        unit = "ns" if self.unit == "ns" else "us"
+        return _time(round(number * NANOSECONDS[self.unit] / NANOSECONDS[unit]), unit, self.zone)
 
     def show(self, number: int) -> str:
         return str(self.decode(number))[:10] if self.unit == "D" else str(self.decode(number))

@@ -54,7 +54,18 @@ class Holds(NamedTuple):
         return _name(self.column)
 
 
-Term = Union[Comparison, Null, Among, Holds, str]
+class Stored(NamedTuple):
+    """A column, one of the signs, and a number of those that stand for its values."""
+
+    column: str
+    sign: str
+    number: int
+
+    def __str__(self) -> str:
+        return f"({_name(self.column)} {'==' if self.sign == '=' else self.sign} number {self.number})"
+
+
+Term = Union[Comparison, Null, Among, Holds, Stored, str]
 
 
 def _name(column: str) -> str:

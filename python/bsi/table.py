@@ -8,12 +8,14 @@ A *store* is a `native.Handle`, or a `gathered.Gathered` of several. Both have t
 from __future__ import annotations
 
 import contextlib
+import itertools
 import logging
 import math
 import re
 from dataclasses import replace
+from decimal import Decimal
 from fractions import Fraction
-from numbers import Integral
+from numbers import Integral, Real
 from typing import Any, Dict, Iterable, Iterator, List, Mapping, Optional, Sequence, Tuple, TypeVar, Union
 
 import numpy as np
@@ -25,7 +27,7 @@ from .groups import GroupBy, Groups
 from .kinds import FAR, Cut, Flags, Misfit, Texts
 from .narrowing import encode
 from .native import BAD_ROW, INDEX_FULL, NO_MEMORY, Entries, Handle, check
-from .predicates import Among, Column, Comparison, Holds, Null, Predicate, all_rows, refuse_long
+from .predicates import Among, Column, Comparison, Holds, Null, Predicate, Stored, all_rows, refuse_long
 from .progress import Progress, told
 from .summary import Summary, html_of
 from .values import columns_of, values_of
@@ -34,6 +36,8 @@ NAME = re.compile(r"[a-z][a-z0-9_]{0,31}")
 WORDS = {"all", "null", "and", "or", "not"}
 MAX_ROWS, MAX_COLUMNS, BLOCK = 1 << 32, 64, 1 << 18
 Name = Union[str, Column]
+# A part of rows from 0 to 1.
+Part = Union[float, Fraction]
 Self = TypeVar("Self", bound="Table")
 log = logging.getLogger("bsi")
 
@@ -243,40 +247,77 @@ class Table:
         """Returns the greatest value, as `greatest` does."""
         return self.greatest(column, where)
 
-    def quantile(self, column: Name, q: Union[float, Iterable[float]], where: Predicate = all_rows) -> Any:
-        """Returns the value of the column at a part of these rows from 0 to 1, as NumPy's method "lower" has it, or a
-        list of such. It is found by a count for each bit of the column."""
-        if isinstance(q, Iterable):
-            return [self.quantile(column, one, where) for one in q]
-        if not 0 <= q <= 1:
-            raise ValueError(f"a quantile is from 0 to 1, and not {q!r}")
-        name, fields = self._name(column), self._query(where)
-        if isinstance(self._forms[name].kind, Texts) and self._forms[name].kind.grows:
-            return self._text_at(name, q, where)
-        low, high = (self._store.value(word, self._within[name], fields) for word in (b"least", b"greatest"))
-        if low is None:
+    def quantile(
+        self,
+        column: Name,
+        q: Union[float, Iterable[float]],
+        where: Predicate = all_rows,
+        interpolation: str = "lower",
+    ) -> Any:
+        """Returns the value of the column at a part of these rows from 0 to 1, or a list of such, as NumPy's method
+        "lower" has it, or "linear": between two values a float, a Decimal or a datetime. None where there is no value.
+        It is found by a count for each bit of the column."""
+        if interpolation not in ("lower", "linear"):
+            raise ValueError(f"interpolation is 'lower' or 'linear', and not {interpolation!r}")
+        if isinstance(q, Iterable) and not isinstance(q, (str, bytes)) and np.ndim(q):  # type: ignore[arg-type]
+            return [self.quantile(column, one, where, interpolation) for one in q]
+        part, name = part_of(q), self._name(column)
+        count = self.count(name, where)
+        if interpolation == "linear":
+            return self._between(name, count, part, where)
+        return self._forms[name].kind.decode(self._number_at(name, rank_of(count, part), where)) if count else None
+
+    def _between(self, name: str, count: int, part: Part, where: Predicate) -> Any:
+        """Returns what lies between the two values next to a part of these rows."""
+        kind = self._forms[name].kind
+        try:
+            kind.decode_between(Fraction(0))
+        except TypeError as why:
+            raise BadQuery(f"column {name!r}: {why}") from None
+        if not count:
             return None
-        rank = math.floor(Fraction(q) * (self.count(name, where) - 1))
-        bound = [self._within[name], b"<="]
+        # (a float is the part that it prints as)
+        place = (count - 1) * Fraction(str(part) if isinstance(part, float) else part)
+        rank = math.floor(place)
+        low = high = self._number_at(name, rank, where)
+        if place > rank:
+            high = self._number_at(name, rank + 1, where)
+        return kind.decode_between(low + (high - low) * (place - rank))
+
+    def _number_at(self, name: str, rank: int, where: Predicate) -> int:
+        """Returns the number of a rank among those of these rows, from 0. There are more of them than that."""
+        form = self._forms[name]
+        if isinstance(form.kind, Texts) and form.kind.grows:
+            return self._place_at(name, rank, where)
+        fields = self._query(where)
+        refuse_long(len(fields) + 4)
+        low, high = (self._store.value(word, self._within[name], fields) for word in (b"least", b"greatest"))
         while low < high:
             middle = (low + high) // 2
-            below = self._store.count([*fields, *bound, b"%d" % middle, b"and"])
+            below = self._store.count([*fields, self._within[name], b"<=", b"%d" % middle, b"and"])
             low, high = (low, middle) if below > rank else (middle + 1, high)
-        return self._forms[name].kind.decode(low)
+        return low
 
     def values_in(self, column: Name, where: Predicate = all_rows) -> Iterator[Any]:
         """Yields the different values of a column in these rows, in order, by a question each."""
+        name = self._name(column)
+        return map(self._forms[name].kind.decode, self.numbers_in(name, where))
+
+    def numbers_in(self, column: Name, where: Predicate = all_rows) -> Iterator[int]:
+        """Yields the numbers that stand for the different values of a column in these rows, in order of the values."""
         name, fields = self._name(column), self._query(where)
-        form = self._forms[name]
+        form, within = self._forms[name], self._within[name]
+        refuse_long(len(fields) + 4)
         if isinstance(form.kind, Texts) and form.kind.grows:
-            yield from (text for text in sorted(form.kind.values) if self.count(where & (Column(name) == text)))
+            for _, place in sorted(zip(form.kind.values, itertools.count())):
+                if self._store.count([*fields, within, b"=", b"%d" % place, b"and"]):
+                    yield place
             return
         number: Optional[int] = form.offset - 1
         while number is not None and number < form.most:
-            above = [*fields, self._within[name], b">=", b"%d" % (number + 1), b"and"]
-            number = self._store.value(b"least", self._within[name], above)
+            number = self._store.value(b"least", within, [*fields, within, b">=", b"%d" % (number + 1), b"and"])
             if number is not None:
-                yield form.kind.decode(number)
+                yield number
 
     def groupby(self, column: Name) -> GroupBy:
         """Returns the rows by the values of a column: `groupby("station").sum("rain", where)`."""
@@ -339,20 +380,23 @@ class Table:
         name = self._name(column)
         kind = self._forms[name].kind
         if isinstance(kind, Texts) and kind.grows:
-            return self._text_at(name, {b"least": 0, b"greatest": 1, b"median": 0.5}[word], where)
+            count = self.count(name, where)
+            rank = {b"least": 0, b"greatest": count - 1, b"median": (count - 1) // 2}[word]
+            return kind.decode(self._place_at(name, rank, where)) if count else None
         number = self._store.value(word, self._within[name], self._query(where))
         return None if number is None else kind.decode(number)
 
-    def _text_at(self, name: str, q: float, where: Predicate) -> Optional[str]:
-        """Returns the text at a part of these rows, by a count of each text: their places are in no order."""
+    def _place_at(self, name: str, rank: int, where: Predicate) -> int:
+        """Returns the place of the text that has a rank among those of these rows, by a count of each text: their
+        places are in no order."""
         kind, fields = self._forms[name].kind, self._query(where)
         asked = [[*fields, self._within[name], b"=", b"%d" % place, b"and"] for place in range(len(kind.values))]
-        counts = sorted(zip(kind.values, self._store.counts(asked)))
-        rank = math.floor(Fraction(q) * (sum(count for _, count in counts) - 1))
-        for text, count in counts:
-            if (rank := rank - count) < 0 and count:
-                return text
-        return None
+        found = upto = 0
+        for _, place, count in sorted(zip(kind.values, itertools.count(), self._store.counts(asked))):
+            found, upto = place if count else found, upto + count
+            if upto > rank:
+                break
+        return found
 
     def _name(self, column: Name) -> str:
         name = column.name if isinstance(column, Column) else column
@@ -374,6 +418,8 @@ class Table:
                 fields += self._among(term)
             elif isinstance(term, Holds):
                 fields += self._holds(term)
+            elif isinstance(term, Stored):
+                fields += [self._within[self._name(term.column)], term.sign.encode(), b"%d" % term.number]
             else:
                 fields.append(term.encode())
         refuse_long(len(fields))
@@ -434,6 +480,23 @@ class Table:
 
     def __reduce__(self):
         raise TypeError(f"{type(self).__name__} has no copy; an Index and Parts have")
+
+
+def part_of(q: Any) -> Part:
+    """Returns a part from 0 to 1, or raises TypeError or ValueError where it is none."""
+    part = q[()] if isinstance(q, np.ndarray) and q.ndim == 0 else q
+    is_number = isinstance(part, (Real, Decimal)) and not isinstance(part, (bool, np.timedelta64))
+    if not is_number:
+        raise TypeError(f"a quantile is a number from 0 to 1, and not {q!r}")
+    if isinstance(part, Decimal) and part.is_nan() or not 0 <= part <= 1:
+        raise ValueError(f"a quantile is from 0 to 1, and not {q!r}")
+    return float(part) if isinstance(part, (float, np.floating)) else Fraction(part)
+
+
+def rank_of(count: int, part: Part) -> int:
+    """Returns the rank from 0 that NumPy's method "lower" has at a part of so many values: by the product of floats
+    where it is one."""
+    return math.floor((count - 1) * part)
 
 
 def among_numbers(sign: str, left: int, right: int) -> Tuple[str, int]:

@@ -288,6 +288,58 @@ def test_names_that_pandas_has():
             index.quantile("x", 1.5)
 
 
+def test_quantiles_are_those_of_numpy():
+    rng = np.random.default_rng(8)
+    for count in (1, 2, 11, 20, 21, 101, 200):
+        x = rng.integers(-500, 500, count)
+        index = bsi.Index.from_frame({"x": x, "d": [Decimal(int(number)).scaleb(-1) for number in x]})
+        parts = [*(place / 20 for place in range(21)), 0.29, 0.07, np.float32(0.3), np.array(0.7), Decimal("0.3")]
+        floats = [float(part) for part in parts]
+        assert index.quantile("x", parts[:-1]) == np.quantile(x, floats[:-1], method="lower").tolist()
+        found = index.quantile("x", parts, interpolation="linear")
+        assert set(map(type, found)) == {float} and np.allclose(found, np.quantile(x, floats), rtol=1e-7, atol=1e-4)
+        assert np.allclose(found[:21], np.quantile(x, floats[:21]), rtol=1e-13, atol=1e-12)
+        for part, value in zip(parts[:21], index.quantile("d", parts[:21], interpolation="linear")):
+            place = (count - 1) * Fraction(str(part))
+            low, high = (Fraction(int(np.sort(x)[min(at, count - 1)])) for at in (place // 1, place // 1 + 1))
+            assert type(value) is Decimal and Fraction(value) == (low + (high - low) * (place % 1)) / 10
+    assert index.quantile("x", [], interpolation="linear") == [] and index.quantile("x", 0.5, col.x > 999) is None
+
+
+def test_quantiles_between_times():
+    days = [datetime.datetime(2026, 1, 1), datetime.datetime(2026, 1, 2)]
+    zoned = [day.replace(tzinfo=datetime.timezone.utc) for day in days]
+    fine = np.array([0, 5], "M8[ns]")
+    index = bsi.Index.from_frame({"d": days, "z": zoned, "f": fine, "b": [True, False], "t": ["a", "b"]})
+    assert index.quantile("d", 0.25, interpolation="linear") == datetime.datetime(2026, 1, 1, 6)
+    wanted = datetime.datetime(2026, 1, 1, 12, tzinfo=datetime.timezone.utc)
+    assert index.quantile("z", [0, 0.5], interpolation="linear") == [zoned[0], wanted]
+    assert index.quantile("f", 0.6, interpolation="linear") == np.datetime64(3, "ns")
+    for name in "bt":
+        with pytest.raises(bsi.BadQuery, match=f"column '{name}': .* have none between them"):
+            index.quantile(name, 0.5, interpolation="linear")
+
+
+@pytest.mark.parametrize(
+    "q, kind, why",
+    [
+        ("0.5", TypeError, "a number from 0 to 1, and not '0.5'"),
+        (["0.5"], TypeError, "a number from 0 to 1"),
+        (None, TypeError, "a number from 0 to 1, and not None"),
+        (True, TypeError, "a number from 0 to 1"),
+        (np.timedelta64(1, "s"), TypeError, "a number from 0 to 1"),
+        (float("nan"), ValueError, "is from 0 to 1, and not nan"),
+        (Decimal("sNaN"), ValueError, "is from 0 to 1"),
+        (1.5, ValueError, "is from 0 to 1, and not 1.5"),
+    ],
+)
+def test_quantiles_that_are_none(q, kind, why):
+    with pytest.raises(kind, match=why):
+        small().quantile("price", q)
+    with pytest.raises(ValueError, match="interpolation is 'lower' or 'linear', and not 'higher'"):
+        small().quantile("price", 0.5, interpolation="higher")
+
+
 def grouped(rows, name, where, figure):
     """Returns a figure of the rows by the values of a column, as plain Python has it."""
     found = {}
@@ -327,6 +379,14 @@ def test_groups_beside_plain_python(seed):
                 wanted = {value: sum(row[name] == value and where(row) for row in rows) for value in counts}
                 assert counts == wanted == by.count(predicate)
                 assert list(counts.values()) == sorted(counts.values(), reverse=True)
+
+
+def test_groups_of_answers_that_are_no_constants():
+    times = np.array(["2026-01-31T12:00:00.000000001", "2026-01-31", "2026-01-31"], "M8[ns]")
+    index = bsi.Index({"t": bsi.slices(63, kind=bsi.Times("ns", datetime.timezone.utc)), "n": bsi.slices(3)})
+    index._store.append([(times.view("i8"), None), (np.array([5, 2, 3]), None)])
+    assert index.groupby("t").sum("n") == {times[1]: 5, times[0]: 5}
+    assert index.value_counts("t", col.n > 2) == {times[1]: 1, times[0]: 1}
 
 
 def test_groups_that_are_many():
