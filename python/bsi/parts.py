@@ -49,7 +49,13 @@ class _Threads(Gathered):
             tasks.put(None)
 
     def _each(self, call: str, *arguments: Any) -> List[Any]:
-        return self._at_once([(getattr(handle, call), arguments) for handle in self.handles])
+        return self._each_of(call, [arguments] * len(self.handles))
+
+    def _each_of(self, call: str, arguments: Sequence[Sequence[Any]]) -> List[Any]:
+        return self._at_once([(getattr(handle, call), given) for handle, given in zip(self.handles, arguments)])
+
+    def _parts(self) -> int:
+        return len(self.handles)
 
     def _at_once(self, calls: Sequence[Tuple[Callable[..., Any], Sequence[Any]]]) -> List[Any]:
         """Makes a call on the thread of each part, or of the first so many."""

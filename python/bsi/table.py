@@ -2,7 +2,7 @@
 on the other.
 
 A *store* is a `native.Handle`, or a `gathered.Gathered` of several. Both have the calls `count`, `counts`, `sum`,
-`value`, `select`, `rows` and `close`, and but for Dask `append`.
+`value`, `select`, `numbers`, `rows` and `close`, and but for Dask `append`.
 """
 
 from __future__ import annotations
@@ -16,7 +16,7 @@ from dataclasses import replace
 from decimal import Decimal
 from fractions import Fraction
 from numbers import Integral, Real
-from typing import Any, Dict, Iterable, Iterator, List, Mapping, Optional, Sequence, Tuple, TypeVar, Union
+from typing import AbstractSet, Any, Dict, Iterable, Iterator, List, Mapping, Optional, Sequence, Tuple, TypeVar, Union
 
 import numpy as np
 
@@ -24,11 +24,12 @@ from .choosing import Chosen, of_each
 from .errors import BadColumns, BadQuery, BadRow, BadSchema, Error, IndexFull, NoMemory
 from .forms import Form
 from .groups import GroupBy, Groups
-from .kinds import FAR, Cut, Flags, Misfit, Texts
+from .kinds import FAR, Cut, Flags, Misfit, Texts, shown
 from .narrowing import encode
 from .native import BAD_ROW, INDEX_FULL, NO_MEMORY, Entries, Handle, check
 from .predicates import Among, Column, Comparison, Holds, Null, Predicate, Stored, all_rows, refuse_long
 from .progress import Progress, told
+from .returning import column_of, frame_of, list_of
 from .summary import Summary, html_of
 from .values import columns_of, values_of
 
@@ -376,6 +377,30 @@ class Table:
         places = np.flatnonzero(np.unpackbits(words[some].view(np.uint8), bitorder="little"))
         return some[places >> 6] * 64 + (places & 63)
 
+    def take(self, rows: Iterable[int], columns: Optional[Iterable[Name]] = None) -> Dict[str, List[Any]]:
+        """Returns the values of rows, given by their numbers from 0 in any order: lists by column, None for a null, as
+        `append` takes them. A column takes a question for each bit of its numbers, and more from 250 rows on."""
+        given, names = rows_of(rows, len(self)), self._names(columns)
+        different, places = np.unique(given, return_inverse=True)
+        found = self._store.numbers([self._within[name] for name in names], different)
+        each = zip(names, ((numbers[places], valid[places]) for numbers, valid in found))
+        return {name: list_of(self._forms[name].kind, some) for name, some in each}
+
+    def to_pandas(self, where: Predicate = all_rows, columns: Optional[Iterable[Name]] = None) -> Any:
+        """Returns the rows that the predicate selects as a frame of pandas, in order, with their numbers as its index.
+        Decimals are Decimal, and texts objects, each with None for a null. It takes as many questions as `take`."""
+        import pandas
+
+        rows, names = self.rows(where), self._names(columns)
+        found = self._store.numbers([self._within[name] for name in names], rows)
+        taken = {name: column_of(pandas, self._forms[name].kind, one) for name, one in zip(names, found)}
+        return frame_of(pandas, taken, rows)
+
+    def _names(self, columns: Optional[Iterable[Name]]) -> List[str]:
+        """Returns the columns that are wanted: all where none are named."""
+        named = [columns] if isinstance(columns, (str, Column)) else self._forms if columns is None else columns
+        return [self._name(column) for column in named]
+
     def _value(self, word: bytes, column: Name, where: Predicate) -> Any:
         name = self._name(column)
         kind = self._forms[name].kind
@@ -480,6 +505,22 @@ class Table:
 
     def __reduce__(self):
         raise TypeError(f"{type(self).__name__} has no copy; an Index and Parts have")
+
+
+def rows_of(rows: Any, count: int) -> np.ndarray:
+    """Returns numbers of rows as an array, or raises TypeError or BadQuery where they are none of so many rows."""
+    wrong = f"rows are a list of their numbers, as rows(where) returns them, and not {shown(rows)}"
+    try:
+        given = np.asarray(list(rows) if isinstance(rows, (Iterator, AbstractSet)) else rows)
+    except ValueError:
+        raise TypeError(wrong) from None
+    if given.ndim != 1 or given.dtype.kind not in "iu" and len(given):
+        raise TypeError(wrong)
+    bad = (given < 0) | (given >= count) if len(given) else np.zeros(0, bool)
+    if bad.any():
+        span = f"0 to {count - 1:,}" if count else "none"
+        raise BadQuery(f"there is no row {given[int(bad.argmax())]:,}: the rows are {span}")
+    return given.astype(np.int64)
 
 
 def part_of(q: Any) -> Part:
