@@ -299,6 +299,45 @@ class Table:
             low, high = (low, middle) if below > rank else (middle + 1, high)
         return low
 
+    def rank(self, column: Name, value: Any, where: Predicate = all_rows, method: str = "average") -> Any:
+        """Returns the place from 1 that a value has among those of the column in these rows, as pandas ranks them: of
+        equal ones the mean of their places, or the "min" or "max" of these. None where none of the rows has it."""
+        if method not in ("average", "min", "max"):
+            raise ValueError(f"method is 'average', 'min' or 'max', and not {method!r}")
+        one = Column(self._name(column))
+        less, same = self.count(where & (one < value)), self.count(where & (one == value))
+        places = {"min": less + 1, "max": less + same, "average": less + (same + 1) / 2}
+        return places[method] if same else None
+
+    def nlargest(self, n: int, column: Name, where: Predicate = all_rows) -> np.ndarray:
+        """Returns the numbers of the n rows that have the greatest values of the column, the greatest first, and of
+        equal ones the first rows first, as pandas does. Fewer where fewer have a value."""
+        return self._outermost(n, self._name(column), where, ">")
+
+    def nsmallest(self, n: int, column: Name, where: Predicate = all_rows) -> np.ndarray:
+        """Returns the numbers of the n rows that have the least values of the column, the least first, as `nlargest`
+        does."""
+        return self._outermost(n, self._name(column), where, "<")
+
+    def _outermost(self, n: int, name: str, where: Predicate, sign: str) -> np.ndarray:
+        """Returns the n rows of which the others lie on one side, the outermost first."""
+        if not hasattr(n, "__index__") or isinstance(n, bool) or n < 0:
+            raise ValueError(f"so many rows is a whole number from 0 up, and not {n!r}")
+        count = self.count(name, where)
+        n = min(n, count)
+        if not n:
+            return np.zeros(0, np.int64)
+        number, kind = self._number_at(name, count - n if sign == ">" else n - 1, where), self._forms[name].kind
+        grows = isinstance(kind, Texts) and kind.grows
+        past = Comparison(name, sign, kind.decode(number)) if grows else Stored(name, sign, number)
+        rows = self.rows(where & Predicate([past]))
+        ((keys, _),) = self._store.numbers([self._within[name]], rows)
+        if grows:
+            keys = np.argsort(sorted(range(len(kind.values)), key=kind.values.__getitem__))[keys]
+        rows = rows[np.argsort(~keys if sign == ">" else keys, kind="stable")]
+        equal = self.rows(where & Predicate([Stored(name, "=", number)]))
+        return np.concatenate([rows, equal[: max(0, n - len(rows))]])[:n]
+
     def values_in(self, column: Name, where: Predicate = all_rows) -> Iterator[Any]:
         """Yields the different values of a column in these rows, in order, by a question each."""
         name = self._name(column)

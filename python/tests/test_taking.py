@@ -178,3 +178,61 @@ def test_times_that_pandas_has_not():
     for end in ends:
         found = bsi.Index.from_frame({"t": np.array([end])}).to_pandas()["t"]
         assert found.dtype == "M8[ns]" and found.to_numpy().tolist() == np.array([end]).tolist()
+
+
+# ---- The outermost rows, and ranks ----
+
+
+@pytest.mark.parametrize("seed", range(4))
+def test_the_outermost_rows_and_ranks_beside_plain_python(seed):
+    rng = np.random.default_rng(seed)
+    for rows in (0, 1, 150):
+        data = random_data(rng, rows)
+        for table in tables(rng, data):
+            for name, values in data.items():
+                where, mask = bsi.all_rows, np.ones(rows, bool)
+                if rng.random() < 0.5:
+                    where, mask = col.n >= 0, np.array([one is not None and one >= 0 for one in data["n"]], bool)
+                there = [row for row in range(rows) if values[row] is not None and mask[row]]
+                for n in (0, 1, 2, 7, rows, rows + 5):
+                    wanted = sorted(there, key=values.__getitem__)[:n]
+                    assert table.nsmallest(n, name, where).tolist() == wanted, (name, n)
+                    wanted = sorted(there, key=values.__getitem__, reverse=True)[:n]
+                    assert table.nlargest(n, name, where).tolist() == wanted, (name, n)
+                found = [values[row] for row in there]
+                for value in found[:5]:
+                    low, high = sum(one < value for one in found) + 1, sum(one <= value for one in found)
+                    assert table.rank(name, value, where) == (low + high) / 2
+                    assert [table.rank(name, value, where, word) for word in ("min", "max")] == [low, high]
+
+
+def test_the_outermost_rows_are_those_of_pandas():
+    pandas = pytest.importorskip("pandas")
+    rng = np.random.default_rng(5)
+    x = rng.integers(-20, 20, 300).astype(float)
+    x[rng.random(300) < 0.2] = np.nan
+    frame = pandas.DataFrame({"x": x})
+    index = bsi.Index.from_frame(frame)
+    for n in (1, 10, 100):
+        assert index.nlargest(n, "x").tolist() == frame["x"].nlargest(n).index.tolist()
+        assert index.nsmallest(n, col.x).tolist() == frame["x"].nsmallest(n).index.tolist()
+    for method in ("average", "min", "max"):
+        ranks = frame["x"].rank(method=method)
+        for row in index.rows(col.x.notnull())[:20].tolist():
+            assert index.rank("x", x[row], method=method) == ranks[row]
+    assert index.to_pandas(col.x > 15)["x"].tolist() == frame["x"][frame["x"] > 15].tolist()
+
+
+def test_the_outermost_rows_that_are_none():
+    index = bsi.Index.from_frame({"x": [1, 2, 2], "t": ["a", "b", "b"]})
+    for n in (-1, 1.5, True, "1", None):
+        with pytest.raises(ValueError, match="a whole number from 0 up"):
+            index.nlargest(n, "x")
+    assert index.rank("x", 1.5) is None and index.rank("t", "c") is None and index.rank("x", 2) == 2.5
+    assert index.rank("x", 2, col.t == "a") is None and index.rank("x", 2.0, method="min") == 2
+    with pytest.raises(ValueError, match="method is 'average', 'min' or 'max', and not 'dense'"):
+        index.rank("x", 2, method="dense")
+    with pytest.raises(bsi.BadQuery, match="column 'x' is compared with one of whole numbers: 'a' is no number"):
+        index.rank("x", "a")
+    with pytest.raises(bsi.BadQuery, match="no column 'z'"):
+        index.nsmallest(1, "z")
