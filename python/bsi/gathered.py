@@ -127,11 +127,11 @@ class Gathered:
             packed[: -(-len(joined) // 8)] = np.packbits(joined, bitorder="little")
             return packed.view(np.uint64), len(joined)
 
-    def numbers(self, names: Sequence[bytes], rows: np.ndarray) -> List[Found]:
+    def numbers(self, names: Sequence[bytes], rows: np.ndarray, bitmaps: int) -> List[Found]:
         with self.alone():
             parts, places = self._placed(rows)
             here = [np.flatnonzero(parts == part) for part in range(self._parts())]
-            answers = self._each_of("numbers", [(names, places[taken]) for taken in here])
+            answers = self._each_of("numbers", [(names, places[taken], bitmaps) for taken in here])
         found = [(np.zeros(len(rows), np.int64), np.zeros(len(rows), bool)) for _ in names]
         for taken, answer in zip(here, answers):
             for (numbers, valid), (some, are_valid) in zip(found, answer):

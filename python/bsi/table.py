@@ -31,6 +31,7 @@ from .predicates import Among, Column, Comparison, Holds, Null, Predicate, Store
 from .progress import Progress, told
 from .returning import column_of, frame_of, list_of
 from .summary import Summary, html_of
+from .taking import Found
 from .values import columns_of, values_of
 
 NAME = re.compile(r"[a-z][a-z0-9_]{0,31}")
@@ -331,7 +332,7 @@ class Table:
         grows = isinstance(kind, Texts) and kind.grows
         past = Comparison(name, sign, kind.decode(number)) if grows else Stored(name, sign, number)
         rows = self.rows(where & Predicate([past]))
-        ((keys, _),) = self._store.numbers([self._within[name]], rows)
+        ((keys, _),) = self._numbers([name], rows)
         if grows:
             keys = np.argsort(sorted(range(len(kind.values)), key=kind.values.__getitem__))[keys]
         rows = rows[np.argsort(~keys if sign == ">" else keys, kind="stable")]
@@ -418,22 +419,26 @@ class Table:
 
     def take(self, rows: Iterable[int], columns: Optional[Iterable[Name]] = None) -> Dict[str, List[Any]]:
         """Returns the values of rows, given by their numbers from 0 in any order: lists by column, None for a null, as
-        `append` takes them. A column takes a question for each bit of its numbers, and more from 250 rows on."""
+        `append` takes them. A column takes some questions for each bit of its numbers; where these are very many, the
+        call takes memory as `save` does."""
         given, names = rows_of(rows, len(self)), self._names(columns)
         different, places = np.unique(given, return_inverse=True)
-        found = self._store.numbers([self._within[name] for name in names], different)
-        each = zip(names, ((numbers[places], valid[places]) for numbers, valid in found))
-        return {name: list_of(self._forms[name].kind, some) for name, some in each}
+        each = zip(names, ((numbers[places], valid[places]) for numbers, valid in self._numbers(names, different)))
+        return {name: list_of(self._forms[name].kind, found) for name, found in each}
 
     def to_pandas(self, where: Predicate = all_rows, columns: Optional[Iterable[Name]] = None) -> Any:
         """Returns the rows that the predicate selects as a frame of pandas, in order, with their numbers as its index.
-        Decimals are Decimal, and texts objects, each with None for a null. It takes as many questions as `take`."""
+        Decimals are Decimal, and texts objects, each with None for a null. It takes as long, and memory, as `take`."""
         import pandas
 
         rows, names = self.rows(where), self._names(columns)
-        found = self._store.numbers([self._within[name] for name in names], rows)
-        taken = {name: column_of(pandas, self._forms[name].kind, one) for name, one in zip(names, found)}
-        return frame_of(pandas, taken, rows)
+        each = zip(names, self._numbers(names, rows))
+        return frame_of(pandas, {name: column_of(pandas, self._forms[name].kind, found) for name, found in each}, rows)
+
+    def _numbers(self, names: Sequence[str], rows: np.ndarray) -> List[Found]:
+        """Returns of each column the numbers in these rows, which are in order, and which of them are valid."""
+        bitmaps = sum(1 + form.places for form in self._forms.values())
+        return self._store.numbers([self._within[name] for name in names], rows, bitmaps)
 
     def _names(self, columns: Optional[Iterable[Name]]) -> List[str]:
         """Returns the columns that are wanted: all where none are named."""

@@ -55,8 +55,10 @@ def same(found, wanted):
     ]
 
 
-@pytest.mark.parametrize("seed", range(6))
-def test_rows_that_are_taken_are_those_that_went_in(seed):
+@pytest.mark.parametrize("most", [0, 100, 1000])
+@pytest.mark.parametrize("seed", range(3))
+def test_rows_that_are_taken_are_those_that_went_in(seed, most, monkeypatch):
+    monkeypatch.setattr("bsi.taking.MAX_ASKED", most)
     rng = np.random.default_rng(seed)
     for rows in (0, 1, 63, 64, 300):
         data = random_data(rng, rows)
@@ -70,7 +72,9 @@ def test_rows_that_are_taken_are_those_that_went_in(seed):
             assert table.take(range(rows), ["t", "n"]) == {"t": data["t"], "n": data["n"]}
 
 
-def test_what_is_taken_is_appended():
+@pytest.mark.parametrize("most", [0, 1000])
+def test_what_is_taken_is_appended(most, monkeypatch):
+    monkeypatch.setattr("bsi.taking.MAX_ASKED", most)
     rng = np.random.default_rng(9)
     for _ in range(100):
         table = model.Table(rng)
@@ -82,18 +86,33 @@ def test_what_is_taken_is_appended():
             assert other.take(other.rows(where)) == index.take(np.flatnonzero(rows))
 
 
-@pytest.mark.parametrize("cuts", [1, 2, 3, 250])
-def test_numbers_that_are_many(cuts, monkeypatch):
+@pytest.mark.parametrize("cuts, most", [(1, 10**6), (2, 10**6), (3, 10**6), (250, 10**6), (250, 40), (250, 0)])
+def test_numbers_that_are_many(cuts, most, monkeypatch):
     monkeypatch.setattr("bsi.taking.MAX_CUTS", cuts)
+    monkeypatch.setattr("bsi.taking.MAX_ASKED", most)
     rng = np.random.default_rng(cuts)
     ends = np.array([-(2**63), -(2**63) + 1, -1], np.int64)
-    for numbers in (rng.integers(0, 700, 300), np.arange(300)[::-1], ends, ends + 2**62, np.array([5, 2**62]), ends[:1]):
+    lists = [rng.integers(0, 700, 300), np.arange(300)[::-1], ends, ends + 2**62, np.array([5, 2**62]), ends[:1]]
+    for numbers in lists:
         index = bsi.Index.from_frame({"x": numbers})
         assert index.take(range(len(numbers)))["x"] == numbers.tolist()
     forms = {"x": bsi.range(7, 9, 11, offset=-400), "y": bsi.equality(30, 25)}
     index, x, y = bsi.Index(forms), rng.integers(-400, 293, 500), rng.integers(0, 750, 500)
     index.append({"x": x, "y": y})
     assert index.take(range(500)) == {"x": x.tolist(), "y": y.tolist()}
+
+
+def test_few_rows_take_few_questions(monkeypatch):
+    rng, asked, saved = np.random.default_rng(2), [], []
+    x, few = rng.integers(0, 1 << 20, 5000), rng.choice([5, 1 << 19, (1 << 20) - 1], 5000)
+    index = bsi.Index({"x": bsi.slices(20), "few": bsi.slices(20)})
+    index.append({"x": x, "few": few})
+    select, save = bsi.native.Handle.select, bsi.native.Handle.save
+    monkeypatch.setattr("bsi.native.Handle.select", lambda *given: asked.append(given) or select(*given))
+    monkeypatch.setattr("bsi.native.Handle.save", lambda *given: saved.append(given) or save(*given))
+    assert index.take([7, 5], "x") == {"x": x[[7, 5]].tolist()} and len(asked) <= 21 and not saved
+    assert index.take(range(5000), "few") == {"few": few.tolist()} and len(asked) <= 42 and not saved
+    assert index.take(range(5000)) == {"x": x.tolist(), "few": few.tolist()} and len(saved) == 1
 
 
 def test_texts_that_grow_are_taken():
@@ -163,7 +182,8 @@ def test_a_frame_goes_in_and_out():
     )
     index = bsi.Index.from_frame(frame)
     pandas.testing.assert_frame_equal(index.to_pandas(), frame)
-    pandas.testing.assert_frame_equal(index.to_pandas(col.n >= 2), frame[frame["n"] >= 2].astype({"N": "int64", "F": "bool"}))
+    wanted = frame[frame["n"] >= 2].astype({"N": "int64", "F": "bool"})
+    pandas.testing.assert_frame_equal(index.to_pandas(col.n >= 2), wanted)
     floats = pandas.DataFrame({"x": [0.1, 2.25, np.nan], "d": [Decimal("0.10"), None, Decimal("-7.00")]})
     found = bsi.Index.from_frame(floats).to_pandas()
     pandas.testing.assert_series_equal(found["x"].astype(float), floats["x"])
