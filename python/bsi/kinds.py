@@ -18,7 +18,7 @@ from datetime import date, datetime, timedelta, timezone
 from decimal import Decimal
 from fractions import Fraction
 from itertools import repeat
-from typing import Any, Callable, Dict, List, Tuple
+from typing import Any, Callable, Dict, Iterable, List, Tuple
 
 import numpy as np
 
@@ -204,8 +204,8 @@ class Decimals(Kind):
     takes = "decimals"
 
     def __post_init__(self):
-        is_number = isinstance(self.places, int) and not isinstance(self.places, bool)
-        places = self.places if is_number else _places_of_scale(self.places)
+        is_number = isinstance(self.places, numbers.Integral) and not isinstance(self.places, bool)
+        places = int(self.places) if is_number else _places_of_scale(self.places)
         if not 0 <= places <= 18:
             raise ValueError(f"decimals have 0 to 18 places, and not {places}")
         object.__setattr__(self, "places", places)
@@ -455,7 +455,7 @@ class Texts(Kind):
     def __post_init__(self):
         if isinstance(self.values, str):
             raise TypeError(f"a column of texts needs the list of them, and not one text: Texts([{self.values!r}])")
-        values = tuple(self.values)
+        values = tuple(self.values) if isinstance(self.values, Iterable) else ()
         if not values or any(not isinstance(value, str) for value in values):
             raise TypeError("a column of texts needs the list of them")
         values = values if self.ordered or self.grows else tuple(sorted(set(values)))

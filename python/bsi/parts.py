@@ -129,13 +129,18 @@ def _joined(runs: Sequence[Tuple[int, int]]) -> List[List[int]]:
     return found
 
 
+def refuse_no_parts(n: Any) -> None:
+    """Refuses a number of parts that is none."""
+    if not isinstance(n, int) or isinstance(n, bool) or not 1 <= n <= 256:
+        raise ValueError(f"rows are split over 1 to 256 parts, and not {n!r}")
+
+
 class Parts(Table):
     """Rows split over n indexes, each asked on a thread of its own. Counts, sums, ends, masks and exact lower medians
     are put together, so every answer is that of one index over all rows, in the order in which they were appended."""
 
     def __init__(self, n: int, columns: Mapping[str, Form], *, limit: Optional[int] = None):
-        if not isinstance(n, int) or not 1 <= n <= 256:
-            raise ValueError(f"rows are split over 1 to 256 parts, and not {n!r}")
+        refuse_no_parts(n)
         schema_of(columns, limit)
         most = MAX_ROWS if limit is None else limit
         super().__init__(columns, most, _Threads([opened(columns) for _ in range(n)], most))

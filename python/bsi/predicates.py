@@ -226,6 +226,8 @@ class Column:
         """Selects the rows that have one of the constants here. Those that follow each other are asked as one run."""
         if isinstance(constants, (str, bytes)):
             raise TypeError(f"isin takes a list of constants, and not a text: isin([{constants!r}])")
+        if not isinstance(constants, Iterable):
+            raise TypeError(f"isin takes a list of constants, and not {constants!r}")
         return Predicate((Among(self.name, tuple(map(_scalar, constants))),))
 
     def __repr__(self) -> str:

@@ -20,7 +20,7 @@ from typing import AbstractSet, Any, Dict, Iterable, Iterator, List, Mapping, Op
 
 import numpy as np
 
-from .choosing import Chosen, of_each
+from .choosing import Chosen, of_each, refuse_no_kind
 from .errors import BadColumns, BadQuery, BadRow, BadSchema, Error, IndexFull, NoMemory
 from .forms import Form
 from .groups import GroupBy, Groups
@@ -67,10 +67,13 @@ def opened(columns: Mapping[str, Form], limit: Optional[int] = None) -> Handle:
 
 def schema_of(columns: Mapping[str, Form], limit: Optional[int]) -> bytes:
     """Returns the records of a schema. Refuses what is none, so that a record of the library is one of a column."""
+    if not isinstance(columns, Mapping):
+        raise BadSchema(f"an index has columns by name, as {{'price': slices(20)}}, and not {shown(columns)}")
     for name, form in columns.items():
         if not isinstance(name, str) or not isinstance(form, Form):
             shape = "slices(..), range(..) or equality(..)"
             raise BadSchema(f"an index has columns by name, each {shape}, and not {name!r}: {form!r}")
+        refuse_no_kind(name, form.kind)
     if len(columns) > MAX_COLUMNS:
         raise BadSchema(f"an index has at most {MAX_COLUMNS} columns, and not {len(columns)}; name those wanted")
     if limit is not None and (not isinstance(limit, Integral) or not 1 <= limit <= MAX_ROWS):
@@ -443,6 +446,8 @@ class Table:
     def _names(self, columns: Optional[Iterable[Name]]) -> List[str]:
         """Returns the columns that are wanted: all where none are named."""
         named = [columns] if isinstance(columns, (str, Column)) else self._forms if columns is None else columns
+        if not isinstance(named, Iterable):
+            raise TypeError(f"columns is a list of names, and not {columns!r}")
         return [self._name(column) for column in named]
 
     def _value(self, word: bytes, column: Name, where: Predicate) -> Any:
@@ -469,12 +474,14 @@ class Table:
 
     def _name(self, column: Name) -> str:
         name = column.name if isinstance(column, Column) else column
-        if name not in self._forms:
-            raise BadQuery(f"there is no column {name!r}, only {_listed(self._forms)}")
+        if not isinstance(name, str) or name not in self._forms:
+            raise BadQuery(f"there is no column {shown(name)}, only {_listed(self._forms)}")
         return name
 
     def _query(self, where: Predicate) -> List[bytes]:
         """Returns the fields of the predicate, over the numbers of the columns."""
+        if isinstance(where, Column):
+            where = where.holds()
         if not isinstance(where, Predicate):
             raise TypeError(f"a predicate is made of bsi.col, as col.price < 100, and is not {type(where).__name__}")
         fields: List[bytes] = []

@@ -589,6 +589,7 @@ def test_kinds_that_are_none():
     for wrong in (lambda: bsi.Texts(()), lambda: bsi.Texts((1,)), lambda: bsi.slices(20.0), lambda: bsi.range(2, "x")):
         with pytest.raises(TypeError):
             wrong()
+    assert bsi.Decimals(np.int64(1)) == bsi.Decimals(1) and type(bsi.Decimals(np.int8(2)).places) is int
     assert bsi.Decimals("0.01") == bsi.Decimals(2) == bsi.Decimals(0.01) and bsi.Decimals(1) != bsi.Decimals(2)
 
 
