@@ -223,7 +223,8 @@ class Column:
         return (self >= least) & (self <= greatest)
 
     def isin(self, constants: Iterable[Any]) -> Predicate:
-        """Selects the rows that have one of the constants here. Those that follow each other are asked as one run."""
+        """Selects the rows that have one of the constants here. Those that follow each other are asked as one run, and
+        about 120 runs at once, so that more of them take several questions."""
         if isinstance(constants, (str, bytes)):
             raise TypeError(f"isin takes a list of constants, and not a text: isin([{constants!r}])")
         if not isinstance(constants, Iterable):

@@ -24,11 +24,12 @@ from .choosing import Chosen, of_each, refuse_no_kind
 from .errors import BadColumns, BadQuery, BadRow, BadSchema, Error, IndexFull, NoMemory
 from .forms import Form
 from .groups import GroupBy, Groups
-from .kinds import FAR, Cut, Flags, Misfit, Texts, shown
+from .kinds import Flags, Misfit, Texts, shown
 from .narrowing import encode
 from .native import BAD_ROW, INDEX_FULL, NO_MEMORY, Entries, Handle, check
-from .predicates import Among, Column, Comparison, Holds, Null, Predicate, Stored, all_rows, refuse_long
+from .predicates import Column, Comparison, Predicate, Stored, all_rows
 from .progress import Progress, told
+from .queries import Name, name_among, queries_of
 from .returning import column_of, frame_of, list_of
 from .summary import Summary, html_of
 from .taking import Found
@@ -37,7 +38,8 @@ from .values import columns_of, values_of
 NAME = re.compile(r"[a-z][a-z0-9_]{0,31}")
 WORDS = {"all", "null", "and", "or", "not"}
 MAX_ROWS, MAX_COLUMNS, BLOCK = 1 << 32, 64, 1 << 18
-Name = Union[str, Column]
+# How many fields it takes that the rows lie on one side of a number besides.
+BOUND = 4
 # A part of rows from 0 to 1.
 Part = Union[float, Fraction]
 Self = TypeVar("Self", bound="Table")
@@ -230,12 +232,12 @@ class Table:
         if isinstance(column, Predicate):
             where = column if where is all_rows else column & where
         if column is None or isinstance(column, Predicate):
-            return self._store.count(self._query(where))
+            return sum(self._store.counts(self._queries(where)))
         name = self._name(column)
         if isinstance(column, Column) and self._forms[name].kind == Flags():
             ways = f"count({name!r}) counts its values, and count({column!r} == True) its true rows"
             raise BadQuery(f"count({column!r}) could mean two things: {ways}")
-        return self._store.count(self._query(Column(name).notnull() & where))
+        return sum(self._store.counts(self._queries(Column(name).notnull() & where)))
 
     def mean(self, column: Name, where: Predicate = all_rows) -> Any:
         """Returns the mean of the column's values in these rows: a float, or a Decimal for decimals. None where there
@@ -294,12 +296,12 @@ class Table:
         form = self._forms[name]
         if isinstance(form.kind, Texts) and form.kind.grows:
             return self._place_at(name, rank, where)
-        fields = self._query(where)
-        refuse_long(len(fields) + 4)
-        low, high = (self._store.value(word, self._within[name], fields) for word in (b"least", b"greatest"))
+        queries, within = self._queries(where, BOUND), self._within[name]
+        low, high = (self._end(word, name, queries) for word in (b"least", b"greatest"))
+        assert low is not None and high is not None
         while low < high:
             middle = (low + high) // 2
-            below = self._store.count([*fields, self._within[name], b"<=", b"%d" % middle, b"and"])
+            below = sum(self._store.counts([[*fields, within, b"<=", b"%d" % middle, b"and"] for fields in queries]))
             low, high = (low, middle) if below > rank else (middle + 1, high)
         return low
 
@@ -349,17 +351,17 @@ class Table:
 
     def numbers_in(self, column: Name, where: Predicate = all_rows) -> Iterator[int]:
         """Yields the numbers that stand for the different values of a column in these rows, in order of the values."""
-        name, fields = self._name(column), self._query(where)
+        name, queries = self._name(column), self._queries(where, BOUND)
         form, within = self._forms[name], self._within[name]
-        refuse_long(len(fields) + 4)
         if isinstance(form.kind, Texts) and form.kind.grows:
             for _, place in sorted(zip(form.kind.values, itertools.count())):
-                if self._store.count([*fields, within, b"=", b"%d" % place, b"and"]):
+                if any(self._store.counts([[*fields, within, b"=", b"%d" % place, b"and"] for fields in queries])):
                     yield place
             return
         number: Optional[int] = form.offset - 1
         while number is not None and number < form.most:
-            number = self._store.value(b"least", within, [*fields, within, b">=", b"%d" % (number + 1), b"and"])
+            above = [within, b">=", b"%d" % (number + 1), b"and"]
+            number = self._end(b"least", name, ([*fields, *above] for fields in queries))
             if number is not None:
                 yield number
 
@@ -393,7 +395,7 @@ class Table:
             kind.decode_sum(0)
         except TypeError as why:
             raise BadQuery(f"column {name!r}: {why}") from None
-        return kind.decode_sum(self._store.sum(self._within[name], self._query(where)))
+        return kind.decode_sum(sum(self._store.sum(self._within[name], fields) for fields in self._queries(where)))
 
     def least(self, column: Name, where: Predicate = all_rows) -> Any:
         """Returns the least value of the column in these rows, or None where there is none."""
@@ -410,12 +412,12 @@ class Table:
 
     def mask(self, where: Predicate = all_rows) -> np.ndarray:
         """Returns for each row whether the predicate selects it, as an array of bool."""
-        words, rows = self._store.select(self._query(where))
+        words, rows = self._selected(where)
         return np.unpackbits(words.view(np.uint8), count=rows, bitorder="little").view(np.bool_)
 
     def rows(self, where: Predicate = all_rows) -> np.ndarray:
         """Returns the numbers of the rows that the predicate selects, from 0, in order."""
-        words, _ = self._store.select(self._query(where))
+        words, _ = self._selected(where)
         some = np.flatnonzero(words)
         places = np.flatnonzero(np.unpackbits(words[some].view(np.uint8), bitorder="little"))
         return some[places >> 6] * 64 + (places & 63)
@@ -457,90 +459,49 @@ class Table:
             count = self.count(name, where)
             rank = {b"least": 0, b"greatest": count - 1, b"median": (count - 1) // 2}[word]
             return kind.decode(self._place_at(name, rank, where)) if count else None
-        number = self._store.value(word, self._within[name], self._query(where))
+        queries = self._queries(where)
+        if word == b"median" and len(queries) > 1:
+            count = self.count(name, where)
+            return kind.decode(self._number_at(name, (count - 1) // 2, where)) if count else None
+        number = self._end(word, name, queries)
         return None if number is None else kind.decode(number)
 
     def _place_at(self, name: str, rank: int, where: Predicate) -> int:
         """Returns the place of the text that has a rank among those of these rows, by a count of each text: their
         places are in no order."""
-        kind, fields = self._forms[name].kind, self._query(where)
-        asked = [[*fields, self._within[name], b"=", b"%d" % place, b"and"] for place in range(len(kind.values))]
+        kind, queries, within = self._forms[name].kind, self._queries(where, BOUND), self._within[name]
+        places = range(len(kind.values))
+        asked = [[*fields, within, b"=", b"%d" % place, b"and"] for place in places for fields in queries]
+        counts = np.reshape(self._store.counts(asked), (len(places), len(queries))).sum(axis=1).tolist()
         found = upto = 0
-        for _, place, count in sorted(zip(kind.values, itertools.count(), self._store.counts(asked))):
+        for _, place, count in sorted(zip(kind.values, places, counts)):
             found, upto = place if count else found, upto + count
             if upto > rank:
                 break
         return found
 
     def _name(self, column: Name) -> str:
-        name = column.name if isinstance(column, Column) else column
-        if not isinstance(name, str) or name not in self._forms:
-            raise BadQuery(f"there is no column {shown(name)}, only {_listed(self._forms)}")
-        return name
+        return name_among(self._forms, column)
 
-    def _query(self, where: Predicate) -> List[bytes]:
-        """Returns the fields of the predicate, over the numbers of the columns."""
-        if isinstance(where, Column):
-            where = where.holds()
-        if not isinstance(where, Predicate):
-            raise TypeError(f"a predicate is made of bsi.col, as col.price < 100, and is not {type(where).__name__}")
-        fields: List[bytes] = []
-        for term in where.terms:
-            if isinstance(term, Null):
-                fields += [self._within[self._name(term.column)], b"null"]
-            elif isinstance(term, Comparison):
-                fields += self._comparison(term)
-            elif isinstance(term, Among):
-                fields += self._among(term)
-            elif isinstance(term, Holds):
-                fields += self._holds(term)
-            elif isinstance(term, Stored):
-                fields += [self._within[self._name(term.column)], term.sign.encode(), b"%d" % term.number]
-            else:
-                fields.append(term.encode())
-        refuse_long(len(fields))
-        return fields
+    def _queries(self, where: Predicate, spare: int = 0) -> List[List[bytes]]:
+        """Returns the fields of queries whose rows together are those of the predicate, each row in one, with room for
+        so many fields more."""
+        return queries_of(self._forms, self._within, where, spare)
 
-    def _comparison(self, term: Comparison) -> List[bytes]:
-        name = self._name(term.column)
-        cut, kind = self._cut(name, term.constant), self._forms[name].kind
-        if isinstance(kind, Texts) and kind.grows:
-            return self._one_of(name, kind.numbers_where(term.sign, term.constant))
-        sign, number = among_numbers(term.sign, *cut)
-        sign, number = clamped(self._forms[name], sign, number)
-        return [self._within[name], sign.encode(), b"%d" % number]
+    def _selected(self, where: Predicate) -> Tuple[np.ndarray, int]:
+        """Returns the words whose bits say which rows the predicate selects, and how many rows there are."""
+        queries = self._queries(where)
+        while True:
+            found = [self._store.select(fields) for fields in queries]
+            # (another thread may append between two of them; then all are asked again)
+            if len({rows for _, rows in found}) == 1:
+                return np.bitwise_or.reduce([words for words, _ in found]), found[0][1]
 
-    def _among(self, term: Among) -> List[bytes]:
-        """Returns the fields that select the numbers of the constants."""
-        name = self._name(term.column)
-        cuts = [self._cut(name, constant) for constant in term.constants]
-        return self._one_of(name, (left for left, right in cuts if left < right))
-
-    def _one_of(self, name: str, numbers: Iterable[int]) -> List[bytes]:
-        """Returns the fields that select some numbers of a column, run by run."""
-        form, column, fields = self._forms[name], self._within[name], []
-        found = {number for number in numbers if form.offset <= number <= form.most}
-        for first, last in runs_of(sorted(found)):
-            joined = [b"or"] if fields else []
-            if first == last:
-                fields += [column, b"=", b"%d" % first, *joined]
-            else:
-                fields += [column, b">=", b"%d" % first, column, b"<=", b"%d" % last, b"and", *joined]
-        return fields or [b"all", b"not"]
-
-    def _holds(self, term: Holds) -> List[bytes]:
-        name = self._name(term.column)
-        kind = self._forms[name].kind
-        if kind != Flags():
-            raise BadQuery(f"column {name!r} holds {kind}: only one of booleans is a predicate by itself")
-        return [self._within[name], b"=", b"1"]
-
-    def _cut(self, name: str, constant: Any) -> Cut:
-        kind = self._forms[name].kind
-        try:
-            return kind.cut(constant)
-        except (TypeError, ValueError, ArithmeticError) as why:
-            raise BadQuery(f"column {name!r} is compared with one of {kind}: {why}") from None
+    def _end(self, word: bytes, name: str, queries: Iterable[Sequence[bytes]]) -> Optional[int]:
+        """Returns the least or the greatest number of a column in the rows of some queries."""
+        numbers = [self._store.value(word, self._within[name], fields) for fields in queries]
+        there = [number for number in numbers if number is not None]
+        return (min if word == b"least" else max)(there, default=None)
 
     # ---- Its end ----
 
@@ -589,36 +550,6 @@ def rank_of(count: int, part: Part) -> int:
     """Returns the rank from 0 that NumPy's method "lower" has at a part of so many values: by the product of floats
     where it is one."""
     return math.floor((count - 1) * part)
-
-
-def among_numbers(sign: str, left: int, right: int) -> Tuple[str, int]:
-    """Returns the comparison of a number with a whole one that says the same as that with a constant of this cut."""
-    if sign in ("<", ">="):
-        return sign, left
-    if sign in ("<=", ">"):
-        return ("<", right) if sign == "<=" else (">=", right)
-    return (sign, left) if left < right else ("<" if sign == "=" else ">=", -FAR)
-
-
-def runs_of(numbers: Sequence[int]) -> Iterator[Tuple[int, int]]:
-    """Yields the first and the last of each run of numbers that follow each other, which come in order."""
-    first = 0
-    for place, number in enumerate(numbers):
-        if place + 1 == len(numbers) or numbers[place + 1] != number + 1:
-            yield numbers[first], number
-            first = place + 1
-
-
-def clamped(form: Form, sign: str, number: int) -> Tuple[str, int]:
-    """Returns the same comparison with a number that the column takes: below its least one there is none, from it on
-    are all."""
-    if sign in ("=", "!="):
-        if form.offset <= number <= form.most:
-            return sign, number
-        sign, number = "<" if sign == "=" else ">=", -FAR
-    if number > form.most:
-        return ("<=", form.most) if sign == "<" else (">", form.most)
-    return sign, max(number, form.offset)
 
 
 def _listed(names: Iterable[str]) -> str:

@@ -257,10 +257,55 @@ def test_isin_of_many_constants():
     assert index.count(col.t.isin({f"{number:04}" for number in range(1000)} | {"none"})) == 2001
     assert repr(col.x.isin([1, 2])) == "col.x.isin([1, 2])" and col.x.isin([1]) == col.x.isin((1,))
     assert pickle.loads(pickle.dumps(col.x.isin([1, 2]))) == col.x.isin([1, 2])
-    with pytest.raises(bsi.BadQuery, match="at most 1,000 fields"):
-        index.count(col.x.isin(range(0, 2000, 2)))
     with pytest.raises(bsi.BadQuery, match="'a' is no number"):
         index.count(col.x.isin([1, "a"]))
+
+
+def test_lists_that_are_longer_than_a_question():
+    x = np.random.default_rng(6).integers(-3000, 3000, 4000)
+    data = {"x": np.ma.MaskedArray(x, x % 7 == 0), "y": np.arange(4000)}
+    index, evens = bsi.Index.from_frame(data), np.arange(-2999, 3000, 2)
+    rows = (x % 2 == 1) & (x % 7 != 0)
+    assert index.count(col.x.isin(evens)) == rows.sum() and index.sum("y", ~col.x.isin(evens)) == data["y"][~rows].sum()
+    many = col.y != 5
+    for _ in range(248):
+        many = many & (col.y != 5)
+    with pytest.raises(bsi.BadQuery, match="at most 1,000 fields .* and this one 1,007"):
+        index.count(many & col.x.isin([1, 3]))
+
+
+@pytest.mark.parametrize("room", [60, 100])
+def test_lists_that_are_longer_than_a_question_beside_plain_python(room, monkeypatch):
+    monkeypatch.setattr("bsi.queries.MAX_FIELDS", room)
+    rng = np.random.default_rng(room)
+    x, there, y = rng.integers(-30, 30, 300), rng.random(300) < 0.9, rng.integers(0, 500, 300)
+    texts = np.array([f"{number:02}" for number in rng.integers(0, 25, 300)])
+    data = {"x": np.ma.MaskedArray(x, ~there), "t": texts, "y": y}
+    forms = bsi.Index.from_frame(data).forms
+    grows = forms["t"].of(bsi.Texts(tuple(rng.permutation(sorted(set(texts)))), grows=True))
+    odds, some = list(range(-29, 30, 2)), {f"{number:02}" for number in range(0, 25, 3)}
+    in_x, in_t = np.isin(x, odds) & there, np.isin(texts, list(some))
+    for table in (bsi.Index(forms), bsi.Parts(3, forms), bsi.Index({**forms, "t": grows})):
+        table.append(data)
+        for where, rows in (
+            (col.x.isin(odds), in_x),
+            (~col.x.isin(odds), ~in_x),
+            (~col.x.isin(odds) & (col.x < 20) | col.x.isnull(), ~in_x & (x < 20) | ~there),
+            (col.x.isin(odds) & ~col.t.isin(some), in_x & ~in_t),
+            (col.x.isin(odds) | col.x.isin([2]) & (col.t < "07"), in_x | (x == 2) & there & (texts < "07")),
+            (col.x.isin(odds) & (col.y < 0), in_x & (y < 0)),
+        ):
+            assert table.mask(where).tolist() == rows.tolist() and table.count(where) == rows.sum()
+            assert table.rows(where).tolist() == np.flatnonzero(rows).tolist()
+            found, words = sorted(y[rows].tolist()), sorted(texts[rows].tolist())
+            at = (len(found) - 1) // 2
+            assert table.sum("y", where) == sum(found) and list(table.values_in("y", where)) == sorted(set(found))
+            ends = [found[0], found[-1], found[at], words[0], words[at]] if found else [None] * 5
+            asked = [table.min("y", where), table.max("y", where), table.median("y", where)]
+            assert [*asked, table.min("t", where), table.median("t", where)] == ends
+            assert table.quantile("y", 1, where) == ends[1] and dict(table.value_counts("t", where)) == {
+                word: words.count(word) for word in words
+            }
 
 
 def test_constants_on_the_left():
