@@ -36,7 +36,8 @@ from .version import __version__
 MAX_SHOWN = 20
 FOR_CSV = ("null", "nulls", "delimiter", "decimal", "dates", "encoding", "skiprows", "skip_bad")
 KINDS = {"text": lambda _: Texts, "whole": lambda _: Whole(), "flags": lambda _: Flags()}
-KINDS["decimals"], KINDS["times"] = lambda places: Decimals(int(places or 2)), lambda unit: Times(unit or "s")
+KINDS["decimals"] = lambda places: Decimals(int(places) if places.isdecimal() else places or 2)
+KINDS["times"] = lambda unit: Times(unit or "s")
 SIZED = ("decimals", "times")
 KINDS["dates"] = lambda _: Times("D")
 

@@ -9,7 +9,7 @@ from operator import itemgetter
 from queue import SimpleQueue
 from typing import Any, Callable, ContextManager, Iterable, List, Mapping, Optional, Sequence, Tuple, Union
 
-from .choosing import chosen_of, refuse_misfit
+from .choosing import chosen_of
 from .errors import BadNotes, BadSchema, Error, NoMemory
 from .forms import Form
 from .gathered import Gathered
@@ -165,8 +165,7 @@ class Parts(Table):
         return cls(n, found.forms, limit=limit)._filled(found, progress)
 
     def _append(self, encoded: Any) -> int:
-        for (name, form), (numbers, valid) in zip(self._forms.items(), encoded):
-            refuse_misfit(name, form, numbers, valid)
+        self._refuse_misfits(encoded)
         return super()._append(encoded)
 
     def save(self, folder: Path) -> List[str]:

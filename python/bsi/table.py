@@ -20,7 +20,7 @@ from typing import AbstractSet, Any, Dict, Iterable, Iterator, List, Mapping, Op
 
 import numpy as np
 
-from .choosing import Chosen, of_each, refuse_no_kind
+from .choosing import Chosen, of_each, refuse_misfit, refuse_no_kind
 from .errors import BadColumns, BadQuery, BadRow, BadSchema, Error, IndexFull, NoMemory
 from .forms import Form
 from .groups import GroupBy, Groups
@@ -183,7 +183,7 @@ class Table:
     def _append(self, encoded: Sequence[Tuple[np.ndarray, np.ndarray]]) -> int:
         status, row = self._store.append([_entries(numbers, valid) for numbers, valid in encoded])
         if status == BAD_ROW:
-            raise self._misfit(encoded, row)
+            self._refuse_misfits(encoded)
         if status == INDEX_FULL:
             self._refuse_full(len(encoded[0][0]))
         if status == NO_MEMORY:
@@ -216,13 +216,10 @@ class Table:
         if more > room:
             raise IndexFull(f"row {room:,} is past the limit of {self._limit:,} rows; none was appended", room)
 
-    def _misfit(self, encoded: Sequence[Tuple[np.ndarray, np.ndarray]], row: int) -> BadRow:
-        """Returns which column does not take its number in a row that the library refused."""
-        for (name, form), (numbers, valid) in zip(self._forms.items(), encoded):
-            number = int(numbers[row])
-            if valid[row] and not form.offset <= number <= form.most:
-                return form.misfit(name, row, number)
-        raise AssertionError(f"row {row} was refused, and each column takes its number")
+    def _refuse_misfits(self, encoded: Sequence[Tuple[np.ndarray, np.ndarray]]) -> None:
+        """Refuses what columns do not take: of each of these columns the first number."""
+        given = dict(zip(self._forms, encoded))
+        of_each(self._forms, lambda name: refuse_misfit(name, self._forms[name], *given[name]))
 
     # ---- Questions ----
 

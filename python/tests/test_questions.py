@@ -156,7 +156,7 @@ def test_the_command_takes_what_read_csv_takes(tmp_path):
     for kinds, why in (
         ("zip=code", "--kinds has NAME=KIND"),
         ("zip=whole:3", "and not 'zip=whole:3'"),
-        ("n=decimals:x", "--kinds n=decimals:x: "),
+        ("n=decimals:x", "--kinds n=decimals:x: 'x' is no number of places"),
         ("Day=times:h", "--kinds Day=times:h: 'h' is no unit of time"),
     ):
         assert why in run(str(path), "--kinds", kinds, "count").stderr

@@ -191,6 +191,7 @@ def test_zones_of_other_packages(package):
     index = bsi.Index.from_frame({"t": times})
     assert index.least("t") == times[0] and index.greatest("t").utcoffset() == datetime.timedelta(hours=2)
     assert index.append({"t": times}) == 2 and index.rows(bsi.col.t == times[1]).tolist() == [1, 3]
+    assert index.take([3, 0])["t"] == times[::-1] and index.to_pandas()["t"].tolist() == times * 2
     assert "Paris" in repr(index)
 
 
