@@ -24,7 +24,7 @@ from .choosing import Chosen, of_each, refuse_misfit, refuse_no_kind
 from .errors import BadColumns, BadQuery, BadRow, BadSchema, Error, IndexFull, NoMemory
 from .forms import Form
 from .groups import GroupBy, Groups
-from .kinds import Flags, Misfit, Texts, shown
+from .kinds import Flags, Misfit, Texts, Times, shown
 from .narrowing import encode
 from .native import BAD_ROW, INDEX_FULL, NO_MEMORY, Entries, Handle, check
 from .predicates import Column, Comparison, Predicate, Stored, all_rows
@@ -237,10 +237,13 @@ class Table:
         return sum(self._store.counts(self._queries(Column(name).notnull() & where)))
 
     def mean(self, column: Name, where: Predicate = all_rows) -> Any:
-        """Returns the mean of the column's values in these rows: a float, or a Decimal for decimals. None where there
-        is no value."""
+        """Returns the mean of the column's values in these rows: a float, a Decimal for decimals, and for times the
+        nearest microsecond, or nanosecond. None where there is no value."""
         name = self._name(column)
-        total, count = self.sum(name, where), self.count(name, where)
+        kind, count = self._forms[name].kind, self.count(name, where)
+        if isinstance(kind, Times):
+            return kind.decode_between(Fraction(self._sum(name, where), count)) if count else None
+        total = self.sum(name, where)
         return total / count if count else None
 
     def min(self, column: Name, where: Predicate = all_rows) -> Any:
@@ -372,16 +375,23 @@ class Table:
         counts = self.groupby(name).count(where=where)
         return Groups(name, dict(sorted(counts.items(), key=lambda one: -one[1])))
 
-    def describe(self, columns: Optional[Iterable[str]] = None, where: Predicate = all_rows) -> Summary:
+    def describe(
+        self,
+        columns: Optional[Iterable[Name]] = None,
+        where: Predicate = all_rows,
+        interpolation: str = "lower",
+    ) -> Summary:
         """Returns the count, the mean, the ends and the quartiles of columns in these rows, with the names that pandas
-        gives them."""
-        return Summary({self._name(one): self._figures(one, where) for one in columns or self._forms})
+        gives them. The quartiles are those of `quantile`, and those of texts and booleans always the lower ones."""
+        return Summary({name: self._figures(name, where, interpolation) for name in self._names(columns)})
 
-    def _figures(self, name: str, where: Predicate) -> Dict[str, Any]:
+    def _figures(self, name: str, where: Predicate, interpolation: str) -> Dict[str, Any]:
         figures: Dict[str, Any] = {"count": self.count(name, where)}
-        with contextlib.suppress(BadQuery):  # (texts and times have none)
+        with contextlib.suppress(BadQuery):  # (texts have none)
             figures["mean"] = self.mean(name, where)
-        low, *middle, high = self.quantile(name, (0, 0.25, 0.5, 0.75, 1), where)
+        has_between = not isinstance(self._forms[name].kind, (Flags, Texts))
+        middle = self.quantile(name, (0.25, 0.5, 0.75), where, interpolation if has_between else "lower")
+        low, high = self.least(name, where), self.greatest(name, where)
         return {**figures, "min": low, **dict(zip(("25%", "50%", "75%"), middle)), "max": high}
 
     def sum(self, column: Name, where: Predicate = all_rows) -> Any:
@@ -392,7 +402,10 @@ class Table:
             kind.decode_sum(0)
         except TypeError as why:
             raise BadQuery(f"column {name!r}: {why}") from None
-        return kind.decode_sum(sum(self._store.sum(self._within[name], fields) for fields in self._queries(where)))
+        return kind.decode_sum(self._sum(name, where))
+
+    def _sum(self, name: str, where: Predicate) -> int:
+        return sum(self._store.sum(self._within[name], fields) for fields in self._queries(where))
 
     def least(self, column: Name, where: Predicate = all_rows) -> Any:
         """Returns the least value of the column in these rows, or None where there is none."""

@@ -500,6 +500,41 @@ def test_a_summary():
     with pytest.raises(bsi.BadQuery, match="count\\('ok'\\) counts its values, and count\\(col.ok == True\\)"):
         index.count(col.ok)
     assert index.count("ok") == 3 and index.count(where=col.n > 1) == 2 and index.count(col.n > 1, col.n < 3) == 1
+    assert index.describe("day") == {"day": found["day"]} and index.describe(col.n)["n"] == found["n"]
+
+
+def test_a_summary_beside_pandas():
+    pandas = pytest.importorskip("pandas")
+    rng = np.random.default_rng(4)
+    day = pandas.Timestamp("2026-01-01") + pandas.to_timedelta(rng.integers(0, 400, 90), unit="D")
+    frame = pandas.DataFrame({"n": rng.integers(-50, 50, 90), "x": rng.integers(0, 500, 90) / 4, "day": day})
+    frame.loc[rng.random(90) < 0.2, "x"] = np.nan
+    found = bsi.Index.from_frame(frame).describe(interpolation="linear")
+    for name in frame:
+        wanted = {"count": frame[name].count(), "mean": frame[name].mean(), "min": frame[name].min()}
+        wanted.update({f"{part}%": frame[name].quantile(part / 100) for part in (25, 50, 75)}, max=frame[name].max())
+        assert list(found[name]) == list(wanted)
+        for word, figure in wanted.items():
+            if name == "day" and word != "count":
+                # (the days of pandas may be cut to nanoseconds)
+                assert abs(found[name][word] - figure) <= datetime.timedelta(microseconds=1), word
+            else:
+                assert float(found[name][word]) == pytest.approx(float(figure), rel=1e-12), (name, word)
+    index = bsi.Index.from_frame({"t": ["b", "a"], "f": [True, False]})
+    assert index.describe(interpolation="linear")["t"]["50%"] == "a"
+    assert index.describe(interpolation="linear")["f"]["50%"] is False
+
+
+def test_means_of_times():
+    days = [datetime.datetime(2026, 1, 1), None, datetime.datetime(2026, 1, 2), datetime.datetime(2026, 1, 2)]
+    zoned = [None if day is None else day.replace(tzinfo=datetime.timezone.utc) for day in days]
+    fine = np.array([1, "NaT", 2, 2], "M8[ns]")
+    index = bsi.Index.from_frame({"d": days, "z": zoned, "f": fine})
+    for table in (index, bsi.Parts.from_frame(2, {"d": days, "z": zoned, "f": fine})):
+        assert table.mean("d") == datetime.datetime(2026, 1, 1, 16) and table.mean("f") == np.datetime64(2, "ns")
+        assert table.mean("z") == datetime.datetime(2026, 1, 1, 16, tzinfo=datetime.timezone.utc)
+        assert table.mean("d", col.d > "2027-01-01") is None
+        assert table.groupby("d").mean("z") == {days[0]: zoned[0], days[2]: zoned[2]}
 
 
 def test_a_thousand_fields():
