@@ -266,7 +266,7 @@ class Table:
         It is found by a count for each bit of the column."""
         if interpolation not in ("lower", "linear"):
             raise ValueError(f"interpolation is 'lower' or 'linear', and not {interpolation!r}")
-        if isinstance(q, Iterable) and not isinstance(q, (str, bytes)) and np.ndim(q):  # type: ignore[arg-type]
+        if isinstance(q, Iterable) and not isinstance(q, (str, bytes)) and not is_scalar(q):
             return [self.quantile(column, one, where, interpolation) for one in q]
         part, name = part_of(q), self._name(column)
         count = self.count(name, where)
@@ -311,7 +311,7 @@ class Table:
         if method not in ("average", "min", "max"):
             raise ValueError(f"method is 'average', 'min' or 'max', and not {method!r}")
         one = Column(self._name(column))
-        less, same = self.count(where & (one < value)), self.count(where & (one == value))
+        less, same = self.count((one < value) & where), self.count((one == value) & where)
         places = {"min": less + 1, "max": less + same, "average": less + (same + 1) / 2}
         return places[method] if same else None
 
@@ -433,9 +433,9 @@ class Table:
         return some[places >> 6] * 64 + (places & 63)
 
     def take(self, rows: Iterable[int], columns: Optional[Iterable[Name]] = None) -> Dict[str, List[Any]]:
-        """Returns the values of rows, given by their numbers from 0 in any order: lists by column, None for a null, as
-        `append` takes them. A column takes some questions for each bit of its numbers; where these are very many, the
-        call takes memory as `save` does."""
+        """Returns the values of rows, given by their numbers from 0 in any order, as lists by column with None for a
+        null. A column takes some questions for each bit of its numbers; where these are very many, the call takes
+        memory as `save` does."""
         given, names = rows_of(rows, len(self)), self._names(columns)
         different, places = np.unique(given, return_inverse=True)
         each = zip(names, ((numbers[places], valid[places]) for numbers, valid in self._numbers(names, different)))
@@ -443,7 +443,7 @@ class Table:
 
     def to_pandas(self, where: Predicate = all_rows, columns: Optional[Iterable[Name]] = None) -> Any:
         """Returns the rows that the predicate selects as a frame of pandas, in order, with their numbers as its index.
-        Decimals are Decimal, and texts objects, each with None for a null. It takes as long, and memory, as `take`."""
+        Decimals are Decimal, and texts objects, each with None for a null. It costs what `take` does."""
         import pandas
 
         rows, names = self.rows(where), self._names(columns)
@@ -502,10 +502,14 @@ class Table:
         """Returns the words whose bits say which rows the predicate selects, and how many rows there are."""
         queries = self._queries(where)
         while True:
-            found = [self._store.select(fields) for fields in queries]
-            # (another thread may append between two of them; then all are asked again)
-            if len({rows for _, rows in found}) == 1:
-                return np.bitwise_or.reduce([words for words, _ in found]), found[0][1]
+            words, rows = self._store.select(queries[0])
+            for fields in queries[1:]:
+                more, count = self._store.select(fields)
+                if count != rows:
+                    break  # (another thread appended between the two; then all are asked again)
+                words |= more
+            else:
+                return words, rows
 
     def _end(self, word: bytes, name: str, queries: Iterable[Sequence[bytes]]) -> Optional[int]:
         """Returns the least or the greatest number of a column in the rows of some queries."""
@@ -545,9 +549,14 @@ def rows_of(rows: Any, count: int) -> np.ndarray:
     return given.astype(np.int64)
 
 
+def is_scalar(given: Any) -> bool:
+    """Returns whether it is an array of one value without a length."""
+    return isinstance(given, np.ndarray) and given.ndim == 0
+
+
 def part_of(q: Any) -> Part:
     """Returns a part from 0 to 1, or raises TypeError or ValueError where it is none."""
-    part = q[()] if isinstance(q, np.ndarray) and q.ndim == 0 else q
+    part = q[()] if is_scalar(q) else q
     is_number = isinstance(part, (Real, Decimal)) and not isinstance(part, (bool, np.timedelta64))
     if not is_number:
         raise TypeError(f"a quantile is a number from 0 to 1, and not {q!r}")

@@ -348,6 +348,7 @@ def test_quantiles_are_those_of_numpy():
             place = (count - 1) * Fraction(str(part))
             low, high = (Fraction(int(np.sort(x)[min(at, count - 1)])) for at in (place // 1, place // 1 + 1))
             assert type(value) is Decimal and Fraction(value) == (low + (high - low) * (place % 1)) / 10
+    assert index.quantile("x", (part for part in (0, 1))) == [x.min(), x.max()] == index.quantile("x", range(2))
     assert index.quantile("x", [], interpolation="linear") == [] and index.quantile("x", 0.5, col.x > 999) is None
 
 

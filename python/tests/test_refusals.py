@@ -36,6 +36,8 @@ REFUSED = [
     (lambda: index().sum("x", np.array([True])), TypeError, "a predicate is made of bsi.col"),
     (lambda: index().sum("f", col.x), bsi.BadQuery, "column 'x' holds whole numbers: only one of booleans"),
     (lambda: index().rank("x", None), bsi.BadQuery, "column 'x' is compared with one of whole numbers: None"),
+    (lambda: index().rank("x", 5, "x < 5"), TypeError, "a predicate stands on each side of 'and', and not str"),
+    (lambda: index().nlargest(1, "x", "x < 5"), TypeError, "a predicate stands on each side of 'and', and not str"),
     (lambda: col.x.isin(5), TypeError, "a list of constants, and not 5"),
     (lambda: bsi.ask(index(), None), TypeError, "a question that is a text, and not Index and NoneType"),
     (lambda: bsi.ask("count", index()), TypeError, "takes an index and a question"),
