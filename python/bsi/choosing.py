@@ -12,7 +12,7 @@ import numpy as np
 
 from .errors import BadColumns, BadRow, BadSchema, Error, several
 from .forms import LEAST, MOST, Form, narrowest
-from .kinds import Kind, Misfit, Texts, Whole
+from .kinds import Kind, Misfit, Texts, Whole, first_misfit
 from .narrowing import MAX_TEXTS, encode, joined, narrow, recode, too_many_texts
 from .values import Values, columns_of, values_of
 
@@ -163,6 +163,8 @@ class Wishes:
         try:
             if kind is None or kind is Texts:
                 kind, numbers = narrow(values, None if kind is Texts else MAX_TEXTS, self.round.get(name))
+                if self.kinds.get(name) is Texts and not isinstance(kind, (Texts, type(None))):
+                    first_misfit(values.valid, values.values, "is no text")
             else:
                 refuse_no_kind(name, kind)
                 numbers = encode(kind, values)

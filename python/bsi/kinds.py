@@ -54,7 +54,10 @@ def shown(value: Any) -> str:
     """Returns a value as an error shows it."""
     if isinstance(value, np.floating):
         return str(value)
-    text = repr(value.item() if isinstance(value, np.generic) and value.dtype.kind in "iub" else value)
+    try:
+        text = repr(value.item() if isinstance(value, np.generic) and value.dtype.kind in "iub" else value)
+    except ValueError:
+        text = f"what is of type {type(value).__name__} and too long to show"  # (a whole number of 4,300 digits)
     return text if len(text) <= 60 else text[:57] + "..."
 
 
@@ -112,7 +115,7 @@ class Kind:
             try:
                 numbers_found[row] = self.number(value)
             except (TypeError, ValueError, ArithmeticError) as why:
-                reason = "it is past 64 bits" if isinstance(why, OverflowError) else str(why)
+                reason = f"{shown(value)} is past 64 bits" if isinstance(why, OverflowError) else str(why)
                 raise Misfit(int(row), value, reason) from None
         return numbers_found
 
@@ -272,6 +275,7 @@ class Decimals(Kind):
         with np.errstate(over="ignore", invalid="ignore"):
             scaled = np.rint(np.where(valid, values, 0).astype(np.float64) * 10.0**self.places)
             back = (scaled / 10.0**self.places).astype(values.dtype)
+        first_misfit(valid & ~np.isfinite(values), values, "is no finite number")
         fits = (np.abs(scaled) <= most) & (back == np.where(valid, values, 0))
         first_misfit(~fits, values, f"can't be kept exactly with {self.places} decimal places; round= rounds it")
         return scaled.astype(np.int64)

@@ -13,6 +13,7 @@ from .errors import BadQuery
 from .forms import Form
 from .kinds import FAR, Cut, Flags, Texts, shown
 from .predicates import MAX_FIELDS, Among, Column, Comparison, Holds, Null, Predicate, Stored, refuse_long
+from .values import is_null
 
 Name = Union[str, Column]
 Fields = List[bytes]
@@ -121,7 +122,8 @@ class Writer:
         try:
             return kind.cut(constant)
         except (TypeError, ValueError, ArithmeticError) as why:
-            raise BadQuery(f"column {name!r} is compared with one of {kind}: {why}") from None
+            hint = "; isnull() finds the nulls" if is_null(constant) and "isnull" not in str(why) else ""
+            raise BadQuery(f"column {name!r} is compared with one of {kind}: {why}{hint}") from None
 
 
 def among_numbers(sign: str, left: int, right: int) -> Tuple[str, int]:

@@ -79,7 +79,7 @@ def schema_of(columns: Mapping[str, Form], limit: Optional[int]) -> bytes:
     if len(columns) > MAX_COLUMNS:
         raise BadSchema(f"an index has at most {MAX_COLUMNS} columns, and not {len(columns)}; name those wanted")
     if limit is not None and (not isinstance(limit, Integral) or not 1 <= limit <= MAX_ROWS):
-        raise BadSchema(f"the limit is 1 to {MAX_ROWS:,} rows, and not {limit!r}")
+        raise BadSchema(f"the limit is 1 to {MAX_ROWS:,} rows, and not {shown(limit)}")
     within = names_within(list(columns))
     records = [form.record(within[name]) for name, form in columns.items()]
     records += [] if limit is None else [f"limit,{limit}"]
@@ -559,9 +559,9 @@ def part_of(q: Any) -> Part:
     part = q[()] if is_scalar(q) else q
     is_number = isinstance(part, (Real, Decimal)) and not isinstance(part, (bool, np.timedelta64))
     if not is_number:
-        raise TypeError(f"a quantile is a number from 0 to 1, and not {q!r}")
+        raise TypeError(f"a quantile is a number from 0 to 1, and not {shown(q)}")
     if isinstance(part, Decimal) and part.is_nan() or not 0 <= part <= 1:
-        raise ValueError(f"a quantile is from 0 to 1, and not {q!r}")
+        raise ValueError(f"a quantile is from 0 to 1, and not {shown(q)}")
     return float(part) if isinstance(part, (float, np.floating)) else Fraction(part)
 
 

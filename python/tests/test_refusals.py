@@ -38,6 +38,12 @@ REFUSED = [
     (lambda: index().rank("x", None), bsi.BadQuery, "column 'x' is compared with one of whole numbers: None"),
     (lambda: index().rank("x", 5, "x < 5"), TypeError, "a predicate stands on each side of 'and', and not str"),
     (lambda: index().nlargest(1, "x", "x < 5"), TypeError, "a predicate stands on each side of 'and', and not str"),
+    (lambda: index().count(col.t == None), bsi.BadQuery, "None is no text; isnull"),  # noqa: E711
+    (lambda: index().count(col.x.isin([3, None])), bsi.BadQuery, r"None is no number; isnull\(\) finds the nulls"),
+    (lambda: index().count(col.f == float("nan")), bsi.BadQuery, "nan is neither True nor False; isnull"),
+    (lambda: index().count(col.t == 10**5000), bsi.BadQuery, "type int and too long to show is no text"),
+    (lambda: index().quantile("x", 10**5000), ValueError, "a quantile is from 0 to 1, and not what is of type int"),
+    (lambda: bsi.Index({"x": bsi.slices(2)}, limit=10**5000), bsi.BadSchema, "the limit is 1 to .* type int"),
     (lambda: col.x.isin(5), TypeError, "a list of constants, and not 5"),
     (lambda: bsi.ask(index(), None), TypeError, "a question that is a text, and not Index and NoneType"),
     (lambda: bsi.ask("count", index()), TypeError, "takes an index and a question"),

@@ -227,6 +227,9 @@ def test_texts_that_are_wished():
     assert index.count(bsi.col.zip < "00100") == 100
     with pytest.raises(bsi.BadRow, match="row 1: 5 is no text"):
         bsi.Index.from_frame({"zip": ["00501", 5]}, kinds={"zip": bsi.Texts})
+    for numbers in ([None, 501, 10001], np.array([np.nan, 501]), pandas.array([None, 501], dtype="Int64")):
+        with pytest.raises(bsi.BadRow, match="column 'zip', row 1: 501(.0)? is no text"):
+            bsi.Index.from_frame({"zip": numbers}, kinds={"zip": bsi.Texts})
 
 
 def test_floats_that_are_rounded():
@@ -330,7 +333,9 @@ REFUSED = {
     "a long double of 17 digits": (np.array([1, 1234567890123456.5], np.longdouble), 1, "exactly with"),
     "numbers far apart": ([None, -1, 5, 2**63 - 1], 3, "more than the 2\\^63 values"),
     "a large float": (np.array([0.5, 1e300]), 1, "exactly with"),
-    "infinity": (np.array([1.0, np.inf]), 1, "exactly with|63 bits"),
+    "infinity": (np.array([1.0, np.inf]), 1, "inf is no finite number"),
+    "a number of very many digits": ([1, 10**5000], 1, "what is of type int and too long to show is past 64 bits"),
+    "a fraction of very many digits": ([1, Fraction(10**5000, 3)], 1, "type Fraction and too long to show is no number"),
     "a fraction": ([Decimal("0.5"), Fraction(1, 3)], 1, "no number, or no decimal"),
     "infinite decimal": ([Decimal("inf")], 0, "no finite number"),
     "many places": ([Decimal("1e-30")], 0, "more than 18"),
