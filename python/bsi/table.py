@@ -337,7 +337,7 @@ class Table:
         grows = isinstance(kind, Texts) and kind.grows
         past = Comparison(name, sign, kind.decode(number)) if grows else Stored(name, sign, number)
         rows = self.rows(where & Predicate([past]))
-        ((keys, _),) = self._numbers([name], rows)
+        keys, _ = self._numbers([name], rows)[name]
         if grows:
             keys = np.argsort(sorted(range(len(kind.values)), key=kind.values.__getitem__))[keys]
         rows = rows[np.argsort(~keys if sign == ">" else keys, kind="stable")]
@@ -436,24 +436,31 @@ class Table:
         """Returns the values of rows, given by their numbers from 0 in any order, as lists by column with None for a
         null. A column takes some questions for each bit of its numbers; where these are very many, the call takes
         memory as `save` does."""
-        given, names = rows_of(rows, len(self)), self._names(columns)
-        different, places = np.unique(given, return_inverse=True)
-        each = zip(names, ((numbers[places], valid[places]) for numbers, valid in self._numbers(names, different)))
-        return {name: list_of(self._forms[name].kind, found) for name, found in each}
+        found = self._numbers(self._names(columns), rows_of(rows, len(self)))
+        return {name: list_of(self._forms[name].kind, one) for name, one in found.items()}
 
-    def to_pandas(self, where: Predicate = all_rows, columns: Optional[Iterable[Name]] = None) -> Any:
-        """Returns the rows that the predicate selects as a frame of pandas, in order, with their numbers as its index.
-        Decimals are Decimal, and texts objects, each with None for a null. It costs what `take` does."""
+    def to_pandas(
+        self, where: Union[Predicate, Iterable[int]] = all_rows, columns: Optional[Iterable[Name]] = None
+    ) -> Any:
+        """Returns the rows that the predicate selects, in order, or rows by their numbers, as `nlargest` gives them: a
+        frame of pandas, whose index are these numbers. Decimals are Decimal, and texts objects, each with None for a
+        null. It costs what `take` does."""
         import pandas
 
-        rows, names = self.rows(where), self._names(columns)
-        each = zip(names, self._numbers(names, rows))
-        return frame_of(pandas, {name: column_of(pandas, self._forms[name].kind, found) for name, found in each}, rows)
+        is_predicate = isinstance(where, (Predicate, Column))
+        rows = self.rows(where) if is_predicate else rows_of(where, len(self))  # type: ignore[arg-type]
+        found = self._numbers(self._names(columns), rows).items()
+        return frame_of(pandas, {name: column_of(pandas, self._forms[name].kind, one) for name, one in found}, rows)
 
-    def _numbers(self, names: Sequence[str], rows: np.ndarray) -> List[Found]:
-        """Returns of each column the numbers in these rows, which are in order, and which of them are valid."""
+    def _numbers(self, names: Sequence[str], rows: np.ndarray) -> Dict[str, Found]:
+        """Returns of each column the numbers in these rows, and which of them are valid."""
         bitmaps = sum(1 + form.places for form in self._forms.values())
-        return self._store.numbers([self._within[name] for name in names], rows, bitmaps)
+        within, are_sorted = [self._within[name] for name in names], (rows[:-1] < rows[1:]).all()
+        if are_sorted:
+            return dict(zip(names, self._store.numbers(within, rows, bitmaps)))
+        different, places = np.unique(rows, return_inverse=True)
+        found = self._store.numbers(within, different, bitmaps)
+        return {name: (numbers[places], valid[places]) for name, (numbers, valid) in zip(names, found)}
 
     def _names(self, columns: Optional[Iterable[Name]]) -> List[str]:
         """Returns the columns that are wanted: all where none are named."""

@@ -184,6 +184,8 @@ def test_a_frame_goes_in_and_out():
     pandas.testing.assert_frame_equal(index.to_pandas(), frame)
     wanted = frame[frame["n"] >= 2].astype({"N": "int64", "F": "bool"})
     pandas.testing.assert_frame_equal(index.to_pandas(col.n >= 2), wanted)
+    wanted = frame.iloc[[2, 0, 2]].astype({"N": "int64", "F": "bool"})
+    pandas.testing.assert_frame_equal(index.to_pandas([2, 0, 2]), wanted)
     floats = pandas.DataFrame({"x": [0.1, 2.25, np.nan], "d": [Decimal("0.10"), None, Decimal("-7.00")]})
     found = bsi.Index.from_frame(floats).to_pandas()
     pandas.testing.assert_series_equal(found["x"].astype(float), floats["x"])
@@ -236,6 +238,8 @@ def test_the_outermost_rows_are_those_of_pandas():
     for n in (1, 10, 100):
         assert index.nlargest(n, "x").tolist() == frame["x"].nlargest(n).index.tolist()
         assert index.nsmallest(n, col.x).tolist() == frame["x"].nsmallest(n).index.tolist()
+        found = index.to_pandas(index.nlargest(n, "x"))["x"].astype(float)
+        pandas.testing.assert_series_equal(found, frame["x"].nlargest(n))
     for method in ("average", "min", "max"):
         ranks = frame["x"].rank(method=method)
         for row in index.rows(col.x.notnull())[:20].tolist():
