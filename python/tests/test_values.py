@@ -335,7 +335,7 @@ REFUSED = {
     "a large float": (np.array([0.5, 1e300]), 1, "exactly with"),
     "infinity": (np.array([1.0, np.inf]), 1, "inf is no finite number"),
     "a number of very many digits": ([1, 10**5000], 1, "what is of type int and too long to show is past 64 bits"),
-    "a fraction of very many digits": ([1, Fraction(10**5000, 3)], 1, "type Fraction and too long to show is no number"),
+    "a fraction of many digits": ([1, Fraction(10**5000, 3)], 1, "type Fraction and too long to show is no number"),
     "a fraction": ([Decimal("0.5"), Fraction(1, 3)], 1, "no number, or no decimal"),
     "infinite decimal": ([Decimal("inf")], 0, "no finite number"),
     "many places": ([Decimal("1e-30")], 0, "more than 18"),
