@@ -113,7 +113,8 @@ def refuse_no_kind(name: str, kind: Any) -> None:
 def by_column(what: str, wanted: str, given: Any, names: List[str], kind: type) -> Dict[str, Any]:
     """Returns what is given for all columns, or by column. Refuses what is of another type than is wanted, or is given
     for no column."""
-    found = dict(given) if isinstance(given, Mapping) else {} if given is None else dict.fromkeys(names, given)
+    by_name = given if isinstance(given, Mapping) else dict.fromkeys(names, given)
+    found = {name: one for name, one in by_name.items() if one is not None}
     for name, one in found.items():
         if not isinstance(one, kind) or isinstance(one, bool):
             raise TypeError(f"{what} is {wanted}, or a dict of such by column, and not {given!r}")

@@ -80,11 +80,12 @@ def read_csv(
 
 def _options(nulls: Collection[str], decimal: str) -> Options:
     """Returns what is said of all fields."""
-    if isinstance(nulls, str) or not isinstance(nulls, Iterable) or any(not isinstance(one, str) for one in nulls):
+    given = nulls if isinstance(nulls, str) or not isinstance(nulls, Iterable) else tuple(nulls)
+    if not isinstance(given, tuple) or any(not isinstance(one, str) for one in given):
         raise TypeError(f"nulls is a list of texts, and not {nulls!r}")
     if decimal not in (".", ","):
         raise ValueError(f"decimal is '.' or ',', and not {decimal!r}")
-    return Options(None, tuple(nulls), decimal)
+    return Options(None, given, decimal)
 
 
 class _Asked(NamedTuple):

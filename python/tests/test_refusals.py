@@ -98,6 +98,7 @@ def test_what_is_given_right():
     assert read(dates={"b": "%Y-%m-%d"}, skiprows=0, nulls={"-"}).forms["b"].kind == bsi.Times("D")
     assert index().sum("x", col.f) == 5 and index().count(where=col.f) == 1 and index().rows(col.f).tolist() == [0]
     assert index().groupby("t").count(where=col.f) == {"a": 1}
+    assert read(nulls=(text for text in ("", "5.125"))).count("a") == 0 and len(read(dates={"b": None}, round=None)) == 1
 
 
 def test_a_text_too_many_that_looks_like_a_date(tmp_path):

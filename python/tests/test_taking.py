@@ -192,6 +192,13 @@ def test_a_frame_goes_in_and_out():
     assert found["d"].tolist() == floats["d"].tolist()
 
 
+def test_times_in_nanoseconds_are_as_answers_have_them():
+    times = np.array([5, "NaT", -7, 5], "M8[ns]")
+    index = bsi.Index.from_frame({"t": times})
+    assert same(index.take([3, 1, 2])["t"], [times[3], None, times[2]])
+    assert same(index.take([2])["t"], [index.least("t")])
+
+
 def test_times_that_pandas_has_not():
     pytest.importorskip("pandas")
     days = [datetime.datetime(1, 1, 1), None, datetime.datetime(9999, 12, 31)]
