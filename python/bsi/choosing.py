@@ -176,7 +176,8 @@ class Wishes:
     def form(self, name: str, kind: Optional[Kind], low: int, high: int) -> Form:
         """Returns the form that is given for the column, or the smallest for its numbers."""
         given = self.kinds.get(name)
-        kind = kind or (given if isinstance(given, Kind) else Whole())
+        # (a column of texts has one at least)
+        kind = kind or (given if isinstance(given, Kind) else Texts(("",)) if given is Texts else Whole())
         if name in self.forms:
             return self.forms[name].of(kind)
         if high - low >= SPAN:

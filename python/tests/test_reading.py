@@ -400,6 +400,7 @@ def test_files_of_other_layouts(write):
 def test_a_column_of_nulls_keeps_the_kind_that_is_given(write):
     index = read(write, "t,n\n,1\n,2\n", kinds={"t": bsi.Times("D")})
     assert index.count(col.t < "2026-01-31") == 0 and index.count(col.t.isnull()) == 2
+    assert read(write, "t,n\n,1\n,2\n", kinds={"t": bsi.Texts}).count(col.t == "a") == 0
 
 
 def random_field(rng, style):

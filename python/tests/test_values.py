@@ -216,6 +216,16 @@ def test_nulls_alone_have_the_kind_of_their_dtype(name):
     assert index.count(bsi.col.x == constant) == 0 and index.least("x") is None
 
 
+def test_nulls_alone_are_texts_where_they_are_wished():
+    for spare, table in ((0, {"t": [None, None]}), (3, {"t": np.array([np.nan] * 2)}), (3, {"t": []})):
+        index = bsi.Index.from_frame(table, kinds={"t": bsi.Texts}, spare=spare)
+        assert index.count(bsi.col.t == "a") == 0 and index.count(bsi.col.t.isnull()) == len(index)
+        assert index.greatest("t") is None and index.take(range(len(index)))["t"] == [None] * len(index)
+        if spare:
+            index.append({"t": ["b", "a", None]})
+            assert index.value_counts("t") == {"b": 1, "a": 1} and index.greatest("t") == "b"
+
+
 def test_an_order_that_names_a_text_twice():
     given = Arrow("c", 3, [None, np.array([0, 1, 2], np.int8)], dictionary=texts("b", "a", "b"), flags=1)
     index = bsi.Index.from_frame({"x": given})
