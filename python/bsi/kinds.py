@@ -15,7 +15,7 @@ import re
 from bisect import bisect_left, bisect_right
 from dataclasses import dataclass, field, replace
 from datetime import date, datetime, timedelta, timezone
-from decimal import Decimal
+from decimal import Context, Decimal
 from fractions import Fraction
 from itertools import repeat
 from typing import Any, Callable, Dict, Iterable, List, Tuple
@@ -28,6 +28,8 @@ COMPARE.update({">": operator.gt, ">=": operator.ge})
 GROWS = "; spare= leaves room for more"
 # A number past all that a column can take.
 FAR = 1 << 200
+# More digits than a sum has.
+EXACT = Context(prec=100)
 NANOSECONDS = {"D": 86_400_000_000_000, "s": 1_000_000_000, "ms": 1_000_000, "us": 1_000, "ns": 1}
 UNITS = {"D": "days", "s": "seconds", "ms": "milliseconds", "us": "microseconds", "ns": "nanoseconds"}
 NUMBER = re.compile(r"-?(?:[0-9]+(?:\.[0-9]*)?|\.[0-9]+)(?:[eE][-+]?[0-9]{1,3})?")
@@ -296,8 +298,8 @@ def _places_of_scale(scale: Any) -> int:
 
 
 def _decimal(number: int, places: int) -> Decimal:
-    """Returns number / 10^places exactly, whatever the precision of the context."""
-    return Decimal((number < 0, tuple(map(int, str(abs(number)))), -places))
+    """Returns number / 10^places exactly, whatever the precision of the caller's context."""
+    return EXACT.scaleb(Decimal(number), -places)
 
 
 @dataclass(frozen=True)

@@ -59,4 +59,4 @@ def _times(pandas: Any, kind: Times, found: Found) -> Any:
 
 def frame_of(pandas: Any, columns: dict, rows: np.ndarray) -> Any:
     """Returns a frame of columns by name, whose index are the numbers of the rows."""
-    return pandas.DataFrame(columns, index=pandas.Index(rows), columns=list(columns))
+    return pandas.DataFrame(columns, index=pandas.Index(rows))

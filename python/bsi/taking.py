@@ -76,9 +76,10 @@ def _uppers(handle: Any, name: bytes, rows: np.ndarray, classes: np.ndarray, cut
         # (only the last cut may lie past all numbers)
         asked = [cut for cut in cuts[first : first + MAX_CUTS] if cut <= high]
         if asked:
-            here = np.flatnonzero((classes >= first) & (classes < first + MAX_CUTS))
+            is_all = len(cuts) <= MAX_CUTS
+            here = slice(None) if is_all else np.flatnonzero((classes >= first) & (classes < first + MAX_CUTS))
             selected = bits_at(handle.select(stairs(name, asked))[0], rows[here])
-            uppers[here] = selected ^ ((classes[here] - first) % 2 == 1)
+            uppers[here] = selected ^ (classes[here] - first & 1).astype(bool)
     return uppers
 
 
