@@ -36,17 +36,15 @@ def queries_of(forms: Mapping[str, Form], within: Mapping[str, bytes], where: An
         where = where.holds()
     if not isinstance(where, Predicate):
         raise TypeError(f"a predicate is made of bsi.col, as col.price < 100, and is not {type(where).__name__}")
-    return list(_queries(forms, within, where, {}, MAX_FIELDS - spare))
-
-
-def _queries(
-    forms: Mapping[str, Form], within: Mapping[str, bytes], where: Predicate, spans: Spans, room: int
-) -> Iterator[Fields]:
-    writer = Writer(forms, within, spans)
+    writer = Writer(forms, within, {})
     fields = writer.fields(where)
-    if len(fields) <= room:
-        yield fields
-        return
+    room = MAX_FIELDS - spare
+    return [fields] if len(fields) <= room else list(_halves(writer, fields, where, room))
+
+
+def _halves(writer: Writer, fields: Fields, where: Predicate, room: int) -> Iterator[Fields]:
+    """Yields the queries of a predicate over the spans of the writer, for which the fields are too long."""
+    forms, within, spans = writer.forms, writer.within, writer.spans
     name = max(writer.firsts, key=lambda one: len(writer.firsts[one]), default="")
     firsts = sorted(writer.firsts.get(name, ()))
     if len(firsts) < 2:
@@ -54,7 +52,12 @@ def _queries(
     low, high = spans.get(name) or (forms[name].offset, forms[name].most)
     middle = firsts[len(firsts) // 2]
     for span in ((low, middle - 1), (middle, high), *([] if name in spans else [None])):
-        yield from _queries(forms, within, where, {**spans, name: span}, room)
+        half = Writer(forms, within, {**spans, name: span})
+        fields = half.fields(where)
+        if len(fields) <= room:
+            yield fields
+        else:
+            yield from _halves(half, fields, where, room)
 
 
 class Writer:
@@ -62,7 +65,7 @@ class Writer:
     lists begin."""
 
     def __init__(self, forms: Mapping[str, Form], within: Mapping[str, bytes], spans: Spans):
-        self._forms, self._within, self._spans = forms, within, spans
+        self.forms, self.within, self.spans = forms, within, spans
         self.firsts: Dict[str, set] = {}
 
     def fields(self, where: Predicate) -> Fields:
@@ -70,8 +73,8 @@ class Writer:
         fields: Fields = []
         for term in where.terms:
             fields += [term.encode()] if isinstance(term, str) else self._term(term)
-        for name, span in self._spans.items():
-            column = self._within[name]
+        for name, span in self.spans.items():
+            column = self.within[name]
             if span is None:
                 fields += [column, b"null", b"and"]
             else:
@@ -79,34 +82,34 @@ class Writer:
         return fields
 
     def _term(self, term: Any) -> Fields:
-        name = name_among(self._forms, term.column)
-        if isinstance(term, Null):
-            return [self._within[name], b"null"]
+        name = name_among(self.forms, term.column)
         if isinstance(term, Comparison):
             return self._comparison(name, term)
+        if isinstance(term, Null):
+            return [self.within[name], b"null"]
         if isinstance(term, Among):
             cuts = [self._cut(name, constant) for constant in term.constants]
             return self._one_of(name, (left for left, right in cuts if left < right))
         if isinstance(term, Stored):
-            return [self._within[name], term.sign.encode(), b"%d" % term.number]
+            return [self.within[name], term.sign.encode(), b"%d" % term.number]
         assert isinstance(term, Holds)
-        kind = self._forms[name].kind
+        kind = self.forms[name].kind
         if kind != Flags():
             raise BadQuery(f"column {name!r} holds {kind}: only one of booleans is a predicate by itself")
-        return [self._within[name], b"=", b"1"]
+        return [self.within[name], b"=", b"1"]
 
     def _comparison(self, name: str, term: Comparison) -> Fields:
-        cut, kind = self._cut(name, term.constant), self._forms[name].kind
+        cut, kind = self._cut(name, term.constant), self.forms[name].kind
         if isinstance(kind, Texts) and kind.grows:
             return self._one_of(name, kind.numbers_where(term.sign, term.constant))
         sign, number = among_numbers(term.sign, *cut)
-        sign, number = clamped(self._forms[name], sign, number)
-        return [self._within[name], sign.encode(), b"%d" % number]
+        sign, number = clamped(self.forms[name], sign, number)
+        return [self.within[name], sign.encode(), b"%d" % number]
 
     def _one_of(self, name: str, numbers: Iterable[int]) -> Fields:
         """Returns the fields that select some numbers of a column, run by run, of those in its span."""
-        form, column, fields = self._forms[name], self._within[name], []  # type: Form, bytes, Fields
-        low, high = self._spans.get(name, (form.offset, form.most)) or (FAR, -FAR)
+        form, column, fields = self.forms[name], self.within[name], []  # type: Form, bytes, Fields
+        low, high = self.spans.get(name, (form.offset, form.most)) or (FAR, -FAR)
         firsts = self.firsts.setdefault(name, set())
         for first, last in runs_of(sorted({number for number in numbers if low <= number <= high})):
             firsts.add(first)
@@ -118,7 +121,7 @@ class Writer:
         return fields or [b"all", b"not"]
 
     def _cut(self, name: str, constant: Any) -> Cut:
-        kind = self._forms[name].kind
+        kind = self.forms[name].kind
         try:
             return kind.cut(constant)
         except (TypeError, ValueError, ArithmeticError) as why:
