@@ -36,7 +36,9 @@ from .version import __version__
 MAX_SHOWN = 20
 FOR_CSV = ("null", "nulls", "delimiter", "decimal", "dates", "encoding", "skiprows", "skip_bad")
 KINDS = {"text": lambda _: Texts, "whole": lambda _: Whole(), "flags": lambda _: Flags()}
-KINDS["decimals"], KINDS["times"] = lambda places: Decimals(int(places or 2)), lambda unit: Times(unit or "s")
+KINDS["decimals"] = lambda places: Decimals(int(places) if places.isdecimal() else places or 2)
+KINDS["times"] = lambda unit: Times(unit or "s")
+SIZED = ("decimals", "times")
 KINDS["dates"] = lambda _: Times("D")
 
 
@@ -77,9 +79,12 @@ def _kinds(given: Any) -> Dict[str, Any]:
     for pair in filter(None, given.kinds.split(",")):
         name, sign, spelt = pair.rpartition("=")
         word, _, size = spelt.partition(":")
-        if not sign or word not in KINDS:
+        if not sign or word not in KINDS or size and word not in SIZED:
             raise ValueError(f"--kinds has NAME=KIND, of the kinds {', '.join(KINDS)}, and not {pair!r}")
-        kinds[name] = KINDS[word](size)
+        try:
+            kinds[name] = KINDS[word](size)
+        except ValueError as why:
+            raise ValueError(f"--kinds {pair}: {why}") from None
     return kinds
 
 

@@ -5,13 +5,14 @@ from __future__ import annotations
 
 from collections import deque
 from dataclasses import replace
+from numbers import Integral
 from typing import Any, Callable, Dict, Iterable, Iterator, List, Mapping, NamedTuple, Optional, Tuple, Union
 
 import numpy as np
 
 from .errors import BadColumns, BadRow, BadSchema, Error, several
 from .forms import LEAST, MOST, Form, narrowest
-from .kinds import Kind, Misfit, Texts, Whole
+from .kinds import Kind, Misfit, Texts, Whole, first_misfit
 from .narrowing import MAX_TEXTS, encode, joined, narrow, recode, too_many_texts
 from .values import Values, columns_of, values_of
 
@@ -86,6 +87,9 @@ def slim(numbers: np.ndarray) -> np.ndarray:
 
 def wanted_of(columns: Optional[Iterable[str]], names: List[str], drop: Iterable[str] = ()) -> List[str]:
     """Returns the columns that are wanted, all where none are named, but for those that are dropped."""
+    for what, given in (("columns", columns), ("drop", drop)):
+        if given is not None and not isinstance(given, Iterable):
+            raise TypeError(f"{what} is a list of names, and not {given!r}")
     wanted = list(names) if columns is None else [columns] if isinstance(columns, str) else list(columns)
     dropped = [drop] if isinstance(drop, str) else list(drop)
     unknown = [name for name in [*wanted, *dropped] if name not in names]
@@ -106,6 +110,19 @@ def refuse_no_kind(name: str, kind: Any) -> None:
         raise BadSchema(f"the kind of column {name!r} is one, as Decimals('0.01') is, and not {kind!r}")
 
 
+def by_column(what: str, wanted: str, given: Any, names: List[str], kind: type) -> Dict[str, Any]:
+    """Returns what is given for all columns, or by column. Refuses what is of another type than is wanted, or is given
+    for no column."""
+    by_name = given if isinstance(given, Mapping) else dict.fromkeys(names, given)
+    found = {name: one for name, one in by_name.items() if one is not None}
+    for name, one in found.items():
+        if not isinstance(one, kind) or isinstance(one, bool):
+            raise TypeError(f"{what} is {wanted}, or a dict of such by column, and not {given!r}")
+        if name not in names:
+            raise BadColumns(f"{what} is given for {name!r}, and the columns are {', '.join(map(repr, names))}")
+    return found
+
+
 class Wishes:
     """What the caller says about kinds and forms of columns, by name."""
 
@@ -117,8 +134,14 @@ class Wishes:
         spare: int = 0,
         round: Union[int, Mapping[str, int], None] = None,
     ):
+        for what, given in (("kinds", kinds), ("forms", forms)):
+            if given is not None and not isinstance(given, Mapping):
+                raise TypeError(f"{what} is a dict by column, and not {given!r}")
         self.names, self.kinds, self.forms, self.spare = names, dict(kinds or {}), dict(forms or {}), spare
-        self.round = dict.fromkeys(names, round) if isinstance(round, int) else dict(round or {})
+        self.round = by_column("round", "a number of places", round, names, Integral)
+        for places in self.round.values():
+            if not 0 <= places <= 18:
+                raise ValueError(f"round is 0 to 18 places, and not {places}")
         if not isinstance(spare, int) or not 0 <= spare < 63:
             raise ValueError(f"spare is 0 to 62 bits, and not {spare!r}")
         for name in [*self.kinds, *self.forms]:
@@ -141,6 +164,8 @@ class Wishes:
         try:
             if kind is None or kind is Texts:
                 kind, numbers = narrow(values, None if kind is Texts else MAX_TEXTS, self.round.get(name))
+                if self.kinds.get(name) is Texts and not isinstance(kind, (Texts, type(None))):
+                    first_misfit(values.valid, values.values, "is no text")
             else:
                 refuse_no_kind(name, kind)
                 numbers = encode(kind, values)
@@ -151,7 +176,8 @@ class Wishes:
     def form(self, name: str, kind: Optional[Kind], low: int, high: int) -> Form:
         """Returns the form that is given for the column, or the smallest for its numbers."""
         given = self.kinds.get(name)
-        kind = kind or (given if isinstance(given, Kind) else Whole())
+        # (a column of texts has one at least)
+        kind = kind or (given if isinstance(given, Kind) else Texts(("",)) if given is Texts else Whole())
         if name in self.forms:
             return self.forms[name].of(kind)
         if high - low >= SPAN:

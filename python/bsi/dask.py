@@ -13,7 +13,7 @@ from __future__ import annotations
 import asyncio
 import contextlib
 import os
-from typing import Any, Dict, Iterable, List, Mapping, NamedTuple, Optional, Tuple, Union
+from typing import Any, Dict, Iterable, List, Mapping, NamedTuple, Optional, Sequence, Tuple, Union
 
 import dask
 import numpy as np
@@ -108,10 +108,16 @@ class _Actors(Gathered):
         self._lost: Optional[str] = None
 
     def _each(self, call: str, *arguments: Any) -> List[Any]:
+        return self._each_of(call, [arguments] * len(self._actors))
+
+    def _parts(self) -> int:
+        return len(self._actors)
+
+    def _each_of(self, call: str, arguments: Sequence[Sequence[Any]]) -> List[Any]:
         if self._lost is not None:
             raise LostWorker(self._lost)
         try:
-            futures = [actor.proxy.call(call, *arguments) for actor in self._actors]
+            futures = [actor.proxy.call(call, *given) for actor, given in zip(self._actors, arguments)]
             return [self._answer(actor, future) for actor, future in zip(self._actors, futures)]
         except (OSError, ValueError, LostWorker) as why:
             if isinstance(why, Error) and not isinstance(why, LostWorker):

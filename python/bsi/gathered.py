@@ -10,6 +10,7 @@ import numpy as np
 
 from .errors import BadQuery
 from .predicates import MAX_FIELDS
+from .taking import Found
 
 Fields = Sequence[bytes]
 
@@ -66,6 +67,14 @@ class Gathered:
         """Makes a call of every part, at the same time, and returns what they answered."""
         raise NotImplementedError
 
+    def _each_of(self, call: str, arguments: Sequence[Sequence[Any]]) -> List[Any]:
+        """Makes a call of every part, with arguments of its own."""
+        raise NotImplementedError
+
+    def _parts(self) -> int:
+        """Returns how many parts there are."""
+        raise NotImplementedError
+
     def count(self, fields: Fields) -> int:
         return self.counts([fields])[0]
 
@@ -117,6 +126,27 @@ class Gathered:
             packed = np.zeros(-(-len(joined) // 64) * 8, np.uint8)
             packed[: -(-len(joined) // 8)] = np.packbits(joined, bitorder="little")
             return packed.view(np.uint64), len(joined)
+
+    def numbers(self, names: Sequence[bytes], rows: np.ndarray, bitmaps: int) -> List[Found]:
+        with self.alone():
+            parts, places = self._placed(rows)
+            here = [np.flatnonzero(parts == part) for part in range(self._parts())]
+            answers = self._each_of("numbers", [(names, places[taken], bitmaps) for taken in here])
+        found = [(np.zeros(len(rows), np.int64), np.zeros(len(rows), bool)) for _ in names]
+        for taken, answer in zip(here, answers):
+            for (numbers, valid), (some, are_valid) in zip(found, answer):
+                numbers[taken], valid[taken] = some, are_valid
+        return found
+
+    def _placed(self, rows: np.ndarray) -> Tuple[np.ndarray, np.ndarray]:
+        """Returns the part of each row, and its number there."""
+        parts, counts = np.array(self.runs, np.int64).reshape(-1, 2).T
+        ends, befores = np.cumsum(counts), np.zeros(len(counts), np.int64)
+        for part in range(self._parts()):
+            of_part = parts == part
+            befores[of_part] = np.cumsum(counts[of_part]) - counts[of_part]
+        runs = np.searchsorted(ends, rows, side="right")
+        return parts[runs], rows - (ends - counts)[runs] + befores[runs]
 
     def rows(self) -> int:
         with self.alone():

@@ -5,7 +5,7 @@ from __future__ import annotations
 from typing import TYPE_CHECKING, Any, Callable, Dict, Union
 
 from .errors import BadQuery
-from .predicates import Column, Predicate, all_rows
+from .predicates import Predicate, Stored, all_rows
 
 if TYPE_CHECKING:
     from .table import Name, Table
@@ -63,9 +63,11 @@ class GroupBy:
     min, max = least, greatest
 
     def _each(self, where: Predicate, ask: Callable[[Predicate], Any]) -> Groups:
-        column, answers = Column(self._column), {}
-        for value in self._table.values_in(self._column, where):
+        kind, answers = self._table.forms[self._column].kind, {}
+        for number in self._table.numbers_in(self._column, where):
             if len(answers) == MAX_GROUPS:
                 raise BadQuery(f"column {self._column!r} has more than {MAX_GROUPS:,} values in these rows")
-            answers[value] = ask(where & (column == value) if where is not all_rows else column == value)
+            # (by its number: not every answer is a constant, as nanoseconds of a time zone are none)
+            here = Predicate([Stored(self._column, "=", number)])
+            answers[kind.decode(number)] = ask(here if where is all_rows else where & here)
         return Groups(self._column, answers)

@@ -15,10 +15,10 @@ import re
 from bisect import bisect_left, bisect_right
 from dataclasses import dataclass, field, replace
 from datetime import date, datetime, timedelta, timezone
-from decimal import Decimal
+from decimal import Context, Decimal
 from fractions import Fraction
 from itertools import repeat
-from typing import Any, Callable, Dict, List, Tuple
+from typing import Any, Callable, Dict, Iterable, List, Tuple
 
 import numpy as np
 
@@ -28,6 +28,8 @@ COMPARE.update({">": operator.gt, ">=": operator.ge})
 GROWS = "; spare= leaves room for more"
 # A number past all that a column can take.
 FAR = 1 << 200
+# More digits than a sum has.
+EXACT = Context(prec=100)
 NANOSECONDS = {"D": 86_400_000_000_000, "s": 1_000_000_000, "ms": 1_000_000, "us": 1_000, "ns": 1}
 UNITS = {"D": "days", "s": "seconds", "ms": "milliseconds", "us": "microseconds", "ns": "nanoseconds"}
 NUMBER = re.compile(r"-?(?:[0-9]+(?:\.[0-9]*)?|\.[0-9]+)(?:[eE][-+]?[0-9]{1,3})?")
@@ -54,7 +56,10 @@ def shown(value: Any) -> str:
     """Returns a value as an error shows it."""
     if isinstance(value, np.floating):
         return str(value)
-    text = repr(value.item() if isinstance(value, np.generic) and value.dtype.kind in "iub" else value)
+    try:
+        text = repr(value.item() if isinstance(value, np.generic) and value.dtype.kind in "iub" else value)
+    except ValueError:
+        text = f"what is of type {type(value).__name__} and too long to show"  # (a whole number of 4,300 digits)
     return text if len(text) <= 60 else text[:57] + "..."
 
 
@@ -91,6 +96,11 @@ class Kind:
         """Returns what a sum of numbers stands for, or raises TypeError where such values have no sum."""
         raise TypeError(f"{self.takes} have no sum")
 
+    def decode_between(self, number: Fraction) -> Any:
+        """Returns what a number stands for that may lie between two of the column's, or raises TypeError where such
+        values have none between them."""
+        raise TypeError(f"{self.takes} have none between them")
+
     def number(self, value: Any) -> int:
         """Returns the number that stands for a value, or raises TypeError or ValueError."""
         left, right = self.cut(value)
@@ -107,7 +117,7 @@ class Kind:
             try:
                 numbers_found[row] = self.number(value)
             except (TypeError, ValueError, ArithmeticError) as why:
-                reason = "it is past 64 bits" if isinstance(why, OverflowError) else str(why)
+                reason = f"{shown(value)} is past 64 bits" if isinstance(why, OverflowError) else str(why)
                 raise Misfit(int(row), value, reason) from None
         return numbers_found
 
@@ -158,6 +168,9 @@ class Whole(Kind):
     def decode_sum(self, total: int) -> int:
         return total
 
+    def decode_between(self, number: Fraction) -> float:
+        return float(number)
+
     def encode(self, values: np.ndarray, valid: np.ndarray) -> np.ndarray:
         if values.dtype.kind in "iub":
             if values.dtype.kind == "u":
@@ -196,8 +209,8 @@ class Decimals(Kind):
     takes = "decimals"
 
     def __post_init__(self):
-        is_number = isinstance(self.places, int) and not isinstance(self.places, bool)
-        places = self.places if is_number else _places_of_scale(self.places)
+        is_number = isinstance(self.places, numbers.Integral) and not isinstance(self.places, bool)
+        places = int(self.places) if is_number else _places_of_scale(self.places)
         if not 0 <= places <= 18:
             raise ValueError(f"decimals have 0 to 18 places, and not {places}")
         object.__setattr__(self, "places", places)
@@ -229,6 +242,11 @@ class Decimals(Kind):
     def decode_sum(self, total: int) -> Decimal:
         return _decimal(total, self.places)
 
+    def decode_between(self, number: Fraction) -> Decimal:
+        if number.denominator == 1:
+            return self.decode(int(number))
+        return Decimal(number.numerator) / (number.denominator * 10**self.places)
+
     def encode(self, values: np.ndarray, valid: np.ndarray) -> np.ndarray:
         scale = 10**self.places
         if values.dtype.kind in "iub":
@@ -259,6 +277,7 @@ class Decimals(Kind):
         with np.errstate(over="ignore", invalid="ignore"):
             scaled = np.rint(np.where(valid, values, 0).astype(np.float64) * 10.0**self.places)
             back = (scaled / 10.0**self.places).astype(values.dtype)
+        first_misfit(valid & ~np.isfinite(values), values, "is no finite number")
         fits = (np.abs(scaled) <= most) & (back == np.where(valid, values, 0))
         first_misfit(~fits, values, f"can't be kept exactly with {self.places} decimal places; round= rounds it")
         return scaled.astype(np.int64)
@@ -279,8 +298,8 @@ def _places_of_scale(scale: Any) -> int:
 
 
 def _decimal(number: int, places: int) -> Decimal:
-    """Returns number / 10^places exactly, whatever the precision of the context."""
-    return Decimal((number < 0, tuple(map(int, str(abs(number)))), -places))
+    """Returns number / 10^places exactly, whatever the precision of the caller's context."""
+    return EXACT.scaleb(Decimal(number), -places)
 
 
 @dataclass(frozen=True)
@@ -315,6 +334,11 @@ class Times(Kind):
 
     def decode(self, number: int) -> Any:
         return _time(number, self.unit, self.zone)
+
+    def decode_between(self, number: Fraction) -> Any:
+        # (to the microseconds that a datetime has, unless the column is finer)
+        unit = "ns" if self.unit == "ns" else "us"
+        return _time(round(number * NANOSECONDS[self.unit] / NANOSECONDS[unit]), unit, self.zone)
 
     def show(self, number: int) -> str:
         return str(self.decode(number))[:10] if self.unit == "D" else str(self.decode(number))
@@ -437,7 +461,7 @@ class Texts(Kind):
     def __post_init__(self):
         if isinstance(self.values, str):
             raise TypeError(f"a column of texts needs the list of them, and not one text: Texts([{self.values!r}])")
-        values = tuple(self.values)
+        values = tuple(self.values) if isinstance(self.values, Iterable) else ()
         if not values or any(not isinstance(value, str) for value in values):
             raise TypeError("a column of texts needs the list of them")
         values = values if self.ordered or self.grows else tuple(sorted(set(values)))

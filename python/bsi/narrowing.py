@@ -11,6 +11,7 @@ from typing import Any, Dict, List, Optional, Tuple
 
 import numpy as np
 
+from .dates import is_date
 from .kinds import NANOSECONDS, UNITS, Decimals, Flags, Kind, Misfit, Texts, Times, Whole
 from .kinds import first_misfit, nanoseconds_of, shown
 from .values import Values
@@ -103,9 +104,11 @@ def too_fine(value: Any) -> str:
     return f"{shown(value)} can't be kept exactly with {MAX_PLACES} decimal places; round= rounds it"
 
 
-def too_many_texts(text: str) -> str:
-    """Returns what is wrong with a text past those that a column may have."""
+def too_many_texts(text: str, for_dates: str = "pandas.to_datetime makes dates of texts") -> str:
+    """Returns what is wrong with a text past those that a column may have, and what to do where it looks like a
+    date."""
     ways = "kinds= with Texts takes all of them, and drop= leaves the column out"
+    ways = f"it looks like a date, and {for_dates}; {ways}" if is_date(text) else ways
     return f"{shown(text)} is one text more than the {MAX_TEXTS:,} that are taken unasked; {ways}"
 
 

@@ -18,6 +18,7 @@ from typing import Any, Dict, List, Optional, Sequence, Tuple
 import numpy as np
 
 from . import errors
+from .taking import Found, numbers_of
 
 OK, BAD_SCHEMA, BAD_ROW, INDEX_FULL, NO_ROOM, NO_MEMORY = 0, 4, 8, 9, 12, 3
 MAX_NOTES = 1 << 16
@@ -169,6 +170,11 @@ class Handle:
             status = self._call("bsi_select", slices, length, _address(words), len(words))
         check(status)
         return words, rows
+
+    def numbers(self, names: Sequence[bytes], rows: np.ndarray, bitmaps: int) -> List[Found]:
+        """Returns of each column the numbers in these rows, and which of them are valid, of an index whose file has so
+        many bitmaps."""
+        return numbers_of(self, names, rows, bitmaps)
 
     def rows(self) -> int:
         """Returns how many rows the index has."""

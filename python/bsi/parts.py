@@ -9,7 +9,7 @@ from operator import itemgetter
 from queue import SimpleQueue
 from typing import Any, Callable, ContextManager, Iterable, List, Mapping, Optional, Sequence, Tuple, Union
 
-from .choosing import chosen_of, refuse_misfit
+from .choosing import chosen_of
 from .errors import BadNotes, BadSchema, Error, NoMemory
 from .forms import Form
 from .gathered import Gathered
@@ -49,7 +49,13 @@ class _Threads(Gathered):
             tasks.put(None)
 
     def _each(self, call: str, *arguments: Any) -> List[Any]:
-        return self._at_once([(getattr(handle, call), arguments) for handle in self.handles])
+        return self._each_of(call, [arguments] * len(self.handles))
+
+    def _each_of(self, call: str, arguments: Sequence[Sequence[Any]]) -> List[Any]:
+        return self._at_once([(getattr(handle, call), given) for handle, given in zip(self.handles, arguments)])
+
+    def _parts(self) -> int:
+        return len(self.handles)
 
     def _at_once(self, calls: Sequence[Tuple[Callable[..., Any], Sequence[Any]]]) -> List[Any]:
         """Makes a call on the thread of each part, or of the first so many."""
@@ -123,13 +129,18 @@ def _joined(runs: Sequence[Tuple[int, int]]) -> List[List[int]]:
     return found
 
 
+def refuse_no_parts(n: Any) -> None:
+    """Refuses a number of parts that is none."""
+    if not isinstance(n, int) or isinstance(n, bool) or not 1 <= n <= 256:
+        raise ValueError(f"rows are split over 1 to 256 parts, and not {n!r}")
+
+
 class Parts(Table):
     """Rows split over n indexes, each asked on a thread of its own. Counts, sums, ends, masks and exact lower medians
     are put together, so every answer is that of one index over all rows, in the order in which they were appended."""
 
     def __init__(self, n: int, columns: Mapping[str, Form], *, limit: Optional[int] = None):
-        if not isinstance(n, int) or not 1 <= n <= 256:
-            raise ValueError(f"rows are split over 1 to 256 parts, and not {n!r}")
+        refuse_no_parts(n)
         schema_of(columns, limit)
         most = MAX_ROWS if limit is None else limit
         super().__init__(columns, most, _Threads([opened(columns) for _ in range(n)], most))
@@ -154,8 +165,7 @@ class Parts(Table):
         return cls(n, found.forms, limit=limit)._filled(found, progress)
 
     def _append(self, encoded: Any) -> int:
-        for (name, form), (numbers, valid) in zip(self._forms.items(), encoded):
-            refuse_misfit(name, form, numbers, valid)
+        self._refuse_misfits(encoded)
         return super()._append(encoded)
 
     def save(self, folder: Path) -> List[str]:

@@ -54,7 +54,18 @@ class Holds(NamedTuple):
         return _name(self.column)
 
 
-Term = Union[Comparison, Null, Among, Holds, str]
+class Stored(NamedTuple):
+    """A column, one of the signs, and a number of those that stand for its values."""
+
+    column: str
+    sign: str
+    number: int
+
+    def __str__(self) -> str:
+        return f"({_name(self.column)} {'==' if self.sign == '=' else self.sign} number {self.number})"
+
+
+Term = Union[Comparison, Null, Among, Holds, Stored, str]
 
 
 def _name(column: str) -> str:
@@ -212,9 +223,12 @@ class Column:
         return (self >= least) & (self <= greatest)
 
     def isin(self, constants: Iterable[Any]) -> Predicate:
-        """Selects the rows that have one of the constants here. Those that follow each other are asked as one run."""
+        """Selects the rows that have one of the constants here. Those that follow each other are asked as one run, and
+        about 120 runs at once, so that more of them take several questions."""
         if isinstance(constants, (str, bytes)):
             raise TypeError(f"isin takes a list of constants, and not a text: isin([{constants!r}])")
+        if not isinstance(constants, Iterable):
+            raise TypeError(f"isin takes a list of constants, and not {constants!r}")
         return Predicate((Among(self.name, tuple(map(_scalar, constants))),))
 
     def __repr__(self) -> str:

@@ -58,6 +58,9 @@ def is_question(text: str) -> bool:
 
 def ask(table: Table, text: str) -> Any:
     """Returns the answer of an Index, or of parts, to a question that is a text."""
+    if not isinstance(table, Table) or not isinstance(text, str):
+        given = f"{type(table).__name__} and {type(text).__name__}"
+        raise TypeError(f"ask takes an index and a question that is a text, and not {given}")
     tokens = tokens_of(text)
     if not tokens or tokens[0].quoted or tokens[0] not in WORDS:
         raise BadQuery(f"a question begins with one of {', '.join(WORDS)}")

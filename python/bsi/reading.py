@@ -15,7 +15,7 @@ from typing import Tuple, Type, Union
 
 import numpy as np
 
-from .choosing import Block, Chosen, Wishes, misfits, refuse_no_kind, settled, slim, wanted_of
+from .choosing import Block, Chosen, Wishes, by_column, misfits, refuse_no_kind, settled, slim, wanted_of
 from .errors import BadColumns, BadRow, Error, several
 from .fields import Fields, Lines, Records, read_each, split
 from .files import Path, Run, Runs, Source, name_of, opened, size_of
@@ -23,7 +23,7 @@ from .forms import Form
 from .index import Index
 from .kinds import FAR, Kind, Texts, Whole
 from .narrowing import too_many_texts
-from .parts import Parts
+from .parts import Parts, refuse_no_parts
 from .progress import Progress, told
 from .spelling import Bad, Meaning, Options, Reader, TextReader, misread, reader_for
 
@@ -65,6 +65,7 @@ def read_csv(
     """
     if bad not in ("refuse", "skip"):
         raise ValueError(f"bad is 'refuse' or 'skip', and not {bad!r}")
+    refuse_no_parts(parts)
     asked = _Asked(columns, drop, kinds, forms, spare, _options(nulls, decimal), dates, round)
     layout = _layout(delimiter, quotechar, skiprows, encoding)
     with ExitStack() as stack:
@@ -79,11 +80,12 @@ def read_csv(
 
 def _options(nulls: Collection[str], decimal: str) -> Options:
     """Returns what is said of all fields."""
-    if isinstance(nulls, str):
-        raise TypeError("nulls is a list of texts")
+    given = nulls if isinstance(nulls, str) or not isinstance(nulls, Iterable) else tuple(nulls)
+    if not isinstance(given, tuple) or any(not isinstance(one, str) for one in given):
+        raise TypeError(f"nulls is a list of texts, and not {nulls!r}")
     if decimal not in (".", ","):
         raise ValueError(f"decimal is '.' or ',', and not {decimal!r}")
-    return Options(None, tuple(nulls), decimal)
+    return Options(None, given, decimal)
 
 
 class _Asked(NamedTuple):
@@ -98,11 +100,14 @@ class _Asked(NamedTuple):
     dates: Union[str, Mapping[str, str], None]
     round: Union[int, Mapping[str, int], None]
 
-    def options_of(self, name: str, kind: Any) -> Options:
-        """Returns what is said of the fields of a column."""
-        dates = self.dates.get(name) if isinstance(self.dates, Mapping) else self.dates
-        places = self.round.get(name) if isinstance(self.round, Mapping) else self.round
-        return self.options._replace(kind=kind, dates=dates, round=places)
+    def options_of(self, wishes: Wishes) -> Dict[str, Options]:
+        """Returns what is said of the fields of each column."""
+        dates = by_column("dates", "a form of strptime, as '%d.%m.%Y'", self.dates, wishes.names, str)
+        said = {name: (wishes.kinds.get(name), dates.get(name), wishes.round.get(name)) for name in wishes.names}
+        return {
+            name: self.options._replace(kind=kind, dates=form, round=places)
+            for name, (kind, form, places) in said.items()
+        }
 
 
 class _Layout(NamedTuple):
@@ -130,7 +135,22 @@ def _layout(delimiter: Optional[str], quote: Optional[str], skipped: int, encodi
     for what, sign in (("delimiter", delimiter), ("quotechar", quote)):
         if sign and (not isinstance(sign, str) or len(sign) != 1 or sign in "\r\n\0"):
             raise ValueError(f"{what} is one character, and no end of a line, and not {sign!r}")
+    if not isinstance(skipped, int) or isinstance(skipped, bool) or skipped < 0:
+        raise ValueError(f"skiprows is a number of lines, and not {skipped!r}")
     return _Layout(delimiter, quote, skipped, encoding)
+
+
+def _listed(paths: Any) -> List[Path]:
+    """Returns the paths or open files that are given, or raises TypeError."""
+    files = [paths] if _is_file(paths) or not isinstance(paths, Iterable) else list(paths)
+    for path in files:
+        if not _is_file(path):
+            raise TypeError(f"a file is a path or an open file, and not {path!r}")
+    return files
+
+
+def _is_file(path: Any) -> bool:
+    return isinstance(path, str) or hasattr(path, "__fspath__") or hasattr(path, "read")
 
 
 class Skipped(List[Error]):
@@ -284,8 +304,7 @@ class _Reader:
 
     def read_all(self, paths: Union[Path, Iterable[Path]], stack: ExitStack, progress: Progress) -> None:
         """Reads one file or several, and tells how far it is."""
-        is_one = isinstance(paths, str) or hasattr(paths, "__fspath__") or hasattr(paths, "read")
-        files: List[Path] = [paths] if is_one else list(paths)  # type: ignore[list-item, arg-type]
+        files = _listed(paths)
         if not files:
             raise BadColumns("there is no file")
         tell = stack.enter_context(told(progress, sum(map(size_of, files)), "B"))
@@ -341,12 +360,12 @@ class _Reader:
             raise BadColumns(f"{name}: its header is one field, {header[0]!r}; delimiter={other!r} splits it")
         self._header = header
         wanted = wanted_of(self._asked.columns, header, self._asked.drop)
-        self._wishes = Wishes(wanted, self._asked.kinds, self._asked.forms, self._asked.spare)
-        for column in wanted:
-            kind = self._wishes.kinds.get(column)
-            if kind is not None and kind is not Texts:
-                refuse_no_kind(column, kind)
-            self._columns.append(_Column(column, header.index(column), self._asked.options_of(column, kind)))
+        asked = self._asked
+        self._wishes = Wishes(wanted, asked.kinds, asked.forms, asked.spare, asked.round)
+        for column, options in asked.options_of(self._wishes).items():
+            if options.kind is not None and options.kind is not Texts:
+                refuse_no_kind(column, options.kind)
+            self._columns.append(_Column(column, header.index(column), options))
 
     # ---- Runs ----
 
@@ -439,7 +458,8 @@ class _Reader:
         firsts = np.sort(firsts[found >= 0])
         if len(firsts) > (reader.most or FAR):
             at = int(firsts[reader.most])
-            column.refusal = self._bad(column, at, too_many_texts(reader.distinct.texts[int(codes[at])]))
+            reason = too_many_texts(reader.distinct.texts[int(codes[at])], "dates= tells how to read it")
+            column.refusal = self._bad(column, at, reason)
 
     def _bad(self, column: _Column, at: int, reason: str) -> BadRow:
         """Returns the refusal of a row of all that were kept, in a column of texts."""

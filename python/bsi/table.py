@@ -2,38 +2,46 @@
 on the other.
 
 A *store* is a `native.Handle`, or a `gathered.Gathered` of several. Both have the calls `count`, `counts`, `sum`,
-`value`, `select`, `rows` and `close`, and but for Dask `append`.
+`value`, `select`, `numbers`, `rows` and `close`, and but for Dask `append`.
 """
 
 from __future__ import annotations
 
 import contextlib
+import itertools
 import logging
 import math
 import re
 from dataclasses import replace
+from decimal import Decimal
 from fractions import Fraction
-from numbers import Integral
-from typing import Any, Dict, Iterable, Iterator, List, Mapping, Optional, Sequence, Tuple, TypeVar, Union
+from numbers import Integral, Real
+from typing import AbstractSet, Any, Dict, Iterable, Iterator, List, Mapping, Optional, Sequence, Tuple, TypeVar, Union
 
 import numpy as np
 
-from .choosing import Chosen, of_each
+from .choosing import Chosen, of_each, refuse_misfit, refuse_no_kind
 from .errors import BadColumns, BadQuery, BadRow, BadSchema, Error, IndexFull, NoMemory
 from .forms import Form
 from .groups import GroupBy, Groups
-from .kinds import FAR, Cut, Flags, Misfit, Texts
+from .kinds import Flags, Misfit, Texts, Times, shown
 from .narrowing import encode
 from .native import BAD_ROW, INDEX_FULL, NO_MEMORY, Entries, Handle, check
-from .predicates import Among, Column, Comparison, Holds, Null, Predicate, all_rows, refuse_long
+from .predicates import Column, Comparison, Predicate, Stored, all_rows
 from .progress import Progress, told
+from .queries import Name, name_among, queries_of
+from .returning import column_of, frame_of, list_of
 from .summary import Summary, html_of
+from .taking import Found
 from .values import columns_of, values_of
 
 NAME = re.compile(r"[a-z][a-z0-9_]{0,31}")
 WORDS = {"all", "null", "and", "or", "not"}
 MAX_ROWS, MAX_COLUMNS, BLOCK = 1 << 32, 64, 1 << 18
-Name = Union[str, Column]
+# How many fields it takes that the rows lie on one side of a number besides.
+BOUND = 4
+# A part of rows from 0 to 1.
+Part = Union[float, Fraction]
 Self = TypeVar("Self", bound="Table")
 log = logging.getLogger("bsi")
 
@@ -61,14 +69,17 @@ def opened(columns: Mapping[str, Form], limit: Optional[int] = None) -> Handle:
 
 def schema_of(columns: Mapping[str, Form], limit: Optional[int]) -> bytes:
     """Returns the records of a schema. Refuses what is none, so that a record of the library is one of a column."""
+    if not isinstance(columns, Mapping):
+        raise BadSchema(f"an index has columns by name, as {{'price': slices(20)}}, and not {shown(columns)}")
     for name, form in columns.items():
         if not isinstance(name, str) or not isinstance(form, Form):
             shape = "slices(..), range(..) or equality(..)"
             raise BadSchema(f"an index has columns by name, each {shape}, and not {name!r}: {form!r}")
+        refuse_no_kind(name, form.kind)
     if len(columns) > MAX_COLUMNS:
         raise BadSchema(f"an index has at most {MAX_COLUMNS} columns, and not {len(columns)}; name those wanted")
     if limit is not None and (not isinstance(limit, Integral) or not 1 <= limit <= MAX_ROWS):
-        raise BadSchema(f"the limit is 1 to {MAX_ROWS:,} rows, and not {limit!r}")
+        raise BadSchema(f"the limit is 1 to {MAX_ROWS:,} rows, and not {shown(limit)}")
     within = names_within(list(columns))
     records = [form.record(within[name]) for name, form in columns.items()]
     records += [] if limit is None else [f"limit,{limit}"]
@@ -172,7 +183,7 @@ class Table:
     def _append(self, encoded: Sequence[Tuple[np.ndarray, np.ndarray]]) -> int:
         status, row = self._store.append([_entries(numbers, valid) for numbers, valid in encoded])
         if status == BAD_ROW:
-            raise self._misfit(encoded, row)
+            self._refuse_misfits(encoded)
         if status == INDEX_FULL:
             self._refuse_full(len(encoded[0][0]))
         if status == NO_MEMORY:
@@ -205,13 +216,10 @@ class Table:
         if more > room:
             raise IndexFull(f"row {room:,} is past the limit of {self._limit:,} rows; none was appended", room)
 
-    def _misfit(self, encoded: Sequence[Tuple[np.ndarray, np.ndarray]], row: int) -> BadRow:
-        """Returns which column does not take its number in a row that the library refused."""
-        for (name, form), (numbers, valid) in zip(self._forms.items(), encoded):
-            number = int(numbers[row])
-            if valid[row] and not form.offset <= number <= form.most:
-                return form.misfit(name, row, number)
-        raise AssertionError(f"row {row} was refused, and each column takes its number")
+    def _refuse_misfits(self, encoded: Sequence[Tuple[np.ndarray, np.ndarray]]) -> None:
+        """Refuses what columns do not take: of each of these columns the first number."""
+        given = dict(zip(self._forms, encoded))
+        of_each(self._forms, lambda name: refuse_misfit(name, self._forms[name], *given[name]))
 
     # ---- Questions ----
 
@@ -221,18 +229,21 @@ class Table:
         if isinstance(column, Predicate):
             where = column if where is all_rows else column & where
         if column is None or isinstance(column, Predicate):
-            return self._store.count(self._query(where))
+            return sum(self._store.counts(self._queries(where)))
         name = self._name(column)
         if isinstance(column, Column) and self._forms[name].kind == Flags():
             ways = f"count({name!r}) counts its values, and count({column!r} == True) its true rows"
             raise BadQuery(f"count({column!r}) could mean two things: {ways}")
-        return self._store.count(self._query(Column(name).notnull() & where))
+        return sum(self._store.counts(self._queries(Column(name).notnull() & where)))
 
     def mean(self, column: Name, where: Predicate = all_rows) -> Any:
-        """Returns the mean of the column's values in these rows: a float, or a Decimal for decimals. None where there
-        is no value."""
+        """Returns the mean of the column's values in these rows: a float, a Decimal for decimals, and for times the
+        nearest microsecond, or nanosecond. None where there is no value."""
         name = self._name(column)
-        total, count = self.sum(name, where), self.count(name, where)
+        kind, count = self._forms[name].kind, self.count(name, where)
+        if isinstance(kind, Times):
+            return kind.decode_between(Fraction(self._sum(name, where), count)) if count else None
+        total = self.sum(name, where)
         return total / count if count else None
 
     def min(self, column: Name, where: Predicate = all_rows) -> Any:
@@ -243,40 +254,116 @@ class Table:
         """Returns the greatest value, as `greatest` does."""
         return self.greatest(column, where)
 
-    def quantile(self, column: Name, q: Union[float, Iterable[float]], where: Predicate = all_rows) -> Any:
-        """Returns the value of the column at a part of these rows from 0 to 1, as NumPy's method "lower" has it, or a
-        list of such. It is found by a count for each bit of the column."""
-        if isinstance(q, Iterable):
-            return [self.quantile(column, one, where) for one in q]
-        if not 0 <= q <= 1:
-            raise ValueError(f"a quantile is from 0 to 1, and not {q!r}")
-        name, fields = self._name(column), self._query(where)
-        if isinstance(self._forms[name].kind, Texts) and self._forms[name].kind.grows:
-            return self._text_at(name, q, where)
-        low, high = (self._store.value(word, self._within[name], fields) for word in (b"least", b"greatest"))
-        if low is None:
+    def quantile(
+        self,
+        column: Name,
+        q: Union[float, Iterable[float]],
+        where: Predicate = all_rows,
+        interpolation: str = "lower",
+    ) -> Any:
+        """Returns the value of the column at a part of these rows from 0 to 1, or a list of such, as NumPy's method
+        "lower" has it, or "linear": between two values a float, a Decimal or a datetime. None where there is no value.
+        It is found by a count for each bit of the column."""
+        if interpolation not in ("lower", "linear"):
+            raise ValueError(f"interpolation is 'lower' or 'linear', and not {interpolation!r}")
+        if isinstance(q, Iterable) and not isinstance(q, (str, bytes)) and not is_scalar(q):
+            return [self.quantile(column, one, where, interpolation) for one in q]
+        part, name = part_of(q), self._name(column)
+        count = self.count(name, where)
+        if interpolation == "linear":
+            return self._between(name, count, part, where)
+        return self._forms[name].kind.decode(self._number_at(name, rank_of(count, part), where)) if count else None
+
+    def _between(self, name: str, count: int, part: Part, where: Predicate) -> Any:
+        """Returns what lies between the two values next to a part of these rows."""
+        kind = self._forms[name].kind
+        try:
+            kind.decode_between(Fraction(0))
+        except TypeError as why:
+            raise BadQuery(f"column {name!r}: {why}") from None
+        if not count:
             return None
-        rank = math.floor(Fraction(q) * (self.count(name, where) - 1))
-        bound = [self._within[name], b"<="]
+        # (a float is the part that it prints as)
+        place = (count - 1) * Fraction(str(part) if isinstance(part, float) else part)
+        rank = math.floor(place)
+        low = high = self._number_at(name, rank, where)
+        if place > rank:
+            high = self._number_at(name, rank + 1, where)
+        return kind.decode_between(low + (high - low) * (place - rank))
+
+    def _number_at(self, name: str, rank: int, where: Predicate) -> int:
+        """Returns the number of a rank among those of these rows, from 0. There are more of them than that."""
+        form = self._forms[name]
+        if isinstance(form.kind, Texts) and form.kind.grows:
+            return self._place_at(name, rank, where)
+        queries, within = self._queries(where, BOUND), self._within[name]
+        low, high = (self._end(word, name, queries) for word in (b"least", b"greatest"))
+        assert low is not None and high is not None
         while low < high:
             middle = (low + high) // 2
-            below = self._store.count([*fields, *bound, b"%d" % middle, b"and"])
+            below = sum(self._store.counts([[*fields, within, b"<=", b"%d" % middle, b"and"] for fields in queries]))
             low, high = (low, middle) if below > rank else (middle + 1, high)
-        return self._forms[name].kind.decode(low)
+        return low
+
+    def rank(self, column: Name, value: Any, where: Predicate = all_rows, method: str = "average") -> Any:
+        """Returns the place from 1 that a value has among those of the column in these rows, as pandas ranks them: of
+        equal ones the mean of their places, or the "min" or "max" of these. None where none of the rows has it."""
+        if method not in ("average", "min", "max"):
+            raise ValueError(f"method is 'average', 'min' or 'max', and not {method!r}")
+        one = Column(self._name(column))
+        less, same = self.count((one < value) & where), self.count((one == value) & where)
+        places = {"min": less + 1, "max": less + same, "average": less + (same + 1) / 2}
+        return places[method] if same else None
+
+    def nlargest(self, n: int, column: Name, where: Predicate = all_rows) -> np.ndarray:
+        """Returns the numbers of the n rows that have the greatest values of the column, the greatest first, and of
+        equal ones the first rows first, as pandas does. Fewer where fewer have a value."""
+        return self._outermost(n, self._name(column), where, ">")
+
+    def nsmallest(self, n: int, column: Name, where: Predicate = all_rows) -> np.ndarray:
+        """Returns the numbers of the n rows that have the least values of the column, the least first, as `nlargest`
+        does."""
+        return self._outermost(n, self._name(column), where, "<")
+
+    def _outermost(self, n: int, name: str, where: Predicate, sign: str) -> np.ndarray:
+        """Returns the n rows of which the others lie on one side, the outermost first."""
+        if not hasattr(n, "__index__") or isinstance(n, bool) or n < 0:
+            raise ValueError(f"so many rows is a whole number from 0 up, and not {n!r}")
+        count = self.count(name, where)
+        n = min(n, count)
+        if not n:
+            return np.zeros(0, np.int64)
+        number, kind = self._number_at(name, count - n if sign == ">" else n - 1, where), self._forms[name].kind
+        grows = isinstance(kind, Texts) and kind.grows
+        past = Comparison(name, sign, kind.decode(number)) if grows else Stored(name, sign, number)
+        rows = self.rows(where & Predicate([past]))
+        keys, _ = self._numbers([name], rows)[name]
+        if grows:
+            keys = np.argsort(sorted(range(len(kind.values)), key=kind.values.__getitem__))[keys]
+        rows = rows[np.argsort(~keys if sign == ">" else keys, kind="stable")]
+        equal = self.rows(where & Predicate([Stored(name, "=", number)]))
+        return np.concatenate([rows, equal[: max(0, n - len(rows))]])[:n]
 
     def values_in(self, column: Name, where: Predicate = all_rows) -> Iterator[Any]:
         """Yields the different values of a column in these rows, in order, by a question each."""
-        name, fields = self._name(column), self._query(where)
-        form = self._forms[name]
+        name = self._name(column)
+        return map(self._forms[name].kind.decode, self.numbers_in(name, where))
+
+    def numbers_in(self, column: Name, where: Predicate = all_rows) -> Iterator[int]:
+        """Yields the numbers that stand for the different values of a column in these rows, in order of the values."""
+        name, queries = self._name(column), self._queries(where, BOUND)
+        form, within = self._forms[name], self._within[name]
         if isinstance(form.kind, Texts) and form.kind.grows:
-            yield from (text for text in sorted(form.kind.values) if self.count(where & (Column(name) == text)))
+            for _, place in sorted(zip(form.kind.values, itertools.count())):
+                if any(self._store.counts([[*fields, within, b"=", b"%d" % place, b"and"] for fields in queries])):
+                    yield place
             return
         number: Optional[int] = form.offset - 1
         while number is not None and number < form.most:
-            above = [*fields, self._within[name], b">=", b"%d" % (number + 1), b"and"]
-            number = self._store.value(b"least", self._within[name], above)
+            above = [within, b">=", b"%d" % (number + 1), b"and"]
+            number = self._end(b"least", name, ([*fields, *above] for fields in queries))
             if number is not None:
-                yield form.kind.decode(number)
+                yield number
 
     def groupby(self, column: Name) -> GroupBy:
         """Returns the rows by the values of a column: `groupby("station").sum("rain", where)`."""
@@ -288,16 +375,23 @@ class Table:
         counts = self.groupby(name).count(where=where)
         return Groups(name, dict(sorted(counts.items(), key=lambda one: -one[1])))
 
-    def describe(self, columns: Optional[Iterable[str]] = None, where: Predicate = all_rows) -> Summary:
+    def describe(
+        self,
+        columns: Optional[Iterable[Name]] = None,
+        where: Predicate = all_rows,
+        interpolation: str = "lower",
+    ) -> Summary:
         """Returns the count, the mean, the ends and the quartiles of columns in these rows, with the names that pandas
-        gives them."""
-        return Summary({self._name(one): self._figures(one, where) for one in columns or self._forms})
+        gives them. The quartiles are those of `quantile`, and those of texts and booleans always the lower ones."""
+        return Summary({name: self._figures(name, where, interpolation) for name in self._names(columns)})
 
-    def _figures(self, name: str, where: Predicate) -> Dict[str, Any]:
+    def _figures(self, name: str, where: Predicate, interpolation: str) -> Dict[str, Any]:
         figures: Dict[str, Any] = {"count": self.count(name, where)}
-        with contextlib.suppress(BadQuery):  # (texts and times have none)
+        with contextlib.suppress(BadQuery):  # (texts have none)
             figures["mean"] = self.mean(name, where)
-        low, *middle, high = self.quantile(name, (0, 0.25, 0.5, 0.75, 1), where)
+        has_between = not isinstance(self._forms[name].kind, (Flags, Texts))
+        middle = self.quantile(name, (0.25, 0.5, 0.75), where, interpolation if has_between else "lower")
+        low, high = self.least(name, where), self.greatest(name, where)
         return {**figures, "min": low, **dict(zip(("25%", "50%", "75%"), middle)), "max": high}
 
     def sum(self, column: Name, where: Predicate = all_rows) -> Any:
@@ -308,7 +402,10 @@ class Table:
             kind.decode_sum(0)
         except TypeError as why:
             raise BadQuery(f"column {name!r}: {why}") from None
-        return kind.decode_sum(self._store.sum(self._within[name], self._query(where)))
+        return kind.decode_sum(self._sum(name, where))
+
+    def _sum(self, name: str, where: Predicate) -> int:
+        return sum(self._store.sum(self._within[name], fields) for fields in self._queries(where))
 
     def least(self, column: Name, where: Predicate = all_rows) -> Any:
         """Returns the least value of the column in these rows, or None where there is none."""
@@ -325,100 +422,107 @@ class Table:
 
     def mask(self, where: Predicate = all_rows) -> np.ndarray:
         """Returns for each row whether the predicate selects it, as an array of bool."""
-        words, rows = self._store.select(self._query(where))
+        words, rows = self._selected(where)
         return np.unpackbits(words.view(np.uint8), count=rows, bitorder="little").view(np.bool_)
 
     def rows(self, where: Predicate = all_rows) -> np.ndarray:
         """Returns the numbers of the rows that the predicate selects, from 0, in order."""
-        words, _ = self._store.select(self._query(where))
+        words, _ = self._selected(where)
         some = np.flatnonzero(words)
         places = np.flatnonzero(np.unpackbits(words[some].view(np.uint8), bitorder="little"))
         return some[places >> 6] * 64 + (places & 63)
+
+    def take(self, rows: Iterable[int], columns: Optional[Iterable[Name]] = None) -> Dict[str, List[Any]]:
+        """Returns the values of rows, given by their numbers from 0 in any order, as lists by column with None for a
+        null. A column takes some questions for each bit of its numbers; where these are very many, the call takes
+        memory as `save` does."""
+        found = self._numbers(self._names(columns), rows_of(rows, len(self)))
+        return {name: list_of(self._forms[name].kind, one) for name, one in found.items()}
+
+    def to_pandas(
+        self, where: Union[Predicate, Iterable[int]] = all_rows, columns: Optional[Iterable[Name]] = None
+    ) -> Any:
+        """Returns the rows that the predicate selects, in order, or rows by their numbers, as `nlargest` gives them: a
+        frame of pandas, whose index are these numbers. Decimals are Decimal, and texts objects, each with None for a
+        null. It costs what `take` does."""
+        import pandas
+
+        is_predicate = isinstance(where, (Predicate, Column))
+        rows = self.rows(where) if is_predicate else rows_of(where, len(self))  # type: ignore[arg-type]
+        found = self._numbers(self._names(columns), rows).items()
+        return frame_of(pandas, {name: column_of(pandas, self._forms[name].kind, one) for name, one in found}, rows)
+
+    def _numbers(self, names: Sequence[str], rows: np.ndarray) -> Dict[str, Found]:
+        """Returns of each column the numbers in these rows, and which of them are valid."""
+        bitmaps = sum(1 + form.places for form in self._forms.values())
+        within, are_sorted = [self._within[name] for name in names], (rows[:-1] < rows[1:]).all()
+        if are_sorted:
+            return dict(zip(names, self._store.numbers(within, rows, bitmaps)))
+        different, places = np.unique(rows, return_inverse=True)
+        found = self._store.numbers(within, different, bitmaps)
+        return {name: (numbers[places], valid[places]) for name, (numbers, valid) in zip(names, found)}
+
+    def _names(self, columns: Optional[Iterable[Name]]) -> List[str]:
+        """Returns the columns that are wanted: all where none are named."""
+        named = [columns] if isinstance(columns, (str, Column)) else self._forms if columns is None else columns
+        if not isinstance(named, Iterable):
+            raise TypeError(f"columns is a list of names, and not {columns!r}")
+        return [self._name(column) for column in named]
 
     def _value(self, word: bytes, column: Name, where: Predicate) -> Any:
         name = self._name(column)
         kind = self._forms[name].kind
         if isinstance(kind, Texts) and kind.grows:
-            return self._text_at(name, {b"least": 0, b"greatest": 1, b"median": 0.5}[word], where)
-        number = self._store.value(word, self._within[name], self._query(where))
+            count = self.count(name, where)
+            rank = {b"least": 0, b"greatest": count - 1, b"median": (count - 1) // 2}[word]
+            return kind.decode(self._place_at(name, rank, where)) if count else None
+        queries = self._queries(where)
+        if word == b"median" and len(queries) > 1:
+            count = self.count(name, where)
+            return kind.decode(self._number_at(name, (count - 1) // 2, where)) if count else None
+        number = self._end(word, name, queries)
         return None if number is None else kind.decode(number)
 
-    def _text_at(self, name: str, q: float, where: Predicate) -> Optional[str]:
-        """Returns the text at a part of these rows, by a count of each text: their places are in no order."""
-        kind, fields = self._forms[name].kind, self._query(where)
-        asked = [[*fields, self._within[name], b"=", b"%d" % place, b"and"] for place in range(len(kind.values))]
-        counts = sorted(zip(kind.values, self._store.counts(asked)))
-        rank = math.floor(Fraction(q) * (sum(count for _, count in counts) - 1))
-        for text, count in counts:
-            if (rank := rank - count) < 0 and count:
-                return text
-        return None
+    def _place_at(self, name: str, rank: int, where: Predicate) -> int:
+        """Returns the place of the text that has a rank among those of these rows, by a count of each text: their
+        places are in no order."""
+        kind, queries, within = self._forms[name].kind, self._queries(where, BOUND), self._within[name]
+        places = range(len(kind.values))
+        asked = [[*fields, within, b"=", b"%d" % place, b"and"] for place in places for fields in queries]
+        counts = np.reshape(self._store.counts(asked), (len(places), len(queries))).sum(axis=1).tolist()
+        found = upto = 0
+        for _, place, count in sorted(zip(kind.values, places, counts)):
+            found, upto = place if count else found, upto + count
+            if upto > rank:
+                break
+        return found
 
     def _name(self, column: Name) -> str:
-        name = column.name if isinstance(column, Column) else column
-        if name not in self._forms:
-            raise BadQuery(f"there is no column {name!r}, only {_listed(self._forms)}")
-        return name
+        return name_among(self._forms, column)
 
-    def _query(self, where: Predicate) -> List[bytes]:
-        """Returns the fields of the predicate, over the numbers of the columns."""
-        if not isinstance(where, Predicate):
-            raise TypeError(f"a predicate is made of bsi.col, as col.price < 100, and is not {type(where).__name__}")
-        fields: List[bytes] = []
-        for term in where.terms:
-            if isinstance(term, Null):
-                fields += [self._within[self._name(term.column)], b"null"]
-            elif isinstance(term, Comparison):
-                fields += self._comparison(term)
-            elif isinstance(term, Among):
-                fields += self._among(term)
-            elif isinstance(term, Holds):
-                fields += self._holds(term)
+    def _queries(self, where: Predicate, spare: int = 0) -> List[List[bytes]]:
+        """Returns the fields of queries whose rows together are those of the predicate, each row in one, with room for
+        so many fields more."""
+        return queries_of(self._forms, self._within, where, spare)
+
+    def _selected(self, where: Predicate) -> Tuple[np.ndarray, int]:
+        """Returns the words whose bits say which rows the predicate selects, and how many rows there are."""
+        queries = self._queries(where)
+        while True:
+            words, rows = self._store.select(queries[0])
+            for fields in queries[1:]:
+                more, count = self._store.select(fields)
+                if count != rows:
+                    break  # (another thread appended between the two; then all are asked again)
+                words |= more
             else:
-                fields.append(term.encode())
-        refuse_long(len(fields))
-        return fields
+                return words, rows
 
-    def _comparison(self, term: Comparison) -> List[bytes]:
-        name = self._name(term.column)
-        cut, kind = self._cut(name, term.constant), self._forms[name].kind
-        if isinstance(kind, Texts) and kind.grows:
-            return self._one_of(name, kind.numbers_where(term.sign, term.constant))
-        sign, number = among_numbers(term.sign, *cut)
-        sign, number = clamped(self._forms[name], sign, number)
-        return [self._within[name], sign.encode(), b"%d" % number]
-
-    def _among(self, term: Among) -> List[bytes]:
-        """Returns the fields that select the numbers of the constants."""
-        name = self._name(term.column)
-        cuts = [self._cut(name, constant) for constant in term.constants]
-        return self._one_of(name, (left for left, right in cuts if left < right))
-
-    def _one_of(self, name: str, numbers: Iterable[int]) -> List[bytes]:
-        """Returns the fields that select some numbers of a column, run by run."""
-        form, column, fields = self._forms[name], self._within[name], []
-        found = {number for number in numbers if form.offset <= number <= form.most}
-        for first, last in runs_of(sorted(found)):
-            joined = [b"or"] if fields else []
-            if first == last:
-                fields += [column, b"=", b"%d" % first, *joined]
-            else:
-                fields += [column, b">=", b"%d" % first, column, b"<=", b"%d" % last, b"and", *joined]
-        return fields or [b"all", b"not"]
-
-    def _holds(self, term: Holds) -> List[bytes]:
-        name = self._name(term.column)
-        kind = self._forms[name].kind
-        if kind != Flags():
-            raise BadQuery(f"column {name!r} holds {kind}: only one of booleans is a predicate by itself")
-        return [self._within[name], b"=", b"1"]
-
-    def _cut(self, name: str, constant: Any) -> Cut:
-        kind = self._forms[name].kind
-        try:
-            return kind.cut(constant)
-        except (TypeError, ValueError, ArithmeticError) as why:
-            raise BadQuery(f"column {name!r} is compared with one of {kind}: {why}") from None
+    def _end(self, word: bytes, name: str, queries: Iterable[Sequence[bytes]]) -> Optional[int]:
+        """Returns the least or the greatest number of a column in the rows of some queries."""
+        numbers = [self._store.value(word, self._within[name], fields) for fields in queries]
+        there = [number for number in numbers if number is not None]
+        return (min if word == b"least" else max)(there, default=None)
 
     # ---- Its end ----
 
@@ -436,34 +540,42 @@ class Table:
         raise TypeError(f"{type(self).__name__} has no copy; an Index and Parts have")
 
 
-def among_numbers(sign: str, left: int, right: int) -> Tuple[str, int]:
-    """Returns the comparison of a number with a whole one that says the same as that with a constant of this cut."""
-    if sign in ("<", ">="):
-        return sign, left
-    if sign in ("<=", ">"):
-        return ("<", right) if sign == "<=" else (">=", right)
-    return (sign, left) if left < right else ("<" if sign == "=" else ">=", -FAR)
+def rows_of(rows: Any, count: int) -> np.ndarray:
+    """Returns numbers of rows as an array, or raises TypeError or BadQuery where they are none of so many rows."""
+    wrong = f"rows are a list of their numbers, as rows(where) returns them, and not {shown(rows)}"
+    try:
+        given = np.asarray(list(rows) if isinstance(rows, (Iterator, AbstractSet)) else rows)
+    except ValueError:
+        raise TypeError(wrong) from None
+    if given.ndim != 1 or given.dtype.kind not in "iu" and len(given):
+        raise TypeError(wrong)
+    bad = (given < 0) | (given >= count) if len(given) else np.zeros(0, bool)
+    if bad.any():
+        span = f"0 to {count - 1:,}" if count else "none"
+        raise BadQuery(f"there is no row {given[int(bad.argmax())]:,}: the rows are {span}")
+    return given.astype(np.int64)
 
 
-def runs_of(numbers: Sequence[int]) -> Iterator[Tuple[int, int]]:
-    """Yields the first and the last of each run of numbers that follow each other, which come in order."""
-    first = 0
-    for place, number in enumerate(numbers):
-        if place + 1 == len(numbers) or numbers[place + 1] != number + 1:
-            yield numbers[first], number
-            first = place + 1
+def is_scalar(given: Any) -> bool:
+    """Returns whether it is an array of one value without a length."""
+    return isinstance(given, np.ndarray) and given.ndim == 0
 
 
-def clamped(form: Form, sign: str, number: int) -> Tuple[str, int]:
-    """Returns the same comparison with a number that the column takes: below its least one there is none, from it on
-    are all."""
-    if sign in ("=", "!="):
-        if form.offset <= number <= form.most:
-            return sign, number
-        sign, number = "<" if sign == "=" else ">=", -FAR
-    if number > form.most:
-        return ("<=", form.most) if sign == "<" else (">", form.most)
-    return sign, max(number, form.offset)
+def part_of(q: Any) -> Part:
+    """Returns a part from 0 to 1, or raises TypeError or ValueError where it is none."""
+    part = q[()] if is_scalar(q) else q
+    is_number = isinstance(part, (Real, Decimal)) and not isinstance(part, (bool, np.timedelta64))
+    if not is_number:
+        raise TypeError(f"a quantile is a number from 0 to 1, and not {shown(q)}")
+    if isinstance(part, Decimal) and part.is_nan() or not 0 <= part <= 1:
+        raise ValueError(f"a quantile is from 0 to 1, and not {shown(q)}")
+    return float(part) if isinstance(part, (float, np.floating)) else Fraction(part)
+
+
+def rank_of(count: int, part: Part) -> int:
+    """Returns the rank from 0 that NumPy's method "lower" has at a part of so many values: by the product of floats
+    where it is one."""
+    return math.floor((count - 1) * part)
 
 
 def _listed(names: Iterable[str]) -> str:

@@ -109,6 +109,10 @@ def test_answers_are_exact_and_a_lost_worker_is_told(client, monkeypatch):
         for name in one.columns:
             for end in ("least", "greatest", "median"):
                 assert getattr(rows, end)(name, where) == getattr(one, end)(name, where), (end, name, where)
+    some = one.rows((col.b == 7) & (col.a < 200_000))
+    assert len(some) and rows.take(some) == one.take(some) and rows.rank("who", "bee") == one.rank("who", "bee")
+    assert rows.nlargest(5, "price").tolist() == one.nlargest(5, "price").tolist()
+    pandas.testing.assert_frame_equal(rows.to_pandas(col.a < 9_999), one.to_pandas(col.a < 9_999))
     monkeypatch.setattr("bsi.dask.SECONDS", 0.0001)
     assert rows.count() == 40_000 and rows.median("a") == one.median("a")
     with pytest.raises(TypeError, match="takes no further rows"):

@@ -14,6 +14,11 @@ import pytest
 
 import bsi
 
+try:
+    import pandas
+except ImportError:
+    pandas = None
+
 WORDS = "count sum rows median least greatest where and or not null all ( ) = == != < <= > >= !".split()
 WORDS += "' \" a b 5 -3 2.5 1e9 true \\ , ''".split()
 # fmt: off
@@ -60,8 +65,14 @@ def test_random_values():
             continue
         kept += 1
         kind = index.forms["x"].kind
-        for row in index.rows(~bsi.col.x.isnull()):
-            assert index.mask(bsi.col.x == values[row])[row] and kind.decode(kind.number(values[row])) is not None
+        there, taken = index.rows(~bsi.col.x.isnull()), index.take(range(len(values)))["x"]
+        assert [row for row, value in enumerate(taken) if value is not None] == there.tolist()
+        for row in there:
+            assert index.mask(bsi.col.x == values[row])[row] and kind.decode(kind.number(values[row])) == taken[row]
+        if pandas:
+            found = index.to_pandas()["x"]
+            assert found.notna().tolist() == [value is not None for value in taken]
+            assert all(one == value for one, value in zip(found, taken) if value is not None)
     assert kept > 800
 
 

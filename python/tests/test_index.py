@@ -257,10 +257,55 @@ def test_isin_of_many_constants():
     assert index.count(col.t.isin({f"{number:04}" for number in range(1000)} | {"none"})) == 2001
     assert repr(col.x.isin([1, 2])) == "col.x.isin([1, 2])" and col.x.isin([1]) == col.x.isin((1,))
     assert pickle.loads(pickle.dumps(col.x.isin([1, 2]))) == col.x.isin([1, 2])
-    with pytest.raises(bsi.BadQuery, match="at most 1,000 fields"):
-        index.count(col.x.isin(range(0, 2000, 2)))
     with pytest.raises(bsi.BadQuery, match="'a' is no number"):
         index.count(col.x.isin([1, "a"]))
+
+
+def test_lists_that_are_longer_than_a_question():
+    x = np.random.default_rng(6).integers(-3000, 3000, 4000)
+    data = {"x": np.ma.MaskedArray(x, x % 7 == 0), "y": np.arange(4000)}
+    index, evens = bsi.Index.from_frame(data), np.arange(-2999, 3000, 2)
+    rows = (x % 2 == 1) & (x % 7 != 0)
+    assert index.count(col.x.isin(evens)) == rows.sum() and index.sum("y", ~col.x.isin(evens)) == data["y"][~rows].sum()
+    many = col.y != 5
+    for _ in range(248):
+        many = many & (col.y != 5)
+    with pytest.raises(bsi.BadQuery, match="at most 1,000 fields .* and this one 1,007"):
+        index.count(many & col.x.isin([1, 3]))
+
+
+@pytest.mark.parametrize("room", [60, 100])
+def test_lists_that_are_longer_than_a_question_beside_plain_python(room, monkeypatch):
+    monkeypatch.setattr("bsi.queries.MAX_FIELDS", room)
+    rng = np.random.default_rng(room)
+    x, there, y = rng.integers(-30, 30, 300), rng.random(300) < 0.9, rng.integers(0, 500, 300)
+    texts = np.array([f"{number:02}" for number in rng.integers(0, 25, 300)])
+    data = {"x": np.ma.MaskedArray(x, ~there), "t": texts, "y": y}
+    forms = bsi.Index.from_frame(data).forms
+    grows = forms["t"].of(bsi.Texts(tuple(rng.permutation(sorted(set(texts)))), grows=True))
+    odds, some = list(range(-29, 30, 2)), {f"{number:02}" for number in range(0, 25, 3)}
+    in_x, in_t = np.isin(x, odds) & there, np.isin(texts, list(some))
+    for table in (bsi.Index(forms), bsi.Parts(3, forms), bsi.Index({**forms, "t": grows})):
+        table.append(data)
+        for where, rows in (
+            (col.x.isin(odds), in_x),
+            (~col.x.isin(odds), ~in_x),
+            (~col.x.isin(odds) & (col.x < 20) | col.x.isnull(), ~in_x & (x < 20) | ~there),
+            (col.x.isin(odds) & ~col.t.isin(some), in_x & ~in_t),
+            (col.x.isin(odds) | col.x.isin([2]) & (col.t < "07"), in_x | (x == 2) & there & (texts < "07")),
+            (col.x.isin(odds) & (col.y < 0), in_x & (y < 0)),
+        ):
+            assert table.mask(where).tolist() == rows.tolist() and table.count(where) == rows.sum()
+            assert table.rows(where).tolist() == np.flatnonzero(rows).tolist()
+            found, words = sorted(y[rows].tolist()), sorted(texts[rows].tolist())
+            at = (len(found) - 1) // 2
+            assert table.sum("y", where) == sum(found) and list(table.values_in("y", where)) == sorted(set(found))
+            ends = [found[0], found[-1], found[at], words[0], words[at]] if found else [None] * 5
+            asked = [table.min("y", where), table.max("y", where), table.median("y", where)]
+            assert [*asked, table.min("t", where), table.median("t", where)] == ends
+            assert table.quantile("y", 1, where) == ends[1] and dict(table.value_counts("t", where)) == {
+                word: words.count(word) for word in words
+            }
 
 
 def test_constants_on_the_left():
@@ -286,6 +331,59 @@ def test_names_that_pandas_has():
         assert index.mean("d") == sum(Decimal(int(number)) for number in x).scaleb(-1) / 777
         with pytest.raises(ValueError, match="from 0 to 1"):
             index.quantile("x", 1.5)
+
+
+def test_quantiles_are_those_of_numpy():
+    rng = np.random.default_rng(8)
+    for count in (1, 2, 11, 20, 21, 101, 200):
+        x = rng.integers(-500, 500, count)
+        index = bsi.Index.from_frame({"x": x, "d": [Decimal(int(number)).scaleb(-1) for number in x]})
+        parts = [*(place / 20 for place in range(21)), 0.29, 0.07, np.float32(0.3), np.array(0.7), Decimal("0.3")]
+        floats = [float(part) for part in parts]
+        assert index.quantile("x", parts[:-1]) == np.quantile(x, floats[:-1], method="lower").tolist()
+        found = index.quantile("x", parts, interpolation="linear")
+        assert set(map(type, found)) == {float} and np.allclose(found, np.quantile(x, floats), rtol=1e-7, atol=1e-4)
+        assert np.allclose(found[:21], np.quantile(x, floats[:21]), rtol=1e-13, atol=1e-12)
+        for part, value in zip(parts[:21], index.quantile("d", parts[:21], interpolation="linear")):
+            place = (count - 1) * Fraction(str(part))
+            low, high = (Fraction(int(np.sort(x)[min(at, count - 1)])) for at in (place // 1, place // 1 + 1))
+            assert type(value) is Decimal and Fraction(value) == (low + (high - low) * (place % 1)) / 10
+    assert index.quantile("x", (part for part in (0, 1))) == [x.min(), x.max()] == index.quantile("x", range(2))
+    assert index.quantile("x", [], interpolation="linear") == [] and index.quantile("x", 0.5, col.x > 999) is None
+
+
+def test_quantiles_between_times():
+    days = [datetime.datetime(2026, 1, 1), datetime.datetime(2026, 1, 2)]
+    zoned = [day.replace(tzinfo=datetime.timezone.utc) for day in days]
+    fine = np.array([0, 5], "M8[ns]")
+    index = bsi.Index.from_frame({"d": days, "z": zoned, "f": fine, "b": [True, False], "t": ["a", "b"]})
+    assert index.quantile("d", 0.25, interpolation="linear") == datetime.datetime(2026, 1, 1, 6)
+    wanted = datetime.datetime(2026, 1, 1, 12, tzinfo=datetime.timezone.utc)
+    assert index.quantile("z", [0, 0.5], interpolation="linear") == [zoned[0], wanted]
+    assert index.quantile("f", 0.6, interpolation="linear") == np.datetime64(3, "ns")
+    for name in "bt":
+        with pytest.raises(bsi.BadQuery, match=f"column '{name}': .* have none between them"):
+            index.quantile(name, 0.5, interpolation="linear")
+
+
+@pytest.mark.parametrize(
+    "q, kind, why",
+    [
+        ("0.5", TypeError, "a number from 0 to 1, and not '0.5'"),
+        (["0.5"], TypeError, "a number from 0 to 1"),
+        (None, TypeError, "a number from 0 to 1, and not None"),
+        (True, TypeError, "a number from 0 to 1"),
+        (np.timedelta64(1, "s"), TypeError, "a number from 0 to 1"),
+        (float("nan"), ValueError, "is from 0 to 1, and not nan"),
+        (Decimal("sNaN"), ValueError, "is from 0 to 1"),
+        (1.5, ValueError, "is from 0 to 1, and not 1.5"),
+    ],
+)
+def test_quantiles_that_are_none(q, kind, why):
+    with pytest.raises(kind, match=why):
+        small().quantile("price", q)
+    with pytest.raises(ValueError, match="interpolation is 'lower' or 'linear', and not 'higher'"):
+        small().quantile("price", 0.5, interpolation="higher")
 
 
 def grouped(rows, name, where, figure):
@@ -327,6 +425,14 @@ def test_groups_beside_plain_python(seed):
                 wanted = {value: sum(row[name] == value and where(row) for row in rows) for value in counts}
                 assert counts == wanted == by.count(predicate)
                 assert list(counts.values()) == sorted(counts.values(), reverse=True)
+
+
+def test_groups_of_answers_that_are_no_constants():
+    times = np.array(["2026-01-31T12:00:00.000000001", "2026-01-31", "2026-01-31"], "M8[ns]")
+    index = bsi.Index({"t": bsi.slices(63, kind=bsi.Times("ns", datetime.timezone.utc)), "n": bsi.slices(3)})
+    index._store.append([(times.view("i8"), None), (np.array([5, 2, 3]), None)])
+    assert index.groupby("t").sum("n") == {times[1]: 5, times[0]: 5}
+    assert index.value_counts("t", col.n > 2) == {times[1]: 1, times[0]: 1}
 
 
 def test_groups_that_are_many():
@@ -395,6 +501,41 @@ def test_a_summary():
     with pytest.raises(bsi.BadQuery, match="count\\('ok'\\) counts its values, and count\\(col.ok == True\\)"):
         index.count(col.ok)
     assert index.count("ok") == 3 and index.count(where=col.n > 1) == 2 and index.count(col.n > 1, col.n < 3) == 1
+    assert index.describe("day") == {"day": found["day"]} and index.describe(col.n)["n"] == found["n"]
+
+
+def test_a_summary_beside_pandas():
+    pandas = pytest.importorskip("pandas")
+    rng = np.random.default_rng(4)
+    day = pandas.Timestamp("2026-01-01") + pandas.to_timedelta(rng.integers(0, 400, 90), unit="D")
+    frame = pandas.DataFrame({"n": rng.integers(-50, 50, 90), "x": rng.integers(0, 500, 90) / 4, "day": day})
+    frame.loc[rng.random(90) < 0.2, "x"] = np.nan
+    found = bsi.Index.from_frame(frame).describe(interpolation="linear")
+    for name in frame:
+        wanted = {"count": frame[name].count(), "mean": frame[name].mean(), "min": frame[name].min()}
+        wanted.update({f"{part}%": frame[name].quantile(part / 100) for part in (25, 50, 75)}, max=frame[name].max())
+        assert list(found[name]) == list(wanted)
+        for word, figure in wanted.items():
+            if name == "day" and word != "count":
+                # (the days of pandas may be cut to nanoseconds)
+                assert abs(found[name][word] - figure) <= datetime.timedelta(microseconds=1), word
+            else:
+                assert float(found[name][word]) == pytest.approx(float(figure), rel=1e-12), (name, word)
+    index = bsi.Index.from_frame({"t": ["b", "a"], "f": [True, False]})
+    assert index.describe(interpolation="linear")["t"]["50%"] == "a"
+    assert index.describe(interpolation="linear")["f"]["50%"] is False
+
+
+def test_means_of_times():
+    days = [datetime.datetime(2026, 1, 1), None, datetime.datetime(2026, 1, 2), datetime.datetime(2026, 1, 2)]
+    zoned = [None if day is None else day.replace(tzinfo=datetime.timezone.utc) for day in days]
+    fine = np.array([1, "NaT", 2, 2], "M8[ns]")
+    index = bsi.Index.from_frame({"d": days, "z": zoned, "f": fine})
+    for table in (index, bsi.Parts.from_frame(2, {"d": days, "z": zoned, "f": fine})):
+        assert table.mean("d") == datetime.datetime(2026, 1, 1, 16) and table.mean("f") == np.datetime64(2, "ns")
+        assert table.mean("z") == datetime.datetime(2026, 1, 1, 16, tzinfo=datetime.timezone.utc)
+        assert table.mean("d", col.d > "2027-01-01") is None
+        assert table.groupby("d").mean("z") == {days[0]: zoned[0], days[2]: zoned[2]}
 
 
 def test_a_thousand_fields():
@@ -529,6 +670,7 @@ def test_kinds_that_are_none():
     for wrong in (lambda: bsi.Texts(()), lambda: bsi.Texts((1,)), lambda: bsi.slices(20.0), lambda: bsi.range(2, "x")):
         with pytest.raises(TypeError):
             wrong()
+    assert bsi.Decimals(np.int64(1)) == bsi.Decimals(1) and type(bsi.Decimals(np.int8(2)).places) is int
     assert bsi.Decimals("0.01") == bsi.Decimals(2) == bsi.Decimals(0.01) and bsi.Decimals(1) != bsi.Decimals(2)
 
 

@@ -153,7 +153,13 @@ def test_the_command_takes_what_read_csv_takes(tmp_path):
     words[-1], kinds = "x", "zip=text,n=decimals:3,Day=dates"
     ran = run(str(path), *words, "--kinds", kinds, "sum n", "least zip")
     assert ran.stdout.splitlines()[-2:] == ["3.755", "0"] and ran.returncode == 0
-    assert "--kinds has NAME=KIND" in run(str(path), "--kinds", "zip=code", "count").stderr
+    for kinds, why in (
+        ("zip=code", "--kinds has NAME=KIND"),
+        ("zip=whole:3", "and not 'zip=whole:3'"),
+        ("n=decimals:x", "--kinds n=decimals:x: 'x' is no number of places"),
+        ("Day=times:h", "--kinds Day=times:h: 'h' is no unit of time"),
+    ):
+        assert why in run(str(path), "--kinds", kinds, "count").stderr
     assert run("--version").stdout == f"bsi {bsi.__version__}\n" and bsi.__version__[0].isdigit()
 
 

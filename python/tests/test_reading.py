@@ -326,6 +326,10 @@ def test_all_columns_that_do_not_fit_are_told(write):
     index = bsi.Index({"b": bsi.slices(3), "c": bsi.slices(3)})
     with pytest.raises(bsi.BadRow, match="column 'b', row 1.*\ncolumn 'c', row 0"):
         index.append({"b": [1, "x"], "c": [0.5, 1]})
+    for table in (index, bsi.Parts(2, index.forms)):
+        with pytest.raises(bsi.BadRow, match="column 'b', row 1: 8 is not from 0 to 7\ncolumn 'c', row 0: 9 is not"):
+            table.append({"b": [1, 8, 9], "c": [9, 10, 1]})
+        assert len(table) == 0
 
 
 def test_rows_that_are_left_out(write, monkeypatch):
@@ -396,6 +400,7 @@ def test_files_of_other_layouts(write):
 def test_a_column_of_nulls_keeps_the_kind_that_is_given(write):
     index = read(write, "t,n\n,1\n,2\n", kinds={"t": bsi.Times("D")})
     assert index.count(col.t < "2026-01-31") == 0 and index.count(col.t.isnull()) == 2
+    assert read(write, "t,n\n,1\n,2\n", kinds={"t": bsi.Texts}).count(col.t == "a") == 0
 
 
 def random_field(rng, style):

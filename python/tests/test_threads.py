@@ -96,6 +96,8 @@ def test_rows_come_in_while_others_ask(make):
             mask = index.mask(col.b.isnull())
             assert len(mask) % 400 == 0 and mask.sum() == np.ma.getmaskarray(data["b"]).sum() * (len(mask) // 400)
             assert len(index.rows(col.a >= 0)) % 400 == 0
+            last = np.arange(400)[-3:] + len(mask) - 400 if len(mask) else []
+            assert index.take(last, "a")["a"] == data["a"][400 - len(last) :].tolist()
 
     assert in_threads([append, append, ask, ask]) == [] and len(index) == 40_000
 
@@ -127,6 +129,24 @@ def test_parts_put_answers_together():
                             name,
                             where,
                         )
+
+
+def test_parts_give_rows_back_as_one_index(monkeypatch):
+    data, rng = table(3_003), np.random.default_rng(4)
+    index = bsi.Index(FORMS)
+    index.append(data)
+    for n, most in ((1, 0), (3, 0), (3, 1000), (7, 10**6)):
+        monkeypatch.setattr("bsi.taking.MAX_ASKED", most)
+        with bsi.Parts(n, FORMS) as parts:
+            for start, end in ((0, 0), (0, 1), (1, 50), (50, 3_003)):
+                parts.append({name: values[start:end] for name, values in data.items()})
+            rows = rng.integers(0, 3_003, 100)
+            assert parts.take(rows) == index.take(rows) == {
+                "a": data["a"][rows].tolist(),
+                "b": data["b"][rows].tolist(),
+            }
+            assert parts.take([]) == {"a": [], "b": []}
+            assert parts.nlargest(9, "b").tolist() == index.nlargest(9, "b").tolist()
 
 
 def test_a_median_of_parts_takes_few_rounds(monkeypatch):
@@ -216,7 +236,7 @@ parts = bsi.Parts(2, {"a": bsi.slices(9)})
 parts.append({"a": [1, 2, 3]})
 if os.fork() == 0:
     signal.alarm(20)
-    for ask in (parts.count, lambda: parts.append({"a": [1]}), lambda: len(parts)):
+    for ask in (parts.count, lambda: parts.append({"a": [1]}), lambda: len(parts), lambda: parts.take([0])):
         try:
             ask()
             os._exit(1)

@@ -191,6 +191,7 @@ def test_zones_of_other_packages(package):
     index = bsi.Index.from_frame({"t": times})
     assert index.least("t") == times[0] and index.greatest("t").utcoffset() == datetime.timedelta(hours=2)
     assert index.append({"t": times}) == 2 and index.rows(bsi.col.t == times[1]).tolist() == [1, 3]
+    assert index.take([3, 0])["t"] == times[::-1] and index.to_pandas()["t"].tolist() == times * 2
     assert "Paris" in repr(index)
 
 
@@ -215,6 +216,16 @@ def test_nulls_alone_have_the_kind_of_their_dtype(name):
     assert index.count(bsi.col.x == constant) == 0 and index.least("x") is None
 
 
+def test_nulls_alone_are_texts_where_they_are_wished():
+    for spare, table in ((0, {"t": [None, None]}), (3, {"t": np.array([np.nan] * 2)}), (3, {"t": []})):
+        index = bsi.Index.from_frame(table, kinds={"t": bsi.Texts}, spare=spare)
+        assert index.count(bsi.col.t == "a") == 0 and index.count(bsi.col.t.isnull()) == len(index)
+        assert index.greatest("t") is None and index.take(range(len(index)))["t"] == [None] * len(index)
+        if spare:
+            index.append({"t": ["b", "a", None]})
+            assert index.value_counts("t") == {"b": 1, "a": 1} and index.greatest("t") == "b"
+
+
 def test_an_order_that_names_a_text_twice():
     given = Arrow("c", 3, [None, np.array([0, 1, 2], np.int8)], dictionary=texts("b", "a", "b"), flags=1)
     index = bsi.Index.from_frame({"x": given})
@@ -226,6 +237,9 @@ def test_texts_that_are_wished():
     assert index.count(bsi.col.zip < "00100") == 100
     with pytest.raises(bsi.BadRow, match="row 1: 5 is no text"):
         bsi.Index.from_frame({"zip": ["00501", 5]}, kinds={"zip": bsi.Texts})
+    for numbers in ([None, 501, 10001], np.array([np.nan, 501]), pandas.array([None, 501], dtype="Int64")):
+        with pytest.raises(bsi.BadRow, match="column 'zip', row 1: 501(.0)? is no text"):
+            bsi.Index.from_frame({"zip": numbers}, kinds={"zip": bsi.Texts})
 
 
 def test_floats_that_are_rounded():
@@ -329,7 +343,9 @@ REFUSED = {
     "a long double of 17 digits": (np.array([1, 1234567890123456.5], np.longdouble), 1, "exactly with"),
     "numbers far apart": ([None, -1, 5, 2**63 - 1], 3, "more than the 2\\^63 values"),
     "a large float": (np.array([0.5, 1e300]), 1, "exactly with"),
-    "infinity": (np.array([1.0, np.inf]), 1, "exactly with|63 bits"),
+    "infinity": (np.array([1.0, np.inf]), 1, "inf is no finite number"),
+    "a number of very many digits": ([1, 10**5000], 1, "what is of type int and too long to show is past 64 bits"),
+    "a fraction of many digits": ([1, Fraction(10**5000, 3)], 1, "type Fraction and too long to show is no number"),
     "a fraction": ([Decimal("0.5"), Fraction(1, 3)], 1, "no number, or no decimal"),
     "infinite decimal": ([Decimal("inf")], 0, "no finite number"),
     "many places": ([Decimal("1e-30")], 0, "more than 18"),
