@@ -4,21 +4,21 @@ use Rattle.bsi_components.specs.EndDigits.{IsGreatestDigit, IsLeastDigit}
 
 pub greatest_here : (bound : ℕ) (rows : ℕ → Bool) (digit : ℕ → ℕ) (n d : ℕ) → bound ≤ d → ((p : ℕ) × (p < n) × (rows p ≡ true) × (d ≤ digit p))
     → ((p : ℕ) → p < n → rows p ≡ true → digit p ≤ d) → IsGreatestDigit bound rows digit n d
-greatest_here bound rows digit n d within (p , below , set , reaches) first =
+greatest_here bound rows digit n d within (p, below, set, reaches) first =
     let at_most = first p below set in
     record {
       within = within;
-      member = (p , below , set , omega (arith, at_most, reaches));
+      member = (p, below, set, omega (arith, at_most, reaches));
       first = first;
     }
 
 pub least_here : (bound : ℕ) (rows : ℕ → Bool) (digit : ℕ → ℕ) (n d : ℕ) → d ≤ bound → ((p : ℕ) × (p < n) × (rows p ≡ true) × (digit p ≤ d))
     → ((p : ℕ) → p < n → rows p ≡ true → d ≤ digit p) → IsLeastDigit bound rows digit n d
-least_here bound rows digit n d within (p , below , set , reaches) first =
+least_here bound rows digit n d within (p, below, set, reaches) first =
     let at_least = first p below set in
     record {
       within = within;
-      member = (p , below , set , omega (arith, at_least, reaches));
+      member = (p, below, set, omega (arith, at_least, reaches));
       first = first;
     }
 
