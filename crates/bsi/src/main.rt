@@ -2,7 +2,10 @@
 //! returns.
 #![tactic(auto)]
 
-use bsi_shell::{Progress, ScriptFault, run_words, tell_fault};
+mod progress;
+
+use bsi_shell::{ScriptFault, run_words, tell_fault};
+use progress::Progress;
 use std::io::IsTerminal;
 use std::process::ExitCode;
 use std::rt::Env;

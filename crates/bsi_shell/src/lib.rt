@@ -6,7 +6,6 @@ mod check;
 mod files;
 mod kept;
 mod paths;
-mod progress;
 mod request;
 mod telling;
 mod words;
@@ -18,6 +17,5 @@ pub use bsi_system::{
     NoMemory, OpenRefused, SettleRefused, SubmitRefused, System, Told, open,
 };
 pub use bsi_text::{ScriptFault, WriteFault};
-pub use progress::Progress;
 pub use telling::tell_fault;
 pub use words::{CommandEnd, run_words};

@@ -1,12 +1,12 @@
 //! How far a run over files is, on a terminal.
 
 use arrayvec::ArrayString;
-use bsi_files::{Gate, Stopping};
+use bsi_shell::{Gate, Stopping};
 use itoa::Buffer;
 use std::io::Eprint;
 use std::sync::Wait;
 use std::sync::atomic::{AtomicU64, Ordering};
-use std::time::{Clock, Instant};
+use std::time::Instant;
 
 /// Once so many rows of a file were read, the clock is asked whether the line is due.
 const ROWS_AT_ONCE: u64 = 1024;
@@ -24,24 +24,24 @@ const MAX_PROGRESS: usize = 96;
 /// in how many seconds: from the first second on, in one line that is drawn anew at most ten times a second, and removed
 /// when the feeders have ended.
 #[derive(Drop)]
-pub struct Progress<'r, R> {
-    rt: &'r R,
+pub(crate) struct Progress {
+    rt: HostRuntime,
     begun: Option<Instant>,
     rows: AtomicU64,
     files: AtomicU64,
     due: AtomicU64,
 }
 
-impl<'r, R: Clock + Eprint> Progress<'r, R> {
+impl Progress {
     /// Begins a run. Where standard error is no terminal, nothing is shown.
-    pub fn new(rt: &'r R, is_terminal: bool) -> Progress<'r, R> {
+    pub(crate) fn new(rt: &HostRuntime, is_terminal: bool) -> Progress {
         let begun = if is_terminal {
             Instant::now(rt).ok()
         } else {
             None
         };
         Progress {
-            rt,
+            rt: *rt,
             begun,
             rows: AtomicU64::new(0),
             files: AtomicU64::new(0),
@@ -51,7 +51,7 @@ impl<'r, R: Clock + Eprint> Progress<'r, R> {
 
     /// Draws the line where it is due, and no other thread draws it.
     fn draw(&self, begun: Instant) {
-        let Ok(time) = begun.elapsed(self.rt) else {
+        let Ok(time) = begun.elapsed(&self.rt) else {
             return;
         };
         let now = u64::try_from(time.as_millis()).unwrap_or(u64::MAX);
@@ -62,7 +62,7 @@ impl<'r, R: Clock + Eprint> Progress<'r, R> {
         }
     }
 
-    /// Notes when the next line is due, unless another thread has done so.
+    /// Notes when the next line is due, and returns whether no other thread has done so.
     fn becomes_due(&self, due: u64, next: u64) -> bool {
         self.due
             .compare_exchange(due, next, Ordering::SeqCst, Ordering::SeqCst)
@@ -83,8 +83,8 @@ impl<'r, R: Clock + Eprint> Progress<'r, R> {
     }
 }
 
-impl<R: Clock + Eprint> Gate for Progress<'_, R> {
-    fn pass<W: Wait>(&self, _rt: &W, _who: u32, point: u64) {
+impl Gate for Progress {
+    fn pass<R: Wait>(&self, _rt: &R, _who: u32, point: u64) {
         let Some(begun) = self.begun else {
             return;
         };
@@ -96,7 +96,7 @@ impl<R: Clock + Eprint> Gate for Progress<'_, R> {
         }
     }
 
-    fn again<W: Wait>(&self, _rt: &W, _who: u32, _point: u64) -> bool {
+    fn again<R: Wait>(&self, _rt: &R, _who: u32, _point: u64) -> bool {
         true
     }
 
@@ -107,7 +107,7 @@ impl<R: Clock + Eprint> Gate for Progress<'_, R> {
     }
 }
 
-impl<R> Stopping for Progress<'_, R> {
+impl Stopping for Progress {
     ghost use Rattle.std.specs.Prelude.{false};
 
     const STOPS: bool = false;
