@@ -1,6 +1,4 @@
 mod Asking
 mod Counting
-mod Headers
-mod InOrder
 mod Joined
 mod Telling

@@ -11,8 +11,8 @@ ghost use Rattle.bsi_check.specs.Checks.{has_good_asks, AreCountedAsks, IsAskVer
 use crate::NoMemory;
 use crate::lines::{LineEnds, MAX_TOLD, tell_at, tell_more};
 use crate::rows::tell_unread;
-use crate::why_ask::why_no_query;
 use bsi_reading::{MAX_RECORDS, SourceFault, plain_reader, read_next};
+use bsi_reasons::why_no_query;
 use bsi_records::read_query;
 use bsi_schema::Schema;
 use csv::{ByteRecord, Reader};

@@ -6,17 +6,12 @@
 
 mod asks;
 mod check;
-mod closest;
 mod fault;
 mod found;
-mod header;
 mod lines;
 mod named;
-mod records;
 mod rows;
 mod schema;
-mod setups;
-mod why_ask;
 
 pub use bsi_records::NoMemory;
 pub use check::check_files;

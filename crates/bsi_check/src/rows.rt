@@ -1,17 +1,20 @@
 //! The check of a row file.
 
-ghost use Rattle.std.specs.Prelude.{◌≡◌, ◌≢◌, ◌<◌, ◌≤◌, length, map, nat_eq, IfErr, IfOk, IfSome, OnOk};
+ghost use Rattle.std.specs.Prelude.{◌≡◌, ◌≢◌, ◌<◌, ◌≤◌, is_some, length, nat_eq, IfErr, IfOk, IfSome, OnOk};
+ghost use Rattle.csv.specs.Reading.{reader_state, source_of};
 ghost use Rattle.csv.specs.Records.{fields_of};
-ghost use Rattle.bsi_reading.specs.RowFiles.{place_of};
+ghost use Rattle.csv.specs.declared.parser.State.TheVariants as st;
+ghost use Rattle.bsi_reading.specs.RowFiles.{good_row};
 ghost use Rattle.bsi_reading.specs.Sources.{IsPlain};
-ghost use Rattle.bsi_check.specs.Checks.{is_clean, layout_of, HasCounted, IsFound, TellsUnless};
+ghost use Rattle.bsi_reading.specs.Texts.{FromText};
+ghost use Rattle.bsi_check.specs.Checks.{is_clean, HasCounted, IsFound, TellsUnless};
 
 use crate::NoMemory;
 use crate::found::{FileCounts, FileFound};
-use crate::header::{is_good_header, places_of, tell_header};
 use crate::lines::{LineEnds, MAX_TOLD, tell, tell_at, tell_more};
-use crate::records::{is_good_record, why_bad};
-use bsi_reading::{MAX_RECORDS, SourceFault, plain_reader, read_next};
+use bsi_reading::{Layout, MAX_RECORDS, SourceFault, is_good_header, plain_reader, read_next};
+use bsi_reasons::{why_bad_record, why_no_header};
+use bsi_rows::Row;
 use bsi_schema::Schema;
 use csv::{ByteRecord, Reader};
 use std::alloc::Global;
@@ -31,14 +34,33 @@ pub(crate) fn check_rows<I: Read + Drop>(
         TellsUnless (is_clean found) reasons.old.items reasons.new.items) }
 {
     let mut input = plain_reader(alloc, file);
+    match check_input(alloc, schema, path, &mut input, reasons) {
+        Ok(found) => Ok(found),
+        Err(fault) => tell_unread(alloc, path, fault, reasons),
+    }
+}
+
+/// Reads a row file of which no record was read, as `check_rows` does.
+fn check_input<I: Read + Drop>(
+    alloc: Global,
+    schema: &Schema,
+    path: &str,
+    input: &mut Reader<I>,
+    reasons: &mut Vec<u8>,
+) -> Result<FileFound, SourceFault>
+    requires plain { IsPlain input.old }
+    requires start { reader_state input.old ≡ st.StartRecord }
+    ensures found { IfOk result (λ found. FromText (source_of I.remaining input.old)
+        (IsFound schema.now found)) }
+    ensures told { IfOk result (λ found.
+        TellsUnless (is_clean found) reasons.old.items reasons.new.items) }
+    ensures kept { IfErr result (λ fault. fault ≢ SourceFault.NoMemory →
+        length reasons.old.items ≤ length reasons.new.items) }
+{
     let mut header = ByteRecord::new(alloc);
-    match read_next(&mut input, &mut header) {
-        Ok(true) => {}
-        Ok(false) => {
-            tell(alloc, reasons, path, "is empty: it has no header")?;
-            return Ok(FileFound::NoHeader);
-        }
-        Err(error) => return tell_unread(alloc, path, SourceFault::from(error), reasons),
+    if !read_next(input, &mut header)? {
+        tell(alloc, reasons, path, "is empty: it has no header")?;
+        return Ok(FileFound::NoHeader);
     }
     let ends = LineEnds::of(&header, input.position());
     if !is_good_header(schema, &header) {
@@ -46,38 +68,44 @@ pub(crate) fn check_rows<I: Read + Drop>(
         tell_header(alloc, schema, path, line, &header, reasons)?;
         return Ok(FileFound::NoHeader);
     }
-    let places = places_of(alloc, schema, &header)?;
-    match check_records(
-        alloc, schema, &header, &places, ends, path, &mut input, reasons,
-    ) {
-        Ok(counts) => Ok(FileFound::Counted(counts)),
-        Err(fault) => tell_unread(alloc, path, fault, reasons),
-    }
+    let layout = Layout::of_header(alloc, schema, header)?;
+    let counts = check_records(alloc, &layout, ends, path, input, reasons)?;
+    Ok(FileFound::Counted(counts))
+}
+
+/// Adds the reason why a record is no header.
+fn tell_header(
+    alloc: Global,
+    schema: &Schema,
+    path: &str,
+    line: u64,
+    header: &ByteRecord,
+    reasons: &mut Vec<u8>,
+) -> Result<(), NoMemory>
+    ensures { OnOk result (length reasons.old.items < length reasons.new.items) }
+{
+    let why = why_no_header(alloc, schema, header)?;
+    tell_at(alloc, reasons, path, line, why.as_str())
 }
 
 /// Reads the records of a row file after its header, and adds the reason of each bad one, at most 100 of them, and how
 /// many more there are.
 fn check_records<I: Read + Drop>(
     alloc: Global,
-    schema: &Schema,
-    header: &ByteRecord,
-    places: &[usize],
+    layout: &Layout,
     ends: LineEnds,
     path: &str,
     input: &mut Reader<I>,
     reasons: &mut Vec<u8>,
 ) -> Result<FileCounts, SourceFault>
     requires plain { IsPlain input.old }
-    requires places { places.now
-        ≡ map (λ column. place_of (fields_of header.now) column.name) schema.now.columns }
-    ensures counted { IfOk result
-        (HasCounted I.remaining (layout_of schema.now (fields_of header.now)) input.old) }
+    ensures counted { IfOk result (HasCounted I.remaining layout.now input.old) }
     ensures told { IfOk result (λ counts.
         TellsUnless (nat_eq counts.bad 0) reasons.old.items reasons.new.items) }
     ensures kept { IfErr result (λ fault. fault ≢ SourceFault.NoMemory →
         length reasons.old.items ≤ length reasons.new.items) }
 {
-    let counts = count_records(alloc, schema, header, places, ends, path, input, reasons)?;
+    let counts = count_records(alloc, layout, ends, path, input, reasons)?;
     if counts.bad > MAX_TOLD {
         tell_more(alloc, reasons, path, counts.bad)?;
     }
@@ -87,19 +115,14 @@ fn check_records<I: Read + Drop>(
 /// Reads and counts the records of a row file after its header, and adds the reason of each of the first 100 bad ones.
 fn count_records<I: Read + Drop>(
     alloc: Global,
-    schema: &Schema,
-    header: &ByteRecord,
-    places: &[usize],
+    layout: &Layout,
     ends: LineEnds,
     path: &str,
     input: &mut Reader<I>,
     reasons: &mut Vec<u8>,
 ) -> Result<FileCounts, SourceFault>
     requires plain { IsPlain input.old }
-    requires places { places.now
-        ≡ map (λ column. place_of (fields_of header.now) column.name) schema.now.columns }
-    ensures counted { IfOk result
-        (HasCounted I.remaining (layout_of schema.now (fields_of header.now)) input.old) }
+    ensures counted { IfOk result (HasCounted I.remaining layout.now input.old) }
     ensures told { IfOk result (λ counts.
         TellsUnless (nat_eq counts.bad 0) reasons.old.items reasons.new.items) }
     ensures kept { IfErr result (λ fault. fault ≢ SourceFault.NoMemory →
@@ -107,12 +130,12 @@ fn count_records<I: Read + Drop>(
 {
     let (mut records, mut bad) = (0u64, 0u64);
     let mut fields = ByteRecord::new(alloc);
-    let mut ordered = ByteRecord::new(alloc);
+    let mut row = Row::new(Vec::new(alloc));
     'records: while records < MAX_RECORDS {
         if !read_next(input, &mut fields)? {
             return Ok(FileCounts { records, bad });
         }
-        let good = is_good_record(alloc, schema, header, places, &fields, &mut ordered)?;
+        let good = is_good_record(alloc, layout, &fields, &mut row)?;
         records += 1;
         if good {
             continue;
@@ -120,14 +143,41 @@ fn count_records<I: Read + Drop>(
         bad += 1;
         if bad <= MAX_TOLD {
             let line = ends.line_of(&fields, input.position());
-            let why = why_bad(alloc, schema, header, places, &fields, line)?;
-            tell_at(alloc, reasons, path, line, why.as_str())?;
+            tell_bad_record(alloc, layout, path, line, &fields, reasons)?;
         }
     }
     if read_next(input, &mut fields)? {
         return Err(SourceFault::TooLong);
     }
     Ok(FileCounts { records, bad })
+}
+
+/// Returns whether a record is good. It uses the row up.
+fn is_good_record(
+    alloc: Global,
+    layout: &Layout,
+    fields: &ByteRecord,
+    row: &mut Row,
+) -> Result<bool, NoMemory>
+    ensures { IfOk result (λ good. good
+        ≡ is_some (good_row layout.now.schema layout.now.header (fields_of fields.now))) }
+{
+    layout.read(alloc, fields, row)
+}
+
+/// Adds the reason why a record is bad.
+fn tell_bad_record(
+    alloc: Global,
+    layout: &Layout,
+    path: &str,
+    line: u64,
+    fields: &ByteRecord,
+    reasons: &mut Vec<u8>,
+) -> Result<(), NoMemory>
+    ensures { OnOk result (length reasons.old.items < length reasons.new.items) }
+{
+    let why = why_bad_record(alloc, layout, fields, line)?;
+    tell_at(alloc, reasons, path, line, why.as_str())
 }
 
 /// Adds the reason why a file was not read to its end. Refused memory is an error.

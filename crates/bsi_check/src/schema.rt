@@ -5,10 +5,10 @@ ghost use Rattle.bsi_reading.specs.SchemaTexts.{IsSchemaText};
 ghost use Rattle.bsi_check.specs.Checks.{IsSchemaFound, TellsUnless};
 
 use crate::NoMemory;
-use crate::lines::{LineEnds, shown_record, tell, tell_at};
+use crate::lines::{LineEnds, tell, tell_at};
 use crate::rows::tell_unread;
-use crate::setups::why_bad_setup;
 use bsi_reading::{DeclaredTable, SchemaFault, SourceFault, plain_reader, read_next, read_schema};
+use bsi_reasons::why_bad_setup;
 use bsi_records::read_setup;
 use csv::ByteRecord;
 use std::alloc::Global;
@@ -68,27 +68,38 @@ fn tell_bad_record(
 ) -> Result<(), NoMemory>
     ensures { OnOk result (length reasons.old.items < length reasons.new.items) }
 {
-    let mut input = plain_reader(alloc, text);
     let mut fields = ByteRecord::new(alloc);
     let mut table = DeclaredTable::new(alloc);
+    let line = read_up_to(alloc, text, number, &mut fields, &mut table)?;
+    let why = why_bad_setup(alloc, &mut table.schema, &fields)?;
+    tell_at(alloc, reasons, path, line, why.as_str())
+}
+
+/// Reads a schema up to its record of this number, from 1, carries out those before it, and returns the line of the
+/// record.
+fn read_up_to(
+    alloc: Global,
+    text: &[u8],
+    number: u64,
+    fields: &mut ByteRecord,
+    table: &mut DeclaredTable,
+) -> Result<u64, NoMemory> {
+    let mut input = plain_reader(alloc, text);
     let mut line = 0;
     let mut ends = None;
     'records: for before in 0..number {
-        match read_next(&mut input, &mut fields) {
+        match read_next(&mut input, fields) {
             Ok(true) => {}
             Ok(false) => break,
             // A slice is always read: memory was refused.
             Err(_) => return Err(NoMemory),
         }
         let after = input.position();
-        let ends = *ends.get_or_insert(LineEnds::of(&fields, after));
-        line = ends.line_of(&fields, after);
+        let ends = *ends.get_or_insert(LineEnds::of(fields, after));
+        line = ends.line_of(fields, after);
         if before + 1 < number {
-            let _ = read_setup(alloc, &mut table.schema, &mut table.limit, &fields)?;
+            let _ = read_setup(alloc, &mut table.schema, &mut table.limit, fields)?;
         }
     }
-    let record = shown_record(alloc, &fields)?;
-    let why = why_bad_setup(alloc, &mut table.schema, &fields)?;
-    let text = format!(in alloc; "{record}: {why}")?;
-    tell_at(alloc, reasons, path, line, text.as_str())
+    Ok(line)
 }

@@ -21,19 +21,19 @@ use Rattle.bsi_reading.specs.declared.rows.SourceFault.TheVariants as source
 use Rattle.bsi_reading.proofs.FirstRecords.{first_join, HasReadFirst}
 use Rattle.bsi_files.specs.Begun.{Begins}
 use Rattle.bsi_files.specs.Ends.{tasks, AreEndsOf}
-use Rattle.bsi_files.specs.Faults.{is_early, is_late, is_of_headers}
+use Rattle.bsi_asks.specs.Faults.{is_early, is_late, is_of_headers}
 use Rattle.bsi_feeding.specs.Feeding.{HasFailed, StopsAfter}
 use Rattle.bsi_files.specs.Headers.{HasHeader, IsBehindHeaders, IsHeadersFault}
-use Rattle.bsi_files.specs.Matching.{AreMatched}
-use Rattle.bsi_files.specs.RowFiles.{RowFile}
+use Rattle.bsi_asks.specs.Matching.{AreMatched}
+use Rattle.bsi_asks.specs.RowFiles.{RowFile}
 use Rattle.bsi_files.specs.RunFaults.{AreGood, AreGoodBefore, AreOverLimit, AreRowFiles, FailsAt, GaveRows, HasFirstRows, IsFaultOf, IsKeptFault, IsLoadFault, IsTooLongFile, WasReadOut}
 use Rattle.bsi_files.specs.Takings.{AreGoing, AreTold}
-use Rattle.bsi_files.specs.Writing.{Leaves}
-use Rattle.bsi_files.specs.declared.faults.FilesFault.{FilesFault}
-use Rattle.bsi_files.specs.declared.faults.FilesFault.TheVariants as run
-use Rattle.bsi_files.specs.declared.faults.Which.TheVariants as which
+use Rattle.bsi_asks.specs.Writing.{Leaves}
+use Rattle.bsi_asks.specs.declared.faults.FilesFault.{FilesFault}
+use Rattle.bsi_asks.specs.declared.faults.FilesFault.TheVariants as run
+use Rattle.bsi_asks.specs.declared.faults.Which.TheVariants as which
 use Rattle.bsi_feeding.specs.declared.feeding.FeedEnd.{FeedEnd}
-use Rattle.bsi_files.specs.declared.loading.Fed.{Fed}
+use Rattle.bsi_asks.specs.declared.fed.Fed.{Fed}
 use Rattle.bsi_files.proofs.Files.{matched_long, row_file, IsWholeLaw}
 use Rattle.bsi_files.proofs.Heading.{all_known, headers_of, map_long}
 use Rattle.bsi_files.proofs.Takings.{get_lt}

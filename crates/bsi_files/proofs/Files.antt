@@ -1,9 +1,9 @@
 -- From what a run has of its sources to what it has of the bytes of its files.
 use Rattle.std.proofs.Common.{◌≡◌, ℕ, suc, zero, ◌+◌, ◌≤◌, Bool, true, false, List, [], ◌∷◌, length, map, Option, Some, IfSome, refl, ap, ap₂, sym, ◌∙◌, subst, arith, add-zero, Result, Ok, Err}
 use Rattle.std.specs.Prelude.{IfErr, ◌≢◌}
-use Rattle.bsi_files.specs.Faults.{is_late}
-use Rattle.bsi_files.specs.declared.faults.FilesFault.{FilesFault}
-use Rattle.bsi_files.specs.declared.faults.FilesFault.TheVariants.{TooManyFiles}
+use Rattle.bsi_asks.specs.Faults.{is_late}
+use Rattle.bsi_asks.specs.declared.faults.FilesFault.{FilesFault}
+use Rattle.bsi_asks.specs.declared.faults.FilesFault.TheVariants.{TooManyFiles}
 use Rattle.csv.specs.Reading.{strip_bom}
 use Rattle.csv.specs.declared.reader.Reader.{Reader}
 use Rattle.bsi_rows.specs.Runs.{rows_from}
@@ -16,14 +16,14 @@ use Rattle.bsi_reading.specs.SchemaTexts.{IsSchemaText}
 use Rattle.bsi_reading.specs.Sources.{Counts, HasTaken, IsOver, IsWholeFile, Layout, Source, StandsAfter}
 use Rattle.bsi_files.specs.Begun.{Begins}
 use Rattle.bsi_feeding.specs.Feeding.{IsReadOut}
-use Rattle.bsi_files.specs.Feds.{fed_counts, AreFedFrom, IsAllFed, IsFedFrom}
-use Rattle.bsi_files.proofs.Mixing.{same_length}
-use Rattle.bsi_files.proofs.Showing.{file_by_file_too, lines_too}
-use Rattle.bsi_files.specs.Matching.{AreMatched}
-use Rattle.bsi_files.specs.Mixes.{file_by_file, IsMixOf}
-use Rattle.bsi_files.specs.RowFiles.{file_at, file_counts, file_rows, FedCounts, IsRowFile, RowFile}
-use Rattle.bsi_files.specs.Runs.{AreLines, HasLoaded, IsRun}
-use Rattle.bsi_files.specs.declared.loading.Fed.{Fed}
+use Rattle.bsi_asks.specs.RowFiles.{fed_counts, file_at, file_counts, file_rows, FedCounts, IsRowFile, RowFile}
+use Rattle.bsi_files.specs.Feds.{AreFedFrom, IsAllFed, IsFedFrom}
+use Rattle.bsi_asks.proofs.Mixing.{same_length}
+use Rattle.bsi_asks.proofs.Showing.{file_by_file_too, lines_too}
+use Rattle.bsi_asks.specs.Matching.{AreMatched}
+use Rattle.bsi_asks.specs.Mixes.{file_by_file, IsMixOf}
+use Rattle.bsi_asks.specs.Runs.{AreLines, HasLoaded, IsRun}
+use Rattle.bsi_asks.specs.declared.fed.Fed.{Fed}
 
 -- the files that give the rows of a list
 files_from : List FedRow → ℕ → List Fed → List RowFile

@@ -9,10 +9,10 @@ use Rattle.bsi_records.specs.Numbers.{Field}
 use Rattle.bsi_schema.specs.Columns.{Declared}
 use Rattle.bsi_reading.specs.RowFiles.{is_header}
 use Rattle.bsi_files.specs.Headers.{HasHeader}
-use Rattle.bsi_files.specs.Matching.{AreMatched}
-use Rattle.bsi_files.specs.RowFiles.{IsRowFile, RowFile}
+use Rattle.bsi_asks.specs.Matching.{AreMatched}
+use Rattle.bsi_asks.specs.RowFiles.{IsRowFile, RowFile}
 use Rattle.bsi_files.specs.RunFaults.{AreGood}
-use Rattle.bsi_files.specs.Runs.{IsRun}
+use Rattle.bsi_asks.specs.Runs.{IsRun}
 
 header_read : (schema : Declared) (bytes : List ℕ) (header : List Field) (records : List (List Field)) (state : State) (rest : List ℕ)
     → Reached default_config st.StartRecord (strip_bom bytes) (header ∷ records) state rest → is_header schema header ≡ true → HasHeader schema bytes

@@ -13,9 +13,9 @@ use Rattle.bsi_reading.specs.Sources.{Source, StandsAfter}
 use Rattle.bsi_reading.specs.declared.rows.SourceFault.TheVariants as source
 use Rattle.bsi_files.specs.Begun.{Begins}
 use Rattle.bsi_files.specs.Headers.{HasHeader, IsBehindHeaders, IsFirstWithout, IsHeaderFault, IsHeadersFault, LacksHeader}
-use Rattle.bsi_files.specs.Matching.{AreMatched}
-use Rattle.bsi_files.specs.declared.faults.FilesFault.{FilesFault}
-use Rattle.bsi_files.specs.declared.faults.FilesFault.TheVariants as files
+use Rattle.bsi_asks.specs.Matching.{AreMatched}
+use Rattle.bsi_asks.specs.declared.faults.FilesFault.{FilesFault}
+use Rattle.bsi_asks.specs.declared.faults.FilesFault.TheVariants as files
 use Rattle.bsi_files.proofs.Files.{matched_long}
 use Rattle.bsi_files.proofs.Joining.{HasMatched}
 

@@ -4,9 +4,9 @@ use Rattle.std.proofs.lemmas.List.{append-nil}
 use Rattle.bsi_rings.specs.Rings.{Sending}
 use Rattle.bsi_reading.specs.Sources.{Source}
 use Rattle.bsi_files.specs.Ends.{tasks, AreEndsOf, IsFeedEnd, Task}
-use Rattle.bsi_files.specs.Matching.{AreMatched}
+use Rattle.bsi_asks.specs.Matching.{AreMatched}
 use Rattle.bsi_feeding.specs.declared.feeding.FeedEnd.{FeedEnd}
-use Rattle.bsi_files.proofs.Asking.{matched_push}
+use Rattle.bsi_asks.proofs.Asking.{matched_push}
 
 push_assoc : {X : Type 0} (xs : List X) (x : X) (ys : List X) → (xs ++ x ∷ []) ++ ys ≡ xs ++ x ∷ ys
 push_assoc [] x ys = refl

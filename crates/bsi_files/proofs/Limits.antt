@@ -12,15 +12,15 @@ use Rattle.bsi_rows.specs.Rows.{Entries, FedRow}
 use Rattle.bsi_reading.specs.Sources.{Source}
 use Rattle.bsi_files.specs.Ends.{tasks, AreEndsOf, AreFeeders, IsFeedEnd}
 use Rattle.bsi_feeding.specs.Feeding.{HasFed}
-use Rattle.bsi_files.specs.Matching.{AreMatched}
-use Rattle.bsi_files.specs.Mixes.{file_by_file, AreAlike}
+use Rattle.bsi_asks.specs.Matching.{AreMatched}
+use Rattle.bsi_asks.specs.Mixes.{file_by_file, AreAlike}
 use Rattle.bsi_files.specs.RunFaults.{AreOverLimit, GaveRows}
 use Rattle.bsi_files.specs.Takings.{all_closed, AreTold, IsFullBefore, IsTold, KeepsTold}
 use Rattle.bsi_feeding.specs.declared.feeding.FeedEnd.{FeedEnd}
-use Rattle.bsi_files.specs.declared.loading.Fed.{Fed}
+use Rattle.bsi_asks.specs.declared.fed.Fed.{Fed}
 use Rattle.bsi_files.proofs.Files.{matched_long}
-use Rattle.bsi_files.proofs.Mixing.{same_length}
-use Rattle.bsi_files.proofs.Ordered.{from_order}
+use Rattle.bsi_asks.proofs.Mixing.{same_length}
+use Rattle.bsi_asks.proofs.Ordered.{from_order}
 
 abbrev Lists : Type 0
 Lists = List (List Entries)

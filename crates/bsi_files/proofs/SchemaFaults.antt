@@ -6,10 +6,10 @@ use Rattle.bsi_reading.specs.SchemaTexts.{IsSchemaFault}
 use Rattle.bsi_reading.specs.declared.rows.SourceFault.TheVariants as source
 use Rattle.bsi_reading.specs.declared.schema_text.SchemaFault.{SchemaFault}
 use Rattle.bsi_reading.specs.declared.schema_text.SchemaFault.TheVariants as schema
-use Rattle.bsi_files.specs.Faults.{schema_fault}
+use Rattle.bsi_asks.specs.Faults.{schema_fault}
 use Rattle.bsi_files.specs.RunFaults.{IsFaultOf}
-use Rattle.bsi_files.specs.Writing.{Leaves}
-use Rattle.bsi_files.specs.declared.faults.FilesFault.TheVariants as run
+use Rattle.bsi_asks.specs.Writing.{Leaves}
+use Rattle.bsi_asks.specs.declared.faults.FilesFault.TheVariants as run
 
 -- it is not that there are too many files
 pub schema_counted : (fault : SchemaFault) → schema_fault fault ≢ run.TooManyFiles

@@ -15,7 +15,7 @@ use Rattle.bsi_files.specs.Feds.{AreFedFrom, IsAllFed, IsFedFrom}
 use Rattle.bsi_files.specs.Takings.{all_taken, AreLoaded, AreTold, IsDrained, IsFine, IsFullAt, IsFedOf, IsLoaded, IsTold, KeepsOthers, KeepsTold, TakesOnlyOf}
 use Rattle.bsi_feeding.specs.Feeding.{HasFed, IsReadOut}
 use Rattle.bsi_feeding.specs.declared.feeding.FeedEnd.{FeedEnd}
-use Rattle.bsi_files.specs.declared.loading.Fed.{Fed}
+use Rattle.bsi_asks.specs.declared.fed.Fed.{Fed}
 
 -- ---- one taking of a list
 

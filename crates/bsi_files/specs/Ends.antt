@@ -5,7 +5,7 @@ use Rattle.bsi_system.specs.Running.{IsClosingOf, IsFeederOf, SystemName}
 use Rattle.bsi_reading.specs.Sources.{Source}
 use Rattle.bsi_feeding.specs.Feeding.{HasFailed, HasFed}
 use Rattle.bsi_feeding.specs.declared.feeding.FeedEnd.{FeedEnd}
-use Rattle.bsi_files.specs.Matching.{AreMatched}
+use Rattle.bsi_asks.specs.Matching.{AreMatched}
 use Rattle.bsi_rows.specs.Table.{max_feeders}
 
 -- what the end of a feeder tells of the feeder and of its source: the rows that were read, which its closing carries,

@@ -4,11 +4,7 @@ use Rattle.bsi_rows.specs.Runs.{rows_from}
 use Rattle.bsi_rows.specs.Rows.{FedRow}
 use Rattle.bsi_reading.specs.Sources.{Source}
 use Rattle.bsi_feeding.specs.Feeding.{IsReadOut}
-use Rattle.bsi_files.specs.declared.loading.Fed.{Fed}
-use Rattle.bsi_files.specs.RowFiles.{FedCounts}
-
-abbrev pub fed_counts : Fed → FedCounts
-fed_counts fed = record { accepted = fed.accepted; bad = fed.bad }
+use Rattle.bsi_asks.specs.declared.fed.Fed.{Fed}
 
 -- the rows of a feeder in a list are as many as were accepted and, where no gate stops it, those of its source, which
 -- was read out

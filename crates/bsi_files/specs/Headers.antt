@@ -7,8 +7,8 @@ use Rattle.bsi_schema.specs.Columns.{Declared}
 use Rattle.bsi_reading.specs.RowFiles.{is_header}
 use Rattle.bsi_reading.specs.Sources.{HasNoHeader}
 use Rattle.bsi_reading.specs.declared.rows.SourceFault.TheVariants as source
-use Rattle.bsi_files.specs.declared.faults.FilesFault.{FilesFault}
-use Rattle.bsi_files.specs.declared.faults.FilesFault.TheVariants.{NoMemory, Source}
+use Rattle.bsi_asks.specs.declared.faults.FilesFault.{FilesFault}
+use Rattle.bsi_asks.specs.declared.faults.FilesFault.TheVariants.{NoMemory, Source}
 
 -- the first record of these bytes is a header of the schema
 abbrev pub HasHeader : Declared → List ℕ → Type 0

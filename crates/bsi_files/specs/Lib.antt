@@ -1,14 +1,6 @@
-pub mod AskLines
 pub mod Begun
 pub mod Ends
-pub mod FaultTexts
-pub mod Faults
 pub mod Feds
 pub mod Headers
-pub mod Matching
-pub mod Mixes
-pub mod RowFiles
 pub mod RunFaults
-pub mod Runs
 pub mod Takings
-pub mod Writing

@@ -13,13 +13,13 @@ use Rattle.bsi_reading.specs.declared.rows.SourceFault.{SourceFault}
 use Rattle.bsi_reading.specs.declared.rows.SourceFault.TheVariants as source
 use Rattle.bsi_feeding.specs.Feeding.{GivesRows, HasFailed, IsReadOut}
 use Rattle.bsi_files.specs.Headers.{HasHeader, IsFirstWithout}
-use Rattle.bsi_files.specs.Matching.{AreMatched}
-use Rattle.bsi_files.specs.RowFiles.{IsRowFile, RowFile}
+use Rattle.bsi_asks.specs.Matching.{AreMatched}
+use Rattle.bsi_asks.specs.RowFiles.{IsRowFile, RowFile}
 use Rattle.bsi_files.specs.Takings.{AreGoing}
-use Rattle.bsi_files.specs.declared.faults.FilesFault.{FilesFault}
-use Rattle.bsi_files.specs.declared.faults.FilesFault.TheVariants as run
-use Rattle.bsi_files.specs.declared.faults.Which.TheVariants as which
-use Rattle.bsi_files.specs.declared.loading.Fed.{Fed}
+use Rattle.bsi_asks.specs.declared.faults.FilesFault.{FilesFault}
+use Rattle.bsi_asks.specs.declared.faults.FilesFault.TheVariants as run
+use Rattle.bsi_asks.specs.declared.faults.Which.TheVariants as which
+use Rattle.bsi_asks.specs.declared.fed.Fed.{Fed}
 use Rattle.bsi_rows.specs.Table.{max_feeders}
 
 -- ---- by the bytes

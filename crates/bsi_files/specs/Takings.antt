@@ -4,7 +4,7 @@ use Rattle.std.specs.List.{list_all}
 use Rattle.bsi_rows.specs.Rows.{Entries}
 use Rattle.bsi_system.specs.Running.{taking_at, AlwaysHolds, Loading, MayLoad, Taking}
 use Rattle.bsi_feeding.specs.declared.feeding.FeedEnd.{FeedEnd}
-use Rattle.bsi_files.specs.declared.loading.Fed.{Fed}
+use Rattle.bsi_asks.specs.declared.fed.Fed.{Fed}
 
 -- all that the closing carried
 abbrev pub all_taken : List Entries → Taking

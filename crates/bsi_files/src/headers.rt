@@ -1,26 +1,20 @@
 //! The headers of the row files, which are read before any row is.
 
-ghost use Rattle.std.specs.Prelude.{◌≡◌, ◌<◌, ◌≤◌, IfErr, IfOk, length, map, replicate, true};
+ghost use Rattle.std.specs.Prelude.{◌≡◌, ◌≤◌, IfErr, IfOk, length, map, replicate, true};
 ghost use Rattle.bsi_feeding.specs.Feeding.{max_batch_rows};
 ghost use Rattle.bsi_files.specs.Begun.{Begins};
-ghost use Rattle.bsi_files.specs.Matching.{AreMatched};
-ghost use Rattle.bsi_files.specs.Faults.{is_of_headers};
+ghost use Rattle.bsi_asks.specs.Matching.{AreMatched};
+ghost use Rattle.bsi_asks.specs.Faults.{is_of_headers};
 ghost use Rattle.bsi_files.specs.Headers.{IsHeaderFault, IsHeadersFault};
 ghost use Rattle.bsi_rows.specs.Table.{max_feeders};
 
 use crate::{FilesFault, NoMemory};
+use bsi_asks::file_number;
 use bsi_feeding::MAX_BATCH_ROWS;
 use bsi_reading::RowSource;
 use bsi_table::Schema;
 use std::alloc::Global;
 use std::io::Read;
-
-/// Returns the number of the file at a place. There are at most 64 files.
-pub(crate) fn file_number(place: usize) -> u32
-    ensures { place < max_feeders → result ≡ place }
-{
-    u32::try_from(place).unwrap_or(u32::MAX)
-}
 
 /// Reads the header of each file, in their order, and makes the sources of their rows.
 pub(crate) fn begin_all<I: Read + Drop>(

@@ -8,13 +8,13 @@ ghost use Rattle.std.specs.Prelude.{◌≡◌, ◌≢◌, ◌<◌, ◌≤◌, �
 ghost use Rattle.bsi_system.specs.Running.{taking_at, IsClosingOf};
 ghost use Rattle.bsi_files.specs.Ends.{AreClosings};
 ghost use Rattle.bsi_files.specs.Takings.{all_closed, AreGoing, AreTold, IsDrained, IsFine, IsFullAt, IsFullBefore, IsFedOf, KeepsOthers, KeepsTold, TakesOnlyOf};
-ghost use Rattle.bsi_files.specs.Faults.{is_early};
+ghost use Rattle.bsi_asks.specs.Faults.{is_early};
 ghost use Rattle.bsi_files.specs.RunFaults.{IsKeptFault, IsNotClosed, IsSourceFault, IsStopped};
 ghost use Rattle.bsi_rows.specs.Table.{max_feeders};
 
-use crate::headers::file_number;
 use crate::threads::RunFlags;
 use crate::{FeedEnd, FilesFault, Gate, NoMemory};
+use bsi_asks::{Fed, file_number};
 use bsi_feeding::Pause;
 use bsi_reading::SourceFault;
 use bsi_system::{Closing, LoadRefused, Loader, Naming};
@@ -25,18 +25,6 @@ const ROWS_AT_ONCE: usize = 256;
 
 /// How often a loader that sees no row yields before it sleeps.
 const MAX_YIELDS: u32 = 256;
-
-/// What a feeder that read a file leaves, except for its closing.
-#[derive(Drop)]
-pub struct Fed {
-    /// How many of its rows were accepted.
-    pub accepted: u64,
-    /// How many of its records are bad.
-    pub bad: u64,
-    stopped: bool,
-    fault: Option<SourceFault>,
-    closed: bool,
-}
 
 /// Goes from feeder to feeder, round after round, and takes rows until each feeder has ended. It stops at a row that is
 /// refused, unless the cause is that no row is seen. From then on, feeders whose rings are full stop. A full index is

@@ -8,19 +8,20 @@
 ghost use Rattle.std.specs.Prelude.{◌≡◌, ◌≢◌, ◌<◌, ◌≤◌, ◌↔◌, ◌++◌, ℕ, [], All, Err, IfErr, IfOk, List, OnOk, Some, false, length, map, true};
 ghost use Rattle.bsi_rows.specs.Table.{no_rows, max_feeders};
 ghost use Rattle.bsi_files.specs.Ends.{AreReady};
-ghost use Rattle.bsi_files.specs.Feds.{fed_counts, IsAllFed};
-ghost use Rattle.bsi_files.specs.Faults.{is_early, is_late};
+ghost use Rattle.bsi_asks.specs.RowFiles.{fed_counts};
+ghost use Rattle.bsi_files.specs.Feds.{IsAllFed};
+ghost use Rattle.bsi_asks.specs.Faults.{is_early, is_late};
 ghost use Rattle.bsi_files.specs.Headers.{HasHeader};
 ghost use Rattle.bsi_files.specs.RunFaults.{IsFaultOf, IsFaultOver, IsLoadFault};
-ghost use Rattle.bsi_files.specs.Runs.{HasLoaded, IsRun};
-ghost use Rattle.bsi_files.specs.Writing.{Leaves, WhereFilesKnown, WhereKnown, WritesAll};
+ghost use Rattle.bsi_asks.specs.Runs.{HasLoaded, IsRun};
+ghost use Rattle.bsi_asks.specs.Writing.{Leaves, WhereFilesKnown, WhereKnown, WritesAll};
 ghost use Rattle.bsi_system.specs.Running.{AlwaysHolds};
 
-use crate::asks::answer_all;
-use crate::headers::{begin_all, capacities, file_number};
-use crate::loading::{Fed, check_all, load_beside, load_rest, settle_all};
+use crate::headers::{begin_all, capacities};
+use crate::loading::{check_all, load_beside, load_rest, settle_all};
 use crate::threads::{RunFlags, join_all, start_all};
 use crate::{FilesFault, Gate, NoMemory, Stopping};
+use bsi_asks::{Fed, answer_all, file_number};
 use bsi_reading::{RowSource, read_schema};
 use bsi_records::DeclaredTable;
 use bsi_system::{Feeder, History, Loader, Naming, OpenRefused, System, open};

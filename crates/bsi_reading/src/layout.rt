@@ -23,7 +23,7 @@ use std::sync::Arc;
 
 /// The columns of a row file, with, for each column, the place of its field in a record.
 #[derive(Drop)]
-pub(crate) struct Layout {
+pub struct Layout {
     schema: Arc<Schema, Global>,
     header: ByteRecord,
     places: Vec<usize>,
@@ -58,13 +58,35 @@ impl Layout {
         if !is_good_header(schema, &header) {
             return Ok(None);
         }
+        Ok(Some(Layout::of_header(alloc, schema, header)?))
+    }
+
+    /// Makes the layout of a record that may be no header.
+    pub fn of_header(alloc: Global, schema: &Schema, header: ByteRecord) -> Result<Layout, NoMemory>
+        ensures { IfOk result (λ made. made
+            ≡ record { schema = schema.now; header = fields_of header }) }
+    {
         let places = places_of(alloc, schema, &header)?;
         let schema = Arc::new(alloc, schema.copy()?)?;
-        Ok(Some(Layout {
+        Ok(Layout {
             schema,
             header,
             places,
-        }))
+        })
+    }
+
+    /// Returns the schema.
+    pub fn schema(&self) -> &Schema
+        ensures { result.now ≡ self.now.schema }
+    {
+        &self.schema
+    }
+
+    /// Returns the header.
+    pub fn header(&self) -> &ByteRecord
+        ensures { fields_of result.now ≡ self.now.header }
+    {
+        &self.header
     }
 
     /// Makes a block of no rows for the rows of such files, each from one of so many feeders.
@@ -86,12 +108,7 @@ impl Layout {
     }
 
     /// Reads a record into a row, and returns whether the record is good. It allocates no memory if the row has room.
-    pub(crate) fn read(
-        &self,
-        alloc: Global,
-        fields: &ByteRecord,
-        row: &mut Row,
-    ) -> Result<bool, NoMemory>
+    pub fn read(&self, alloc: Global, fields: &ByteRecord, row: &mut Row) -> Result<bool, NoMemory>
         ensures row { IfOk result (λ good. given good row.new
             ≡ good_row self.now.schema self.now.header (fields_of fields.now)) }
         ensures fits { IfOk result (λ good. good ≡ true →
@@ -190,7 +207,7 @@ impl Layout {
 }
 
 /// Returns whether a header names each column exactly once, and nothing else.
-fn is_good_header(schema: &Schema, header: &ByteRecord) -> bool
+pub fn is_good_header(schema: &Schema, header: &ByteRecord) -> bool
     ensures { result ≡ is_header schema.now (fields_of header.now) }
 {
     names_each_column_once(schema, header) && names_columns_only(schema, header)
@@ -209,7 +226,7 @@ fn names_each_column_once(schema: &Schema, header: &ByteRecord) -> bool
 }
 
 /// Returns how many fields equal this name.
-fn count_named(header: &ByteRecord, name: &[u8]) -> usize
+pub fn count_named(header: &ByteRecord, name: &[u8]) -> usize
     ensures { result ≡ count_by (λ field. bytes_eq field name.now) (fields_of header.now) }
 {
     let mut count = 0;
@@ -246,7 +263,7 @@ fn places_of(alloc: Global, schema: &Schema, header: &ByteRecord) -> Result<Vec<
 }
 
 /// Returns how many fields stand before the first one that equals this name.
-fn place_of(header: &ByteRecord, name: &[u8]) -> usize
+pub fn place_of(header: &ByteRecord, name: &[u8]) -> usize
     ensures { result ≡ place_of (fields_of header.now) name.now }
 {
     'fields: for place in 0..header.len() {

@@ -12,6 +12,7 @@ mod writing;
 
 pub use bsi_records::{DeclaredTable, NoMemory};
 pub use describing::describe_schema;
+pub use layout::{Layout, count_named, is_good_header, place_of};
 pub use reading::{MAX_RECORDS, plain_reader, read_next};
 pub use rows::{RowSource, SourceFault};
 pub use schema_text::{SchemaFault, read_schema};

@@ -67,7 +67,8 @@ struct ReadPart {
 
 /// Opens the index that the bytes of a reader keep, as `write_index` wrote them: the rows of all segments, in their
 /// order. If the bytes are no index from some byte on, what stands whole before it is opened, and `fault` tells what was
-/// met. It is an error if that is not even one segment. It keeps the index and the words of one segment.
+/// met. It is an error if that is not even one segment. Beside the index it keeps the words of one segment, and the index of a
+/// further one until it is joined.
 pub fn read_index<R: Read>(alloc: Global, reader: &mut R) -> Result<Opened, OpenFault>
     ensures opened { IfOk result (λ opened.
         IsOpened (R.remaining reader.old) (R.remaining reader.new)

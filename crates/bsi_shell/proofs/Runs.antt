@@ -6,10 +6,10 @@ use Rattle.std.specs.Prelude.{IfErr, IfSome, OnErr, OnOk}
 use Rattle.std.specs.Result.{result_and}
 use Rattle.bsi_files.proofs.Good.{run_good}
 use Rattle.bsi_files.specs.RunFaults.{IsFaultOf}
-use Rattle.bsi_files.specs.Runs.{IsRun}
-use Rattle.bsi_files.specs.Writing.{Leaves, WhereFilesKnown, WhereKnown, WritesAll}
-use Rattle.bsi_files.specs.declared.faults.FilesFault.{FilesFault}
-use Rattle.bsi_files.specs.declared.faults.FilesFault.TheVariants.{TooManyFiles, Write}
+use Rattle.bsi_asks.specs.Runs.{IsRun}
+use Rattle.bsi_asks.specs.Writing.{Leaves, WhereFilesKnown, WhereKnown, WritesAll}
+use Rattle.bsi_asks.specs.declared.faults.FilesFault.{FilesFault}
+use Rattle.bsi_asks.specs.declared.faults.FilesFault.TheVariants.{TooManyFiles, Write}
 use Rattle.bsi_reading.proofs.Waiting.{cut_all}
 use Rattle.bsi_reading.specs.Texts.{IsAnswered, IsBegun}
 use Rattle.bsi_shell.specs.FileRuns.{HasFailedOver, HasRunOver}

@@ -1,7 +1,7 @@
 -- The lines that tell why a run over files ended early, or that the words are not a command, and how they are told.
 use Rattle.std.specs.Io.KnownBytes.{Appends}
 use Rattle.std.specs.Prelude.{ℕ, List, ◌++◌, Option, Result, Ok, Err, codes}
-use Rattle.bsi_files.specs.FaultTexts.{fault_text}
+use Rattle.bsi_asks.specs.FaultTexts.{fault_text}
 use Rattle.bsi_shell.specs.declared.files.RunFault.{RunFault}
 use Rattle.bsi_shell.specs.declared.files.RunFault.TheVariants.{CannotOpen, Run}
 use Rattle.bsi_shell.specs.declared.request.Subcommand.{Subcommand}

@@ -2,10 +2,10 @@
 use Rattle.std.specs.Io.KnownBytes.{Keeps}
 use Rattle.std.specs.Prelude.{◌≡◌, ◌<◌, ◌≤◌, ⊤, ◌⊎◌, ℕ, false, List, Option, Result, length, map}
 use Rattle.bsi_files.specs.RunFaults.{IsFaultOf}
-use Rattle.bsi_files.specs.Runs.{IsRun}
-use Rattle.bsi_files.specs.Writing.{Leaves, WhereKnown, WritesAll}
-use Rattle.bsi_files.specs.declared.faults.FilesFault.{FilesFault}
-use Rattle.bsi_files.specs.declared.faults.FilesFault.TheVariants.{NoMemory}
+use Rattle.bsi_asks.specs.Runs.{IsRun}
+use Rattle.bsi_asks.specs.Writing.{Leaves, WhereKnown, WritesAll}
+use Rattle.bsi_asks.specs.declared.faults.FilesFault.{FilesFault}
+use Rattle.bsi_asks.specs.declared.faults.FilesFault.TheVariants.{NoMemory}
 use Rattle.bsi_rows.specs.Table.{max_feeders}
 use Rattle.bsi_shell.specs.FaultLines.{fault_line, IsTold}
 use Rattle.bsi_shell.specs.declared.files.RunFault.{RunFault}

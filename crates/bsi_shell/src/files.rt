@@ -33,7 +33,7 @@ impl From<FilesFault> for RunFault<'_> {
 
 impl From<AllocError> for RunFault<'_> {
     ghost use Rattle.std.specs.Prelude.{◌≡◌};
-    ghost use Rattle.bsi_files.specs.declared.faults.FilesFault.TheVariants.{NoMemory};
+    ghost use Rattle.bsi_asks.specs.declared.faults.FilesFault.TheVariants.{NoMemory};
     ghost use Rattle.bsi_shell.specs.declared.files.RunFault.TheVariants.{Run};
 
     ghost from_gives = { λ _ fault. fault ≡ Run NoMemory };

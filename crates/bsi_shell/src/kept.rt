@@ -3,15 +3,13 @@ ghost use Rattle.std.specs.Prelude.{◌≡◌, ◌≤◌, IsOk, OnOk, false};
 ghost use Rattle.std.specs.Io.KnownBytes.{Keeps};
 ghost use Rattle.bsi_shell.specs.Kept.{HasAskedEither, HasToldStore, IsFlushed};
 ghost use Rattle.bsi_store.specs.Asked.{HasShown};
-ghost use Rattle.bsi_store.specs.Loads.{HasAdded, HasSaved};
+ghost use Rattle.bsi_adding.specs.Loads.{HasAdded, HasSaved};
 
 use crate::telling::tell_store_fault;
 use crate::words::CommandEnd;
+use bsi_adding::{AddPaths, SavePaths, add_rows, save_rows};
 use bsi_files::{Gate, Stopping};
-use bsi_store::{
-    AddPaths, AskPaths, LockFile, SavePaths, StoreFault, add_rows, ask_input, ask_over, save_rows,
-    show_index,
-};
+use bsi_store::{AskPaths, LockFile, StoreFault, ask_input, ask_over, show_index};
 use bsi_text::WriteFault;
 use std::fs::OpenFile;
 use std::io::{Read, Write};

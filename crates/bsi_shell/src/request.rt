@@ -7,7 +7,8 @@ ghost use Rattle.bsi_shell.specs.Commands.{subcommand_of};
 ghost use Rattle.bsi_shell.specs.Requests.{IsRequestOf};
 
 use crate::paths::{CheckPaths, Paths};
-use bsi_store::{AddPaths, AskPaths, SavePaths};
+use bsi_adding::{AddPaths, SavePaths};
+use bsi_store::AskPaths;
 use clap::error::ErrorKind;
 use clap::{Arg, ArgAction, ArgMatches, Command, Error};
 use std::alloc::{AllocError, Global};

@@ -1,6 +1,6 @@
 //! The lines that tell of faults.
 ghost use Rattle.std.specs.Prelude.{◌≡◌, ◌≤◌, ◌++◌, codes, length};
-ghost use Rattle.bsi_files.specs.FaultTexts.{max_fault_text};
+ghost use Rattle.bsi_asks.specs.FaultTexts.{max_fault_text};
 ghost use Rattle.bsi_store.specs.Faults.{file_fault_text, store_fault_line};
 ghost use Rattle.bsi_shell.specs.FaultLines.{fault_line, usage_of, IsTold};
 

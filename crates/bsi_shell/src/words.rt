@@ -6,7 +6,7 @@ ghost use Rattle.bsi_shell.specs.FaultLines.{usage_of, IsTold};
 ghost use Rattle.bsi_shell.specs.FileRuns.{HasRunOver, HasToldFault};
 ghost use Rattle.bsi_shell.specs.Kept.{HasAskedEither, HasToldStore, IsFlushed};
 ghost use Rattle.bsi_store.specs.Asked.{HasShown};
-ghost use Rattle.bsi_store.specs.Loads.{HasAdded, HasSaved};
+ghost use Rattle.bsi_adding.specs.Loads.{HasAdded, HasSaved};
 ghost use Rattle.bsi_shell.specs.ScriptRuns.{HasToldScript, LeavesScript};
 ghost use Rattle.bsi_reading.specs.Texts.{IfKnown, IsAnswered, IsBegun};
 

@@ -1,2 +1,1 @@
-pub mod Notes
-pub mod Passing
+mod Appending

@@ -4,9 +4,9 @@ use Rattle.std.specs.Io.KnownBytes.{Appends}
 use Rattle.bsi_reading.specs.SchemaTexts.{IsSchemaText}
 use Rattle.bsi_store.specs.Lines.{count_line}
 use Rattle.bsi_rows.specs.Table.{Table}
-use Rattle.bsi_files.specs.AskLines.{IsAskLine}
-use Rattle.bsi_files.specs.Matching.{AreMatched}
-use Rattle.bsi_files.specs.Writing.{WritesAll}
+use Rattle.bsi_asks.specs.AskLines.{IsAskLine}
+use Rattle.bsi_asks.specs.Matching.{AreMatched}
+use Rattle.bsi_asks.specs.Writing.{WritesAll}
 use Rattle.bsi_saved.specs.Faults.{HasRead}
 
 -- a file was opened, and its first bytes keep the table

@@ -1,8 +1,8 @@
 -- What is told of a command over a kept index that ends early.
 use Rattle.std.specs.Prelude.{◌≡◌, ◌⊎◌, ℕ, List, ◌++◌, Option, Some, codes, decimal, length}
 use Rattle.std.specs.Borrow.{Bor}
-use Rattle.bsi_files.specs.FaultTexts.{fault_text}
-use Rattle.bsi_files.specs.declared.faults.FilesFault.TheVariants.{NoMemory}
+use Rattle.bsi_asks.specs.FaultTexts.{fault_text}
+use Rattle.bsi_asks.specs.declared.faults.FilesFault.TheVariants.{NoMemory}
 use Rattle.bsi_saved.specs.declared.fault.OpenFault.{OpenFault}
 use Rattle.bsi_saved.specs.declared.fault.OpenFault.TheVariants as opening
 use Rattle.bsi_saved.specs.Faults.{IsFirstFault, IsOpened}

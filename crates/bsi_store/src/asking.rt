@@ -6,7 +6,7 @@ ghost use Rattle.bsi_store.specs.Asked.{HasAsked};
 use crate::StoreFault;
 use crate::locks::LockFile;
 use crate::opening::{open_kept, open_one};
-use bsi_files::answer_asks;
+use bsi_asks::answer_asks;
 use std::io::{Read, Write};
 use std::rt::Files;
 

@@ -4,7 +4,7 @@ ghost use Rattle.std.specs.Prelude.{◌≡◌, ◌+◌, ◌≤◌, ◌++◌, [],
 ghost use Rattle.bsi_store.specs.Faults.{cut_off, file_fault_text, unopened};
 
 use arrayvec::ArrayString;
-use bsi_files::FilesFault;
+use bsi_asks::FilesFault;
 use bsi_reading::{SchemaFault, WriteFault};
 use bsi_saved::{OpenFault, SaveFault};
 use itoa::Buffer;
@@ -59,7 +59,7 @@ impl From<FilesFault> for StoreFault<'_> {
 }
 
 impl From<AllocError> for StoreFault<'_> {
-    ghost use Rattle.bsi_files.specs.declared.faults.FilesFault.TheVariants.{NoMemory};
+    ghost use Rattle.bsi_asks.specs.declared.faults.FilesFault.TheVariants.{NoMemory};
     ghost use Rattle.bsi_store.specs.declared.fault.StoreFault.TheVariants.{Run};
 
     ghost from_gives = { λ _ e. e ≡ Run NoMemory };
@@ -70,7 +70,7 @@ impl From<AllocError> for StoreFault<'_> {
 }
 
 impl From<WriteFault> for StoreFault<'_> {
-    ghost use Rattle.bsi_files.specs.declared.faults.FilesFault.TheVariants.{Write};
+    ghost use Rattle.bsi_asks.specs.declared.faults.FilesFault.TheVariants.{Write};
     ghost use Rattle.bsi_store.specs.declared.fault.StoreFault.TheVariants.{Run};
 
     ghost from_gives = { λ _ e. e ≡ Run Write };
@@ -81,7 +81,7 @@ impl From<WriteFault> for StoreFault<'_> {
 }
 
 impl From<SchemaFault> for StoreFault<'_> {
-    ghost use Rattle.bsi_files.specs.Faults.{schema_fault};
+    ghost use Rattle.bsi_asks.specs.Faults.{schema_fault};
     ghost use Rattle.bsi_store.specs.declared.fault.StoreFault.TheVariants.{Run};
 
     ghost from_gives = { λ fault e. e ≡ Run (schema_fault fault) };
@@ -93,7 +93,7 @@ impl From<SchemaFault> for StoreFault<'_> {
 
 impl<'a> StoreFault<'a> {
     /// Returns the fault of an index that was not written to the file of a path.
-    pub(crate) fn unsaved(path: &'a str, fault: SaveFault) -> StoreFault<'a> {
+    pub fn unsaved(path: &'a str, fault: SaveFault) -> StoreFault<'a> {
         match fault {
             SaveFault::Write => StoreFault::CannotWrite(path),
             SaveFault::NoMemory => StoreFault::Run(FilesFault::NoMemory),

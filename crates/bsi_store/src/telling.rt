@@ -1,41 +1,19 @@
-//! The lines that tell what a file keeps, or how many rows a command has put into it.
+//! The lines that tell what a file keeps.
 
-ghost use Rattle.std.specs.Prelude.{◌≡◌, ◌++◌, ◌≤◌, IfOk, OnOk, codes, length, map};
+ghost use Rattle.std.specs.Prelude.{◌≤◌, OnOk, length};
 ghost use Rattle.std.specs.Io.KnownBytes.{Appends};
-ghost use Rattle.bsi_files.specs.Feds.{fed_counts};
-ghost use Rattle.bsi_rows.specs.Table.{max_feeders};
-ghost use Rattle.bsi_store.specs.Lines.{bytes_line, count_line, loaded_lines};
+ghost use Rattle.bsi_store.specs.Lines.{bytes_line, count_line};
 
 use arrayvec::ArrayString;
-use bsi_files::{Loaded, tell_feds};
 use bsi_reading::{WriteFault, write_bytes};
-use bsi_table::NoMemory;
 use itoa::Buffer;
-use std::alloc::Global;
 use std::io::Write;
 
 /// The most bytes of a line of a word and a number.
 const MAX_COUNT_LINE: usize = 32;
 
-/// Returns the line of each row file, and how many rows they gave, behind a word.
-pub(crate) fn text_of(alloc: Global, word: &str, loaded: &Loaded) -> Result<Vec<u8>, NoMemory>
-    requires few { length loaded.now.fed.items ≤ max_feeders }
-    requires word { length word.now ≤ 10 }
-    ensures { IfOk result (λ text. text.items
-        ≡ loaded_lines word.now (map fed_counts loaded.now.fed.items) (length loaded.now.table.rows)) }
-{
-    let mut text = Vec::new(alloc);
-    tell_feds(alloc, &loaded.fed, &mut text).map_err(|_| NoMemory)?;
-    tell_count(word, loaded.table.len(), &mut text).map_err(|_| NoMemory)?;
-    Ok(text)
-}
-
 /// Writes a line of a word and a number.
-pub(crate) fn tell_count<W: Write>(
-    word: &str,
-    number: u64,
-    writer: &mut W,
-) -> Result<(), WriteFault>
+pub fn tell_count<W: Write>(word: &str, number: u64, writer: &mut W) -> Result<(), WriteFault>
     requires { length word.now ≤ 10 }
     ensures { OnOk result
         (Appends (W.contents writer.old) (W.contents writer.new) (count_line word.now number)) }

@@ -2,45 +2,45 @@ use Rattle.std.proofs.Common.{◌≡◌, ◌+◌, true, false, rules, arith, ref
 use Rattle.csv.specs.Reading.{ReadRecord}
 use Rattle.csv.specs.Records.{fields_of}
 use Rattle.bsi_reading.specs.RowFiles.{good_row}
-use Rattle.bsi_check.specs.Checks.{layout_of, TellsUnless}
+use Rattle.bsi_check.specs.Checks.{TellsUnless}
 use Rattle.bsi_check.proofs.Counting.{counted_all, counted_bad, counted_good, counted_none}
 use Rattle.bsi_check.proofs.Telling.{grows, tells_some, told_some}
 use Rattle.bsi_check.proofs.rows.count_records.Goals as goal
 
 pub records-init : goal.records-init
 records-init g c = record {
-  counted = counted_none g.I.Read.remaining (layout_of c.args.schema.now (fields_of c.args.header.now)) c.args.input.now c.requires.plain;
+  counted = counted_none g.I.Read.remaining c.args.layout.now c.args.input.now c.requires.plain;
   told = refl;
 }
 
 pub returns-then-not-branch-clause-counted : goal.returns-then-not-branch-clause-counted
 returns-then-not-branch-clause-counted g c =
     let none : ReadRecord g.I.Read.remaining c.records.input c.read_next.new.input false (fields_of c.read_next.new.fields) = search rules in
-    counted_all g.I.Read.remaining (layout_of c.args.schema.now (fields_of c.args.header.now)) c.args.input.now c.records.input c.records.records c.records.bad
+    counted_all g.I.Read.remaining c.args.layout.now c.args.input.now c.records.input c.records.records c.records.bad
     c.records.invariant.counted c.read_next.new.input (fields_of c.read_next.new.fields) _ refl refl none
 
 pub records-preserved-then-good : goal.records-preserved-then-good
 records-preserved-then-good g c =
     let fields = fields_of c.read_next.new.fields in
     let next : ReadRecord g.I.Read.remaining c.records.input c.read_next.new.input true fields = search rules in
-    let good : true ≡ is_some (good_row c.args.schema.now (fields_of c.args.header.now) fields) = sym c.if-good.true ∙ c.in_ok-good.ensures in
+    let good : true ≡ is_some (good_row c.args.layout.now.schema c.args.layout.now.header fields) = sym c.if-good.true ∙ c.in_ok-good.ensures in
     record {
-      counted = counted_good g.I.Read.remaining (layout_of c.args.schema.now (fields_of c.args.header.now)) c.args.input.now c.records.input c.records.records c.records.bad
+      counted = counted_good g.I.Read.remaining c.args.layout.now c.args.input.now c.records.input c.records.records c.records.bad
           c.records.invariant.counted c.read_next.new.input fields next c.in_ok-read_next.ensures.plain c.records-test.true good;
       told = c.records.invariant.told;
     }
 
 -- a bad record that is told
-pub records-preserved-then-bad-le-MAX_TOLD : goal.records-preserved-then-bad-le-MAX_TOLD
-records-preserved-then-bad-le-MAX_TOLD g c =
+pub records-preserved-in_ok-tell_bad_record : goal.records-preserved-in_ok-tell_bad_record
+records-preserved-in_ok-tell_bad_record g c =
     let fields = fields_of c.read_next.new.fields in
     let next : ReadRecord g.I.Read.remaining c.records.input c.read_next.new.input true fields = search rules in
-    let bad : false ≡ is_some (good_row c.args.schema.now (fields_of c.args.header.now) fields) = sym c.if-good.false ∙ c.in_ok-good.ensures in
+    let bad : false ≡ is_some (good_row c.args.layout.now.schema c.args.layout.now.header fields) = sym c.if-good.false ∙ c.in_ok-good.ensures in
     record {
-      counted = counted_bad g.I.Read.remaining (layout_of c.args.schema.now (fields_of c.args.header.now)) c.args.input.now c.records.input c.records.records c.records.bad
+      counted = counted_bad g.I.Read.remaining c.args.layout.now c.args.input.now c.records.input c.records.records c.records.bad
           c.records.invariant.counted c.read_next.new.input fields next c.in_ok-read_next.ensures.plain c.records-test.true bad;
-      told = tells_some (c.records.bad + 1) c.args.reasons.now.items c.tell_at.new.reasons.items (omega arith)
-          (omega (arith, grows _ c.args.reasons.now.items c.records.reasons.items c.records.invariant.told, c.in_ok-tell_at.ensures));
+      told = tells_some (c.records.bad + 1) c.args.reasons.now.items c.tell_bad_record.new.reasons.items (omega arith)
+          (omega (arith, grows _ c.args.reasons.now.items c.records.reasons.items c.records.invariant.told, c.in_ok-tell_bad_record.ensures));
     }
 
 -- and one past the first 100
@@ -48,9 +48,9 @@ pub records-preserved : goal.records-preserved
 records-preserved g c =
     let fields = fields_of c.read_next.new.fields in
     let next : ReadRecord g.I.Read.remaining c.records.input c.read_next.new.input true fields = search rules in
-    let bad : false ≡ is_some (good_row c.args.schema.now (fields_of c.args.header.now) fields) = sym c.if-good.false ∙ c.in_ok-good.ensures in
+    let bad : false ≡ is_some (good_row c.args.layout.now.schema c.args.layout.now.header fields) = sym c.if-good.false ∙ c.in_ok-good.ensures in
     record {
-      counted = counted_bad g.I.Read.remaining (layout_of c.args.schema.now (fields_of c.args.header.now)) c.args.input.now c.records.input c.records.records c.records.bad
+      counted = counted_bad g.I.Read.remaining c.args.layout.now c.args.input.now c.records.input c.records.records c.records.bad
           c.records.invariant.counted c.read_next.new.input fields next c.in_ok-read_next.ensures.plain c.records-test.true bad;
       told = tells_some (c.records.bad + 1) c.args.reasons.now.items c.records.reasons.items (omega arith)
           (told_some c.records.bad c.args.reasons.now.items c.records.reasons.items (omega (arith, c.if-bad-le-MAX_TOLD.false)) c.records.invariant.told);
@@ -59,5 +59,5 @@ records-preserved g c =
 pub returns-clause-counted : goal.returns-clause-counted
 returns-clause-counted g c =
     let none : ReadRecord g.I.Read.remaining c.records.input c.read_next-2.new.input false (fields_of c.read_next-2.new.fields) = search rules in
-    counted_all g.I.Read.remaining (layout_of c.args.schema.now (fields_of c.args.header.now)) c.args.input.now c.records.input c.records.records c.records.bad
+    counted_all g.I.Read.remaining c.args.layout.now c.args.input.now c.records.input c.records.records c.records.bad
     c.records.invariant.counted c.read_next-2.new.input (fields_of c.read_next-2.new.fields) _ refl refl none

@@ -1,14 +1,13 @@
 use Rattle.std.proofs.Common.{◌-◌, nat_eq}
-use Rattle.csv.specs.Records.{fields_of}
 use Rattle.bsi_reading.specs.Sources.{max_records}
-use Rattle.bsi_check.specs.Checks.{layout_of, TellsUnless}
+use Rattle.bsi_check.specs.Checks.{TellsUnless}
 use Rattle.bsi_check.proofs.Counting.{AreCounted}
 use Rattle.bsi_check.proofs.rows.count_records.Given as goal
 
 -- the records so far were counted, and the bad ones told
 abbrev pub invariant-records : goal.invariant-records
 invariant-records g l = record {
-  counted : AreCounted (g.I.Read.remaining) (layout_of l.fn.schema (fields_of l.fn.header)) l.initial.input l.input l.records l.bad;
+  counted : AreCounted (g.I.Read.remaining) l.fn.layout l.initial.input l.input l.records l.bad;
   told : TellsUnless (nat_eq l.bad 0) l.initial.reasons.items l.reasons.items;
 }
 

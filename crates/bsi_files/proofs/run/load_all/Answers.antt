@@ -1,16 +1,16 @@
 use Rattle.std.proofs.Common.{◌≡◌, ◌≢◌, ℕ, ◌<◌, ◌≤◌, true, All, arith, List, length, rules, subst, sym, ◌∙◌}
 use Rattle.std.specs.Prelude.{IfErr}
-use Rattle.bsi_files.specs.Faults.{is_early}
+use Rattle.bsi_asks.specs.Faults.{is_early}
 use Rattle.bsi_files.specs.RunFaults.{IsKeptFault}
 use Rattle.bsi_files.proofs.Failing.{few_kept, kept_load, load_early}
 use Rattle.bsi_files.proofs.Limits.{closed_all, over_limit}
-use Rattle.bsi_files.proofs.Passing.{if_err, if_err_both}
-use Rattle.bsi_files.specs.declared.faults.FilesFault.TheVariants.{IndexFull}
+use Rattle.bsi_asks.proofs.Passing.{if_err, if_err_both}
+use Rattle.bsi_asks.specs.declared.faults.FilesFault.TheVariants.{IndexFull}
 use Rattle.bsi_rows.specs.Table.{max_feeders}
 use Rattle.bsi_system.specs.Running.{SystemName}
 use Rattle.bsi_files.specs.Ends.{tasks, AreClosings, AreEndsOf}
 use Rattle.bsi_files.specs.Takings.{all_closed, IsDrained, IsFine, IsFullBefore}
-use Rattle.bsi_files.specs.declared.loading.Fed.{Fed}
+use Rattle.bsi_asks.specs.declared.fed.Fed.{Fed}
 use Rattle.bsi_files.proofs.Takings.{all_fed, closings_of, loaded_all}
 use Rattle.bsi_files.proofs.run.load_all.Goals as goal
 

@@ -3,13 +3,13 @@ use Rattle.std.specs.Prelude.{IfErr, IfOk}
 use Rattle.bsi_rows.specs.Table.{max_feeders}
 use Rattle.bsi_reading.proofs.Joining.{is_whole}
 use Rattle.bsi_files.specs.Begun.{Begins}
-use Rattle.bsi_files.specs.Faults.{is_late, is_of_headers}
+use Rattle.bsi_asks.specs.Faults.{is_late, is_of_headers}
 use Rattle.bsi_files.specs.Headers.{IsHeadersFault}
 use Rattle.bsi_files.specs.RunFaults.{IsFaultOf}
-use Rattle.bsi_files.specs.declared.faults.FilesFault.TheVariants.{NoMemory}
+use Rattle.bsi_asks.specs.declared.faults.FilesFault.TheVariants.{NoMemory}
 use Rattle.bsi_files.proofs.Failing.{headers_counted, headers_fault_of, headers_known, headers_late, load_counted, load_late, run_fault_of}
 use Rattle.bsi_files.proofs.Files.{as_many, loaded_of, matched_long}
-use Rattle.bsi_files.proofs.Passing.{if_err, if_ok, so_ok}
+use Rattle.bsi_asks.proofs.Passing.{if_err, if_ok, so_ok}
 use Rattle.bsi_files.proofs.run.load_files.Goals as goal
 
 pub load_in-loaded-requires-clause-few : goal.load_in-loaded-requires-clause-few

@@ -3,16 +3,15 @@ use Rattle.std.specs.Prelude.{IfErr}
 use Rattle.bsi_schema.specs.Columns.{Declared}
 use Rattle.bsi_records.specs.Numbers.{Field}
 use Rattle.bsi_reading.specs.SchemaTexts.{IsSchemaText}
-use Rattle.bsi_files.specs.Feds.{fed_counts}
+use Rattle.bsi_asks.specs.RowFiles.{fed_counts, FedCounts}
 use Rattle.bsi_files.specs.RunFaults.{AreGood, IsFaultOver}
-use Rattle.bsi_files.specs.RowFiles.{FedCounts}
-use Rattle.bsi_files.specs.Runs.{AreLines, HasLoaded, IsRun}
-use Rattle.bsi_files.specs.Writing.{WritesAll, WritesFirst}
-use Rattle.bsi_files.specs.declared.loading.Fed.{Fed}
-use Rattle.bsi_files.proofs.Asking.{all_follows, leaves_late, part_follows}
+use Rattle.bsi_asks.specs.Runs.{AreLines, HasLoaded, IsRun}
+use Rattle.bsi_asks.specs.Writing.{WritesAll, WritesFirst}
+use Rattle.bsi_asks.specs.declared.fed.Fed.{Fed}
+use Rattle.bsi_asks.proofs.Asking.{all_follows, leaves_late, part_follows}
 use Rattle.bsi_files.proofs.Failing.{late_fault_of}
 use Rattle.bsi_files.proofs.Files.{run_of_loaded}
-use Rattle.bsi_files.proofs.Passing.{if_err, if_err_both, on_ok}
+use Rattle.bsi_asks.proofs.Passing.{if_err, if_err_both, on_ok}
 use Rattle.bsi_files.proofs.run.run_files.Goals as goal
 
 -- ---- faults

@@ -1,7 +1,7 @@
 use Rattle.std.proofs.Common.{Bool, length, map, rules, subst}
 use Rattle.std.specs.Prelude.{IfErr}
 use Rattle.bsi_files.specs.RunFaults.{IsFaultOf}
-use Rattle.bsi_files.specs.Writing.{WhereFilesKnown}
+use Rattle.bsi_asks.specs.Writing.{WhereFilesKnown}
 use Rattle.bsi_shell.proofs.Runs.{failed_over, few_files, if_err_so, on_both, on_ok_both, on_ok_so, run_kept}
 use Rattle.bsi_shell.proofs.files.run_opened.Goals as goal
 

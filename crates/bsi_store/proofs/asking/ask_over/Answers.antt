@@ -1,4 +1,4 @@
-use Rattle.bsi_store.proofs.Passing.{on_ok}
+use Rattle.bsi_asks.proofs.Passing.{on_ok}
 use Rattle.bsi_store.proofs.asking.ask_over.Goals as goal
 
 pub returns : goal.returns

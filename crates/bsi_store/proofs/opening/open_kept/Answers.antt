@@ -1,4 +1,4 @@
-use Rattle.bsi_store.proofs.Passing.{if_ok}
+use Rattle.bsi_asks.proofs.Passing.{if_ok}
 use Rattle.bsi_store.proofs.opening.open_kept.Goals as goal
 
 pub returns : goal.returns

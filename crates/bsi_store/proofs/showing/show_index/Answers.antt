@@ -2,7 +2,7 @@ use Rattle.std.proofs.Common.{ℕ, List, ◌++◌, length, rules, subst}
 use Rattle.std.specs.Io.KnownBytes.{Appends}
 use Rattle.std.specs.Prelude.{codes}
 use Rattle.bsi_reading.specs.SchemaTexts.{IsSchemaText}
-use Rattle.bsi_store.proofs.Passing.{appends_both}
+use Rattle.bsi_store.proofs.Appending.{appends_both}
 use Rattle.bsi_store.proofs.showing.show_index.Goals as goal
 use Rattle.bsi_store.specs.Lines.{count_line}
 use Rattle.bsi_table.specs.Index.{table_of}

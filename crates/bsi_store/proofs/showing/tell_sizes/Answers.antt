@@ -1,5 +1,5 @@
 use Rattle.std.proofs.Common.{[], ◌++◌}
-use Rattle.bsi_store.proofs.Passing.{appends_both, appends_none}
+use Rattle.bsi_store.proofs.Appending.{appends_both, appends_none}
 use Rattle.bsi_store.proofs.showing.tell_sizes.Goals as goal
 use Rattle.bsi_store.specs.Lines.{bytes_line}
 

@@ -1,7 +1,8 @@
 use Rattle.std.proofs.Common.{ℕ, List, [], ◌++◌, subst}
 use Rattle.std.specs.Io.KnownBytes.{Appends}
 use Rattle.std.specs.Prelude.{codes}
-use Rattle.bsi_store.proofs.Passing.{appends_both, on_ok}
+use Rattle.bsi_asks.proofs.Passing.{on_ok}
+use Rattle.bsi_store.proofs.Appending.{appends_both}
 use Rattle.bsi_store.proofs.telling.tell_bytes.Goals as goal
 use Rattle.bsi_store.specs.Lines.{count_line}
 

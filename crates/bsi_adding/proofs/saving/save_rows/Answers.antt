@@ -1,0 +1,10 @@
+use Rattle.std.proofs.Common.{ℕ, List, subst, sym}
+use Rattle.std.specs.Io.KnownBytes.{Appends}
+use Rattle.bsi_asks.proofs.Passing.{on_ok}
+use Rattle.bsi_adding.proofs.saving.save_rows.Goals as goal
+
+pub returns : goal.returns
+returns g c =
+    let before = g.O.Write.contents c.args.output.now in
+    let after = g.O.Write.contents c.write_bytes.new.writer in
+    c.in_ok-text.ensures before after (subst (λ (bytes : List ℕ). Appends before after bytes) c.as_slice.ensures.value c.in_ok-write_bytes.ensures.ok)

@@ -1,0 +1,135 @@
+//! Rows that are added to a kept index.
+
+ghost use Rattle.std.specs.Prelude.{◌≡◌, ◌+◌, ◌<◌, ◌≤◌, IfOk, List, OnOk, Some, false, length, map, ℕ};
+ghost use Rattle.std.specs.Io.KnownBytes.{Appends};
+ghost use Rattle.bsi_asks.specs.RowFiles.{fed_counts};
+ghost use Rattle.bsi_asks.specs.Runs.{HasLoaded};
+ghost use Rattle.bsi_rows.specs.Table.{max_feeders, no_rows, with_rows};
+ghost use Rattle.bsi_saved.specs.Saved.{kept_file, max_notes};
+ghost use Rattle.bsi_adding.specs.Loads.{HasAdded};
+ghost use Rattle.bsi_table.specs.Index.{table_of};
+
+use crate::opening::{open_each, open_to_add};
+use crate::telling::text_of;
+use bsi_files::{FilesFault, Gate, Loaded, Stopping, load_files};
+use bsi_reading::write_bytes;
+use bsi_saved::{Opened, write_index};
+use bsi_store::{FileFault, LockFile, StoreFault, read_kept};
+use bsi_table::{Index, NoMemory};
+use std::alloc::Global;
+use std::fs::OpenFile;
+use std::io::{Read, Write};
+use std::rt::Files;
+use std::sync::Wait;
+use std::thread::Threads;
+
+/// The paths of rows that are added to a kept index, each as it was written.
+#[derive(Drop)]
+pub struct AddPaths<'a> {
+    /// The file that keeps the index.
+    pub kept: &'a str,
+    /// The row files.
+    pub rows: Vec<&'a str>,
+    /// Whether rows are added behind what stands whole before a fault of the file. What stands there then is cut off.
+    pub so_far: bool,
+    ghost some: { 0 < length rows.items },
+}
+
+/// Loads row files as a run over files does, by the schema of a kept index, and adds their rows to its file. Row file k
+/// is feeder k. It writes the line of each file, and how many rows were added. After a fault the file keeps the rows
+/// that it kept, unless only these lines could not be written: then the rows are added.
+pub fn add_rows<
+    'a,
+    R: AllocGlobal + Files<File = S> + Threads + Wait + Sync,
+    S: Read + Write + OpenFile + LockFile + Drop + Send,
+    O: Write,
+    G: Gate + Stopping + Sync,
+>(rt: &R, paths: &AddPaths<'a>, output: &mut O, gate: &G) -> Result<(), StoreFault<'a>>
+    requires { G.STOPS ≡ false }
+    ensures { OnOk result
+        (HasAdded S.remaining S.contents (O.contents output.old) (O.contents output.new)) }
+{
+    let mut file = open_to_add(rt, paths.kept)?;
+    let rows = open_each(rt, &paths.rows)?;
+    let kept = read_kept(rt.alloc(), paths.kept, &mut file, paths.so_far)?;
+    let more = load_more(rt, paths.kept, &kept.index, rows, gate)?;
+    let text = text_of(rt.alloc(), "added", &more)?;
+    put_segment(rt.alloc(), paths.kept, &kept, &more.table, &mut file)?;
+    write_bytes(output, text.as_slice())?;
+    Ok(())
+}
+
+/// Loads row files into an index that keeps its columns as another does, and has as many feeders. It refuses more rows
+/// than that one has room for, and more files than it has feeders.
+fn load_more<
+    'a,
+    R: AllocGlobal + Threads + Wait + Sync,
+    S: Read + Drop + Send,
+    G: Gate + Stopping + Sync,
+>(rt: &R, path: &'a str, kept: &Index, rows: Vec<S>, gate: &G) -> Result<Loaded, StoreFault<'a>>
+    requires some { 0 < length rows.items }
+    requires never { G.STOPS ≡ false }
+    ensures schema { IfOk result (λ loaded. loaded.table.schema ≡ kept.now.schema) }
+    ensures feeders { IfOk result (λ loaded. loaded.table.feeders ≡ kept.now.feeders) }
+    ensures limit { IfOk result (λ loaded. loaded.table.limit ≡ kept.now.limit) }
+    ensures within { IfOk result (λ loaded.
+        length kept.now.rows + length loaded.table.rows ≤ kept.now.limit) }
+    ensures rows { IfOk result (λ loaded. (texts : List (List ℕ)) →
+        map S.remaining rows.items ≡ map Some texts →
+        HasLoaded kept.now.schema kept.now.limit texts loaded.table.rows
+        (map fed_counts loaded.fed.items)) }
+    ensures few { IfOk result (λ loaded. length loaded.fed.items ≤ max_feeders) }
+{
+    if rows.len() > kept.feeders() as usize {
+        return Err(StoreFault::Unusable(path, FileFault::TooManyFiles(kept.feeders())));
+    }
+    let schema = kept.schema().copy()?;
+    let Loaded { table, fed } = load_files(rt, schema, kept.limit(), rows, gate)?;
+    if table.len() > kept.limit() - kept.len() {
+        return Err(StoreFault::Run(FilesFault::IndexFull));
+    }
+    let table = spread(kept, &table)?;
+    Ok(Loaded { table, fed })
+}
+
+/// Makes an index of all rows of another one, with the feeders of a kept index, which keeps its columns alike, has as
+/// many feeders or more, and takes so many rows.
+fn spread(kept: &Index, table: &Index) -> Result<Index, NoMemory>
+    ensures { IfOk result (λ more. table_of more
+        ≡ with_rows (no_rows kept.now.schema kept.now.feeders kept.now.limit) table.now.rows) }
+{
+    let mut more = kept.new_like()?;
+    if !more.is_kept_like(table) {
+        return Err(NoMemory);
+    }
+    match more.append_index(table) {
+        Ok(_) => Ok(more),
+        Err(_) => Err(NoMemory),
+    }
+}
+
+/// Appends the segment of further rows to a file, behind what was opened of it, and has the system store it. After a
+/// fault it cuts the file back.
+fn put_segment<'a, S: Write + OpenFile>(
+    alloc: Global,
+    path: &'a str,
+    kept: &Opened,
+    more: &Index,
+    file: &mut S,
+) -> Result<(), StoreFault<'a>>
+    requires { length kept.now.notes.items ≤ max_notes }
+    ensures { OnOk result (Appends (S.contents file.old) (S.contents file.new)
+        (kept_file (table_of more.now) kept.now.notes.items)) }
+{
+    if kept.fault.is_some() && file.set_len(kept.bytes).is_err() {
+        return Err(StoreFault::CannotWrite(path));
+    }
+    let written = write_index(alloc, more, &kept.notes, file);
+    let fault = match written {
+        Ok(()) if file.sync_all().is_ok() => return Ok(()),
+        Ok(()) => StoreFault::CannotWrite(path),
+        Err(fault) => StoreFault::unsaved(path, fault),
+    };
+    let _ = file.set_len(kept.bytes);
+    Err(fault)
+}

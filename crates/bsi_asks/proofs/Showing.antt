@@ -1,0 +1,61 @@
+-- Answers as their lines show them.
+use Rattle.std.proofs.Common.{◌≡◌, ℕ, zero, suc, ◌+◌, List, [], ◌∷◌, Result, Ok, Err, refl, ap, sym, ◌∙◌, inl, inr, map, arith, slice_index_or}
+use Rattle.bsi_rows.specs.Runs.{rows_from}
+use Rattle.bsi_records.specs.Numbers.{Field}
+use Rattle.bsi_schema.specs.Columns.{Declared}
+use Rattle.bsi_rows.specs.Rows.{FedRow}
+use Rattle.bsi_rows.specs.declared.errors.AskError.{AskError}
+use Rattle.bsi_rows.specs.declared.errors.AskError.TheVariants as ask
+use Rattle.bsi_rows.specs.declared.query.Answer.{Answer}
+use Rattle.bsi_rows.specs.declared.query.Query.{Query}
+use Rattle.bsi_asks.specs.AskLines.{IsAskLine, IsArrangedReply}
+use Rattle.bsi_asks.specs.Matching.{AreMatched}
+use Rattle.bsi_asks.specs.Mixes.{file_by_file, AreAlike, IsMixOf}
+use Rattle.bsi_asks.specs.RowFiles.{file_at, FedCounts, RowFile}
+use Rattle.bsi_asks.specs.Runs.{AreLines}
+use Rattle.bsi_asks.proofs.Ordered.{from_order}
+use Rattle.bsi_asks.proofs.Selecting.{shown_too}
+
+reply_too : (schema : Declared) (a b : List FedRow) → AreAlike a b → (query : Query) (reply : Result Answer AskError) → IsArrangedReply schema a query reply
+    → IsArrangedReply schema b query reply
+reply_too schema a b alike query (Ok answer) is = (is.0, shown_too a b alike query answer is.1)
+reply_too schema a b alike query (Err ask.NoMemory) is = is
+reply_too schema a b alike query (Err (ask.BadColumn c)) is = is
+
+line_too : (schema : Declared) (a b : List FedRow) → AreAlike a b → (fields : List Field) (line : List ℕ) → IsAskLine schema a fields line → IsAskLine schema b fields line
+line_too schema a b alike fields line (inl none) = inl none
+line_too schema a b alike fields line (inr asks) = inr (record {
+  query = asks.query;
+  reply = asks.reply;
+  asked = asks.asked;
+  lawful = reply_too schema a b alike asks.query asks.reply asks.lawful;
+  line_is = asks.line_is;
+})
+
+each_too : (schema : Declared) (a b : List FedRow) → AreAlike a b → (records : List (List Field)) (lines : List (List ℕ)) → AreMatched (IsAskLine schema a) records lines
+    → AreMatched (IsAskLine schema b) records lines
+each_too schema a b alike [] [] are = tt
+each_too schema a b alike [] (line ∷ lines) are = absurd are
+each_too schema a b alike (fields ∷ records) [] are = absurd are
+each_too schema a b alike (fields ∷ records) (line ∷ lines) are = (line_too schema a b alike fields line are.0, each_too schema a b alike records lines are.1)
+
+-- the lines are those of any list with the same rows of each feeder
+pub lines_too : (schema : Declared) (a b : List FedRow) (counts : List FedCounts) (records : List (List Field)) (lines : List (List ℕ)) → AreAlike a b
+    → AreLines schema a counts records lines → AreLines schema b counts records lines
+lines_too schema a b counts records lines alike are = record {
+  answers = are.answers;
+  each = each_too schema a b alike records are.answers are.each;
+  lines_are = are.lines_are;
+}
+
+rows_at : (files : List RowFile) (f : ℕ) → slice_index_or (map (λ file. file.rows) files) f [] ≡ (file_at files f).rows
+rows_at [] f = refl
+rows_at (file ∷ files) zero = refl
+rows_at (file ∷ files) (suc f) = rows_at files f
+
+-- so they are those of the files' rows, one file after the other
+pub file_by_file_too : (files : List RowFile) (rows : List FedRow) → IsMixOf files rows → AreAlike rows (file_by_file 0 (map (λ file. file.rows) files))
+file_by_file_too files rows mix f =
+    let at : 0 + f ≡ f = omega arith in
+    mix f ∙ (sym (rows_at files f) ∙ (sym (from_order 0 (map (λ (file : RowFile). file.rows) files) f)
+    ∙ ap (λ g. rows_from g (file_by_file 0 (map (λ (file : RowFile). file.rows) files))) at))

@@ -1,0 +1,22 @@
+use Rattle.std.proofs.Common.{◌≡◌, Some, true, refl, rules, subst}
+use Rattle.csv.specs.Reading.{ReadRecord}
+use Rattle.csv.specs.Records.{fields_of}
+use Rattle.bsi_reading.proofs.Taking.{stands_after}
+use Rattle.bsi_reading.specs.RowFiles.{is_header}
+use Rattle.bsi_reading.specs.Sources.{Layout}
+use Rattle.bsi_check.specs.Checks.{layout_of, HasCounted}
+use Rattle.bsi_check.proofs.Counting.{counted_text}
+use Rattle.bsi_check.proofs.rows.check_input.Goals as goal
+
+-- the header was read, and then all records
+pub returns-clause-found : goal.returns-clause-found
+returns-clause-found g c = λ bytes known.
+    let header = fields_of c.read_next.new.fields in
+    let layout = layout_of c.args.schema.now header in
+    let start = c.args.input.now in
+    let input = c.read_next.new.input in
+    let next : ReadRecord g.I.Read.remaining start input true header = search rules in
+    let named : is_header c.args.schema.now header ≡ true = search rules in
+    counted_text g.I.Read.remaining c.args.schema.now header start input c.in_ok-counts.counts (Some bytes) named known
+    (stands_after g.I.Read.remaining start input header c.requires.plain.config c.requires.start layout refl next)
+    (subst (λ (l : Layout). HasCounted g.I.Read.remaining l input c.in_ok-counts.counts) c.in_ok-layout.ensures c.in_ok-counts.ensures.counted)
