@@ -211,7 +211,7 @@ def _reason(why: BaseException) -> str:
 
 
 def opened_file(path: Path, so_far: bool = False) -> Kept:
-    """Opens the index that a file keeps. The file is mapped, and no copy of it is made."""
+    """Opens the index that a file keeps. The file is mapped, and not read into memory of its own."""
     name = os.fspath(path)
     if not (stat.S_ISREG(os.stat(name).st_mode) or os.path.isdir(name)):
         raise NotKept("it is no regular file", name)
@@ -240,22 +240,39 @@ def replace(path: Path, data: Any) -> None:
     name = os.path.realpath(os.fspath(path))
     if os.path.isdir(name):
         raise IsADirectoryError(errno.EISDIR, os.strerror(errno.EISDIR), os.fspath(path))
-    folder, new = os.path.dirname(name), f"{name}.new"
-    with _alone(new) as file:
-        try:
-            file.truncate(0)
-            _keep_mode(name, file)
-            _write_all(file, memoryview(data))
-            os.fsync(file.fileno())
-            os.replace(new, name)
-        except BaseException:
-            os.unlink(new)
-            raise
-    handle = os.open(folder, os.O_RDONLY | os.O_DIRECTORY)
+    new = f"{name}.new"
+    # (opened first, so that a folder that can't be opened leaves the old file)
+    folder = os.open(os.path.dirname(name), os.O_RDONLY | os.O_DIRECTORY)
     try:
-        os.fsync(handle)
+        with _unless_added_to(name), _alone(new) as file:
+            try:
+                file.truncate(0)
+                _keep_mode(name, file)
+                _write_all(file, memoryview(data))
+                os.fsync(file.fileno())
+                os.replace(new, name)
+            except BaseException:
+                os.unlink(new)
+                raise
+        os.fsync(folder)
     finally:
-        os.close(handle)
+        os.close(folder)
+
+
+@contextmanager
+def _unless_added_to(name: str) -> Iterator[None]:
+    """Locks a file that is to be replaced, beside its readers. One to which a command adds rows is refused."""
+    try:
+        old = open(name, "rb", buffering=0)
+    except OSError:
+        yield
+        return
+    with old:
+        try:
+            fcntl.flock(old, fcntl.LOCK_SH | fcntl.LOCK_NB)
+        except BlockingIOError:
+            raise Error(f"{name}: another program is writing it") from None
+        yield
 
 
 @contextmanager

@@ -10,6 +10,7 @@ import numpy as np
 import pytest
 
 import bsi
+import kept_format
 
 TOP = os.path.join(os.path.dirname(os.path.abspath(__file__)), "..", "..")
 PROGRAM = os.environ.get("BSI_PROGRAM") or os.path.join(TOP, "crates", "bsi", "out", "bsi")
@@ -45,6 +46,15 @@ def command(*words, asks=None):
     return [line for line in ran.stdout.splitlines() if not line.startswith("fed ")]
 
 
+def check_format(path, fed):
+    """Checks that the reader made from the page of the format finds the rows in a file, so many of each feeder."""
+    _limit, feeders, columns, _notes = kept_format.read(path.read_bytes())
+    with bsi.open(path) as index:
+        found = {name: entries for (name, *_), entries in columns.items()}
+        assert found == index.take(range(len(index)))
+    assert [feeders.count(feeder) for feeder in range(len(fed))] == fed and len(feeders) == sum(fed)
+
+
 def text_of(questions):
     return "".join(f"{question}\n" for question in questions)
 
@@ -77,7 +87,11 @@ def test_what_the_command_saves_is_opened(tmp_path, files):
     saved = command("save", "--schema", "schema", "--to", path, *files)
     with bsi.open(path) as index:
         assert saved == [f"saved {len(index)}"] and index.forms == FORMS
+    fed = {1: [1094], 4: [1095, 1096, 1094, 1096]}[len(files)]
+    check_format(path, fed)
     assert check_answers(path, questions) == of_rows
+    command("add", path, "hill.csv")
+    check_format(path, [fed[0] + 1094, *fed[1:]])
 
 
 def some_rows(rng, rows):

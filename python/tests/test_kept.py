@@ -2,6 +2,7 @@
 
 import copy
 import datetime
+import fcntl
 import json
 import os
 import pathlib
@@ -323,6 +324,17 @@ def test_two_writers_at_once(path):
         thread.start()
     for thread in threads:
         thread.join()
+    index.save(path)
+    assert len(bsi.open(path)) == 4
+
+
+def test_a_file_that_a_command_adds_to_is_not_replaced(path):
+    index = small()
+    index.save(path)
+    with open(path, "rb") as file:
+        fcntl.flock(file, fcntl.LOCK_EX)
+        with pytest.raises(bsi.Error, match="another program is writing"):
+            index.save(path)
     index.save(path)
     assert len(bsi.open(path)) == 4
 
