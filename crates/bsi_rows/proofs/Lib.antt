@@ -5,5 +5,6 @@ pub mod CallerLemmas
 pub mod Composing
 pub mod Events
 pub mod Missing
+pub mod Ranks
 pub mod Rising
 pub use Rattle.bsi_schema.proofs.Fitting

@@ -1,6 +1,7 @@
 -- What the answer to a query is.
-use Rattle.std.specs.Prelude.{◌≡◌, ℕ, List, [], ◌∷◌, ◌++◌, Option, Some, None, Result, Ok, Err, length, find, map, nat_le, ℤ}
+use Rattle.std.specs.Prelude.{◌≡◌, ℕ, List, [], ◌∷◌, ◌++◌, Option, Some, None, Result, Ok, Err, length, find, nat_le, ℤ}
 use Rattle.bsi_rows.specs.Numbering.{numbered_at, Place}
+use Rattle.bsi_rows.specs.Ranks.{IsSignedRankOf}
 use Rattle.bsi_orders.specs.WholeNumbers.{signed_sum, IsSignedLeastOf, IsSignedGreatestOf, IsSignedMedianOf}
 use Rattle.bsi_rows.specs.declared.errors.AskError.{AskError}
 use Rattle.bsi_rows.specs.declared.errors.AskError.TheVariants.{BadColumn, NoMemory}
@@ -9,9 +10,9 @@ use Rattle.bsi_rows.specs.declared.query.Answer.TheVariants.{Count as count_answ
 use Rattle.bsi_rows.specs.declared.query.Pred.{Pred, All, Compare, Null, Both', Either', Not'}
 use Rattle.bsi_rows.specs.declared.query.Query.{Query}
 use Rattle.bsi_rows.specs.declared.query.Total.{Total}
-use Rattle.bsi_rows.specs.declared.query.Total.TheVariants.{Count, Sum, Least, Greatest, Median, Rows}
+use Rattle.bsi_rows.specs.declared.query.Total.TheVariants.{Count, Sum, Least, Greatest, Median, Rank, Rows}
 use Rattle.bsi_schema.specs.Columns.{Declared}
-use Rattle.bsi_rows.specs.Rows.{FedRow, feeders_of, holds, row_entries, selected, values}
+use Rattle.bsi_rows.specs.Rows.{FedRow, feeders_of, selected, values}
 
 -- the answer is a number or none, and this is so of it
 abbrev pub IsValue : (Option ℤ → Type 0) → Answer → Type 0
@@ -30,6 +31,7 @@ IsTotal (Sum c) pred rows answer = answer ≡ sum_answer (signed_sum (values c p
 IsTotal (Least c) pred rows answer = IsValue (IsSignedLeastOf (values c pred rows)) answer
 IsTotal (Greatest c) pred rows answer = IsValue (IsSignedGreatestOf (values c pred rows)) answer
 IsTotal (Median c) pred rows answer = IsValue (IsSignedMedianOf (values c pred rows)) answer
+IsTotal (Rank c rank) pred rows answer = IsValue (IsSignedRankOf rank (values c pred rows)) answer
 IsTotal Rows pred rows answer = IsRows (numbered_at (feeders_of rows) (selected pred rows)) answer
 
 abbrev pub IsAnswer : Query → List FedRow → Answer → Type 0
@@ -55,6 +57,7 @@ columns_of_total (Sum c) = c ∷ []
 columns_of_total (Least c) = c ∷ []
 columns_of_total (Greatest c) = c ∷ []
 columns_of_total (Median c) = c ∷ []
+columns_of_total (Rank c rank) = c ∷ []
 columns_of_total Rows = []
 
 -- the columns that a predicate reads, from left to right

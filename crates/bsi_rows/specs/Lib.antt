@@ -1,6 +1,7 @@
 pub mod Answers
 pub mod ByFeeder
 pub mod Numbering
+pub mod Ranks
 pub mod Refusals
 pub mod RowBlocks
 pub mod Rows

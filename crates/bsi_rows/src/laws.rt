@@ -1,9 +1,11 @@
-//! What follows for every lawful run, as contracts of functions that do nothing: a law is then checked as any
-//! contract is.
+//! What follows for every lawful run, and of medians, as contracts of functions that do nothing: a law is then checked
+//! as any contract is.
 
-ghost use Rattle.std.specs.Prelude.{◌≡◌, List, [], ◌∷◌};
+ghost use Rattle.std.specs.Prelude.{◌≡◌, ◌↔◌, ◌-◌, ◌/◌, ℤ, List, [], ◌∷◌, Option, length};
+ghost use Rattle.bsi_orders.specs.WholeNumbers.{IsSignedMedianOf};
 ghost use Rattle.bsi_rows.specs.declared.event.Event.{Event};
 ghost use Rattle.bsi_rows.specs.declared.event.Reply.{Reply};
+ghost use Rattle.bsi_rows.specs.Ranks.{IsSignedRankOf};
 ghost use Rattle.bsi_rows.specs.Shown.{Shown, IsLawful};
 ghost use Rattle.bsi_rows.specs.Runs.{Done, AreLawful, IsConserved, StaysClosed, past_of, shown_after};
 
@@ -24,4 +26,11 @@ pub fn runs_compose()
 pub fn closed_stays_closed()
     ensures { (s : Shown) → (events : List Event) → (replies : List Reply) →
         AreLawful s (past_of events replies) → StaysClosed s events replies }
+{}
+
+/// States that the lower median is the number of the rank in the middle.
+pub fn median_is_ranked()
+    ensures { (numbers : List ℤ) → (answer : Option ℤ) →
+        IsSignedMedianOf numbers answer
+        ↔ IsSignedRankOf ((length numbers - 1) / 2) numbers answer }
 {}

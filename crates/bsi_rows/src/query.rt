@@ -37,6 +37,8 @@ pub enum Total {
     Greatest(u32),
     /// The lower median of the column's numbers.
     Median(u32),
+    /// The number of this rank, from 0, among the column's numbers.
+    Rank(u32, u64),
     /// Which rows they are.
     Rows,
 }
@@ -57,7 +59,8 @@ pub enum Answer {
     Count(u64),
     /// The sum of the numbers, which is 0 if there are none.
     Sum(i128),
-    /// The least, greatest or median number, or none if there is no number.
+    /// The least, greatest or median number, or none if there is no number. The number of a rank, or none if the rank is
+    /// past the last number.
     Value(Option<i64>),
     /// The feeder of each row and the row's number among that feeder's rows, from 0, in order of the rows.
     Rows(Vec<(u32, u64)>),
@@ -82,9 +85,11 @@ impl Total {
     {
         match self {
             Total::Count | Total::Rows => None,
-            Total::Sum(c) | Total::Least(c) | Total::Greatest(c) | Total::Median(c) => {
-                if c < columns { None } else { Some(c) }
-            }
+            Total::Sum(c)
+            | Total::Least(c)
+            | Total::Greatest(c)
+            | Total::Median(c)
+            | Total::Rank(c, _) => { if c < columns { None } else { Some(c) } }
         }
     }
 }

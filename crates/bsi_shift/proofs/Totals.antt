@@ -1,6 +1,6 @@
 -- Totals of numbers that are stored less an offset.
 use Rattle.std.proofs.Common.{◌≡◌, ℕ, ℤ, pos, neg_ℤ, ◌+ℤ◌, ◌*ℤ◌, ◌≤ℤ◌, ◌<ℤ◌, ◌+◌, ◌*◌, ◌-◌, ◌<◌, ◌≤◌, ◌^◌, suc, Bool, true, false, cond, List, [], ◌∷◌, Option, Some, None, length, map, ap, ap₂, sym, subst, ◌∙◌, refl, arith}
-use Rattle.std.specs.Prelude.{All, Contains, IfSome, count_by, sum, nat_le, nat_lt, int_le, int_lt}
+use Rattle.std.specs.Prelude.{All, Contains, IfSome, count_by, sum, nat_eq, nat_le, nat_lt, int_le, int_lt}
 use Rattle.std.specs.Option.{option_map}
 use Rattle.std.proofs.Math.IntN.{suc_ℤ-*ℤ, *ℤ_comm}
 use Rattle.std.proofs.lemmas.Bool.Decides.{nat_tests}
@@ -11,11 +11,13 @@ use Rattle.std.proofs.lemmas.List.Sums.{sum_by-cons}
 use mir.Syntax.{w64}
 use mir.Val.{SFits}
 use Rattle.bsi_slices.proofs.CallerLemmas.{count_cons}
+use Rattle.bsi_slices.proofs.Ranking.{count_split, member_from_count}
 use Rattle.bsi_orders.specs.Orders.{values_at}
 use Rattle.bsi_orders.specs.Rows.{number_or_zero}
-use Rattle.bsi_orders.specs.Totals.{IsLeastOf, IsGreatestOf, IsMedianOf}
+use Rattle.bsi_orders.specs.Totals.{IsLeastOf, IsGreatestOf, IsMedianOf, IsRanked}
 use Rattle.bsi_columns.specs.AnyRows.{any_entries}
 use Rattle.bsi_columns.specs.declared.any.AnyColumn.{AnyColumn}
+use Rattle.bsi_shift.specs.Ranks.{IsSignedRanked}
 use Rattle.bsi_shift.specs.Shifted.{number_of, shifted_entries, OffsetColumn}
 use Rattle.bsi_orders.specs.WholeNumbers.{signed_sum, IsSignedLeastOf, IsSignedGreatestOf, IsSignedMedianOf}
 use Rattle.bsi_shift.proofs.Shifting.{values_at-shifted_entries}
@@ -92,7 +94,25 @@ module _ (offset : ℤ) where
         fewer_below = omega (arith, is.fewer_below, many, count_from (λ n. nat_lt n m) (λ x. int_lt x (number_of offset m)) (λ n. below_from n m) numbers);
       }
 
+  pub ranked_from : (rank : ℕ) (numbers : List ℕ) (m : ℕ) → IsRanked numbers rank m → IsSignedRanked rank (map (number_of offset) numbers) (number_of offset m)
+  ranked_from rank numbers m is = (
+    omega (arith, is.low, count_from (λ n. nat_lt n m) (λ x. int_lt x (number_of offset m)) (λ n. below_from n m) numbers),
+    omega (arith, is.high, count_from (λ n. nat_le n m) (λ x. int_le x (number_of offset m)) (λ n. at_most_from n m) numbers),
+  )
+
+  pub past_from : (rank : ℕ) (numbers : List ℕ) → length numbers ≤ rank → length (map (number_of offset) numbers) ≤ rank
+  past_from rank numbers past = omega (arith, past, length-map numbers (number_of offset))
+
 -- ---- the answer is one of the numbers, so it is below the size
+
+-- more numbers are at most that of a rank than below it, so it is one of them
+ranked_member : (numbers : List ℕ) (rank m : ℕ) → IsRanked numbers rank m → Contains numbers m
+ranked_member numbers rank m is =
+    let split = count_split (λ n. nat_lt n m) (λ n. nat_eq n m) (λ n. nat_le n m) below_or_same numbers in
+    member_from_count m numbers (omega (arith, is.low, is.high, split))
+  where
+    below_or_same : (n : ℕ) → cond (nat_le n m) 1 0 ≡ cond (nat_lt n m) 1 0 + cond (nat_eq n m) 1 0
+    below_or_same n = grind (arith, nat_tests)
 
 module _ (size : ℕ) where
   numbers_below : (found : List Bool) (stored : List (Option ℕ)) → All (λ e. number_or_zero e < size) stored → All (λ n. n < size) (values_at found stored)
@@ -119,6 +139,9 @@ module _ (size : ℕ) where
     pub median_below : (answer : Option ℕ) → IsMedianOf (values_at found stored) answer → IfSome answer (λ m. m < size)
     median_below None none = tt
     median_below (Some m) is = member_below m is.member
+
+    pub ranked_below : (rank m : ℕ) → IsRanked (values_at found stored) rank m → m < size
+    ranked_below rank m is = member_below m (ranked_member (values_at found stored) rank m is)
 
 -- ---- the answer of a column, from that of the stored one
 

@@ -32,6 +32,7 @@ pub(crate) fn answer_total(
         Total::Least(c) => Ok(Answer::Value(columns[c as usize].least(found)?)),
         Total::Greatest(c) => Ok(Answer::Value(columns[c as usize].greatest(found)?)),
         Total::Median(c) => Ok(Answer::Value(columns[c as usize].median(found)?)),
+        Total::Rank(c, rank) => Ok(Answer::Value(columns[c as usize].ranked(found, rank)?)),
         Total::Rows => Ok(Answer::Rows(number_rows(alloc, found, origins)?)),
     }
 }

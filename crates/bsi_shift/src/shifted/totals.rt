@@ -6,6 +6,7 @@ ghost use Rattle.bsi_digits.specs.Digits.{max_size};
 ghost use Rattle.bsi_digits.specs.Signed.{end_of_i64};
 ghost use Rattle.bsi_bits.specs.BitList.{max_len, sum_end};
 ghost use Rattle.bsi_orders.specs.Orders.{values_at};
+ghost use Rattle.bsi_shift.specs.Ranks.{IsSignedRankOf};
 ghost use Rattle.bsi_shift.specs.Shifted.{number_of, shifted_entries};
 ghost use Rattle.bsi_orders.specs.WholeNumbers.{signed_sum, IsSignedLeastOf, IsSignedGreatestOf, IsSignedMedianOf};
 
@@ -55,6 +56,20 @@ impl Shifted {
             (values_at found.now.bits (shifted_entries self.now))) }
     {
         Ok(number_from(self.offset, self.stored.median(found)?))
+    }
+
+    /// Returns the number of a rank, from 0, among the numbers at the rows of a found set, or none if the rank is past the
+    /// last. It takes memory as `median` does.
+    pub fn ranked(&self, found: &Bits, rank: u64) -> Result<Option<i64>, NoMemory>
+        requires { length (shifted_entries self.now) ≡ length found.now.bits }
+        ensures { IfOk result (IsSignedRankOf rank
+            (values_at found.now.bits (shifted_entries self.now))) }
+    {
+        if self.stored.count_numbers(found) <= rank {
+            return Ok(None);
+        }
+        let number = self.stored.ranked(found, rank)?;
+        Ok(number_from(self.offset, Some(number)))
     }
 }
 

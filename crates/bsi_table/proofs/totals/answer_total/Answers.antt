@@ -4,6 +4,7 @@ use Rattle.bsi_rows.specs.Numbering.{numbered_at}
 use Rattle.bsi_orders.specs.WholeNumbers.{signed_sum, IsSignedLeastOf, IsSignedGreatestOf, IsSignedMedianOf}
 use Rattle.bsi_rows.specs.declared.query.Answer.TheVariants.{Count, Sum, Value, Rows}
 use Rattle.bsi_rows.specs.Answers.{columns_of_total, missing_of, IsTotal}
+use Rattle.bsi_rows.specs.Ranks.{IsSignedRankOf}
 use Rattle.bsi_table.specs.Kept.{fed_rows}
 use Rattle.bsi_rows.proofs.Missing.{there}
 use Rattle.bsi_table.proofs.TableRows.{count-found, even-found, feeders-fed_rows, length-found, set_places-found, values-found}
@@ -78,6 +79,22 @@ returns-in_ok-median-in-Median c =
     let answer = c.in_ok-median-in-Median.field-0 in
     subst (λ t. IsTotal t c.args.query.now.pred rows (Value answer)) (sym c.in-Median.is)
     (subst (λ numbers. IsSignedMedianOf numbers answer) values c.in_ok-median-in-Median.ensures)
+
+pub ranked-requires : goal.ranked-requires
+ranked-requires c =
+    let columns = c.args.columns.now in
+    let within = there (length columns) c.in-Rank.c (ap (λ t. missing_of (length columns) (columns_of_total t)) (sym c.in-Rank.is) ∙ c.requires.there) in
+    even-found c.args.origins.now.rows columns c.args.query.now.pred c.args.found.now.bits c.requires.found c.requires.even c.in-Rank.c c.index-columns-c-in-Rank.result within c.index-columns-c-in-Rank.is
+
+pub returns-in_ok-ranked-in-Rank : goal.returns-in_ok-ranked-in-Rank
+returns-in_ok-ranked-in-Rank c =
+    let columns = c.args.columns.now in
+    let rows = fed_rows c.args.origins.now.rows columns in
+    let within = there (length columns) c.in-Rank.c (ap (λ t. missing_of (length columns) (columns_of_total t)) (sym c.in-Rank.is) ∙ c.requires.there) in
+    let values = values-found c.args.origins.now.rows c.args.columns.now c.args.query.now.pred c.args.found.now.bits c.requires.found c.requires.even c.in-Rank.c c.index-columns-c-in-Rank.result within c.index-columns-c-in-Rank.is in
+    let answer = c.in_ok-ranked-in-Rank.field-0 in
+    subst (λ t. IsTotal t c.args.query.now.pred rows (Value answer)) (sym c.in-Rank.is)
+    (subst (λ numbers. IsSignedRankOf c.in-Rank.rank numbers answer) values c.in_ok-ranked-in-Rank.ensures)
 
 pub number_rows-requires : goal.number_rows-requires
 number_rows-requires c = length-found c.args.origins.now.rows c.args.columns.now c.args.query.now.pred c.args.found.now.bits c.requires.found c.requires.even
