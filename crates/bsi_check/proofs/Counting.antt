@@ -1,15 +1,15 @@
 -- The records of a row file, good ones and bad ones, one after another.
-use Rattle.std.proofs.Common.{◌≡◌, ℕ, ◌+◌, ◌<◌, ◌≤◌, Bool, true, false, List, [], ◌∷◌, ◌++◌, Option, Some, None, IfSome, is_some, option_map, refl, sym, ap, ap₂, subst, ◌∙◌, arith}
+use Rattle.std.proofs.Common.{◌≡◌, ℕ, ◌+◌, ◌<◌, ◌≤◌, true, false, List, [], ◌∷◌, ◌++◌, Option, Some, None, IfSome, is_some, option_map, refl, sym, ap₂, subst, arith}
 use Rattle.csv.specs.Reading.{ReadRecord, source_of, strip_bom}
 use Rattle.csv.specs.declared.reader.Reader.{Reader}
 use Rattle.bsi_rows.specs.Rows.{Entries}
 use Rattle.bsi_records.specs.Numbers.{Field}
 use Rattle.bsi_schema.specs.Columns.{Declared}
 use Rattle.bsi_reading.specs.RowFiles.{good_row, is_header}
-use Rattle.bsi_reading.specs.Sources.{counts_of, max_records, AreCounts, Counts, HasTaken, IsOver, IsPlain, IsWholeFile, Layout, StandsAfter}
+use Rattle.bsi_reading.specs.Sources.{counts_of, max_records, Counts, HasTaken, IsPlain, Layout, StandsAfter}
 use Rattle.bsi_reading.proofs.Joining.{is_whole, taken_both}
-use Rattle.bsi_reading.proofs.Taking.{is_over, of_text, taken_bad, taken_good, taken_none, AreTaken}
-use Rattle.bsi_check.specs.Checks.{layout_of, HasCounted, IsCounted}
+use Rattle.bsi_reading.proofs.Taking.{has_more, is_over, of_text, taken_bad, taken_good, taken_none, AreTaken}
+use Rattle.bsi_check.specs.Checks.{layout_of, HasCounted, HasTooMany, IsCounted}
 use Rattle.bsi_check.specs.declared.found.FileCounts.{FileCounts}
 
 -- where the count of records stands between two of them
@@ -79,6 +79,16 @@ module _ {R : Type 0} (rem : R → Option (List ℕ)) (layout : Layout) (old b :
     rows = are.rows;
     taken = subst (λ (cs : Counts). HasTaken rem layout old b (counts_of 0 0) cs are.rows) (ap₂ (λ m n. counts_of m n) (sym many) (sym others)) are.taken;
     over = is_over rem old b c fields are.plain.config none;
+  }
+
+  -- the most records were read, and there is one more
+  pub counted_long : (c : Reader R) (fields : List Field) → max_records ≤ records → ReadRecord rem b c true fields → HasTooMany rem old
+  counted_long c fields most next = record {
+    at = b;
+    records = are.taken.records;
+    read = are.taken.read;
+    many = omega (arith, are.taken.taken, are.few, most);
+    more = has_more rem old b c fields are.plain.config next;
   }
 
 -- a file whose header was read, and then its records

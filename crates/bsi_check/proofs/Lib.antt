@@ -2,3 +2,4 @@ mod Asking
 mod Counting
 mod Joined
 mod Telling
+mod Unread

@@ -1,20 +1,22 @@
 -- What a check finds of the files of a run, and when it tells reasons.
-use Rattle.std.specs.Io.KnownBytes.{Appends}
-use Rattle.std.specs.Prelude.{◌≡◌, ⊤, ◌⊎◌, ℕ, suc, ◌+◌, ◌-◌, ◌<◌, ◌≤◌, Bool, true, false, ◌&&◌, nat_eq, List, [], ◌∷◌, ◌++◌, length, map, sum, Option, None, Some, IfSome, option_and_then}
+use Rattle.std.specs.Prelude.{◌≡◌, ⊤, ◌⊎◌, ℕ, ◌+◌, ◌<◌, ◌≤◌, Bool, true, false, nat_eq, List, [], ◌∷◌, length, Option, None, Some}
 use Rattle.csv.specs.Reading.{strip_bom}
+use Rattle.csv.specs.declared.parser.State.{State}
 use Rattle.csv.specs.declared.reader.Reader.{Reader}
 use Rattle.bsi_records.specs.Events.{IsQuery}
-use Rattle.bsi_records.specs.Lines.{fed_line}
 use Rattle.bsi_records.specs.Numbers.{Field}
 use Rattle.bsi_rows.specs.Rows.{Entries}
 use Rattle.bsi_rows.specs.declared.query.Query.{Query}
 use Rattle.bsi_schema.specs.Columns.{Declared}
 use Rattle.bsi_reading.specs.RowFiles.{is_header}
 use Rattle.bsi_reading.specs.SchemaTexts.{IsSchemaFault, IsSchemaText}
-use Rattle.bsi_reading.specs.Sources.{counts_of, max_records, HasNoHeader, HasTaken, IsOver, IsWholeFile, Layout}
-use Rattle.bsi_reading.specs.Texts.{AreAllRecords}
+use Rattle.bsi_reading.specs.Sources.{counts_of, max_records, HasNext, HasNoHeader, HasRead, HasTaken, IsOver, IsWholeFile, Layout}
+use Rattle.bsi_reading.specs.Texts.{AreAllRecords, AreFirstRecords, AreTooMany}
+use Rattle.bsi_reading.specs.declared.rows.SourceFault.TheVariants as source
 use Rattle.bsi_reading.specs.declared.schema_text.SchemaFault.{SchemaFault}
 use Rattle.bsi_records.specs.declared.setups.DeclaredTable.{DeclaredTable}
+use Rattle.bsi_check.specs.declared.found.AsksFound.{AsksFound}
+use Rattle.bsi_check.specs.declared.found.AsksFound.TheVariants as asks
 use Rattle.bsi_check.specs.declared.found.FileCounts.{FileCounts}
 use Rattle.bsi_check.specs.declared.found.FileFound.{FileFound}
 use Rattle.bsi_check.specs.declared.found.FileFound.TheVariants.{Counted, NoHeader, Unread}
@@ -39,6 +41,14 @@ pub record HasCounted {R : Type 0} (rem : R → Option (List ℕ)) (layout : Lay
   pub taken : HasTaken rem layout input at (counts_of 0 0) (counts_of counts.records counts.bad) rows
   pub over : IsOver rem at
 
+-- a reader has read 1,000,000 records, and has one more
+pub record HasTooMany {R : Type 0} (rem : R → Option (List ℕ)) (input : Reader R) : Type 0 where
+  pub at : Reader R
+  pub records : List (List Field)
+  pub read : HasRead rem input at records
+  pub many : length records ≡ max_records
+  pub more : HasNext rem at
+
 -- the text is a row file of this schema, with so many records after its header, of which so many are bad
 pub record IsCounted (schema : Declared) (counts : FileCounts) (text : List ℕ) : Type 0 where
   pub header : List Field
@@ -47,10 +57,22 @@ pub record IsCounted (schema : Declared) (counts : FileCounts) (text : List ℕ)
   pub whole : IsWholeFile (layout_of schema header) (strip_bom text) (counts_of 0 0)
       (counts_of counts.records counts.bad) rows
 
--- what is found of a row file of this text
+-- the text is a header of this schema, and 1,000,000 records and one more follow it
+pub record IsTooLongFile (schema : Declared) (text : List ℕ) : Type 0 where
+  pub header : List Field
+  pub records : List (List Field)
+  pub state : State
+  pub rest : List ℕ
+  pub named : is_header schema header ≡ true
+  pub first : AreFirstRecords text (header ∷ records) state rest
+  pub too_long : AreTooMany records state rest
+
+-- what is found of a row file of this text; a fault that is of the reader or of memory says nothing of the text
 abbrev pub IsFound : Declared → FileFound → List ℕ → Type 0
 IsFound schema (Counted counts) text = IsCounted schema counts text
 IsFound schema NoHeader text = HasNoHeader schema (strip_bom text)
+IsFound schema (Unread source.TooLong) text = IsTooLongFile schema text
+IsFound schema (Unread source.BadHeader) text = ⊥
 IsFound schema (Unread fault) text = ⊤
 
 -- all its records are good
@@ -95,7 +117,22 @@ pub record AreCountedAsks (schema : Declared) (bad : ℕ) (text : List ℕ) : Ty
   pub few : length records ≤ max_records
   pub asked : HaveBadAsks schema records bad
 
+-- the text has 1,000,000 records, and one more
+pub record AreTooManyAsks (text : List ℕ) : Type 0 where
+  pub records : List (List Field)
+  pub state : State
+  pub rest : List ℕ
+  pub first : AreFirstRecords text records state rest
+  pub too_long : AreTooMany records state rest
+
+-- what is found of the asks of this text; a fault that is of the reader or of memory says nothing of the text
+abbrev pub IsAsksFound : Declared → AsksFound → List ℕ → Type 0
+IsAsksFound schema (asks.Counted bad) text = AreCountedAsks schema bad text
+IsAsksFound schema (asks.Unread source.TooLong) text = AreTooManyAsks text
+IsAsksFound schema (asks.Unread source.BadHeader) text = ⊥
+IsAsksFound schema (asks.Unread fault) text = ⊤
+
 -- the asks were read to their end, and none is bad
-abbrev pub has_good_asks : Option ℕ → Bool
-has_good_asks None = false
-has_good_asks (Some bad) = nat_eq bad 0
+abbrev pub has_good_asks : AsksFound → Bool
+has_good_asks (asks.Counted bad) = nat_eq bad 0
+has_good_asks (asks.Unread fault) = false

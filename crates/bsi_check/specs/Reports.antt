@@ -1,12 +1,13 @@
 -- What a check of all files of a run writes.
 use Rattle.std.specs.Io.KnownBytes.{Appends}
-use Rattle.std.specs.Prelude.{◌≡◌, ⊤, ◌⊎◌, ℕ, suc, ◌-◌, ◌<◌, ◌≤◌, Bool, ◌&&◌, nat_eq, nat_le, List, [], ◌∷◌, ◌++◌, length, map, sum, Option, None, Some, IfSome, option_and_then}
+use Rattle.std.specs.Prelude.{◌≡◌, ⊤, ◌⊎◌, ℕ, suc, ◌-◌, ◌<◌, Bool, ◌&&◌, nat_eq, nat_le, List, [], ◌∷◌, ◌++◌, length, map, sum, Option, None, Some, IfSome}
 use Rattle.std.specs.List.{list_all}
 use Rattle.bsi_records.specs.Lines.{fed_line}
 use Rattle.bsi_records.specs.declared.setups.DeclaredTable.{DeclaredTable}
 use Rattle.bsi_rows.specs.Table.{max_feeders}
-use Rattle.bsi_check.specs.Checks.{has_good_asks, is_clean, AreCountedAsks, IsFound, IsSchemaFound, TellsUnless}
+use Rattle.bsi_check.specs.Checks.{has_good_asks, is_clean, IsAsksFound, IsFound, IsSchemaFound, TellsUnless}
 use Rattle.bsi_check.specs.declared.named.NamedFile.{NamedFile}
+use Rattle.bsi_check.specs.declared.found.AsksFound.{AsksFound}
 use Rattle.bsi_check.specs.declared.found.FileFound.{FileFound}
 use Rattle.bsi_check.specs.declared.found.FileFound.TheVariants.{Counted}
 
@@ -36,7 +37,7 @@ abbrev pub text_of : {S : Type 0} → (S → Option (List ℕ)) → NamedFile S 
 text_of rem file = rem file.reader
 
 -- each row file is read to its end, and all its records are good; these are within the limit; and each ask is a query
-abbrev pub are_good : ℕ → List FileFound → Option ℕ → Bool
+abbrev pub are_good : ℕ → List FileFound → AsksFound → Bool
 are_good limit files asks = list_all is_clean files && (nat_le (sum (map good_rows files)) limit && has_good_asks asks)
 
 -- the schema is one, and there are reasons just where a file is not good; then come the lines of the row files
@@ -44,10 +45,10 @@ pub record IsJudged (declared : Option (List ℕ)) (texts : List (Option (List �
     (reasons fed : List ℕ) : Type 0 where
   pub table : DeclaredTable
   pub files : List FileFound
-  pub asks : Option ℕ
+  pub asks : AsksFound
   pub schema_is : IfSome declared (IsSchemaFound (Some table))
   pub files_are : AreMatched (λ text file. IfSome text (IsFound table.schema file)) texts files
-  pub asks_are : IfSome asks (λ bad. IfSome asked (AreCountedAsks table.schema bad))
+  pub asks_are : IfSome asked (IsAsksFound table.schema asks)
   pub told : TellsUnless (are_good table.limit files asks) [] reasons
   pub fed_is : fed ≡ fed_text 0 files
 

@@ -6,9 +6,10 @@ ghost use Rattle.csv.specs.Records.{fields_of};
 ghost use Rattle.csv.specs.declared.parser.State.TheVariants as st;
 ghost use Rattle.bsi_reading.specs.Sources.{IsPlain};
 ghost use Rattle.bsi_reading.specs.Texts.{FromText};
-ghost use Rattle.bsi_check.specs.Checks.{has_good_asks, AreCountedAsks, IsAskVerdict, TellsUnless};
+ghost use Rattle.bsi_check.specs.Checks.{has_good_asks, AreCountedAsks, AreTooManyAsks, IsAskVerdict, IsAsksFound, TellsUnless};
 
 use crate::NoMemory;
+use crate::found::AsksFound;
 use crate::lines::{LineEnds, MAX_TOLD, tell_at, tell_more};
 use crate::rows::tell_unread;
 use bsi_reading::{MAX_RECORDS, SourceFault, plain_reader, read_next};
@@ -20,16 +21,16 @@ use std::alloc::Global;
 use std::io::Read;
 
 /// Reads the asks to their end, and adds the reason of each that is no query to `reasons`, at most 100 of them. It
-/// returns how many are none, or nothing, with the reason added, if the asks can't be read or are more than 1,000,000.
+/// returns how many are none, or, with the reason added, why the asks were not read to their end.
 pub(crate) fn check_asks<A: Read + Drop>(
     alloc: Global,
     schema: &Schema,
     path: &str,
     asks: A,
     reasons: &mut Vec<u8>,
-) -> Result<Option<u64>, NoMemory>
-    ensures found { IfOk result (λ found. IfSome found (λ bad.
-        IfSome (A.remaining asks) (AreCountedAsks schema.now bad))) }
+) -> Result<AsksFound, NoMemory>
+    ensures found { IfOk result (λ found.
+        IfSome (A.remaining asks) (IsAsksFound schema.now found)) }
     ensures told { IfOk result (λ found.
         TellsUnless (has_good_asks found) reasons.old.items reasons.new.items) }
 {
@@ -39,11 +40,11 @@ pub(crate) fn check_asks<A: Read + Drop>(
             if bad > MAX_TOLD {
                 tell_more(alloc, reasons, path, bad)?;
             }
-            Ok(Some(bad))
+            Ok(AsksFound::Counted(bad))
         }
         Err(fault) => {
             tell_unread(alloc, path, fault, reasons)?;
-            Ok(None)
+            Ok(AsksFound::Unread(fault))
         }
     }
 }
@@ -65,6 +66,9 @@ fn count_asks<A: Read + Drop>(
         TellsUnless (nat_eq bad 0) reasons.old.items reasons.new.items) }
     ensures kept { IfErr result (λ fault. fault ≢ SourceFault.NoMemory →
         length reasons.old.items ≤ length reasons.new.items) }
+    ensures later { IfErr result (λ fault. fault ≢ SourceFault.BadHeader) }
+    ensures too_long { IfErr result (λ fault. fault ≡ SourceFault.TooLong →
+        FromText (source_of A.remaining input.old) AreTooManyAsks) }
 {
     let (mut records, mut bad) = (0u64, 0u64);
     let mut fields = ByteRecord::new(alloc);

@@ -3,13 +3,13 @@
 ghost use Rattle.std.specs.Prelude.{◌≡◌, ◌≤◌, ◌++◌, Err, length, map, nat_le, option_and_then, sum, IfOk, IfSome, OnOk};
 ghost use Rattle.std.specs.List.{list_all};
 ghost use Rattle.bsi_rows.specs.Table.{max_feeders};
-ghost use Rattle.bsi_check.specs.Checks.{has_good_asks, is_clean, AreCountedAsks, IsFound, TellsUnless};
+ghost use Rattle.bsi_check.specs.Checks.{has_good_asks, is_clean, IsAsksFound, IsFound, TellsUnless};
 ghost use Rattle.bsi_check.specs.Reports.{fed_text, good_rows, line_of, text_of, AreMatched, HasReported, IsReport};
 
 use crate::NoMemory;
 use crate::asks::check_asks;
 use crate::fault::CheckFault;
-use crate::found::FileFound;
+use crate::found::{AsksFound, FileFound};
 use crate::lines::tell;
 use crate::named::NamedFile;
 use crate::rows::check_rows;
@@ -141,15 +141,15 @@ fn check_given<'a, S: Read + Drop>(
     schema: &Schema,
     asks: Option<NamedFile<'a, S>>,
     reasons: &mut Vec<u8>,
-) -> Result<Option<u64>, NoMemory>
-    ensures found { IfOk result (λ found. IfSome found (λ bad.
-        IfSome (option_and_then (text_of S.remaining) asks.entry) (AreCountedAsks schema.now bad))) }
+) -> Result<AsksFound, NoMemory>
+    ensures found { IfOk result (λ found.
+        IfSome (option_and_then (text_of S.remaining) asks.entry) (IsAsksFound schema.now found)) }
     ensures told { IfOk result (λ found.
         TellsUnless (has_good_asks found) reasons.old.items reasons.new.items) }
 {
     match asks {
         Some(NamedFile { path, reader }) => check_asks(alloc, schema, path, reader, reasons),
-        None => Ok(Some(0)),
+        None => Ok(AsksFound::Counted(0)),
     }
 }
 

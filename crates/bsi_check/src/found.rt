@@ -1,4 +1,4 @@
-//! What a check finds of a row file.
+//! What a check finds of a row file, and of the asks.
 ghost use Rattle.std.specs.Prelude.{◌≤◌};
 ghost use Rattle.bsi_reading.specs.Sources.{max_records};
 
@@ -40,4 +40,13 @@ impl FileFound {
             FileFound::NoHeader | FileFound::Unread(_) => 0,
         }
     }
+}
+
+/// What a check finds of the asks.
+#[derive(Clone, Copy, Debug)]
+pub enum AsksFound {
+    /// They were read to their end, and so many of them are no queries.
+    Counted(u64),
+    /// They can't be read, or are more than 1,000,000.
+    Unread(SourceFault),
 }

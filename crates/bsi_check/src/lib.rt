@@ -16,5 +16,5 @@ mod schema;
 pub use bsi_records::NoMemory;
 pub use check::check_files;
 pub use fault::CheckFault;
-pub use found::{FileCounts, FileFound};
+pub use found::{AsksFound, FileCounts, FileFound};
 pub use named::NamedFile;

@@ -7,7 +7,7 @@ ghost use Rattle.csv.specs.declared.parser.State.TheVariants as st;
 ghost use Rattle.bsi_reading.specs.RowFiles.{good_row};
 ghost use Rattle.bsi_reading.specs.Sources.{IsPlain};
 ghost use Rattle.bsi_reading.specs.Texts.{FromText};
-ghost use Rattle.bsi_check.specs.Checks.{is_clean, HasCounted, IsFound, TellsUnless};
+ghost use Rattle.bsi_check.specs.Checks.{is_clean, HasCounted, HasTooMany, IsFound, IsTooLongFile, TellsUnless};
 
 use crate::NoMemory;
 use crate::found::{FileCounts, FileFound};
@@ -56,6 +56,9 @@ fn check_input<I: Read + Drop>(
         TellsUnless (is_clean found) reasons.old.items reasons.new.items) }
     ensures kept { IfErr result (λ fault. fault ≢ SourceFault.NoMemory →
         length reasons.old.items ≤ length reasons.new.items) }
+    ensures later { IfErr result (λ fault. fault ≢ SourceFault.BadHeader) }
+    ensures too_long { IfErr result (λ fault. fault ≡ SourceFault.TooLong →
+        FromText (source_of I.remaining input.old) (IsTooLongFile schema.now)) }
 {
     let mut header = ByteRecord::new(alloc);
     if !read_next(input, &mut header)? {
@@ -104,6 +107,9 @@ fn check_records<I: Read + Drop>(
         TellsUnless (nat_eq counts.bad 0) reasons.old.items reasons.new.items) }
     ensures kept { IfErr result (λ fault. fault ≢ SourceFault.NoMemory →
         length reasons.old.items ≤ length reasons.new.items) }
+    ensures later { IfErr result (λ fault. fault ≢ SourceFault.BadHeader) }
+    ensures too_long { IfErr result (λ fault. fault ≡ SourceFault.TooLong →
+        HasTooMany I.remaining input.old) }
 {
     let counts = count_records(alloc, layout, ends, path, input, reasons)?;
     if counts.bad > MAX_TOLD {
@@ -127,6 +133,9 @@ fn count_records<I: Read + Drop>(
         TellsUnless (nat_eq counts.bad 0) reasons.old.items reasons.new.items) }
     ensures kept { IfErr result (λ fault. fault ≢ SourceFault.NoMemory →
         length reasons.old.items ≤ length reasons.new.items) }
+    ensures later { IfErr result (λ fault. fault ≢ SourceFault.BadHeader) }
+    ensures too_long { IfErr result (λ fault. fault ≡ SourceFault.TooLong →
+        HasTooMany I.remaining input.old) }
 {
     let (mut records, mut bad) = (0u64, 0u64);
     let mut fields = ByteRecord::new(alloc);

@@ -2,8 +2,7 @@ use Rattle.std.proofs.Common.{◌≡◌, ◌+◌, true, false, rules, arith, ref
 use Rattle.csv.specs.Reading.{ReadRecord}
 use Rattle.csv.specs.Records.{fields_of}
 use Rattle.bsi_reading.specs.RowFiles.{good_row}
-use Rattle.bsi_check.specs.Checks.{TellsUnless}
-use Rattle.bsi_check.proofs.Counting.{counted_all, counted_bad, counted_good, counted_none}
+use Rattle.bsi_check.proofs.Counting.{counted_all, counted_bad, counted_good, counted_long, counted_none}
 use Rattle.bsi_check.proofs.Telling.{grows, tells_some, told_some}
 use Rattle.bsi_check.proofs.rows.count_records.Goals as goal
 
@@ -26,7 +25,7 @@ records-preserved-then-good g c =
     let good : true ≡ is_some (good_row c.args.layout.now.schema c.args.layout.now.header fields) = sym c.if-good.true ∙ c.in_ok-good.ensures in
     record {
       counted = counted_good g.I.Read.remaining c.args.layout.now c.args.input.now c.records.input c.records.records c.records.bad
-          c.records.invariant.counted c.read_next.new.input fields next c.in_ok-read_next.ensures.plain c.records-test.true good;
+          c.records.invariant.counted c.read_next.new.input fields next c.in_ok-read_next.ensures.plain (omega (arith, c.records-test.true)) good;
       told = c.records.invariant.told;
     }
 
@@ -38,7 +37,7 @@ records-preserved-in_ok-tell_bad_record g c =
     let bad : false ≡ is_some (good_row c.args.layout.now.schema c.args.layout.now.header fields) = sym c.if-good.false ∙ c.in_ok-good.ensures in
     record {
       counted = counted_bad g.I.Read.remaining c.args.layout.now c.args.input.now c.records.input c.records.records c.records.bad
-          c.records.invariant.counted c.read_next.new.input fields next c.in_ok-read_next.ensures.plain c.records-test.true bad;
+          c.records.invariant.counted c.read_next.new.input fields next c.in_ok-read_next.ensures.plain (omega (arith, c.records-test.true)) bad;
       told = tells_some (c.records.bad + 1) c.args.reasons.now.items c.tell_bad_record.new.reasons.items (omega arith)
           (omega (arith, grows _ c.args.reasons.now.items c.records.reasons.items c.records.invariant.told, c.in_ok-tell_bad_record.ensures));
     }
@@ -51,7 +50,7 @@ records-preserved g c =
     let bad : false ≡ is_some (good_row c.args.layout.now.schema c.args.layout.now.header fields) = sym c.if-good.false ∙ c.in_ok-good.ensures in
     record {
       counted = counted_bad g.I.Read.remaining c.args.layout.now c.args.input.now c.records.input c.records.records c.records.bad
-          c.records.invariant.counted c.read_next.new.input fields next c.in_ok-read_next.ensures.plain c.records-test.true bad;
+          c.records.invariant.counted c.read_next.new.input fields next c.in_ok-read_next.ensures.plain (omega (arith, c.records-test.true)) bad;
       told = tells_some (c.records.bad + 1) c.args.reasons.now.items c.records.reasons.items (omega arith)
           (told_some c.records.bad c.args.reasons.now.items c.records.reasons.items (omega (arith, c.if-bad-le-MAX_TOLD.false)) c.records.invariant.told);
     }
@@ -61,3 +60,10 @@ returns-clause-counted g c =
     let none : ReadRecord g.I.Read.remaining c.records.input c.read_next-2.new.input false (fields_of c.read_next-2.new.fields) = search rules in
     counted_all g.I.Read.remaining c.args.layout.now c.args.input.now c.records.input c.records.records c.records.bad
     c.records.invariant.counted c.read_next-2.new.input (fields_of c.read_next-2.new.fields) _ refl refl none
+
+-- and one more than the most
+pub returns-then-branch-clause-too_long : goal.returns-then-branch-clause-too_long
+returns-then-branch-clause-too_long g c = λ is.
+    let next : ReadRecord g.I.Read.remaining c.records.input c.read_next-2.new.input true (fields_of c.read_next-2.new.fields) = search rules in
+    counted_long g.I.Read.remaining c.args.layout.now c.args.input.now c.records.input c.records.records c.records.bad
+    c.records.invariant.counted c.read_next-2.new.input (fields_of c.read_next-2.new.fields) (omega (arith, c.records-test.false)) next

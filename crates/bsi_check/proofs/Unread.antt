@@ -1,0 +1,39 @@
+-- Row files that were not read to their end.
+use Rattle.std.proofs.Common.{◌≡◌, ℕ, true, List, [], ◌∷◌, Option, Some, None, IsSome, IfSome, Result, Ok, Err, option_map, subst}
+use Rattle.std.specs.Prelude.{IfErr, IsErrAnd}
+use Rattle.csv.specs.Machine.{next_record}
+use Rattle.csv.specs.Reading.{ReadRecord, default_config, reader_config, reader_state, source_of, strip_bom}
+use Rattle.csv.specs.declared.parser.State.TheVariants as st
+use Rattle.csv.specs.declared.reader.Reader.{Reader}
+use Rattle.bsi_records.specs.Numbers.{Field}
+use Rattle.bsi_schema.specs.Columns.{Declared}
+use Rattle.bsi_reading.specs.RowFiles.{is_header}
+use Rattle.bsi_reading.proofs.FirstRecords.{first_join, first_more, first_none}
+use Rattle.bsi_reading.proofs.Taking.{one_read}
+use Rattle.bsi_check.specs.Checks.{HasTooMany, IsTooLongFile}
+
+-- a header was read, and then too many records
+pub long_file : {R : Type 0} (rem : R → Option (List ℕ)) (schema : Declared) (header : List Field) (a b : Reader R) (known : Option (List ℕ))
+    → is_header schema header ≡ true → reader_config a ≡ default_config → reader_state a ≡ st.StartRecord → source_of rem a ≡ option_map strip_bom known
+    → ReadRecord rem a b true header → HasTooMany rem b → IfSome known (IsTooLongFile schema)
+long_file rem schema header a b None named plain start left next many = tt
+long_file rem schema header a b (Some text) named plain start left next many =
+    let one = first_more rem text a b [] header (first_none text (reader_state a) (source_of rem a) start left) (one_read rem a b header plain next) in
+    let all = first_join rem text b many.at (header ∷ []) many.records one many.read in
+    record {
+      header = header;
+      records = many.records;
+      state = reader_state many.at;
+      rest = all.rest;
+      named = named;
+      first = all.first;
+      too_long = (
+        many.many,
+        subst (λ o. IfSome o (λ rest. IsSome (next_record default_config (reader_state many.at) [] [] rest))) all.left many.more,
+      );
+    }
+
+-- a fault that is passed on
+pub passed_on : {T E : Type 0} {P Q : E → Type 0} (r : Result T E) → ((e : E) → P e → Q e) → IsErrAnd r P → IfErr r Q
+passed_on (Ok x) follows p = tt
+passed_on (Err e) follows p = follows e p
