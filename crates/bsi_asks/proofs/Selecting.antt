@@ -5,6 +5,7 @@ use Rattle.std.specs.List.{cons_option, range_with_len}
 use Rattle.std.proofs.lemmas.List.Sorted.{All-permutation, Contains-permutation, IsPermutation-trans, sum_by-IsPermutation}
 use Rattle.std.proofs.lemmas.List.Sums.{sum_by-append}
 use Rattle.bsi_rows.specs.Numbering.{number_within, numbered_at}
+use Rattle.bsi_rows.specs.Ranks.{IsSignedRankOf}
 use Rattle.bsi_orders.specs.WholeNumbers.{IsSignedGreatestOf, IsSignedLeastOf, IsSignedMedianOf}
 use Rattle.bsi_rows.specs.Answers.{IsTotal}
 use Rattle.bsi_rows.specs.Rows.{entry_at, feeders_of, holds, row_at, selected, values, Entries, FedRow}
@@ -13,7 +14,7 @@ use Rattle.bsi_rows.specs.declared.query.Answer.TheVariants.{Count as count_answ
 use Rattle.bsi_rows.specs.declared.query.Pred.{Pred}
 use Rattle.bsi_rows.specs.declared.query.Query.{Query}
 use Rattle.bsi_rows.specs.declared.query.Total.{Total}
-use Rattle.bsi_rows.specs.declared.query.Total.TheVariants.{Count, Sum, Least, Greatest, Median, Rows}
+use Rattle.bsi_rows.specs.declared.query.Total.TheVariants.{Count, Sum, Least, Greatest, Median, Rank, Rows}
 use Rattle.bsi_asks.specs.AskLines.{IsArrangedAnswer}
 use Rattle.bsi_asks.specs.Mixes.{AreAlike}
 use Rattle.bsi_asks.proofs.Mixing.{bump, same_tags, tags, RowCounts, Tag}
@@ -179,6 +180,14 @@ module _ (xs ys : List ℤ) (p : Perm xs ys) where
         fewer_below = omega (arith, long, below, is.fewer_below);
       }
 
+  rank_too : (rank : ℕ) (o : Option ℤ) → IsSignedRankOf rank xs o → IsSignedRankOf rank ys o
+  rank_too rank None is = omega (arith, as_long xs ys p, is)
+  rank_too rank (Some x) is =
+      let perm = is_permutation xs ys p in
+      let at_most = sum_by-IsPermutation (λ y. cond (int_le y x) 1 0) xs ys perm in
+      let below = sum_by-IsPermutation (λ y. cond (int_lt y x) 1 0) xs ys perm in
+      (omega (arith, below, is.0), omega (arith, at_most, is.1))
+
 -- ---- answers
 
 module _ (a b : List FedRow) (alike : AreAlike a b) (pred : Pred) where
@@ -198,6 +207,10 @@ module _ (a b : List FedRow) (alike : AreAlike a b) (pred : Pred) where
   plain_too (Median c) (count_answer n) is plain = absurd is
   plain_too (Median c) (sum_answer n) is plain = absurd is
   plain_too (Median c) (rows_answer n) is plain = absurd is
+  plain_too (Rank c rank) (value_answer o) is plain = rank_too (values c pred a) (values c pred b) (same_values a b alike pred c) rank o is
+  plain_too (Rank c rank) (count_answer n) is plain = absurd is
+  plain_too (Rank c rank) (sum_answer n) is plain = absurd is
+  plain_too (Rank c rank) (rows_answer n) is plain = absurd is
   plain_too Rows answer is plain = absurd (plain refl)
 
 -- an answer as its line shows it is so for any list with the same rows of each feeder

@@ -16,6 +16,7 @@ use Rattle.bsi_rows.specs.declared.event.Reply.{Reply}
 use Rattle.bsi_rows.specs.declared.event.Reply.TheVariants.{Submitted, Loaded, Closed, Answered}
 use Rattle.bsi_rows.specs.Answers.{IsAnswer, IsReply, IsTotal, missing_column}
 use Rattle.bsi_rows.specs.Numbering.{numbered_at}
+use Rattle.bsi_rows.specs.Ranks.{IsSignedRankOf}
 use Rattle.bsi_schema.specs.Columns.{Declared, AreNamed}
 use Rattle.bsi_rows.specs.Rows.{Entries, FedRow, entry_at, feeders_of, holds, row_at, selected, values}
 use Rattle.bsi_rows.specs.declared.errors.AskError.{AskError}
@@ -25,7 +26,7 @@ use Rattle.bsi_rows.specs.declared.query.Answer.TheVariants.{Count as count_answ
 use Rattle.bsi_rows.specs.declared.query.Pred.{Pred}
 use Rattle.bsi_rows.specs.declared.query.Query.{Query}
 use Rattle.bsi_rows.specs.declared.query.Total.{Total}
-use Rattle.bsi_rows.specs.declared.query.Total.TheVariants.{Count, Sum, Least, Greatest, Median, Rows}
+use Rattle.bsi_rows.specs.declared.query.Total.TheVariants.{Count, Sum, Least, Greatest, Median, Rank, Rows}
 use Rattle.bsi_orders.specs.WholeNumbers.{signed_sum, IsSignedGreatestOf, IsSignedLeastOf, IsSignedMedianOf}
 use Rattle.bsi_records.specs.Events.{IsEvent, IsQuery, feeder_event, plain_event, total_of}
 use Rattle.bsi_records.specs.Lines.{answer_line, ask_line, bad_line, done_line, no_memory_line, reply_line, rows_text}
@@ -39,6 +40,7 @@ use Rattle.bsi_records.proofs.EventWords.{no_close_total, no_load_total, no_subm
 use Rattle.bsi_records.proofs.Spelling.{query_is_there, same_query}
 use Rattle.bsi_reading.proofs.Turns.{IsPlain, plain}
 use Rattle.bsi_orders.proofs.Unique.{one_greatest, one_least, one_median}
+use Rattle.bsi_rows.proofs.Ranks.{one_rank}
 
 -- ---- answers to queries of the same meaning
 
@@ -77,6 +79,13 @@ module _ (p q : Pred) (same : (row : Entries) → holds p row ≡ holds q row) (
   same_total (Median c) (value_answer x) (count_answer y) is_a is_b = absurd is_b
   same_total (Median c) (value_answer x) (sum_answer y) is_a is_b = absurd is_b
   same_total (Median c) (value_answer x) (rows_answer y) is_a is_b = absurd is_b
+  same_total (Rank c rank) (value_answer x) (value_answer y) is_a is_b = same_value (IsSignedRankOf rank) (one_rank rank) c x y is_a is_b
+  same_total (Rank c rank) (count_answer x) b is_a is_b = absurd is_a
+  same_total (Rank c rank) (sum_answer x) b is_a is_b = absurd is_a
+  same_total (Rank c rank) (rows_answer x) b is_a is_b = absurd is_a
+  same_total (Rank c rank) (value_answer x) (count_answer y) is_a is_b = absurd is_b
+  same_total (Rank c rank) (value_answer x) (sum_answer y) is_a is_b = absurd is_b
+  same_total (Rank c rank) (value_answer x) (rows_answer y) is_a is_b = absurd is_b
   same_total Rows (rows_answer x) (rows_answer y) is_a is_b =
       ap (λ items. codes "rows" ++ rows_text items ++ codes "\n") (is_a ∙ ap (numbered_at (feeders_of rows)) same_selected ∙ sym is_b)
   same_total Rows (count_answer x) b is_a is_b = absurd is_a
