@@ -65,7 +65,8 @@ impl Shifted {
         ensures { IfOk result (IsSignedRankOf rank
             (values_at found.now.bits (shifted_entries self.now))) }
     {
-        if self.stored.count_numbers(found) <= rank {
+        let count = self.stored.count_numbers(found);
+        if count <= rank {
             return Ok(None);
         }
         let number = self.stored.ranked(found, rank)?;

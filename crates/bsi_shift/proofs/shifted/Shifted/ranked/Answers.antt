@@ -11,15 +11,15 @@ use Rattle.bsi_shift.proofs.Shifting.{length-shifted_entries, fits}
 use Rattle.bsi_shift.proofs.Totals.{answer_from, past_from, ranked_from, ranked_below}
 use Rattle.bsi_shift.proofs.shifted.Shifted.ranked.Goals as goal
 
-pub count_numbers-requires : goal.count_numbers-requires
-count_numbers-requires c = ap (λ v. length (any_entries v.stored)) c.self.view_is ∙ sym (length-shifted_entries c.args.self.now) ∙ c.requires
+pub count_numbers-count-requires : goal.count_numbers-count-requires
+count_numbers-count-requires c = ap (λ v. length (any_entries v.stored)) c.self.view_is ∙ sym (length-shifted_entries c.args.self.now) ∙ c.requires
 
-pub returns-then-count_numbers-rank : goal.returns-then-count_numbers-rank
-returns-then-count_numbers-rank c =
+pub returns-then-count-rank : goal.returns-then-count-rank
+returns-then-count-rank c =
     let inside = c.self.inside in
     let found = c.args.found.now.bits in
     answer_from (IsSignedRankOf c.args.rank) inside.offset inside.stored c.args.self.now found None None c.self.view_is refl
-    (past_from inside.offset c.args.rank (values_at found (any_entries inside.stored)) (omega (arith, c.if-count_numbers-rank.true, c.count_numbers.ensures)))
+    (past_from inside.offset c.args.rank (values_at found (any_entries inside.stored)) (omega (arith, c.if-count-rank.true, c.count_numbers-count.ensures)))
 
 pub ranked-requires-clause-same : goal.ranked-requires-clause-same
 ranked-requires-clause-same c = ap (λ v. length (any_entries v.stored)) c.self.view_is ∙ sym (length-shifted_entries c.args.self.now) ∙ c.requires
