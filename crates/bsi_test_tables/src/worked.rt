@@ -75,6 +75,37 @@ fn index_calls(rt: HostRuntime) {
     }
 }
 
+// Whether the number of this rank among all rows is the wanted one.
+fn has_rank(index: &Index, rank: u64, wanted: Option<i64>) -> bool {
+    answer(index, Total::Rank(0, rank), Pred::All) == Ok(Answer::Value(wanted))
+}
+
+// Whether the numbers of three rows are found by their ranks, and none past the last.
+fn has_three_ranks(index: &Index) -> bool {
+    has_rank(index, 0, Some(1))
+        && has_rank(index, 1, Some(2))
+        && has_rank(index, 2, Some(3))
+        && has_rank(index, 3, None)
+}
+
+fn is_ranked(alloc: Global, form: TestForm) -> Result<bool, IndexError> {
+    let column = DeclaredColumn {
+        form,
+        offset: -3,
+        ..QTY
+    };
+    let mut index = index_of(alloc, &[column], 2, 10)?;
+    append_rows(alloc, &mut index)?;
+    Ok(has_three_ranks(&index))
+}
+
+#[test]
+fn ranks_of_a_column_with_an_offset(rt: HostRuntime) {
+    for form in FORMS {
+        assert!(rt; matches!(is_ranked(rt.alloc(), form), Ok(true)), "{form:?}");
+    }
+}
+
 // Whether the first slice of a column is this one.
 fn first_slice_is(index: &Index, wanted: &[bool]) -> bool {
     if index.schema().columns() == 0 {
