@@ -1,6 +1,6 @@
 -- Lists of components, of which one after another is changed.
-use Rattle.std.proofs.Common.{◌≡◌, ◌≢◌, ℕ, ◌+◌, ◌*◌, ◌<◌, ◌≤◌, List, [], ◌++◌, length, get_or, set, map, sym, ap, subst, ◌∙◌, inl, inr, arith}
-use Rattle.std.proofs.lemmas.List.{length-map, get_or-map, map-set, get_or-set_same, get_or-set_other}
+use Rattle.std.proofs.Common.{◌≡◌, ◌≢◌, ℕ, ◌+◌, ◌*◌, ◌<◌, ◌≤◌, List, [], ◌++◌, length, get_or, set, map, sym, ap, subst, ◌∙◌, inl, inr, arith, ◌∷◌, take, refl, ap₂}
+use Rattle.std.proofs.lemmas.List.{length-map, get_or-map, map-set, get_or-set_same, get_or-set_other, map-append, take_more}
 use Rattle.std.proofs.Math.Seq.{map-set_same}
 use Rattle.std.proofs.lemmas.Bool.{cases_eq}
 use Rattle.bsi_digits.specs.Digits.{product, weight, IsBaseList}
@@ -34,6 +34,18 @@ module _ {E X : Type 0} (f : E → X) where
   -- a write that f does not see
   pub map_kept : (cs : List E) (i : ℕ) (c new : E) → i < length cs → c ≡ get_or cs i c → f new ≡ f c → map f (set cs i new) ≡ map f cs
   map_kept cs i c new within read same = map-set_same f cs i new c (same ∙ ap f read)
+
+-- a function of the components, once one more is appended, and once one more of other components is copied
+module _ {E X : Type 0} (f : E → X) where
+  pub map_pushed : (cs new : List E) (c : E) (xs : List X) (x : X) → new ≡ cs ++ c ∷ [] → map f cs ≡ xs → f c ≡ x → map f new ≡ xs ++ x ∷ []
+  map_pushed cs new c xs x pushed before here = ap (map f) pushed ∙ map-append f cs (c ∷ []) ∙ ap₂ (λ ys y. ys ++ y ∷ []) before here
+
+  pub map_copied : (cs copies new : List E) (i : ℕ) (one copy : E) → i < length cs → one ≡ get_or cs i one → new ≡ copies ++ copy ∷ []
+      → map f copies ≡ map f (take i cs) → f copy ≡ f one → map f new ≡ map f (take (i + 1) cs)
+  map_copied cs copies new i one copy within read pushed before same =
+      let next : take (i + 1) cs ≡ take i cs ++ one ∷ [] = take_more cs i one within ∙ ap (λ c. take i cs ++ c ∷ []) (sym read) in
+      map_pushed copies new copy (map f (take i cs)) (f one) pushed before same
+      ∙ sym (map_pushed (take i cs) (take (i + 1) cs) one (map f (take i cs)) (f one) next refl refl)
 
 -- lists with one function's values are as long
 pub length-same_map : {E X : Type 0} (f : E → X) (cs ds : List E) → map f cs ≡ map f ds → length cs ≡ length ds

@@ -105,7 +105,7 @@ kept_outside false there same new before is off not_null = is ∙ ap (λ t. befo
 pub kept_some : (old new : ℕ → Bool) (digit : ℕ → ℕ) (n d : ℕ) → ((p : ℕ) → p < n → new p ≡ (old p && nat_eq (digit p) d)) → HasValue old digit n d → HasRow new n
 kept_some old new digit n d kept row = (row.0, row.1, kept row.0 row.1 ∙ ap₂ ◌&&◌ row.2 (eq_true (digit row.0) d row.3))
 
-both_second : (a b : Bool) → (a && b) ≡ true → b ≡ true
+pub both_second : (a b : Bool) → (a && b) ≡ true → b ≡ true
 both_second true b both = both
 both_second false b both = absurd (cc)
 
@@ -146,3 +146,18 @@ not_null_row entries r there = elim (cases_lt r (length entries)) [
   where
     none_there : (e : Option ℕ) → e ≡ None → is_some e ≡ true → ⊥
     none_there e none there = let off : false ≡ true = rw none at there in absurd (cc)
+
+-- a row that is there comes before the last one's end
+pub there_within : (bits : List Bool) (r : ℕ) → get_or bits r false ≡ true → r < length bits
+there_within bits r there = elim (cases_lt r (length bits)) [
+  | inl within ↦ within
+  | inr past ↦ absurd (off_on (get_or bits r false) (get_or_past bits r false past) there)
+]
+  where
+    off_on : (b : Bool) → b ≡ false → b ≡ true → ⊥
+    off_on b off on = cc
+
+-- of two that are not both set, one is clear
+pub not_both : (a b : Bool) → (a && b) ≡ false → a ≡ true → b ≡ true → ⊥
+not_both true b off on there = cc
+not_both false b off on there = cc

@@ -64,3 +64,8 @@ pub returns-clause-bitmaps : goal.returns-clause-bitmaps
 returns-clause-bitmaps g c =
     let all : c.components.i ≡ length c.args.bases.now = omega arith in
     (read_all c.args.bases.now c.args.places.items c.components.i _ _ c.components.places.items c.components.invariant.read c.requires.count all).2
+
+pub returns-clause-bases : goal.returns-clause-bases
+returns-clause-bases g c =
+    let all : c.components.i ≡ length c.args.bases.now = omega arith in
+    (read_all c.args.bases.now c.args.places.items c.components.i _ _ c.components.places.items c.components.invariant.read c.requires.count all).0

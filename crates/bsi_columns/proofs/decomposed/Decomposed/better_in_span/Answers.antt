@@ -6,9 +6,12 @@ use Rattle.bsi_digits.proofs.CallerLemmas.{weight_all, weight_more, weight_pos}
 use Rattle.bsi_orders.specs.Rows.{number_or_zero}
 use Rattle.bsi_columns.specs.Ends.{comes_first, leads, yields, number_at}
 use Rattle.bsi_columns.specs.SpanEnds.{IsPast, IsNarrowedTo}
+use Rattle.std.proofs.lemmas.List.{length-map}
+use Rattle.std.specs.Prelude.{is_some}
+use Rattle.bsi_bits.specs.BitList.{word_count}
 use Rattle.bsi_columns.proofs.Ranking.{next_small}
 use Rattle.bsi_columns.proofs.EndSpans.{IsNearest, nearest_start, nearest_end, number_small}
-use Rattle.bsi_columns.proofs.EndDigits.{past_leads, row_digit, both_first, kept_marked, digit_low, component_step, not_null_row}
+use Rattle.bsi_columns.proofs.EndDigits.{past_leads, row_digit, both_first, kept_marked, digit_low, component_step, not_null_row, not_both}
 use Rattle.bsi_columns.proofs.decomposed.Decomposed.better_in_span.Goals as goal
 
 -- a number with room for its digits has room for a digit more
@@ -242,3 +245,32 @@ returns g c =
           (bit_of c.components.span) (ap (weight c.bases-bases.result.now) none) c.components.invariant.nearest,
       c.components.invariant.better none,
     )
+
+pub meets-requires : goal.meets-requires
+meets-requires g c =
+    let entries = c.args.self.now.entries in
+    let rows : length c.not_null-not_null.result.now.bits ≡ length entries = ap length c.not_null-not_null.ensures ∙ length-map entries is_some in
+    let Within : ℕ → Type 0 = λ n. c.args.at + length c.args.span.now ≤ word_count n in
+    subst Within (sym rows) c.requires.within
+
+-- no row is left, since each that was set has a number
+pub returns-then-not-meets : goal.returns-then-not-meets
+returns-then-not-meets g c = λ p within there.
+    let entries = c.args.self.now.entries in
+    let row : ℕ = 64 * c.args.at + p in
+    let not_null = ap (λ bits. get_or bits row false) c.not_null-not_null.ensures ∙ not_null_row entries row (c.requires.rows p within there) in
+    absurd (not_both (bit_of c.args.span.now p) (get_or c.not_null-not_null.result.now.bits row false) (c.meets.ensures.none c.if-not-meets.true p within) there not_null)
+
+pub keep_nearest-requires-clause-within : goal.keep_nearest-requires-clause-within
+keep_nearest-requires-clause-within g c =
+    let entries = c.args.self.now.entries in
+    let rows : length (g.E.Encoding.digits c.component.result.now) ≡ length entries = ap length c.component.ensures.digits ∙ length-map entries _ in
+    let Within : ℕ → ℕ → Type 0 = λ n m. c.args.at + n ≤ word_count m in
+    let AtLength : ℕ → Type 0 = λ n. Within n (length entries) in
+    let AtRows : ℕ → Type 0 = λ m. Within (length c.components.span) m in
+    subst AtRows (sym rows) (subst AtLength (sym c.components.auto.span) c.requires.within)
+
+pub keep_nearest-requires-clause-same : goal.keep_nearest-requires-clause-same
+keep_nearest-requires-clause-same g c =
+    let entries = c.args.self.now.entries in
+    ap length c.not_null-not_null.ensures ∙ length-map entries is_some ∙ sym (length-map entries _) ∙ sym (ap length c.component.ensures.digits)

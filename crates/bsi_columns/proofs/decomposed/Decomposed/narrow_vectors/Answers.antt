@@ -1,4 +1,4 @@
-use Rattle.std.proofs.Common.{◌≡◌, ◌<◌, [], length, map, ap, sym, ◌∙◌, arith}
+use Rattle.std.proofs.Common.{◌≡◌, ◌<◌, [], length, map, ap, sym, ◌∙◌, arith, ℕ, subst, get_or}
 use Rattle.std.proofs.lemmas.List.{length-map}
 use Rattle.bsi_digits.specs.Digits.{product, digit_of}
 use Rattle.bsi_orders.specs.Rows.{number_or_zero}
@@ -83,3 +83,44 @@ returns g c =
     rw (← c.self.view_is)
     (found ∙ ap (low_answers valid c.args.test.relation c.args.test.constant entries) all
     ∙ low_answers_all valid c.args.test.relation c.args.test.constant entries small kept.below)
+
+pub index-requires : goal.index-requires
+index-requires g c = omega (arith, c.self.invariant.0.count, length-map c.self.inside.components.items g.E.Encoding.digits)
+
+pub first_into-requires-clause-below : goal.first_into-requires-clause-below
+first_into-requires-clause-below g c =
+    let inside = c.self.inside in
+    let items = inside.components.items in
+    let kept = c.self.invariant.0 in
+    let within : 0 < length items = omega (arith, kept.count, length-map items g.E.Encoding.digits) in
+    let base : get_or inside.bases 0 0 ≡ g.E.Encoding.base_of c.index.result.now =
+    ap (λ bs. get_or bs 0 0) (sym c.self.invariant.1) ∙ read_map g.E.Encoding.base_of items 0 c.index.result.now 0 within c.index.ensures in
+    let Below : ℕ → Type 0 = λ b. c.digit-lowest.result < b in
+    subst Below base c.digit-lowest.ensures.below
+
+pub first_into-requires-clause-same : goal.first_into-requires-clause-same
+first_into-requires-clause-same g c =
+    let inside = c.self.inside in
+    let items = inside.components.items in
+    let bs = inside.bases in
+    let kept = c.self.invariant.0 in
+    let entries = entries_of bs inside.not_null.bits (map g.E.Encoding.digits items) in
+    let few : 0 < length items = omega (arith, kept.count, length-map items g.E.Encoding.digits) in
+    let digits : g.E.Encoding.digits c.index.result.now ≡ map (λ e. digit_of bs (number_or_zero e) 0) entries =
+    sym (read_map g.E.Encoding.digits items 0 c.index.result.now [] few c.index.ensures) ∙ kept.digits_are 0 (omega arith) in
+    let same : length entries ≡ length c.args.found.now.bits = rw (← c.self.view_is) at c.requires.same in
+    ap length digits ∙ length-map entries (λ e. digit_of bs (number_or_zero e) 0) ∙ same
+
+pub index-requires-in-loop-i : goal.index-requires-in-loop-i
+index-requires-in-loop-i g c = omega (arith, c.self.invariant.0.count, length-map c.self.inside.components.items g.E.Encoding.digits)
+
+pub narrow_into-requires-clause-below : goal.narrow_into-requires-clause-below
+narrow_into-requires-clause-below g c =
+    let inside = c.self.inside in
+    let items = inside.components.items in
+    let kept = c.self.invariant.0 in
+    let within : c.loop-i.i < length items = omega (arith, kept.count, length-map items g.E.Encoding.digits) in
+    let base : get_or inside.bases c.loop-i.i 0 ≡ g.E.Encoding.base_of c.index-in-loop-i.result.now =
+    ap (λ bs. get_or bs c.loop-i.i 0) (sym c.self.invariant.1) ∙ read_map g.E.Encoding.base_of items c.loop-i.i c.index-in-loop-i.result.now 0 within c.index-in-loop-i.ensures in
+    let Below : ℕ → Type 0 = λ b. c.digit-digit.result < b in
+    subst Below base c.digit-digit.ensures.below

@@ -80,3 +80,9 @@ returns g c =
     let AtHeight : ℕ → Type 0 = λ i. IsRung c.bases-bases.result.now c.args.found.now.bits c.args.self.now.entries c.args.rank i c.components.number c.components.left c.components.chosen.bits in
     let rung = subst AtHeight none c.components.invariant.rung in
     narrowed_end c.args.found.now.bits c.args.self.now.entries c.args.rank c.components.number c.components.left c.components.chosen.bits rung.narrowed
+
+pub and_with-requires : goal.and_with-requires
+and_with-requires g c = ap length c.in_ok-chosen.ensures ∙ sym c.requires.same ∙ sym (ap length c.not_null.ensures ∙ length-map c.args.self.now.entries is_some)
+
+pub rows_of_rank-requires-clause-same : goal.rows_of_rank-requires-clause-same
+rows_of_rank-requires-clause-same g c = ap length c.component.ensures.digits ∙ length-map c.args.self.now.entries _ ∙ c.requires.same ∙ sym c.components.invariant.chosen_even

@@ -1,10 +1,10 @@
-use Rattle.std.proofs.Common.{◌≡◌, ℕ, ◌+◌, ◌*◌, ◌<◌, Bool, false, ◌&&◌, length, get_or, inl, inr, ap, ◌∙◌, arith}
+use Rattle.std.proofs.Common.{◌≡◌, ℕ, ◌+◌, ◌*◌, ◌<◌, Bool, false, ◌&&◌, length, get_or, inl, inr, ap, ◌∙◌, arith, subst}
 use Rattle.std.specs.Prelude.{nat_eq, Some}
 use Rattle.std.proofs.lemmas.Bool.{cases_lt}
 use Rattle.std.proofs.lemmas.List.{get_or_past}
 use Rattle.bsi_bits.specs.Packed.{bit_of}
 use Rattle.bsi_columns.specs.SpanEnds.{AnswersEnd}
-use Rattle.bsi_columns.proofs.EndDigits.{end_member, end_first, end_past, kept_inside, kept_outside, kept_some}
+use Rattle.bsi_columns.proofs.EndDigits.{end_member, end_first, end_past, kept_inside, kept_outside, kept_some, there_within}
 use Rattle.bsi_columns.proofs.decomposed.ends.keep_nearest.Goals as goal
 
 -- the rows of the digit, of which those past the last one are cleared with the nulls
@@ -42,3 +42,9 @@ returns-in_err-digit-clause-digit g c =
     rw c.from_residual.ensures
     (end_past c.args.end c.args.bound (bit_of c.args.span.now) (λ p. get_or (g.E.Encoding.digits c.args.component.now) (64 * c.args.at + p) 0) (64 * length c.args.span.now)
     c.in_err-digit.ensures)
+
+pub end_digit-requires-clause-rows : goal.end_digit-requires-clause-rows
+end_digit-requires-clause-rows g c = λ p below there.
+    let row : ℕ = 64 * c.args.at + p in
+    let Within : ℕ → Type 0 = λ n. row < n in
+    subst Within c.requires.same (there_within c.args.not_null.now.bits row (c.requires.rows p below there))

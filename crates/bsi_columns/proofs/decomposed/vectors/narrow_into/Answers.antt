@@ -35,3 +35,21 @@ returns-else-digit-gt0-clause-found g c =
     rw c.in-AtMost.is
     (c.and_with-in-AtMost.ensures.bits ∙ ap (zip2 ◌&&◌ found) c.le_into.ensures.bits
     ∙ narrowed_by_one found (g.E.Encoding.digits c.args.component.now) c.args.digit c.if-digit-gt0.false)
+
+pub and_with-requires : goal.and_with-requires
+and_with-requires g c = sym c.requires.same ∙ sym (ap length c.eq_into.ensures.bits ∙ length-map (g.E.Encoding.digits c.args.component.now) _)
+
+pub and_with-requires-in-AtMost : goal.and_with-requires-in-AtMost
+and_with-requires-in-AtMost g c = sym c.requires.same ∙ sym (ap length c.le_into.ensures.bits ∙ length-map (g.E.Encoding.digits c.args.component.now) _)
+
+pub le_into-requires-then-digit-gt0-clause-same : goal.le_into-requires-then-digit-gt0-clause-same
+le_into-requires-then-digit-gt0-clause-same g c = sym (ap length c.le_into.ensures.bits ∙ length-map (g.E.Encoding.digits c.args.component.now) _)
+
+pub returns-in-Equal-clause-scratch : goal.returns-in-Equal-clause-scratch
+returns-in-Equal-clause-scratch g c = ap length c.eq_into.ensures.bits ∙ length-map (g.E.Encoding.digits c.args.component.now) _ ∙ c.requires.scratch
+
+pub returns-then-digit-gt0-clause-scratch : goal.returns-then-digit-gt0-clause-scratch
+returns-then-digit-gt0-clause-scratch g c = ap length c.le_into-then-digit-gt0.ensures.bits ∙ length-map (g.E.Encoding.digits c.args.component.now) _ ∙ c.requires.scratch
+
+pub returns-else-digit-gt0-clause-scratch : goal.returns-else-digit-gt0-clause-scratch
+returns-else-digit-gt0-clause-scratch g c = ap length c.le_into.ensures.bits ∙ length-map (g.E.Encoding.digits c.args.component.now) _ ∙ c.requires.scratch
