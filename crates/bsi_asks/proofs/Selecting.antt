@@ -5,7 +5,7 @@ use Rattle.std.specs.List.{cons_option, range_with_len}
 use Rattle.std.proofs.lemmas.List.Sorted.{All-permutation, Contains-permutation, IsPermutation-trans, sum_by-IsPermutation}
 use Rattle.std.proofs.lemmas.List.Sums.{sum_by-append}
 use Rattle.bsi_rows.specs.Numbering.{number_within, numbered_at}
-use Rattle.bsi_rows.specs.Ranks.{IsSignedRankOf}
+use Rattle.bsi_orders.specs.Ranks.{IsSignedRankOf}
 use Rattle.bsi_orders.specs.WholeNumbers.{IsSignedGreatestOf, IsSignedLeastOf, IsSignedMedianOf}
 use Rattle.bsi_rows.specs.Answers.{IsTotal}
 use Rattle.bsi_rows.specs.Rows.{entry_at, feeders_of, holds, row_at, selected, values, Entries, FedRow}

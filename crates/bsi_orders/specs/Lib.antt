@@ -1,4 +1,5 @@
 pub mod Orders
+pub mod Ranks
 pub mod Rows
 pub mod Totals
 pub mod WholeNumbers

@@ -16,7 +16,7 @@ use Rattle.bsi_rows.specs.declared.event.Reply.{Reply}
 use Rattle.bsi_rows.specs.declared.event.Reply.TheVariants.{Submitted, Loaded, Closed, Answered}
 use Rattle.bsi_rows.specs.Answers.{IsAnswer, IsReply, IsTotal, missing_column}
 use Rattle.bsi_rows.specs.Numbering.{numbered_at}
-use Rattle.bsi_rows.specs.Ranks.{IsSignedRankOf}
+use Rattle.bsi_orders.specs.Ranks.{IsSignedRankOf}
 use Rattle.bsi_schema.specs.Columns.{Declared, AreNamed}
 use Rattle.bsi_rows.specs.Rows.{Entries, FedRow, entry_at, feeders_of, holds, row_at, selected, values}
 use Rattle.bsi_rows.specs.declared.errors.AskError.{AskError}

@@ -7,7 +7,7 @@ use Rattle.std.proofs.lemmas.Int.{ints}
 use Rattle.std.proofs.lemmas.List.{nil_from_length}
 use Rattle.std.proofs.lemmas.List.Sums.{sum_by-cons, count_by-le-length}
 use Rattle.bsi_orders.specs.WholeNumbers.{IsSignedMedianOf}
-use Rattle.bsi_rows.specs.Ranks.{IsSignedRanked, IsSignedRankOf}
+use Rattle.bsi_orders.specs.Ranks.{IsSignedRanked, IsSignedRankOf}
 
 neither_way : (x y : ℤ) → int_lt x y ≡ false → int_lt y x ≡ false → x ≡ y
 neither_way x y below above = grind (arith, ints, nat_tests)

@@ -1,7 +1,7 @@
 -- What the answer to a query is.
 use Rattle.std.specs.Prelude.{◌≡◌, ℕ, List, [], ◌∷◌, ◌++◌, Option, Some, None, Result, Ok, Err, length, find, nat_le, ℤ}
 use Rattle.bsi_rows.specs.Numbering.{numbered_at, Place}
-use Rattle.bsi_rows.specs.Ranks.{IsSignedRankOf}
+use Rattle.bsi_orders.specs.Ranks.{IsSignedRankOf}
 use Rattle.bsi_orders.specs.WholeNumbers.{signed_sum, IsSignedLeastOf, IsSignedGreatestOf, IsSignedMedianOf}
 use Rattle.bsi_rows.specs.declared.errors.AskError.{AskError}
 use Rattle.bsi_rows.specs.declared.errors.AskError.TheVariants.{BadColumn, NoMemory}

@@ -1,7 +1,6 @@
 pub mod Answers
 pub mod ByFeeder
 pub mod Numbering
-pub mod Ranks
 pub mod Refusals
 pub mod RowBlocks
 pub mod Rows

@@ -17,7 +17,7 @@ use Rattle.bsi_orders.specs.Rows.{number_or_zero}
 use Rattle.bsi_orders.specs.Totals.{IsLeastOf, IsGreatestOf, IsMedianOf, IsRanked}
 use Rattle.bsi_columns.specs.AnyRows.{any_entries}
 use Rattle.bsi_columns.specs.declared.any.AnyColumn.{AnyColumn}
-use Rattle.bsi_shift.specs.Ranks.{IsSignedRanked}
+use Rattle.bsi_orders.specs.Ranks.{IsSignedRanked}
 use Rattle.bsi_shift.specs.Shifted.{number_of, shifted_entries, OffsetColumn}
 use Rattle.bsi_orders.specs.WholeNumbers.{signed_sum, IsSignedLeastOf, IsSignedGreatestOf, IsSignedMedianOf}
 use Rattle.bsi_shift.proofs.Shifting.{values_at-shifted_entries}

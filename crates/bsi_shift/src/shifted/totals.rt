@@ -6,7 +6,7 @@ ghost use Rattle.bsi_digits.specs.Digits.{max_size};
 ghost use Rattle.bsi_digits.specs.Signed.{end_of_i64};
 ghost use Rattle.bsi_bits.specs.BitList.{max_len, sum_end};
 ghost use Rattle.bsi_orders.specs.Orders.{values_at};
-ghost use Rattle.bsi_shift.specs.Ranks.{IsSignedRankOf};
+ghost use Rattle.bsi_orders.specs.Ranks.{IsSignedRankOf};
 ghost use Rattle.bsi_shift.specs.Shifted.{number_of, shifted_entries};
 ghost use Rattle.bsi_orders.specs.WholeNumbers.{signed_sum, IsSignedLeastOf, IsSignedGreatestOf, IsSignedMedianOf};
 

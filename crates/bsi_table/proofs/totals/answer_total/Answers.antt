@@ -4,7 +4,7 @@ use Rattle.bsi_rows.specs.Numbering.{numbered_at}
 use Rattle.bsi_orders.specs.WholeNumbers.{signed_sum, IsSignedLeastOf, IsSignedGreatestOf, IsSignedMedianOf}
 use Rattle.bsi_rows.specs.declared.query.Answer.TheVariants.{Count, Sum, Value, Rows}
 use Rattle.bsi_rows.specs.Answers.{columns_of_total, missing_of, IsTotal}
-use Rattle.bsi_rows.specs.Ranks.{IsSignedRankOf}
+use Rattle.bsi_orders.specs.Ranks.{IsSignedRankOf}
 use Rattle.bsi_table.specs.Kept.{fed_rows}
 use Rattle.bsi_rows.proofs.Missing.{there}
 use Rattle.bsi_table.proofs.TableRows.{count-found, even-found, feeders-fed_rows, length-found, set_places-found, values-found}

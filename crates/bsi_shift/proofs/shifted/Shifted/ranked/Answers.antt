@@ -5,7 +5,7 @@ use Rattle.std.proofs.lemmas.Int.{to_z-of_z}
 use mir.Syntax.{w64}
 use Rattle.bsi_columns.specs.AnyRows.{any_entries}
 use Rattle.bsi_orders.specs.Orders.{values_at}
-use Rattle.bsi_shift.specs.Ranks.{IsSignedRankOf}
+use Rattle.bsi_orders.specs.Ranks.{IsSignedRankOf}
 use Rattle.bsi_shift.specs.Shifted.{number_of}
 use Rattle.bsi_shift.proofs.Shifting.{length-shifted_entries, fits}
 use Rattle.bsi_shift.proofs.Totals.{answer_from, past_from, ranked_from, ranked_below}
