@@ -262,16 +262,16 @@ def replace(path: Path, data: Any) -> None:
 @contextmanager
 def _unless_added_to(name: str) -> Iterator[None]:
     """Locks a file that is to be replaced, beside its readers. One to which a command adds rows is refused."""
-    try:
-        old = open(name, "rb", buffering=0)
-    except OSError:
-        yield
-        return
-    with old:
+    with ExitStack() as stack:
         try:
-            fcntl.flock(old, fcntl.LOCK_SH | fcntl.LOCK_NB)
+            # (without a wait, since it may be a pipe)
+            number = os.open(name, os.O_RDONLY | os.O_NONBLOCK | os.O_CLOEXEC)
+            stack.callback(os.close, number)
+            fcntl.flock(number, fcntl.LOCK_SH | fcntl.LOCK_NB)
         except BlockingIOError:
             raise Error(f"{name}: another program is writing it") from None
+        except OSError:
+            pass  # there is none, or none that can be read
         yield
 
 
