@@ -12,7 +12,7 @@ use Rattle.bsi_digits.proofs.CallerLemmas.{low_le, low_eq, low_all}
 use Rattle.bsi_bits.proofs.Pairs.{zip2-map_right}
 use Rattle.bsi_slices.specs.declared.decision.Relation.{Relation}
 use Rattle.bsi_slices.specs.declared.decision.Relation.TheVariants.{Equal, AtMost}
-use Rattle.bsi_components.specs.Component.{at_most_from}
+use Rattle.bsi_words.specs.Places.{at_most_from}
 use Rattle.bsi_orders.specs.Rows.{number_or_zero}
 use Rattle.bsi_slices.specs.Decisions.{as_wanted, relates}
 use Rattle.bsi_columns.specs.DigitTests.{relates_from, answers}

@@ -4,7 +4,7 @@ use Rattle.bsi_slices.specs.Decisions.{as_wanted, relates}
 use Rattle.bsi_slices.specs.declared.decision.Relation.{Relation}
 use Rattle.bsi_slices.specs.declared.decision.Relation.TheVariants.{Equal, AtMost}
 use Rattle.bsi_slices.specs.declared.decision.Test.{Test}
-use Rattle.bsi_components.specs.Component.{at_most_from}
+use Rattle.bsi_words.specs.Places.{at_most_from}
 
 -- the relation of a number by its digit and the constant's, where `low` is that of the digits below
 abbrev pub relates_from : Relation → Bool → ℕ → ℕ → Bool

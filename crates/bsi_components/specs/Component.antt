@@ -1,5 +1,5 @@
 -- A component: its digits, and how they decide a comparison.
-use Rattle.std.specs.Prelude.{◌≡◌, ℕ, ◌+◌, ◌<◌, Bool, List, ◌&&◌, ◌||◌, count_by, nat_lt, nat_le, nat_eq}
+use Rattle.std.specs.Prelude.{◌≡◌, ℕ, ◌+◌, ◌<◌, Bool, List, ◌&&◌, count_by, nat_lt, nat_le}
 use Rattle.std.specs.Simd.Lanes.{zip2}
 use Rattle.bsi_components.specs.declared.answers.RankedDigit.{RankedDigit}
 
@@ -8,10 +8,6 @@ pub record Component : Type 0 where
   pub base : ℕ
   pub digits : List ℕ
   pub room : ℕ
-
--- a number is at most a constant, by its digit and the constant's, where `low` says so of the digits below
-abbrev pub at_most_from : Bool → ℕ → ℕ → Bool
-at_most_from low digit constant = nat_lt digit constant || nat_eq digit constant && low
 
 -- how many rows of a found set have a digit that passes
 abbrev pub count_where : (ℕ → Bool) → List Bool → List ℕ → ℕ

@@ -7,7 +7,8 @@ ghost use Rattle.bsi_bits.specs.Packed.{bit_of};
 ghost use Rattle.bsi_bits.specs.SetRows.{HasRow};
 ghost use Rattle.bsi_digits.specs.Digits.{IsBase};
 ghost use Rattle.bsi_words.specs.Ranks.{IsRankedRows};
-ghost use Rattle.bsi_components.specs.Component.{at_most_from, count_where};
+ghost use Rattle.bsi_components.specs.Component.{count_where};
+ghost use Rattle.bsi_words.specs.Places.{at_most_from};
 ghost use Rattle.bsi_components.specs.EndDigits.{AnswersLeast, AnswersGreatest};
 
 use crate::NoMemory;

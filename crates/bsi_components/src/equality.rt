@@ -1,22 +1,22 @@
 //! The equality encoded component: a bitmap for each digit says which rows have it (Chan and Ioannidis 1998).
 //!
-//! A step reads the bitmaps up to the digit or those past it, whichever are fewer. A sum counts the binary places of
-//! the digits, which stand behind the bitmaps, and a rank goes down them. Under base 2 or 3, which has none, a rank is
-//! counted one digit after another.
+//! A step reads the bitmaps up to the digit, those past it or, on spans, the binary places of the digits, which stand
+//! behind the bitmaps: whichever are fewest. A sum counts these places, and a rank goes down them. Under base 2 or 3,
+//! which has none, a rank is counted one digit after another.
 
 ghost use Rattle.std.specs.Prelude.{◌≡◌, ◌≢◌, ℕ, ◌+◌, ◌-◌, ◌*◌, ◌^◌, ◌<◌, ◌≤◌, ◌==◌, ◌&&◌, ◌||◌, not, ◌++◌, length, map, slice_index, IsTrue, IsFalse};
 ghost use Rattle.bsi_bits.specs.BitList.{max_block, word_count};
 ghost use Rattle.bsi_bits.specs.BitLists.{bits_at};
 ghost use Rattle.bsi_bits.specs.Packed.{bit_of};
 ghost use Rattle.bsi_digits.specs.Digits.{max_base};
-ghost use Rattle.bsi_words.specs.Places.{has_place, max_digit_places, then_places, IsCount, IsEncoded};
+ghost use Rattle.bsi_words.specs.Places.{at_most_from, has_place, max_digit_places, then_places, IsCount, IsEncoded};
 ghost use Rattle.bsi_components.specs.Bitmaps.{kept_places};
 ghost use Rattle.bsi_components.specs.Equality.{first_stored, is_among};
 
 use crate::encoding::Encoding;
 use bsi_bits::{Bitmaps, Bits};
 use bsi_words::marks::{MAX_MARK_WORDS, MAX_SPREAD_WORDS, mark_digits};
-use bsi_words::spans::{add_in, drop_in};
+use bsi_words::spans::{add_in, add_missing, drop_in, keep_in};
 use std::marker::Model;
 
 mod binary_places;
@@ -124,6 +124,7 @@ impl EqualityComponent {
         ensures places { IsEncoded has_place result.now self.now.digits }
         ensures many { length result.now ≡ kept_places self.now.base }
         ensures few { length result.now ≤ max_digit_places }
+        ensures enough { 0 < length result.now → self.now.base ≤ 2 ^ length result.now }
         ensures below { 0 < length result.now → (k : ℕ) →
             slice_index self.now.digits k < 2 ^ length result.now }
         ensures digits { (k : ℕ) → slice_index self.now.digits k < self.now.base }
@@ -142,6 +143,31 @@ impl EqualityComponent {
         out.copy_from(self.bitmap(from));
         'digits: for j in from + 1..to {
             out.or_with(self.bitmap(j));
+        }
+    }
+
+    /// Does what `le_span` does by the bitmaps up to the digit, or by those from it on, whichever are fewer.
+    fn le_by_bitmaps(&self, d: u32, at: usize, span: &mut [u64])
+        requires below { d < self.now.base }
+        requires within { at + length span.old ≤ word_count (length self.now.digits) }
+        ensures len { length span.new ≡ length span.old }
+        ensures bits { (p : ℕ) → p < 64 * length span.old → 64 * at + p < length self.now.digits →
+            bit_of span.new p ≡ at_most_from (bit_of span.old p)
+            (slice_index self.now.digits (64 * at + p)) d }
+    {
+        let base = self.base();
+        if base == 2 {
+            if d == 0 {
+                drop_in(self.bitmap(1), at, span);
+            } else {
+                add_missing(self.bitmap(1), at, span);
+            }
+        } else if 2 * d < base {
+            keep_in(self.bitmap(d), at, span);
+            self.add_among(0, d, at, span);
+        } else {
+            add_missing(self.bitmap(d), at, span);
+            self.drop_among(d + 1, base, at, span);
         }
     }
 

@@ -1,4 +1,5 @@
 pub mod BitmapReads
+mod ByPlaces
 pub mod DigitBlocks
 pub mod DigitMaps
 pub mod FoundRows

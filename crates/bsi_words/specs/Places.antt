@@ -1,5 +1,5 @@
 -- Numbers in binary: a bitmap for each place, alone or behind the bitmaps of an encoding.
-use Rattle.std.specs.Prelude.{◌≡◌, ℕ, ◌+◌, ◌-◌, ◌^◌, ◌<◌, ◌≤◌, ◌==◌, Bool, List, length, map, nat_lt, if◌then◌else◌}
+use Rattle.std.specs.Prelude.{◌≡◌, ℕ, ◌+◌, ◌-◌, ◌^◌, ◌<◌, ◌≤◌, ◌==◌, ◌&&◌, ◌||◌, Bool, List, length, map, nat_eq, nat_lt, if◌then◌else◌}
 use Rattle.std.specs.Int.{bit_at}
 use Rattle.bsi_bits.specs.BitList.{BitList}
 use Rattle.bsi_bits.specs.BitLists.{bits_at}
@@ -35,3 +35,7 @@ pub record IsCount (base own count : ℕ) : Type 0 where
   pub few : count ≤ own + max_digit_places
   pub enough : own < count → base ≤ 2 ^ (count - own)
   pub some : min_base_with_places ≤ base → own < count
+
+-- a number is at most a constant, by its higher part and the constant's, where `low` says so of the lower parts
+abbrev pub at_most_from : Bool → ℕ → ℕ → Bool
+at_most_from low part constant = nat_lt part constant || nat_eq part constant && low

@@ -2,11 +2,13 @@
 //! over those of a found set.
 #![tactic(auto)]
 
+mod comparisons;
 pub mod marks;
 pub mod nulls;
 mod ranks;
 pub mod spans;
 mod sums;
 
+pub use comparisons::order_by_places;
 pub use ranks::{RankedRows, rows_of_rank};
 pub use sums::{is_clear, sum_by_places};

@@ -8,8 +8,8 @@ use crate::encoding::Encoding;
 use crate::equality::{EqualityComponent, first_stored, push_block};
 use crate::places::{kept_places, push_digit};
 use bsi_bits::{Bitmaps, Bits};
-use bsi_words::spans::{add_missing, copy_in, drop_in, exceeds, keep_in, meets};
-use bsi_words::{RankedRows, rows_of_rank, sum_by_places};
+use bsi_words::spans::{copy_in, drop_in, exceeds, keep_in, meets};
+use bsi_words::{RankedRows, order_by_places, rows_of_rank, sum_by_places};
 use std::alloc::Global;
 
 impl Encoding for EqualityComponent {
@@ -150,21 +150,15 @@ impl Encoding for EqualityComponent {
         }
     }
 
-    // It reads the bitmaps up to the digit, or those from it on, whichever are fewer.
+    // It reads the bitmaps up to the digit, those from it on, or the binary places, whichever are fewest.
     fn le_span(&self, d: u32, at: usize, span: &mut [u64]) {
         let base = self.base();
-        if base == 2 {
-            if d == 0 {
-                drop_in(self.bitmap(1), at, span);
-            } else {
-                add_missing(self.bitmap(1), at, span);
-            }
-        } else if 2 * d < base {
-            keep_in(self.bitmap(d), at, span);
-            self.add_among(0, d, at, span);
+        let places = self.places();
+        let fewest = (d + 1).min(base - d) as usize;
+        if !places.is_empty() && places.len() < fewest {
+            order_by_places(places, u64::from(d), at, span);
         } else {
-            add_missing(self.bitmap(d), at, span);
-            self.drop_among(d + 1, base, at, span);
+            self.le_by_bitmaps(d, at, span);
         }
     }
 

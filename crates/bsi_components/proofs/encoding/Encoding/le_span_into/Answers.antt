@@ -1,6 +1,6 @@
 use Rattle.std.proofs.Common.{◌≡◌, ◌+◌, ◌*◌, ◌-◌, ◌^◌, length, get_or, replicate, ap, ◌∙◌, arith}
 use Rattle.bsi_bits.specs.Packed.{bit_of}
-use Rattle.bsi_components.specs.Component.{at_most_from}
+use Rattle.bsi_words.specs.Places.{at_most_from}
 use Rattle.bsi_words.proofs.SpanBits.{ones_bit}
 use Rattle.bsi_components.proofs.DigitOrders.{at_most_first}
 use Rattle.bsi_components.proofs.encoding.Encoding.le_span_into.Goals as goal
